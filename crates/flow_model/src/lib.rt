@@ -1,0 +1,20 @@
+// flow_model: the data of the product, as every other crate sees it.
+//
+// It has the values of a workflow, the plan with its rules, the board of a plan in play, the events
+// that change it and the replies to them, and three small containers that contracts see as plain
+// lists: a text, a sequence and a mapping.
+//
+// It promises that `Plan::check` accepts exactly the plans whose rules all hold, that a `CheckedPlan`
+// is made nowhere else, that every `copy` is equal to what it was made from, and that JSON becomes a
+// value, and a value JSON, exactly. It stands on `serde_json` alone.
+#![tactic(auto)]
+
+pub mod duplicate;
+pub mod mapping;
+pub mod sequence;
+pub mod text;
+
+pub use duplicate::Duplicate;
+pub use mapping::Mapping;
+pub use sequence::Sequence;
+pub use text::Text;
