@@ -7,7 +7,7 @@ use Rattle.std.specs.List.Sorted.{IsStrictlySortedBy}
 use Rattle.std.specs.Map.{keys_of as map_keys_of, lookup}
 use Rattle.std.specs.Ordering.{match_ordering, ordering_reverse}
 use Rattle.std.specs.BTreeMap.{insert_entry, is_at}
-use Rattle.flow_model.specs.Mapping.{pairs_of, value_at, with_pair, keys_of, Ascends}
+use Rattle.flow_model.specs.Mapping.{pairs_of, value_at, with_pair, keys_of, Ascends, map_values}
 
 -- looking up in the map is looking up in the pairs
 pub pairs-lookup : {V : Type 0} (key : List ℕ) (es : List (String Global × V)) → lookup (is_at (λ k. slice_cmp nat_cmp key (string_bytes k))) es ≡ value_at key (pairs_of es)
@@ -51,3 +51,21 @@ with_pair-last (p ∷ ps) k v more h =
 pub with_pair-next : {V : Type 0} (done : List (List ℕ × V)) (k : List ℕ) (v : V) (left all : List (List ℕ × V)) → done ++ (k, v) ∷ left ≡ all → Ascends all → with_pair k v done ++ left ≡ all
 with_pair-next {V} done k v left all e h =
     rw (with_pair-last done k v left (subst (λ (ps : List (List ℕ × V)). Ascends ps) (sym e) h)) (append_assoc done ((k, v) ∷ []) left ∙ e)
+
+map_values-match_ordering : {V W : Type 0} (f : V → W) (o : Ordering) (a b c : List (List ℕ × V)) → map_values f (match_ordering o a b c) ≡ match_ordering o (map_values f a) (map_values f b) (map_values f c)
+map_values-match_ordering f Less a b c = refl
+map_values-match_ordering f Equal a b c = refl
+map_values-match_ordering f Greater a b c = refl
+
+-- setting a value and then putting all through f is putting it through f and then setting it
+pub map_values-with_pair : {V W : Type 0} (f : V → W) (k : List ℕ) (v : V) (ps : List (List ℕ × V)) → map_values f (with_pair k v ps) ≡ with_pair k (f v) (map_values f ps)
+map_values-with_pair f k v [] = refl
+map_values-with_pair f k v (p ∷ ps) = map_values-match_ordering f (slice_cmp nat_cmp k p.0) _ _ _ ∙ rw (map_values-with_pair f k v ps)
+
+keys_of-map_values : {V W : Type 0} (f : V → W) (ps : List (List ℕ × V)) → keys_of (map_values f ps) ≡ keys_of ps
+keys_of-map_values f [] = refl
+keys_of-map_values f (p ∷ ps) = ap (λ (ks : List (List ℕ)). p.0 ∷ ks) (keys_of-map_values f ps)
+
+-- the keys stay
+pub Ascends-map_values : {V W : Type 0} (f : V → W) (ps : List (List ℕ × V)) → Ascends ps → Ascends (map_values f ps)
+Ascends-map_values f ps h = rw (keys_of-map_values f ps) h

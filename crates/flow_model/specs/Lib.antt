@@ -1,1 +1,3 @@
 pub mod Mapping
+pub mod Plain
+pub mod Value

@@ -9,12 +9,22 @@
 // value, and a value JSON, exactly. It stands on `serde_json` alone.
 #![tactic(auto)]
 
+pub mod board;
 pub mod duplicate;
+pub mod event;
 pub mod mapping;
+pub mod plan;
+pub mod reply;
 pub mod sequence;
 pub mod text;
+pub mod value;
 
+pub use board::{Board, DoneStep, Job, JobState, Leg, LegState, Run, RunState};
 pub use duplicate::Duplicate;
+pub use event::{Answer, Entry, Event, Member, Outcome};
 pub use mapping::Mapping;
+pub use plan::{Combo, Flag, Group, JobPlan, Plan, Roots, RunPlan, Shell, StepPlan, Work};
+pub use reply::{CallWork, Reply, StepCall, ValueFault, What};
 pub use sequence::Sequence;
 pub use text::Text;
+pub use value::{Node, Value};

@@ -1,0 +1,22 @@
+use Rattle.std.proofs.Common.{◌≡◌, List, ◌∷◌, ◌++◌, ℕ, string_bytes, ap, sym, rules, ◌∙◌}
+use Rattle.flow_model.specs.Mapping.{pairs_of, map_values}
+use Rattle.flow_model.specs.Plain as plain
+use Rattle.flow_model.specs.Value.{view, viewed}
+use Rattle.flow_model.proofs.Nodes.{view-Map}
+use Rattle.flow_model.proofs.Pairs.{with_pair-next, map_values-with_pair, Ascends-map_values, Ascends-pairs_of}
+use Rattle.flow_model.proofs.value.+copy.Goals as goal
+
+pub copy_members-loop-key-preserved : goal.copy_members-loop-key-preserved
+copy_members-loop-key-preserved t c =
+    let left = c.next.new.self in
+    let all : viewed c.loop-key.twins ++ (string_bytes c.in-Some.key.now, view c.in-Some.node.now) ∷ viewed (pairs_of left) ≡ viewed (pairs_of c.args.members.now.entries) =
+    ap (λ es. viewed c.loop-key.twins ++ viewed (pairs_of es)) (sym c.in-Some.ensures.steps) ∙ c.loop-key.invariant in
+    rw (c.in_ok-insert.ensures.ok, map_values-with_pair view c.in_ok-name.name c.in_ok-copy_node.field-0 c.loop-key.twins, c.in_ok-name.ensures, c.as_str.ensures.value, c.in_ok-copy_node.ensures)
+    (with_pair-next (viewed c.loop-key.twins) (string_bytes c.in-Some.key.now) (view c.in-Some.node.now) (viewed (pairs_of left)) _ all
+    (Ascends-map_values view _ (Ascends-pairs_of _ c.iter-key-items.ensures.ordered)))
+
+pub copy_node-returns-in_ok-copy_members-in-Map : goal.copy_node-returns-in_ok-copy_members-in-Map
+copy_node-returns-in_ok-copy_members-in-Map t c =
+    let seen : viewed (pairs_of c.in_ok-copy_members-in-Map.field-0.entries) ≡ viewed (pairs_of c.in-Map.members.entries) = c.in_ok-copy_members-in-Map.ensures in
+    view-Map c.in_ok-copy_members-in-Map.field-0 ∙ ap (λ (ps : List (List ℕ × plain.Plain)). plain.map (plain.members_of ps)) seen
+    ∙ sym (ap view c.in-Map.is ∙ view-Map c.in-Map.members)

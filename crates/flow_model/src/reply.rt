@@ -1,0 +1,137 @@
+// What the board answers to an event that it accepts.
+use crate::duplicate::Duplicate;
+use crate::event::Member;
+use crate::mapping::Mapping;
+use crate::plan::Shell;
+use crate::text::Text;
+use std::alloc::{AllocError, Global};
+use thiserror::Error;
+
+/// Why a text could not be evaluated.
+#[derive(Clone, Copy, Debug, PartialEq, Eq, Error)]
+pub enum ValueFault {
+    /// A number is no whole number, or out of range.
+    #[error("NotWhole")]
+    NotWhole,
+    /// Lists or maps were compared for identity.
+    #[error("NoIdentity")]
+    NoIdentity,
+    /// A format has a brace that fits none of its forms.
+    #[error("BadFormat")]
+    BadFormat,
+    /// A text is no JSON.
+    #[error("BadJson")]
+    BadJson,
+    /// A text has more than 1,048,576 bytes.
+    #[error("TooLarge")]
+    TooLarge,
+    /// There is no memory.
+    #[error("Memory")]
+    Memory,
+}
+
+/// A step that is to be played, with its texts evaluated.
+#[derive(Debug, Drop)]
+pub struct StepCall {
+    pub leg: u64,
+    /// Its place in the job, from 0.
+    pub step: u64,
+    pub work: CallWork,
+    pub env: Mapping<Text>,
+}
+
+/// What a call asks for.
+#[derive(Debug, Drop)]
+pub enum CallWork {
+    Script {
+        text: Text,
+        shell: Shell,
+        dir: Option<Text>,
+    },
+    Uses {
+        uses: Text,
+        given: Mapping<Text>,
+    },
+}
+
+/// What an event did, beside its change of the board.
+#[derive(Debug, Drop)]
+pub enum What {
+    /// No step began.
+    Moved,
+    /// A step is to be played.
+    Call(StepCall),
+    /// A step was skipped.
+    Skipped,
+    /// A step failed, since one of its texts has no value.
+    Faulted(ValueFault),
+}
+
+/// The answer to an event that was accepted.
+#[derive(Debug, Drop)]
+pub struct Reply {
+    pub what: What,
+    /// The run or leg that became going or admitted by the event.
+    pub admitted: Option<Member>,
+    /// The waiter that lost its place.
+    pub displaced: Option<Member>,
+    /// The holder that was told to stop.
+    pub stopped: Option<Member>,
+}
+
+impl Duplicate for StepCall {
+    fn copy(&self, alloc: Global) -> Result<StepCall, AllocError> {
+        let work = self.work.copy(alloc)?;
+        let env = self.env.copy(alloc)?;
+        Ok(StepCall {
+            leg: self.leg,
+            step: self.step,
+            work,
+            env,
+        })
+    }
+}
+
+impl Duplicate for CallWork {
+    fn copy(&self, alloc: Global) -> Result<CallWork, AllocError> {
+        match self {
+            CallWork::Script { text, shell, dir } => {
+                let text = text.copy(alloc)?;
+                let dir = dir.copy(alloc)?;
+                Ok(CallWork::Script {
+                    text,
+                    shell: *shell,
+                    dir,
+                })
+            },
+            CallWork::Uses { uses, given } => {
+                let uses = uses.copy(alloc)?;
+                let given = given.copy(alloc)?;
+                Ok(CallWork::Uses { uses, given })
+            },
+        }
+    }
+}
+
+impl Duplicate for What {
+    fn copy(&self, alloc: Global) -> Result<What, AllocError> {
+        match self {
+            What::Moved => Ok(What::Moved),
+            What::Call(call) => Ok(What::Call(call.copy(alloc)?)),
+            What::Skipped => Ok(What::Skipped),
+            What::Faulted(fault) => Ok(What::Faulted(*fault)),
+        }
+    }
+}
+
+impl Duplicate for Reply {
+    fn copy(&self, alloc: Global) -> Result<Reply, AllocError> {
+        let what = self.what.copy(alloc)?;
+        Ok(Reply {
+            what,
+            admitted: self.admitted,
+            displaced: self.displaced,
+            stopped: self.stopped,
+        })
+    }
+}
