@@ -10,16 +10,23 @@
 #![tactic(auto)]
 
 pub mod board;
+pub mod check;
 pub mod duplicate;
 pub mod event;
 pub mod mapping;
+pub mod name;
+mod offer;
 pub mod plan;
 pub mod reply;
+mod rules;
 pub mod sequence;
 pub mod text;
+mod texts;
 pub mod value;
+pub mod within;
 
 pub use board::{Board, DoneStep, Job, JobState, Leg, LegState, Run, RunState};
+pub use check::{Broken, CheckedPlan};
 pub use duplicate::Duplicate;
 pub use event::{Answer, Entry, Event, Member, Outcome};
 pub use mapping::Mapping;

@@ -1,0 +1,8 @@
+use Rattle.std.proofs.Common.{◌≡◌, drop}
+use Rattle.std.specs.List.{list_any}
+use Rattle.std.specs.Str.{bytes_eq}
+use Rattle.flow_model.specs.Rules.{step_ids}
+use Rattle.flow_model.proofs.rules.is_step_id.Given as goal
+
+abbrev pub invariant-loop-step : goal.invariant-loop-step
+invariant-loop-step l = list_any (bytes_eq l.id) (step_ids (drop l.step-index l.steps)) ≡ list_any (bytes_eq l.id) (step_ids l.steps)
