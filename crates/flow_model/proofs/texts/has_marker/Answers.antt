@@ -8,9 +8,9 @@ has_marker-later : (bs : List ℕ) (k : ℕ) → k < length bs → starts_with n
 has_marker-later bs k h no_start kept =
     let there : drop k bs ≡ get_or bs k 0 ∷ drop (suc k) bs = drop-cons bs k 0 h in
     let not_here : starts_with nat_eq (get_or bs k 0 ∷ drop (suc k) bs) (codes "${{") ≡ false =
-      subst (λ (s : List ℕ). starts_with nat_eq s (codes "${{") ≡ false) there no_start in
+    subst (λ (s : List ℕ). starts_with nat_eq s (codes "${{") ≡ false) there no_start in
     let stepped : has_marker (drop k bs) ≡ has_marker (drop (suc k) bs) =
-      ap has_marker there ∙ ap (λ (b : Bool). b || has_marker (drop (suc k) bs)) not_here in
+    ap has_marker there ∙ ap (λ (b : Bool). b || has_marker (drop (suc k) bs)) not_here in
     rw add-one (sym stepped ∙ kept)
 
 pub loop-start-preserved : goal.loop-start-preserved

@@ -1,0 +1,25 @@
+-- How an answer of a board stands to the row of the table.
+use Rattle.std.specs.Prelude.{◌≡◌, Result, Ok, Err}
+use Rattle.flow_model.specs.declared.board.Board.{Board}
+use Rattle.flow_model.specs.declared.reply.Reply.{Reply}
+use Rattle.status_table.specs.declared.fault.EventFault.{EventFault}
+use Rattle.status_table.specs.declared.fault.EventFault.TheVariants as fault
+use Rattle.status_table.specs.Row.{Row}
+
+-- A refusal is the row's; memory may run out besides.
+abbrev pub Refuses : Row → EventFault → Type 0
+Refuses r fault.Memory = Unit {0}
+Refuses r fault.NoSuch = r ≡ Err fault.NoSuch
+Refuses r fault.WrongState = r ≡ Err fault.WrongState
+Refuses r fault.OtherWorker = r ≡ Err fault.OtherWorker
+Refuses r fault.NeedsOpen = r ≡ Err fault.NeedsOpen
+Refuses r fault.SlotsFull = r ≡ Err fault.SlotsFull
+Refuses r fault.Stopping = r ≡ Err fault.Stopping
+Refuses r fault.NotStopping = r ≡ Err fault.NotStopping
+Refuses r fault.StepsLeft = r ≡ Err fault.StepsLeft
+Refuses r fault.BadAnswer = r ≡ Err fault.BadAnswer
+
+-- An answer is the row's reply with its board, or the row's refusal, which changes nothing.
+abbrev pub Answers : Row → Board → Result Reply EventFault → Board → Type 0
+Answers r old (Ok reply) new = r ≡ Ok (new, reply)
+Answers r old (Err f) new = Refuses r f × (new ≡ old)

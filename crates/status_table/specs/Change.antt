@@ -1,0 +1,29 @@
+-- One change of a board: at a run, at a job of a run, or at a leg of a job.
+use Rattle.std.specs.Prelude.{ℕ, List, Option, Some, None, slice_get, slice_set}
+use Rattle.flow_model.specs.declared.board.Board.{Board}
+use Rattle.flow_model.specs.declared.board.Run.{Run}
+use Rattle.flow_model.specs.declared.board.Job.{Job}
+use Rattle.flow_model.specs.declared.board.Leg.{Leg}
+use Rattle.flow_model.specs.declared.board.LegState.{LegState}
+use Rattle.status_table.specs.Place.{JobPlace, LegPlace}
+
+-- the list with the item at a place put in, where there is one
+abbrev pub put : {T : Type 0} → List T → ℕ → (T → T) → Option T → List T
+put xs i f None = xs
+put xs i f (Some x) = slice_set xs i (f x)
+
+-- the list with its item at a place changed, where there is one
+abbrev pub changed : {T : Type 0} → List T → ℕ → (T → T) → List T
+changed xs i f = put xs i f (slice_get xs i)
+
+-- the board with a run changed
+abbrev pub with_run : Board → ℕ → (Run → Run) → Board
+with_run b r f = record b { runs = changed b.runs r f }
+
+-- the board with a job changed
+abbrev pub with_job : Board → JobPlace → (Job → Job) → Board
+with_job b at f = with_run b at.run (λ run. record run { jobs = changed run.jobs at.job f })
+
+-- the board with a leg changed
+abbrev pub with_leg : Board → LegPlace → (Leg → Leg) → Board
+with_leg b at f = with_run b at.run (λ run. record run { jobs = changed run.jobs at.job (λ job. record job { legs = changed job.legs at.leg f }) })

@@ -1,0 +1,196 @@
+-- What follows from a board: what has ended, the results of jobs, what is to stop, and the statuses.
+use Rattle.std.specs.Prelude.{ℕ, zero, suc, ◌-◌, ◌&&◌, ◌||◌, Bool, true, false, not, List, [], ◌∷◌, map, length, Option, Some, None, slice_get, nat_le, count_by, if◌then◌else◌}
+use Rattle.std.specs.List.{list_all, list_any}
+use Rattle.flow_model.specs.declared.plan.JobPlan.{JobPlan}
+use Rattle.flow_model.specs.declared.board.Run.{Run}
+use Rattle.flow_model.specs.declared.board.RunState.{RunState}
+use Rattle.flow_model.specs.declared.board.RunState.TheVariants as run_state
+use Rattle.flow_model.specs.declared.board.Job.{Job}
+use Rattle.flow_model.specs.declared.board.JobState.{JobState}
+use Rattle.flow_model.specs.declared.board.JobState.TheVariants as job_state
+use Rattle.flow_model.specs.declared.board.Leg.{Leg}
+use Rattle.flow_model.specs.declared.board.LegState.{LegState}
+use Rattle.flow_model.specs.declared.board.LegState.TheVariants as leg_state
+use Rattle.flow_model.specs.declared.board.DoneStep.{DoneStep}
+use Rattle.flow_model.specs.declared.event.Outcome.{Outcome}
+use Rattle.flow_model.specs.declared.event.Outcome.TheVariants as outcome
+use Rattle.status_table.specs.declared.status.Status.{Status}
+use Rattle.status_table.specs.declared.status.Status.TheVariants as status
+use Rattle.status_table.specs.Conditions.{condition_value, is_true}
+use Rattle.status_table.specs.Place.{JobAt, LegAt}
+
+-- ---- states
+
+abbrev pub is_closed : RunState → Bool
+is_closed run_state.New = false
+is_closed run_state.Waiting = false
+is_closed run_state.Going = false
+is_closed (run_state.Closed result) = true
+
+abbrev pub is_shut : JobState → Bool
+is_shut job_state.Unjudged = false
+is_shut job_state.Open = false
+is_shut (job_state.Shut result) = true
+
+abbrev pub is_ended : LegState → Bool
+is_ended leg_state.Fresh = false
+is_ended leg_state.Waiting = false
+is_ended leg_state.Admitted = false
+is_ended (leg_state.Running worker in_call) = false
+is_ended (leg_state.Ended result tolerated) = true
+
+-- waiting, admitted or running: it takes one of the places that `max_parallel` gives its job
+abbrev pub is_under_way : LegState → Bool
+is_under_way leg_state.Fresh = false
+is_under_way leg_state.Waiting = true
+is_under_way leg_state.Admitted = true
+is_under_way (leg_state.Running worker in_call) = true
+is_under_way (leg_state.Ended result tolerated) = false
+
+abbrev pub is_success : Outcome → Bool
+is_success outcome.Success = true
+is_success outcome.Failure = false
+is_success outcome.Cancelled = false
+is_success outcome.Skipped = false
+
+abbrev pub is_failure : Outcome → Bool
+is_failure outcome.Success = false
+is_failure outcome.Failure = true
+is_failure outcome.Cancelled = false
+is_failure outcome.Skipped = false
+
+abbrev pub is_cancelled : Outcome → Bool
+is_cancelled outcome.Success = false
+is_cancelled outcome.Failure = false
+is_cancelled outcome.Cancelled = true
+is_cancelled outcome.Skipped = false
+
+-- ended with a failure that is not tolerated
+abbrev pub has_failed : LegState → Bool
+has_failed leg_state.Fresh = false
+has_failed leg_state.Waiting = false
+has_failed leg_state.Admitted = false
+has_failed (leg_state.Running worker in_call) = false
+has_failed (leg_state.Ended result tolerated) = is_failure result && not tolerated
+
+-- ended cancelled
+abbrev pub was_cancelled : LegState → Bool
+was_cancelled leg_state.Fresh = false
+was_cancelled leg_state.Waiting = false
+was_cancelled leg_state.Admitted = false
+was_cancelled (leg_state.Running worker in_call) = false
+was_cancelled (leg_state.Ended result tolerated) = is_cancelled result
+
+-- ---- what has ended
+
+-- a leg has ended where it is Ended, its job is Shut or its run is Closed
+abbrev pub leg_has_ended : Run → Job → Leg → Bool
+leg_has_ended run job leg = is_closed run.state || is_shut job.state || is_ended leg.state
+
+-- a job has ended where all its legs have
+abbrev pub job_has_ended : Run → Job → Bool
+job_has_ended run job = list_all (leg_has_ended run job) job.legs
+
+-- all jobs of a run have ended
+abbrev pub jobs_have_ended : Run → Bool
+jobs_have_ended run = list_all (job_has_ended run) run.jobs
+
+-- ---- results
+
+-- what legs come to: a failure that is not tolerated, else one that was cancelled, else success
+abbrev pub legs_result : List Leg → Outcome
+legs_result legs =
+    if list_any (λ leg. has_failed leg.state) legs then outcome.Failure
+    else (if list_any (λ leg. was_cancelled leg.state) legs then outcome.Cancelled else outcome.Success)
+
+-- the result of a job by its run's state and its own: that of its Shut; else, where it never opened and its
+-- run is Closed, that of the run; else that of its legs
+abbrev pub result_by : RunState → JobState → List Leg → Outcome
+result_by run (job_state.Shut result) legs = result
+result_by run job_state.Open legs = legs_result legs
+result_by run_state.New job_state.Unjudged legs = legs_result legs
+result_by run_state.Waiting job_state.Unjudged legs = legs_result legs
+result_by run_state.Going job_state.Unjudged legs = legs_result legs
+result_by (run_state.Closed result) job_state.Unjudged legs = result
+
+abbrev pub job_result : Run → Job → Outcome
+job_result run job = result_by run.state job.state job.legs
+
+-- the result of a run that is Going: a job's failure, else that it was told to stop or a job was cancelled, else success
+abbrev pub run_result : Run → Outcome
+run_result run =
+    if list_any (λ job. is_failure (job_result run job)) run.jobs then outcome.Failure
+    else (if run.stop || list_any (λ job. is_cancelled (job_result run job)) run.jobs then outcome.Cancelled else outcome.Success)
+
+-- ---- needs. A job's needs are numbers; the number of its run's first job makes places of them.
+
+-- the truth at a place; beyond the end there is none
+abbrev pub holds_at : List Bool → ℕ → Bool
+holds_at tests k = holds (slice_get tests k)
+  where
+    holds : Option Bool → Bool
+    holds None = false
+    holds (Some b) = b
+
+-- the places of the jobs that the job at a place needs
+abbrev pub needs_at : ℕ → List JobPlan → ℕ → List ℕ
+needs_at first jobs k = places (slice_get jobs k)
+  where
+    places : Option JobPlan → List ℕ
+    places None = []
+    places (Some job) = map (λ need. need - first) job.needs
+
+-- Whether an ancestor of the job at place k passes a test that was made of each job: a job that it needs, or an
+-- ancestor of one, over at most n needs.
+abbrev pub some_ancestor : ℕ → List JobPlan → List Bool → ℕ → ℕ → Bool
+some_ancestor first jobs tests zero k = false
+some_ancestor first jobs tests (suc n) k =
+    list_any (λ need. holds_at tests need || some_ancestor first jobs tests n need) (needs_at first jobs k)
+
+-- whether all that a job needs has ended
+abbrev pub needs_have_ended : ℕ → Run → JobPlan → Bool
+needs_have_ended first run plan = list_all (λ need. holds_at (map (job_has_ended run) run.jobs) (need - first)) plan.needs
+
+-- ---- statuses
+
+-- the status of a job: cancelled where its run is told to stop, else by the results of its ancestors; the chain
+-- of needs to an ancestor is no longer than the run has jobs
+abbrev pub job_status : ℕ → JobAt → Status
+job_status first at =
+    if at.run.stop then status.Cancelled
+    else (if some_ancestor first at.run_plan.jobs (map (λ job. is_failure (job_result at.run job)) at.run.jobs) (length at.run_plan.jobs) at.place.job
+      then status.Failure
+    else (if some_ancestor first at.run_plan.jobs (map (λ job. not (is_success (job_result at.run job))) at.run.jobs) (length at.run_plan.jobs) at.place.job
+      then status.Other else status.Success))
+
+-- A leg is to stop where it was told to; or where its job fails fast and a leg of it has failed; or where its
+-- run was told to and the job's condition does not give true as that of a cancelled one.
+abbrev pub is_stopping : LegAt → Bool
+is_stopping at =
+    at.leg.stop || (at.job_plan.fail_fast && list_any (λ leg. has_failed leg.state) at.job.legs)
+    || (at.run.stop && not (is_true (condition_value status.Cancelled)))
+
+-- how a leg counts so far: cancelled where it is to stop, else failure where a done step counts as one
+abbrev pub leg_result : LegAt → Outcome
+leg_result at =
+    if is_stopping at then outcome.Cancelled
+    else (if list_any (λ step. is_failure step.conclusion) at.leg.steps then outcome.Failure else outcome.Success)
+
+-- a result as a status
+abbrev pub status_of : Outcome → Status
+status_of outcome.Success = status.Success
+status_of outcome.Failure = status.Failure
+status_of outcome.Cancelled = status.Cancelled
+status_of outcome.Skipped = status.Other
+
+-- the status of a leg
+abbrev pub leg_status : LegAt → Status
+leg_status at = status_of (leg_result at)
+
+-- whether the job has as many legs under way as it may have at once
+abbrev pub is_full : JobPlan → Job → Bool
+is_full plan job = full plan.max_parallel
+  where
+    full : Option ℕ → Bool
+    full None = false
+    full (Some most) = nat_le most (count_by (λ leg. is_under_way leg.state) job.legs)

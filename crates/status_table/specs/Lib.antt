@@ -1,0 +1,7 @@
+pub mod Answers
+pub mod Change
+pub mod Conditions
+pub mod Derived
+pub mod Place
+pub mod Row
+pub mod Runs

@@ -1,0 +1,327 @@
+-- The table: what each event does to a board, and when it is refused.
+use Rattle.std.specs.Prelude.{ℕ, ℤ, pos, negsuc, zero, suc, ◌-◌, ◌==◌, ◌++◌, Bool, true, false, not, List, [], ◌∷◌, length, nat_le, nat_lt, Option, Some, None, Result, Ok, Err, slice_get, map, if◌then◌else◌}
+use Rattle.flow_model.specs.Answer.{is_well_formed}
+use Rattle.flow_model.specs.declared.plan.Plan.{Plan}
+use Rattle.flow_model.specs.declared.plan.RunPlan.{RunPlan}
+use Rattle.flow_model.specs.declared.plan.JobPlan.{JobPlan}
+use Rattle.flow_model.specs.declared.plan.StepPlan.{StepPlan}
+use Rattle.flow_model.specs.declared.board.Board.{Board}
+use Rattle.flow_model.specs.declared.board.Run.{Run}
+use Rattle.flow_model.specs.declared.board.RunState.{RunState}
+use Rattle.flow_model.specs.declared.board.RunState.TheVariants as run_state
+use Rattle.flow_model.specs.declared.board.Job.{Job}
+use Rattle.flow_model.specs.declared.board.JobState.{JobState}
+use Rattle.flow_model.specs.declared.board.JobState.TheVariants as job_state
+use Rattle.flow_model.specs.declared.board.Leg.{Leg}
+use Rattle.flow_model.specs.declared.board.LegState.{LegState}
+use Rattle.flow_model.specs.declared.board.LegState.TheVariants as leg_state
+use Rattle.flow_model.specs.declared.board.DoneStep.{DoneStep}
+use Rattle.flow_model.specs.declared.event.Answer.{Answer}
+use Rattle.flow_model.specs.declared.event.Answer.TheVariants as answer
+use Rattle.flow_model.specs.declared.event.Event.{Event}
+use Rattle.flow_model.specs.declared.event.Event.TheVariants as event
+use Rattle.flow_model.specs.declared.event.Member.{Member}
+use Rattle.flow_model.specs.declared.event.Member.TheVariants as member
+use Rattle.flow_model.specs.declared.event.Outcome.{Outcome}
+use Rattle.flow_model.specs.declared.event.Outcome.TheVariants as outcome
+use Rattle.flow_model.specs.declared.reply.CallWork.{CallWork}
+use Rattle.flow_model.specs.declared.reply.Reply.{Reply}
+use Rattle.flow_model.specs.declared.reply.StepCall.{StepCall}
+use Rattle.flow_model.specs.declared.reply.ValueFault.{ValueFault}
+use Rattle.flow_model.specs.declared.reply.What.{What}
+use Rattle.flow_model.specs.declared.reply.What.TheVariants as what
+use Rattle.status_table.specs.declared.fault.EventFault.{EventFault}
+use Rattle.status_table.specs.declared.fault.EventFault.TheVariants as fault
+use Rattle.status_table.specs.declared.place.JobPlace.{JobPlace}
+use Rattle.status_table.specs.declared.place.LegPlace.{LegPlace}
+use Rattle.status_table.specs.declared.status.Status.{Status}
+use Rattle.status_table.specs.declared.status.Status.TheVariants as status
+use Rattle.status_table.specs.Change.{with_run, with_job, with_leg}
+use Rattle.status_table.specs.Conditions.{condition_value, is_set, work_value, env_value}
+use Rattle.status_table.specs.Derived.{is_stopping, leg_result, leg_status, job_status, is_full, needs_have_ended, jobs_have_ended, run_result, is_failure}
+use Rattle.status_table.specs.Place.{RunAt, JobAt, LegAt, run_at, job_at, leg_at}
+
+-- a row of the table: the board after the event and the reply to it, or its refusal
+abbrev pub Row : Type 0
+Row = Result (Board × Reply) EventFault
+
+-- a reply that tells of nothing but what happened and who was admitted
+abbrev pub reply : What → Option Member → Reply
+reply happened admitted = record { what = happened; admitted = admitted; displaced = None; stopped = None }
+
+-- ---- changes
+
+abbrev pub run_state_set : Board → ℕ → RunState → Board
+run_state_set b r state = with_run b r (λ run. record run { state = state })
+
+abbrev pub job_state_set : Board → JobPlace → JobState → Board
+job_state_set b place state = with_job b place (λ job. record job { state = state })
+
+abbrev pub leg_state_set : Board → LegPlace → LegState → Board
+leg_state_set b place state = with_leg b place (λ leg. record leg { state = state })
+
+-- the leg is idle again, with one more step done
+abbrev pub step_done : Board → LegPlace → ℕ → DoneStep → Board
+step_done b place worker done = with_leg b place (λ leg. record leg { state = leg_state.Running worker false; steps = leg.steps ++ done ∷ [] })
+
+-- ---- entering a group. No group is offered yet, so whoever asks is admitted.
+
+abbrev pub run_enters : Board → ℕ → Row
+run_enters b r = Ok (run_state_set b r run_state.Going, reply what.Moved (Some (member.Run r)))
+
+abbrev pub leg_enters : Board → LegAt → ℕ → Row
+leg_enters b at l = Ok (leg_state_set b at.place leg_state.Admitted, reply what.Moved (Some (member.Leg l)))
+
+-- ---- Open: a run that is New, and was not told to stop, starts
+
+abbrev pub open_run : Board → ℕ → RunState → Bool → Row
+open_run b r run_state.New false = run_enters b r
+open_run b r run_state.New true = Err fault.Stopping
+open_run b r run_state.Waiting stop = Err fault.WrongState
+open_run b r run_state.Going stop = Err fault.WrongState
+open_run b r (run_state.Closed result) stop = Err fault.WrongState
+
+abbrev pub open_found : Board → ℕ → Option RunAt → Row
+open_found b r None = Err fault.NoSuch
+open_found b r (Some at) = open_run b r at.run.state at.run.stop
+
+-- ---- Judge: a job whose needs have ended is opened where its condition is true, and else shut
+
+-- what a job is shut with where its condition is not true
+abbrev pub shut_result : Bool → Outcome
+shut_result true = outcome.Cancelled
+shut_result false = outcome.Skipped
+
+abbrev pub judged_state : Bool → Result Bool ValueFault → JobState
+judged_state stop (Ok true) = job_state.Open
+judged_state stop (Ok false) = job_state.Shut (shut_result stop)
+judged_state stop (Err f) = job_state.Shut outcome.Failure
+
+-- the number of the first job of the run that a job is in
+abbrev pub first_of : ℕ → JobAt → ℕ
+first_of j at = j - at.place.job
+
+abbrev pub judge_ready : Board → ℕ → JobAt → Row
+judge_ready b j at =
+    if needs_have_ended (first_of j at) at.run at.plan
+    then Ok (job_state_set b at.place (judged_state at.run.stop (condition_value (job_status (first_of j at) at))), reply what.Moved None)
+    else Err fault.NeedsOpen
+
+abbrev pub judge_job : Board → ℕ → JobAt → RunState → JobState → Row
+judge_job b j at run_state.Going job_state.Unjudged = judge_ready b j at
+judge_job b j at run_state.Going job_state.Open = Err fault.WrongState
+judge_job b j at run_state.Going (job_state.Shut result) = Err fault.WrongState
+judge_job b j at run_state.New state = Err fault.WrongState
+judge_job b j at run_state.Waiting state = Err fault.WrongState
+judge_job b j at (run_state.Closed result) state = Err fault.WrongState
+
+abbrev pub judge_found : Board → ℕ → Option JobAt → Row
+judge_found b j None = Err fault.NoSuch
+judge_found b j (Some at) = judge_job b j at at.run.state at.job.state
+
+-- ---- Ask: a leg that is Fresh, of an Open job, asks to be admitted
+
+abbrev pub is_going : RunState → Bool
+is_going run_state.New = false
+is_going run_state.Waiting = false
+is_going run_state.Going = true
+is_going (run_state.Closed result) = false
+
+abbrev pub is_open : JobState → Bool
+is_open job_state.Unjudged = false
+is_open job_state.Open = true
+is_open (job_state.Shut result) = false
+
+abbrev pub is_fresh : LegState → Bool
+is_fresh leg_state.Fresh = true
+is_fresh leg_state.Waiting = false
+is_fresh leg_state.Admitted = false
+is_fresh (leg_state.Running worker in_call) = false
+is_fresh (leg_state.Ended result tolerated) = false
+
+abbrev pub ask_leg : Board → ℕ → LegAt → Row
+ask_leg b l at =
+    if not (is_going at.run.state && is_open at.job.state && is_fresh at.leg.state) then Err fault.WrongState
+    else (if is_full at.job_plan at.job then Err fault.SlotsFull
+    else (if is_stopping at then Err fault.Stopping else leg_enters b at l))
+
+abbrev pub ask_found : Board → ℕ → Option LegAt → Row
+ask_found b l None = Err fault.NoSuch
+ask_found b l (Some at) = ask_leg b l at
+
+-- ---- Take: a worker takes a leg that is Admitted
+
+abbrev pub take_leg : Board → ℕ → LegAt → LegState → Row
+take_leg b worker at leg_state.Fresh = Err fault.WrongState
+take_leg b worker at leg_state.Waiting = Err fault.WrongState
+take_leg b worker at leg_state.Admitted =
+    if is_stopping at then Err fault.Stopping
+    else Ok (leg_state_set b at.place (leg_state.Running worker false), reply what.Moved None)
+take_leg b worker at (leg_state.Running other in_call) = Err fault.WrongState
+take_leg b worker at (leg_state.Ended result tolerated) = Err fault.WrongState
+
+abbrev pub take_found : Board → ℕ → Option LegAt → Row
+take_found b worker None = Err fault.NoSuch
+take_found b worker (Some at) = take_leg b worker at at.leg.state
+
+-- ---- Begin: the worker of an idle leg begins its next step
+
+-- how a failure counts for a step
+abbrev pub failure_of : StepPlan → Outcome
+failure_of step = if is_set step.tolerate then outcome.Success else outcome.Failure
+
+abbrev pub skipped_step : DoneStep
+skipped_step = record { outcome = outcome.Skipped; conclusion = outcome.Skipped; outputs = [] }
+
+abbrev pub failed_step : StepPlan → DoneStep
+failed_step step = record { outcome = outcome.Failure; conclusion = failure_of step; outputs = [] }
+
+abbrev pub step_call : ℕ → LegAt → StepPlan → CallWork → StepCall
+step_call l at step work = record { leg = l; step = length at.leg.steps; work = work; env = env_value step }
+
+-- a step's texts have no value: it is done, with a failure
+abbrev pub step_faults : Board → ℕ → LegAt → StepPlan → ValueFault → Row
+step_faults b worker at step f = Ok (step_done b at.place worker (failed_step step), reply (what.Faulted f) None)
+
+-- the condition is true: the leg is in the call of the step, unless a text has no value
+abbrev pub step_calls : Board → ℕ → ℕ → LegAt → StepPlan → Result CallWork ValueFault → Row
+step_calls b worker l at step (Err f) = step_faults b worker at step f
+step_calls b worker l at step (Ok work) =
+    Ok (leg_state_set b at.place (leg_state.Running worker true), reply (what.Call (step_call l at step work)) None)
+
+abbrev pub step_begins : Board → ℕ → ℕ → LegAt → StepPlan → Result Bool ValueFault → Row
+step_begins b worker l at step (Err f) = step_faults b worker at step f
+step_begins b worker l at step (Ok false) = Ok (step_done b at.place worker skipped_step, reply what.Skipped None)
+step_begins b worker l at step (Ok true) = step_calls b worker l at step (work_value step.work)
+
+-- the next step, if there is one left
+abbrev pub next_step : LegAt → Option StepPlan
+next_step at = slice_get at.job_plan.steps (length at.leg.steps)
+
+abbrev pub begin_step : Board → ℕ → ℕ → LegAt → ℕ → Option StepPlan → Row
+begin_step b worker l at owner None = Err fault.WrongState
+begin_step b worker l at owner (Some step) =
+    if worker == owner then step_begins b worker l at step (condition_value (leg_status at)) else Err fault.OtherWorker
+
+abbrev pub begin_leg : Board → ℕ → ℕ → LegAt → LegState → Row
+begin_leg b worker l at leg_state.Fresh = Err fault.WrongState
+begin_leg b worker l at leg_state.Waiting = Err fault.WrongState
+begin_leg b worker l at leg_state.Admitted = Err fault.WrongState
+begin_leg b worker l at (leg_state.Running owner true) = Err fault.WrongState
+begin_leg b worker l at (leg_state.Running owner false) = begin_step b worker l at owner (next_step at)
+begin_leg b worker l at (leg_state.Ended result tolerated) = Err fault.WrongState
+
+abbrev pub begin_found : Board → ℕ → ℕ → Option LegAt → Row
+begin_found b worker l None = Err fault.NoSuch
+begin_found b worker l (Some at) = begin_leg b worker l at at.leg.state
+
+-- ---- End: the call of a leg is answered
+
+-- success exactly for an exit with code 0
+abbrev pub outcome_of : Answer → Outcome
+outcome_of (answer.Exit (pos zero) outputs) = outcome.Success
+outcome_of (answer.Exit (pos (suc n)) outputs) = outcome.Failure
+outcome_of (answer.Exit (negsuc n) outputs) = outcome.Failure
+outcome_of answer.NotStarted = outcome.Failure
+outcome_of answer.BadOutput = outcome.Failure
+
+-- the outputs of an exit are kept, whatever its code
+abbrev pub outputs_of : Answer → List (List ℕ × List ℕ)
+outputs_of (answer.Exit code outputs) = outputs
+outputs_of answer.NotStarted = []
+outputs_of answer.BadOutput = []
+
+-- a failure that may be passed over counts as a success
+abbrev pub conclusion_of : Option StepPlan → Outcome → Outcome
+conclusion_of step outcome.Success = outcome.Success
+conclusion_of None outcome.Failure = outcome.Failure
+conclusion_of (Some step) outcome.Failure = failure_of step
+conclusion_of step outcome.Cancelled = outcome.Cancelled
+conclusion_of step outcome.Skipped = outcome.Skipped
+
+abbrev pub answered_step : LegAt → Answer → DoneStep
+answered_step at a = record { outcome = outcome_of a; conclusion = conclusion_of (next_step at) (outcome_of a); outputs = outputs_of a }
+
+abbrev pub end_call : Board → ℕ → LegAt → ℕ → Answer → Row
+end_call b worker at owner a =
+    if not (worker == owner) then Err fault.OtherWorker
+    else (if not (is_well_formed a) then Err fault.BadAnswer
+    else Ok (step_done b at.place worker (answered_step at a), reply what.Moved None))
+
+abbrev pub end_leg : Board → ℕ → LegAt → Answer → LegState → Row
+end_leg b worker at a leg_state.Fresh = Err fault.WrongState
+end_leg b worker at a leg_state.Waiting = Err fault.WrongState
+end_leg b worker at a leg_state.Admitted = Err fault.WrongState
+end_leg b worker at a (leg_state.Running owner false) = Err fault.WrongState
+end_leg b worker at a (leg_state.Running owner true) = end_call b worker at owner a
+end_leg b worker at a (leg_state.Ended result tolerated) = Err fault.WrongState
+
+abbrev pub end_found : Board → ℕ → Answer → Option LegAt → Row
+end_found b worker a None = Err fault.NoSuch
+end_found b worker a (Some at) = end_leg b worker at a at.leg.state
+
+-- ---- Finish: a leg whose steps are all done ends with its status
+
+-- a failure is tolerated where the job may fail
+abbrev pub ended_state : LegAt → Outcome → LegState
+ended_state at result = leg_state.Ended result (is_failure result && is_set at.job_plan.tolerate)
+
+-- the outputs that a leg gives its job; none can be written yet
+abbrev pub leg_outputs : LegAt → List (List ℕ × List ℕ)
+leg_outputs at = []
+
+abbrev pub leg_ended : Board → ℕ → LegAt → LegState → Board
+leg_ended b l at state =
+    let ended = with_leg b at.place (λ leg. record leg { state = state; outputs = leg_outputs at }) in
+    record ended { ends = b.ends ++ l ∷ [] }
+
+abbrev pub finish_idle : Board → ℕ → ℕ → LegAt → ℕ → Row
+finish_idle b worker l at owner =
+    if not (worker == owner) then Err fault.OtherWorker
+    else (if nat_lt (length at.leg.steps) (length at.job_plan.steps) then Err fault.StepsLeft
+    else Ok (leg_ended b l at (ended_state at (leg_result at)), reply what.Moved None))
+
+abbrev pub finish_leg : Board → ℕ → ℕ → LegAt → LegState → Row
+finish_leg b worker l at leg_state.Fresh = Err fault.WrongState
+finish_leg b worker l at leg_state.Waiting = Err fault.WrongState
+finish_leg b worker l at leg_state.Admitted = Err fault.WrongState
+finish_leg b worker l at (leg_state.Running owner true) = Err fault.WrongState
+finish_leg b worker l at (leg_state.Running owner false) = finish_idle b worker l at owner
+finish_leg b worker l at (leg_state.Ended result tolerated) = Err fault.WrongState
+
+abbrev pub finish_found : Board → ℕ → ℕ → Option LegAt → Row
+finish_found b worker l None = Err fault.NoSuch
+finish_found b worker l (Some at) = finish_leg b worker l at at.leg.state
+
+-- ---- Close: a run whose jobs have all ended, or that was told to stop before it was going, ends
+
+abbrev pub close_waiting : Board → ℕ → Bool → Row
+close_waiting b r true = Ok (run_state_set b r (run_state.Closed outcome.Cancelled), reply what.Moved None)
+close_waiting b r false = Err fault.NotStopping
+
+abbrev pub close_run : Board → ℕ → Run → RunState → Row
+close_run b r run run_state.New = close_waiting b r run.stop
+close_run b r run run_state.Waiting = close_waiting b r run.stop
+close_run b r run run_state.Going =
+    if jobs_have_ended run then Ok (run_state_set b r (run_state.Closed (run_result run)), reply what.Moved None) else Err fault.NeedsOpen
+close_run b r run (run_state.Closed result) = Err fault.WrongState
+
+abbrev pub close_found : Board → ℕ → Option RunAt → Row
+close_found b r None = Err fault.NoSuch
+close_found b r (Some at) = close_run b r at.run at.run.state
+
+-- ---- the table
+
+abbrev pub event_row : Plan → Board → ℕ → Event → Row
+event_row p b worker (event.Open r) = open_found b r (run_at p b r)
+event_row p b worker (event.Judge j) = judge_found b j (job_at p b j)
+event_row p b worker (event.Ask l) = ask_found b l (leg_at p b l)
+event_row p b worker (event.Take l) = take_found b worker (leg_at p b l)
+event_row p b worker (event.Begin l) = begin_found b worker l (leg_at p b l)
+event_row p b worker (event.End l a) = end_found b worker a (leg_at p b l)
+event_row p b worker (event.Finish l) = finish_found b worker l (leg_at p b l)
+event_row p b worker (event.Close r) = close_found b r (run_at p b r)
+
+-- The row of an event that a worker reports: there are the workers 0 to 15.
+abbrev pub row : Plan → Board → ℕ → Event → Row
+row p b worker e = if nat_le worker 15 then event_row p b worker e else Err fault.NoSuch
