@@ -159,9 +159,9 @@ abbrev pub job_status : ℕ → JobAt → Status
 job_status first at =
     if at.run.stop then status.Cancelled
     else (if some_ancestor first at.run_plan.jobs (map (λ job. is_failure (job_result at.run job)) at.run.jobs) (length at.run_plan.jobs) at.place.job
-      then status.Failure
+    then status.Failure
     else (if some_ancestor first at.run_plan.jobs (map (λ job. not (is_success (job_result at.run job))) at.run.jobs) (length at.run_plan.jobs) at.place.job
-      then status.Other else status.Success))
+    then status.Other else status.Success))
 
 -- A leg is to stop where it was told to; or where its job fails fast and a leg of it has failed; or where its
 -- run was told to and the job's condition does not give true as that of a cancelled one.

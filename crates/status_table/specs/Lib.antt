@@ -1,3 +1,4 @@
+pub mod Ancestors
 pub mod Answers
 pub mod Change
 pub mod Conditions
@@ -5,3 +6,4 @@ pub mod Derived
 pub mod Place
 pub mod Row
 pub mod Runs
+pub mod Seen

@@ -1,13 +1,17 @@
-// A library with one function.
+// status_table: the table of events, and the plain board that follows it.
+//
+// The table is a definition: `specs/Row.antt` says, event by event and case by case, what an event does to a
+// board, what is replied, and when it is refused. The trait `Table` promises that a board answers each event
+// by its row and that a refusal changes nothing; `PlainBoard` is the plain body of it, and `run_entries` plays
+// a list of entries on any table, up to the first that is refused. It stands on `flow_model` alone.
 #![tactic(auto)]
 
-ghost use Rattle.std.specs.Prelude.{◌≡◌};
-ghost use Rattle.status_table.specs.Echo.{echo_of};
+pub mod change;
+pub mod conditions;
+pub mod derived;
+pub mod fault;
+pub mod place;
+pub mod status;
 
-// The `ensures` clause is the contract: what `echo` returns is `echo_of` of its argument, a definition
-// in `specs/Echo.antt`, which a caller's clause can cite too.
-pub fn echo(x: usize) -> usize
-    ensures { result ≡ echo_of x }
-{
-    x
-}
+pub use fault::EventFault;
+pub use status::Status;
