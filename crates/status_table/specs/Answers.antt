@@ -7,7 +7,7 @@ use Rattle.status_table.specs.declared.fault.EventFault.TheVariants as fault
 use Rattle.status_table.specs.Row.{Row}
 
 -- A refusal is the row's; memory may run out besides.
-abbrev pub Refuses : Row → EventFault → Type 0
+abbrev pub Refuses : {T : Type 0} → Result T EventFault → EventFault → Type 0
 Refuses r fault.Memory = Unit {0}
 Refuses r fault.NoSuch = r ≡ Err fault.NoSuch
 Refuses r fault.WrongState = r ≡ Err fault.WrongState
@@ -18,6 +18,16 @@ Refuses r fault.Stopping = r ≡ Err fault.Stopping
 Refuses r fault.NotStopping = r ≡ Err fault.NotStopping
 Refuses r fault.StepsLeft = r ≡ Err fault.StepsLeft
 Refuses r fault.BadAnswer = r ≡ Err fault.BadAnswer
+
+-- A decision is made as it is defined, or refused as it is; memory may run out besides.
+abbrev pub Decides : {T : Type 0} → Result T EventFault → Result T EventFault → Type 0
+Decides r (Ok x) = r ≡ Ok x
+Decides r (Err f) = Refuses r f
+
+-- the same for what stands for a decision
+abbrev pub DecidesAs : {X T : Type 0} → (X → T) → Result T EventFault → Result X EventFault → Type 0
+DecidesAs seen r (Ok x) = r ≡ Ok (seen x)
+DecidesAs seen r (Err f) = Refuses r f
 
 -- An answer is the row's reply with its board, or the row's refusal, which changes nothing.
 abbrev pub Answers : Row → Board → Result Reply EventFault → Board → Type 0

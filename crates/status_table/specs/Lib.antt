@@ -4,6 +4,7 @@ pub mod Change
 pub mod Conditions
 pub mod Derived
 pub mod Place
+pub mod Play
 pub mod Row
 pub mod Runs
 pub mod Seen

@@ -101,23 +101,31 @@ judged_state stop (Err f) = job_state.Shut outcome.Failure
 abbrev pub first_of : ℕ → JobAt → ℕ
 first_of j at = j - at.place.job
 
-abbrev pub judge_ready : Board → ℕ → JobAt → Row
-judge_ready b j at =
+-- the state into which a job is judged, or why it is not
+abbrev pub judgement_ready : ℕ → JobAt → Result JobState EventFault
+judgement_ready j at =
     if needs_have_ended (first_of j at) at.run at.plan
-    then Ok (job_state_set b at.place (judged_state at.run.stop (condition_value (job_status (first_of j at) at))), reply what.Moved None)
+    then Ok (judged_state at.run.stop (condition_value (job_status (first_of j at) at)))
     else Err fault.NeedsOpen
 
-abbrev pub judge_job : Board → ℕ → JobAt → RunState → JobState → Row
-judge_job b j at run_state.Going job_state.Unjudged = judge_ready b j at
-judge_job b j at run_state.Going job_state.Open = Err fault.WrongState
-judge_job b j at run_state.Going (job_state.Shut result) = Err fault.WrongState
-judge_job b j at run_state.New state = Err fault.WrongState
-judge_job b j at run_state.Waiting state = Err fault.WrongState
-judge_job b j at (run_state.Closed result) state = Err fault.WrongState
+abbrev pub judgement_by : ℕ → JobAt → RunState → JobState → Result JobState EventFault
+judgement_by j at run_state.Going job_state.Unjudged = judgement_ready j at
+judgement_by j at run_state.Going job_state.Open = Err fault.WrongState
+judgement_by j at run_state.Going (job_state.Shut result) = Err fault.WrongState
+judgement_by j at run_state.New state = Err fault.WrongState
+judgement_by j at run_state.Waiting state = Err fault.WrongState
+judgement_by j at (run_state.Closed result) state = Err fault.WrongState
+
+abbrev pub judgement : ℕ → JobAt → Result JobState EventFault
+judgement j at = judgement_by j at at.run.state at.job.state
+
+abbrev pub judge_job : Board → JobPlace → Result JobState EventFault → Row
+judge_job b place (Ok state) = Ok (job_state_set b place state, reply what.Moved None)
+judge_job b place (Err f) = Err f
 
 abbrev pub judge_found : Board → ℕ → Option JobAt → Row
 judge_found b j None = Err fault.NoSuch
-judge_found b j (Some at) = judge_job b j at at.run.state at.job.state
+judge_found b j (Some at) = judge_job b at.place (judgement j at)
 
 -- ---- Ask: a leg that is Fresh, of an Open job, asks to be admitted
 
@@ -166,56 +174,75 @@ take_found b worker (Some at) = take_leg b worker at at.leg.state
 
 -- ---- Begin: the worker of an idle leg begins its next step
 
--- how a failure counts for a step
-abbrev pub failure_of : StepPlan → Outcome
-failure_of step = if is_set step.tolerate then outcome.Success else outcome.Failure
-
-abbrev pub skipped_step : DoneStep
-skipped_step = record { outcome = outcome.Skipped; conclusion = outcome.Skipped; outputs = [] }
-
-abbrev pub failed_step : StepPlan → DoneStep
-failed_step step = record { outcome = outcome.Failure; conclusion = failure_of step; outputs = [] }
-
-abbrev pub step_call : ℕ → LegAt → StepPlan → CallWork → StepCall
-step_call l at step work = record { leg = l; step = length at.leg.steps; work = work; env = env_value step }
-
--- a step's texts have no value: it is done, with a failure
-abbrev pub step_faults : Board → ℕ → LegAt → StepPlan → ValueFault → Row
-step_faults b worker at step f = Ok (step_done b at.place worker (failed_step step), reply (what.Faulted f) None)
-
--- the condition is true: the leg is in the call of the step, unless a text has no value
-abbrev pub step_calls : Board → ℕ → ℕ → LegAt → StepPlan → Result CallWork ValueFault → Row
-step_calls b worker l at step (Err f) = step_faults b worker at step f
-step_calls b worker l at step (Ok work) =
-    Ok (leg_state_set b at.place (leg_state.Running worker true), reply (what.Call (step_call l at step work)) None)
-
-abbrev pub step_begins : Board → ℕ → ℕ → LegAt → StepPlan → Result Bool ValueFault → Row
-step_begins b worker l at step (Err f) = step_faults b worker at step f
-step_begins b worker l at step (Ok false) = Ok (step_done b at.place worker skipped_step, reply what.Skipped None)
-step_begins b worker l at step (Ok true) = step_calls b worker l at step (work_value step.work)
+-- the worker of a leg that is running and idle
+abbrev pub idle_owner : LegState → Option ℕ
+idle_owner leg_state.Fresh = None
+idle_owner leg_state.Waiting = None
+idle_owner leg_state.Admitted = None
+idle_owner (leg_state.Running owner true) = None
+idle_owner (leg_state.Running owner false) = Some owner
+idle_owner (leg_state.Ended result tolerated) = None
 
 -- the next step, if there is one left
 abbrev pub next_step : LegAt → Option StepPlan
 next_step at = slice_get at.job_plan.steps (length at.leg.steps)
 
-abbrev pub begin_step : Board → ℕ → ℕ → LegAt → ℕ → Option StepPlan → Row
-begin_step b worker l at owner None = Err fault.WrongState
-begin_step b worker l at owner (Some step) =
-    if worker == owner then step_begins b worker l at step (condition_value (leg_status at)) else Err fault.OtherWorker
+-- What beginning a step comes to: a call, a step that is skipped, or one that failed since a text has no value.
+pub data Beginning : Type 0 where
+  calls : StepCall → Beginning
+  skips : Beginning
+  faults : ValueFault → Beginning
 
-abbrev pub begin_leg : Board → ℕ → ℕ → LegAt → LegState → Row
-begin_leg b worker l at leg_state.Fresh = Err fault.WrongState
-begin_leg b worker l at leg_state.Waiting = Err fault.WrongState
-begin_leg b worker l at leg_state.Admitted = Err fault.WrongState
-begin_leg b worker l at (leg_state.Running owner true) = Err fault.WrongState
-begin_leg b worker l at (leg_state.Running owner false) = begin_step b worker l at owner (next_step at)
-begin_leg b worker l at (leg_state.Ended result tolerated) = Err fault.WrongState
+abbrev pub work_beginning : ℕ → LegAt → StepPlan → Result CallWork ValueFault → Beginning
+work_beginning l at step (Ok work) = calls (record { leg = l; step = length at.leg.steps; work = work; env = env_value step })
+work_beginning l at step (Err f) = faults f
+
+-- the condition comes first, and then the texts
+abbrev pub step_beginning : ℕ → LegAt → StepPlan → Result Bool ValueFault → Beginning
+step_beginning l at step (Ok true) = work_beginning l at step (work_value step.work)
+step_beginning l at step (Ok false) = skips
+step_beginning l at step (Err f) = faults f
+
+abbrev pub beginning_by : ℕ → ℕ → LegAt → Option ℕ → Option StepPlan → Result Beginning EventFault
+beginning_by worker l at None step = Err fault.WrongState
+beginning_by worker l at (Some owner) None = Err fault.WrongState
+beginning_by worker l at (Some owner) (Some step) =
+    if worker == owner then Ok (step_beginning l at step (condition_value (leg_status at))) else Err fault.OtherWorker
+
+abbrev pub beginning : ℕ → ℕ → LegAt → Result Beginning EventFault
+beginning worker l at = beginning_by worker l at (idle_owner at.leg.state) (next_step at)
+
+-- how a failure counts for a step: one that may be passed over counts as a success
+abbrev pub failure_of : Option StepPlan → Outcome
+failure_of None = outcome.Failure
+failure_of (Some step) = if is_set step.tolerate then outcome.Success else outcome.Failure
+
+abbrev pub skipped_step : DoneStep
+skipped_step = record { outcome = outcome.Skipped; conclusion = outcome.Skipped; outputs = [] }
+
+abbrev pub failed_step : LegAt → DoneStep
+failed_step at = record { outcome = outcome.Failure; conclusion = failure_of (next_step at); outputs = [] }
+
+abbrev pub begin_leg : Board → ℕ → LegAt → Result Beginning EventFault → Row
+begin_leg b worker at (Ok (calls call)) = Ok (leg_state_set b at.place (leg_state.Running worker true), reply (what.Call call) None)
+begin_leg b worker at (Ok skips) = Ok (step_done b at.place worker skipped_step, reply what.Skipped None)
+begin_leg b worker at (Ok (faults f)) = Ok (step_done b at.place worker (failed_step at), reply (what.Faulted f) None)
+begin_leg b worker at (Err f) = Err f
 
 abbrev pub begin_found : Board → ℕ → ℕ → Option LegAt → Row
 begin_found b worker l None = Err fault.NoSuch
-begin_found b worker l (Some at) = begin_leg b worker l at at.leg.state
+begin_found b worker l (Some at) = begin_leg b worker at (beginning worker l at)
 
 -- ---- End: the call of a leg is answered
+
+-- the worker of a leg that is running and in a call
+abbrev pub calling_owner : LegState → Option ℕ
+calling_owner leg_state.Fresh = None
+calling_owner leg_state.Waiting = None
+calling_owner leg_state.Admitted = None
+calling_owner (leg_state.Running owner true) = Some owner
+calling_owner (leg_state.Running owner false) = None
+calling_owner (leg_state.Ended result tolerated) = None
 
 -- success exactly for an exit with code 0
 abbrev pub outcome_of : Answer → Outcome
@@ -231,34 +258,32 @@ outputs_of (answer.Exit code outputs) = outputs
 outputs_of answer.NotStarted = []
 outputs_of answer.BadOutput = []
 
--- a failure that may be passed over counts as a success
 abbrev pub conclusion_of : Option StepPlan → Outcome → Outcome
 conclusion_of step outcome.Success = outcome.Success
-conclusion_of None outcome.Failure = outcome.Failure
-conclusion_of (Some step) outcome.Failure = failure_of step
+conclusion_of step outcome.Failure = failure_of step
 conclusion_of step outcome.Cancelled = outcome.Cancelled
 conclusion_of step outcome.Skipped = outcome.Skipped
 
 abbrev pub answered_step : LegAt → Answer → DoneStep
 answered_step at a = record { outcome = outcome_of a; conclusion = conclusion_of (next_step at) (outcome_of a); outputs = outputs_of a }
 
-abbrev pub end_call : Board → ℕ → LegAt → ℕ → Answer → Row
-end_call b worker at owner a =
+abbrev pub ending_by : ℕ → LegAt → Answer → Option ℕ → Result DoneStep EventFault
+ending_by worker at a None = Err fault.WrongState
+ending_by worker at a (Some owner) =
     if not (worker == owner) then Err fault.OtherWorker
-    else (if not (is_well_formed a) then Err fault.BadAnswer
-    else Ok (step_done b at.place worker (answered_step at a), reply what.Moved None))
+    else (if not (is_well_formed a) then Err fault.BadAnswer else Ok (answered_step at a))
 
-abbrev pub end_leg : Board → ℕ → LegAt → Answer → LegState → Row
-end_leg b worker at a leg_state.Fresh = Err fault.WrongState
-end_leg b worker at a leg_state.Waiting = Err fault.WrongState
-end_leg b worker at a leg_state.Admitted = Err fault.WrongState
-end_leg b worker at a (leg_state.Running owner false) = Err fault.WrongState
-end_leg b worker at a (leg_state.Running owner true) = end_call b worker at owner a
-end_leg b worker at a (leg_state.Ended result tolerated) = Err fault.WrongState
+-- the step that is done by an answer, or why it is not
+abbrev pub ending : ℕ → LegAt → Answer → Result DoneStep EventFault
+ending worker at a = ending_by worker at a (calling_owner at.leg.state)
+
+abbrev pub end_leg : Board → ℕ → LegAt → Result DoneStep EventFault → Row
+end_leg b worker at (Ok done) = Ok (step_done b at.place worker done, reply what.Moved None)
+end_leg b worker at (Err f) = Err f
 
 abbrev pub end_found : Board → ℕ → Answer → Option LegAt → Row
 end_found b worker a None = Err fault.NoSuch
-end_found b worker a (Some at) = end_leg b worker at a at.leg.state
+end_found b worker a (Some at) = end_leg b worker at (ending worker at a)
 
 -- ---- Finish: a leg whose steps are all done ends with its status
 
@@ -266,32 +291,32 @@ end_found b worker a (Some at) = end_leg b worker at a at.leg.state
 abbrev pub ended_state : LegAt → Outcome → LegState
 ended_state at result = leg_state.Ended result (is_failure result && is_set at.job_plan.tolerate)
 
+abbrev pub finishing_by : ℕ → LegAt → Option ℕ → Result LegState EventFault
+finishing_by worker at None = Err fault.WrongState
+finishing_by worker at (Some owner) =
+    if not (worker == owner) then Err fault.OtherWorker
+    else (if nat_lt (length at.leg.steps) (length at.job_plan.steps) then Err fault.StepsLeft else Ok (ended_state at (leg_result at)))
+
+-- the state in which a leg ends, or why it does not
+abbrev pub finishing : ℕ → LegAt → Result LegState EventFault
+finishing worker at = finishing_by worker at (idle_owner at.leg.state)
+
 -- the outputs that a leg gives its job; none can be written yet
 abbrev pub leg_outputs : LegAt → List (List ℕ × List ℕ)
 leg_outputs at = []
 
-abbrev pub leg_ended : Board → ℕ → LegAt → LegState → Board
-leg_ended b l at state =
-    let ended = with_leg b at.place (λ leg. record leg { state = state; outputs = leg_outputs at }) in
-    record ended { ends = b.ends ++ l ∷ [] }
+-- the board with a leg ended, last of all
+abbrev pub leg_ended : Board → LegPlace → ℕ → LegState → List (List ℕ × List ℕ) → Board
+leg_ended b place l state outputs =
+    record (with_leg b place (λ leg. record leg { state = state; outputs = outputs })) { ends = b.ends ++ l ∷ [] }
 
-abbrev pub finish_idle : Board → ℕ → ℕ → LegAt → ℕ → Row
-finish_idle b worker l at owner =
-    if not (worker == owner) then Err fault.OtherWorker
-    else (if nat_lt (length at.leg.steps) (length at.job_plan.steps) then Err fault.StepsLeft
-    else Ok (leg_ended b l at (ended_state at (leg_result at)), reply what.Moved None))
-
-abbrev pub finish_leg : Board → ℕ → ℕ → LegAt → LegState → Row
-finish_leg b worker l at leg_state.Fresh = Err fault.WrongState
-finish_leg b worker l at leg_state.Waiting = Err fault.WrongState
-finish_leg b worker l at leg_state.Admitted = Err fault.WrongState
-finish_leg b worker l at (leg_state.Running owner true) = Err fault.WrongState
-finish_leg b worker l at (leg_state.Running owner false) = finish_idle b worker l at owner
-finish_leg b worker l at (leg_state.Ended result tolerated) = Err fault.WrongState
+abbrev pub finish_leg : Board → ℕ → LegAt → Result LegState EventFault → Row
+finish_leg b l at (Ok state) = Ok (leg_ended b at.place l state (leg_outputs at), reply what.Moved None)
+finish_leg b l at (Err f) = Err f
 
 abbrev pub finish_found : Board → ℕ → ℕ → Option LegAt → Row
 finish_found b worker l None = Err fault.NoSuch
-finish_found b worker l (Some at) = finish_leg b worker l at at.leg.state
+finish_found b worker l (Some at) = finish_leg b l at (finishing worker at)
 
 -- ---- Close: a run whose jobs have all ended, or that was told to stop before it was going, ends
 

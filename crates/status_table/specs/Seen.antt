@@ -1,5 +1,11 @@
--- What a place of the code stands for.
+-- What values of the code stand for.
+use Rattle.std.specs.Prelude.{Option, Some, None}
+use Rattle.flow_model.specs.declared.board.DoneStep.{DoneStep}
+use Rattle.flow_model.specs.declared.event.Answer.{Answer}
+use Rattle.flow_model.specs.declared.event.Outcome.{Outcome}
+use Rattle.flow_model.specs.declared.reply.StepCall.{StepCall}
 use Rattle.status_table.specs.Place.{RunAt, JobAt, LegAt}
+use Rattle.status_table.specs.Row.{Beginning, calls, skips, outputs_of}
 use Rattle.status_table.specs.declared.place.SeenRun.{SeenRun}
 use Rattle.status_table.specs.declared.place.SeenJob.{SeenJob}
 use Rattle.status_table.specs.declared.place.SeenLeg.{SeenLeg}
@@ -12,3 +18,12 @@ job_seen x = record { place = x.place; run_plan = x.run_plan.now; plan = x.plan.
 
 abbrev pub leg_seen : SeenLeg → LegAt
 leg_seen x = record { place = x.place; run_plan = x.run_plan.now; job_plan = x.job_plan.now; run = x.run.now; job = x.job.now; leg = x.leg.now }
+
+-- a call, or none where the step is skipped
+abbrev pub beginning_seen : Option StepCall → Beginning
+beginning_seen None = skips
+beginning_seen (Some call) = calls call
+
+-- an outcome and a conclusion, with the outputs of the answer
+abbrev pub ended_step : Outcome × Outcome → Answer → DoneStep
+ended_step x a = record { outcome = x.0; conclusion = x.1; outputs = outputs_of a }

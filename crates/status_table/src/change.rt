@@ -1,6 +1,5 @@
 // Changes of a board in place.
-ghost use Rattle.std.specs.Prelude.{◌≡◌, ◌++◌, ◌∷◌, [], OnOk, OnErr, Some, None};
-ghost use Rattle.flow_model.specs.declared.board.LegState.TheVariants.{Running};
+ghost use Rattle.std.specs.Prelude.{◌≡◌, OnOk, OnErr};
 ghost use Rattle.status_table.specs.Change as spec;
 ghost use Rattle.status_table.specs.Row as row;
 
@@ -39,4 +38,58 @@ pub(crate) fn set_leg_state(board: &mut Board, place: LegPlace, state: LegState)
             }
         }
     }
+}
+
+/// Adds a done step to a leg, which is idle again; where memory runs out, nothing is changed.
+pub(crate) fn add_step(
+    board: &mut Board,
+    place: LegPlace,
+    worker: u8,
+    done: DoneStep,
+) -> Result<(), AllocError>
+    ensures ok { OnOk result (board.new ≡ row.step_done board.old place worker done) }
+    ensures err { OnErr result (board.new ≡ board.old) }
+{
+    if let Some(run) = board.runs.get_mut(place.run) {
+        if let Some(job) = run.jobs.get_mut(place.job) {
+            if let Some(leg) = job.legs.get_mut(place.leg) {
+                leg.steps.push(done)?;
+                leg.state = LegState::Running {
+                    worker,
+                    in_call: false,
+                };
+            }
+        }
+    }
+    Ok(())
+}
+
+/// Gives a leg its outputs and the state in which it ends.
+fn set_ended(board: &mut Board, place: LegPlace, state: LegState, outputs: Mapping<Text>)
+    ensures { board.new ≡ spec.with_leg board.old place (λ leg. record leg { state = state; outputs = outputs }) }
+{
+    if let Some(run) = board.runs.get_mut(place.run) {
+        if let Some(job) = run.jobs.get_mut(place.job) {
+            if let Some(leg) = job.legs.get_mut(place.leg) {
+                leg.state = state;
+                leg.outputs = outputs;
+            }
+        }
+    }
+}
+
+/// Ends a leg, last of all; where memory runs out, nothing is changed.
+pub(crate) fn end_leg(
+    board: &mut Board,
+    place: LegPlace,
+    number: u64,
+    state: LegState,
+    outputs: Mapping<Text>,
+) -> Result<(), AllocError>
+    ensures ok { OnOk result (board.new ≡ row.leg_ended board.old place number state outputs) }
+    ensures err { OnErr result (board.new ≡ board.old) }
+{
+    board.ends.push(number)?;
+    set_ended(board, place, state, outputs);
+    Ok(())
 }

@@ -6,12 +6,20 @@
 // a list of entries on any table, up to the first that is refused. It stands on `flow_model` alone.
 #![tactic(auto)]
 
-pub mod change;
-pub mod conditions;
-pub mod derived;
+mod change;
+mod conditions;
+mod derived;
+mod events;
 pub mod fault;
+mod new_board;
 pub mod place;
+pub mod plain_board;
+pub mod runs;
 pub mod status;
+pub mod table;
 
 pub use fault::EventFault;
+pub use plain_board::PlainBoard;
+pub use runs::run_entries;
 pub use status::Status;
+pub use table::Table;

@@ -1,0 +1,27 @@
+-- Putting an item back where it was changes nothing.
+use Rattle.std.proofs.Common.{◌≡◌, ℕ, List, Option, Some, None, Result, Ok, Err, OnErr, slice_get, slice_set, get_or, refl, ap, sym, subst, ◌∙◌}
+use Rattle.std.proofs.lemmas.List.{set-get_or}
+use Rattle.std.proofs.lemmas.Option.{get_or_from_slice_get}
+use Rattle.flow_model.specs.declared.board.Board.{Board}
+use Rattle.flow_model.specs.declared.board.Run.{Run}
+use Rattle.flow_model.specs.declared.board.Job.{Job}
+use Rattle.flow_model.specs.declared.board.Leg.{Leg}
+use Rattle.status_table.specs.declared.place.LegPlace.{LegPlace}
+
+pub slice_set-slice_get : {T : Type 0} (xs : List T) (i : ℕ) (x : T) → slice_get xs i ≡ Some x → slice_set xs i x ≡ xs
+slice_set-slice_get {T} xs i x h = ap (λ (y : T). slice_set xs i y) (sym (get_or_from_slice_get xs i x x h)) ∙ set-get_or xs i x
+
+pub OnErr-always : {T E P : Type 0} (r : Result T E) → P → OnErr r P
+OnErr-always (Ok x) p = tt
+OnErr-always (Err e) p = p
+
+-- a board with a leg put back as it was
+pub leg_kept : (b : Board) (at : LegPlace) (run : Run) (job : Job) (leg put : Leg) → slice_get b.runs at.run ≡ Some run → slice_get run.jobs at.job ≡ Some job
+    → slice_get job.legs at.leg ≡ Some leg → put ≡ leg
+    → record b { runs = slice_set b.runs at.run (record run { jobs = slice_set run.jobs at.job (record job { legs = slice_set job.legs at.leg put }) }) } ≡ b
+leg_kept b at run job leg put in_runs in_jobs in_legs same =
+    let legs : slice_set job.legs at.leg put ≡ job.legs = ap (λ (l : Leg). slice_set job.legs at.leg l) same ∙ slice_set-slice_get job.legs at.leg leg in_legs in
+    let jobs : slice_set run.jobs at.job (record job { legs = slice_set job.legs at.leg put }) ≡ run.jobs =
+    ap (λ (ls : List Leg). slice_set run.jobs at.job (record job { legs = ls })) legs ∙ slice_set-slice_get run.jobs at.job job in_jobs in
+    ap (λ (js : List Job). record b { runs = slice_set b.runs at.run (record run { jobs = js }) }) jobs
+    ∙ ap (λ (rs : List Run). record b { runs = rs }) (slice_set-slice_get b.runs at.run run in_runs)

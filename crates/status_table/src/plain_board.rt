@@ -1,0 +1,91 @@
+// The plain body of the table: the board itself, changed in place.
+ghost use Rattle.std.specs.Prelude.{◌≡◌, IfOk};
+ghost use Rattle.flow_model.specs.declared.board.Board.{Board};
+ghost use Rattle.status_table.specs.Answers.{Answers};
+ghost use Rattle.status_table.specs.Play.{Play};
+ghost use Rattle.status_table.specs.Row.{event_row};
+ghost use Rattle.status_table.specs.Runs.{new_board};
+
+use crate::events::{ask, begin, close, end, finish, judge, open, take};
+use crate::fault::EventFault;
+use crate::new_board::make_board;
+use crate::table::Table;
+use flow_model::{Board, CheckedPlan, Duplicate, Entry, Event, Plan, Reply};
+use std::alloc::{AllocError, Global};
+use std::marker::Model;
+
+/// A plan in play, and how far it is.
+#[derive(Drop)]
+pub struct PlainBoard {
+    plan: CheckedPlan,
+    board: Board,
+    alloc: Global,
+}
+
+impl Model for PlainBoard {
+    ghost use Rattle.std.specs.Coded.{codes};
+    ghost use Rattle.flow_model.specs.Plain.{coded_plain};
+    ghost use Rattle.status_table.specs.Play.{Play};
+
+    ghost Value = { Play };
+
+    ghost coded = { Prim.hlevel (codes, coded_plain) };
+
+    ghost view = { λ p. record { plan = p.plan; board = p.board } };
+}
+
+impl PlainBoard {
+    /// The plan with its board on which all is new. It keeps the allocator.
+    pub fn new(alloc: Global, plan: &CheckedPlan) -> Result<PlainBoard, AllocError>
+        ensures { IfOk result (λ made. made ≡ record { plan = plan.now; board = new_board plan.now }) }
+    {
+        let board = make_board(alloc, plan.plan())?;
+        let plan = plan.copy(alloc)?;
+        Ok(PlainBoard { plan, board, alloc })
+    }
+}
+
+/// Plays an event that a worker from 0 to 15 reports.
+fn apply_event(
+    alloc: Global,
+    plan: &Plan,
+    board: &mut Board,
+    worker: u8,
+    event: Event,
+) -> Result<Reply, EventFault>
+    ensures { Answers (event_row plan.now board.old worker event) board.old result board.new }
+{
+    match event {
+        Event::Open { run } => open(plan, board, run),
+        Event::Judge { job } => judge(alloc, plan, board, job),
+        Event::Ask { leg } => ask(plan, board, leg),
+        Event::Take { leg } => take(plan, board, worker, leg),
+        Event::Begin { leg } => begin(alloc, plan, board, worker, leg),
+        Event::End { leg, answer } => end(alloc, plan, board, worker, leg, answer),
+        Event::Finish { leg } => finish(alloc, plan, board, worker, leg),
+        Event::Close { run } => close(plan, board, run),
+    }
+}
+
+impl Table for PlainBoard {
+    ghost plan = { λ p. p.plan };
+
+    ghost board = { λ p. p.board };
+
+    fn apply(&mut self, entry: Entry) -> Result<Reply, EventFault> {
+        if entry.worker > 15 {
+            return Err(EventFault::NoSuch);
+        }
+        apply_event(
+            self.alloc,
+            self.plan.plan(),
+            &mut self.board,
+            entry.worker,
+            entry.event,
+        )
+    }
+
+    fn view(&self) -> Result<Board, AllocError> {
+        self.board.copy(self.alloc)
+    }
+}
