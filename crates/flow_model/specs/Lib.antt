@@ -1,5 +1,6 @@
 pub mod Answer
 pub mod Found
+pub mod Json
 pub mod Mapping
 pub mod Name
 pub mod Offered

@@ -1,0 +1,25 @@
+use Rattle.std.proofs.Common.{◌≡◌, List, ◌∷◌, ◌++◌, ℕ, string_bytes, ap, sym, ◌∙◌}
+use Rattle.serde_json.specs.View.{view, members_view}
+use Rattle.flow_model.specs.Mapping.{pairs_of, keys_of}
+use Rattle.flow_model.proofs.LastPair.{with_pair-above, keys_of-next}
+use Rattle.flow_model.proofs.Pairs.{Ascends-pairs_of}
+use Rattle.plan_text.specs.Parts.{map_read, pairs_read}
+use Rattle.plan_text.proofs.Steps.{pair_step}
+use Rattle.plan_text.proofs.reading.read_pairs.Goals as goal
+
+pub loop-key-preserved : goal.loop-key-preserved
+loop-key-preserved g c =
+    let left = c.next.new.self in
+    let k = string_bytes c.in-Some.key.now in
+    let v = c.in_ok-part.field-0 in
+    let read = c.loop-key.read in
+    let ascends = Ascends-pairs_of _ c.iter-key-items.ensures.ordered in
+    let keys : keys_of read ++ k ∷ keys_of (pairs_of left) ≡ keys_of (pairs_of c.args.members.now.entries) =
+    ap (λ es. keys_of read ++ keys_of (pairs_of es)) (sym c.in-Some.ensures.steps) ∙ c.loop-key.invariant.keys in
+    rw (c.in_ok-insert.ensures.ok, c.in_ok-name.ensures, c.as_str.ensures.value) (record {
+      keys = keys_of-next read k v (keys_of (pairs_of left)) _ keys ascends;
+      reads = rw (with_pair-above read k v (keys_of (pairs_of left)) _ keys ascends)
+      (pair_step g.T.FromJson.reading read k v (view c.in-Some.member.now) (members_view left) _
+      (ap (λ es. map_read (λ ps. read ++ ps) (pairs_read g.T.FromJson.reading (members_view es))) (sym c.in-Some.ensures.steps) ∙ c.loop-key.invariant.reads)
+      (rw c.as_str-in-loop-key.ensures.value at c.in_ok-part.ensures))
+    })

@@ -1,0 +1,52 @@
+-- The plan that a text loads as, and the fault where there is none.
+use Rattle.std.specs.Prelude.{◌≡◌, ℕ, List, codes, Bool, not, false, ◌&&◌, ◌==◌, is_some, if◌then◌else◌, Option, Some, None, option_map, option_and_then, unwrap_or, Result, Ok, Err}
+use Rattle.std.specs.Str.{is_utf8}
+use Rattle.serde_json.specs.Data.{Data}
+use Rattle.serde_json.specs.Find.{get, as_object, as_number, as_u64}
+use Rattle.serde_json.specs.Read.{read}
+use Rattle.flow_model.specs.Offered.{refusal}
+use Rattle.flow_model.specs.declared.plan.Plan.{Plan}
+use Rattle.plan_text.specs.Parts.{Reading}
+use Rattle.plan_text.specs.Reading.{plan_of}
+use Rattle.plan_text.specs.declared.fault.LoadFault.{LoadFault}
+use Rattle.plan_text.specs.declared.fault.LoadFault.TheVariants.{NotJson, Version, NotPlan, NotEntry, Memory}
+
+-- the JSON that bytes read as (RFC 8259): they are UTF-8, and nest to 127
+abbrev pub json_read : List ℕ → Option Data
+json_read bytes = if is_utf8 bytes then read bytes else None
+
+-- whether the object's `version` is 1
+abbrev pub is_version_one : Data → Bool
+is_version_one d = unwrap_or (option_map (λ n. n == 1) (option_and_then as_u64 (option_and_then as_number (get (codes "version") d)))) false
+
+-- an object whose `version` is missing or not 1
+abbrev pub has_other_version : Data → Bool
+has_other_version d = is_some (as_object d) && not (is_version_one d)
+
+-- a plan that was read is accepted where none of its rules is broken
+abbrev pub accepted : Plan → Option (List ℕ) → Result Plan LoadFault
+accepted p None = Ok p
+accepted p (Some path) = Err (NotPlan path)
+
+-- a document that is no plan's is refused at its path
+abbrev pub checked : Reading Plan → Result Plan LoadFault
+checked (Ok p) = accepted p (refusal p)
+checked (Err path) = Err (NotPlan path)
+
+-- the version is looked at before everything else
+abbrev pub loaded : Option Data → Result Plan LoadFault
+loaded None = Err NotJson
+loaded (Some d) = if has_other_version d then Err Version else checked (plan_of d)
+
+-- the plan that bytes load as
+abbrev pub load : List ℕ → Result Plan LoadFault
+load bytes = loaded (json_read bytes)
+
+-- The answer is this one; memory may run out besides.
+abbrev pub Answers : {A : Type 0} → Result A LoadFault → Result A LoadFault → Type 0
+Answers (Ok found) answer = answer ≡ Ok found
+Answers (Err NotJson) answer = answer ≡ Err NotJson
+Answers (Err Version) answer = answer ≡ Err Version
+Answers (Err (NotPlan path)) answer = answer ≡ Err (NotPlan path)
+Answers (Err (NotEntry line)) answer = answer ≡ Err (NotEntry line)
+Answers (Err Memory) answer = Unit {0}

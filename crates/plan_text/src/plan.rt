@@ -1,0 +1,95 @@
+// Plan documents: what is printed of a plan, and the plan that a text loads as.
+ghost use Rattle.std.specs.Prelude.{◌≡◌, IfOk, Some, Ok, string_bytes};
+ghost use Rattle.serde_json.specs.View.{view};
+ghost use Rattle.serde_json.specs.Written.{compact_text};
+ghost use Rattle.flow_model.specs.Offered.{IsOffered, refusal};
+ghost use Rattle.flow_model.specs.declared.plan.Plan.{Plan};
+ghost use Rattle.plan_text.specs.Document.{document};
+ghost use Rattle.plan_text.specs.Load.{json_read, is_version_one, has_other_version, loaded, load, accepted, Answers};
+
+use crate::fault::LoadFault;
+use crate::json_text::read_json;
+use crate::reading::{FromJson, Unread};
+use crate::writing::ToJson;
+use flow_model::{Broken, CheckedPlan, Plan};
+use serde_json::Value;
+use std::alloc::{AllocError, Global};
+
+/// The compact text of a plan's document, with no newline.
+pub fn print_plan(alloc: Global, plan: &CheckedPlan) -> Result<String, AllocError>
+    ensures text { IfOk result (λ s. string_bytes s ≡ compact_text (document plan.now)) }
+    ensures reads { IfOk result (λ s. json_read (string_bytes s) ≡ Some (document plan.now)) }
+    // Loading it gives the same plan.
+    ensures loads { IfOk result (λ s. load (string_bytes s) ≡ Ok plan.now) }
+    // No other plan has this document.
+    ensures alone { (other : Plan) → IsOffered other → document other ≡ document plan.now
+        → other ≡ plan.now }
+{
+    let json = plan.plan().to_json(alloc)?;
+    json.to_string(alloc)
+}
+
+/// The plan that a text stands for: the text reads as the plan's document, in any layout.
+///
+/// # Errors
+///
+/// - `NotJson` where the bytes are no JSON text (RFC 8259), nested to 127;
+/// - `Version` where they are an object whose `version` is missing or not 1;
+/// - `NotPlan` where they are no plan's document, or the plan breaks a rule;
+/// - `Memory` where there is no memory.
+pub fn load_plan(alloc: Global, bytes: &[u8]) -> Result<CheckedPlan, LoadFault>
+    ensures found { IfOk result (λ p. json_read bytes.now ≡ Some (document p)) }
+    ensures sound { IfOk result (λ p. IsOffered p) }
+    ensures only { (p : Plan) → IsOffered p → json_read bytes.now ≡ Some (document p)
+        → Answers result (Ok p) }
+    ensures exact { Answers result (load bytes.now) }
+{
+    load_bytes(alloc, bytes)
+}
+
+fn load_bytes(alloc: Global, bytes: &[u8]) -> Result<CheckedPlan, LoadFault>
+    ensures { Answers result (load bytes.now) }
+{
+    match read_json(alloc, bytes)? {
+        Some(json) => load_json(alloc, &json),
+        None => Err(LoadFault::NotJson),
+    }
+}
+
+fn load_json(alloc: Global, json: &Value) -> Result<CheckedPlan, LoadFault>
+    ensures { Answers result (loaded (Some (view json.now))) }
+{
+    if has_other_version(json) {
+        return Err(LoadFault::Version);
+    }
+    match Plan::from_json(alloc, json) {
+        Ok(plan) => check(alloc, plan),
+        Err(Unread::Refused(path)) => Err(LoadFault::NotPlan(path)),
+        Err(Unread::Memory) => Err(LoadFault::Memory),
+    }
+}
+
+fn check(alloc: Global, plan: Plan) -> Result<CheckedPlan, LoadFault>
+    ensures { Answers result (accepted plan (refusal plan)) }
+{
+    match plan.check(alloc) {
+        Ok(checked) => Ok(checked),
+        Err(Broken::Rule(path)) => Err(LoadFault::NotPlan(path)),
+        Err(Broken::Memory) => Err(LoadFault::Memory),
+    }
+}
+
+fn has_other_version(json: &Value) -> bool
+    ensures { result ≡ has_other_version (view json.now) }
+{
+    json.is_object() && !is_version_one(json)
+}
+
+fn is_version_one(json: &Value) -> bool
+    ensures { result ≡ is_version_one (view json.now) }
+{
+    match json.get("version").and_then(Value::as_u64) {
+        Some(version) => version == 1,
+        None => false,
+    }
+}

@@ -1,0 +1,178 @@
+// A plan from its document, object by object.
+ghost use Rattle.serde_json.specs.View.{view};
+ghost use Rattle.plan_text.specs.Answer.{GivesIt};
+ghost use Rattle.plan_text.specs.Reading.{script_of, action_of};
+
+use crate::reading::{
+    FromJson, Unread, expect_number, expect_word, has_word, members_of, next_member, no_more, part,
+    refused,
+};
+use flow_model::{Flag, Group, Plan, Roots, RunPlan, Shell, StepPlan, Text, Work};
+use serde_json::Value;
+use std::alloc::Global;
+
+impl FromJson for Flag {
+    ghost use Rattle.plan_text.specs.Reading.{flag_of};
+
+    ghost reading = { flag_of };
+
+    fn from_json(alloc: Global, json: &Value) -> Result<Flag, Unread> {
+        match json {
+            Value::Bool(truth) => Ok(Flag::Truth(*truth)),
+            Value::String(text) => Ok(Flag::Text(Text::from_str(alloc, text.as_str())?)),
+            _ => Err(refused(alloc, "")),
+        }
+    }
+}
+
+impl FromJson for Group {
+    ghost use Rattle.plan_text.specs.Reading.{group_of};
+
+    ghost reading = { group_of };
+
+    fn from_json(alloc: Global, json: &Value) -> Result<Group, Unread> {
+        let mut members = members_of(alloc, json)?;
+        let cancel = part(alloc, "cancel", next_member(alloc, &mut members, "cancel")?)?;
+        let name = part(alloc, "name", next_member(alloc, &mut members, "name")?)?;
+        no_more(alloc, &mut members)?;
+        Ok(Group { cancel, name })
+    }
+}
+
+impl FromJson for Roots {
+    ghost use Rattle.plan_text.specs.Reading.{roots_of};
+
+    ghost reading = { roots_of };
+
+    fn from_json(alloc: Global, json: &Value) -> Result<Roots, Unread> {
+        let mut members = members_of(alloc, json)?;
+        let github = part(alloc, "github", next_member(alloc, &mut members, "github")?)?;
+        let inputs = part(alloc, "inputs", next_member(alloc, &mut members, "inputs")?)?;
+        let secrets = part(alloc, "secrets", next_member(alloc, &mut members, "secrets")?)?;
+        let vars = part(alloc, "vars", next_member(alloc, &mut members, "vars")?)?;
+        no_more(alloc, &mut members)?;
+        Ok(Roots {
+            github,
+            inputs,
+            secrets,
+            vars,
+        })
+    }
+}
+
+impl FromJson for Shell {
+    ghost use Rattle.plan_text.specs.Reading.{shell_of};
+
+    ghost reading = { shell_of };
+
+    fn from_json(alloc: Global, json: &Value) -> Result<Shell, Unread> {
+        match json.as_str() {
+            Some("default") => Ok(Shell::Default),
+            Some("sh") => Ok(Shell::Sh),
+            Some("bash") => Ok(Shell::Bash),
+            _ => Err(refused(alloc, "")),
+        }
+    }
+}
+
+impl FromJson for Work {
+    ghost use Rattle.plan_text.specs.Reading.{work_of};
+
+    ghost reading = { work_of };
+
+    #[tactic(auto, unfolding(crate::specs::Reading::work_of))]
+    fn from_json(alloc: Global, json: &Value) -> Result<Work, Unread> {
+        if has_word(json, "kind", "uses") {
+            read_action(alloc, json)
+        } else {
+            read_script(alloc, json)
+        }
+    }
+}
+
+fn read_script(alloc: Global, json: &Value) -> Result<Work, Unread>
+    ensures { GivesIt result (script_of (view json.now)) }
+{
+    let mut members = members_of(alloc, json)?;
+    let dir = part(alloc, "dir", next_member(alloc, &mut members, "dir")?)?;
+    expect_word(alloc, "kind", "run", next_member(alloc, &mut members, "kind")?)?;
+    let run = part(alloc, "run", next_member(alloc, &mut members, "run")?)?;
+    let shell = part(alloc, "shell", next_member(alloc, &mut members, "shell")?)?;
+    no_more(alloc, &mut members)?;
+    Ok(Work::Run { dir, run, shell })
+}
+
+fn read_action(alloc: Global, json: &Value) -> Result<Work, Unread>
+    ensures { GivesIt result (action_of (view json.now)) }
+{
+    let mut members = members_of(alloc, json)?;
+    expect_word(alloc, "kind", "uses", next_member(alloc, &mut members, "kind")?)?;
+    let uses = part(alloc, "uses", next_member(alloc, &mut members, "uses")?)?;
+    let given = part(alloc, "with", next_member(alloc, &mut members, "with")?)?;
+    no_more(alloc, &mut members)?;
+    Ok(Work::Uses { uses, given })
+}
+
+impl FromJson for StepPlan {
+    ghost use Rattle.plan_text.specs.Reading.{step_of};
+
+    ghost reading = { step_of };
+
+    fn from_json(alloc: Global, json: &Value) -> Result<StepPlan, Unread> {
+        let mut members = members_of(alloc, json)?;
+        let condition = part(alloc, "condition", next_member(alloc, &mut members, "condition")?)?;
+        let env = part(alloc, "env", next_member(alloc, &mut members, "env")?)?;
+        let id = part(alloc, "id", next_member(alloc, &mut members, "id")?)?;
+        let name = part(alloc, "name", next_member(alloc, &mut members, "name")?)?;
+        let tolerate = part(alloc, "tolerate", next_member(alloc, &mut members, "tolerate")?)?;
+        let work = part(alloc, "work", next_member(alloc, &mut members, "work")?)?;
+        no_more(alloc, &mut members)?;
+        Ok(StepPlan {
+            condition,
+            env,
+            id,
+            name,
+            tolerate,
+            work,
+        })
+    }
+}
+
+impl FromJson for RunPlan {
+    ghost use Rattle.plan_text.specs.Reading.{run_of};
+
+    ghost reading = { run_of };
+
+    fn from_json(alloc: Global, json: &Value) -> Result<RunPlan, Unread> {
+        let mut members = members_of(alloc, json)?;
+        let env = part(alloc, "env", next_member(alloc, &mut members, "env")?)?;
+        let event = part(alloc, "event", next_member(alloc, &mut members, "event")?)?;
+        let flow = part(alloc, "flow", next_member(alloc, &mut members, "flow")?)?;
+        let group = part(alloc, "group", next_member(alloc, &mut members, "group")?)?;
+        let jobs = part(alloc, "jobs", next_member(alloc, &mut members, "jobs")?)?;
+        let roots = part(alloc, "roots", next_member(alloc, &mut members, "roots")?)?;
+        no_more(alloc, &mut members)?;
+        Ok(RunPlan {
+            env,
+            event,
+            flow,
+            group,
+            jobs,
+            roots,
+        })
+    }
+}
+
+impl FromJson for Plan {
+    ghost use Rattle.plan_text.specs.Reading.{plan_of};
+
+    ghost reading = { plan_of };
+
+    fn from_json(alloc: Global, json: &Value) -> Result<Plan, Unread> {
+        let mut members = members_of(alloc, json)?;
+        let runs = part(alloc, "runs", next_member(alloc, &mut members, "runs")?)?;
+        expect_number(alloc, "version", 1, next_member(alloc, &mut members, "version")?)?;
+        no_more(alloc, &mut members)?;
+        Ok(Plan { runs })
+    }
+}
