@@ -57,7 +57,7 @@ whole_only (negative (pos n)) z e = absurd (cc)
 whole_only (negative (negsuc n)) z e = ap of_integer (sym (from_if (is_whole (negsuc n)) (negsuc n) z e).1)
 whole_only (float x) z e = absurd (cc)
 
-whole_is_whole : (n : Num) (z : ℤ) → whole_of n ≡ Some z → IsTrue (is_whole z)
+pub whole_is_whole : (n : Num) (z : ℤ) → whole_of n ≡ Some z → IsTrue (is_whole z)
 whole_is_whole (unsigned n) z e =
     let r = from_if (is_whole (pos n)) (pos n) z e in
     subst (λ w. IsTrue (is_whole w)) r.1 r.0
@@ -186,14 +186,14 @@ mutual
   items_within-in_range : (room : ℕ) (vs : plain.Items) → IsTrue (items_within room vs) → IsTrue (items_in_range vs)
   items_within-in_range room plain.no_items h = refl
   items_within-in_range room (plain.item v vs) h =
-    let hs = both (is_within room v) (items_within room vs) h in
-    pair _ _ (is_within-in_range room v hs.0) (items_within-in_range room vs hs.1)
+      let hs = both (is_within room v) (items_within room vs) h in
+      pair _ _ (is_within-in_range room v hs.0) (items_within-in_range room vs hs.1)
 
   members_within-in_range : (room : ℕ) (ms : plain.Members) → IsTrue (members_within room ms) → IsTrue (members_in_range ms)
   members_within-in_range room plain.no_members h = refl
   members_within-in_range room (plain.member key v ms) h =
-    let hs = both (is_within room v) (members_within room ms) h in
-    pair _ _ (is_within-in_range room v hs.0) (members_within-in_range room ms hs.1)
+      let hs = both (is_within room v) (members_within room ms) h in
+      pair _ _ (is_within-in_range room v hs.0) (members_within-in_range room ms hs.1)
 
 -- its JSON nests as deep as it does
 mutual
@@ -203,25 +203,25 @@ mutual
   depth-json_of room (plain.whole z) h = omega arith
   depth-json_of room (plain.text bytes) h = omega arith
   depth-json_of room (plain.list vs) h =
-    let hs = both (nat_lt 0 room) (items_within (room - 1) vs) h in
-    let inside = items_depth-json_items (room - 1) vs hs.1 in
-    grind (arith, nat_tests, hs.0, inside)
+      let hs = both (nat_lt 0 room) (items_within (room - 1) vs) h in
+      let inside = items_depth-json_items (room - 1) vs hs.1 in
+      grind (arith, nat_tests, hs.0, inside)
   depth-json_of room (plain.map ms) h =
-    let hs = both (nat_lt 0 room) (members_within (room - 1) ms) h in
-    let inside = members_depth-json_members (room - 1) ms hs.1 in
-    grind (arith, nat_tests, hs.0, inside)
+      let hs = both (nat_lt 0 room) (members_within (room - 1) ms) h in
+      let inside = members_depth-json_members (room - 1) ms hs.1 in
+      grind (arith, nat_tests, hs.0, inside)
 
   items_depth-json_items : (room : ℕ) (vs : plain.Items) → IsTrue (items_within room vs) → items_depth (json_items vs) ≤ room
   items_depth-json_items room plain.no_items h = omega arith
   items_depth-json_items room (plain.item v vs) h =
-    let hs = both (is_within room v) (items_within room vs) h in
-    omega (arith, depth-json_of room v hs.0, items_depth-json_items room vs hs.1)
+      let hs = both (is_within room v) (items_within room vs) h in
+      omega (arith, depth-json_of room v hs.0, items_depth-json_items room vs hs.1)
 
   members_depth-json_members : (room : ℕ) (ms : plain.Members) → IsTrue (members_within room ms) → members_depth (json_members ms) ≤ room
   members_depth-json_members room plain.no_members h = omega arith
   members_depth-json_members room (plain.member key v ms) h =
-    let hs = both (is_within room v) (members_within room ms) h in
-    omega (arith, depth-json_of room v hs.0, members_depth-json_members room ms hs.1)
+      let hs = both (is_within room v) (members_within room ms) h in
+      omega (arith, depth-json_of room v hs.0, members_depth-json_members room ms hs.1)
 
 -- ---- the loops: a list or a map so far, before what is left
 

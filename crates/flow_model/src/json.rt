@@ -127,7 +127,9 @@ fn node_of(alloc: Global, json: &serde_json::Value) -> Result<Node, JsonFault>
     }
 }
 
-fn whole_of(number: &serde_json::Number) -> Result<i64, JsonFault>
+/// The whole number that a JSON number is. It is `NotWhole` exactly where the number has a fraction or
+/// an exponent, or is not in -9007199254740991..=9007199254740991.
+pub fn whole_of(number: &serde_json::Number) -> Result<i64, JsonFault>
     ensures { Gives (λ z. z) result (whole_of (number_view number.now)) }
 {
     if let Some(whole) = number.as_u64() {

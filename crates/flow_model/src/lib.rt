@@ -32,7 +32,7 @@ pub use board::{Board, DoneStep, Job, JobState, Leg, LegState, Run, RunState};
 pub use check::{Broken, CheckedPlan};
 pub use duplicate::Duplicate;
 pub use event::{Answer, Entry, Event, Member, Outcome};
-pub use json::{JsonFault, json_of, value_of};
+pub use json::{JsonFault, json_of, value_of, whole_of};
 pub use mapping::Mapping;
 pub use plan::{Combo, Flag, Group, JobPlan, Plan, Roots, RunPlan, Shell, StepPlan, Work};
 pub use reply::{CallWork, Reply, StepCall, ValueFault, What};

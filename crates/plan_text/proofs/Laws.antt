@@ -161,17 +161,16 @@ from_optional read (array ds) o e = inr (from_map_read Some _ o e)
 from_optional read (object ms) o e = inr (from_map_read Some _ o e)
 
 module _ {A : Type 0} {write : A → Data} {read : Data → Reading A} {fits : A → Bool} {n : ℕ} (law : Reads write read fits n) where
-
   optional_again : (path : List ℕ) → read null ≡ Err path → (o : Option A) → IsTrue (all_there fits o) → optional_of read (optional_data write o) ≡ Ok o
   optional_again path refused None h = refl
   optional_again path refused (Some a) h = not_null read path (write a) a refused (law.again a h)
 
   optional_only : (d : Data) (o : Option A) → optional_of read d ≡ Ok o → d ≡ optional_data write o
   optional_only d o e =
-    elim (from_optional read d o e) [
-      inl h ↦ h.0 ∙ ap (optional_data write) (sym h.1)
-    | inr h ↦ law.only d h.0 h.1.0 ∙ ap (optional_data write) h.1.1
-    ]
+      elim (from_optional read d o e) [
+        | inl h ↦ h.0 ∙ ap (optional_data write) (sym h.1)
+        | inr h ↦ law.only d h.0 h.1.0 ∙ ap (optional_data write) h.1.1
+      ]
 
   optional_low : (o : Option A) → IsTrue (all_there fits o) → depth (optional_data write o) ≤ n
   optional_low None h = omega arith
@@ -187,22 +186,22 @@ module _ {A : Type 0} {write : A → Data} {read : Data → Reading A} {fits : A
   items_again : (place : ℕ) (xs : List A) → IsTrue (list_all fits xs) → items_read read place (items_of (map write xs)) ≡ Ok xs
   items_again place [] h = refl
   items_again place (x ∷ xs) h =
-    let hs = both (fits x) (list_all fits xs) h in
-    rw (law.again x hs.0, items_again (suc place) xs hs.1) refl
+      let hs = both (fits x) (list_all fits xs) h in
+      rw (law.again x hs.0, items_again (suc place) xs hs.1) refl
 
   items_only : (place : ℕ) (ds : Items) (xs : List A) → items_read read place ds ≡ Ok xs → ds ≡ items_of (map write xs)
   items_only place no_items xs e = ap (λ ys. items_of (map write ys)) (Ok-inj _ _ e)
   items_only place (item d ds) xs e =
-    let r = from_and_then _ (within (decimal place) (read d)) xs e in
-    let s = from_map_read _ (items_read read (suc place) ds) xs r.1.1 in
-    (λ i. item (law.only d r.0 (from_within (decimal place) (read d) r.0 r.1.0) i) (items_only (suc place) ds s.0 s.1.0 i))
-    ∙ ap (λ ys. items_of (map write ys)) s.1.1
+      let r = from_and_then _ (within (decimal place) (read d)) xs e in
+      let s = from_map_read _ (items_read read (suc place) ds) xs r.1.1 in
+      (λ i. item (law.only d r.0 (from_within (decimal place) (read d) r.0 r.1.0) i) (items_only (suc place) ds s.0 s.1.0 i))
+      ∙ ap (λ ys. items_of (map write ys)) s.1.1
 
   items_low : (xs : List A) → IsTrue (list_all fits xs) → items_depth (items_of (map write xs)) ≤ n
   items_low [] h = omega arith
   items_low (x ∷ xs) h =
-    let hs = both (fits x) (list_all fits xs) h in
-    omega (arith, law.low x hs.0, items_low xs hs.1)
+      let hs = both (fits x) (list_all fits xs) h in
+      omega (arith, law.low x hs.0, items_low xs hs.1)
 
   items_exact : (xs : List A) → items_have_float (items_of (map write xs)) ≡ false
   items_exact [] = refl
@@ -222,21 +221,21 @@ module _ {A : Type 0} {write : A → Data} {read : Data → Reading A} {fits : A
   pairs_again : (ps : List (List ℕ × A)) → IsTrue (list_all (λ p. fits p.1) ps) → pairs_read read (pair_members write ps) ≡ Ok ps
   pairs_again [] h = refl
   pairs_again (p ∷ ps) h =
-    let hs = both (fits p.1) (list_all (λ p. fits p.1) ps) h in
-    rw (law.again p.1 hs.0, pairs_again ps hs.1) refl
+      let hs = both (fits p.1) (list_all (λ p. fits p.1) ps) h in
+      rw (law.again p.1 hs.0, pairs_again ps hs.1) refl
 
   pairs_only : (ms : Members) (ps : List (List ℕ × A)) → pairs_read read ms ≡ Ok ps → ms ≡ pair_members write ps
   pairs_only no_members ps e = ap (pair_members write) (Ok-inj _ _ e)
   pairs_only (member key d ms) ps e =
-    let r = from_and_then _ (within key (read d)) ps e in
-    let s = from_map_read _ (pairs_read read ms) ps r.1.1 in
-    (λ i. member key (law.only d r.0 (from_within key (read d) r.0 r.1.0) i) (pairs_only ms s.0 s.1.0 i)) ∙ ap (pair_members write) s.1.1
+      let r = from_and_then _ (within key (read d)) ps e in
+      let s = from_map_read _ (pairs_read read ms) ps r.1.1 in
+      (λ i. member key (law.only d r.0 (from_within key (read d) r.0 r.1.0) i) (pairs_only ms s.0 s.1.0 i)) ∙ ap (pair_members write) s.1.1
 
   pairs_low : (ps : List (List ℕ × A)) → IsTrue (list_all (λ p. fits p.1) ps) → members_depth (pair_members write ps) ≤ n
   pairs_low [] h = omega arith
   pairs_low (p ∷ ps) h =
-    let hs = both (fits p.1) (list_all (λ p. fits p.1) ps) h in
-    omega (arith, law.low p.1 hs.0, pairs_low ps hs.1)
+      let hs = both (fits p.1) (list_all (λ p. fits p.1) ps) h in
+      omega (arith, law.low p.1 hs.0, pairs_low ps hs.1)
 
   pairs_exact : (ps : List (List ℕ × A)) → members_have_float (pair_members write ps) ≡ false
   pairs_exact [] = refl
@@ -287,34 +286,32 @@ next_only key (member found d ms) m e =
 
 module _ {A B : Type 0} {write : A → Data} {read : Data → Reading A} {fits : A → Bool} {writes : B → Members} {reads : Members → Reading B} {fit : B → Bool} {n : ℕ}
     (key : List ℕ) (law : Reads write read fits n) (rest : ReadsMembers writes reads fit n) where
-
   field_again : (p : A × B) → IsTrue (fits p.0 && fit p.1) → field key read reads (member key (write p.0) (writes p.1)) ≡ Ok p
   field_again p h =
-    let hs = both (fits p.0) (fit p.1) h in
-    rw (same_key key, law.again p.0 hs.0, rest.again p.1 hs.1) refl
+      let hs = both (fits p.0) (fit p.1) h in
+      rw (same_key key, law.again p.0 hs.0, rest.again p.1 hs.1) refl
 
   field_only : (ms : Members) (p : A × B) → field key read reads ms ≡ Ok p → ms ≡ member key (write p.0) (writes p.1)
   field_only ms p e =
-    let r = from_and_then _ (next_member key ms) p e in
-    let s = from_and_then _ (within key (read r.0.0)) p r.1.1 in
-    let t = from_and_then _ (reads r.0.1) p s.1.1 in
-    next_only key ms r.0 r.1.0
-    ∙ (λ i. member key (law.only r.0.0 s.0 (from_within key (read r.0.0) s.0 s.1.0) i) (rest.only r.0.1 t.0 t.1.0 i))
-    ∙ ap (λ q. member key (write q.0) (writes q.1)) (Ok-inj _ _ t.1.1)
+      let r = from_and_then _ (next_member key ms) p e in
+      let s = from_and_then _ (within key (read r.0.0)) p r.1.1 in
+      let t = from_and_then _ (reads r.0.1) p s.1.1 in
+      next_only key ms r.0 r.1.0
+      ∙ (λ i. member key (law.only r.0.0 s.0 (from_within key (read r.0.0) s.0 s.1.0) i) (rest.only r.0.1 t.0 t.1.0 i))
+      ∙ ap (λ q. member key (write q.0) (writes q.1)) (Ok-inj _ _ t.1.1)
 
   pub field_reads : ReadsMembers (λ p. member key (write p.0) (writes p.1)) (field key read reads) (λ p. fits p.0 && fit p.1) n
   field_reads = record {
     again = field_again;
     only = field_only;
     low = λ p h.
-      let hs = both (fits p.0) (fit p.1) h in
-      omega (arith, law.low p.0 hs.0, rest.low p.1 hs.1);
-    exact = λ p. rw (law.exact p.0) (rest.exact p.1)
+        let hs = both (fits p.0) (fit p.1) h in
+        omega (arith, law.low p.0 hs.0, rest.low p.1 hs.1);
+    exact = λ p. rw (law.exact p.0) (rest.exact p.1);
   }
 
 module _ {A B : Type 0} {writes : A → Members} {reads : Members → Reading A} {fit : A → Bool} {n : ℕ}
     (law : ReadsMembers writes reads fit n) (made : A → B) where
-
   -- an object is read as what is made of its parts
   pub object_made : (a : A) → IsTrue (fit a) → object_of reads made (object (writes a)) ≡ Ok (made a)
   object_made a h = ap (map_read made) (law.again a h)
@@ -327,18 +324,18 @@ module _ {A B : Type 0} {writes : A → Members} {reads : Members → Reading A}
   from_object (string s) b e = absurd (cc)
   from_object (array ds) b e = absurd (cc)
   from_object (object ms) b e =
-    let r = from_map_read made (reads ms) b e in
-    (r.0, (ap object (law.only ms r.0 r.1.0), r.1.1))
+      let r = from_map_read made (reads ms) b e in
+      (r.0, (ap object (law.only ms r.0 r.1.0), r.1.1))
 
   pub object_reads : (parts : B → A) → ((b : B) → made (parts b) ≡ b) → ((a : A) → parts (made a) ≡ a)
       → Reads (λ b. object (writes (parts b))) (object_of reads made) (λ b. fit (parts b)) (suc n)
   object_reads parts whole apart = record {
     again = λ b h. object_made (parts b) h ∙ ap Ok (whole b);
     only = λ d b e.
-      let r = from_object d b e in
-      r.1.0 ∙ ap (λ a. object (writes a)) (sym (apart r.0) ∙ ap parts r.1.1);
+        let r = from_object d b e in
+        r.1.0 ∙ ap (λ a. object (writes a)) (sym (apart r.0) ∙ ap parts r.1.1);
     low = λ b h. omega (arith, law.low (parts b) h);
-    exact = λ b. law.exact (parts b)
+    exact = λ b. law.exact (parts b);
   }
 
 -- ---- lists and maps of what fits by itself
@@ -352,7 +349,6 @@ each_always [] = refl
 each_always (x ∷ xs) = each_always xs
 
 module _ {A : Type 0} {write : A → Data} {read : Data → Reading A} {n : ℕ} (law : Reads write read (λ _. true) n) where
-
   pub or_null : (path : List ℕ) → read null ≡ Err path → Reads (optional_data write) (optional_of read) (λ _. true) n
   or_null path refused = fitting (optional_reads law path refused) (λ _. true) (λ o h. always_there o)
 

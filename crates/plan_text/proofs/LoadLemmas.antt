@@ -1,19 +1,23 @@
 -- A text that was printed of a document is read as it.
-use Rattle.std.proofs.Common.{◌≡◌, ◌≤◌, ℕ, List, Bool, true, false, cond, String, Global, string_bytes, Option, Some, None, Result, Ok, Err, refl, sym, ap, subst, ◌∙◌, arith}
+use Rattle.std.proofs.Common.{◌≡◌, ◌≤◌, ℕ, List, Bool, true, false, IsTrue, cond, String, Global, string_bytes, Option, Some, None, Result, Ok, Err, refl, sym, ap, subst, ◌∙◌, arith}
 use Rattle.std.proofs.lemmas.Str.{IsUtf8-string_bytes, is_utf8-from_IsUtf8, IsUtf8-from_is_utf8}
-use Rattle.std.specs.Result.{IfOk}
+use Rattle.std.specs.Result.{IfOk, result_ok}
 use Rattle.std.specs.Str.{IsUtf8, is_utf8}
 use Rattle.serde_json.specs.Data.{Data, depth}
 use Rattle.serde_json.specs.Read.{read}
 use Rattle.serde_json.specs.Written.{has_float, compact_text}
 use Rattle.flow_model.specs.Offered.{IsOffered, refusal}
 use Rattle.flow_model.specs.declared.plan.Plan.{Plan}
+use Rattle.flow_model.specs.declared.event.Entry.{Entry}
 use Rattle.plan_text.specs.Document.{document}
+use Rattle.plan_text.specs.EntryDocument.{entry_document, entry_of, is_entry}
+use Rattle.plan_text.specs.Record.{entry_in, line_entry, on_line}
 use Rattle.plan_text.specs.Load.{json_read, has_other_version, accepted, checked, loaded, load, Answers}
 use Rattle.plan_text.specs.Parts.{Reading}
 use Rattle.plan_text.specs.Reading.{plan_of}
 use Rattle.plan_text.specs.declared.fault.LoadFault.{LoadFault}
 use Rattle.plan_text.specs.declared.fault.LoadFault.TheVariants.{NotJson, Version, NotPlan}
+use Rattle.plan_text.proofs.EntryLaws.{entry_reads, entry_fits}
 use Rattle.plan_text.proofs.Fitting.{offered_sound}
 use Rattle.plan_text.proofs.Laws.{Ok-inj}
 use Rattle.plan_text.proofs.PlanLaws.{plan_reads}
@@ -76,3 +80,37 @@ load_found (Err fault) bytes h = tt
 -- no two plans have one document
 pub plan_alone : (p q : Plan) → IsOffered p → IsOffered q → document p ≡ document q → p ≡ q
 plan_alone p q hp hq e = Ok-inj p q (sym (plan_reads.again p (offered_sound p hp)) ∙ ap plan_of e ∙ plan_reads.again q (offered_sound q hq))
+
+-- ---- entries
+
+-- the document of an entry in the ranges is read as the entry
+pub entry_again : (line : List ℕ) (e : Entry) → IsTrue (is_entry e) → json_read line ≡ Some (entry_document e) → line_entry line ≡ Some e
+entry_again line e h is = ap entry_in is ∙ ap result_ok (entry_reads.again e h)
+
+from_result_ok : {A E : Type 0} (r : Result A E) (a : A) → result_ok r ≡ Some a → r ≡ Ok a
+from_result_ok (Ok b) a e = cc
+from_result_ok (Err fault) a e = absurd (cc)
+
+from_entry_in : (o : Option Data) (e : Entry) → entry_in o ≡ Some e → (o ≡ Some (entry_document e)) × IsTrue (is_entry e)
+from_entry_in None e is = absurd (cc)
+from_entry_in (Some d) e is =
+    let read = from_result_ok (entry_of d) e is in
+    (ap Some (entry_reads.only d e read), entry_fits d e read)
+
+from_on_line : (number : ℕ) (o : Option Entry) (e : Entry) → on_line number o ≡ Ok e → o ≡ Some e
+from_on_line number None e is = absurd (cc)
+from_on_line number (Some f) e is = cc
+
+-- what is read has that document
+pub entry_found : (r : Result Entry LoadFault) (line : List ℕ) → Answers r (on_line 1 (line_entry line)) → IfOk r (λ e. json_read line ≡ Some (entry_document e))
+entry_found (Ok e) line h = (from_entry_in (json_read line) e (from_on_line 1 (line_entry line) e h)).0
+entry_found (Err fault) line h = tt
+
+-- and is in the ranges
+pub entry_in_range : (r : Result Entry LoadFault) (line : List ℕ) → Answers r (on_line 1 (line_entry line)) → IfOk r (λ e. IsTrue (is_entry e))
+entry_in_range (Ok e) line h = (from_entry_in (json_read line) e (from_on_line 1 (line_entry line) e h)).1
+entry_in_range (Err fault) line h = tt
+
+-- no two entries have one document
+pub entry_alone : (e f : Entry) → IsTrue (is_entry e) → IsTrue (is_entry f) → entry_document e ≡ entry_document f → e ≡ f
+entry_alone e f he hf is = Ok-inj e f (sym (entry_reads.again e he) ∙ ap entry_of is ∙ entry_reads.again f hf)

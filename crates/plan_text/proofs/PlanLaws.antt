@@ -23,7 +23,7 @@ use Rattle.flow_model.specs.declared.plan.Work.TheVariants.{Run, Uses}
 use Rattle.flow_model.proofs.Conversions.{value_again, value_only, value_exact, is_within-in_range, depth-json_of}
 use Rattle.plan_text.specs.Parts.{number_data, optional_data, list_data, map_data, Reading, and_then, or_refused, text_of, plain_of, optional_of, field, no_more, object_of, word_of, has_word}
 use Rattle.plan_text.specs.Document.{flag_data, group_data, roots_data, shell_data, work_data, step_data, job_data, run_data, document}
-use Rattle.plan_text.specs.Reading.{Values, flag_of, group_from, group_of, values_of, roots_from, roots_of, shell_named, shell_of, script_from, script_of, action_from, action_of, work_of, step_from, step_of, job_from, job_of, run_from, run_of, plan_from, plan_of}
+use Rattle.plan_text.specs.Reading.{Values, flag_of, group_from, group_of, values_of, roots_from, roots_of, shell_named, shell_of, script_from, script_of, action_from, action_of, work_of, step_from, step_of, job_from, job_tail, job_of, run_from, run_of, plan_from, plan_of}
 use Rattle.plan_text.proofs.Laws.{Reads, ReadsMembers, Ok-inj, from_and_then, from_either, from_or_refused, text_reads, truth_reads, number_reads, word_reads, one_reads, text_only, list_reads, map_reads, deeper, or_null, lists, maps, no_more_reads, field_reads, object_made, from_object, object_reads}
 
 -- ---- texts, numbers and values
@@ -36,7 +36,7 @@ plain_reads = record {
   again = λ v h. ap or_refused (value_again v (is_within-in_range 100 v h));
   only = λ d v e. sym (value_only d v (from_or_refused (value_of d) v e));
   low = λ v h. depth-json_of 100 v h;
-  exact = value_exact
+  exact = value_exact;
 }
 
 -- whether each value of a map nests no deeper than 100, with its numbers in range
@@ -210,6 +210,7 @@ abbrev pub job_fits : JobPlan → Bool
 job_fits j = values_fit j.env && (list_all values_fit j.legs && (list_all step_fits j.steps && true))
 
 job_reads : Reads job_data job_of job_fits 105
+unfolding job_tail
 job_reads =
     object_reads (field_reads (codes "condition") (text_or_null 104) (field_reads (codes "env") (deeper values_reads 104 (omega arith))
     (field_reads (codes "fail_fast") (truth_reads 104) (field_reads (codes "group") (group_or_null 104 (omega arith))

@@ -1,6 +1,10 @@
 pub mod Answer
+pub mod BoardText
 pub mod Document
 pub mod EntryDocument
+pub mod JobParts
+pub mod Lines
 pub mod Load
 pub mod Parts
 pub mod Reading
+pub mod Record

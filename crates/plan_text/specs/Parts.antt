@@ -1,11 +1,11 @@
 -- How the parts of a document are written as JSON, and how they are read from it.
-use Rattle.std.specs.Prelude.{◌≡◌, ℕ, suc, List, [], ◌∷◌, ◌++◌, map, decimal, Bool, false, bytes_eq, ◌==◌, if◌then◌else◌, Option, Some, None, option_map, option_and_then, unwrap_or, Result, Ok, Err, ⊤}
+use Rattle.std.specs.Prelude.{◌≡◌, ℕ, ℤ, suc, List, [], ◌∷◌, ◌++◌, map, decimal, Bool, false, bytes_eq, ◌==◌, if◌then◌else◌, Option, Some, None, option_map, option_and_then, unwrap_or, Result, Ok, Err, ⊤}
 use Rattle.std.specs.Ordering.{nat_cmp, match_ordering}
 use Rattle.std.specs.Cmp.Lexicographic.{slice_cmp}
 use Rattle.serde_json.specs.Data.{Num, unsigned, negative, float, Data, null, boolean, number, string, array, object, Items, no_items, item, Members, no_members, member}
-use Rattle.serde_json.specs.Find.{get, as_str}
+use Rattle.serde_json.specs.Find.{get, as_str, of_integer}
 use Rattle.serde_json.specs.View.{items_of}
-use Rattle.flow_model.specs.Json.{value_of}
+use Rattle.flow_model.specs.Json.{value_of, whole_of}
 use Rattle.flow_model.specs.Plain.{Plain}
 
 -- ---- writing
@@ -13,6 +13,10 @@ use Rattle.flow_model.specs.Plain.{Plain}
 -- a natural number
 abbrev pub number_data : ℕ → Data
 number_data n = number (unsigned n)
+
+-- a whole number
+abbrev pub integer_data : ℤ → Data
+integer_data z = number (of_integer z)
 
 -- null for none
 abbrev pub optional_data : {A : Type 0} → (A → Data) → Option A → Data
@@ -89,6 +93,15 @@ number_of (object ms) = Err []
 abbrev pub or_refused : {A : Type 0} → Option A → Reading A
 or_refused None = Err []
 or_refused (Some a) = Ok a
+
+-- a whole number in range
+abbrev pub integer_of : Data → Reading ℤ
+integer_of null = Err []
+integer_of (boolean b) = Err []
+integer_of (number n) = or_refused (whole_of n)
+integer_of (string bytes) = Err []
+integer_of (array ds) = Err []
+integer_of (object ms) = Err []
 
 abbrev pub plain_of : Data → Reading Plain
 plain_of d = or_refused (value_of d)

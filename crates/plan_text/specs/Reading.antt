@@ -78,31 +78,39 @@ step_of =
     object_of (field (codes "condition") (optional_of text_of) (field (codes "env") values_of (field (codes "id") (optional_of text_of)
     (field (codes "name") (optional_of text_of) (field (codes "tolerate") flag_of (field (codes "work") work_of no_more)))))) step_from
 
-abbrev pub job_from : Option (List ℕ) × (Values × (Bool × (Option Group × (List ℕ × (List Values × (Option ℕ × (List ℕ × (List ℕ × (ℕ
-    × (List (List ℕ × List ℕ) × (List StepPlan × (Flag × ⊤)))))))))))) → JobPlan
-job_from x = record {
-  condition = x.0;
-  env = x.1.0;
-  fail_fast = x.1.1.0;
-  group = x.1.1.1.0;
-  id = x.1.1.1.1.0;
-  legs = x.1.1.1.1.1.0;
-  max_parallel = x.1.1.1.1.1.1.0;
-  name = x.1.1.1.1.1.1.1.0;
-  needs = x.1.1.1.1.1.1.1.1.0;
-  number = x.1.1.1.1.1.1.1.1.1.0;
-  outputs = x.1.1.1.1.1.1.1.1.1.1.0;
-  steps = x.1.1.1.1.1.1.1.1.1.1.1.0;
-  tolerate = x.1.1.1.1.1.1.1.1.1.1.1.1.0
-}
+-- what stands in a job from `name` on
+abbrev pub JobTail : Type 0
+JobTail = List ℕ × (List ℕ × (ℕ × (List (List ℕ × List ℕ) × (List StepPlan × (Flag × ⊤)))))
+
+unfoldable pub job_tail : Members → Reading JobTail
+job_tail =
+    field (codes "name") text_of (field (codes "needs") (list_of number_of) (field (codes "number") number_of
+    (field (codes "outputs") (map_of text_of) (field (codes "steps") (list_of step_of) (field (codes "tolerate") flag_of no_more)))))
+
+abbrev pub job_from : Option (List ℕ) × (Values × (Bool × (Option Group × (List ℕ × (List Values × (Option ℕ × JobTail)))))) → JobPlan
+job_from x =
+    let tail = x.1.1.1.1.1.1.1 in
+    record {
+      condition = x.0;
+      env = x.1.0;
+      fail_fast = x.1.1.0;
+      group = x.1.1.1.0;
+      id = x.1.1.1.1.0;
+      legs = x.1.1.1.1.1.0;
+      max_parallel = x.1.1.1.1.1.1.0;
+      name = tail.0;
+      needs = tail.1.0;
+      number = tail.1.1.0;
+      outputs = tail.1.1.1.0;
+      steps = tail.1.1.1.1.0;
+      tolerate = tail.1.1.1.1.1.0;
+    }
 
 abbrev pub job_of : Data → Reading JobPlan
 job_of =
     object_of (field (codes "condition") (optional_of text_of) (field (codes "env") values_of (field (codes "fail_fast") truth_of
     (field (codes "group") (optional_of group_of) (field (codes "id") text_of (field (codes "legs") (list_of values_of)
-    (field (codes "max_parallel") (optional_of number_of) (field (codes "name") text_of (field (codes "needs") (list_of number_of)
-    (field (codes "number") number_of (field (codes "outputs") (map_of text_of) (field (codes "steps") (list_of step_of)
-    (field (codes "tolerate") flag_of no_more))))))))))))) job_from
+    (field (codes "max_parallel") (optional_of number_of) job_tail))))))) job_from
 
 abbrev pub run_from : Values × (Option (List ℕ) × (List ℕ × (Option Group × (List JobPlan × (Roots × ⊤))))) → RunPlan
 run_from x = record { env = x.0; event = x.1.0; flow = x.1.1.0; group = x.1.1.1.0; jobs = x.1.1.1.1.0; roots = x.1.1.1.1.1.0 }

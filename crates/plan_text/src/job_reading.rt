@@ -1,8 +1,25 @@
 // A job from its document: the longest of the objects.
+ghost use Rattle.serde_json.specs.View.{members_view};
+ghost use Rattle.plan_text.specs.Answer.{Gives};
+ghost use Rattle.plan_text.specs.JobParts.{tail_parts};
+ghost use Rattle.plan_text.specs.Reading.{job_tail};
+
 use crate::reading::{FromJson, Unread, members_of, next_member, no_more, part};
-use flow_model::JobPlan;
+use flow_model::{Flag, JobPlan, Mapping, Sequence, StepPlan, Text};
 use serde_json::Value;
 use std::alloc::Global;
+use std::collections::btree_map::Iter;
+
+/// What stands in a job from `name` on.
+#[derive(Drop)]
+struct Tail {
+    name: Text,
+    needs: Sequence<u64>,
+    number: u64,
+    outputs: Mapping<Text>,
+    steps: Sequence<StepPlan>,
+    tolerate: Flag,
+}
 
 impl FromJson for JobPlan {
     ghost use Rattle.plan_text.specs.Reading.{job_of};
@@ -11,21 +28,23 @@ impl FromJson for JobPlan {
 
     fn from_json(alloc: Global, json: &Value) -> Result<JobPlan, Unread> {
         let mut members = members_of(alloc, json)?;
-        let condition = part(alloc, "condition", next_member(alloc, &mut members, "condition")?)?;
+        let condition = part(
+            alloc,
+            "condition",
+            next_member(alloc, &mut members, "condition")?,
+        )?;
         let env = part(alloc, "env", next_member(alloc, &mut members, "env")?)?;
-        let fail_fast = part(alloc, "fail_fast", next_member(alloc, &mut members, "fail_fast")?)?;
+        let fail_fast = part(
+            alloc,
+            "fail_fast",
+            next_member(alloc, &mut members, "fail_fast")?,
+        )?;
         let group = part(alloc, "group", next_member(alloc, &mut members, "group")?)?;
         let id = part(alloc, "id", next_member(alloc, &mut members, "id")?)?;
         let legs = part(alloc, "legs", next_member(alloc, &mut members, "legs")?)?;
         let limit = next_member(alloc, &mut members, "max_parallel")?;
         let max_parallel = part(alloc, "max_parallel", limit)?;
-        let name = part(alloc, "name", next_member(alloc, &mut members, "name")?)?;
-        let needs = part(alloc, "needs", next_member(alloc, &mut members, "needs")?)?;
-        let number = part(alloc, "number", next_member(alloc, &mut members, "number")?)?;
-        let outputs = part(alloc, "outputs", next_member(alloc, &mut members, "outputs")?)?;
-        let steps = part(alloc, "steps", next_member(alloc, &mut members, "steps")?)?;
-        let tolerate = part(alloc, "tolerate", next_member(alloc, &mut members, "tolerate")?)?;
-        no_more(alloc, &mut members)?;
+        let tail = read_tail(alloc, &mut members)?;
         Ok(JobPlan {
             condition,
             env,
@@ -34,12 +53,33 @@ impl FromJson for JobPlan {
             id,
             legs,
             max_parallel,
-            name,
-            needs,
-            number,
-            outputs,
-            steps,
-            tolerate,
+            name: tail.name,
+            needs: tail.needs,
+            number: tail.number,
+            outputs: tail.outputs,
+            steps: tail.steps,
+            tolerate: tail.tolerate,
         })
     }
+}
+
+#[tactic(auto, unfolding(crate::specs::Reading::job_tail))]
+fn read_tail(alloc: Global, members: &mut Iter<'_, String, Value>) -> Result<Tail, Unread>
+    ensures { Gives tail_parts result (job_tail (members_view members.old)) }
+{
+    let name = part(alloc, "name", next_member(alloc, members, "name")?)?;
+    let needs = part(alloc, "needs", next_member(alloc, members, "needs")?)?;
+    let number = part(alloc, "number", next_member(alloc, members, "number")?)?;
+    let outputs = part(alloc, "outputs", next_member(alloc, members, "outputs")?)?;
+    let steps = part(alloc, "steps", next_member(alloc, members, "steps")?)?;
+    let tolerate = part(alloc, "tolerate", next_member(alloc, members, "tolerate")?)?;
+    no_more(alloc, members)?;
+    Ok(Tail {
+        name,
+        needs,
+        number,
+        outputs,
+        steps,
+        tolerate,
+    })
 }

@@ -6,6 +6,10 @@
 // and its rules, and on `serde_json`, which reads and prints JSON (RFC 8259).
 #![tactic(auto)]
 
+mod board;
+mod entry;
+mod entry_reading;
+mod entry_writing;
 mod fault;
 mod job_reading;
 mod json_text;
@@ -13,7 +17,11 @@ mod plan;
 mod plan_reading;
 mod plan_writing;
 mod reading;
+mod record;
 mod writing;
 
+pub use board::board_text;
+pub use entry::{print_entry, read_entry};
 pub use fault::LoadFault;
 pub use plan::{load_plan, print_plan};
+pub use record::{first_line, load_record, print_record};

@@ -48,7 +48,11 @@ impl FromJson for Roots {
         let mut members = members_of(alloc, json)?;
         let github = part(alloc, "github", next_member(alloc, &mut members, "github")?)?;
         let inputs = part(alloc, "inputs", next_member(alloc, &mut members, "inputs")?)?;
-        let secrets = part(alloc, "secrets", next_member(alloc, &mut members, "secrets")?)?;
+        let secrets = part(
+            alloc,
+            "secrets",
+            next_member(alloc, &mut members, "secrets")?,
+        )?;
         let vars = part(alloc, "vars", next_member(alloc, &mut members, "vars")?)?;
         no_more(alloc, &mut members)?;
         Ok(Roots {
@@ -95,7 +99,12 @@ fn read_script(alloc: Global, json: &Value) -> Result<Work, Unread>
 {
     let mut members = members_of(alloc, json)?;
     let dir = part(alloc, "dir", next_member(alloc, &mut members, "dir")?)?;
-    expect_word(alloc, "kind", "run", next_member(alloc, &mut members, "kind")?)?;
+    expect_word(
+        alloc,
+        "kind",
+        "run",
+        next_member(alloc, &mut members, "kind")?,
+    )?;
     let run = part(alloc, "run", next_member(alloc, &mut members, "run")?)?;
     let shell = part(alloc, "shell", next_member(alloc, &mut members, "shell")?)?;
     no_more(alloc, &mut members)?;
@@ -106,7 +115,12 @@ fn read_action(alloc: Global, json: &Value) -> Result<Work, Unread>
     ensures { GivesIt result (action_of (view json.now)) }
 {
     let mut members = members_of(alloc, json)?;
-    expect_word(alloc, "kind", "uses", next_member(alloc, &mut members, "kind")?)?;
+    expect_word(
+        alloc,
+        "kind",
+        "uses",
+        next_member(alloc, &mut members, "kind")?,
+    )?;
     let uses = part(alloc, "uses", next_member(alloc, &mut members, "uses")?)?;
     let given = part(alloc, "with", next_member(alloc, &mut members, "with")?)?;
     no_more(alloc, &mut members)?;
@@ -120,11 +134,19 @@ impl FromJson for StepPlan {
 
     fn from_json(alloc: Global, json: &Value) -> Result<StepPlan, Unread> {
         let mut members = members_of(alloc, json)?;
-        let condition = part(alloc, "condition", next_member(alloc, &mut members, "condition")?)?;
+        let condition = part(
+            alloc,
+            "condition",
+            next_member(alloc, &mut members, "condition")?,
+        )?;
         let env = part(alloc, "env", next_member(alloc, &mut members, "env")?)?;
         let id = part(alloc, "id", next_member(alloc, &mut members, "id")?)?;
         let name = part(alloc, "name", next_member(alloc, &mut members, "name")?)?;
-        let tolerate = part(alloc, "tolerate", next_member(alloc, &mut members, "tolerate")?)?;
+        let tolerate = part(
+            alloc,
+            "tolerate",
+            next_member(alloc, &mut members, "tolerate")?,
+        )?;
         let work = part(alloc, "work", next_member(alloc, &mut members, "work")?)?;
         no_more(alloc, &mut members)?;
         Ok(StepPlan {
@@ -171,7 +193,12 @@ impl FromJson for Plan {
     fn from_json(alloc: Global, json: &Value) -> Result<Plan, Unread> {
         let mut members = members_of(alloc, json)?;
         let runs = part(alloc, "runs", next_member(alloc, &mut members, "runs")?)?;
-        expect_number(alloc, "version", 1, next_member(alloc, &mut members, "version")?)?;
+        expect_number(
+            alloc,
+            "version",
+            1,
+            next_member(alloc, &mut members, "version")?,
+        )?;
         no_more(alloc, &mut members)?;
         Ok(Plan { runs })
     }

@@ -94,6 +94,23 @@ impl FromJson for u64 {
     }
 }
 
+impl FromJson for i64 {
+    ghost use Rattle.plan_text.specs.Parts.{integer_of};
+
+    ghost reading = { integer_of };
+
+    fn from_json(alloc: Global, json: &Value) -> Result<i64, Unread> {
+        match json.as_number() {
+            Some(number) => match flow_model::whole_of(number) {
+                Ok(whole) => Ok(whole),
+                Err(JsonFault::NotWhole) => Err(refused(alloc, "")),
+                Err(JsonFault::Memory) => Err(Unread::Memory),
+            },
+            None => Err(refused(alloc, "")),
+        }
+    }
+}
+
 impl FromJson for flow_model::Value {
     ghost use Rattle.plan_text.specs.Parts.{plain_of};
 
@@ -234,7 +251,12 @@ pub(crate) fn expect_word(alloc: Global, key: &str, word: &str, json: &Value) ->
 }
 
 /// Checks that a number at a key is this one.
-pub(crate) fn expect_number(alloc: Global, key: &str, number: u64, json: &Value) -> Result<(), Unread>
+pub(crate) fn expect_number(
+    alloc: Global,
+    key: &str,
+    number: u64,
+    json: &Value,
+) -> Result<(), Unread>
     ensures { Gives (λ _. tt) result (within key.now (numeral_of number (view json.now))) }
 {
     match json.as_u64() {

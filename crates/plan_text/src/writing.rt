@@ -48,6 +48,16 @@ impl ToJson for u64 {
     }
 }
 
+impl ToJson for i64 {
+    ghost use Rattle.plan_text.specs.Parts.{integer_data};
+
+    ghost writing = { integer_data };
+
+    fn to_json(&self, _alloc: Global) -> Result<Value, AllocError> {
+        Ok(Value::from(*self))
+    }
+}
+
 impl ToJson for flow_model::Value {
     ghost use Rattle.flow_model.specs.Json.{json_of};
 

@@ -19,7 +19,7 @@ loop-key-preserved g c =
     rw (c.in_ok-insert.ensures.ok, c.in_ok-name.ensures, c.as_str.ensures.value) (record {
       keys = keys_of-next read k v (keys_of (pairs_of left)) _ keys ascends;
       reads = rw (with_pair-above read k v (keys_of (pairs_of left)) _ keys ascends)
-      (pair_step g.T.FromJson.reading read k v (view c.in-Some.member.now) (members_view left) _
-      (ap (λ es. map_read (λ ps. read ++ ps) (pairs_read g.T.FromJson.reading (members_view es))) (sym c.in-Some.ensures.steps) ∙ c.loop-key.invariant.reads)
-      (rw c.as_str-in-loop-key.ensures.value at c.in_ok-part.ensures))
+          (pair_step g.T.FromJson.reading read k v (view c.in-Some.member.now) (members_view left) _
+          (ap (λ es. map_read (λ ps. read ++ ps) (pairs_read g.T.FromJson.reading (members_view es))) (sym c.in-Some.ensures.steps) ∙ c.loop-key.invariant.reads)
+          (rw c.as_str-in-loop-key.ensures.value at c.in_ok-part.ensures));
     })

@@ -8,5 +8,5 @@ use Rattle.plan_text.proofs.reading.read_pairs.Given as goal
 abbrev pub invariant-loop-key : goal.invariant-loop-key
 invariant-loop-key g l = record {
   keys : keys_of l.read ++ keys_of (pairs_of l.key-iterator) ≡ keys_of (pairs_of l.members.entries);
-  reads : map_read (λ ps. l.read ++ ps) (pairs_read g.T.FromJson.reading (members_view l.key-iterator)) ≡ pairs_read g.T.FromJson.reading (members_view l.members.entries)
+  reads : map_read (λ ps. l.read ++ ps) (pairs_read g.T.FromJson.reading (members_view l.key-iterator)) ≡ pairs_read g.T.FromJson.reading (members_view l.members.entries);
 }

@@ -1,0 +1,7 @@
+use Rattle.std.proofs.Common.{◌≡◌, ◌++◌, string_bytes, drop}
+use Rattle.plan_text.specs.BoardText.{runs_text}
+use Rattle.plan_text.proofs.board.write_runs.Given as goal
+
+abbrev pub invariant-loop-place : goal.invariant-loop-place
+invariant-loop-place l =
+    string_bytes l.text ++ runs_text l.place l.job_number l.leg_number (drop l.place l.runs) ≡ string_bytes l.initial.text ++ runs_text 0 0 0 l.runs
