@@ -1,0 +1,6 @@
+pub mod Names
+pub mod Expr
+pub mod Grammar
+pub mod View
+pub mod Outcome
+pub mod Machine

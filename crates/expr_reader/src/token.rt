@@ -1,0 +1,31 @@
+//! The tokens of an expression's text.
+
+use crate::tree::{Context, Equality, Function, Literal, Relation};
+
+/// Brackets, separators and the operators that are no comparison.
+#[derive(Clone, Copy, Debug, PartialEq, Eq)]
+pub(crate) enum Mark {
+    Open,
+    Close,
+    OpenIndex,
+    CloseIndex,
+    Dot,
+    Comma,
+    Star,
+    Not,
+    Both,
+    Either,
+}
+
+/// A token of an expression.
+#[derive(Drop)]
+pub(crate) enum Token {
+    Constant(Literal),
+    Root(Context),
+    Callee(Function),
+    /// The name of a property, which stands after a dot.
+    Name(String),
+    Relational(Relation),
+    Equational(Equality),
+    Mark(Mark),
+}
