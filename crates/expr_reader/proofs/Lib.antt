@@ -1,2 +1,3 @@
 mod Nodes
 mod Complete
+mod Sound

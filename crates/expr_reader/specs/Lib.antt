@@ -3,4 +3,5 @@ pub mod Expr
 pub mod Grammar
 pub mod View
 pub mod Outcome
+pub mod Wrong
 pub mod Machine
