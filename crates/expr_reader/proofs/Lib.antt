@@ -1,3 +1,4 @@
 mod Nodes
+mod Depths
 mod Complete
 mod Sound

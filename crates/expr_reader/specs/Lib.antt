@@ -5,3 +5,4 @@ pub mod View
 pub mod Outcome
 pub mod Wrong
 pub mod Machine
+pub mod Stack

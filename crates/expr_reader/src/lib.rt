@@ -2,6 +2,8 @@
 #![tactic(auto)]
 
 mod fault;
+mod machine;
+mod operand;
 mod token;
 mod tree;
 
