@@ -2,3 +2,6 @@ mod Nodes
 mod Depths
 mod Complete
 mod Sound
+mod Runs
+mod Quoted
+mod Words
