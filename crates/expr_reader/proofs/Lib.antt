@@ -5,3 +5,4 @@ mod Sound
 mod Runs
 mod Quoted
 mod Words
+mod Lexing

@@ -5,13 +5,13 @@ use Rattle.std.proofs.lemmas.Slice.Eq.{bytes_eq-Decides}
 use Rattle.std.specs.List.{find}
 use Rattle.std.specs.Prelude.{codes}
 use Rattle.std.specs.Str.{bytes_eq}
-use Rattle.expr_reader.specs.Bytes.{IsWord}
+use Rattle.expr_reader.specs.Bytes.{is_name, Stops, IsWord}
 use Rattle.expr_reader.specs.Expr.{null, truth}
 use Rattle.expr_reader.specs.Fold.{fold}
 use Rattle.expr_reader.specs.Grammar.{Token, constant, root, callee}
 use Rattle.expr_reader.specs.Lexer.{context_named, function_named, literal_named, function_or_literal, context_or_other, named}
 use Rattle.expr_reader.specs.Names.{context_name, function_name}
-use Rattle.expr_reader.specs.Spelling.{SpellsToken}
+use Rattle.expr_reader.specs.Spelling.{SpellsToken, EndsToken}
 use Rattle.expr_reader.specs.declared.tree.Context.{Context}
 use Rattle.expr_reader.specs.declared.tree.Context.TheVariants.{Github, Env, Vars, Job, Jobs, Steps, Runner, Secrets, Strategy, Matrix, Needs, Inputs}
 use Rattle.expr_reader.specs.declared.tree.Function.{Function}
@@ -67,21 +67,21 @@ callee_again f w h =
 -- A name's token is spelled so.
 abbrev pub NameComes : List ℕ → Option Token → Type 0
 NameComes w None = Unit {0}
-NameComes w (Some t) = SpellsToken t w
+NameComes w (Some t) = SpellsToken t w × ((rest : List ℕ) → Stops is_name rest → EndsToken t rest)
 
 literal_comes : (w : List ℕ) → NameComes w (literal_named w)
 literal_comes w =
-    if_holds (NameComes w) (bytes_eq w (codes "null")) (Some (constant null)) (cond (bytes_eq w (codes "true")) (Some (constant (truth true))) (cond (bytes_eq w (codes "false")) (Some (constant (truth false))) None)) (λ h. (bytes_eq-Decides w (codes "null")).0 h)
-    (λ _. if_holds (NameComes w) (bytes_eq w (codes "true")) (Some (constant (truth true))) (cond (bytes_eq w (codes "false")) (Some (constant (truth false))) None) (λ h. (bytes_eq-Decides w (codes "true")).0 h)
-      (λ _. if_holds (NameComes w) (bytes_eq w (codes "false")) (Some (constant (truth false))) None (λ h. (bytes_eq-Decides w (codes "false")).0 h) (λ _. tt)))
+    if_holds (NameComes w) (bytes_eq w (codes "null")) (Some (constant null)) (cond (bytes_eq w (codes "true")) (Some (constant (truth true))) (cond (bytes_eq w (codes "false")) (Some (constant (truth false))) None)) (λ h. ((bytes_eq-Decides w (codes "null")).0 h, λ rest stops. stops))
+    (λ _. if_holds (NameComes w) (bytes_eq w (codes "true")) (Some (constant (truth true))) (cond (bytes_eq w (codes "false")) (Some (constant (truth false))) None) (λ h. ((bytes_eq-Decides w (codes "true")).0 h, λ rest stops. stops))
+      (λ _. if_holds (NameComes w) (bytes_eq w (codes "false")) (Some (constant (truth false))) None (λ h. ((bytes_eq-Decides w (codes "false")).0 h, λ rest stops. stops)) (λ _. tt)))
 
 function_comes : (w : List ℕ) (o : Option Function) → IsWord w → Passes (λ g. bytes_eq (fold w) (function_name g)) o → NameComes w (function_or_literal o w)
 function_comes w None word h = literal_comes w
-function_comes w (Some f) word h = (word, (bytes_eq-Decides (fold w) (function_name f)).0 h)
+function_comes w (Some f) word h = ((word, (bytes_eq-Decides (fold w) (function_name f)).0 h), λ rest stops. stops)
 
 context_comes : (w : List ℕ) (o : Option Context) → IsWord w → Passes (λ c. bytes_eq (fold w) (context_name c)) o → NameComes w (context_or_other o w)
 context_comes w None word h = function_comes w (function_named (fold w)) word (find_passes (λ g. bytes_eq (fold w) (function_name g)) (Contains ∷ StartsWith ∷ EndsWith ∷ Format ∷ Join ∷ ToJson ∷ FromJson ∷ Success ∷ Failure ∷ Cancelled ∷ Always ∷ []))
-context_comes w (Some c) word h = (word, (bytes_eq-Decides (fold w) (context_name c)).0 h)
+context_comes w (Some c) word h = ((word, (bytes_eq-Decides (fold w) (context_name c)).0 h), λ rest stops. stops)
 
 pub named_comes : (w : List ℕ) → IsWord w → NameComes w (named w)
 named_comes w word = context_comes w (context_named (fold w)) word (find_passes (λ c. bytes_eq (fold w) (context_name c)) (Github ∷ Env ∷ Vars ∷ Job ∷ Jobs ∷ Steps ∷ Runner ∷ Secrets ∷ Strategy ∷ Matrix ∷ Needs ∷ Inputs ∷ []))
