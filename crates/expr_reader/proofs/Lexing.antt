@@ -146,7 +146,7 @@ next_again dotted text t rest b agrees =
     let front = token_again dotted t b.own rest b.spelled b.ends agrees in
     ap (next dotted) b.same ∙ ap (next_at dotted) (span_drop is_white b.white (b.own ++ rest) b.blank front.0) ∙ front.1
 
-blank_skipped : (text : List ℕ) → IsRun is_white text → skip_white text ≡ []
+pub blank_skipped : (text : List ℕ) → IsRun is_white text → skip_white text ≡ []
 blank_skipped text h = ap (λ (n : ℕ). drop n text) h ∙ sym (ap (λ (z : List ℕ). drop (length text) z) (append-nil text)) ∙ drop-append_seam text []
 
 -- At the end there is none.
@@ -326,3 +326,7 @@ comes_at dotted text (b ∷ bs) at stops = some_comes text (b ∷ bs) (token_at 
 
 pub next_comes : (dotted : Bool) (text : List ℕ) → Comes text (next dotted text)
 next_comes dotted text = comes_at dotted text (skip_white text) refl (spans is_white text).stops
+
+-- What the text begins with stands where its white space ends.
+pub skipped : (text : List ℕ) (t : Token) (rest : List ℕ) (b : Begins text t rest) → skip_white text ≡ b.own ++ rest
+skipped text t rest b = ap skip_white b.same ∙ span_drop is_white b.white (b.own ++ rest) b.blank (token_again (dotted_for t) t b.own rest b.spelled b.ends (agrees_so t)).0

@@ -6,3 +6,4 @@ mod Runs
 mod Quoted
 mod Words
 mod Lexing
+mod Readings

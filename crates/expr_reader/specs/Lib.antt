@@ -11,5 +11,6 @@ pub mod Reading
 pub mod Spelling
 pub mod Spells
 pub mod Stack
+pub mod Stands
 pub mod View
 pub mod Wrong
