@@ -7,3 +7,5 @@ mod Quoted
 mod Words
 mod Lexing
 mod Readings
+mod Boundaries
+mod Digits

@@ -1,4 +1,5 @@
 pub mod Bytes
+pub mod Class
 pub mod Expr
 pub mod Fold
 pub mod Grammar

@@ -1,11 +1,15 @@
 //! Reads the expressions of GitHub Actions.
 #![tactic(auto)]
 
+mod bytes;
 mod fault;
+mod folding;
 mod machine;
+mod number;
 mod operand;
 mod token;
 mod tree;
 
 pub use fault::ExprFault;
+pub use folding::{fold, same_text};
 pub use tree::{Context, Equality, Function, Literal, Relation, Tree, Wildcard};

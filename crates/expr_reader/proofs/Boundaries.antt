@@ -1,0 +1,26 @@
+-- Where a text may be cut.
+use Rattle.std.proofs.Common.{◌≡◌, ℕ, zero, suc, ◌+◌, ◌<◌, ◌≤◌, Bool, true, List, length, get_or, refl, sym, ap, subst, ◌∙◌, arith}
+use Rattle.std.proofs.lemmas.Bool.Decides.{nat_tests}
+use Rattle.std.proofs.lemmas.List.Sums.{prefix_len-le-length, prefix_len_passes}
+use Rattle.std.proofs.lemmas.Str.{IsCharBoundary-start, IsCharBoundary-after_ascii}
+use Rattle.std.specs.List.{prefix_len}
+use Rattle.std.specs.Str.{IsUtf8, IsCharBoundary}
+use Rattle.expr_reader.specs.Class.{in_class}
+use Rattle.expr_reader.specs.declared.bytes.Class.{Class}
+use Rattle.expr_reader.specs.declared.bytes.Class.TheVariants.{White, Name, Number}
+
+class_ascii : (c : Class) (b : ℕ) → in_class c b ≡ true → b < 128
+class_ascii White b h = grind (arith, nat_tests)
+class_ascii Name b h = grind (arith, nat_tests)
+class_ascii Number b h = grind (arith, nat_tests)
+
+boundary_at : (c : Class) (bs : List ℕ) → IsUtf8 bs → (n : ℕ) → prefix_len (in_class c) bs ≡ n → IsCharBoundary bs n
+boundary_at c bs utf8 zero h = IsCharBoundary-start bs utf8
+boundary_at c bs utf8 (suc n) h =
+    let inside : n < length bs = omega (arith, prefix_len-le-length (in_class c) bs) in
+    let more : n + 1 ≡ suc n = omega arith in
+    subst (IsCharBoundary bs) more (IsCharBoundary-after_ascii bs n utf8 inside (class_ascii c (get_or bs n 0) (prefix_len_passes (in_class c) bs n 0 (omega arith))))
+
+-- A text may be cut after a run of bytes of a class.
+pub run_boundary : (c : Class) (bs : List ℕ) → IsUtf8 bs → IsCharBoundary bs (prefix_len (in_class c) bs)
+run_boundary c bs utf8 = boundary_at c bs utf8 (prefix_len (in_class c) bs) refl
