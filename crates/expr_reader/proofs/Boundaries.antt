@@ -1,5 +1,5 @@
 -- Where a text may be cut.
-use Rattle.std.proofs.Common.{◌≡◌, ℕ, zero, suc, ◌+◌, ◌<◌, ◌≤◌, Bool, true, List, length, get_or, refl, sym, ap, subst, ◌∙◌, arith}
+use Rattle.std.proofs.Common.{◌≡◌, ℕ, zero, suc, ◌+◌, ◌<◌, ◌≤◌, Bool, true, Some, List, [], ◌∷◌, length, get_or, drop, slice_get, refl, sym, ap, subst, ◌∙◌, arith}
 use Rattle.std.proofs.lemmas.Bool.Decides.{nat_tests}
 use Rattle.std.proofs.lemmas.List.Sums.{prefix_len-le-length, prefix_len_passes}
 use Rattle.std.proofs.lemmas.Str.{IsCharBoundary-start, IsCharBoundary-after_ascii}
@@ -24,3 +24,15 @@ boundary_at c bs utf8 (suc n) h =
 -- A text may be cut after a run of bytes of a class.
 pub run_boundary : (c : Class) (bs : List ℕ) → IsUtf8 bs → IsCharBoundary bs (prefix_len (in_class c) bs)
 run_boundary c bs utf8 = boundary_at c bs utf8 (prefix_len (in_class c) bs) refl
+
+-- A text may be cut after its first byte, where that is ASCII.
+pub first_boundary : (bs : List ℕ) (b : ℕ) → IsUtf8 bs → slice_get bs 0 ≡ Some b → b < 128 → IsCharBoundary bs 1
+first_boundary [] b utf8 first low = cc
+first_boundary (c ∷ bs) b utf8 first low =
+    let same : c ≡ b = cc in
+    IsCharBoundary-after_ascii (c ∷ bs) 0 utf8 (omega arith) (omega (arith, same))
+
+-- A text is its first byte and the rest.
+pub first_and_rest : (bs : List ℕ) (b : ℕ) → slice_get bs 0 ≡ Some b → bs ≡ b ∷ drop 1 bs
+first_and_rest [] b h = cc
+first_and_rest (c ∷ bs) b h = let same : c ≡ b = cc in ap (λ (x : ℕ). x ∷ bs) same

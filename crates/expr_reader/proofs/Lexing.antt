@@ -101,7 +101,7 @@ named_front : (dotted : Bool) (t : Token) (w rest : List ℕ) → IsWord w → S
 named_front dotted t w rest word ends plain known =
     (word_front w rest word, word_again dotted w rest word ends ∙ ap (λ (d : Bool). some_token (word_token d w rest)) plain ∙ ap (λ (o : Option Token). some_token (known_token o rest)) known)
 
-paired_alone : (one two : Token) (rest : List ℕ) → Stops (is_byte 61) rest → paired one two rest ≡ (one, rest)
+pub paired_alone : (one two : Token) (rest : List ℕ) → Stops (is_byte 61) rest → paired one two rest ≡ (one, rest)
 paired_alone one two [] h = refl
 paired_alone one two (b ∷ bs) h = cond-false (nat_eq b 61) (two, bs) (one, b ∷ bs) (head_stops (is_byte 61) b bs h)
 
@@ -330,3 +330,14 @@ next_comes dotted text = comes_at dotted text (skip_white text) refl (spans is_w
 -- What the text begins with stands where its white space ends.
 pub skipped : (text : List ℕ) (t : Token) (rest : List ℕ) (b : Begins text t rest) → skip_white text ≡ b.own ++ rest
 skipped text t rest b = ap skip_white b.same ∙ span_drop is_white b.white (b.own ++ rest) b.blank (token_again (dotted_for t) t b.own rest b.spelled b.ends (agrees_so t)).0
+
+pub followed_by_none : (c : ℕ) (t : Token) (rest : List ℕ) → Stops (is_byte c) rest → followed c t rest ≡ Err BadChar
+followed_by_none c t [] h = refl
+followed_by_none c t (b ∷ bs) h = cond-false (nat_eq b c) (Ok (t, bs)) (Err BadChar) (head_stops (is_byte c) b bs h)
+
+-- No operator begins with a byte above ASCII.
+pub no_operator_above : (b : ℕ) (bs : List ℕ) → 128 ≤ b → operator_at b bs ≡ Err BadChar
+no_operator_above b bs h = other 40 _ _ (omega arith) ∙ other 41 _ _ (omega arith) ∙ other 91 _ _ (omega arith) ∙ other 93 _ _ (omega arith) ∙ other 46 _ _ (omega arith) ∙ other 44 _ _ (omega arith) ∙ other 42 _ _ (omega arith) ∙ other 33 _ _ (omega arith) ∙ other 60 _ _ (omega arith) ∙ other 62 _ _ (omega arith) ∙ other 61 _ _ (omega arith) ∙ other 38 _ _ (omega arith) ∙ other 124 _ _ (omega arith)
+  where
+  other : (c : ℕ) (x y : Result Lexed Fault) → c < 128 → cond (nat_eq b c) x y ≡ y
+  other c x y low = let test : nat_eq b c ≡ false = grind (arith, nat_tests) in cond-false (nat_eq b c) x y test

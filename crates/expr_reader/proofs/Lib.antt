@@ -9,3 +9,4 @@ mod Lexing
 mod Readings
 mod Boundaries
 mod Digits
+mod Utf8

@@ -1,8 +1,10 @@
 -- The machine's state, apart from where it lies in memory.
-use Rattle.std.specs.Prelude.{List, map, reverse, string_bytes, Vec}
+use Rattle.std.specs.Prelude.{ℕ, Option, Some, None, List, map, reverse, string_bytes, Vec}
+use Rattle.std.specs.Borrow.{Bor}
 use Rattle.std.specs.declared.alloc.Global.{Global}
 use Rattle.expr_reader.specs.Expr.{Expr}
 use Rattle.expr_reader.specs.Grammar.{Token, constant, root, callee, name, relational, equational, mark}
+use Rattle.expr_reader.specs.Lexer.{Lexed}
 use Rattle.expr_reader.specs.Machine.{Part, either_of, both_of, equality_of, relation_of, not_of, group_of, index_of, call_of, State, want, have, dotted, called, starred, Held}
 use Rattle.expr_reader.specs.View.{view, views, constant_of}
 use Rattle.expr_reader.specs.declared.operand.Operand.{Operand}
@@ -61,3 +63,11 @@ token_of (tok.Name s) = name (string_bytes s)
 token_of (tok.Relational r) = relational r
 token_of (tok.Equational q) = equational q
 token_of (tok.Mark m) = mark m
+
+-- A token and the text after it.
+abbrev pub lexed : token.Token × Bor (List ℕ) → Lexed
+lexed x = (token_of x.0, x.1.now)
+
+abbrev pub some_lexed : Option (token.Token × Bor (List ℕ)) → Option Lexed
+some_lexed None = None
+some_lexed (Some x) = Some (lexed x)

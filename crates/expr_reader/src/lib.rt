@@ -4,7 +4,9 @@
 mod bytes;
 mod fault;
 mod folding;
+mod lexer;
 mod machine;
+mod names;
 mod number;
 mod operand;
 mod token;
