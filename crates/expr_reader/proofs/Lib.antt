@@ -10,3 +10,4 @@ mod Readings
 mod Boundaries
 mod Digits
 mod Utf8
+mod Loop

@@ -12,7 +12,7 @@ use Rattle.expr_reader.specs.Machine.{State, want, have, dotted, called, starred
 use Rattle.expr_reader.specs.Outcome.{◌>>=◌}
 use Rattle.expr_reader.specs.Reading.{Failure, placed, after_step, after_token, reads}
 use Rattle.expr_reader.specs.Spelling.{SpellsToken, Begins, Lexes}
-use Rattle.expr_reader.specs.Stands.{Leads, BeginNoTree, Stands, at_bytes, at_token, at_end, StandsBefore}
+use Rattle.expr_reader.specs.Stands.{Leads, BeginNoTree, Stands, at_bytes, at_token, at_end}
 use Rattle.expr_reader.specs.declared.fault.Fault.{Fault}
 use Rattle.expr_reader.specs.declared.token.Mark.TheVariants.{Open, Close, OpenIndex, CloseIndex, Dot, Comma, Star, Not, Both, Either}
 use Rattle.expr_reader.specs.declared.tree.Equality.TheVariants.{Equal, NotEqual}

@@ -1,6 +1,7 @@
 pub mod Bytes
 pub mod Class
 pub mod Expr
+pub mod Faults
 pub mod Fold
 pub mod Grammar
 pub mod Lexer

@@ -7,7 +7,7 @@ use Rattle.expr_reader.specs.Machine.{State, want, is_dotted, step, finish}
 use Rattle.expr_reader.specs.declared.fault.Fault.{Fault}
 use Rattle.expr_reader.specs.declared.fault.Fault.TheVariants.{TooLong}
 
--- A fault, and how many bytes there are from its place to the end.
+-- A fault and its place. While a text is read, the place is how many bytes there are from it to the end.
 abbrev pub Failure : Type 0
 Failure = Fault × ℕ
 
@@ -32,10 +32,15 @@ abbrev pub reads : ℕ → State → List ℕ → Result Expr Failure
 reads zero st bs = Err (TooLong, length bs)
 reads (suc n) st bs = after_token (reads n) st (length (skip_white bs)) (next (is_dotted st) bs)
 
+-- The same, with a fault's place counted from the start of a text of so many bytes.
+abbrev pub located : ℕ → Result Expr Failure → Result Expr Failure
+located size (Ok e) = Ok e
+located size (Err x) = Err (x.0, size - x.1)
+
 -- The tree of a text of any length.
 abbrev pub read_tokens : List ℕ → Result Expr Failure
-read_tokens text = reads (suc (length text)) (want []) text
+read_tokens text = located (length text) (reads (suc (length text)) (want []) text)
 
--- The tree of a text within the limit; one that is too long is so from its byte 20,000 on.
+-- The tree of a text within the limit; a longer one is too long from its byte 20,000 on.
 abbrev pub read_text : List ℕ → Result Expr Failure
-read_text text = if nat_lt 20000 (length text) then Err (TooLong, length text - 20000) else read_tokens text
+read_text text = if nat_lt 20000 (length text) then Err (TooLong, 20000) else read_tokens text

@@ -23,10 +23,10 @@ pub data Stands (f : Fault) (before : List Token) (rest : List ℕ) : Type 0 whe
   at_token : (t : Token) (after : List ℕ) → Begins rest t after → BeginNoTree (before ++ t ∷ []) → Wrong (before ++ t ∷ []) f → Stands f before rest
   at_end : rest ≡ [] → ((e : Expr) → Shaped e → depth e ≤ 50 → tokens e ≢ before) → Wrong before f → Stands f before rest
 
--- The fault stands at a place of the text, so many bytes before its end.
-pub record StandsBefore (f : Fault) (text : List ℕ) (left : ℕ) : Type 0 where
+-- The fault stands at a place of the text, which is the number of bytes before it.
+pub record StandsAt (f : Fault) (text : List ℕ) (place : ℕ) : Type 0 where
   pub before : List Token
   pub rest : List ℕ
   pub leads : Leads text before rest
-  pub place : length rest ≡ left
+  pub here : place + length rest ≡ length text
   pub stands : Stands f before rest

@@ -9,6 +9,7 @@ mod machine;
 mod names;
 mod number;
 mod operand;
+mod reader;
 mod token;
 mod tree;
 

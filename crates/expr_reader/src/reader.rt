@@ -1,0 +1,74 @@
+//! Reads expressions.
+
+ghost use Rattle.std.specs.Prelude.{◌≡◌, IfOk, IfErr};
+ghost use Rattle.expr_reader.specs.Expr.{Expr};
+ghost use Rattle.expr_reader.specs.Faults.{fault_at, refused_at, Answers, IsRead, FaultStands};
+ghost use Rattle.expr_reader.specs.Reading.{read_tokens, read_text};
+ghost use Rattle.expr_reader.specs.Spells.{Spells};
+ghost use Rattle.expr_reader.specs.View.{view};
+
+use crate::bytes::{Class, split_run};
+use crate::fault::{ExprFault, Fault, Refusal};
+use crate::lexer::next_token;
+use crate::machine::Machine;
+use crate::tree::Tree;
+use std::alloc::Global;
+
+/// The most bytes of an expression.
+const LONGEST: usize = 20_000;
+
+// The fault at its place.
+fn at(refusal: Refusal, place: usize) -> ExprFault
+    ensures { fault_at result ≡ refused_at refusal place }
+{
+    match refusal {
+        Refusal::Memory => ExprFault::Memory(place),
+        Refusal::Fault(fault) => placed(fault, place),
+    }
+}
+
+fn placed(fault: Fault, place: usize) -> ExprFault
+    ensures { fault_at result ≡ refused_at (Refusal.Fault fault) place }
+{
+    match fault {
+        Fault::UnclosedText => ExprFault::UnclosedText(place),
+        Fault::BadNumber => ExprFault::BadNumber(place),
+        Fault::BadChar => ExprFault::BadChar(place),
+        Fault::Unexpected => ExprFault::Unexpected(place),
+        Fault::UnknownName => ExprFault::UnknownName(place),
+        Fault::UnknownFunction => ExprFault::UnknownFunction(place),
+        Fault::ArgumentCount => ExprFault::ArgumentCount(place),
+        Fault::TooDeep => ExprFault::TooDeep(place),
+        Fault::TooLong => ExprFault::TooLong(place),
+        Fault::UnclosedTemplate => ExprFault::UnclosedTemplate(place),
+        Fault::StatusHere => ExprFault::StatusHere(place),
+    }
+}
+
+// Reads an expression of any length.
+fn read_tokens(alloc: Global, text: &str) -> Result<Tree, ExprFault>
+    ensures { Answers result (read_tokens text.now) }
+{
+    let mut machine = Machine::new(alloc);
+    let mut rest = text;
+    'tokens: loop {
+        let (_, start) = split_run(rest, Class::White);
+        let place = text.len() - start.len();
+        match next_token(alloc, start, machine.is_dotted()) {
+            Err(refusal) => return Err(at(refusal, place)),
+            Ok(None) => {
+                return match machine.finish(alloc) {
+                    Ok(tree) => Ok(tree),
+                    Err(refusal) => Err(at(refusal, place)),
+                };
+            }
+            Ok(Some((token, after))) => match machine.advance(alloc, token) {
+                Err(refusal) => return Err(at(refusal, place)),
+                Ok(advanced) => {
+                    machine = advanced;
+                    rest = after;
+                }
+            },
+        }
+    }
+}
