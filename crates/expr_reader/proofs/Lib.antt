@@ -11,3 +11,4 @@ mod Boundaries
 mod Digits
 mod Utf8
 mod Loop
+mod Expressions

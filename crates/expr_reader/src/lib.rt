@@ -15,4 +15,5 @@ mod tree;
 
 pub use fault::ExprFault;
 pub use folding::{fold, same_text};
+pub use reader::{one_reading, read_expr};
 pub use tree::{Context, Equality, Function, Literal, Relation, Tree, Wildcard};

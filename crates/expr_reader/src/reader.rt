@@ -1,9 +1,9 @@
 //! Reads expressions.
 
-ghost use Rattle.std.specs.Prelude.{◌≡◌, IfOk, IfErr};
+ghost use Rattle.std.specs.Prelude.{◌≡◌, ℕ, List, IfOk, IfErr};
 ghost use Rattle.expr_reader.specs.Expr.{Expr};
 ghost use Rattle.expr_reader.specs.Faults.{fault_at, refused_at, Answers, IsRead, FaultStands};
-ghost use Rattle.expr_reader.specs.Reading.{read_tokens, read_text};
+ghost use Rattle.expr_reader.specs.Reading.{read_tokens};
 ghost use Rattle.expr_reader.specs.Spells.{Spells};
 ghost use Rattle.expr_reader.specs.View.{view};
 
@@ -71,4 +71,32 @@ fn read_tokens(alloc: Global, text: &str) -> Result<Tree, ExprFault>
             },
         }
     }
+}
+
+/// Reads an expression, of at most 20,000 bytes and with a tree that is at most 50 deep.
+///
+/// GitHub Docs, "Evaluate expressions in workflows and actions". Numbers are whole, and names of contexts
+/// and functions go by A to Z alone.
+///
+/// # Errors
+///
+/// A fault that stands in the text, with the number of bytes before its place; which one, where there
+/// are several, is not promised. Or no memory was left.
+pub fn read_expr(alloc: Global, text: &str) -> Result<Tree, ExprFault>
+    // What is read is spelled so.
+    ensures found { IfOk result (λ tree. Spells (view tree) text.now) }
+    // What is spelled so is read, unless memory runs out.
+    ensures only { (e : Expr) → Spells e text.now → IsRead result e }
+    ensures stands { IfErr result (λ fault. FaultStands text.now fault) }
+{
+    if text.len() > LONGEST {
+        return Err(ExprFault::TooLong(LONGEST));
+    }
+    read_tokens(alloc, text)
+}
+
+/// No text spells two expressions.
+pub fn one_reading()
+    ensures { (t u : Expr) (text : List ℕ) → Spells t text → Spells u text → t ≡ u }
+{
 }
