@@ -47,40 +47,40 @@ at_start : (rest start : List ℕ) (st : State) (r : Result (Option Lexed) Fault
 at_start rest start st r start_is h =
     ap (λ (z : List ℕ). after_token (reads (length rest)) st (length z) (next_at (is_dotted st) z)) (sym start_is) ∙ ap (after_token (reads (length rest)) st (length start)) h
 
-whole : (text rest start : List ℕ) (st : State) (r : Result (Option Lexed) Fault) → IsReading text rest st → start ≡ skip_white rest → next_at (is_dotted st) start ≡ r → read_tokens text ≡ located (length text) (after_token (reads (length rest)) st (length start) r)
-whole text rest start st r reading start_is h = ap (located (length text)) (sym reading.same ∙ at_start rest start st r start_is h)
+whole : (base : ℕ) (text rest start : List ℕ) (st : State) (r : Result (Option Lexed) Fault) → IsReading text rest st → start ≡ skip_white rest → next_at (is_dotted st) start ≡ r → read_tokens base text ≡ located base (length text) (after_token (reads (length rest)) st (length start) r)
+whole base text rest start st r reading start_is h = ap (located base (length text)) (sym reading.same ∙ at_start rest start st r start_is h)
 
 -- A fault that gets its place is the reading's.
-given : (text : List ℕ) (e : ExprFault) (why : Refusal) (place : ℕ) → fault_at e ≡ refused_at why place → ((f : Fault) → why ≡ refusal.Fault f → read_tokens text ≡ Err (f, place)) → IfSome (fault_at e) (λ x. read_tokens text ≡ Err x)
-given text e refusal.Memory place at h = subst (λ (o : Option Failure). IfSome o (λ x. read_tokens text ≡ Err x)) (sym at) tt
-given text e (refusal.Fault f) place at h = subst (λ (o : Option Failure). IfSome o (λ x. read_tokens text ≡ Err x)) (sym at) (h f refl)
+given : (base : ℕ) (text : List ℕ) (e : ExprFault) (why : Refusal) (place : ℕ) → fault_at e ≡ refused_at why place → ((f : Fault) → why ≡ refusal.Fault f → read_tokens base text ≡ Err (f, place)) → IfSome (fault_at e) (λ x. read_tokens base text ≡ Err x)
+given base text e refusal.Memory place at h = subst (λ (o : Option Failure). IfSome o (λ x. read_tokens base text ≡ Err x)) (sym at) tt
+given base text e (refusal.Fault f) place at h = subst (λ (o : Option Failure). IfSome o (λ x. read_tokens base text ≡ Err x)) (sym at) (h f refl)
 
 fails_so : {A : Type 0} (why : Refusal) (f : Fault) (r : Result A Fault) → why ≡ refusal.Fault f → Fails why r → r ≡ Err f
 fails_so why f r h fails = subst (λ (w : Refusal). Fails w r) h fails
 
 -- No token comes, but a fault.
-pub token_refused : (text rest start : List ℕ) (st : State) (why : Refusal) (e : ExprFault) → IsReading text rest st → start ≡ skip_white rest → fault_at e ≡ refused_at why (length text - length start) → Fails why (next_at (is_dotted st) start) → IfSome (fault_at e) (λ x. read_tokens text ≡ Err x)
-token_refused text rest start st why e reading start_is at fails =
-    given text e why (length text - length start) at (λ f h. whole text rest start st (Err f) reading start_is (fails_so why f (next_at (is_dotted st) start) h fails))
+pub token_refused : (base : ℕ) (text rest start : List ℕ) (st : State) (why : Refusal) (e : ExprFault) → IsReading text rest st → start ≡ skip_white rest → fault_at e ≡ refused_at why (base + (length text - length start)) → Fails why (next_at (is_dotted st) start) → IfSome (fault_at e) (λ x. read_tokens base text ≡ Err x)
+token_refused base text rest start st why e reading start_is at fails =
+    given base text e why (base + (length text - length start)) at (λ f h. whole base text rest start st (Err f) reading start_is (fails_so why f (next_at (is_dotted st) start) h fails))
 
 -- A token comes that is refused.
-pub step_refused : (text rest start : List ℕ) (st : State) (x : Lexed) (why : Refusal) (e : ExprFault) → IsReading text rest st → start ≡ skip_white rest → next_at (is_dotted st) start ≡ Ok (Some x) → fault_at e ≡ refused_at why (length text - length start) → Fails why (step st x.0) → IfSome (fault_at e) (λ x. read_tokens text ≡ Err x)
-step_refused text rest start st x why e reading start_is comes at fails =
-    given text e why (length text - length start) at
-    (λ f h. whole text rest start st (Ok (Some x)) reading start_is comes
-      ∙ ap (λ (r : Result State Fault). located (length text) (after_step (reads (length rest)) (length start) x.1 r)) (fails_so why f (step st x.0) h fails))
+pub step_refused : (base : ℕ) (text rest start : List ℕ) (st : State) (x : Lexed) (why : Refusal) (e : ExprFault) → IsReading text rest st → start ≡ skip_white rest → next_at (is_dotted st) start ≡ Ok (Some x) → fault_at e ≡ refused_at why (base + (length text - length start)) → Fails why (step st x.0) → IfSome (fault_at e) (λ x. read_tokens base text ≡ Err x)
+step_refused base text rest start st x why e reading start_is comes at fails =
+    given base text e why (base + (length text - length start)) at
+    (λ f h. whole base text rest start st (Ok (Some x)) reading start_is comes
+      ∙ ap (λ (r : Result State Fault). located base (length text) (after_step (reads (length rest)) (length start) x.1 r)) (fails_so why f (step st x.0) h fails))
 
 -- The end comes too early.
-pub end_refused : (text rest start : List ℕ) (st : State) (why : Refusal) (e : ExprFault) → IsReading text rest st → start ≡ skip_white rest → next_at (is_dotted st) start ≡ Ok None → fault_at e ≡ refused_at why (length text - length start) → Fails why (finish st) → IfSome (fault_at e) (λ x. read_tokens text ≡ Err x)
-end_refused text rest start st why e reading start_is comes at fails =
-    given text e why (length text - length start) at
-    (λ f h. whole text rest start st (Ok None) reading start_is comes
-      ∙ ap (λ (r : Result Expr Fault). located (length text) (placed (length start) r)) (fails_so why f (finish st) h fails))
+pub end_refused : (base : ℕ) (text rest start : List ℕ) (st : State) (why : Refusal) (e : ExprFault) → IsReading text rest st → start ≡ skip_white rest → next_at (is_dotted st) start ≡ Ok None → fault_at e ≡ refused_at why (base + (length text - length start)) → Fails why (finish st) → IfSome (fault_at e) (λ x. read_tokens base text ≡ Err x)
+end_refused base text rest start st why e reading start_is comes at fails =
+    given base text e why (base + (length text - length start)) at
+    (λ f h. whole base text rest start st (Ok None) reading start_is comes
+      ∙ ap (λ (r : Result Expr Fault). located base (length text) (placed (length start) r)) (fails_so why f (finish st) h fails))
 
 -- The end comes, and the tree is whole.
-pub end_read : (text rest start : List ℕ) (st : State) (e : Expr) → IsReading text rest st → start ≡ skip_white rest → next_at (is_dotted st) start ≡ Ok None → finish st ≡ Ok e → read_tokens text ≡ Ok e
-end_read text rest start st e reading start_is comes done =
-    whole text rest start st (Ok None) reading start_is comes ∙ ap (λ (r : Result Expr Fault). located (length text) (placed (length start) r)) done
+pub end_read : (base : ℕ) (text rest start : List ℕ) (st : State) (e : Expr) → IsReading text rest st → start ≡ skip_white rest → next_at (is_dotted st) start ≡ Ok None → finish st ≡ Ok e → read_tokens base text ≡ Ok e
+end_read base text rest start st e reading start_is comes done =
+    whole base text rest start st (Ok None) reading start_is comes ∙ ap (λ (r : Result Expr Fault). located base (length text) (placed (length start) r)) done
 
 abbrev comes_so : (bs : List ℕ) (x : Lexed) (d : Bool) → next d bs ≡ Ok (Some x) → Comes bs (Ok (Some x))
 comes_so bs x d h = subst (Comes bs) h (next_comes d bs)

@@ -41,10 +41,10 @@ abbrev pub IsRead : Result Tree ExprFault → Expr → Type 0
 IsRead (Ok tree) e = view tree ≡ e
 IsRead (Err fault) e = OnlyMemory fault
 
--- A function answers what reading a text gives, unless memory ran out.
-abbrev pub Answers : Result Tree ExprFault → Result Expr Failure → Type 0
-Answers (Ok tree) reading = reading ≡ Ok (view tree)
-Answers (Err fault) reading = IfSome (fault_at fault) (λ x. reading ≡ Err x)
+-- What a function returned, seen by view, is what reading a text gives, unless memory ran out.
+abbrev pub Answers : {X A : Type 0} → (X → A) → Result X ExprFault → Result A Failure → Type 0
+Answers view (Ok x) reading = reading ≡ Ok (view x)
+Answers view (Err fault) reading = IfSome (fault_at fault) (λ x. reading ≡ Err x)
 
 -- What stands in an expression's text: more than 20,000 bytes, or the fault at its place.
 abbrev pub StandsIn : List ℕ → Failure → Type 0

@@ -1,6 +1,6 @@
 -- How a text is read: token by token, each taken by the machine. A fault comes with how much of the text
 -- is left from its place on.
-use Rattle.std.specs.Prelude.{ℕ, zero, suc, nat_lt, ◌-◌, if◌then◌else◌, Result, Ok, Err, Option, Some, None, List, [], length}
+use Rattle.std.specs.Prelude.{ℕ, zero, suc, nat_lt, ◌+◌, ◌-◌, if◌then◌else◌, Result, Ok, Err, Option, Some, None, List, [], length}
 use Rattle.expr_reader.specs.Expr.{Expr}
 use Rattle.expr_reader.specs.Lexer.{Lexed, skip_white, next}
 use Rattle.expr_reader.specs.Machine.{State, want, is_dotted, step, finish}
@@ -32,15 +32,15 @@ abbrev pub reads : ℕ → State → List ℕ → Result Expr Failure
 reads zero st bs = Err (TooLong, length bs)
 reads (suc n) st bs = after_token (reads n) st (length (skip_white bs)) (next (is_dotted st) bs)
 
--- The same, with a fault's place counted from the start of a text of so many bytes.
-abbrev pub located : ℕ → Result Expr Failure → Result Expr Failure
-located size (Ok e) = Ok e
-located size (Err x) = Err (x.0, size - x.1)
+-- The same, with a fault's place counted from base on, which is the place of a text of so many bytes.
+abbrev pub located : ℕ → ℕ → Result Expr Failure → Result Expr Failure
+located base size (Ok e) = Ok e
+located base size (Err x) = Err (x.0, base + (size - x.1))
 
 -- The tree of a text of any length.
-abbrev pub read_tokens : List ℕ → Result Expr Failure
-read_tokens text = located (length text) (reads (suc (length text)) (want []) text)
+abbrev pub read_tokens : ℕ → List ℕ → Result Expr Failure
+read_tokens base text = located base (length text) (reads (suc (length text)) (want []) text)
 
 -- The tree of a text within the limit; a longer one is too long from its byte 20,000 on.
-abbrev pub read_text : List ℕ → Result Expr Failure
-read_text text = if nat_lt 20000 (length text) then Err (TooLong, 20000) else read_tokens text
+abbrev pub read_text : ℕ → List ℕ → Result Expr Failure
+read_text base text = if nat_lt 20000 (length text) then Err (TooLong, base + 20000) else read_tokens base text

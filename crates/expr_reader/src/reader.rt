@@ -1,9 +1,9 @@
 //! Reads expressions.
 
-ghost use Rattle.std.specs.Prelude.{◌≡◌, ℕ, List, IfOk, IfErr};
+ghost use Rattle.std.specs.Prelude.{◌≡◌, ℕ, ◌+◌, ◌^◌, ◌<◌, List, length, IfOk, IfErr};
 ghost use Rattle.expr_reader.specs.Expr.{Expr};
 ghost use Rattle.expr_reader.specs.Faults.{fault_at, refused_at, Answers, IsRead, FaultStands};
-ghost use Rattle.expr_reader.specs.Reading.{read_tokens};
+ghost use Rattle.expr_reader.specs.Reading.{read_tokens, read_text};
 ghost use Rattle.expr_reader.specs.Spells.{Spells};
 ghost use Rattle.expr_reader.specs.View.{view};
 
@@ -45,15 +45,16 @@ fn placed(fault: Fault, place: usize) -> ExprFault
     }
 }
 
-// Reads an expression of any length.
-fn read_tokens(alloc: Global, text: &str) -> Result<Tree, ExprFault>
-    ensures { Answers result (read_tokens text.now) }
+// Reads an expression of any length, which begins at the place base.
+fn read_tokens(alloc: Global, text: &str, base: usize) -> Result<Tree, ExprFault>
+    requires { base + length text.now < 2 ^ 64 }
+    ensures { Answers view result (read_tokens base text.now) }
 {
     let mut machine = Machine::new(alloc);
     let mut rest = text;
     'tokens: loop {
         let (_, start) = split_run(rest, Class::White);
-        let place = text.len() - start.len();
+        let place = base + (text.len() - start.len());
         match next_token(alloc, start, machine.is_dotted()) {
             Err(refusal) => return Err(at(refusal, place)),
             Ok(None) => {
@@ -73,6 +74,17 @@ fn read_tokens(alloc: Global, text: &str) -> Result<Tree, ExprFault>
     }
 }
 
+/// Reads an expression, which begins at the place base of a longer text.
+pub(crate) fn read_at(alloc: Global, text: &str, base: usize) -> Result<Tree, ExprFault>
+    requires { base + length text.now < 2 ^ 64 }
+    ensures { Answers view result (read_text base text.now) }
+{
+    if text.len() > LONGEST {
+        return Err(ExprFault::TooLong(base + LONGEST));
+    }
+    read_tokens(alloc, text, base)
+}
+
 /// Reads an expression, of at most 20,000 bytes and with a tree that is at most 50 deep.
 ///
 /// GitHub Docs, "Evaluate expressions in workflows and actions". Numbers are whole, and names of contexts
@@ -89,10 +101,7 @@ pub fn read_expr(alloc: Global, text: &str) -> Result<Tree, ExprFault>
     ensures only { (e : Expr) → Spells e text.now → IsRead result e }
     ensures stands { IfErr result (λ fault. FaultStands text.now fault) }
 {
-    if text.len() > LONGEST {
-        return Err(ExprFault::TooLong(LONGEST));
-    }
-    read_tokens(alloc, text)
+    read_at(alloc, text, 0)
 }
 
 /// No text spells two expressions.
