@@ -12,3 +12,6 @@ mod Digits
 mod Utf8
 mod Loop
 mod Expressions
+mod MarkPlaces
+mod Templates
+mod PieceLoop

@@ -14,5 +14,9 @@ pub mod Spelling
 pub mod Spells
 pub mod Stack
 pub mod Stands
+pub mod Template
+pub mod TemplateReading
+pub mod TemplateStands
+pub mod TemplateView
 pub mod View
 pub mod Wrong
