@@ -13,5 +13,6 @@ mod Utf8
 mod Loop
 mod Expressions
 mod MarkPlaces
-mod Templates
+mod PieceLaws
 mod PieceLoop
+mod Conditions

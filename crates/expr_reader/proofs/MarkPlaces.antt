@@ -1,5 +1,5 @@
 -- Marks in a text.
-use Rattle.std.proofs.Common.{◌≡◌, ◌≢◌, ℕ, zero, suc, ◌+◌, ◌<◌, ◌≤◌, Bool, true, false, cond, not, ◌&&◌, ◌||◌, nat_eq, Option, Some, None, List, [], ◌∷◌, ◌++◌, length, get_or, take, drop, refl, sym, ap, subst, ◌∙◌, append-nil, length-append, arith}
+use Rattle.std.proofs.Common.{◌≡◌, ◌≢◌, ℕ, zero, suc, ◌+◌, ◌<◌, ◌≤◌, Bool, true, false, cond, not, ◌&&◌, ◌||◌, nat_eq, nat_lt, Option, Some, None, List, [], ◌∷◌, ◌++◌, length, get_or, take, drop, refl, sym, ap, subst, ◌∙◌, append-nil, length-append, arith}
 use Rattle.std.proofs.Math.Seq.{drop-cons, drop-append_seam}
 use Rattle.std.proofs.lemmas.Bool.{cond-true, cond-false, eqb-true, eq-eqb}
 use Rattle.std.proofs.lemmas.Bool.Decides.{nat_tests}
@@ -228,3 +228,12 @@ end_past bs rest n at utf8 h =
 pub mark_cut : (bs : List ℕ) → IsUtf8 bs → begins_mark bs ≡ true → IsCharBoundary bs 3
 mark_cut bs utf8 h =
     subst (λ (z : List ℕ). IsUtf8 z → IsCharBoundary z 3) (sym (mark_front bs h)) (λ u. IsCharBoundary-after_ascii (36 ∷ 123 ∷ 123 ∷ drop 3 bs) 2 u (omega arith) (omega arith)) utf8
+
+has_mark_by : (t : Bool) (n m : ℕ) (h : Bool) → h ≡ nat_lt n m → (t || h) ≡ nat_lt (cond t 0 (suc n)) (suc m)
+has_mark_by true n m h e = let test : nat_lt 0 (suc m) ≡ true = grind (arith, nat_tests) in sym test
+has_mark_by false n m h e = e ∙ grind (arith, nat_tests)
+
+-- Some mark stands in a text where the first is before the end.
+pub has_mark_by_place : (bs : List ℕ) → has_mark bs ≡ nat_lt (mark_place bs) (length bs)
+has_mark_by_place [] = refl
+has_mark_by_place (b ∷ bs) = has_mark_by (begins_mark (b ∷ bs)) (mark_place bs) (length bs) (has_mark bs) (has_mark_by_place bs)

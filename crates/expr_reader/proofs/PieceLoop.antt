@@ -8,7 +8,7 @@ use Rattle.expr_reader.specs.Template.{Piece, plain, marked, begins_mark, end_pl
 use Rattle.expr_reader.specs.TemplateReading.{mark_place, inside_piece, marked_at, piece_at, with_pieces, after_piece, pieces_of, read_pieces}
 use Rattle.expr_reader.specs.TemplateView.{piece_of}
 use Rattle.expr_reader.specs.declared.template.Piece as piece
-use Rattle.expr_reader.proofs.Templates.{piece_shorter, same_pieces}
+use Rattle.expr_reader.proofs.PieceLaws.{piece_shorter, same_pieces}
 
 -- The pieces so far and those of the rest are the whole text's.
 pub record IsGathering (size : ℕ) (text rest : List ℕ) (done : List Piece) : Type 0 where

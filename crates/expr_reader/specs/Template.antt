@@ -1,7 +1,8 @@
 -- Texts with expressions in them.
-use Rattle.std.specs.Prelude.{◌≡◌, ◌≢◌, ℕ, suc, ◌≤◌, Bool, true, false, not, ◌&&◌, ◌||◌, ◌==◌, nat_eq, if◌then◌else◌, Option, Some, None, List, [], ◌∷◌, ◌++◌, length, reverse, codes}
-use Rattle.std.specs.List.{list_any, starts_with}
+use Rattle.std.specs.Prelude.{◌≡◌, ◌≢◌, ℕ, suc, ◌≤◌, Bool, true, false, not, ◌&&◌, ◌||◌, ◌==◌, nat_eq, if◌then◌else◌, Option, Some, None, List, [], ◌∷◌, ◌++◌, length, take, ◌-◌, codes}
+use Rattle.std.specs.List.{list_any, starts_with, suffix_len}
 use Rattle.std.specs.Option.{option_map}
+use Rattle.expr_reader.specs.Bytes.{is_white}
 use Rattle.expr_reader.specs.Expr.{Expr, Exprs, literal, context, call, group, property, index, wildcard, opposite, relation, equality, both, either, none, more}
 use Rattle.expr_reader.specs.Lexer.{skip_white}
 use Rattle.expr_reader.specs.Spells.{Spells}
@@ -112,9 +113,13 @@ pub record SpellsTemplate (ps : List Piece) (text : List ℕ) : Type 0 where
 abbrev pub IsTemplate : List ℕ → Type 0
 IsTemplate text = (ps : List Piece) × SpellsTemplate ps text
 
--- The text without the white space at its ends.
+-- The text without the white space at its end.
+abbrev pub trimmed_end : List ℕ → List ℕ
+trimmed_end text = take (length text - suffix_len is_white text) text
+
+-- The text without the white space at its start and its end.
 abbrev pub trimmed : List ℕ → List ℕ
-trimmed text = reverse (skip_white (reverse (skip_white text)))
+trimmed text = trimmed_end (skip_white text)
 
 -- A condition without ${{ is one expression, with it a template that may name status functions.
 abbrev pub SpellsTrimmed : Bool → List Piece → List ℕ → Type 0

@@ -1,8 +1,8 @@
 -- How a template is read: piece by piece. The places of faults are counted back from the end's place.
-use Rattle.std.specs.Prelude.{ℕ, zero, suc, ◌+◌, ◌-◌, Bool, true, false, if◌then◌else◌, Option, Some, None, Result, Ok, Err, List, [], ◌∷◌, ◌++◌, length, take, drop}
+use Rattle.std.specs.Prelude.{ℕ, zero, suc, ◌+◌, ◌-◌, Bool, true, false, nat_lt, if◌then◌else◌, Option, Some, None, Result, Ok, Err, List, [], ◌∷◌, ◌++◌, length, take, drop}
 use Rattle.expr_reader.specs.Expr.{Expr}
 use Rattle.expr_reader.specs.Reading.{Failure, read_text}
-use Rattle.expr_reader.specs.Template.{Piece, plain, marked, begins_mark, end_place}
+use Rattle.expr_reader.specs.Template.{Piece, plain, marked, begins_mark, has_mark, end_place}
 use Rattle.expr_reader.specs.declared.fault.Fault.TheVariants.{TooLong, UnclosedTemplate}
 
 -- How many bytes stand before the first ${{, or before the end.
@@ -41,3 +41,15 @@ pieces_of (suc n) size (b ∷ bs) = after_piece (pieces_of n size) (piece_at siz
 -- The pieces of a whole text that ends at a place.
 abbrev pub read_pieces : ℕ → List ℕ → Result (List Piece) Failure
 read_pieces size text = pieces_of (suc (length text)) size text
+
+abbrev pub one_piece : Result Expr Failure → Result (List Piece) Failure
+one_piece (Ok e) = Ok (marked e ∷ [])
+one_piece (Err x) = Err x
+
+-- A condition without white space at its ends that begins at a place: a template, or one expression.
+abbrev pub trimmed_by : Bool → ℕ → List ℕ → Result (List Piece) Failure
+trimmed_by true base text = if nat_lt 1048576 (length text) then Err (TooLong, base + 1048576) else read_pieces (base + length text) text
+trimmed_by false base text = one_piece (read_text base text)
+
+abbrev pub read_trimmed : ℕ → List ℕ → Result (List Piece) Failure
+read_trimmed base text = trimmed_by (has_mark text) base text

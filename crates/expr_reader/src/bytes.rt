@@ -1,10 +1,11 @@
 //! The bytes that tokens are made of.
 
 ghost use Rattle.std.specs.Prelude.{◌≡◌, take, drop};
-ghost use Rattle.std.specs.List.{prefix_len};
+ghost use Rattle.std.specs.List.{prefix_len, suffix_len};
 ghost use Rattle.std.specs.Str.{IsCharBoundary};
-ghost use Rattle.expr_reader.specs.Bytes.{begins_name as begins_name_of, begins_number as begins_number_of};
+ghost use Rattle.expr_reader.specs.Bytes.{is_white, begins_name as begins_name_of, begins_number as begins_number_of};
 ghost use Rattle.expr_reader.specs.Class.{in_class};
+ghost use Rattle.expr_reader.specs.Template.{trimmed_end};
 
 /// Bytes that go on in a run.
 #[derive(Clone, Copy, Debug, PartialEq, Eq)]
@@ -58,4 +59,21 @@ pub(crate) fn split_run(text: &str, class: Class) -> (&str, &str)
 {
     let length = run_length(text.as_bytes(), class);
     text.split_at(length)
+}
+
+// How many bytes at the end are white.
+fn white_end(bytes: &[u8]) -> usize
+    ensures { result ≡ suffix_len is_white bytes.now }
+{
+    bytes.iter().rev().take_while(|byte| Class::White.contains(**byte)).count()
+}
+
+/// The text without the white space at its end.
+#[tactic(auto, using(crate::proofs::Boundaries::white_end_boundary, crate::proofs::Boundaries::white_end_short))]
+pub(crate) fn trim_end(text: &str) -> &str
+    ensures { result.now ≡ trimmed_end text.now }
+{
+    let length = white_end(text.as_bytes());
+    let (trimmed, _) = text.split_at(text.len() - length);
+    trimmed
 }

@@ -14,6 +14,7 @@ mod pieces;
 mod reader;
 mod status;
 mod template;
+mod templates;
 mod token;
 mod tree;
 
@@ -22,4 +23,5 @@ pub use folding::{fold, same_text};
 pub use reader::{one_reading, read_expr};
 pub use status::names_status;
 pub use template::{Piece, Template};
+pub use templates::{read_condition, read_template};
 pub use tree::{Context, Equality, Function, Literal, Relation, Tree, Wildcard};

@@ -1,7 +1,7 @@
 //! The marks of expressions in a text.
 
 ghost use Rattle.std.specs.Prelude.{◌≡◌, ℕ, Bool, false, MatchOption, length, ◌≤◌, take, drop, None, Some, ◌+◌};
-ghost use Rattle.expr_reader.specs.Template.{begins_mark as begins_mark_of, begins_end as begins_end_of, open_after as open_after_of, end_place as end_place_of};
+ghost use Rattle.expr_reader.specs.Template.{begins_mark as begins_mark_of, begins_end as begins_end_of, open_after as open_after_of, has_mark as has_mark_of, end_place as end_place_of};
 ghost use Rattle.expr_reader.specs.TemplateReading.{mark_place as mark_place_of};
 
 /// Whether `${{` stands at the front.
@@ -59,6 +59,14 @@ fn end_place(bytes: &[u8]) -> Option<usize>
         quoted = open_after(quoted, *byte);
     }
     None
+}
+
+/// Whether `${{` stands anywhere.
+#[tactic(auto, using(crate::proofs::MarkPlaces::has_mark_by_place))]
+pub(crate) fn has_mark(text: &str) -> bool
+    ensures { result ≡ has_mark_of text.now }
+{
+    mark_place(text.as_bytes()) < text.len()
 }
 
 /// The text before the first `${{`, and the rest from it on.

@@ -1,15 +1,17 @@
 //! Reads the pieces of a text.
 
-ghost use Rattle.std.specs.Prelude.{◌≡◌, ◌≤◌, ◌<◌, length, true, ◌∷◌, ◌++◌, [], OnOk, IfErr};
+ghost use Rattle.std.specs.Prelude.{◌≡◌, ◌≤◌, ◌<◌, length, true, ◌∷◌, ◌++◌, [], OnOk, IfOk, IfErr};
 ghost use Rattle.expr_reader.specs.Faults.{Answers, OnlyMemory};
-ghost use Rattle.expr_reader.specs.Template.{begins_mark as begins_mark_of};
+ghost use Rattle.expr_reader.specs.Template.{begins_mark as begins_mark_of, marked};
 ghost use Rattle.expr_reader.specs.TemplateReading.{piece_at, read_pieces as read_pieces_of};
-ghost use Rattle.expr_reader.specs.TemplateView.{piece_of, pieces_of_vec, piece_and_rest};
+ghost use Rattle.expr_reader.specs.View.{view};
+ghost use Rattle.expr_reader.specs.TemplateView.{piece_of, pieces_of_vec, template_of, piece_and_rest};
 
 use crate::fault::ExprFault;
 use crate::marks::{begins_mark, split_end, split_mark};
 use crate::reader::read_at;
-use crate::template::Piece;
+use crate::template::{Piece, Template};
+use crate::tree::Tree;
 use std::alloc::Global;
 
 // The piece that a text begins with, and the rest. The text's end has the place size.
@@ -72,4 +74,14 @@ pub(crate) fn read_pieces(alloc: Global, text: &str, size: usize) -> Result<Vec<
         }
     }
     Ok(pieces)
+}
+
+/// The template of one expression, at a place.
+pub(crate) fn single(alloc: Global, tree: Tree, place: usize) -> Result<Template, ExprFault>
+    ensures ok { IfOk result (λ template. template_of template ≡ marked (view tree) ∷ []) }
+    ensures err { IfErr result OnlyMemory }
+{
+    let mut pieces = Vec::new(alloc);
+    push(&mut pieces, Piece::Expression(tree), place)?;
+    Ok(Template { pieces })
 }
