@@ -25,3 +25,6 @@ pub use status::names_status;
 pub use template::{Piece, Template};
 pub use templates::{read_condition, read_template};
 pub use tree::{Context, Equality, Function, Literal, Relation, Tree, Wildcard};
+
+#[cfg(test)]
+mod tests;
