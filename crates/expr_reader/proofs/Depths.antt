@@ -1,5 +1,5 @@
 -- Trees with one more at the end.
-use Rattle.std.proofs.Common.{◌≡◌, ◌≢◌, Err, ℕ, ◌≤◌, max, List, [], ◌∷◌, ◌++◌, map, length, suc, refl, ap, ◌∙◌, arith}
+use Rattle.std.proofs.Common.{◌≡◌, ◌≢◌, Err, max, List, [], ◌∷◌, ◌++◌, length, suc, refl, ap, ◌∙◌, arith}
 use Rattle.expr_reader.specs.Expr.{exprs_of, count, depth, deepest}
 use Rattle.expr_reader.specs.Machine.{Part, call_of, end_empty}
 use Rattle.expr_reader.specs.declared.fault.Fault.TheVariants.{Unexpected}

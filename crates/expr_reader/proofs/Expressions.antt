@@ -1,9 +1,9 @@
 -- What reading a whole text gives, in the words of its spelling.
-use Rattle.std.proofs.Common.{◌≡◌, ℕ, suc, ◌+◌, ◌-◌, ◌<◌, ◌≤◌, Bool, true, false, cond, nat_lt, Result, Ok, Err, Option, Some, None, IfOk, IfErr, IfSome, List, [], ◌∷◌, ◌++◌, length, refl, sym, ap, subst, ◌∙◌, length-append, arith}
+use Rattle.std.proofs.Common.{◌≡◌, ℕ, suc, ◌+◌, ◌-◌, ◌≤◌, Bool, true, false, cond, nat_lt, Result, Ok, Err, Option, Some, None, IfOk, IfErr, IfSome, List, [], ◌∷◌, length, refl, sym, ap, subst, ◌∙◌, length-append, arith}
 use Rattle.std.proofs.lemmas.Bool.{cond-false, le-ltb, ltb-true, ltb-false}
 use Rattle.expr_reader.specs.Expr.{Expr}
-use Rattle.expr_reader.specs.Faults.{fault_at, OnlyMemory, IsRead, Answers, StandsIn, FaultStands}
-use Rattle.expr_reader.specs.Grammar.{Token, tokens}
+use Rattle.expr_reader.specs.Faults.{fault_at, IsRead, Answers, StandsIn, FaultStands}
+use Rattle.expr_reader.specs.Grammar.{Token}
 use Rattle.expr_reader.specs.Machine.{want}
 use Rattle.expr_reader.specs.Reading.{Failure, reads, located, read_tokens, read_text}
 use Rattle.expr_reader.specs.Spelling.{Lexes}
@@ -69,9 +69,12 @@ stands_by base text x (Ok d) gets h = cc
 stands_by base text x (Err y) gets h =
     let same : (y.0, base + (length text - y.1)) ≡ x = cc in
     let place = leads_short text gets.0 gets.1 gets.2 in
-    subst (StandsFrom base text) same
-      (length text - y.1, no_limit y.0 gets.0 gets.1 text (length text - y.1) gets.4
-        (record { before = gets.0; rest = gets.1; leads = gets.2; here = omega (arith, place, gets.3); stands = gets.4 }), refl)
+    subst (StandsFrom base text) same (
+      length text - y.1,
+      no_limit y.0 gets.0 gets.1 text (length text - y.1) gets.4
+          (record { before = gets.0; rest = gets.1; leads = gets.2; here = omega (arith, place, gets.3); stands = gets.4 }),
+      refl,
+    )
 
 limit_stands : (base : ℕ) (text : List ℕ) (x : Failure) (t : Bool) → nat_lt 20000 (length text) ≡ t → cond t (Err (TooLong, base + 20000)) (read_tokens base text) ≡ Err x → StandsFrom base text x
 limit_stands base text x true test h =

@@ -1,5 +1,5 @@
 -- The next token, there and back.
-use Rattle.std.proofs.Common.{◌≡◌, ◌≢◌, ℕ, suc, ◌+◌, ◌<◌, ◌≤◌, ℤ, Bool, true, false, cond, nat_eq, Result, Ok, Err, Option, Some, None, List, [], ◌∷◌, ◌++◌, length, take, drop, refl, sym, ap, subst, ◌∙◌, length-append, append-nil, arith}
+use Rattle.std.proofs.Common.{◌≡◌, ℕ, suc, ◌+◌, ◌<◌, ◌≤◌, ℤ, Bool, true, false, cond, nat_eq, Result, Ok, Err, Option, Some, None, List, [], ◌∷◌, ◌++◌, length, take, drop, refl, sym, ap, subst, ◌∙◌, append-nil, arith}
 use Rattle.std.proofs.Math.Seq.{drop-append_seam}
 use Rattle.std.proofs.lemmas.Bool.{cond-true, cond-false, eqb-true, eq-eqb}
 use Rattle.std.proofs.lemmas.Bool.Decides.{nat_tests}
@@ -7,24 +7,19 @@ use Rattle.std.proofs.lemmas.List.{take-append-drop}
 use Rattle.std.specs.List.{prefix_len}
 use Rattle.std.specs.Prelude.{codes}
 use Rattle.expr_reader.specs.Bytes.{is_white, begins_name, is_name, begins_number, is_number, is_byte, IsRun, Stops, IsWord, IsNumeral}
-use Rattle.expr_reader.specs.Expr.{Constant, null, truth, whole, quoted}
-use Rattle.expr_reader.specs.Fold.{fold}
+use Rattle.expr_reader.specs.Expr.{null, truth, whole, quoted}
 use Rattle.expr_reader.specs.Grammar.{Token, constant, root, callee, name, relational, equational, mark}
-use Rattle.expr_reader.specs.Lexer.{Lexed, skip_white, with_front, unquoted, quoted_token, number_token, number_at, named, begins_call, known_token, word_token, word_at, paired, followed, operator_at, token_at, some_token, next_at, next}
-use Rattle.expr_reader.specs.Names.{context_name, function_name}
+use Rattle.expr_reader.specs.Lexer.{Lexed, skip_white, unquoted, quoted_token, number_token, number_at, named, begins_call, known_token, word_token, word_at, paired, followed, operator_at, token_at, some_token, next_at, next}
 use Rattle.expr_reader.specs.Number.{number_of}
-use Rattle.expr_reader.specs.Spelling.{doubled, SpellsToken, EndsToken, Begins, Lexes}
-use Rattle.expr_reader.specs.Wrong.{IsUnclosed, IsNoNumber, IsNoToken, IsUnknown, IsNoName, IsNoFunction, Blocks}
+use Rattle.expr_reader.specs.Spelling.{doubled, SpellsToken, EndsToken, Begins}
+use Rattle.expr_reader.specs.Wrong.{IsNoToken, IsUnknown, Blocks}
 use Rattle.expr_reader.specs.declared.fault.Fault.{Fault}
-use Rattle.expr_reader.specs.declared.fault.Fault.TheVariants.{UnclosedText, BadNumber, BadChar, UnknownName, UnknownFunction}
-use Rattle.expr_reader.specs.declared.token.Mark.{Mark}
+use Rattle.expr_reader.specs.declared.fault.Fault.TheVariants.{BadChar, UnknownName, UnknownFunction}
 use Rattle.expr_reader.specs.declared.token.Mark.TheVariants.{Open, Close, OpenIndex, CloseIndex, Dot, Comma, Star, Not, Both, Either}
-use Rattle.expr_reader.specs.declared.tree.Context.{Context}
 use Rattle.expr_reader.specs.declared.tree.Equality.TheVariants.{Equal, NotEqual}
-use Rattle.expr_reader.specs.declared.tree.Function.{Function}
 use Rattle.expr_reader.specs.declared.tree.Relation.TheVariants.{Less, AtMost, Greater, AtLeast}
 use Rattle.expr_reader.proofs.Quoted.{QuoteComes, unquoted_again, unquoted_comes}
-use Rattle.expr_reader.proofs.Runs.{if_holds, run_head, run_cons, stops_head, head_stops, span, span_take, span_drop, Spans, spans}
+use Rattle.expr_reader.proofs.Runs.{if_holds, run_cons, stops_head, head_stops, span_take, span_drop, spans}
 use Rattle.expr_reader.proofs.Words.{root_again, callee_again, NameComes, named_comes}
 
 -- Bytes of one class are of no other.
@@ -55,11 +50,11 @@ word_again dotted [] rest word ends = absurd word
 word_again dotted (b ∷ bs) rest word ends =
     let all : List ℕ = b ∷ (bs ++ rest) in
     ap some_token
-      (cond-false (nat_eq b 39) (quoted_token (unquoted (bs ++ rest))) (cond (begins_number b) (number_at all) (cond (begins_name b) (word_at dotted all) (operator_at b (bs ++ rest)))) (name_is_no_quote b word.0)
-      ∙ cond-false (begins_number b) (number_at all) (cond (begins_name b) (word_at dotted all) (operator_at b (bs ++ rest))) (name_is_no_number b word.0)
-      ∙ cond-true (begins_name b) (word_at dotted all) (operator_at b (bs ++ rest)) word.0
-      ∙ ap (λ (z : List ℕ). word_token dotted z (drop (prefix_len is_name all) all)) (span_take is_name (b ∷ bs) rest word.1 ends)
-      ∙ ap (λ (z : List ℕ). word_token dotted (b ∷ bs) z) (span_drop is_name (b ∷ bs) rest word.1 ends))
+    (cond-false (nat_eq b 39) (quoted_token (unquoted (bs ++ rest))) (cond (begins_number b) (number_at all) (cond (begins_name b) (word_at dotted all) (operator_at b (bs ++ rest)))) (name_is_no_quote b word.0)
+    ∙ cond-false (begins_number b) (number_at all) (cond (begins_name b) (word_at dotted all) (operator_at b (bs ++ rest))) (name_is_no_number b word.0)
+    ∙ cond-true (begins_name b) (word_at dotted all) (operator_at b (bs ++ rest)) word.0
+    ∙ ap (λ (z : List ℕ). word_token dotted z (drop (prefix_len is_name all) all)) (span_take is_name (b ∷ bs) rest word.1 ends)
+    ∙ ap (λ (z : List ℕ). word_token dotted (b ∷ bs) z) (span_drop is_name (b ∷ bs) rest word.1 ends))
 
 -- A number at the front.
 number_again : (dotted : Bool) (w rest : List ℕ) → IsNumeral w → Stops is_number rest → next_at dotted (w ++ rest) ≡ some_token (number_token (number_of w) rest)
@@ -67,10 +62,10 @@ number_again dotted [] rest numeral ends = absurd numeral
 number_again dotted (b ∷ bs) rest numeral ends =
     let all : List ℕ = b ∷ (bs ++ rest) in
     ap some_token
-      (cond-false (nat_eq b 39) (quoted_token (unquoted (bs ++ rest))) (cond (begins_number b) (number_at all) (cond (begins_name b) (word_at dotted all) (operator_at b (bs ++ rest)))) (number_is_no_quote b numeral.0)
-      ∙ cond-true (begins_number b) (number_at all) (cond (begins_name b) (word_at dotted all) (operator_at b (bs ++ rest))) numeral.0
-      ∙ ap (λ (z : List ℕ). number_token (number_of z) (drop (prefix_len is_number all) all)) (span_take is_number (b ∷ bs) rest numeral.1 ends)
-      ∙ ap (λ (z : List ℕ). number_token (number_of (b ∷ bs)) z) (span_drop is_number (b ∷ bs) rest numeral.1 ends))
+    (cond-false (nat_eq b 39) (quoted_token (unquoted (bs ++ rest))) (cond (begins_number b) (number_at all) (cond (begins_name b) (word_at dotted all) (operator_at b (bs ++ rest)))) (number_is_no_quote b numeral.0)
+    ∙ cond-true (begins_number b) (number_at all) (cond (begins_name b) (word_at dotted all) (operator_at b (bs ++ rest))) numeral.0
+    ∙ ap (λ (z : List ℕ). number_token (number_of z) (drop (prefix_len is_number all) all)) (span_take is_number (b ∷ bs) rest numeral.1 ends)
+    ∙ ap (λ (z : List ℕ). number_token (number_of (b ∷ bs)) z) (span_drop is_number (b ∷ bs) rest numeral.1 ends))
 
 -- What comes after a dot is a name, and only there.
 abbrev pub Agrees : Bool → Token → Type 0
@@ -182,17 +177,26 @@ unknown_word : (w : List ℕ) → named w ≡ None → IsUnknown w
 unknown_word w none = record {
   no_context = λ c h. cc (root_again c w h);
   no_function = λ f h. cc (callee_again f w h);
-  no_literal = (λ h. is_known (codes "null") (constant null) h refl, λ h. is_known (codes "true") (constant (truth true)) h refl, λ h. is_known (codes "false") (constant (truth false)) h refl) }
+  no_literal = (λ h. is_known (codes "null") (constant null) h refl, λ h. is_known (codes "true") (constant (truth true)) h refl, λ h. is_known (codes "false") (constant (truth false)) h refl);
+}
   where
-  is_known : (v : List ℕ) (t : Token) → w ≡ v → named v ≡ Some t → ⊥
-  is_known v t h known = cc (ap named h, known, none)
+    is_known : (v : List ℕ) (t : Token) → w ≡ v → named v ≡ Some t → ⊥
+    is_known v t h known = cc (ap named h, known, none)
 
 -- A parenthesis follows, or none does.
 call_follows : (rest bs : List ℕ) → skip_white rest ≡ bs → begins_call bs ≡ true → (after : List ℕ) × Begins rest (mark Open) after
 call_follows rest [] at h = cc
-call_follows rest (b ∷ bs) at h =
-    (bs, record { white = take (prefix_len is_white rest) rest; own = 40 ∷ []; blank = (spans is_white rest).run; spelled = refl; ends = tt;
-      same = sym (take-append-drop (prefix_len is_white rest) rest) ∙ ap (λ (z : List ℕ). take (prefix_len is_white rest) rest ++ z) (at ∙ ap (λ (c : ℕ). c ∷ bs) (eqb-true b 40 h)) })
+call_follows rest (b ∷ bs) at h = (
+  bs,
+  record {
+    white = take (prefix_len is_white rest) rest;
+    own = 40 ∷ [];
+    blank = (spans is_white rest).run;
+    spelled = refl;
+    ends = tt;
+    same = sym (take-append-drop (prefix_len is_white rest) rest) ∙ ap (λ (z : List ℕ). take (prefix_len is_white rest) rest ++ z) (at ∙ ap (λ (c : ℕ). c ∷ bs) (eqb-true b 40 h));
+  },
+)
 
 no_call_follows : (rest : List ℕ) → begins_call (skip_white rest) ≡ false → (after : List ℕ) → Begins rest (mark Open) after → ⊥
 no_call_follows rest h after b =
@@ -274,15 +278,19 @@ agrees_so (mark m) = tt
 -- Bytes that begin no token whether a dot stands before or not.
 no_operator : (b : ℕ) (bs : List ℕ) → is_white b ≡ false → nat_eq b 39 ≡ false → begins_number b ≡ false → begins_name b ≡ false → operator_at b bs ≡ Err BadChar → IsNoToken (b ∷ bs)
 no_operator b bs white quote number word none = record {
-  first = b; after = bs; same = refl;
+  first = b;
+  after = bs;
+  same = refl;
   no_quote = λ h. cc (eq-eqb b 39 h, quote);
-  no_number = number; no_name = word;
-  no_token = λ t rest begins. cc (blocked (dotted_for t), next_again (dotted_for t) (b ∷ bs) t rest begins (agrees_so t)) }
+  no_number = number;
+  no_name = word;
+  no_token = λ t rest begins. cc (blocked (dotted_for t), next_again (dotted_for t) (b ∷ bs) t rest begins (agrees_so t));
+}
   where
-  blocked : (dotted : Bool) → next dotted (b ∷ bs) ≡ Err BadChar
-  blocked dotted =
-      ap (λ (n : ℕ). next_at dotted (drop n (b ∷ bs))) (stops_head is_white b bs white)
-      ∙ ap some_token
+    blocked : (dotted : Bool) → next dotted (b ∷ bs) ≡ Err BadChar
+    blocked dotted =
+        ap (λ (n : ℕ). next_at dotted (drop n (b ∷ bs))) (stops_head is_white b bs white)
+        ∙ ap some_token
         (cond-false (nat_eq b 39) (quoted_token (unquoted bs)) (cond (begins_number b) (number_at (b ∷ bs)) (cond (begins_name b) (word_at dotted (b ∷ bs)) (operator_at b bs))) quote
         ∙ cond-false (begins_number b) (number_at (b ∷ bs)) (cond (begins_name b) (word_at dotted (b ∷ bs)) (operator_at b bs)) number
         ∙ cond-false (begins_name b) (word_at dotted (b ∷ bs)) (operator_at b bs) word
@@ -297,10 +305,10 @@ token_comes dotted b bs white =
     if_holds (TokenComes (b ∷ bs)) (nat_eq b 39) (quoted_token (unquoted bs)) (cond (begins_number b) (number_at (b ∷ bs)) (cond (begins_name b) (word_at dotted (b ∷ bs)) (operator_at b bs)))
     (λ quote. subst (λ (c : ℕ). TokenComes (c ∷ bs) (quoted_token (unquoted bs))) (sym (eqb-true b 39 quote)) (quote_comes bs (unquoted bs) refl (unquoted_comes bs)))
     (λ quote. if_holds (TokenComes (b ∷ bs)) (begins_number b) (number_at (b ∷ bs)) (cond (begins_name b) (word_at dotted (b ∷ bs)) (operator_at b bs))
-      (λ number. number_comes (b ∷ bs) (take (prefix_len is_number (b ∷ bs)) (b ∷ bs)) (drop (prefix_len is_number (b ∷ bs)) (b ∷ bs)) (number_of (take (prefix_len is_number (b ∷ bs)) (b ∷ bs))) (numeral_front b bs number) (spans is_number (b ∷ bs)).stops (sym (take-append-drop (prefix_len is_number (b ∷ bs)) (b ∷ bs))) refl)
-      (λ number. if_holds (TokenComes (b ∷ bs)) (begins_name b) (word_at dotted (b ∷ bs)) (operator_at b bs)
-        (λ word. word_comes dotted (b ∷ bs) (take (prefix_len is_name (b ∷ bs)) (b ∷ bs)) (drop (prefix_len is_name (b ∷ bs)) (b ∷ bs)) (name_front b bs word) (spans is_name (b ∷ bs)).stops (sym (take-append-drop (prefix_len is_name (b ∷ bs)) (b ∷ bs))))
-        (λ word. operator_blocks b bs (operator_at b bs) white quote number word refl (operator_comes b bs))))
+    (λ number. number_comes (b ∷ bs) (take (prefix_len is_number (b ∷ bs)) (b ∷ bs)) (drop (prefix_len is_number (b ∷ bs)) (b ∷ bs)) (number_of (take (prefix_len is_number (b ∷ bs)) (b ∷ bs))) (numeral_front b bs number) (spans is_number (b ∷ bs)).stops (sym (take-append-drop (prefix_len is_number (b ∷ bs)) (b ∷ bs))) refl)
+    (λ number. if_holds (TokenComes (b ∷ bs)) (begins_name b) (word_at dotted (b ∷ bs)) (operator_at b bs)
+    (λ word. word_comes dotted (b ∷ bs) (take (prefix_len is_name (b ∷ bs)) (b ∷ bs)) (drop (prefix_len is_name (b ∷ bs)) (b ∷ bs)) (name_front b bs word) (spans is_name (b ∷ bs)).stops (sym (take-append-drop (prefix_len is_name (b ∷ bs)) (b ∷ bs))))
+    (λ word. operator_blocks b bs (operator_at b bs) white quote number word refl (operator_comes b bs))))
 
 -- What comes next: the end, a token that the text begins with, or what stands in its place.
 abbrev pub Comes : List ℕ → Result (Option Lexed) Fault → Type 0
@@ -315,7 +323,8 @@ some_comes text bs (Ok x) at h = record {
   blank = (spans is_white text).run;
   spelled = h.1;
   ends = h.2;
-  same = sym (take-append-drop (prefix_len is_white text) text) ∙ ap (λ (z : List ℕ). take (prefix_len is_white text) text ++ z) (at ∙ h.3) }
+  same = sym (take-append-drop (prefix_len is_white text) text) ∙ ap (λ (z : List ℕ). take (prefix_len is_white text) text ++ z) (at ∙ h.3);
+}
 some_comes text bs (Err f) at h = subst (λ (z : List ℕ). Blocks z f) (sym at) h
 
 comes_at : (dotted : Bool) (text bs : List ℕ) → skip_white text ≡ bs → Stops is_white bs → Comes text (next_at dotted bs)
@@ -339,5 +348,5 @@ followed_by_none c t (b ∷ bs) h = cond-false (nat_eq b c) (Ok (t, bs)) (Err Ba
 pub no_operator_above : (b : ℕ) (bs : List ℕ) → 128 ≤ b → operator_at b bs ≡ Err BadChar
 no_operator_above b bs h = other 40 _ _ (omega arith) ∙ other 41 _ _ (omega arith) ∙ other 91 _ _ (omega arith) ∙ other 93 _ _ (omega arith) ∙ other 46 _ _ (omega arith) ∙ other 44 _ _ (omega arith) ∙ other 42 _ _ (omega arith) ∙ other 33 _ _ (omega arith) ∙ other 60 _ _ (omega arith) ∙ other 62 _ _ (omega arith) ∙ other 61 _ _ (omega arith) ∙ other 38 _ _ (omega arith) ∙ other 124 _ _ (omega arith)
   where
-  other : (c : ℕ) (x y : Result Lexed Fault) → c < 128 → cond (nat_eq b c) x y ≡ y
-  other c x y low = let test : nat_eq b c ≡ false = grind (arith, nat_tests) in cond-false (nat_eq b c) x y test
+    other : (c : ℕ) (x y : Result Lexed Fault) → c < 128 → cond (nat_eq b c) x y ≡ y
+    other c x y low = let test : nat_eq b c ≡ false = grind (arith, nat_tests) in cond-false (nat_eq b c) x y test

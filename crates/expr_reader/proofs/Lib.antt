@@ -16,3 +16,4 @@ mod MarkPlaces
 mod PieceLaws
 mod PieceLoop
 mod Conditions
+mod Accepts

@@ -1,7 +1,6 @@
 -- Reading a text token by token.
-use Rattle.std.proofs.Common.{◌≡◌, ℕ, zero, suc, ◌+◌, ◌-◌, ◌<◌, ◌≤◌, Bool, Result, Ok, Err, Option, Some, None, IfSome, List, [], ◌∷◌, ◌++◌, length, refl, sym, ap, subst, ◌∙◌, arith}
+use Rattle.std.proofs.Common.{◌≡◌, ℕ, zero, suc, ◌+◌, ◌-◌, ◌<◌, ◌≤◌, Bool, Result, Ok, Err, Option, Some, None, IfSome, List, [], length, refl, sym, ap, subst, ◌∙◌, arith}
 use Rattle.expr_reader.specs.Expr.{Expr}
-use Rattle.expr_reader.specs.Grammar.{Token}
 use Rattle.expr_reader.specs.Faults.{fault_at, refused_at}
 use Rattle.expr_reader.specs.Lexer.{Lexed, skip_white, next_at, next}
 use Rattle.expr_reader.specs.Machine.{State, want, is_dotted, step, finish}
@@ -68,14 +67,14 @@ pub step_refused : (base : ℕ) (text rest start : List ℕ) (st : State) (x : L
 step_refused base text rest start st x why e reading start_is comes at fails =
     given base text e why (base + (length text - length start)) at
     (λ f h. whole base text rest start st (Ok (Some x)) reading start_is comes
-      ∙ ap (λ (r : Result State Fault). located base (length text) (after_step (reads (length rest)) (length start) x.1 r)) (fails_so why f (step st x.0) h fails))
+    ∙ ap (λ (r : Result State Fault). located base (length text) (after_step (reads (length rest)) (length start) x.1 r)) (fails_so why f (step st x.0) h fails))
 
 -- The end comes too early.
 pub end_refused : (base : ℕ) (text rest start : List ℕ) (st : State) (why : Refusal) (e : ExprFault) → IsReading text rest st → start ≡ skip_white rest → next_at (is_dotted st) start ≡ Ok None → fault_at e ≡ refused_at why (base + (length text - length start)) → Fails why (finish st) → IfSome (fault_at e) (λ x. read_tokens base text ≡ Err x)
 end_refused base text rest start st why e reading start_is comes at fails =
     given base text e why (base + (length text - length start)) at
     (λ f h. whole base text rest start st (Ok None) reading start_is comes
-      ∙ ap (λ (r : Result Expr Fault). located base (length text) (placed (length start) r)) (fails_so why f (finish st) h fails))
+    ∙ ap (λ (r : Result Expr Fault). located base (length text) (placed (length start) r)) (fails_so why f (finish st) h fails))
 
 -- The end comes, and the tree is whole.
 pub end_read : (base : ℕ) (text rest start : List ℕ) (st : State) (e : Expr) → IsReading text rest st → start ≡ skip_white rest → next_at (is_dotted st) start ≡ Ok None → finish st ≡ Ok e → read_tokens base text ≡ Ok e
@@ -96,5 +95,6 @@ goes_on text rest start st x after reading start_is comes taken =
     record {
       short = omega (arith, less, reading.short);
       same = same_fuel (suc (length x.1)) (length rest) after x.1 (omega arith) less
-        ∙ sym (ap (after_step (reads (length rest)) (length start) x.1) taken)
-        ∙ sym (at_start rest start st (Ok (Some x)) start_is comes) ∙ reading.same }
+          ∙ sym (ap (after_step (reads (length rest)) (length start) x.1) taken)
+          ∙ sym (at_start rest start st (Ok (Some x)) start_is comes) ∙ reading.same;
+    }

@@ -1,14 +1,14 @@
 -- Marks in a text.
-use Rattle.std.proofs.Common.{◌≡◌, ◌≢◌, ℕ, zero, suc, ◌+◌, ◌<◌, ◌≤◌, Bool, true, false, cond, not, ◌&&◌, ◌||◌, nat_eq, nat_lt, Option, Some, None, List, [], ◌∷◌, ◌++◌, length, get_or, take, drop, refl, sym, ap, subst, ◌∙◌, append-nil, length-append, arith}
+use Rattle.std.proofs.Common.{◌≡◌, ℕ, zero, suc, ◌+◌, ◌<◌, ◌≤◌, Bool, true, false, cond, not, ◌&&◌, ◌||◌, nat_eq, nat_lt, Option, Some, None, List, [], ◌∷◌, ◌++◌, length, get_or, take, drop, refl, sym, ap, subst, ◌∙◌, length-append, arith}
 use Rattle.std.proofs.Math.Seq.{drop-cons, drop-append_seam}
-use Rattle.std.proofs.lemmas.Bool.{cond-true, cond-false, eqb-true, eq-eqb}
+use Rattle.std.proofs.lemmas.Bool.{cond-true, cond-false, eqb-true}
 use Rattle.std.proofs.lemmas.Bool.Decides.{nat_tests}
 use Rattle.std.proofs.lemmas.List.{length-take, length-drop}
 use Rattle.std.proofs.lemmas.Str.{IsCharBoundary-end, IsCharBoundary-before_ascii, IsCharBoundary-after_ascii}
 use Rattle.std.specs.Option.{option_map}
 use Rattle.std.specs.Str.{IsUtf8, IsCharBoundary}
 use Rattle.std.specs.Prelude.{codes}
-use Rattle.expr_reader.specs.Template.{begins_mark, has_mark, begins_end, open_after, end_place, EndsPlain, IsPlain}
+use Rattle.expr_reader.specs.Template.{begins_mark, has_mark, begins_end, open_after, end_place, EndsPlain}
 use Rattle.expr_reader.specs.TemplateReading.{mark_place}
 use Rattle.expr_reader.proofs.Runs.{if_holds}
 
@@ -45,16 +45,16 @@ pub no_mark_over : (b : ℕ) (p rest : List ℕ) → begins_mark (b ∷ p) ≡ f
 no_mark_over b [] [] h ends = h
 no_mark_over b [] (c ∷ rest) h ends = subst (λ (r : List ℕ). begins_mark (b ∷ r) ≡ false) (sym (mark_front (c ∷ rest) ends)) (and_false (nat_eq 36 b))
   where
-  and_false : (t : Bool) → (t && false) ≡ false
-  and_false true = refl
-  and_false false = refl
+    and_false : (t : Bool) → (t && false) ≡ false
+    and_false true = refl
+    and_false false = refl
 no_mark_over b (c ∷ []) [] h ends = h
 no_mark_over b (c ∷ []) (d ∷ rest) h ends = subst (λ (r : List ℕ). begins_mark (b ∷ c ∷ r) ≡ false) (sym (mark_front (d ∷ rest) ends)) (and_false (nat_eq 36 b) (nat_eq 123 c))
   where
-  and_false : (t u : Bool) → (t && (u && false)) ≡ false
-  and_false true true = refl
-  and_false true false = refl
-  and_false false u = refl
+    and_false : (t u : Bool) → (t && (u && false)) ≡ false
+    and_false true true = refl
+    and_false true false = refl
+    and_false false u = refl
 no_mark_over b (c ∷ d ∷ p) rest h ends = h
 
 ends_place : (rest : List ℕ) → EndsPlain rest → mark_place rest ≡ 0
@@ -78,16 +78,16 @@ pub record Parts (bs : List ℕ) : Type 0 where
 front_unmarked : (b : ℕ) (bs : List ℕ) (n : ℕ) → begins_mark (b ∷ bs) ≡ false → begins_mark (b ∷ take n bs) ≡ false
 front_unmarked b bs zero h = short (nat_eq 36 b)
   where
-  short : (t : Bool) → (t && false) ≡ false
-  short true = refl
-  short false = refl
+    short : (t : Bool) → (t && false) ≡ false
+    short true = refl
+    short false = refl
 front_unmarked b [] (suc n) h = h
 front_unmarked b (c ∷ bs) (suc zero) h = short (nat_eq 36 b) (nat_eq 123 c)
   where
-  short : (t u : Bool) → (t && (u && false)) ≡ false
-  short true true = refl
-  short true false = refl
-  short false u = refl
+    short : (t u : Bool) → (t && (u && false)) ≡ false
+    short true true = refl
+    short true false = refl
+    short false u = refl
 front_unmarked b (c ∷ []) (suc (suc n)) h = h
 front_unmarked b (c ∷ d ∷ bs) (suc (suc n)) h = h
 
@@ -183,15 +183,15 @@ mark_further i bs inside h =
 mark_boundary_at : (bs : List ℕ) (n : ℕ) → n ≤ length bs → EndsPlain (drop n bs) → IsCharBoundary bs n
 mark_boundary_at bs n within ends = by_rest bs n (drop n bs) refl within ends
   where
-  by_rest : (bs : List ℕ) (n : ℕ) (rest : List ℕ) → drop n bs ≡ rest → n ≤ length bs → EndsPlain rest → IsCharBoundary bs n
-  by_rest bs n [] at within ends =
-      let last : n ≡ length bs = omega (arith, ap length at, length-drop n bs) in
-      subst (IsCharBoundary bs) (sym last) (IsCharBoundary-end bs)
-  by_rest bs n (b ∷ rest) at within ends =
-      let inside : n < length bs = omega (arith, ap length at, length-drop n bs) in
-      let front : drop n bs ≡ codes "${{" ++ drop 3 (b ∷ rest) = at ∙ mark_front (b ∷ rest) ends in
-      let first : get_or bs n 0 ≡ 36 = cc (drop-cons bs n 0 inside, front) in
-      IsCharBoundary-before_ascii bs n inside (omega (arith, first))
+    by_rest : (bs : List ℕ) (n : ℕ) (rest : List ℕ) → drop n bs ≡ rest → n ≤ length bs → EndsPlain rest → IsCharBoundary bs n
+    by_rest bs n [] at within ends =
+        let last : n ≡ length bs = omega (arith, ap length at, length-drop n bs) in
+        subst (IsCharBoundary bs) (sym last) (IsCharBoundary-end bs)
+    by_rest bs n (b ∷ rest) at within ends =
+        let inside : n < length bs = omega (arith, ap length at, length-drop n bs) in
+        let front : drop n bs ≡ codes "${{" ++ drop 3 (b ∷ rest) = at ∙ mark_front (b ∷ rest) ends in
+        let first : get_or bs n 0 ≡ 36 = cc (drop-cons bs n 0 inside, front) in
+        IsCharBoundary-before_ascii bs n inside (omega (arith, first))
 
 -- A text may be cut at its first mark.
 pub mark_boundary : (bs : List ℕ) → IsCharBoundary bs (mark_place bs)

@@ -1,5 +1,5 @@
 -- A node within the limit is made.
-use Rattle.std.proofs.Common.{◌≡◌, ℕ, ◌≤◌, cond, true, nat_lt, Result, Ok, Err, sym, ap, ◌∙◌}
+use Rattle.std.proofs.Common.{◌≡◌, ◌≤◌, true, nat_lt, Ok, Err, ◌∙◌}
 use Rattle.std.proofs.lemmas.Bool.{cond-true, cond-false, le-ltb}
 use Rattle.expr_reader.specs.Expr.{Expr, Exprs, call, count, depth}
 use Rattle.expr_reader.specs.Grammar.{takes}

@@ -1,17 +1,16 @@
 -- Templates, there and back.
-use Rattle.std.proofs.Common.{◌≡◌, ◌≢◌, ℕ, zero, suc, ◌+◌, ◌-◌, ◌<◌, ◌≤◌, Bool, true, false, cond, Result, Ok, Err, Option, Some, None, List, [], ◌∷◌, ◌++◌, length, take, drop, refl, sym, ap, subst, ◌∙◌, append_assoc, append-nil, length-append, arith}
+use Rattle.std.proofs.Common.{◌≡◌, ℕ, zero, suc, ◌+◌, ◌-◌, ◌<◌, ◌≤◌, false, Result, Ok, Err, Option, Some, None, List, [], ◌∷◌, ◌++◌, length, take, drop, refl, sym, ap, subst, ◌∙◌, length-append, arith}
 use Rattle.std.proofs.Math.Seq.{take-append_seam, drop-append_seam, drop-append-add}
-use Rattle.std.proofs.lemmas.Bool.{cond-true, cond-false}
+use Rattle.std.proofs.lemmas.Bool.{cond-false}
 use Rattle.std.proofs.lemmas.List.{take-append-drop, length-take, length-drop}
 use Rattle.std.specs.Prelude.{codes}
 use Rattle.expr_reader.specs.Expr.{Expr}
 use Rattle.expr_reader.specs.Reading.{Failure, read_text}
 use Rattle.expr_reader.specs.Spells.{Spells}
-use Rattle.expr_reader.specs.Template.{Piece, plain, marked, begins_mark, has_mark, end_place, EndsPlain, IsPlain, IsMarked, Pieces}
-use Rattle.expr_reader.specs.TemplateReading.{mark_place, inside_piece, marked_at, piece_at, with_pieces, after_piece, pieces_of, read_pieces}
+use Rattle.expr_reader.specs.Template.{Piece, plain, marked, begins_mark, has_mark, end_place, EndsPlain, IsPlain, Pieces}
+use Rattle.expr_reader.specs.TemplateReading.{mark_place, inside_piece, marked_at, piece_at, with_pieces, after_piece, pieces_of}
 use Rattle.expr_reader.specs.TemplateStands.{StandsInMark, unclosed, within, StandsInPieces}
-use Rattle.expr_reader.specs.declared.fault.Fault.TheVariants.{UnclosedTemplate}
-use Rattle.expr_reader.proofs.Expressions.{spelled_read, read_spells, StandsFrom, read_stands}
+use Rattle.expr_reader.proofs.Expressions.{spelled_read, read_spells, read_stands}
 use Rattle.expr_reader.proofs.MarkPlaces.{mark_front, no_mark_over, or_left, plain_place, Parts, parts, EndsThere, end_there}
 use Rattle.expr_reader.proofs.Runs.{if_holds}
 
@@ -53,24 +52,33 @@ PieceComes size text (Ok x) = ((ps : List Piece) (rest : List ℕ) → Pieces x.
 PieceComes size text (Err y) = StandsInMark size text y
 
 plain_comes : (b : ℕ) (bs : List ℕ) (n : ℕ) → mark_place (b ∷ bs) ≡ suc n → Parts (b ∷ bs) → ((ps : List Piece) (rest : List ℕ) → Pieces (drop (suc n) (b ∷ bs)) ps rest → Pieces (b ∷ bs) (plain (take (suc n) (b ∷ bs)) ∷ ps) rest) × (length (drop (suc n) (b ∷ bs)) < length (b ∷ bs))
-plain_comes b bs n place h =
-    (λ ps rest more. (drop (suc n) (b ∷ bs),
-      record {
-        some = λ none. cc;
-        unmarked = subst (λ (k : ℕ). has_mark (take k (b ∷ bs)) ≡ false) place h.unmarked;
-        ends = subst (λ (k : ℕ). EndsPlain (drop k (b ∷ bs))) place h.ends },
-      sym (take-append-drop (suc n) (b ∷ bs)), more),
-    omega (arith, length-drop n bs))
+plain_comes b bs n place h = (
+  λ ps rest more. (
+    drop (suc n) (b ∷ bs),
+    record {
+      some = λ none. cc;
+      unmarked = subst (λ (k : ℕ). has_mark (take k (b ∷ bs)) ≡ false) place h.unmarked;
+      ends = subst (λ (k : ℕ). EndsPlain (drop k (b ∷ bs))) place h.ends;
+    },
+    sym (take-append-drop (suc n) (b ∷ bs)),
+    more,
+  ),
+  omega (arith, length-drop n bs),
+)
 
 inside_size : (n : ℕ) (bs : List ℕ) → bs ≡ take n bs ++ (codes "}}" ++ drop (n + 2) bs) → length (take n bs) ≡ n
 inside_size n bs h = omega (arith, ap length h, length-append (take n bs) (codes "}}" ++ drop (n + 2) bs), length-take n bs)
 
 inside_comes : (size : ℕ) (text bs : List ℕ) (n : ℕ) → length text ≤ size → text ≡ codes "${{" ++ bs → end_place false bs ≡ Some n → bs ≡ take n bs ++ (codes "}}" ++ drop (n + 2) bs) → (r : Result Expr Failure) → read_text (size - length bs) (take n bs) ≡ r → PieceComes size text (inside_piece (drop (n + 2) bs) r)
 inside_comes size text bs n short same first whole (Ok e) at =
-    let closed : end_place false (take n bs ++ (codes "}}" ++ drop (n + 2) bs)) ≡ Some (length (take n bs)) = ap (end_place false) (sym whole) ∙ first ∙ ap Some (sym (inside_size n bs whole)) in
-    (λ ps rest more. (drop (n + 2) bs,
-      record { inside = take n bs; same = same ∙ ap (λ (z : List ℕ). codes "${{" ++ z) whole; first = closed; spelled = read_spells (size - length bs) (take n bs) e at }, more),
-    omega (arith, ap length same, length-drop (n + 2) bs))
+    let closed : end_place false (take n bs ++ (codes "}}" ++ drop (n + 2) bs)) ≡ Some (length (take n bs)) = ap (end_place false) (sym whole) ∙ first ∙ ap Some (sym (inside_size n bs whole)) in (
+      λ ps rest more. (
+        drop (n + 2) bs,
+        record { inside = take n bs; same = same ∙ ap (λ (z : List ℕ). codes "${{" ++ z) whole; first = closed; spelled = read_spells (size - length bs) (take n bs) e at },
+        more,
+      ),
+      omega (arith, ap length same, length-drop (n + 2) bs),
+    )
 inside_comes size text bs n short same first whole (Err y) at =
     let closed : end_place false (take n bs ++ (codes "}}" ++ drop (n + 2) bs)) ≡ Some (length (take n bs)) = ap (end_place false) (sym whole) ∙ first ∙ ap Some (sym (inside_size n bs whole)) in
     let stands = read_stands (size - length bs) (take n bs) y at in
@@ -85,7 +93,7 @@ piece_comes size b bs short =
     if_holds (PieceComes size (b ∷ bs)) (begins_mark (b ∷ bs)) (marked_at size (drop 3 (b ∷ bs)) (end_place false (drop 3 (b ∷ bs)))) (Ok (plain (take (mark_place (b ∷ bs)) (b ∷ bs)), drop (mark_place (b ∷ bs)) (b ∷ bs)))
     (λ test. marked_comes size (b ∷ bs) (drop 3 (b ∷ bs)) short (mark_front (b ∷ bs) test) (end_place false (drop 3 (b ∷ bs))) refl (end_there false (drop 3 (b ∷ bs))))
     (λ test. let place = cond-false (begins_mark (b ∷ bs)) 0 (suc (mark_place bs)) test in
-      subst (λ (k : ℕ). PieceComes size (b ∷ bs) (Ok (plain (take k (b ∷ bs)), drop k (b ∷ bs)))) (sym place) (plain_comes b bs (mark_place bs) place (parts (b ∷ bs))))
+    subst (λ (k : ℕ). PieceComes size (b ∷ bs) (Ok (plain (take k (b ∷ bs)), drop k (b ∷ bs)))) (sym place) (plain_comes b bs (mark_place bs) place (parts (b ∷ bs))))
 
 -- What reading pieces gives: the text's pieces, or a fault that stands in it.
 abbrev pub Got : ℕ → List ℕ → Result (List Piece) Failure → Type 0

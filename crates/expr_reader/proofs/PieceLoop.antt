@@ -1,10 +1,8 @@
 -- Reading a text piece by piece.
-use Rattle.std.proofs.Common.{◌≡◌, ◌≢◌, ℕ, suc, ◌+◌, ◌-◌, ◌<◌, ◌≤◌, Bool, true, false, Result, Ok, Err, Option, Some, None, IfSome, List, [], ◌∷◌, ◌++◌, length, map, take, drop, refl, sym, ap, subst, ◌∙◌, append_assoc, append-nil, arith}
+use Rattle.std.proofs.Common.{◌≡◌, ◌≢◌, ℕ, suc, ◌+◌, ◌-◌, ◌<◌, ◌≤◌, true, false, Result, Ok, Err, Option, Some, None, IfSome, List, [], ◌∷◌, ◌++◌, length, map, take, drop, refl, sym, ap, ◌∙◌, append_assoc, append-nil, arith}
 use Rattle.std.proofs.lemmas.Bool.{cond-true}
-use Rattle.expr_reader.specs.Expr.{Expr}
-use Rattle.expr_reader.specs.Faults.{fault_at}
 use Rattle.expr_reader.specs.Reading.{Failure, read_text}
-use Rattle.expr_reader.specs.Template.{Piece, plain, marked, begins_mark, end_place}
+use Rattle.expr_reader.specs.Template.{Piece, plain, begins_mark, end_place}
 use Rattle.expr_reader.specs.TemplateReading.{mark_place, inside_piece, marked_at, piece_at, with_pieces, after_piece, pieces_of, read_pieces}
 use Rattle.expr_reader.specs.TemplateView.{piece_of}
 use Rattle.expr_reader.specs.declared.template.Piece as piece
@@ -40,7 +38,8 @@ pub gather_more : (size : ℕ) (text rest : List ℕ) (done : List Piece) (x : P
 gather_more size text [] done x now h some read last = absurd (some refl)
 gather_more size text (b ∷ bs) done x now h some read last = record {
   short = omega (arith, piece_shorter size b bs x h.short read, h.short);
-  same = ap (λ (ps : List Piece). with_pieces ps (read_pieces size x.1)) last ∙ fronts done x.0 (read_pieces size x.1) ∙ ap (with_pieces done) (sym (next_gathered size b bs x h.short read)) ∙ h.same }
+  same = ap (λ (ps : List Piece). with_pieces ps (read_pieces size x.1)) last ∙ fronts done x.0 (read_pieces size x.1) ∙ ap (with_pieces done) (sym (next_gathered size b bs x h.short read)) ∙ h.same;
+}
 
 gather_err_at : (size : ℕ) (text rest : List ℕ) (done : List Piece) (y : Failure) → IsGathering size text rest done → rest ≢ [] → piece_at size rest ≡ Err y → read_pieces size text ≡ Err y
 gather_err_at size text [] done y h some read = absurd (some refl)

@@ -1,6 +1,6 @@
 -- Texts in quotes, there and back.
-use Rattle.std.proofs.Common.{◌≡◌, ℕ, Bool, true, false, cond, nat_eq, Option, Some, None, List, [], ◌∷◌, ◌++◌, refl, sym, ap, subst, ◌∙◌, arith}
-use Rattle.std.proofs.lemmas.Bool.{cond-true, cond-false, eqb-true}
+use Rattle.std.proofs.Common.{◌≡◌, ℕ, Bool, true, false, cond, nat_eq, Option, Some, None, List, [], ◌∷◌, ◌++◌, refl, sym, ap, subst, ◌∙◌}
+use Rattle.std.proofs.lemmas.Bool.{cond-false, eqb-true}
 use Rattle.expr_reader.specs.Bytes.{is_byte, Stops}
 use Rattle.expr_reader.specs.Lexer.{with_front, unquoted, after_quote}
 use Rattle.expr_reader.specs.Spelling.{doubled}

@@ -1,14 +1,14 @@
 -- A text is read as the tree that it spells, and as no other.
-use Rattle.std.proofs.Common.{◌≡◌, ◌≢◌, ℕ, zero, suc, ◌+◌, ◌<◌, ◌≤◌, Bool, true, false, Result, Ok, Err, Option, Some, None, List, [], ◌∷◌, ◌++◌, length, take, drop, refl, sym, ap, subst, ◌∙◌, append_assoc, append-nil, length-append, arith}
+use Rattle.std.proofs.Common.{◌≡◌, ◌≢◌, ℕ, zero, suc, ◌<◌, ◌≤◌, true, false, Result, Ok, Err, Option, Some, None, List, [], ◌∷◌, ◌++◌, length, take, refl, sym, ap, subst, ◌∙◌, append_assoc, append-nil, length-append, arith}
 use Rattle.std.proofs.lemmas.List.{take-append-drop}
 use Rattle.std.specs.List.{prefix_len}
 use Rattle.std.specs.Prelude.{codes}
 use Rattle.expr_reader.specs.Bytes.{is_white, IsRun, IsWord, IsNumeral}
-use Rattle.expr_reader.specs.Expr.{Constant, null, truth, whole, quoted, Expr, depth}
+use Rattle.expr_reader.specs.Expr.{null, truth, whole, quoted, Expr, depth}
 use Rattle.expr_reader.specs.Grammar.{Token, constant, root, callee, name, relational, equational, mark, tokens, Shaped}
 use Rattle.expr_reader.specs.Lexer.{Lexed, skip_white, next}
 use Rattle.expr_reader.specs.Wrong.{Wrong}
-use Rattle.expr_reader.specs.Machine.{State, want, have, dotted, called, starred, is_dotted, step, run, finish, parse}
+use Rattle.expr_reader.specs.Machine.{State, want, dotted, is_dotted, step, run, finish, parse}
 use Rattle.expr_reader.specs.Outcome.{◌>>=◌}
 use Rattle.expr_reader.specs.Reading.{Failure, placed, after_step, after_token, reads}
 use Rattle.expr_reader.specs.Spelling.{SpellsToken, Begins, Lexes}
@@ -20,7 +20,7 @@ use Rattle.expr_reader.specs.declared.tree.Relation.TheVariants.{Less, AtMost, G
 use Rattle.expr_reader.proofs.Complete.{parse_again}
 use Rattle.expr_reader.proofs.Lexing.{Agrees, next_again, next_none, Comes, next_comes, skipped, blank_skipped}
 use Rattle.expr_reader.proofs.Runs.{spans}
-use Rattle.expr_reader.proofs.Sound.{Holds, After, GoodState, state_tokens, sound_step, Tokenized, sound_finish}
+use Rattle.expr_reader.proofs.Sound.{Holds, After, state_tokens, sound_step, Tokenized, sound_finish}
 
 -- A token that a state takes is a property's name after a dot, and only there.
 step_agrees : (st : State) (t : Token) (after : State) → step st t ≡ Ok after → Agrees (is_dotted st) t
@@ -128,15 +128,16 @@ forget (Err f) P F h = tt
 reached_more : (done : List Token) (st : State) (t : Token) (after : State) → Reached done st → step st t ≡ Ok after → Reached (done ++ t ∷ []) after
 reached_more done st t after h at = record {
   after =
-    let stepped = subst (λ (r : Result State Fault). Holds r (After (state_tokens st ++ t ∷ [])) (λ f. Unit {0})) at (forget (step st t) (After (state_tokens st ++ t ∷ [])) (Wrong (state_tokens st ++ t ∷ [])) (sound_step st h.after.good t)) in
-    subst (λ (ts : List Token). After (ts ++ t ∷ []) after) h.after.same stepped;
-  ran = run-append done (t ∷ []) (want []) ∙ ap (λ (r : Result State Fault). r >>= λ s. run s (t ∷ [])) h.ran ∙ ap (λ (r : Result State Fault). r >>= λ s. Ok s) at }
+      let stepped = subst (λ (r : Result State Fault). Holds r (After (state_tokens st ++ t ∷ [])) (λ f. Unit {0})) at (forget (step st t) (After (state_tokens st ++ t ∷ [])) (Wrong (state_tokens st ++ t ∷ [])) (sound_step st h.after.good t)) in
+      subst (λ (ts : List Token). After (ts ++ t ∷ []) after) h.after.same stepped;
+  ran = run-append done (t ∷ []) (want []) ∙ ap (λ (r : Result State Fault). r >>= λ s. run s (t ∷ [])) h.ran ∙ ap (λ (r : Result State Fault). r >>= λ s. Ok s) at;
+}
 
 -- Where a state takes no token, the tokens up to it begin no tree.
 refused : (done : List Token) (st : State) (t : Token) (f : Fault) → Reached done st → step st t ≡ Err f → BeginNoTree (done ++ t ∷ [])
 refused done st t f h at e later shaped shallow same =
     let through : run (want []) ((done ++ t ∷ []) ++ later) ≡ Err f =
-      ap (run (want [])) (append_assoc done (t ∷ []) later) ∙ run-append done (t ∷ later) (want []) ∙ ap (λ (r : Result State Fault). r >>= λ s. run s (t ∷ later)) h.ran ∙ ap (λ (r : Result State Fault). r >>= λ s. run s later) at in
+    ap (run (want [])) (append_assoc done (t ∷ []) later) ∙ run-append done (t ∷ later) (want []) ∙ ap (λ (r : Result State Fault). r >>= λ s. run s (t ∷ later)) h.ran ∙ ap (λ (r : Result State Fault). r >>= λ s. run s later) at in
     let parsed : parse ((done ++ t ∷ []) ++ later) ≡ Err f = ap (λ (r : Result State Fault). r >>= finish) through in
     let again : Ok e ≡ Err f = sym (parse_again e shaped shallow) ∙ ap parse same ∙ parsed in
     cc
@@ -165,20 +166,28 @@ go_on bs done t rest begins (Err x) h = (t ∷ h.0, h.1, (rest, begins, h.2), h.
 
 end_sound : (st : State) (bs : List ℕ) (done : List Token) → Reached done st → IsRun is_white bs → (r : Result Expr Fault) → finish st ≡ r → Holds r (Tokenized (state_tokens st)) (Wrong (state_tokens st)) → Gets done bs (placed (length (skip_white bs)) r)
 end_sound st bs done h blank (Ok e) at sound = ([], blank, subst (λ (ts : List Token). Tokenized ts e) (h.after.same ∙ sym (append-nil done)) sound)
-end_sound st bs done h blank (Err f) at sound =
-    ([], skip_white bs, white_leads bs, refl,
-      subst (λ (ts : List Token). Stands f ts (skip_white bs)) (sym (append-nil done))
-        (at_end (blank_skipped bs blank) (refused_end done st f h at) (subst (λ (ts : List Token). Wrong ts f) h.after.same sound)))
+end_sound st bs done h blank (Err f) at sound = (
+  [],
+  skip_white bs,
+  white_leads bs,
+  refl,
+  subst (λ (ts : List Token). Stands f ts (skip_white bs)) (sym (append-nil done))
+      (at_end (blank_skipped bs blank) (refused_end done st f h at) (subst (λ (ts : List Token). Wrong ts f) h.after.same sound)),
+)
 
 -- That what is read is spelled so, by fewer than n tokens.
 abbrev ReadsSound : ℕ → Type 0
 ReadsSound n = (st : State) (bs : List ℕ) (done : List Token) → length bs < n → Reached done st → Gets done bs (reads n st bs)
 
 step_sound : (n : ℕ) → ReadsSound n → (st : State) (bs : List ℕ) (done : List Token) → length bs < suc n → Reached done st → (t : Token) (rest : List ℕ) → Begins bs t rest → (r : Result State Fault) → step st t ≡ r → Holds r (After (state_tokens st ++ t ∷ [])) (Wrong (state_tokens st ++ t ∷ [])) → Gets done bs (after_step (reads n) (length (skip_white bs)) rest r)
-step_sound n sound st bs done fuel h t rest begins (Err f) at wrong =
-    ([], skip_white bs, white_leads bs, refl,
-      subst (λ (ts : List Token). Stands f ts (skip_white bs)) (sym (append-nil done))
-        (at_token t rest (begins_skipped bs t rest begins) (refused done st t f h at) (subst (λ (ts : List Token). Wrong (ts ++ t ∷ []) f) h.after.same wrong)))
+step_sound n sound st bs done fuel h t rest begins (Err f) at wrong = (
+  [],
+  skip_white bs,
+  white_leads bs,
+  refl,
+  subst (λ (ts : List Token). Stands f ts (skip_white bs)) (sym (append-nil done))
+      (at_token t rest (begins_skipped bs t rest begins) (refused done st t f h at) (subst (λ (ts : List Token). Wrong (ts ++ t ∷ []) f) h.after.same wrong)),
+)
 step_sound n sound st bs done fuel h t rest begins (Ok after) at good =
     go_on bs done t rest begins (reads n after rest) (sound after rest (done ++ t ∷ []) (omega (arith, fuel, rest_shorter bs t rest begins)) (reached_more done st t after h at))
 

@@ -1,18 +1,16 @@
 -- What the machine makes of tokens has those tokens.
-use Rattle.std.proofs.Common.{◌≡◌, ℕ, ◌<◌, ◌≤◌, Bool, true, false, cond, nat_lt, Result, Ok, Err, List, [], ◌∷◌, ◌++◌, refl, sym, ap, subst, ◌∙◌, append_assoc, append-nil, arith}
+use Rattle.std.proofs.Common.{◌≡◌, ℕ, ◌≤◌, Bool, true, false, cond, nat_lt, Result, Ok, Err, List, [], ◌∷◌, ◌++◌, refl, sym, ap, subst, ◌∙◌, append_assoc, append-nil, arith}
 use Rattle.std.proofs.lemmas.Bool.{ltb-true, ltb-false}
-use Rattle.expr_reader.specs.Expr.{Constant, Expr, Exprs, literal, context, call, group, property, index, wildcard, opposite, relation, equality, both, either, none, more, exprs_of, count, depth, deepest}
+use Rattle.expr_reader.specs.Expr.{Expr, Exprs, call, group, property, index, wildcard, opposite, relation, equality, both, either, none, exprs_of, count, depth}
 use Rattle.expr_reader.specs.Grammar.{Token, constant, root, callee, name, relational, equational, mark, tokens, chained, preceded, level, takes, IsChain, Shaped, AllShaped}
-use Rattle.expr_reader.specs.Machine.{Part, either_of, both_of, equality_of, relation_of, not_of, group_of, index_of, call_of, State, want, have, dotted, called, starred, Held, node, called_with, over, close_not, related, equated, both_ended, either_ended, close_relation, close_equality, close_both, close_either, both_more, either_more, have_made, end_round, end_index, end_argument, end_text, end_empty, star_index, want_mark, have_mark, want_step, have_step, dotted_step, called_step, starred_step, step, run, finish, parse}
+use Rattle.expr_reader.specs.Machine.{Part, either_of, both_of, equality_of, relation_of, not_of, group_of, index_of, call_of, State, want, have, dotted, called, starred, Held, node, called_with, over, close_not, related, equated, both_ended, either_ended, close_relation, close_equality, close_both, close_either, both_more, either_more, have_made, end_round, end_index, end_argument, end_text, end_empty, star_index, want_mark, have_mark, want_step, have_step, dotted_step, called_step, starred_step, step, finish}
 use Rattle.expr_reader.specs.Outcome.{◌>>=◌}
-use Rattle.expr_reader.specs.Wrong.{HoldsDeep, HoldsMiscount, Wrong}
+use Rattle.expr_reader.specs.Wrong.{Wrong}
 use Rattle.expr_reader.specs.declared.fault.Fault.{Fault}
 use Rattle.expr_reader.specs.declared.fault.Fault.TheVariants.{UnclosedText, BadNumber, BadChar, Unexpected, UnknownName, UnknownFunction, ArgumentCount, TooDeep, TooLong, UnclosedTemplate, StatusHere}
 use Rattle.expr_reader.specs.declared.token.Mark.{Mark}
 use Rattle.expr_reader.specs.declared.token.Mark.TheVariants.{Open, Close, OpenIndex, CloseIndex, Dot, Comma, Star, Not, Both, Either}
-use Rattle.expr_reader.specs.declared.tree.Equality.{Equality}
 use Rattle.expr_reader.specs.declared.tree.Function.{Function}
-use Rattle.expr_reader.specs.declared.tree.Relation.{Relation}
 use Rattle.expr_reader.specs.declared.tree.Wildcard.TheVariants.{Dotted, Bracketed}
 
 -- A step's value has P, or its fault F.
@@ -131,14 +129,16 @@ wrong_more read later ArgumentCount h = record {
   after = h.after ++ later;
   shaped = h.shaped;
   miscount = h.miscount;
-  same = ap (λ (z : List Token). h.before ++ z) (sym (append_assoc (tokens (call h.function h.arguments)) h.after later)) ∙ sym (append_assoc h.before (tokens (call h.function h.arguments) ++ h.after) later) ∙ ap (λ (z : List Token). z ++ later) h.same }
+  same = ap (λ (z : List Token). h.before ++ z) (sym (append_assoc (tokens (call h.function h.arguments)) h.after later)) ∙ sym (append_assoc h.before (tokens (call h.function h.arguments) ++ h.after) later) ∙ ap (λ (z : List Token). z ++ later) h.same;
+}
 wrong_more read later TooDeep h = record {
   before = h.before;
   deep = h.deep;
   after = h.after ++ later;
   shaped = h.shaped;
   above = h.above;
-  same = ap (λ (z : List Token). h.before ++ z) (sym (append_assoc (tokens h.deep) h.after later)) ∙ sym (append_assoc h.before (tokens h.deep ++ h.after) later) ∙ ap (λ (z : List Token). z ++ later) h.same }
+  same = ap (λ (z : List Token). h.before ++ z) (sym (append_assoc (tokens h.deep) h.after later)) ∙ sym (append_assoc h.before (tokens h.deep ++ h.after) later) ∙ ap (λ (z : List Token). z ++ later) h.same;
+}
 wrong_more read later TooLong h = h
 wrong_more read later UnclosedTemplate h = h
 wrong_more read later StatusHere h = h
@@ -154,9 +154,9 @@ node_holds read e before shaped same = chosen_node (nat_lt 50 (depth e)) read e 
 chosen_call : (b : Bool) (read : List Token) (f : Function) (es : Exprs) (before : List Token) → takes f (count es) ≡ b → AllShaped 0 es → before ++ tokens (call f es) ≡ read → Holds (cond b (node (call f es)) (Err ArgumentCount)) (λ t. (t ≡ call f es) × (depth (call f es) ≤ 50) × Shaped (call f es)) (Wrong read)
 chosen_call true read f es before test shaped same = then_call (node (call f es)) (node_holds read (call f es) before (test, shaped) same)
   where
-  then_call : (r : Result Expr Fault) → Holds r (λ t. (t ≡ call f es) × (depth (call f es) ≤ 50)) (Wrong read) → Holds r (λ t. (t ≡ call f es) × (depth (call f es) ≤ 50) × Shaped (call f es)) (Wrong read)
-  then_call (Ok t) h = (h.0, h.1, (test, shaped))
-  then_call (Err e) h = h
+    then_call : (r : Result Expr Fault) → Holds r (λ t. (t ≡ call f es) × (depth (call f es) ≤ 50)) (Wrong read) → Holds r (λ t. (t ≡ call f es) × (depth (call f es) ≤ 50) × Shaped (call f es)) (Wrong read)
+    then_call (Ok t) h = (h.0, h.1, (test, shaped))
+    then_call (Err e) h = h
 chosen_call false read f es before test shaped same = record { before = before; function = f; arguments = es; after = []; shaped = shaped; miscount = test; same = ap (λ (z : List Token). before ++ z) (append-nil (tokens (call f es))) ∙ same }
 
 -- A node that was made lies over a stack.
@@ -418,8 +418,9 @@ sound_star (group_of ∷ s) good = tt
 sound_star (index_of a ∷ s) good = record {
   good = (good.0.0, good.0.1, good.1);
   same = append_assoc (stack_tokens s) (tokens a) (mark OpenIndex ∷ mark Star ∷ [])
-    ∙ ap (λ (z : List Token). stack_tokens s ++ z) (sym (append_assoc (tokens a) (mark OpenIndex ∷ []) (mark Star ∷ [])))
-    ∙ sym (append_assoc (stack_tokens s) (tokens a ++ mark OpenIndex ∷ []) (mark Star ∷ [])) }
+      ∙ ap (λ (z : List Token). stack_tokens s ++ z) (sym (append_assoc (tokens a) (mark OpenIndex ∷ []) (mark Star ∷ [])))
+      ∙ sym (append_assoc (stack_tokens s) (tokens a ++ mark OpenIndex ∷ []) (mark Star ∷ []));
+}
 sound_star (call_of f es ∷ s) good = tt
 
 sound_want_mark : (s : List Part) → GoodStack s → (m : Mark) → Holds (want_mark s m) (After (stack_tokens s ++ mark m ∷ [])) (Wrong (stack_tokens s ++ mark m ∷ []))

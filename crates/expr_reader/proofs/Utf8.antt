@@ -1,5 +1,5 @@
 -- What stands in quotes is text, and what follows too.
-use Rattle.std.proofs.Common.{◌≡◌, ◌≢◌, ℕ, zero, suc, ◌+◌, ◌<◌, ◌≤◌, Bool, true, false, cond, nat_eq, Option, Some, None, List, [], ◌∷◌, ◌++◌, length, get_or, take, drop, refl, sym, ap, subst, ◌∙◌, append_assoc, append-nil, length-append, arith}
+use Rattle.std.proofs.Common.{◌≡◌, ◌≢◌, ℕ, zero, suc, ◌+◌, ◌<◌, ◌≤◌, Bool, true, false, cond, nat_eq, Some, List, [], ◌∷◌, ◌++◌, length, get_or, drop, refl, sym, ap, subst, ◌∙◌, append_assoc, append-nil, length-append, arith}
 use Rattle.std.proofs.Math.Seq.{take-append_seam, drop-append_seam, get_or-append_seam, drop-cons, drop-length}
 use Rattle.std.proofs.lemmas.Bool.{cond-false, eqb-true}
 use Rattle.std.proofs.lemmas.Bool.Decides.{nat_tests}
@@ -26,9 +26,9 @@ cut_ascii p c r low utf8 =
 quote_utf8 : IsUtf8 (39 ∷ [])
 quote_utf8 = IsUtf8-from_ascii (39 ∷ []) (λ i. ascii i)
   where
-  ascii : (i : ℕ) → get_or (39 ∷ []) i 0 < 128
-  ascii zero = omega arith
-  ascii (suc i) = omega arith
+    ascii : (i : ℕ) → get_or (39 ∷ []) i 0 < 128
+    ascii zero = omega arith
+    ascii (suc i) = omega arith
 
 inside_by : (p : List ℕ) (b : ℕ) (q rest : List ℕ) (t : Bool) → nat_eq b 39 ≡ t → ((p : List ℕ) → IsUtf8 (p ++ (doubled q ++ rest)) → IsUtf8 (p ++ q)) → IsUtf8 (p ++ (cond t (39 ∷ 39 ∷ doubled q) (b ∷ doubled q) ++ rest)) → IsUtf8 (p ++ b ∷ q)
 inside_by p b q rest true test more utf8 =

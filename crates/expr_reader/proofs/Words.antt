@@ -1,6 +1,5 @@
 -- What names mean.
-use Rattle.std.proofs.Common.{◌≡◌, ℕ, Bool, true, false, cond, Option, Some, None, List, [], ◌∷◌, refl, sym, ap, ◌∙◌}
-use Rattle.std.proofs.lemmas.Bool.{cond-true, cond-false}
+use Rattle.std.proofs.Common.{◌≡◌, ℕ, Bool, true, false, cond, Option, Some, None, List, [], ◌∷◌, refl, ap, ◌∙◌}
 use Rattle.std.proofs.lemmas.Slice.Eq.{bytes_eq-Decides}
 use Rattle.std.specs.List.{find}
 use Rattle.std.specs.Prelude.{codes}
@@ -73,7 +72,7 @@ literal_comes : (w : List ℕ) → NameComes w (literal_named w)
 literal_comes w =
     if_holds (NameComes w) (bytes_eq w (codes "null")) (Some (constant null)) (cond (bytes_eq w (codes "true")) (Some (constant (truth true))) (cond (bytes_eq w (codes "false")) (Some (constant (truth false))) None)) (λ h. ((bytes_eq-Decides w (codes "null")).0 h, λ rest stops. stops))
     (λ _. if_holds (NameComes w) (bytes_eq w (codes "true")) (Some (constant (truth true))) (cond (bytes_eq w (codes "false")) (Some (constant (truth false))) None) (λ h. ((bytes_eq-Decides w (codes "true")).0 h, λ rest stops. stops))
-      (λ _. if_holds (NameComes w) (bytes_eq w (codes "false")) (Some (constant (truth false))) None (λ h. ((bytes_eq-Decides w (codes "false")).0 h, λ rest stops. stops)) (λ _. tt)))
+    (λ _. if_holds (NameComes w) (bytes_eq w (codes "false")) (Some (constant (truth false))) None (λ h. ((bytes_eq-Decides w (codes "false")).0 h, λ rest stops. stops)) (λ _. tt)))
 
 function_comes : (w : List ℕ) (o : Option Function) → IsWord w → Passes (λ g. bytes_eq (fold w) (function_name g)) o → NameComes w (function_or_literal o w)
 function_comes w None word h = literal_comes w

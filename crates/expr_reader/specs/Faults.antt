@@ -1,12 +1,11 @@
 -- What a fault that is answered says.
-use Rattle.std.specs.Prelude.{◌≡◌, ℕ, ◌+◌, ◌<◌, Option, Some, None, Result, Ok, Err, IfSome, List, length}
+use Rattle.std.specs.Prelude.{◌≡◌, ℕ, ◌<◌, Option, Some, None, Result, Ok, Err, IfSome, List, length}
 use Rattle.expr_reader.specs.Expr.{Expr}
 use Rattle.expr_reader.specs.Reading.{Failure}
 use Rattle.expr_reader.specs.Stands.{StandsAt}
 use Rattle.expr_reader.specs.View.{view}
 use Rattle.expr_reader.specs.declared.fault.ExprFault.{ExprFault}
 use Rattle.expr_reader.specs.declared.fault.ExprFault.TheVariants as expr
-use Rattle.expr_reader.specs.declared.fault.Fault.{Fault}
 use Rattle.expr_reader.specs.declared.fault.Fault.TheVariants.{UnclosedText, BadNumber, BadChar, Unexpected, UnknownName, UnknownFunction, ArgumentCount, TooDeep, TooLong, UnclosedTemplate, StatusHere}
 use Rattle.expr_reader.specs.declared.fault.Refusal.{Refusal}
 use Rattle.expr_reader.specs.declared.fault.Refusal.TheVariants as refusal

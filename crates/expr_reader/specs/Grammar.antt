@@ -14,7 +14,6 @@ use Rattle.expr_reader.specs.declared.tree.Equality.{Equality}
 use Rattle.expr_reader.specs.declared.tree.Function.{Function}
 use Rattle.expr_reader.specs.declared.tree.Function.TheVariants.{Contains, StartsWith, EndsWith, Format, Join, ToJson, FromJson, Success, Failure, Cancelled, Always}
 use Rattle.expr_reader.specs.declared.tree.Relation.{Relation}
-use Rattle.expr_reader.specs.declared.tree.Wildcard.{Wildcard}
 use Rattle.expr_reader.specs.declared.tree.Wildcard.TheVariants.{Dotted, Bracketed}
 use Rattle.expr_reader.specs.declared.token.Mark.{Mark}
 use Rattle.expr_reader.specs.declared.token.Mark.TheVariants.{Open, Close, OpenIndex, CloseIndex, Dot, Comma, Star, Not, Both, Either}

@@ -1,9 +1,9 @@
 -- How the first token of a text is read.
-use Rattle.std.specs.Prelude.{◌≡◌, ℕ, ℤ, Bool, true, false, ◌==◌, if◌then◌else◌, Result, Ok, Err, Option, Some, None, List, [], ◌∷◌, ◌++◌, take, drop, codes}
+use Rattle.std.specs.Prelude.{ℕ, ℤ, Bool, true, false, ◌==◌, if◌then◌else◌, Result, Ok, Err, Option, Some, None, List, [], ◌∷◌, ◌++◌, take, drop, codes}
 use Rattle.std.specs.List.{prefix_len, find}
 use Rattle.std.specs.Str.{bytes_eq}
 use Rattle.expr_reader.specs.Bytes.{is_white, begins_name, is_name, begins_number, is_number}
-use Rattle.expr_reader.specs.Expr.{Constant, null, truth, whole, quoted}
+use Rattle.expr_reader.specs.Expr.{null, truth, whole, quoted}
 use Rattle.expr_reader.specs.Fold.{fold}
 use Rattle.expr_reader.specs.Grammar.{Token, constant, root, callee, name, relational, equational, mark}
 use Rattle.expr_reader.specs.Names.{context_name, function_name}
@@ -104,28 +104,28 @@ followed c t (b ∷ bs) = if b == c then Ok (t, bs) else Err BadChar
 -- A token that begins with an operator's byte.
 abbrev pub operator_at : ℕ → List ℕ → Result Lexed Fault
 operator_at b bs =
-  if b == 40 then Ok (mark Open, bs)
-  else if b == 41 then Ok (mark Close, bs)
-  else if b == 91 then Ok (mark OpenIndex, bs)
-  else if b == 93 then Ok (mark CloseIndex, bs)
-  else if b == 46 then Ok (mark Dot, bs)
-  else if b == 44 then Ok (mark Comma, bs)
-  else if b == 42 then Ok (mark Star, bs)
-  else if b == 33 then Ok (paired (mark Not) (equational NotEqual) bs)
-  else if b == 60 then Ok (paired (relational Less) (relational AtMost) bs)
-  else if b == 62 then Ok (paired (relational Greater) (relational AtLeast) bs)
-  else if b == 61 then followed 61 (equational Equal) bs
-  else if b == 38 then followed 38 (mark Both) bs
-  else if b == 124 then followed 124 (mark Either) bs
-  else Err BadChar
+    if b == 40 then Ok (mark Open, bs)
+    else if b == 41 then Ok (mark Close, bs)
+    else if b == 91 then Ok (mark OpenIndex, bs)
+    else if b == 93 then Ok (mark CloseIndex, bs)
+    else if b == 46 then Ok (mark Dot, bs)
+    else if b == 44 then Ok (mark Comma, bs)
+    else if b == 42 then Ok (mark Star, bs)
+    else if b == 33 then Ok (paired (mark Not) (equational NotEqual) bs)
+    else if b == 60 then Ok (paired (relational Less) (relational AtMost) bs)
+    else if b == 62 then Ok (paired (relational Greater) (relational AtLeast) bs)
+    else if b == 61 then followed 61 (equational Equal) bs
+    else if b == 38 then followed 38 (mark Both) bs
+    else if b == 124 then followed 124 (mark Either) bs
+    else Err BadChar
 
 -- The token that begins with these bytes.
 abbrev pub token_at : Bool → ℕ → List ℕ → Result Lexed Fault
 token_at dotted b bs =
-  if b == 39 then quoted_token (unquoted bs)
-  else if begins_number b then number_at (b ∷ bs)
-  else if begins_name b then word_at dotted (b ∷ bs)
-  else operator_at b bs
+    if b == 39 then quoted_token (unquoted bs)
+    else if begins_number b then number_at (b ∷ bs)
+    else if begins_name b then word_at dotted (b ∷ bs)
+    else operator_at b bs
 
 abbrev pub some_token : Result Lexed Fault → Result (Option Lexed) Fault
 some_token (Ok x) = Ok (Some x)

@@ -1,3 +1,4 @@
+pub mod Accepts
 pub mod Bytes
 pub mod Class
 pub mod Expr

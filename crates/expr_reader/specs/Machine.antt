@@ -1,6 +1,6 @@
 -- How tokens make a tree, from the left, with a stack of what is open.
-use Rattle.std.specs.Prelude.{ℕ, suc, nat_lt, Bool, true, false, if◌then◌else◌, Result, Ok, Err, List, [], ◌∷◌, ◌++◌}
-use Rattle.expr_reader.specs.Expr.{Constant, Expr, Exprs, literal, context, call, group, property, index, wildcard, opposite, relation, equality, both, either, exprs_of, count, depth}
+use Rattle.std.specs.Prelude.{nat_lt, Bool, true, false, if◌then◌else◌, Result, Ok, Err, List, [], ◌∷◌, ◌++◌}
+use Rattle.expr_reader.specs.Expr.{Expr, Exprs, literal, context, call, group, property, index, wildcard, opposite, relation, equality, both, either, exprs_of, count, depth}
 use Rattle.expr_reader.specs.Grammar.{Token, constant, root, callee, name, relational, equational, mark, takes}
 use Rattle.expr_reader.specs.Outcome.{◌>>=◌}
 use Rattle.expr_reader.specs.declared.fault.Fault.{Fault}

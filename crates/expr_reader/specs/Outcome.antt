@@ -5,7 +5,6 @@ use Rattle.expr_reader.specs.declared.fault.Refusal.{Refusal}
 use Rattle.expr_reader.specs.declared.fault.Refusal.TheVariants as refusal
 
 infixl 10 ◌>>=◌
-
 -- The next step, on what the first one gave.
 abbrev pub ◌>>=◌ : {A B : Type 0} → Result A Fault → (A → Result B Fault) → Result B Fault
 (Ok x) >>= f = f x

@@ -1,5 +1,5 @@
 -- When a fault stands at a place of a template or a condition.
-use Rattle.std.specs.Prelude.{◌≡◌, ℕ, ◌+◌, ◌<◌, false, true, Option, Some, None, Result, Ok, Err, IfSome, List, [], ◌∷◌, ◌++◌, length, map, codes, string_bytes}
+use Rattle.std.specs.Prelude.{◌≡◌, ℕ, ◌+◌, ◌<◌, false, true, Some, None, Result, Ok, Err, IfSome, List, [], ◌++◌, length, codes}
 use Rattle.std.specs.List.{prefix_len}
 use Rattle.expr_reader.specs.Bytes.{is_white}
 use Rattle.expr_reader.specs.Faults.{fault_at, OnlyMemory, StandsIn}
@@ -7,7 +7,6 @@ use Rattle.expr_reader.specs.Reading.{Failure}
 use Rattle.expr_reader.specs.Template.{Piece, has_mark, end_place, Pieces, names_status, trimmed}
 use Rattle.expr_reader.specs.TemplateView.{template_of}
 use Rattle.expr_reader.specs.declared.fault.ExprFault.{ExprFault}
-use Rattle.expr_reader.specs.declared.fault.Fault.{Fault}
 use Rattle.expr_reader.specs.declared.template.Template.{Template}
 use Rattle.expr_reader.specs.declared.fault.Fault.TheVariants.{TooLong, UnclosedTemplate, StatusHere}
 

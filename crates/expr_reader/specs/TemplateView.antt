@@ -1,5 +1,5 @@
 -- The pieces that a template stands for.
-use Rattle.std.specs.Prelude.{ℕ, Option, Some, None, List, map, string_bytes, Vec}
+use Rattle.std.specs.Prelude.{ℕ, List, map, string_bytes, Vec}
 use Rattle.std.specs.Borrow.{Bor}
 use Rattle.std.specs.declared.alloc.Global.{Global}
 use Rattle.expr_reader.specs.Template.{Piece, plain, marked}

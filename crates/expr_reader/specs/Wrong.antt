@@ -1,5 +1,5 @@
 -- What is wrong with a text at the place of a fault.
-use Rattle.std.specs.Prelude.{◌≡◌, ◌≢◌, ℕ, ℤ, ◌<◌, false, Some, List, [], ◌∷◌, ◌++◌, codes}
+use Rattle.std.specs.Prelude.{◌≡◌, ◌≢◌, ℕ, ℤ, ◌<◌, false, Some, List, ◌∷◌, ◌++◌, codes}
 use Rattle.expr_reader.specs.Bytes.{begins_name, is_name, begins_number, is_number, is_byte, Stops, IsWord, IsNumeral}
 use Rattle.expr_reader.specs.Expr.{Expr, Exprs, call, count, depth}
 use Rattle.expr_reader.specs.Fold.{fold}

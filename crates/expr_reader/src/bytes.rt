@@ -25,7 +25,8 @@ impl Class {
         match self {
             Class::White => matches!(byte, b' ' | b'\t' | b'\r' | b'\n'),
             Class::Name => byte.is_ascii_alphanumeric() || matches!(byte, b'_' | b'-'),
-            Class::Number => byte.is_ascii_alphanumeric() || matches!(byte, b'_' | b'.' | b'+' | b'-'),
+            Class::Number => byte.is_ascii_alphanumeric()
+                || matches!(byte, b'_' | b'.' | b'+' | b'-'),
         }
     }
 }
@@ -48,7 +49,10 @@ pub(crate) fn begins_number(byte: u8) -> bool
 fn run_length(bytes: &[u8], class: Class) -> usize
     ensures { result ≡ prefix_len (in_class class) bytes.now }
 {
-    bytes.iter().take_while(|byte| class.contains(**byte)).count()
+    bytes
+        .iter()
+        .take_while(|byte| class.contains(**byte))
+        .count()
 }
 
 /// The text's longest front of bytes of the class, and the rest.
@@ -65,7 +69,11 @@ pub(crate) fn split_run(text: &str, class: Class) -> (&str, &str)
 fn white_end(bytes: &[u8]) -> usize
     ensures { result ≡ suffix_len is_white bytes.now }
 {
-    bytes.iter().rev().take_while(|byte| Class::White.contains(**byte)).count()
+    bytes
+        .iter()
+        .rev()
+        .take_while(|byte| Class::White.contains(**byte))
+        .count()
 }
 
 /// The text without the white space at its end.

@@ -149,9 +149,21 @@ fn ascii_operator(first: u8, rest: &str) -> Result<(Token, &str), Refusal>
         b'.' => Ok((Token::Mark(Mark::Dot), rest)),
         b',' => Ok((Token::Mark(Mark::Comma), rest)),
         b'*' => Ok((Token::Mark(Mark::Star), rest)),
-        b'!' => Ok(paired(Token::Mark(Mark::Not), Token::Equational(Equality::NotEqual), rest)),
-        b'<' => Ok(paired(Token::Relational(Relation::Less), Token::Relational(Relation::AtMost), rest)),
-        b'>' => Ok(paired(Token::Relational(Relation::Greater), Token::Relational(Relation::AtLeast), rest)),
+        b'!' => Ok(paired(
+            Token::Mark(Mark::Not),
+            Token::Equational(Equality::NotEqual),
+            rest,
+        )),
+        b'<' => Ok(paired(
+            Token::Relational(Relation::Less),
+            Token::Relational(Relation::AtMost),
+            rest,
+        )),
+        b'>' => Ok(paired(
+            Token::Relational(Relation::Greater),
+            Token::Relational(Relation::AtLeast),
+            rest,
+        )),
         b'=' => followed(b'=', Token::Equational(Equality::Equal), rest),
         b'&' => followed(b'&', Token::Mark(Mark::Both), rest),
         b'|' => followed(b'|', Token::Mark(Mark::Either), rest),
@@ -161,7 +173,11 @@ fn ascii_operator(first: u8, rest: &str) -> Result<(Token, &str), Refusal>
 
 /// The token that the text begins with, after a dot or not, and the rest; or none at the end. The text has
 /// no white space in front.
-pub(crate) fn next_token(alloc: Global, text: &str, dotted: bool) -> Result<Option<(Token, &str)>, Refusal>
+pub(crate) fn next_token(
+    alloc: Global,
+    text: &str,
+    dotted: bool,
+) -> Result<Option<(Token, &str)>, Refusal>
     ensures { Gives some_lexed result (lexer.next_at dotted text.now) }
 {
     match text.as_bytes() {

@@ -1,4 +1,10 @@
-//! Reads the expressions of GitHub Actions.
+//! Reads the expression language of GitHub Actions: single expressions, templates and conditions.
+//!
+//! `read_expr` answers a tree exactly where the text spells one within the limits, and no text spells two;
+//! `read_template` and `read_condition` do the same for texts with expressions in them. A fault that is
+//! answered stands in the text. `fold` and `same_text` say what "ignoring case" means, `names_status`
+//! whether a template calls a status function. What a text spells is defined in `specs/Spells.antt` and
+//! `specs/Template.antt`, over `specs/Grammar.antt` and `specs/Spelling.antt`. The crate stands on no other.
 #![tactic(auto)]
 
 mod bytes;
@@ -23,7 +29,7 @@ pub use folding::{fold, same_text};
 pub use reader::{one_reading, read_expr};
 pub use status::names_status;
 pub use template::{Piece, Template};
-pub use templates::{read_condition, read_template};
+pub use templates::{condition_test, read_condition, read_template, template_test};
 pub use tree::{Context, Equality, Function, Literal, Relation, Tree, Wildcard};
 
 #[cfg(test)]

@@ -92,7 +92,10 @@ fn related(alloc: Global, operand: Operand, mut frames: Vec<Frame>) -> Result<He
     ensures { Gives held result (machine.related (tree_of operand) (parts frames)) }
 {
     match pop(&mut frames) {
-        Some(Frame::Relation(relation, left)) => Ok((Operand::relation(alloc, relation, left, operand)?, frames)),
+        Some(Frame::Relation(relation, left)) => Ok((
+            Operand::relation(alloc, relation, left, operand)?,
+            frames,
+        )),
         Some(frame) => {
             push(&mut frames, frame)?;
             Ok((operand, frames))
@@ -106,7 +109,10 @@ fn equated(alloc: Global, operand: Operand, mut frames: Vec<Frame>) -> Result<He
     ensures { Gives held result (machine.equated (tree_of operand) (parts frames)) }
 {
     match pop(&mut frames) {
-        Some(Frame::Equality(equality, left)) => Ok((Operand::equality(alloc, equality, left, operand)?, frames)),
+        Some(Frame::Equality(equality, left)) => Ok((
+            Operand::equality(alloc, equality, left, operand)?,
+            frames,
+        )),
         Some(frame) => {
             push(&mut frames, frame)?;
             Ok((operand, frames))
@@ -188,7 +194,11 @@ fn both_more(alloc: Global, operand: Operand, mut frames: Vec<Frame>) -> Result<
 }
 
 // A chain of `||` begins with the operand, or goes on with it.
-fn either_more(alloc: Global, operand: Operand, mut frames: Vec<Frame>) -> Result<Vec<Frame>, Refusal>
+fn either_more(
+    alloc: Global,
+    operand: Operand,
+    mut frames: Vec<Frame>,
+) -> Result<Vec<Frame>, Refusal>
     ensures { Gives parts result (Ok (machine.either_more (tree_of operand) (parts frames))) }
 {
     match pop(&mut frames) {
@@ -205,13 +215,19 @@ fn either_more(alloc: Global, operand: Operand, mut frames: Vec<Frame>) -> Resul
 fn have(operand: Operand, frames: Vec<Frame>) -> Machine
     ensures { state_of result ≡ machine.have (tree_of operand) (parts frames) }
 {
-    Machine { mode: Mode::Have(operand), frames }
+    Machine {
+        mode: Mode::Have(operand),
+        frames,
+    }
 }
 
 fn want(frames: Vec<Frame>) -> Machine
     ensures { state_of result ≡ machine.want (parts frames) }
 {
-    Machine { mode: Mode::Want, frames }
+    Machine {
+        mode: Mode::Want,
+        frames,
+    }
 }
 
 fn opened(mut frames: Vec<Frame>, frame: Frame) -> Result<Machine, Refusal>
@@ -227,7 +243,10 @@ fn end_round(alloc: Global, operand: Operand, mut frames: Vec<Frame>) -> Result<
 {
     match pop(&mut frames) {
         Some(Frame::Group) => Ok(have(Operand::group(alloc, operand)?, frames)),
-        Some(Frame::Call(function, trees)) => Ok(have(Operand::call(function, trees.push(operand)?)?, frames)),
+        Some(Frame::Call(function, trees)) => Ok(have(
+            Operand::call(function, trees.push(operand)?)?,
+            frames,
+        )),
         _ => Err(unexpected()),
     }
 }
@@ -247,7 +266,10 @@ fn end_argument(operand: Operand, mut frames: Vec<Frame>) -> Result<Machine, Ref
     ensures { Gives state_of result (machine.end_argument (tree_of operand) (parts frames)) }
 {
     match pop(&mut frames) {
-        Some(Frame::Call(function, trees)) => opened(frames, Frame::Call(function, trees.push(operand)?)),
+        Some(Frame::Call(function, trees)) => opened(
+            frames,
+            Frame::Call(function, trees.push(operand)?),
+        ),
         _ => Err(unexpected()),
     }
 }
@@ -274,7 +296,10 @@ fn star_index(mut frames: Vec<Frame>) -> Result<Machine, Refusal>
     ensures { Gives state_of result (machine.star_index (parts frames)) }
 {
     match pop(&mut frames) {
-        Some(Frame::Index(base)) => Ok(Machine { mode: Mode::Starred(base), frames }),
+        Some(Frame::Index(base)) => Ok(Machine {
+            mode: Mode::Starred(base),
+            frames,
+        }),
         _ => Err(unexpected()),
     }
 }
@@ -287,11 +312,17 @@ fn want_mark(frames: Vec<Frame>, mark: Mark) -> Result<Machine, Refusal>
         Mark::Close => end_empty(frames),
         Mark::Star => star_index(frames),
         Mark::Not => opened(frames, Frame::Not),
-        Mark::OpenIndex | Mark::CloseIndex | Mark::Dot | Mark::Comma | Mark::Both | Mark::Either => Err(unexpected()),
+        Mark::OpenIndex | Mark::CloseIndex | Mark::Dot | Mark::Comma | Mark::Both | Mark::Either =>
+            Err(unexpected()),
     }
 }
 
-fn have_mark(alloc: Global, operand: Operand, frames: Vec<Frame>, mark: Mark) -> Result<Machine, Refusal>
+fn have_mark(
+    alloc: Global,
+    operand: Operand,
+    frames: Vec<Frame>,
+    mark: Mark,
+) -> Result<Machine, Refusal>
     ensures { Gives state_of result (machine.have_mark (tree_of operand) (parts frames) mark) }
 {
     match mark {
@@ -304,7 +335,10 @@ fn have_mark(alloc: Global, operand: Operand, frames: Vec<Frame>, mark: Mark) ->
             let (operand, frames) = close_either(alloc, operand, frames)?;
             end_index(alloc, operand, frames)
         }
-        Mark::Dot => Ok(Machine { mode: Mode::Dotted(operand), frames }),
+        Mark::Dot => Ok(Machine {
+            mode: Mode::Dotted(operand),
+            frames,
+        }),
         Mark::Comma => {
             let (operand, frames) = close_either(alloc, operand, frames)?;
             end_argument(operand, frames)
@@ -327,13 +361,21 @@ fn want_token(frames: Vec<Frame>, token: Token) -> Result<Machine, Refusal>
     match token {
         Token::Constant(literal) => Ok(have(Operand::literal(literal), frames)),
         Token::Root(context) => Ok(have(Operand::context(context), frames)),
-        Token::Callee(function) => Ok(Machine { mode: Mode::Called(function), frames }),
+        Token::Callee(function) => Ok(Machine {
+            mode: Mode::Called(function),
+            frames,
+        }),
         Token::Mark(mark) => want_mark(frames, mark),
         Token::Name(_) | Token::Relational(_) | Token::Equational(_) => Err(unexpected()),
     }
 }
 
-fn have_token(alloc: Global, operand: Operand, frames: Vec<Frame>, token: Token) -> Result<Machine, Refusal>
+fn have_token(
+    alloc: Global,
+    operand: Operand,
+    frames: Vec<Frame>,
+    token: Token,
+) -> Result<Machine, Refusal>
     ensures { Gives state_of result (machine.have_step (tree_of operand) (parts frames) (token_of token)) }
 {
     match token {
@@ -346,21 +388,36 @@ fn have_token(alloc: Global, operand: Operand, frames: Vec<Frame>, token: Token)
             opened(frames, Frame::Equality(equality, left))
         }
         Token::Mark(mark) => have_mark(alloc, operand, frames, mark),
-        Token::Constant(_) | Token::Root(_) | Token::Callee(_) | Token::Name(_) => Err(unexpected()),
+        Token::Constant(_) | Token::Root(_) | Token::Callee(_) | Token::Name(_) => Err(
+            unexpected(),
+        ),
     }
 }
 
-fn dotted_token(alloc: Global, base: Operand, frames: Vec<Frame>, token: Token) -> Result<Machine, Refusal>
+fn dotted_token(
+    alloc: Global,
+    base: Operand,
+    frames: Vec<Frame>,
+    token: Token,
+) -> Result<Machine, Refusal>
     ensures { Gives state_of result (machine.dotted_step (tree_of base) (parts frames) (token_of token)) }
 {
     match token {
         Token::Name(name) => Ok(have(Operand::property(alloc, base, name)?, frames)),
-        Token::Mark(Mark::Star) => Ok(have(Operand::wildcard(alloc, Wildcard::Dotted, base)?, frames)),
+        Token::Mark(Mark::Star) => Ok(have(
+            Operand::wildcard(alloc, Wildcard::Dotted, base)?,
+            frames,
+        )),
         _ => Err(unexpected()),
     }
 }
 
-fn called_token(alloc: Global, function: Function, frames: Vec<Frame>, token: Token) -> Result<Machine, Refusal>
+fn called_token(
+    alloc: Global,
+    function: Function,
+    frames: Vec<Frame>,
+    token: Token,
+) -> Result<Machine, Refusal>
     ensures { Gives state_of result (machine.called_step function (parts frames) (token_of token)) }
 {
     match token {
@@ -369,11 +426,19 @@ fn called_token(alloc: Global, function: Function, frames: Vec<Frame>, token: To
     }
 }
 
-fn starred_token(alloc: Global, base: Operand, frames: Vec<Frame>, token: Token) -> Result<Machine, Refusal>
+fn starred_token(
+    alloc: Global,
+    base: Operand,
+    frames: Vec<Frame>,
+    token: Token,
+) -> Result<Machine, Refusal>
     ensures { Gives state_of result (machine.starred_step (tree_of base) (parts frames) (token_of token)) }
 {
     match token {
-        Token::Mark(Mark::CloseIndex) => Ok(have(Operand::wildcard(alloc, Wildcard::Bracketed, base)?, frames)),
+        Token::Mark(Mark::CloseIndex) => Ok(have(
+            Operand::wildcard(alloc, Wildcard::Bracketed, base)?,
+            frames,
+        )),
         _ => Err(unexpected()),
     }
 }

@@ -47,7 +47,10 @@ impl Trees {
     pub(crate) fn new(alloc: Global) -> Trees
         ensures { result.trees.items ≡ [] }
     {
-        Trees { trees: Vec::new(alloc), height: 0 }
+        Trees {
+            trees: Vec::new(alloc),
+            height: 0,
+        }
     }
 
     pub(crate) fn is_empty(&self) -> bool
@@ -64,7 +67,10 @@ impl Trees {
         let Trees { mut trees, height } = self;
         let Operand { tree, height: last } = operand;
         trees.push(tree)?;
-        Ok(Trees { trees, height: height.max(last) })
+        Ok(Trees {
+            trees,
+            height: height.max(last),
+        })
     }
 }
 
@@ -72,13 +78,19 @@ impl Operand {
     pub(crate) fn literal(literal: Literal) -> Operand
         ensures { view result.tree ≡ literal_of (constant_of literal) }
     {
-        Operand { tree: Tree::Literal(literal), height: 1 }
+        Operand {
+            tree: Tree::Literal(literal),
+            height: 1,
+        }
     }
 
     pub(crate) fn context(context: Context) -> Operand
         ensures { view result.tree ≡ context_of context }
     {
-        Operand { tree: Tree::Context(context), height: 1 }
+        Operand {
+            tree: Tree::Context(context),
+            height: 1,
+        }
     }
 
     pub(crate) fn group(alloc: Global, inner: Operand) -> Result<Operand, Refusal>
@@ -86,7 +98,10 @@ impl Operand {
     {
         let height = height_above(inner.height)?;
         let inner = Box::new(alloc, inner.tree)?;
-        Ok(Operand { tree: Tree::Group(inner), height })
+        Ok(Operand {
+            tree: Tree::Group(inner),
+            height,
+        })
     }
 
     pub(crate) fn property(alloc: Global, base: Operand, name: String) -> Result<Operand, Refusal>
@@ -94,7 +109,10 @@ impl Operand {
     {
         let height = height_above(base.height)?;
         let base = Box::new(alloc, base.tree)?;
-        Ok(Operand { tree: Tree::Property(base, name), height })
+        Ok(Operand {
+            tree: Tree::Property(base, name),
+            height,
+        })
     }
 
     pub(crate) fn index(alloc: Global, base: Operand, index: Operand) -> Result<Operand, Refusal>
@@ -103,15 +121,25 @@ impl Operand {
         let height = height_above(base.height.max(index.height))?;
         let base = Box::new(alloc, base.tree)?;
         let index = Box::new(alloc, index.tree)?;
-        Ok(Operand { tree: Tree::Index(base, index), height })
+        Ok(Operand {
+            tree: Tree::Index(base, index),
+            height,
+        })
     }
 
-    pub(crate) fn wildcard(alloc: Global, wildcard: Wildcard, base: Operand) -> Result<Operand, Refusal>
+    pub(crate) fn wildcard(
+        alloc: Global,
+        wildcard: Wildcard,
+        base: Operand,
+    ) -> Result<Operand, Refusal>
         ensures { Gives (λ o. view o.tree) result (node (wildcard_of wildcard (view base.tree))) }
     {
         let height = height_above(base.height)?;
         let base = Box::new(alloc, base.tree)?;
-        Ok(Operand { tree: Tree::Wildcard(wildcard, base), height })
+        Ok(Operand {
+            tree: Tree::Wildcard(wildcard, base),
+            height,
+        })
     }
 
     pub(crate) fn not(alloc: Global, operand: Operand) -> Result<Operand, Refusal>
@@ -119,39 +147,64 @@ impl Operand {
     {
         let height = height_above(operand.height)?;
         let operand = Box::new(alloc, operand.tree)?;
-        Ok(Operand { tree: Tree::Not(operand), height })
+        Ok(Operand {
+            tree: Tree::Not(operand),
+            height,
+        })
     }
 
-    pub(crate) fn relation(alloc: Global, relation: Relation, left: Operand, right: Operand) -> Result<Operand, Refusal>
+    pub(crate) fn relation(
+        alloc: Global,
+        relation: Relation,
+        left: Operand,
+        right: Operand,
+    ) -> Result<Operand, Refusal>
         ensures { Gives (λ o. view o.tree) result (node (relation_of relation (view left.tree) (view right.tree))) }
     {
         let height = height_above(left.height.max(right.height))?;
         let left = Box::new(alloc, left.tree)?;
         let right = Box::new(alloc, right.tree)?;
-        Ok(Operand { tree: Tree::Relation(relation, left, right), height })
+        Ok(Operand {
+            tree: Tree::Relation(relation, left, right),
+            height,
+        })
     }
 
-    pub(crate) fn equality(alloc: Global, equality: Equality, left: Operand, right: Operand) -> Result<Operand, Refusal>
+    pub(crate) fn equality(
+        alloc: Global,
+        equality: Equality,
+        left: Operand,
+        right: Operand,
+    ) -> Result<Operand, Refusal>
         ensures { Gives (λ o. view o.tree) result (node (equality_of equality (view left.tree) (view right.tree))) }
     {
         let height = height_above(left.height.max(right.height))?;
         let left = Box::new(alloc, left.tree)?;
         let right = Box::new(alloc, right.tree)?;
-        Ok(Operand { tree: Tree::Equality(equality, left, right), height })
+        Ok(Operand {
+            tree: Tree::Equality(equality, left, right),
+            height,
+        })
     }
 
     pub(crate) fn both(parts: Trees) -> Result<Operand, Refusal>
         ensures { Gives (λ o. view o.tree) result (node (both_of (exprs_of (views parts.trees.items)))) }
     {
         let height = height_above(parts.height)?;
-        Ok(Operand { tree: Tree::Both(parts.trees), height })
+        Ok(Operand {
+            tree: Tree::Both(parts.trees),
+            height,
+        })
     }
 
     pub(crate) fn either(parts: Trees) -> Result<Operand, Refusal>
         ensures { Gives (λ o. view o.tree) result (node (either_of (exprs_of (views parts.trees.items)))) }
     {
         let height = height_above(parts.height)?;
-        Ok(Operand { tree: Tree::Either(parts.trees), height })
+        Ok(Operand {
+            tree: Tree::Either(parts.trees),
+            height,
+        })
     }
 
     #[tactic(auto, using(crate::proofs::Depths::count_views))]
@@ -169,7 +222,10 @@ impl Operand {
         ensures { Gives (λ o. view o.tree) result (node (call_of function (exprs_of (views arguments.trees.items)))) }
     {
         let height = height_above(arguments.height)?;
-        Ok(Operand { tree: Tree::Call(function, arguments.trees), height })
+        Ok(Operand {
+            tree: Tree::Call(function, arguments.trees),
+            height,
+        })
     }
 }
 
@@ -182,6 +238,7 @@ fn takes(function: Function, count: usize) -> bool
         Function::Format => 1 <= count,
         Function::Join => 1 <= count && count <= 2,
         Function::ToJson | Function::FromJson => count == 1,
-        Function::Success | Function::Failure | Function::Cancelled | Function::Always => count == 0,
+        Function::Success | Function::Failure | Function::Cancelled | Function::Always => count
+            == 0,
     }
 }

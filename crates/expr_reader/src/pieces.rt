@@ -15,12 +15,17 @@ use crate::tree::Tree;
 use std::alloc::Global;
 
 // The piece that a text begins with, and the rest. The text's end has the place size.
-fn next_piece(alloc: Global, text: &str, size: usize) -> Result<(Piece, &str), ExprFault>
+fn next_piece<'a>(
+    alloc: Global,
+    text: &'a str,
+    size: usize,
+    status: &mut Option<usize>,
+) -> Result<(Piece, &'a str), ExprFault>
     requires { length text.now ≤ size }
     ensures { Answers piece_and_rest result (piece_at size text.now) }
 {
     if begins_mark(text.as_bytes()) {
-        return marked_piece(alloc, text, size);
+        return marked_piece(alloc, text, size, status);
     }
     let (plain, rest) = split_mark(text);
     match String::from_str(alloc, plain) {
@@ -30,14 +35,19 @@ fn next_piece(alloc: Global, text: &str, size: usize) -> Result<(Piece, &str), E
 }
 
 // The expression that is marked at the front of a text.
-fn marked_piece(alloc: Global, text: &str, size: usize) -> Result<(Piece, &str), ExprFault>
+fn marked_piece<'a>(
+    alloc: Global,
+    text: &'a str,
+    size: usize,
+    status: &mut Option<usize>,
+) -> Result<(Piece, &'a str), ExprFault>
     requires short { length text.now ≤ size }
     requires mark { begins_mark_of text.now ≡ true }
     ensures { Answers piece_and_rest result (piece_at size text.now) }
 {
     let (_, after) = text.split_at(3);
     match split_end(after) {
-        Some((inside, rest)) => match read_at(alloc, inside, size - after.len()) {
+        Some((inside, rest)) => match read_at(alloc, inside, size - after.len(), status) {
             Ok(tree) => Ok((Piece::Expression(tree), rest)),
             Err(fault) => Err(fault),
         },
@@ -57,15 +67,21 @@ fn push(pieces: &mut Vec<Piece>, piece: Piece, place: usize) -> Result<(), ExprF
     }
 }
 
-/// The pieces of a text whose end has the place size.
-pub(crate) fn read_pieces(alloc: Global, text: &str, size: usize) -> Result<Vec<Piece>, ExprFault>
+/// The pieces of a text whose end has the place size. The place of the first status function goes to
+/// status, where none stands there yet.
+pub(crate) fn read_pieces(
+    alloc: Global,
+    text: &str,
+    size: usize,
+    status: &mut Option<usize>,
+) -> Result<Vec<Piece>, ExprFault>
     requires { length text.now ≤ size }
     ensures { Answers pieces_of_vec result (read_pieces_of size text.now) }
 {
     let mut pieces = Vec::new(alloc);
     let mut rest = text;
     'pieces: while !rest.is_empty() {
-        match next_piece(alloc, rest, size) {
+        match next_piece(alloc, rest, size, status) {
             Ok((piece, after)) => {
                 push(&mut pieces, piece, size - rest.len())?;
                 rest = after;

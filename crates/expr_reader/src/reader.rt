@@ -45,8 +45,14 @@ fn placed(fault: Fault, place: usize) -> ExprFault
     }
 }
 
-// Reads an expression of any length, which begins at the place base.
-fn read_tokens(alloc: Global, text: &str, base: usize) -> Result<Tree, ExprFault>
+// Reads an expression of any length, which begins at the place base. The place of the first status
+// function goes to status, where none stands there yet.
+fn read_tokens(
+    alloc: Global,
+    text: &str,
+    base: usize,
+    status: &mut Option<usize>,
+) -> Result<Tree, ExprFault>
     requires { base + length text.now < 2 ^ 64 }
     ensures { Answers view result (read_tokens base text.now) }
 {
@@ -63,26 +69,37 @@ fn read_tokens(alloc: Global, text: &str, base: usize) -> Result<Tree, ExprFault
                     Err(refusal) => Err(at(refusal, place)),
                 };
             }
-            Ok(Some((token, after))) => match machine.advance(alloc, token) {
-                Err(refusal) => return Err(at(refusal, place)),
-                Ok(advanced) => {
-                    machine = advanced;
-                    rest = after;
+            Ok(Some((token, after))) => {
+                if status.is_none() && token.names_status() {
+                    *status = Some(place);
                 }
-            },
+                match machine.advance(alloc, token) {
+                    Err(refusal) => return Err(at(refusal, place)),
+                    Ok(advanced) => {
+                        machine = advanced;
+                        rest = after;
+                    }
+                }
+            }
         }
     }
 }
 
-/// Reads an expression, which begins at the place base of a longer text.
-pub(crate) fn read_at(alloc: Global, text: &str, base: usize) -> Result<Tree, ExprFault>
+/// Reads an expression, which begins at the place base of a longer text. The place of the first status
+/// function goes to status, where none stands there yet.
+pub(crate) fn read_at(
+    alloc: Global,
+    text: &str,
+    base: usize,
+    status: &mut Option<usize>,
+) -> Result<Tree, ExprFault>
     requires { base + length text.now < 2 ^ 64 }
     ensures { Answers view result (read_text base text.now) }
 {
     if text.len() > LONGEST {
         return Err(ExprFault::TooLong(base + LONGEST));
     }
-    read_tokens(alloc, text, base)
+    read_tokens(alloc, text, base, status)
 }
 
 /// Reads an expression, of at most 20,000 bytes and with a tree that is at most 50 deep.
@@ -101,11 +118,11 @@ pub fn read_expr(alloc: Global, text: &str) -> Result<Tree, ExprFault>
     ensures only { (e : Expr) → Spells e text.now → IsRead result e }
     ensures stands { IfErr result (λ fault. FaultStands text.now fault) }
 {
-    read_at(alloc, text, 0)
+    let mut status = None;
+    read_at(alloc, text, 0, &mut status)
 }
 
 /// No text spells two expressions.
 pub fn one_reading()
     ensures { (t u : Expr) (text : List ℕ) → Spells t text → Spells u text → t ≡ u }
-{
-}
+{}

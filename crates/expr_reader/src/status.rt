@@ -9,8 +9,8 @@ ghost use Rattle.expr_reader.specs.View.{view, views};
 use crate::template::{Piece, Template};
 use crate::tree::{Function, Tree};
 
-// Whether it is a status function.
-fn is_status(function: Function) -> bool
+/// Whether it is a status function.
+pub(crate) fn is_status(function: Function) -> bool
     ensures { result ≡ is_status_of function }
 {
     match function {
@@ -32,7 +32,8 @@ fn tree_names_status(tree: &Tree) -> bool
 {
     match tree {
         Tree::Literal(_) | Tree::Context(_) => false,
-        Tree::Call(function, arguments) => is_status(*function) || any_names_status(arguments.as_slice()),
+        Tree::Call(function, arguments) => is_status(*function)
+            || any_names_status(arguments.as_slice()),
         Tree::Group(inner) => tree_names_status(inner),
         Tree::Property(base, _) => tree_names_status(base),
         Tree::Index(base, index) => tree_names_status(base) || tree_names_status(index),

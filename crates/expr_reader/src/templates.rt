@@ -1,7 +1,8 @@
 //! Reads templates and conditions.
 
-ghost use Rattle.std.specs.Prelude.{◌≡◌, ◌+◌, ◌^◌, ◌<◌, List, length, IfOk, IfErr};
-ghost use Rattle.expr_reader.specs.Template.{Piece as PieceOf, SpellsTemplate, SpellsCondition};
+ghost use Rattle.std.specs.Prelude.{◌≡◌, ℕ, ◌+◌, ◌^◌, ◌<◌, ◌↔◌, IsTrue, List, length, IfOk, IfErr};
+ghost use Rattle.expr_reader.specs.Template.{Piece as PieceOf, SpellsTemplate, IsTemplate, SpellsCondition, IsCondition};
+ghost use Rattle.expr_reader.specs.Accepts.{is_template, is_condition};
 ghost use Rattle.expr_reader.specs.Faults.{Answers};
 ghost use Rattle.expr_reader.specs.TemplateReading.{read_trimmed};
 ghost use Rattle.expr_reader.specs.TemplateStands.{IsReadAs, TemplateFaultStands, ConditionFaultStands};
@@ -38,11 +39,12 @@ pub fn read_template(alloc: Global, text: &str) -> Result<Template, ExprFault>
     if text.len() > LONGEST {
         return Err(ExprFault::TooLong(LONGEST));
     }
-    match read_pieces(alloc, text, text.len()) {
+    let mut status = None;
+    match read_pieces(alloc, text, text.len(), &mut status) {
         Ok(pieces) => {
             let template = Template { pieces };
             if names_status(&template) {
-                return Err(ExprFault::StatusHere(0));
+                return Err(ExprFault::StatusHere(status.unwrap_or(0)));
             }
             Ok(template)
         }
@@ -77,8 +79,9 @@ fn read_trimmed(alloc: Global, text: &str, base: usize) -> Result<Template, Expr
     requires { base + length text.now < 2 ^ 64 }
     ensures { Answers template_of result (read_trimmed base text.now) }
 {
+    let mut status = None;
     if !has_mark(text) {
-        return match read_at(alloc, text, base) {
+        return match read_at(alloc, text, base, &mut status) {
             Ok(tree) => single(alloc, tree, base),
             Err(fault) => Err(fault),
         };
@@ -86,8 +89,18 @@ fn read_trimmed(alloc: Global, text: &str, base: usize) -> Result<Template, Expr
     if text.len() > LONGEST {
         return Err(ExprFault::TooLong(base + LONGEST));
     }
-    match read_pieces(alloc, text, base + text.len()) {
+    match read_pieces(alloc, text, base + text.len(), &mut status) {
         Ok(pieces) => Ok(Template { pieces }),
         Err(fault) => Err(fault),
     }
 }
+
+/// The test `is_template` tells the templates.
+pub fn template_test()
+    ensures { (text : List ℕ) → IsTrue (is_template text) ↔ IsTemplate text }
+{}
+
+/// The test `is_condition` tells the conditions.
+pub fn condition_test()
+    ensures { (text : List ℕ) → IsTrue (is_condition text) ↔ IsCondition text }
+{}

@@ -12,7 +12,13 @@ fn shown(alloc: Global, text: &str) -> Result<String, Fail> {
 }
 
 // A text of many copies of three parts.
-fn nested(alloc: Global, open: &str, core: &str, close: &str, times: usize) -> Result<String, Fail> {
+fn nested(
+    alloc: Global,
+    open: &str,
+    core: &str,
+    close: &str,
+    times: usize,
+) -> Result<String, Fail> {
     let mut text = String::new(alloc);
     for _ in 0..times {
         text.push_str(open)?;
@@ -68,19 +74,43 @@ fn trees(rt: HostRuntime) -> Result<(), Fail> {
         ("env.success", "Property(Context(Env), \"success\")"),
         ("1 .x", "Property(Literal(Whole(1)), \"x\")"),
         ("needs.*", "Wildcard(Dotted, Context(Needs))"),
-        ("needs[ * ].a", "Property(Wildcard(Bracketed, Context(Needs)), \"a\")"),
-        ("matrix['os']", "Index(Context(Matrix), Literal(Text(\"os\")))"),
+        (
+            "needs[ * ].a",
+            "Property(Wildcard(Bracketed, Context(Needs)), \"a\")",
+        ),
+        (
+            "matrix['os']",
+            "Index(Context(Matrix), Literal(Text(\"os\")))",
+        ),
         ("SUCCESS()", "Call(Success, [])"),
-        ("contains('Hello', 'ELL')", "Call(Contains, [Literal(Text(\"Hello\")), Literal(Text(\"ELL\"))])"),
-        ("success() && !cancelled()", "Both([Call(Success, []), Not(Call(Cancelled, []))])"),
+        (
+            "contains('Hello', 'ELL')",
+            "Call(Contains, [Literal(Text(\"Hello\")), Literal(Text(\"ELL\"))])",
+        ),
+        (
+            "success() && !cancelled()",
+            "Both([Call(Success, []), Not(Call(Cancelled, []))])",
+        ),
         (
             "1 || 2 && 3 == 4 < !5",
             "Either([Literal(Whole(1)), Both([Literal(Whole(2)), Equality(Equal, Literal(Whole(3)), Relation(Less, Literal(Whole(4)), Not(Literal(Whole(5)))))])])",
         ),
-        ("1 == 2 != 3", "Equality(NotEqual, Equality(Equal, Literal(Whole(1)), Literal(Whole(2))), Literal(Whole(3)))"),
-        ("1<=2>=3", "Relation(AtLeast, Relation(AtMost, Literal(Whole(1)), Literal(Whole(2))), Literal(Whole(3)))"),
-        ("1&&2&&3", "Both([Literal(Whole(1)), Literal(Whole(2)), Literal(Whole(3))])"),
-        ("(1||2)||3", "Either([Group(Either([Literal(Whole(1)), Literal(Whole(2))])), Literal(Whole(3))])"),
+        (
+            "1 == 2 != 3",
+            "Equality(NotEqual, Equality(Equal, Literal(Whole(1)), Literal(Whole(2))), Literal(Whole(3)))",
+        ),
+        (
+            "1<=2>=3",
+            "Relation(AtLeast, Relation(AtMost, Literal(Whole(1)), Literal(Whole(2))), Literal(Whole(3)))",
+        ),
+        (
+            "1&&2&&3",
+            "Both([Literal(Whole(1)), Literal(Whole(2)), Literal(Whole(3))])",
+        ),
+        (
+            "(1||2)||3",
+            "Either([Group(Either([Literal(Whole(1)), Literal(Whole(2))])), Literal(Whole(3))])",
+        ),
         ("!!1", "Not(Not(Literal(Whole(1))))"),
     ] {
         assert_eq!(rt; shown(alloc, text)?.as_str(), want, "{text}");
@@ -156,7 +186,11 @@ fn eval_depth_of_parentheses(rt: HostRuntime) -> Result<(), Fail> {
         for (times, is_deep) in [(48, false), (49, false), (50, true)] {
             let text = nested(alloc, open, core, close, times)?;
             let fault = fault_of(alloc, text.as_str());
-            assert_eq!(rt; matches!(fault, Some(ExprFault::TooDeep(_))), is_deep, "{text}");
+            assert_eq!(rt;
+                matches!(fault, Some(ExprFault::TooDeep(_))),
+                is_deep,
+                "{text}"
+            );
             assert_eq!(rt; fault.is_none(), !is_deep, "{text}");
         }
     }
@@ -171,15 +205,24 @@ fn lengths(rt: HostRuntime) -> Result<(), Fail> {
     let at_most = nested(alloc, " ", "1", "", 19_999)?;
     assert_eq!(rt; fault_of(alloc, at_most.as_str()), None);
     let longer = nested(alloc, " ", "1", "", 20_000)?;
-    assert_eq!(rt; fault_of(alloc, longer.as_str()), Some(ExprFault::TooLong(20_000)));
+    assert_eq!(rt;
+        fault_of(alloc, longer.as_str()),
+        Some(ExprFault::TooLong(20_000))
+    );
     assert_eq!(rt; condition_fault(alloc, longer.as_str()), None);
     let inside = nested(alloc, " ", "}}", "", 20_001)?;
     let marked = format!(in alloc; "ab${{{{{inside}")?;
-    assert_eq!(rt; template_fault(alloc, marked.as_str()), Some(ExprFault::TooLong(20_005)));
+    assert_eq!(rt;
+        template_fault(alloc, marked.as_str()),
+        Some(ExprFault::TooLong(20_005))
+    );
     let template = nested(alloc, "a", "${{ 1 }}", "", 1_048_568)?;
     assert_eq!(rt; template_fault(alloc, template.as_str()), None);
     let longer = nested(alloc, "a", "${{ 1 }}", "", 1_048_569)?;
-    assert_eq!(rt; template_fault(alloc, longer.as_str()), Some(ExprFault::TooLong(1_048_576)));
+    assert_eq!(rt;
+        template_fault(alloc, longer.as_str()),
+        Some(ExprFault::TooLong(1_048_576))
+    );
     Ok(())
 }
 
@@ -190,9 +233,15 @@ fn templates(rt: HostRuntime) -> Result<(), Fail> {
         ("", "[]"),
         ("plain ' }} text", "[Text(\"plain ' }} text\")]"),
         ("a${{ 1 }}", "[Text(\"a\"), Expression(Literal(Whole(1)))]"),
-        ("$${{ 1 }}}", "[Text(\"$\"), Expression(Literal(Whole(1))), Text(\"}\")]"),
+        (
+            "$${{ 1 }}}",
+            "[Text(\"$\"), Expression(Literal(Whole(1))), Text(\"}\")]",
+        ),
         ("${{ '}}' }}", "[Expression(Literal(Text(\"}}\")))]"),
-        ("${{1}}${{2}}", "[Expression(Literal(Whole(1))), Expression(Literal(Whole(2)))]"),
+        (
+            "${{1}}${{2}}",
+            "[Expression(Literal(Whole(1))), Expression(Literal(Whole(2)))]",
+        ),
         ("${ {1}}", "[Text(\"${ {1}}\")]"),
     ] {
         let template = read_template(alloc, text)?;
@@ -206,11 +255,14 @@ fn templates(rt: HostRuntime) -> Result<(), Fail> {
         ("a${{}}", ExprFault::Unexpected(4)),
         ("a${{ }}", ExprFault::Unexpected(5)),
         ("${{ 1 }}${{ nope }}", ExprFault::UnknownName(12)),
+        ("${{ success() }}", ExprFault::StatusHere(4)),
+        ("a${{ 1 }}${{ env[!Always()] }}", ExprFault::StatusHere(18)),
+        (
+            "${{ join(failure(), 1) && cancelled() }}",
+            ExprFault::StatusHere(9),
+        ),
     ] {
         assert_eq!(rt; template_fault(alloc, text), Some(want), "{text}");
-    }
-    for text in ["${{ success() }}", "a${{ 1 }}${{ env[!Always()] }}", "${{ join(failure(), 1) && cancelled() }}"] {
-        assert_eq!(rt; matches!(template_fault(alloc, text), Some(ExprFault::StatusHere(_))), true, "{text}");
     }
     Ok(())
 }
@@ -221,9 +273,21 @@ fn conditions(rt: HostRuntime) -> Result<(), Fail> {
     for (text, want, status) in [
         (" success() ", "[Expression(Call(Success, []))]", true),
         ("\t${{ 1 }}\r\n", "[Expression(Literal(Whole(1)))]", false),
-        ("always() ${{ 1 }}", "[Text(\"always() \"), Expression(Literal(Whole(1)))]", false),
-        ("1 == '${{ 2 }}'", "[Text(\"1 == '\"), Expression(Literal(Whole(2))), Text(\"'\")]", false),
-        ("a ${{ always() }}", "[Text(\"a \"), Expression(Call(Always, []))]", true),
+        (
+            "always() ${{ 1 }}",
+            "[Text(\"always() \"), Expression(Literal(Whole(1)))]",
+            false,
+        ),
+        (
+            "1 == '${{ 2 }}'",
+            "[Text(\"1 == '\"), Expression(Literal(Whole(2))), Text(\"'\")]",
+            false,
+        ),
+        (
+            "a ${{ always() }}",
+            "[Text(\"a \"), Expression(Call(Always, []))]",
+            true,
+        ),
     ] {
         let template = read_condition(alloc, text)?;
         let shown = format!(in alloc; "{:?}", template.pieces)?;
@@ -245,7 +309,12 @@ fn conditions(rt: HostRuntime) -> Result<(), Fail> {
 fn texts_ignoring_case(rt: HostRuntime) -> Result<(), Fail> {
     let alloc = rt.alloc();
     assert_eq!(rt; fold(alloc, "AbZ[É0")?.as_str(), "abz[É0");
-    for (a, b, same) in [("ABC", "abc", true), ("É", "é", false), ("a", "ab", false), ("[", "{", false)] {
+    for (a, b, same) in [
+        ("ABC", "abc", true),
+        ("É", "é", false),
+        ("a", "ab", false),
+        ("[", "{", false),
+    ] {
         assert_eq!(rt; same_text(a, b), same, "{a} {b}");
     }
     assert_eq!(rt; Context::Github.name(), "github");

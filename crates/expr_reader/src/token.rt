@@ -1,5 +1,6 @@
 //! The tokens of an expression's text.
 
+use crate::status::is_status;
 use crate::tree::{Context, Equality, Function, Literal, Relation};
 
 /// Brackets, separators and the operators that are no comparison.
@@ -28,4 +29,14 @@ pub(crate) enum Token {
     Relational(Relation),
     Equational(Equality),
     Mark(Mark),
+}
+
+impl Token {
+    /// Whether it names a status function.
+    pub(crate) fn names_status(&self) -> bool {
+        match self {
+            Token::Callee(function) => is_status(*function),
+            _ => false,
+        }
+    }
 }

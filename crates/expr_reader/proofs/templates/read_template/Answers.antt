@@ -1,4 +1,4 @@
-use Rattle.std.proofs.Common.{◌≡◌, sym, refl, arith}
+use Rattle.std.proofs.Common.{sym, refl, arith}
 use Rattle.expr_reader.specs.TemplateStands.{status}
 use Rattle.expr_reader.specs.TemplateView.{pieces_of_vec}
 use Rattle.expr_reader.proofs.Conditions.{pieces_spelled, template_found, template_same, template_no_status, template_only_memory, template_stands}
