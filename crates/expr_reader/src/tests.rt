@@ -2,6 +2,7 @@
 
 use super::*;
 use std::alloc::Global;
+use std::process::Abort;
 use std::test::Fail;
 
 // What a text is read as, in the words of `Debug`.
@@ -318,5 +319,87 @@ fn texts_ignoring_case(rt: HostRuntime) -> Result<(), Fail> {
         assert_eq!(rt; same_text(a, b), same, "{a} {b}");
     }
     assert_eq!(rt; Context::Github.name(), "github");
+    Ok(())
+}
+
+// The place of a fault of the text.
+fn place_of(fault: ExprFault) -> Option<usize> {
+    match fault {
+        ExprFault::UnclosedText(n)
+        | ExprFault::BadNumber(n)
+        | ExprFault::BadChar(n)
+        | ExprFault::Unexpected(n)
+        | ExprFault::UnknownName(n)
+        | ExprFault::UnknownFunction(n)
+        | ExprFault::ArgumentCount(n)
+        | ExprFault::TooDeep(n)
+        | ExprFault::TooLong(n)
+        | ExprFault::UnclosedTemplate(n)
+        | ExprFault::StatusHere(n) => Some(n),
+        ExprFault::Memory(_) => None,
+    }
+}
+
+// Whether a text is read, or has a fault with a place in it.
+fn is_answered(fault: Option<ExprFault>, text: &str) -> bool {
+    match fault {
+        Some(fault) => place_of(fault).is_some_and(|place| place <= text.len()),
+        None => true,
+    }
+}
+
+#[test]
+fn cut_texts(rt: HostRuntime) {
+    let alloc = rt.alloc();
+    for text in [
+        "contains('Hello', 'ELL') && !cancelled()",
+        "format('{{{0}}}', 7) == 'é' || github.*.n[0] <= -9007199254740991",
+        "join(github.*.n, '-')[matrix['os']] != needs[*].result",
+        "a${{ 1 }}b${{ 'it''s }}' }}}",
+    ] {
+        for length in 0..text.len() {
+            if let Some((front, back)) = text.split_at_checked(length) {
+                for part in [front, back] {
+                    assert_eq!(rt; is_answered(fault_of(alloc, part), part), true, "{part}");
+                    assert_eq!(rt;
+                        is_answered(template_fault(alloc, part), part),
+                        true,
+                        "{part}"
+                    );
+                    assert_eq!(rt;
+                        is_answered(condition_fault(alloc, part), part),
+                        true,
+                        "{part}"
+                    );
+                }
+            }
+        }
+    }
+}
+
+// Each token after this one. Of two tokens only `!` and a literal or a context are an expression.
+fn pairs_with(rt: &impl Abort, alloc: Global, first: &str) -> Result<(), Fail> {
+    for second in [
+        "(", ")", "[", "]", ".", ",", "*", "!", "<", "<=", ">", ">=", "==", "!=", "&&", "||",
+        "null", "1", "'a'", "github", "success", "other",
+    ] {
+        let text = format!(in alloc; "{first} {second}")?;
+        let fault = fault_of(alloc, text.as_str());
+        assert_eq!(rt; is_answered(fault, text.as_str()), true, "{text}");
+        let is_read = first == "!" && matches!(second, "null" | "1" | "'a'" | "github");
+        assert_eq!(rt; fault.is_none(), is_read, "{text}");
+    }
+    Ok(())
+}
+
+#[test]
+fn pairs_of_tokens(rt: HostRuntime) -> Result<(), Fail> {
+    let alloc = rt.alloc();
+    for first in [
+        "(", ")", "[", "]", ".", ",", "*", "!", "<", "<=", ">", ">=", "==", "!=", "&&", "||",
+        "null", "1", "'a'", "github", "success", "other",
+    ] {
+        pairs_with(&rt, alloc, first)?;
+    }
     Ok(())
 }
