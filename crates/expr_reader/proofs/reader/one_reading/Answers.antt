@@ -1,0 +1,5 @@
+use Rattle.expr_reader.proofs.Expressions.{spelled_once}
+use Rattle.expr_reader.proofs.reader.one_reading.Goals as goal
+
+pub returns : goal.returns
+returns c = spelled_once

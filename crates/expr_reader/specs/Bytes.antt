@@ -1,0 +1,51 @@
+-- The bytes that tokens are made of.
+use Rattle.std.specs.Prelude.{◌≡◌, ℕ, Bool, true, ◌&&◌, ◌||◌, ◌==◌, nat_le, List, [], ◌∷◌, length}
+use Rattle.std.specs.List.{prefix_len}
+
+-- A space, a tab, a carriage return or a newline.
+abbrev pub is_white : ℕ → Bool
+is_white b = b == 32 || b == 9 || b == 13 || b == 10
+
+abbrev pub is_letter : ℕ → Bool
+is_letter b = nat_le 65 b && nat_le b 90 || nat_le 97 b && nat_le b 122
+
+abbrev pub is_digit : ℕ → Bool
+is_digit b = nat_le 48 b && nat_le b 57
+
+-- What a name begins with: a letter or _.
+abbrev pub begins_name : ℕ → Bool
+begins_name b = is_letter b || b == 95
+
+-- What a name goes on with: letters, digits, _ and -.
+abbrev pub is_name : ℕ → Bool
+is_name b = is_letter b || is_digit b || b == 95 || b == 45
+
+-- What a number begins with: a digit or -.
+abbrev pub begins_number : ℕ → Bool
+begins_number b = is_digit b || b == 45
+
+-- What a number goes on with: letters, digits, _, ., + and -.
+abbrev pub is_number : ℕ → Bool
+is_number b = is_letter b || is_digit b || b == 95 || b == 46 || b == 43 || b == 45
+
+-- The one byte c.
+abbrev pub is_byte : ℕ → ℕ → Bool
+is_byte c b = b == c
+
+-- Each byte passes.
+abbrev pub IsRun : (ℕ → Bool) → List ℕ → Type 0
+IsRun p bs = prefix_len p bs ≡ length bs
+
+-- The first byte does not pass, if there is one.
+abbrev pub Stops : (ℕ → Bool) → List ℕ → Type 0
+Stops p bs = prefix_len p bs ≡ 0
+
+-- A name.
+abbrev pub IsWord : List ℕ → Type 0
+IsWord [] = ⊥
+IsWord (b ∷ bs) = (begins_name b ≡ true) × IsRun is_name (b ∷ bs)
+
+-- What has to be a number, or is none.
+abbrev pub IsNumeral : List ℕ → Type 0
+IsNumeral [] = ⊥
+IsNumeral (b ∷ bs) = (begins_number b ≡ true) × IsRun is_number (b ∷ bs)

@@ -1,0 +1,21 @@
+-- What a step of a reader gives: a value, or what is wrong with the text.
+use Rattle.std.specs.Prelude.{◌≡◌, Result, Ok, Err}
+use Rattle.expr_reader.specs.declared.fault.Fault.{Fault}
+use Rattle.expr_reader.specs.declared.fault.Refusal.{Refusal}
+use Rattle.expr_reader.specs.declared.fault.Refusal.TheVariants as refusal
+
+infixl 10 ◌>>=◌
+-- The next step, on what the first one gave.
+abbrev pub ◌>>=◌ : {A B : Type 0} → Result A Fault → (A → Result B Fault) → Result B Fault
+(Ok x) >>= f = f x
+(Err e) >>= f = Err e
+
+-- A refusal is the step's fault, or want of memory.
+abbrev pub Fails : {A : Type 0} → Refusal → Result A Fault → Type 0
+Fails refusal.Memory step = Unit {0}
+Fails (refusal.Fault f) step = step ≡ Err f
+
+-- What a function returned, seen by view, is what the step gives, unless memory ran out.
+abbrev pub Gives : {X A : Type 0} → (X → A) → Result X Refusal → Result A Fault → Type 0
+Gives view (Ok x) step = step ≡ Ok (view x)
+Gives view (Err e) step = Fails e step

@@ -1,0 +1,244 @@
+//! Trees on their way, with their depths.
+
+ghost use Rattle.std.specs.Prelude.{◌≡◌, ◌≤◌, suc, ◌≢◌, ◌∷◌, ◌++◌, [], IfOk, IfErr, MatchBool, string_bytes};
+ghost use Rattle.expr_reader.specs.Expr.{depth as depth_of, deepest as deepest_of, exprs_of, literal as literal_of, context as context_of, call as call_of, group as group_of, property as property_of, index as index_of, wildcard as wildcard_of, opposite, relation as relation_of, equality as equality_of, both as both_of, either as either_of};
+ghost use Rattle.expr_reader.specs.Grammar.{takes as takes_of};
+ghost use Rattle.expr_reader.specs.Machine.{node, called_with};
+ghost use Rattle.expr_reader.specs.Outcome.{Gives};
+ghost use Rattle.expr_reader.specs.View.{view, views, constant_of};
+
+use crate::fault::{Fault, Refusal};
+use crate::tree::{Context, Equality, Function, Literal, Relation, Tree, Wildcard};
+use std::alloc::Global;
+
+/// How deep a tree may be.
+pub(crate) const DEEPEST: usize = 50;
+
+/// A tree that is whole, with its depth.
+#[derive(Drop)]
+pub(crate) struct Operand {
+    pub(crate) tree: Tree,
+    pub(crate) height: usize,
+    ghost measured: { height ≡ depth_of (view tree) },
+    ghost shallow: { height ≤ 50 },
+}
+
+/// Trees one after another, with the depth of the deepest.
+#[derive(Drop)]
+pub(crate) struct Trees {
+    pub(crate) trees: Vec<Tree>,
+    pub(crate) height: usize,
+    ghost measured: { height ≡ deepest_of (exprs_of (views trees.items)) },
+    ghost shallow: { height ≤ 50 },
+}
+
+// The depth of a node over parts of which the deepest is so deep.
+fn height_above(parts: usize) -> Result<usize, Refusal>
+    ensures ok { IfOk result (λ height. (height ≡ suc parts) × (height ≤ 50)) }
+    ensures err { IfErr result (λ e. (e ≡ Refusal.Fault Fault.TooDeep) × (50 ≤ parts)) }
+{
+    if parts >= DEEPEST {
+        return Err(Refusal::Fault(Fault::TooDeep));
+    }
+    Ok(parts + 1)
+}
+
+impl Trees {
+    pub(crate) fn new(alloc: Global) -> Trees
+        ensures { result.trees.items ≡ [] }
+    {
+        Trees {
+            trees: Vec::new(alloc),
+            height: 0,
+        }
+    }
+
+    pub(crate) fn is_empty(&self) -> bool
+        ensures { MatchBool result (self.now.trees.items ≡ []) (self.now.trees.items ≢ []) }
+    {
+        self.trees.is_empty()
+    }
+
+    #[tactic(auto, using(crate::proofs::Depths::deepest_push))]
+    pub(crate) fn push(self, operand: Operand) -> Result<Trees, Refusal>
+        ensures ok { IfOk result (λ t. views t.trees.items ≡ views self.trees.items ++ view operand.tree ∷ []) }
+        ensures err { IfErr result (λ e. e ≡ Refusal.Memory) }
+    {
+        let Trees { mut trees, height } = self;
+        let Operand { tree, height: last } = operand;
+        trees.push(tree)?;
+        Ok(Trees {
+            trees,
+            height: height.max(last),
+        })
+    }
+}
+
+impl Operand {
+    pub(crate) fn literal(literal: Literal) -> Operand
+        ensures { view result.tree ≡ literal_of (constant_of literal) }
+    {
+        Operand {
+            tree: Tree::Literal(literal),
+            height: 1,
+        }
+    }
+
+    pub(crate) fn context(context: Context) -> Operand
+        ensures { view result.tree ≡ context_of context }
+    {
+        Operand {
+            tree: Tree::Context(context),
+            height: 1,
+        }
+    }
+
+    pub(crate) fn group(alloc: Global, inner: Operand) -> Result<Operand, Refusal>
+        ensures { Gives (λ o. view o.tree) result (node (group_of (view inner.tree))) }
+    {
+        let height = height_above(inner.height)?;
+        let inner = Box::new(alloc, inner.tree)?;
+        Ok(Operand {
+            tree: Tree::Group(inner),
+            height,
+        })
+    }
+
+    pub(crate) fn property(alloc: Global, base: Operand, name: String) -> Result<Operand, Refusal>
+        ensures { Gives (λ o. view o.tree) result (node (property_of (view base.tree) (string_bytes name))) }
+    {
+        let height = height_above(base.height)?;
+        let base = Box::new(alloc, base.tree)?;
+        Ok(Operand {
+            tree: Tree::Property(base, name),
+            height,
+        })
+    }
+
+    pub(crate) fn index(alloc: Global, base: Operand, index: Operand) -> Result<Operand, Refusal>
+        ensures { Gives (λ o. view o.tree) result (node (index_of (view base.tree) (view index.tree))) }
+    {
+        let height = height_above(base.height.max(index.height))?;
+        let base = Box::new(alloc, base.tree)?;
+        let index = Box::new(alloc, index.tree)?;
+        Ok(Operand {
+            tree: Tree::Index(base, index),
+            height,
+        })
+    }
+
+    pub(crate) fn wildcard(
+        alloc: Global,
+        wildcard: Wildcard,
+        base: Operand,
+    ) -> Result<Operand, Refusal>
+        ensures { Gives (λ o. view o.tree) result (node (wildcard_of wildcard (view base.tree))) }
+    {
+        let height = height_above(base.height)?;
+        let base = Box::new(alloc, base.tree)?;
+        Ok(Operand {
+            tree: Tree::Wildcard(wildcard, base),
+            height,
+        })
+    }
+
+    pub(crate) fn not(alloc: Global, operand: Operand) -> Result<Operand, Refusal>
+        ensures { Gives (λ o. view o.tree) result (node (opposite (view operand.tree))) }
+    {
+        let height = height_above(operand.height)?;
+        let operand = Box::new(alloc, operand.tree)?;
+        Ok(Operand {
+            tree: Tree::Not(operand),
+            height,
+        })
+    }
+
+    pub(crate) fn relation(
+        alloc: Global,
+        relation: Relation,
+        left: Operand,
+        right: Operand,
+    ) -> Result<Operand, Refusal>
+        ensures { Gives (λ o. view o.tree) result (node (relation_of relation (view left.tree) (view right.tree))) }
+    {
+        let height = height_above(left.height.max(right.height))?;
+        let left = Box::new(alloc, left.tree)?;
+        let right = Box::new(alloc, right.tree)?;
+        Ok(Operand {
+            tree: Tree::Relation(relation, left, right),
+            height,
+        })
+    }
+
+    pub(crate) fn equality(
+        alloc: Global,
+        equality: Equality,
+        left: Operand,
+        right: Operand,
+    ) -> Result<Operand, Refusal>
+        ensures { Gives (λ o. view o.tree) result (node (equality_of equality (view left.tree) (view right.tree))) }
+    {
+        let height = height_above(left.height.max(right.height))?;
+        let left = Box::new(alloc, left.tree)?;
+        let right = Box::new(alloc, right.tree)?;
+        Ok(Operand {
+            tree: Tree::Equality(equality, left, right),
+            height,
+        })
+    }
+
+    pub(crate) fn both(parts: Trees) -> Result<Operand, Refusal>
+        ensures { Gives (λ o. view o.tree) result (node (both_of (exprs_of (views parts.trees.items)))) }
+    {
+        let height = height_above(parts.height)?;
+        Ok(Operand {
+            tree: Tree::Both(parts.trees),
+            height,
+        })
+    }
+
+    pub(crate) fn either(parts: Trees) -> Result<Operand, Refusal>
+        ensures { Gives (λ o. view o.tree) result (node (either_of (exprs_of (views parts.trees.items)))) }
+    {
+        let height = height_above(parts.height)?;
+        Ok(Operand {
+            tree: Tree::Either(parts.trees),
+            height,
+        })
+    }
+
+    #[tactic(auto, using(crate::proofs::Depths::count_views))]
+    pub(crate) fn call(function: Function, arguments: Trees) -> Result<Operand, Refusal>
+        ensures { Gives (λ o. view o.tree) result (called_with function (exprs_of (views arguments.trees.items))) }
+    {
+        if takes(function, arguments.trees.len()) {
+            Operand::fitting_call(function, arguments)
+        } else {
+            Err(Refusal::Fault(Fault::ArgumentCount))
+        }
+    }
+
+    fn fitting_call(function: Function, arguments: Trees) -> Result<Operand, Refusal>
+        ensures { Gives (λ o. view o.tree) result (node (call_of function (exprs_of (views arguments.trees.items)))) }
+    {
+        let height = height_above(arguments.height)?;
+        Ok(Operand {
+            tree: Tree::Call(function, arguments.trees),
+            height,
+        })
+    }
+}
+
+// Whether a function takes so many arguments.
+fn takes(function: Function, count: usize) -> bool
+    ensures { result ≡ takes_of function count }
+{
+    match function {
+        Function::Contains | Function::StartsWith | Function::EndsWith => count == 2,
+        Function::Format => 1 <= count,
+        Function::Join => 1 <= count && count <= 2,
+        Function::ToJson | Function::FromJson => count == 1,
+        Function::Success | Function::Failure | Function::Cancelled | Function::Always => count
+            == 0,
+    }
+}

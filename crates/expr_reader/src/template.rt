@@ -1,0 +1,19 @@
+//! Texts with expressions in them.
+
+use crate::tree::Tree;
+
+/// A piece of a template.
+#[derive(Debug, Drop)]
+pub enum Piece {
+    /// Text that stands for itself.
+    Text(String),
+    /// An expression between `${{` and `}}`, or a whole condition.
+    Expression(Tree),
+}
+
+/// A text with expressions in it. One of a single expression has that expression's value; any other is
+/// the join of its pieces' texts.
+#[derive(Debug, Drop)]
+pub struct Template {
+    pub pieces: Vec<Piece>,
+}

@@ -1,0 +1,106 @@
+//! Reads templates and conditions.
+
+ghost use Rattle.std.specs.Prelude.{◌≡◌, ℕ, ◌+◌, ◌^◌, ◌<◌, ◌↔◌, IsTrue, List, length, IfOk, IfErr};
+ghost use Rattle.expr_reader.specs.Template.{Piece as PieceOf, SpellsTemplate, IsTemplate, SpellsCondition, IsCondition};
+ghost use Rattle.expr_reader.specs.Accepts.{is_template, is_condition};
+ghost use Rattle.expr_reader.specs.Faults.{Answers};
+ghost use Rattle.expr_reader.specs.TemplateReading.{read_trimmed};
+ghost use Rattle.expr_reader.specs.TemplateStands.{IsReadAs, TemplateFaultStands, ConditionFaultStands};
+ghost use Rattle.expr_reader.specs.TemplateView.{template_of};
+
+use crate::bytes::{Class, split_run, trim_end};
+use crate::fault::ExprFault;
+use crate::marks::has_mark;
+use crate::pieces::{read_pieces, single};
+use crate::reader::read_at;
+use crate::status::names_status;
+use crate::template::Template;
+use std::alloc::Global;
+
+/// The most bytes of a template.
+const LONGEST: usize = 1_048_576;
+
+/// Reads a template of at most 1,048,576 bytes: text with expressions between `${{` and the first `}}`
+/// outside quotes, of which none may name a status function.
+///
+/// GitHub Docs, "Evaluate expressions in workflows and actions".
+///
+/// # Errors
+///
+/// A fault that stands in the text, with the number of bytes before its place; which one, where there
+/// are several, is not promised. Or no memory was left.
+pub fn read_template(alloc: Global, text: &str) -> Result<Template, ExprFault>
+    // What is read is spelled so.
+    ensures found { IfOk result (λ template. SpellsTemplate (template_of template) text.now) }
+    // What is spelled so is read, unless memory runs out.
+    ensures only { (ps : List PieceOf) → SpellsTemplate ps text.now → IsReadAs result ps }
+    ensures stands { IfErr result (λ fault. TemplateFaultStands text.now fault) }
+{
+    if text.len() > LONGEST {
+        return Err(ExprFault::TooLong(LONGEST));
+    }
+    let mut status = None;
+    match read_pieces(alloc, text, text.len(), &mut status) {
+        Ok(pieces) => {
+            let template = Template { pieces };
+            if names_status(&template) {
+                return Err(ExprFault::StatusHere(status.unwrap_or(0)));
+            }
+            Ok(template)
+        }
+        Err(fault) => Err(fault),
+    }
+}
+
+/// Reads a condition, without the white space at its ends: one expression where no `${{` stands in it,
+/// and otherwise a template of at most 1,048,576 bytes. It may name status functions.
+///
+/// GitHub Docs, "Workflow syntax for GitHub Actions", `jobs.<job_id>.if` and `jobs.<job_id>.steps[*].if`.
+///
+/// # Errors
+///
+/// A fault that stands in the text, with the number of bytes before its place; which one, where there
+/// are several, is not promised. Or no memory was left.
+pub fn read_condition(alloc: Global, text: &str) -> Result<Template, ExprFault>
+    // What is read is spelled so.
+    ensures found { IfOk result (λ template. SpellsCondition (template_of template) text.now) }
+    // What is spelled so is read, unless memory runs out.
+    ensures only { (ps : List PieceOf) → SpellsCondition ps text.now → IsReadAs result ps }
+    ensures stands { IfErr result (λ fault. ConditionFaultStands text.now fault) }
+{
+    let (_, start) = split_run(text, Class::White);
+    let base = text.len() - start.len();
+    let text = trim_end(start);
+    read_trimmed(alloc, text, base)
+}
+
+// Reads a condition without white space at its ends, which begins at the place base.
+fn read_trimmed(alloc: Global, text: &str, base: usize) -> Result<Template, ExprFault>
+    requires { base + length text.now < 2 ^ 64 }
+    ensures { Answers template_of result (read_trimmed base text.now) }
+{
+    let mut status = None;
+    if !has_mark(text) {
+        return match read_at(alloc, text, base, &mut status) {
+            Ok(tree) => single(alloc, tree, base),
+            Err(fault) => Err(fault),
+        };
+    }
+    if text.len() > LONGEST {
+        return Err(ExprFault::TooLong(base + LONGEST));
+    }
+    match read_pieces(alloc, text, base + text.len(), &mut status) {
+        Ok(pieces) => Ok(Template { pieces }),
+        Err(fault) => Err(fault),
+    }
+}
+
+/// The test `is_template` tells the templates.
+pub fn template_test()
+    ensures { (text : List ℕ) → IsTrue (is_template text) ↔ IsTemplate text }
+{}
+
+/// The test `is_condition` tells the conditions.
+pub fn condition_test()
+    ensures { (text : List ℕ) → IsTrue (is_condition text) ↔ IsCondition text }
+{}

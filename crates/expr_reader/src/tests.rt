@@ -1,0 +1,405 @@
+//! Reading: trees, places of faults and limits.
+
+use super::*;
+use std::alloc::Global;
+use std::process::Abort;
+use std::test::Fail;
+
+// What a text is read as, in the words of `Debug`.
+fn shown(alloc: Global, text: &str) -> Result<String, Fail> {
+    let tree = read_expr(alloc, text)?;
+    let shown = format!(in alloc; "{tree:?}")?;
+    Ok(shown)
+}
+
+// A text of many copies of three parts.
+fn nested(
+    alloc: Global,
+    open: &str,
+    core: &str,
+    close: &str,
+    times: usize,
+) -> Result<String, Fail> {
+    let mut text = String::new(alloc);
+    for _ in 0..times {
+        text.push_str(open)?;
+    }
+    text.push_str(core)?;
+    for _ in 0..times {
+        text.push_str(close)?;
+    }
+    Ok(text)
+}
+
+// The fault of a text, if it has one.
+fn fault_of(alloc: Global, text: &str) -> Option<ExprFault> {
+    match read_expr(alloc, text) {
+        Ok(_) => None,
+        Err(fault) => Some(fault),
+    }
+}
+
+fn template_fault(alloc: Global, text: &str) -> Option<ExprFault> {
+    match read_template(alloc, text) {
+        Ok(_) => None,
+        Err(fault) => Some(fault),
+    }
+}
+
+fn condition_fault(alloc: Global, text: &str) -> Option<ExprFault> {
+    match read_condition(alloc, text) {
+        Ok(_) => None,
+        Err(fault) => Some(fault),
+    }
+}
+
+#[test]
+fn trees(rt: HostRuntime) -> Result<(), Fail> {
+    let alloc = rt.alloc();
+    for (text, want) in [
+        ("null", "Literal(Null)"),
+        (" true\t", "Literal(Truth(true))"),
+        ("0xff", "Literal(Whole(255))"),
+        ("0xFf", "Literal(Whole(255))"),
+        ("-0", "Literal(Whole(0))"),
+        ("9007199254740991", "Literal(Whole(9007199254740991))"),
+        ("-9007199254740991", "Literal(Whole(-9007199254740991))"),
+        ("0x1fffffffffffff", "Literal(Whole(9007199254740991))"),
+        ("'it''s'", "Literal(Text(\"it's\"))"),
+        ("''''", "Literal(Text(\"'\"))"),
+        ("''", "Literal(Text(\"\"))"),
+        ("'é}}'", "Literal(Text(\"é}}\"))"),
+        ("GitHub", "Context(Github)"),
+        ("github.Event", "Property(Context(Github), \"Event\")"),
+        ("github . null", "Property(Context(Github), \"null\")"),
+        ("env.success", "Property(Context(Env), \"success\")"),
+        ("1 .x", "Property(Literal(Whole(1)), \"x\")"),
+        ("needs.*", "Wildcard(Dotted, Context(Needs))"),
+        (
+            "needs[ * ].a",
+            "Property(Wildcard(Bracketed, Context(Needs)), \"a\")",
+        ),
+        (
+            "matrix['os']",
+            "Index(Context(Matrix), Literal(Text(\"os\")))",
+        ),
+        ("SUCCESS()", "Call(Success, [])"),
+        (
+            "contains('Hello', 'ELL')",
+            "Call(Contains, [Literal(Text(\"Hello\")), Literal(Text(\"ELL\"))])",
+        ),
+        (
+            "success() && !cancelled()",
+            "Both([Call(Success, []), Not(Call(Cancelled, []))])",
+        ),
+        (
+            "1 || 2 && 3 == 4 < !5",
+            "Either([Literal(Whole(1)), Both([Literal(Whole(2)), Equality(Equal, Literal(Whole(3)), Relation(Less, Literal(Whole(4)), Not(Literal(Whole(5)))))])])",
+        ),
+        (
+            "1 == 2 != 3",
+            "Equality(NotEqual, Equality(Equal, Literal(Whole(1)), Literal(Whole(2))), Literal(Whole(3)))",
+        ),
+        (
+            "1<=2>=3",
+            "Relation(AtLeast, Relation(AtMost, Literal(Whole(1)), Literal(Whole(2))), Literal(Whole(3)))",
+        ),
+        (
+            "1&&2&&3",
+            "Both([Literal(Whole(1)), Literal(Whole(2)), Literal(Whole(3))])",
+        ),
+        (
+            "(1||2)||3",
+            "Either([Group(Either([Literal(Whole(1)), Literal(Whole(2))])), Literal(Whole(3))])",
+        ),
+        ("!!1", "Not(Not(Literal(Whole(1))))"),
+    ] {
+        assert_eq!(rt; shown(alloc, text)?.as_str(), want, "{text}");
+    }
+    Ok(())
+}
+
+#[test]
+fn places_of_faults(rt: HostRuntime) {
+    let alloc = rt.alloc();
+    for (text, want) in [
+        // eval-whole-numbers
+        ("9007199254740992", ExprFault::BadNumber(0)),
+        // eval-format-braces
+        ("\"x\"", ExprFault::BadChar(0)),
+        // eval-functions-ignoring-case
+        ("nope()", ExprFault::UnknownFunction(0)),
+        ("-9007199254740992", ExprFault::BadNumber(0)),
+        ("0x20000000000000", ExprFault::BadNumber(0)),
+        ("1 == -0x1", ExprFault::BadNumber(5)),
+        ("0X1", ExprFault::BadNumber(0)),
+        ("0x", ExprFault::BadNumber(0)),
+        ("00", ExprFault::BadNumber(0)),
+        ("- 1", ExprFault::BadNumber(0)),
+        ("1-2", ExprFault::BadNumber(0)),
+        ("1.", ExprFault::BadNumber(0)),
+        ("1.x", ExprFault::BadNumber(0)),
+        ("", ExprFault::Unexpected(0)),
+        ("  ", ExprFault::Unexpected(2)),
+        ("1 2", ExprFault::Unexpected(2)),
+        ("(1", ExprFault::Unexpected(2)),
+        ("1)", ExprFault::Unexpected(1)),
+        ("github.", ExprFault::Unexpected(7)),
+        ("github.1", ExprFault::Unexpected(7)),
+        ("github[*", ExprFault::Unexpected(8)),
+        ("*", ExprFault::Unexpected(0)),
+        ("success", ExprFault::Unexpected(7)),
+        ("join(1,)", ExprFault::Unexpected(7)),
+        ("1 & 2", ExprFault::BadChar(2)),
+        ("1 | 2", ExprFault::BadChar(2)),
+        ("1 = 2", ExprFault::BadChar(2)),
+        ("1 === 2", ExprFault::BadChar(4)),
+        ("é", ExprFault::BadChar(0)),
+        ("'abc", ExprFault::UnclosedText(0)),
+        ("1 == 'a''", ExprFault::UnclosedText(5)),
+        ("True", ExprFault::UnknownName(0)),
+        ("1 + 2", ExprFault::BadChar(2)),
+        ("hashFiles ('x')", ExprFault::UnknownFunction(0)),
+        ("success(1)", ExprFault::ArgumentCount(9)),
+        ("contains(1)", ExprFault::ArgumentCount(10)),
+        ("format()", ExprFault::ArgumentCount(7)),
+        ("join(1, 2, 3)", ExprFault::ArgumentCount(12)),
+    ] {
+        assert_eq!(rt; fault_of(alloc, text), Some(want), "{text}");
+    }
+}
+
+#[test]
+fn eval_depth_of_parentheses(rt: HostRuntime) -> Result<(), Fail> {
+    let alloc = rt.alloc();
+    for (open, core, close) in [
+        ("(", "1", ")"),
+        ("!", "1", ""),
+        ("", "github", ".a"),
+        ("", "github", ".*"),
+        ("", "github", "[*]"),
+        ("", "github", "[0]"),
+        ("github[", "0", "]"),
+        ("join(", "1", ")"),
+        ("", "1", " < 1"),
+        ("", "1", " == 1"),
+    ] {
+        for (times, is_deep) in [(48, false), (49, false), (50, true)] {
+            let text = nested(alloc, open, core, close, times)?;
+            let fault = fault_of(alloc, text.as_str());
+            assert_eq!(rt;
+                matches!(fault, Some(ExprFault::TooDeep(_))),
+                is_deep,
+                "{text}"
+            );
+            assert_eq!(rt; fault.is_none(), !is_deep, "{text}");
+        }
+    }
+    let chain = nested(alloc, "1 && ", "1 || 1", " || 1", 200)?;
+    assert_eq!(rt; fault_of(alloc, chain.as_str()), None);
+    Ok(())
+}
+
+#[test]
+fn lengths(rt: HostRuntime) -> Result<(), Fail> {
+    let alloc = rt.alloc();
+    let at_most = nested(alloc, " ", "1", "", 19_999)?;
+    assert_eq!(rt; fault_of(alloc, at_most.as_str()), None);
+    let longer = nested(alloc, " ", "1", "", 20_000)?;
+    assert_eq!(rt;
+        fault_of(alloc, longer.as_str()),
+        Some(ExprFault::TooLong(20_000))
+    );
+    assert_eq!(rt; condition_fault(alloc, longer.as_str()), None);
+    let inside = nested(alloc, " ", "}}", "", 20_001)?;
+    let marked = format!(in alloc; "ab${{{{{inside}")?;
+    assert_eq!(rt;
+        template_fault(alloc, marked.as_str()),
+        Some(ExprFault::TooLong(20_005))
+    );
+    let template = nested(alloc, "a", "${{ 1 }}", "", 1_048_568)?;
+    assert_eq!(rt; template_fault(alloc, template.as_str()), None);
+    let longer = nested(alloc, "a", "${{ 1 }}", "", 1_048_569)?;
+    assert_eq!(rt;
+        template_fault(alloc, longer.as_str()),
+        Some(ExprFault::TooLong(1_048_576))
+    );
+    Ok(())
+}
+
+#[test]
+fn templates(rt: HostRuntime) -> Result<(), Fail> {
+    let alloc = rt.alloc();
+    for (text, want) in [
+        ("", "[]"),
+        ("plain ' }} text", "[Text(\"plain ' }} text\")]"),
+        ("a${{ 1 }}", "[Text(\"a\"), Expression(Literal(Whole(1)))]"),
+        (
+            "$${{ 1 }}}",
+            "[Text(\"$\"), Expression(Literal(Whole(1))), Text(\"}\")]",
+        ),
+        ("${{ '}}' }}", "[Expression(Literal(Text(\"}}\")))]"),
+        (
+            "${{1}}${{2}}",
+            "[Expression(Literal(Whole(1))), Expression(Literal(Whole(2)))]",
+        ),
+        ("${ {1}}", "[Text(\"${ {1}}\")]"),
+    ] {
+        let template = read_template(alloc, text)?;
+        let shown = format!(in alloc; "{:?}", template.pieces)?;
+        assert_eq!(rt; shown.as_str(), want, "{text}");
+        assert_eq!(rt; names_status(&template), false, "{text}");
+    }
+    for (text, want) in [
+        ("ab${{ 1", ExprFault::UnclosedTemplate(2)),
+        ("${{ 'a }}", ExprFault::UnclosedTemplate(0)),
+        ("a${{}}", ExprFault::Unexpected(4)),
+        ("a${{ }}", ExprFault::Unexpected(5)),
+        ("${{ 1 }}${{ nope }}", ExprFault::UnknownName(12)),
+        ("${{ success() }}", ExprFault::StatusHere(4)),
+        ("a${{ 1 }}${{ env[!Always()] }}", ExprFault::StatusHere(18)),
+        (
+            "${{ join(failure(), 1) && cancelled() }}",
+            ExprFault::StatusHere(9),
+        ),
+    ] {
+        assert_eq!(rt; template_fault(alloc, text), Some(want), "{text}");
+    }
+    Ok(())
+}
+
+#[test]
+fn conditions(rt: HostRuntime) -> Result<(), Fail> {
+    let alloc = rt.alloc();
+    for (text, want, status) in [
+        (" success() ", "[Expression(Call(Success, []))]", true),
+        ("\t${{ 1 }}\r\n", "[Expression(Literal(Whole(1)))]", false),
+        (
+            "always() ${{ 1 }}",
+            "[Text(\"always() \"), Expression(Literal(Whole(1)))]",
+            false,
+        ),
+        (
+            "1 == '${{ 2 }}'",
+            "[Text(\"1 == '\"), Expression(Literal(Whole(2))), Text(\"'\")]",
+            false,
+        ),
+        (
+            "a ${{ always() }}",
+            "[Text(\"a \"), Expression(Call(Always, []))]",
+            true,
+        ),
+    ] {
+        let template = read_condition(alloc, text)?;
+        let shown = format!(in alloc; "{:?}", template.pieces)?;
+        assert_eq!(rt; shown.as_str(), want, "{text}");
+        assert_eq!(rt; names_status(&template), status, "{text}");
+    }
+    for (text, want) in [
+        ("  ", ExprFault::Unexpected(2)),
+        ("  nope", ExprFault::UnknownName(2)),
+        (" 'a ${{ 1", ExprFault::UnclosedTemplate(4)),
+        ("  a${{ nope }}", ExprFault::UnknownName(7)),
+    ] {
+        assert_eq!(rt; condition_fault(alloc, text), Some(want), "{text}");
+    }
+    Ok(())
+}
+
+#[test]
+fn texts_ignoring_case(rt: HostRuntime) -> Result<(), Fail> {
+    let alloc = rt.alloc();
+    assert_eq!(rt; fold(alloc, "AbZ[É0")?.as_str(), "abz[É0");
+    for (a, b, same) in [
+        ("ABC", "abc", true),
+        ("É", "é", false),
+        ("a", "ab", false),
+        ("[", "{", false),
+    ] {
+        assert_eq!(rt; same_text(a, b), same, "{a} {b}");
+    }
+    assert_eq!(rt; Context::Github.name(), "github");
+    Ok(())
+}
+
+// The place of a fault of the text.
+fn place_of(fault: ExprFault) -> Option<usize> {
+    match fault {
+        ExprFault::UnclosedText(n)
+        | ExprFault::BadNumber(n)
+        | ExprFault::BadChar(n)
+        | ExprFault::Unexpected(n)
+        | ExprFault::UnknownName(n)
+        | ExprFault::UnknownFunction(n)
+        | ExprFault::ArgumentCount(n)
+        | ExprFault::TooDeep(n)
+        | ExprFault::TooLong(n)
+        | ExprFault::UnclosedTemplate(n)
+        | ExprFault::StatusHere(n) => Some(n),
+        ExprFault::Memory(_) => None,
+    }
+}
+
+// Whether a text is read, or has a fault with a place in it.
+fn is_answered(fault: Option<ExprFault>, text: &str) -> bool {
+    match fault {
+        Some(fault) => place_of(fault).is_some_and(|place| place <= text.len()),
+        None => true,
+    }
+}
+
+#[test]
+fn cut_texts(rt: HostRuntime) {
+    let alloc = rt.alloc();
+    for text in [
+        "contains('Hello', 'ELL') && !cancelled()",
+        "format('{{{0}}}', 7) == 'é' || github.*.n[0] <= -9007199254740991",
+        "join(github.*.n, '-')[matrix['os']] != needs[*].result",
+        "a${{ 1 }}b${{ 'it''s }}' }}}",
+    ] {
+        for length in 0..text.len() {
+            if let Some((front, back)) = text.split_at_checked(length) {
+                for part in [front, back] {
+                    assert_eq!(rt; is_answered(fault_of(alloc, part), part), true, "{part}");
+                    assert_eq!(rt;
+                        is_answered(template_fault(alloc, part), part),
+                        true,
+                        "{part}"
+                    );
+                    assert_eq!(rt;
+                        is_answered(condition_fault(alloc, part), part),
+                        true,
+                        "{part}"
+                    );
+                }
+            }
+        }
+    }
+}
+
+// Each token after this one. Of two tokens only `!` and a literal or a context are an expression.
+fn pairs_with(rt: &impl Abort, alloc: Global, first: &str) -> Result<(), Fail> {
+    for second in [
+        "(", ")", "[", "]", ".", ",", "*", "!", "<", "<=", ">", ">=", "==", "!=", "&&", "||",
+        "null", "1", "'a'", "github", "success", "other",
+    ] {
+        let text = format!(in alloc; "{first} {second}")?;
+        let fault = fault_of(alloc, text.as_str());
+        assert_eq!(rt; is_answered(fault, text.as_str()), true, "{text}");
+        let is_read = first == "!" && matches!(second, "null" | "1" | "'a'" | "github");
+        assert_eq!(rt; fault.is_none(), is_read, "{text}");
+    }
+    Ok(())
+}
+
+#[test]
+fn pairs_of_tokens(rt: HostRuntime) -> Result<(), Fail> {
+    let alloc = rt.alloc();
+    for first in [
+        "(", ")", "[", "]", ".", ",", "*", "!", "<", "<=", ">", ">=", "==", "!=", "&&", "||",
+        "null", "1", "'a'", "github", "success", "other",
+    ] {
+        pairs_with(&rt, alloc, first)?;
+    }
+    Ok(())
+}
