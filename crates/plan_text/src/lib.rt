@@ -18,6 +18,8 @@ mod plan_reading;
 mod plan_writing;
 mod reading;
 mod record;
+#[cfg(test)]
+mod tests;
 mod writing;
 
 pub use board::board_text;
