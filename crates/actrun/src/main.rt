@@ -7,6 +7,8 @@
 
 mod play;
 mod table;
+#[cfg(test)]
+mod tests;
 mod trouble;
 mod words;
 
