@@ -12,7 +12,7 @@ use Rattle.flow_model.specs.declared.plan.RunPlan.{RunPlan}
 use Rattle.flow_model.specs.declared.plan.StepPlan.{StepPlan}
 use Rattle.flow_model.specs.declared.plan.Work.{Work}
 use Rattle.flow_model.specs.declared.plan.Work.TheVariants.{Run, Uses}
-use Rattle.flow_model.specs.Offered.{refusal, plan_offer, IsOffered}
+use Rattle.flow_model.specs.Offered.{plan_offer, IsOffered}
 use Rattle.plan_text.specs.Reading.{Values}
 use Rattle.plan_text.proofs.Laws.{both, and_true}
 use Rattle.plan_text.proofs.PlanLaws.{values_fit, work_fits, step_fits, job_fits, roots_fit, run_fits, plan_fits}

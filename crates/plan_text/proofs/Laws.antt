@@ -1,5 +1,5 @@
 -- What is written is read again, and only from what is written.
-use Rattle.std.proofs.Common.{◌≡◌, ◌≤◌, ◌⊎◌, inl, inr, ℕ, suc, List, [], ◌∷◌, map, decimal, Bool, true, false, IsTrue, ◌&&◌, ◌||◌, ◌==◌, bytes_eq, cond, Option, Some, None, Result, Ok, Err, Ordering, Less, Equal, Greater, nat_cmp, is_eq, refl, sym, ap, subst, ◌∙◌, arith, true≢false}
+use Rattle.std.proofs.Common.{◌≡◌, ◌≤◌, ◌⊎◌, inl, inr, ℕ, suc, List, [], ◌∷◌, map, decimal, Bool, true, false, IsTrue, ◌&&◌, ◌==◌, bytes_eq, cond, Option, Some, None, Ok, Err, Ordering, Less, Equal, Greater, nat_cmp, is_eq, refl, sym, ap, ◌∙◌, arith}
 use Rattle.std.proofs.lemmas.Bool.{eqb-true}
 use Rattle.std.proofs.lemmas.Cmp.{nat_list_cmp_total, tied_itself}
 use Rattle.std.proofs.lemmas.Map.Text.{is_eq-slice_cmp}
@@ -12,7 +12,7 @@ use Rattle.serde_json.specs.Data.{Num, unsigned, negative, float, Data, null, bo
 use Rattle.serde_json.specs.View.{items_of}
 use Rattle.serde_json.specs.Written.{has_float, items_have_float, members_have_float}
 use Rattle.flow_model.specs.Rules.{all_there}
-use Rattle.plan_text.specs.Parts.{number_data, optional_data, list_data, pair_members, map_data, Reading, and_then, map_read, or_refused, joined, within, text_of, truth_of, natural_of, number_of, optional_of, items_read, list_of, members_of, pairs_read, map_of, next_member, field, no_more, object_of, word_of, numeral_of}
+use Rattle.plan_text.specs.Parts.{number_data, optional_data, list_data, pair_members, map_data, Reading, and_then, map_read, or_refused, within, text_of, truth_of, natural_of, number_of, optional_of, items_read, list_of, pairs_read, map_of, next_member, field, no_more, object_of, word_of, numeral_of}
 
 -- A part's writing and its reading fit together: what is written of a part that fits is read again, a part
 -- is read only from what is written of it, and what is written nests at most n deep and has no float.

@@ -1,5 +1,5 @@
 -- A text that was printed of a document is read as it.
-use Rattle.std.proofs.Common.{◌≡◌, ◌≤◌, ℕ, List, Bool, true, false, IsTrue, cond, String, Global, string_bytes, Option, Some, None, Result, Ok, Err, refl, sym, ap, subst, ◌∙◌, arith}
+use Rattle.std.proofs.Common.{◌≡◌, ◌≤◌, ℕ, List, Bool, true, false, IsTrue, cond, String, Global, string_bytes, Option, Some, None, Result, Ok, Err, refl, sym, ap, subst, ◌∙◌}
 use Rattle.std.proofs.lemmas.Str.{IsUtf8-string_bytes, is_utf8-from_IsUtf8, IsUtf8-from_is_utf8}
 use Rattle.std.specs.Result.{IfOk, result_ok}
 use Rattle.std.specs.Str.{IsUtf8, is_utf8}
@@ -16,7 +16,7 @@ use Rattle.plan_text.specs.Load.{json_read, has_other_version, accepted, checked
 use Rattle.plan_text.specs.Parts.{Reading}
 use Rattle.plan_text.specs.Reading.{plan_of}
 use Rattle.plan_text.specs.declared.fault.LoadFault.{LoadFault}
-use Rattle.plan_text.specs.declared.fault.LoadFault.TheVariants.{NotJson, Version, NotPlan}
+use Rattle.plan_text.specs.declared.fault.LoadFault.TheVariants.{Version}
 use Rattle.plan_text.proofs.EntryLaws.{entry_reads, entry_fits}
 use Rattle.plan_text.proofs.Fitting.{offered_sound}
 use Rattle.plan_text.proofs.Laws.{Ok-inj}

@@ -1,16 +1,14 @@
 -- The document of a plan and of each of its parts is read as that part, and no other.
-use Rattle.std.proofs.Common.{◌≡◌, ◌≤◌, ◌⊎◌, inl, inr, ℕ, List, [], ◌∷◌, Bool, true, false, IsTrue, ◌&&◌, bytes_eq, cond, codes, Option, Some, None, Result, Ok, Err, refl, sym, ap, subst, ◌∙◌, arith}
+use Rattle.std.proofs.Common.{◌≡◌, ◌≤◌, ℕ, List, [], Bool, true, false, IsTrue, ◌&&◌, bytes_eq, cond, codes, Option, Ok, refl, sym, ap, ◌∙◌, arith}
 use Rattle.std.proofs.lemmas.Slice.Eq.{bytes_eq-Decides}
 use Rattle.std.specs.List.{list_all}
 use Rattle.std.specs.Prelude.{⊤}
 use Rattle.serde_json.specs.Data.{Data, null, boolean, number, string, array, object, Members, no_members, member, depth}
 use Rattle.serde_json.specs.Written.{has_float}
 use Rattle.flow_model.specs.Json.{value_of, json_of}
-use Rattle.flow_model.specs.Plain.{Plain}
-use Rattle.flow_model.specs.Rules.{all_there, is_within}
+use Rattle.flow_model.specs.Rules.{is_within}
 use Rattle.flow_model.specs.declared.plan.Flag.{Flag}
 use Rattle.flow_model.specs.declared.plan.Flag.TheVariants.{Truth, Text}
-use Rattle.flow_model.specs.declared.plan.Group.{Group}
 use Rattle.flow_model.specs.declared.plan.JobPlan.{JobPlan}
 use Rattle.flow_model.specs.declared.plan.Plan.{Plan}
 use Rattle.flow_model.specs.declared.plan.Roots.{Roots}
@@ -21,7 +19,7 @@ use Rattle.flow_model.specs.declared.plan.StepPlan.{StepPlan}
 use Rattle.flow_model.specs.declared.plan.Work.{Work}
 use Rattle.flow_model.specs.declared.plan.Work.TheVariants.{Run, Uses}
 use Rattle.flow_model.proofs.Conversions.{value_again, value_only, value_exact, is_within-in_range, depth-json_of}
-use Rattle.plan_text.specs.Parts.{number_data, optional_data, list_data, map_data, Reading, and_then, or_refused, text_of, plain_of, optional_of, field, no_more, object_of, word_of, has_word}
+use Rattle.plan_text.specs.Parts.{optional_data, map_data, Reading, or_refused, text_of, plain_of, optional_of, field, no_more, word_of, has_word}
 use Rattle.plan_text.specs.Document.{flag_data, group_data, roots_data, shell_data, work_data, step_data, job_data, run_data, document}
 use Rattle.plan_text.specs.Reading.{Values, flag_of, group_from, group_of, values_of, roots_from, roots_of, shell_named, shell_of, script_from, script_of, action_from, action_of, work_of, step_from, step_of, job_from, job_tail, job_of, run_from, run_of, plan_from, plan_of}
 use Rattle.plan_text.proofs.Laws.{Reads, ReadsMembers, Ok-inj, from_and_then, from_either, from_or_refused, text_reads, truth_reads, number_reads, word_reads, one_reads, text_only, list_reads, map_reads, deeper, or_null, lists, maps, no_more_reads, field_reads, object_made, from_object, object_reads}

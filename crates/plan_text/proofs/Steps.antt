@@ -1,5 +1,5 @@
 -- One more step of reading a list or a map: what was read goes before what is left.
-use Rattle.std.proofs.Common.{◌≡◌, ℕ, List, [], ◌∷◌, ◌++◌, Result, Ok, Err, refl, sym, ap, ◌∙◌, append_assoc}
+use Rattle.std.proofs.Common.{◌≡◌, ℕ, List, [], ◌∷◌, ◌++◌, Ok, Err, refl, sym, ap, ◌∙◌, append_assoc}
 use Rattle.serde_json.specs.Data.{Data, Members, member}
 use Rattle.flow_model.specs.Mapping.{map_values}
 use Rattle.flow_model.proofs.Conversions.{joined}

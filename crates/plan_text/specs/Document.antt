@@ -1,5 +1,5 @@
 -- The document of a plan (version 1): its objects, with their keys in byte order.
-use Rattle.std.specs.Prelude.{codes, List}
+use Rattle.std.specs.Prelude.{codes}
 use Rattle.serde_json.specs.Data.{Data, boolean, string, object, no_members, member}
 use Rattle.flow_model.specs.Json.{json_of}
 use Rattle.flow_model.specs.declared.plan.Flag.{Flag}
@@ -16,23 +16,28 @@ use Rattle.flow_model.specs.declared.plan.Work.{Work}
 use Rattle.flow_model.specs.declared.plan.Work.TheVariants.{Run, Uses}
 use Rattle.plan_text.specs.Parts.{number_data, optional_data, list_data, map_data}
 
+-- a truth value, or a text to be evaluated
 abbrev pub flag_data : Flag → Data
 flag_data (Truth b) = boolean b
 flag_data (Text t) = string t
 
+-- a concurrency group
 abbrev pub group_data : Group → Data
 group_data g = object (member (codes "cancel") (flag_data g.cancel) (member (codes "name") (string g.name) no_members))
 
+-- the contexts that a run is handed
 abbrev pub roots_data : Roots → Data
 roots_data r =
     object (member (codes "github") (map_data json_of r.github) (member (codes "inputs") (map_data json_of r.inputs)
     (member (codes "secrets") (map_data json_of r.secrets) (member (codes "vars") (map_data json_of r.vars) no_members))))
 
+-- the word of a shell
 abbrev pub shell_data : Shell → Data
 shell_data Default = string (codes "default")
 shell_data Sh = string (codes "sh")
 shell_data Bash = string (codes "bash")
 
+-- what a step does, told by its kind
 abbrev pub work_data : Work → Data
 work_data (Run dir run shell) =
     object (member (codes "dir") (optional_data string dir) (member (codes "kind") (string (codes "run"))
@@ -40,12 +45,14 @@ work_data (Run dir run shell) =
 work_data (Uses uses given) =
     object (member (codes "kind") (string (codes "uses")) (member (codes "uses") (string uses) (member (codes "with") (map_data json_of given) no_members)))
 
+-- a step of a job
 abbrev pub step_data : StepPlan → Data
 step_data s =
     object (member (codes "condition") (optional_data string s.condition) (member (codes "env") (map_data json_of s.env)
     (member (codes "id") (optional_data string s.id) (member (codes "name") (optional_data string s.name)
     (member (codes "tolerate") (flag_data s.tolerate) (member (codes "work") (work_data s.work) no_members))))))
 
+-- a job of a run
 abbrev pub job_data : JobPlan → Data
 job_data j =
     object (member (codes "condition") (optional_data string j.condition) (member (codes "env") (map_data json_of j.env)
@@ -56,6 +63,7 @@ job_data j =
     (member (codes "outputs") (map_data string j.outputs) (member (codes "steps") (list_data step_data j.steps)
     (member (codes "tolerate") (flag_data j.tolerate) no_members)))))))))))))
 
+-- a run of the plan
 abbrev pub run_data : RunPlan → Data
 run_data r =
     object (member (codes "env") (map_data json_of r.env) (member (codes "event") (optional_data string r.event)

@@ -1,5 +1,5 @@
 -- How the parts of a document are written as JSON, and how they are read from it.
-use Rattle.std.specs.Prelude.{◌≡◌, ℕ, ℤ, suc, List, [], ◌∷◌, ◌++◌, map, decimal, Bool, false, bytes_eq, ◌==◌, if◌then◌else◌, Option, Some, None, option_map, option_and_then, unwrap_or, Result, Ok, Err, ⊤}
+use Rattle.std.specs.Prelude.{ℕ, ℤ, suc, List, [], ◌∷◌, ◌++◌, map, decimal, Bool, false, bytes_eq, ◌==◌, if◌then◌else◌, Option, Some, None, option_map, option_and_then, unwrap_or, Result, Ok, Err, ⊤}
 use Rattle.std.specs.Ordering.{nat_cmp, match_ordering}
 use Rattle.std.specs.Cmp.Lexicographic.{slice_cmp}
 use Rattle.serde_json.specs.Data.{Num, unsigned, negative, float, Data, null, boolean, number, string, array, object, Items, no_items, item, Members, no_members, member}
@@ -32,6 +32,7 @@ abbrev pub pair_members : {A : Type 0} → (A → Data) → List (List ℕ × A)
 pair_members each [] = no_members
 pair_members each (p ∷ ps) = member p.0 (each p.1) (pair_members each ps)
 
+-- a map as an object
 abbrev pub map_data : {A : Type 0} → (A → Data) → List (List ℕ × A) → Data
 map_data each ps = object (pair_members each ps)
 
@@ -42,10 +43,12 @@ map_data each ps = object (pair_members each ps)
 abbrev pub Reading : Type 0 → Type 0
 Reading A = Result A (List ℕ)
 
+-- what is read next, where the first was read
 abbrev pub and_then : {A B : Type 0} → (A → Reading B) → Reading A → Reading B
 and_then next (Ok a) = next a
 and_then next (Err path) = Err path
 
+-- what is made of what was read
 abbrev pub map_read : {A B : Type 0} → (A → B) → Reading A → Reading B
 map_read f (Ok a) = Ok (f a)
 map_read f (Err path) = Err path
@@ -60,6 +63,7 @@ abbrev pub within : {A : Type 0} → List ℕ → Reading A → Reading A
 within key (Ok a) = Ok a
 within key (Err path) = Err (joined key path)
 
+-- a text
 abbrev pub text_of : Data → Reading (List ℕ)
 text_of null = Err []
 text_of (boolean b) = Err []
@@ -68,6 +72,7 @@ text_of (string bytes) = Ok bytes
 text_of (array ds) = Err []
 text_of (object ms) = Err []
 
+-- a truth value
 abbrev pub truth_of : Data → Reading Bool
 truth_of null = Err []
 truth_of (boolean b) = Ok b
@@ -76,11 +81,13 @@ truth_of (string bytes) = Err []
 truth_of (array ds) = Err []
 truth_of (object ms) = Err []
 
+-- a JSON number that is held as a natural one
 abbrev pub natural_of : Num → Reading ℕ
 natural_of (unsigned n) = Ok n
 natural_of (negative z) = Err []
 natural_of (float x) = Err []
 
+-- a natural number
 abbrev pub number_of : Data → Reading ℕ
 number_of null = Err []
 number_of (boolean b) = Err []
@@ -103,6 +110,7 @@ integer_of (string bytes) = Err []
 integer_of (array ds) = Err []
 integer_of (object ms) = Err []
 
+-- a value in range
 abbrev pub plain_of : Data → Reading Plain
 plain_of d = or_refused (value_of d)
 
@@ -120,6 +128,7 @@ abbrev pub items_read : {A : Type 0} → (Data → Reading A) → ℕ → Items 
 items_read of place no_items = Ok []
 items_read of place (item d ds) = and_then (λ a. map_read (λ xs. a ∷ xs) (items_read of (suc place) ds)) (within (decimal place) (of d))
 
+-- a list of such items
 abbrev pub list_of : {A : Type 0} → (Data → Reading A) → Data → Reading (List A)
 list_of of null = Err []
 list_of of (boolean b) = Err []
@@ -137,10 +146,12 @@ members_of (string bytes) = Err []
 members_of (array ds) = Err []
 members_of (object ms) = Ok ms
 
+-- the pairs of an object, in order
 abbrev pub pairs_read : {A : Type 0} → (Data → Reading A) → Members → Reading (List (List ℕ × A))
 pairs_read of no_members = Ok []
 pairs_read of (member key d ms) = and_then (λ a. map_read (λ ps. (key, a) ∷ ps) (pairs_read of ms)) (within key (of d))
 
+-- an object as a map
 abbrev pub map_of : {A : Type 0} → (Data → Reading A) → Data → Reading (List (List ℕ × A))
 map_of of d = and_then (pairs_read of) (members_of d)
 

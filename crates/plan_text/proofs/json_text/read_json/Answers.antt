@@ -1,4 +1,4 @@
-use Rattle.std.proofs.Common.{sym, ◌∙◌, true≢false, ap, Some}
+use Rattle.std.proofs.Common.{sym, ◌∙◌, true≢false}
 use Rattle.plan_text.proofs.LoadLemmas.{json_read-some, json_read-none}
 use Rattle.plan_text.proofs.json_text.read_json.Goals as goal
 

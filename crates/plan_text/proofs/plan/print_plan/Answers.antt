@@ -1,4 +1,4 @@
-use Rattle.std.proofs.Common.{◌≡◌, ◌≤◌, IsTrue, string_bytes, ap, subst, sym, ◌∙◌, arith}
+use Rattle.std.proofs.Common.{◌≡◌, ◌≤◌, string_bytes, ap, subst, ◌∙◌, arith}
 use Rattle.std.proofs.lemmas.Result.{IfOk-weaker}
 use Rattle.serde_json.specs.Data.{depth}
 use Rattle.serde_json.specs.View.{view}
@@ -7,7 +7,7 @@ use Rattle.flow_model.specs.declared.plan.Plan.{Plan}
 use Rattle.plan_text.specs.Document.{document}
 use Rattle.plan_text.proofs.Fitting.{offered_sound}
 use Rattle.plan_text.proofs.LoadLemmas.{compact_of, reads_of, load_again, plan_alone}
-use Rattle.plan_text.proofs.PlanLaws.{plan_reads, plan_fits}
+use Rattle.plan_text.proofs.PlanLaws.{plan_reads}
 use Rattle.plan_text.proofs.plan.print_plan.Goals as goal
 
 offered : (p q : Plan) → p ≡ q → IsOffered p → IsOffered q

@@ -1,4 +1,4 @@
-use Rattle.std.proofs.Common.{◌≡◌, List, ◌∷◌, ◌++◌, ℕ, string_bytes, ap, sym, ◌∙◌}
+use Rattle.std.proofs.Common.{◌≡◌, ◌∷◌, ◌++◌, string_bytes, ap, sym, ◌∙◌}
 use Rattle.serde_json.specs.View.{view, members_view}
 use Rattle.flow_model.specs.Mapping.{pairs_of, keys_of}
 use Rattle.flow_model.proofs.LastPair.{with_pair-above, keys_of-next}
