@@ -65,8 +65,9 @@ pub fn value_of(alloc: Global, json: &serde_json::Value) -> Result<Value, JsonFa
     Ok(Value::new(node))
 }
 
+/// The JSON of what a node stands for.
 #[cycle(print)]
-fn json_of_node(alloc: Global, node: &Node) -> Result<serde_json::Value, AllocError>
+pub fn json_of_node(alloc: Global, node: &Node) -> Result<serde_json::Value, AllocError>
     ensures { IfOk result (λ json. json_view json ≡ json_of (view node.now)) }
 {
     match node {

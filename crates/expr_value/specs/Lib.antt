@@ -1,0 +1,14 @@
+pub mod Answer
+pub mod Compare
+pub mod Condition
+pub mod Context
+pub mod Convert
+pub mod Dereference
+pub mod Evaluate
+pub mod Format
+pub mod Functions
+pub mod Kind
+pub mod Limit
+pub mod Number
+pub mod Seen
+pub mod Template

@@ -1,0 +1,33 @@
+-- The values that the evaluator's own types stand for.
+use Rattle.std.specs.Prelude.{List, map, Vec}
+use Rattle.std.specs.Borrow.{Bor}
+use Rattle.std.specs.declared.alloc.Global.{Global}
+use Rattle.expr_value.specs.Kind.{Kind, null, truth, whole, text, list}
+use Rattle.expr_value.specs.Kind as plain_kind
+use Rattle.expr_value.specs.declared.kind.Kind as lent
+use Rattle.expr_value.specs.declared.kind.Kind.TheVariants as variant
+use Rattle.expr_value.specs.declared.operand.Item as item
+use Rattle.expr_value.specs.declared.operand.Item.TheVariants.{Lent, Made}
+use Rattle.expr_value.specs.declared.operand.Operand as operand
+use Rattle.expr_value.specs.declared.operand.Operand.TheVariants.{One, Many}
+use Rattle.flow_model.specs.Plain as plain
+use Rattle.flow_model.specs.Value.{view}
+
+abbrev pub kind_seen : lent.Kind → Kind
+kind_seen variant.Null = null
+kind_seen (variant.Truth b) = truth b
+kind_seen (variant.Whole z) = whole z
+kind_seen (variant.Text bytes) = text bytes.now
+kind_seen variant.List = list
+kind_seen variant.Map = plain_kind.map
+
+abbrev pub item_seen : item.Item → plain.Plain
+item_seen (Lent node) = view node.now
+item_seen (Made node) = view node
+
+abbrev pub items_seen : List item.Item → List plain.Plain
+items_seen vs = map item_seen vs
+
+abbrev pub operand_seen : operand.Operand → plain.Plain
+operand_seen (One v) = item_seen v
+operand_seen (Many vs) = plain.list (plain.items_of (items_seen vs.items))

@@ -1,0 +1,43 @@
+//! What the conversions of a value look at.
+
+ghost use Rattle.std.specs.Prelude.{◌≡◌};
+ghost use Rattle.expr_value.specs.Kind.{kind_of as kind_of_value, is_collection as is_collection_of};
+ghost use Rattle.expr_value.specs.Seen.{kind_seen};
+ghost use Rattle.flow_model.specs.Value.{view};
+
+use flow_model::Node;
+
+/// A value, but of a list or a map only that it is one.
+#[derive(Clone, Copy)]
+pub(crate) enum Kind<'a> {
+    Null,
+    Truth(bool),
+    Whole(i64),
+    Text(&'a str),
+    List,
+    Map,
+}
+
+/// The kind of what a node stands for.
+pub(crate) fn kind_of(node: &Node) -> Kind<'_>
+    ensures { kind_seen result ≡ kind_of_value (view node.now) }
+{
+    match node {
+        Node::Null => Kind::Null,
+        Node::Truth(truth) => Kind::Truth(*truth),
+        Node::Whole(number) => Kind::Whole(*number),
+        Node::Text(text) => Kind::Text(text.as_str()),
+        Node::List(_) => Kind::List,
+        Node::Map(_) => Kind::Map,
+    }
+}
+
+/// Whether it is a list or a map.
+pub(crate) fn is_collection(kind: Kind<'_>) -> bool
+    ensures { result ≡ is_collection_of (kind_seen kind) }
+{
+    match kind {
+        Kind::Null | Kind::Truth(_) | Kind::Whole(_) | Kind::Text(_) => false,
+        Kind::List | Kind::Map => true,
+    }
+}

@@ -1,0 +1,14 @@
+//! The values of expressions, templates and conditions.
+//!
+//! `eval` gives the value of an expression over a finite map of contexts and a status, or its first fault from the
+//! left; `eval_text` the value of a template, `eval_condition` whether a condition holds. `to_text`, `truthy` and
+//! `loose_eq` are the conversions and the equality that they use. All are defined in `specs/`: `Convert`, `Compare`,
+//! `Functions`, `Dereference`, `Evaluate`, `Template` and `Condition`. The crate stands on `flow_model` (values) and
+//! `expr_reader` (trees).
+#![tactic(auto)]
+
+mod kind;
+mod operand;
+mod status;
+
+pub use status::Status;
