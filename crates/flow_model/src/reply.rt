@@ -1,10 +1,12 @@
 // What the board answers to an event that it accepts.
+ghost use Rattle.std.specs.Prelude.{◌≡◌};
+
 use crate::duplicate::Duplicate;
 use crate::event::Member;
 use crate::mapping::Mapping;
 use crate::plan::Shell;
 use crate::text::Text;
-use std::alloc::{AllocError, Global};
+use std::alloc::{AllocError, AllocFailed, Global};
 use thiserror::Error;
 
 /// Why a text could not be evaluated.
@@ -28,6 +30,26 @@ pub enum ValueFault {
     /// There is no memory.
     #[error("Memory")]
     Memory,
+}
+
+impl From<AllocError> for ValueFault {
+    ghost use Rattle.flow_model.specs.declared.reply.ValueFault.TheVariants.{Memory};
+
+    ghost from_gives = { λ _ e. e ≡ Memory };
+
+    fn from(_: AllocError) -> ValueFault {
+        ValueFault::Memory
+    }
+}
+
+impl<T: Drop> From<AllocFailed<T>> for ValueFault {
+    ghost use Rattle.flow_model.specs.declared.reply.ValueFault.TheVariants.{Memory};
+
+    ghost from_gives = { λ _ e. e ≡ Memory };
+
+    fn from(_: AllocFailed<T>) -> ValueFault {
+        ValueFault::Memory
+    }
 }
 
 /// A step that is to be played, with its texts evaluated.
