@@ -7,7 +7,7 @@ use Rattle.std.specs.Option.{option_or}
 use Rattle.std.specs.Ordering.{nat_cmp, is_eq}
 use Rattle.expr_reader.specs.Fold.{fold}
 use Rattle.expr_value.specs.Convert.{text_of, number_of}
-use Rattle.expr_value.specs.Kind.{kind_of, items, values}
+use Rattle.expr_value.specs.Kind.{Kind, items, values}
 use Rattle.flow_model.specs.Plain as plain
 use Rattle.flow_model.specs.declared.reply.ValueFault.{ValueFault}
 
@@ -58,13 +58,13 @@ item_found (Err fault) vs = Err fault
 
 -- What stands at an index in a value: in a list at its number, in a map at its text. Of other values it is not
 -- looked at.
-abbrev pub index_of : plain.Plain → plain.Plain → Result (Option plain.Plain) ValueFault
+abbrev pub index_of : Kind → plain.Plain → Result (Option plain.Plain) ValueFault
 index_of index plain.null = Ok None
 index_of index (plain.truth b) = Ok None
 index_of index (plain.whole z) = Ok None
 index_of index (plain.text bytes) = Ok None
-index_of index (plain.list vs) = item_found (number_of (kind_of index)) (items vs)
-index_of index (plain.map ms) = Ok (property_in (text_of (kind_of index)) ms)
+index_of index (plain.list vs) = item_found (number_of index) (items vs)
+index_of index (plain.map ms) = Ok (property_in (text_of index) ms)
 
 -- The items of a list, the values of a map in key order, of anything else nothing.
 abbrev pub contents : plain.Plain → List plain.Plain
@@ -96,7 +96,7 @@ with_found (Ok v) (Ok vs) = Ok (cons_option v vs)
 with_found (Ok v) (Err fault) = Err fault
 with_found (Err fault) vs = Err fault
 
-abbrev pub index_each : plain.Plain → List plain.Plain → Result (List plain.Plain) ValueFault
+abbrev pub index_each : Kind → List plain.Plain → Result (List plain.Plain) ValueFault
 index_each index [] = Ok []
 index_each index (v ∷ vs) = with_found (index_of index v) (index_each index vs)
 
@@ -104,7 +104,7 @@ abbrev pub filtered_of : Result (List plain.Plain) ValueFault → Result Found V
 filtered_of (Ok vs) = Ok (filtered vs)
 filtered_of (Err fault) = Err fault
 
-abbrev pub index_found : plain.Plain → Found → Result Found ValueFault
+abbrev pub index_found : Kind → Found → Result Found ValueFault
 index_found index (one v) = one_or_null (index_of index v)
 index_found index (filtered vs) = filtered_of (index_each index vs)
 

@@ -91,7 +91,7 @@ property_chain name (Ok found) = Ok (property_found name found)
 property_chain name (Err fault) = Err fault
 
 abbrev pub indexed : Found → Answer → Chain
-indexed found (Ok v) = index_found v found
+indexed found (Ok v) = index_found (kind_of v) found
 indexed found (Err fault) = Err fault
 
 abbrev pub index_chain : Chain → Answer → Chain

@@ -1,17 +1,21 @@
 -- The values that the evaluator's own types stand for.
-use Rattle.std.specs.Prelude.{List, map, Vec}
+use Rattle.std.specs.Prelude.{List, Option, map}
 use Rattle.std.specs.Borrow.{Bor}
-use Rattle.std.specs.declared.alloc.Global.{Global}
+use Rattle.std.specs.Option.{option_map, option_copied}
 use Rattle.expr_value.specs.Kind.{Kind, null, truth, whole, text, list}
 use Rattle.expr_value.specs.Kind as plain_kind
 use Rattle.expr_value.specs.declared.kind.Kind as lent
 use Rattle.expr_value.specs.declared.kind.Kind.TheVariants as variant
+use Rattle.expr_value.specs.Dereference as chain
+use Rattle.expr_value.specs.declared.dereference.Found as found
+use Rattle.expr_value.specs.declared.dereference.Found.TheVariants as found_variant
 use Rattle.expr_value.specs.declared.operand.Item as item
 use Rattle.expr_value.specs.declared.operand.Item.TheVariants.{Lent, Made}
 use Rattle.expr_value.specs.declared.operand.Operand as operand
 use Rattle.expr_value.specs.declared.operand.Operand.TheVariants.{One, Many}
 use Rattle.flow_model.specs.Plain as plain
 use Rattle.flow_model.specs.Value.{view}
+use Rattle.flow_model.specs.declared.value.Node.{Node}
 
 abbrev pub kind_seen : lent.Kind → Kind
 kind_seen variant.Null = null
@@ -31,3 +35,17 @@ items_seen vs = map item_seen vs
 abbrev pub operand_seen : operand.Operand → plain.Plain
 operand_seen (One v) = item_seen v
 operand_seen (Many vs) = plain.list (plain.items_of (items_seen vs.items))
+
+abbrev pub found_seen : found.Found → chain.Found
+found_seen (found_variant.One v) = chain.one (operand_seen v)
+found_seen (found_variant.Filtered vs) = chain.filtered (items_seen vs.items)
+
+-- A node or an item that may be there.
+abbrev pub node_seen : Option (Bor Node) → Option plain.Plain
+node_seen node = option_map view (option_copied node)
+
+abbrev pub maybe_seen : Option item.Item → Option plain.Plain
+maybe_seen v = option_map item_seen v
+
+abbrev pub operands_seen : List operand.Operand → List plain.Plain
+operands_seen vs = map operand_seen vs

@@ -1,0 +1,264 @@
+//! Properties, items and filtered lists (GitHub Docs, "Evaluate expressions in workflows and actions": object
+//! filters).
+
+ghost use Rattle.std.specs.Prelude.{◌≡◌, ◌++◌, IfOk, Ok};
+ghost use Rattle.std.specs.List.{cons_option, filter_map, flat_map};
+ghost use Rattle.expr_value.specs.Answer.{Gives};
+ghost use Rattle.expr_value.specs.Convert.{text_of};
+ghost use Rattle.expr_value.specs.Dereference.{one, or_null as or_null_of, is_alike as is_alike_of, property_in, property_of as property_of_value, item_at, index_of as index_of_value, contents, index_each, property_found as property_found_of, index_found as index_found_of, all_found as all_found_of, outside as outside_of};
+ghost use Rattle.expr_value.specs.Seen.{item_seen, items_seen, operand_seen, found_seen, maybe_seen, node_seen, kind_seen};
+ghost use Rattle.flow_model.specs.Mapping.{pairs_of};
+ghost use Rattle.flow_model.specs.Plain as plain;
+ghost use Rattle.flow_model.specs.Value.{view, views, viewed};
+
+use crate::kind::Kind;
+use crate::number::number_of;
+use crate::operand::{Item, Operand, again};
+use crate::text::text_of;
+use expr_reader::same_text;
+use flow_model::{Node, ValueFault, copy_node};
+use std::alloc::{AllocError, Global};
+use std::collections::BTreeMap;
+
+/// What a chain of dereferences has come to: one value, or a filtered list.
+#[derive(Drop)]
+pub(crate) enum Found<'a> {
+    One(Operand<'a>),
+    Filtered(Vec<Item<'a>>),
+}
+
+// Two texts are the same ignoring case.
+fn is_alike(name: &str, key: &str) -> bool
+    ensures { result ≡ is_alike_of name.now key.now }
+{
+    same_text(name, key)
+}
+
+// The property of exactly that name, else the first in key order that equals it ignoring case.
+fn member<'n>(members: &'n BTreeMap<String, Node>, name: &str) -> Option<&'n Node>
+    ensures { node_seen result
+        ≡ property_in name.now (plain.members_of (viewed (pairs_of members.now.entries))) }
+{
+    if let Some(node) = members.get(name) {
+        return Some(node);
+    }
+    for (key, node) in members.iter() {
+        if is_alike(name, key.as_str()) {
+            return Some(node);
+        }
+    }
+    None
+}
+
+// The property of a value, where it is a map that has it.
+fn property_of<'n>(node: &'n Node, name: &str) -> Option<&'n Node>
+    ensures { node_seen result ≡ property_of_value name.now (view node.now) }
+{
+    match node {
+        Node::Null | Node::Truth(_) | Node::Whole(_) | Node::Text(_) | Node::List(_) => None,
+        Node::Map(members) => member(members, name),
+    }
+}
+
+// The item at a number, from 0.
+fn item_of(nodes: &[Node], number: Option<i64>) -> Option<&Node>
+    ensures { node_seen result ≡ item_at number (views nodes.now) }
+{
+    match number {
+        Some(place) if place >= 0 => nodes.get(place as usize),
+        _ => None,
+    }
+}
+
+// What stands at an index in a value: in a list at its number, in a map at its text, which is `name`.
+fn index_of<'n>(node: &'n Node, index: Kind<'_>, name: &str) -> Result<Option<&'n Node>, ValueFault>
+    requires { name.now ≡ text_of (kind_seen index) }
+    ensures { Gives node_seen result (index_of_value (kind_seen index) (view node.now)) }
+{
+    match node {
+        Node::Null | Node::Truth(_) | Node::Whole(_) | Node::Text(_) => Ok(None),
+        Node::List(nodes) => {
+            let number = number_of(index)?;
+            Ok(item_of(nodes.as_slice(), number))
+        },
+        Node::Map(members) => Ok(member(members, name)),
+    }
+}
+
+// A node that may be there, as an item of its own.
+fn made<'a>(alloc: Global, node: Option<&Node>) -> Result<Option<Item<'a>>, AllocError>
+    ensures { IfOk result (λ item. maybe_seen item ≡ node_seen node) }
+{
+    match node {
+        Some(node) => Ok(Some(Item::Made(copy_node(alloc, node)?))),
+        None => Ok(None),
+    }
+}
+
+// A node that may be there, lent.
+fn lent(node: Option<&Node>) -> Option<Item<'_>>
+    ensures { maybe_seen result ≡ node_seen node }
+{
+    match node {
+        Some(node) => Some(Item::Lent(node)),
+        None => None,
+    }
+}
+
+// The property of an item, where it is a map that has it.
+fn item_property<'a>(alloc: Global, item: &Item<'a>, name: &str) -> Result<Option<Item<'a>>, AllocError>
+    ensures { IfOk result (λ found. maybe_seen found ≡ property_of_value name.now (item_seen item.now)) }
+{
+    match item {
+        Item::Lent(node) => Ok(lent(property_of(*node, name))),
+        Item::Made(node) => made(alloc, property_of(node, name)),
+    }
+}
+
+// What stands at an index in an item.
+fn item_index<'a>(
+    alloc: Global,
+    item: &Item<'a>,
+    index: Kind<'_>,
+    name: &str,
+) -> Result<Option<Item<'a>>, ValueFault>
+    requires { name.now ≡ text_of (kind_seen index) }
+    ensures { Gives maybe_seen result (index_of_value (kind_seen index) (item_seen item.now)) }
+{
+    match item {
+        Item::Lent(node) => Ok(lent(index_of(*node, index, name)?)),
+        Item::Made(node) => {
+            let found = index_of(node, index, name)?;
+            Ok(made(alloc, found)?)
+        },
+    }
+}
+
+// The item at a number, from 0.
+fn place_of<'a>(alloc: Global, items: &[Item<'a>], number: Option<i64>) -> Result<Option<Item<'a>>, AllocError>
+    ensures { IfOk result (λ found. maybe_seen found ≡ item_at number (items_seen items.now)) }
+{
+    match number {
+        Some(place) if place >= 0 => match items.get(place as usize) {
+            Some(item) => Ok(Some(again(alloc, item)?)),
+            None => Ok(None),
+        },
+        _ => Ok(None),
+    }
+}
+
+// One value, or null.
+fn or_null(item: Option<Item<'_>>) -> Found<'_>
+    ensures { found_seen result ≡ one (or_null_of (maybe_seen item)) }
+{
+    match item {
+        Some(item) => Found::One(Operand::One(item)),
+        None => Found::One(Operand::One(Item::Made(Node::Null))),
+    }
+}
+
+// The property of an operand, where it is a map that has it.
+fn operand_property<'a>(
+    alloc: Global,
+    operand: &Operand<'a>,
+    name: &str,
+) -> Result<Option<Item<'a>>, AllocError>
+    ensures { IfOk result (λ found. maybe_seen found ≡ property_of_value name.now (operand_seen operand.now)) }
+{
+    match operand {
+        Operand::One(item) => item_property(alloc, item, name),
+        Operand::Many(_) => Ok(None),
+    }
+}
+
+// What stands at an index in an operand.
+fn operand_index<'a>(
+    alloc: Global,
+    operand: &Operand<'a>,
+    index: Kind<'_>,
+    name: &str,
+) -> Result<Option<Item<'a>>, ValueFault>
+    requires { name.now ≡ text_of (kind_seen index) }
+    ensures { Gives maybe_seen result (index_of_value (kind_seen index) (operand_seen operand.now)) }
+{
+    match operand {
+        Operand::One(item) => item_index(alloc, item, index, name),
+        Operand::Many(items) => {
+            let number = number_of(index)?;
+            Ok(place_of(alloc, items.as_slice(), number)?)
+        },
+    }
+}
+
+// The property of each item that has it.
+fn properties<'a>(alloc: Global, items: &[Item<'a>], name: &str) -> Result<Vec<Item<'a>>, AllocError>
+    ensures { IfOk result (λ found. items_seen found.items
+        ≡ filter_map (property_of_value name.now) (items_seen items.now)) }
+{
+    let mut found = Vec::new(alloc);
+    for item in items {
+        if let Some(property) = item_property(alloc, item, name)? {
+            found.push(property)?;
+        }
+    }
+    Ok(found)
+}
+
+// What stands at an index in each item that has it.
+fn indexes<'a>(
+    alloc: Global,
+    items: &[Item<'a>],
+    index: Kind<'_>,
+    name: &str,
+) -> Result<Vec<Item<'a>>, ValueFault>
+    requires { name.now ≡ text_of (kind_seen index) }
+    ensures { Gives (λ found. items_seen found.items) result
+        (index_each (kind_seen index) (items_seen items.now)) }
+{
+    let mut found = Vec::new(alloc);
+    for item in items {
+        if let Some(place) = item_index(alloc, item, index, name)? {
+            found.push(place)?;
+        }
+    }
+    Ok(found)
+}
+
+/// `.name`: the property of one value or null, or of each item of a filtered list that has it.
+pub(crate) fn property_found<'a>(
+    alloc: Global,
+    found: &Found<'a>,
+    name: &str,
+) -> Result<Found<'a>, AllocError>
+    ensures { IfOk result (λ next. found_seen next ≡ property_found_of name.now (found_seen found.now)) }
+{
+    match found {
+        Found::One(operand) => Ok(or_null(operand_property(alloc, operand, name)?)),
+        Found::Filtered(items) => Ok(Found::Filtered(properties(alloc, items.as_slice(), name)?)),
+    }
+}
+
+/// `[index]`: what stands there in one value or null, or in each item of a filtered list that has it.
+pub(crate) fn index_found<'a>(
+    alloc: Global,
+    found: &Found<'a>,
+    index: Kind<'_>,
+) -> Result<Found<'a>, ValueFault>
+    ensures { Gives found_seen result (index_found_of (kind_seen index) (found_seen found.now)) }
+{
+    let name = text_of(alloc, index)?;
+    match found {
+        Found::One(operand) => Ok(or_null(operand_index(alloc, operand, index, name.as_str())?)),
+        Found::Filtered(items) => Ok(Found::Filtered(indexes(alloc, items.as_slice(), index, name.as_str())?)),
+    }
+}
+
+/// What a chain is outside of it: a filtered list is a list.
+pub(crate) fn outside(found: Found<'_>) -> Operand<'_>
+    ensures { operand_seen result ≡ outside_of (found_seen found) }
+{
+    match found {
+        Found::One(operand) => operand,
+        Found::Filtered(items) => Operand::Many(items),
+    }
+}

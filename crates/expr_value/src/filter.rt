@@ -1,0 +1,122 @@
+//! The contents of values, for `.*`.
+
+ghost use Rattle.std.specs.Prelude.{◌≡◌, ◌++◌, IfOk, OnOk};
+ghost use Rattle.std.specs.List.{flat_map};
+ghost use Rattle.expr_value.specs.Dereference.{contents, all_found as all_found_of};
+ghost use Rattle.expr_value.specs.Kind.{items as items_of_list, values as values_of};
+ghost use Rattle.expr_value.specs.Seen.{item_seen, items_seen, operand_seen, found_seen};
+ghost use Rattle.flow_model.specs.Mapping.{pairs_of};
+ghost use Rattle.flow_model.specs.Plain as plain;
+ghost use Rattle.flow_model.specs.Value.{view, views, viewed};
+
+use crate::dereference::Found;
+use crate::operand::{Item, Operand, again};
+use flow_model::{Node, copy_node};
+use std::alloc::{AllocError, Global};
+use std::collections::BTreeMap;
+
+// Adds the items of a list, lent.
+fn push_nodes<'a>(nodes: &'a [Node], found: &mut Vec<Item<'a>>) -> Result<(), AllocError>
+    ensures { OnOk result (items_seen found.new.items ≡ items_seen found.old.items ++ views nodes.now) }
+{
+    for node in nodes {
+        found.push(Item::Lent(node))?;
+    }
+    Ok(())
+}
+
+// Adds the values of a map, lent.
+fn push_values<'a>(members: &'a BTreeMap<String, Node>, found: &mut Vec<Item<'a>>) -> Result<(), AllocError>
+    ensures { OnOk result (items_seen found.new.items
+        ≡ items_seen found.old.items ++ values_of (plain.members_of (viewed (pairs_of members.now.entries)))) }
+{
+    for (_, node) in members.iter() {
+        found.push(Item::Lent(node))?;
+    }
+    Ok(())
+}
+
+// Adds copies of the items of a list.
+fn push_node_copies(alloc: Global, nodes: &[Node], found: &mut Vec<Item<'_>>) -> Result<(), AllocError>
+    ensures { OnOk result (items_seen found.new.items ≡ items_seen found.old.items ++ views nodes.now) }
+{
+    for node in nodes {
+        found.push(Item::Made(copy_node(alloc, node)?))?;
+    }
+    Ok(())
+}
+
+// Adds copies of the values of a map.
+fn push_value_copies(
+    alloc: Global,
+    members: &BTreeMap<String, Node>,
+    found: &mut Vec<Item<'_>>,
+) -> Result<(), AllocError>
+    ensures { OnOk result (items_seen found.new.items
+        ≡ items_seen found.old.items ++ values_of (plain.members_of (viewed (pairs_of members.now.entries)))) }
+{
+    for (_, node) in members.iter() {
+        found.push(Item::Made(copy_node(alloc, node)?))?;
+    }
+    Ok(())
+}
+
+// Adds the contents of an item: what a context lends is lent on.
+fn push_contents<'a>(alloc: Global, item: &Item<'a>, found: &mut Vec<Item<'a>>) -> Result<(), AllocError>
+    ensures { OnOk result (items_seen found.new.items
+        ≡ items_seen found.old.items ++ contents (item_seen item.now)) }
+{
+    match item {
+        Item::Lent(Node::List(nodes)) => push_nodes(nodes.as_slice(), found),
+        Item::Lent(Node::Map(members)) => push_values(members, found),
+        Item::Made(Node::List(nodes)) => push_node_copies(alloc, nodes.as_slice(), found),
+        Item::Made(Node::Map(members)) => push_value_copies(alloc, members, found),
+        _ => Ok(()),
+    }
+}
+
+// The contents of each item, one after the other.
+fn all_contents<'a>(alloc: Global, items: &[Item<'a>]) -> Result<Vec<Item<'a>>, AllocError>
+    ensures { IfOk result (λ found. items_seen found.items ≡ flat_map contents (items_seen items.now)) }
+{
+    let mut found = Vec::new(alloc);
+    for item in items {
+        push_contents(alloc, item, &mut found)?;
+    }
+    Ok(found)
+}
+
+// The same items.
+fn all_again<'a>(alloc: Global, items: &[Item<'a>]) -> Result<Vec<Item<'a>>, AllocError>
+    ensures { IfOk result (λ found. items_seen found.items ≡ items_seen items.now) }
+{
+    let mut found = Vec::new(alloc);
+    for item in items {
+        found.push(again(alloc, item)?)?;
+    }
+    Ok(found)
+}
+
+// The contents of one value.
+fn operand_contents<'a>(alloc: Global, operand: &Operand<'a>) -> Result<Vec<Item<'a>>, AllocError>
+    ensures { IfOk result (λ found. items_seen found.items ≡ contents (operand_seen operand.now)) }
+{
+    match operand {
+        Operand::One(item) => {
+            let mut found = Vec::new(alloc);
+            push_contents(alloc, item, &mut found)?;
+            Ok(found)
+        },
+        Operand::Many(items) => all_again(alloc, items.as_slice()),
+    }
+}
+
+/// `.*`: the contents of one value, or of each item of a filtered list.
+pub(crate) fn all_found<'a>(alloc: Global, found: &Found<'a>) -> Result<Found<'a>, AllocError>
+    ensures { IfOk result (λ next. found_seen next ≡ all_found_of (found_seen found.now)) }
+{
+    match found {
+        Found::One(operand) => Ok(Found::Filtered(operand_contents(alloc, operand)?)),
+        Found::Filtered(items) => Ok(Found::Filtered(all_contents(alloc, items.as_slice())?)),
+    }
+}
