@@ -8,6 +8,7 @@
 #![tactic(auto)]
 
 mod kind;
+mod number;
 mod operand;
 mod status;
 
