@@ -7,6 +7,7 @@
 //! `expr_reader` (trees).
 #![tactic(auto)]
 
+mod compare;
 mod kind;
 mod number;
 mod operand;
