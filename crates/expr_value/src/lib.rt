@@ -12,5 +12,8 @@ mod kind;
 mod number;
 mod operand;
 mod status;
+mod truth;
+mod values;
 
 pub use status::Status;
+pub use values::{loose_eq, truthy};
