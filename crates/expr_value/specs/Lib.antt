@@ -8,6 +8,7 @@ pub mod Evaluate
 pub mod Format
 pub mod Functions
 pub mod Kind
+pub mod Laws
 pub mod Limit
 pub mod Number
 pub mod Seen

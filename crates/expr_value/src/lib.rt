@@ -7,8 +7,15 @@
 //! `expr_reader` (trees).
 #![tactic(auto)]
 
+mod compare;
 mod kind;
+mod laws;
+mod number;
 mod operand;
 mod status;
+mod truth;
+mod values;
 
+pub use laws::{equality_is_symmetric, inequality_is_opposite, relations_mirror};
 pub use status::Status;
+pub use values::{loose_eq, truthy};
