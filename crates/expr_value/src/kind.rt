@@ -34,7 +34,7 @@ pub(crate) fn kind_of(node: &Node) -> Kind<'_>
 
 /// Whether it is a list or a map.
 pub(crate) fn is_collection(kind: Kind<'_>) -> bool
-    ensures { result ≡ is_collection_of (kind_seen kind) }
+    ensures { result ≡ is_collection_of (kind_seen kind.entry) }
 {
     match kind {
         Kind::Null | Kind::Truth(_) | Kind::Whole(_) | Kind::Text(_) => false,

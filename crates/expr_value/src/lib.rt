@@ -7,8 +7,11 @@
 //! `expr_reader` (trees).
 #![tactic(auto)]
 
+mod bounded;
 mod kind;
 mod operand;
 mod status;
+mod text;
 
 pub use status::Status;
+pub use text::to_text;
