@@ -1,4 +1,5 @@
 pub mod Answer
+pub mod Bounded
 pub mod Compare
 pub mod Condition
 pub mod Context

@@ -14,7 +14,7 @@ ghost use Rattle.flow_model.specs.Value.{view, views, viewed};
 use crate::kind::Kind;
 use crate::number::number_of;
 use crate::operand::{Item, Operand, again};
-use crate::text::text_of;
+use crate::text::text_of_kind;
 use expr_reader::same_text;
 use flow_model::{Node, ValueFault, copy_node};
 use std::alloc::{AllocError, Global};
@@ -246,7 +246,7 @@ pub(crate) fn index_found<'a>(
 ) -> Result<Found<'a>, ValueFault>
     ensures { Gives found_seen result (index_found_of (kind_seen index) (found_seen found.now)) }
 {
-    let name = text_of(alloc, index)?;
+    let name = text_of_kind(alloc, index)?;
     match found {
         Found::One(operand) => Ok(or_null(operand_index(alloc, operand, index, name.as_str())?)),
         Found::Filtered(items) => Ok(Found::Filtered(indexes(alloc, items.as_slice(), index, name.as_str())?)),
