@@ -12,7 +12,7 @@ use flow_model::ValueFault;
 use std::cmp::Ordering;
 
 // The order of two texts, ignoring case.
-fn text_order(left: &str, right: &str) -> Ordering
+pub(crate) fn text_order(left: &str, right: &str) -> Ordering
     ensures { result ≡ compare.text_order left.now right.now }
 {
     left.bytes()

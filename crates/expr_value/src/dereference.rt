@@ -11,13 +11,14 @@ ghost use Rattle.flow_model.specs.Mapping.{pairs_of};
 ghost use Rattle.flow_model.specs.Plain as plain;
 ghost use Rattle.flow_model.specs.Value.{view, views, viewed};
 
+use crate::compare::text_order;
 use crate::kind::Kind;
 use crate::number::number_of;
 use crate::operand::{Item, Operand, again};
 use crate::text::text_of_kind;
-use expr_reader::same_text;
 use flow_model::{Node, ValueFault, copy_node};
 use std::alloc::{AllocError, Global};
+use std::cmp::Ordering;
 use std::collections::BTreeMap;
 
 /// What a chain of dereferences has come to: one value, or a filtered list.
@@ -31,7 +32,7 @@ pub(crate) enum Found<'a> {
 fn is_alike(name: &str, key: &str) -> bool
     ensures { result ≡ is_alike_of name.now key.now }
 {
-    same_text(name, key)
+    matches!(text_order(name, key), Ordering::Equal)
 }
 
 // The property of exactly that name, else the first in key order that equals it ignoring case.
@@ -73,7 +74,7 @@ fn item_of(nodes: &[Node], number: Option<i64>) -> Option<&Node>
 // What stands at an index in a value: in a list at its number, in a map at its text, which is `name`.
 fn index_of<'n>(node: &'n Node, index: Kind<'_>, name: &str) -> Result<Option<&'n Node>, ValueFault>
     requires { name.now ≡ text_of (kind_seen index) }
-    ensures { Gives node_seen result (index_of_value (kind_seen index) (view node.now)) }
+    ensures { Gives node_seen result (index_of_value (kind_seen index.entry) (view node.now)) }
 {
     match node {
         Node::Null | Node::Truth(_) | Node::Whole(_) | Node::Text(_) => Ok(None),
@@ -87,7 +88,7 @@ fn index_of<'n>(node: &'n Node, index: Kind<'_>, name: &str) -> Result<Option<&'
 
 // A node that may be there, as an item of its own.
 fn made<'a>(alloc: Global, node: Option<&Node>) -> Result<Option<Item<'a>>, AllocError>
-    ensures { IfOk result (λ item. maybe_seen item ≡ node_seen node) }
+    ensures { IfOk result (λ item. maybe_seen item ≡ node_seen node.entry) }
 {
     match node {
         Some(node) => Ok(Some(Item::Made(copy_node(alloc, node)?))),
@@ -97,7 +98,7 @@ fn made<'a>(alloc: Global, node: Option<&Node>) -> Result<Option<Item<'a>>, Allo
 
 // A node that may be there, lent.
 fn lent(node: Option<&Node>) -> Option<Item<'_>>
-    ensures { maybe_seen result ≡ node_seen node }
+    ensures { maybe_seen result ≡ node_seen node.entry }
 {
     match node {
         Some(node) => Some(Item::Lent(node)),
@@ -123,7 +124,7 @@ fn item_index<'a>(
     name: &str,
 ) -> Result<Option<Item<'a>>, ValueFault>
     requires { name.now ≡ text_of (kind_seen index) }
-    ensures { Gives maybe_seen result (index_of_value (kind_seen index) (item_seen item.now)) }
+    ensures { Gives maybe_seen result (index_of_value (kind_seen index.entry) (item_seen item.now)) }
 {
     match item {
         Item::Lent(node) => Ok(lent(index_of(*node, index, name)?)),
@@ -149,7 +150,7 @@ fn place_of<'a>(alloc: Global, items: &[Item<'a>], number: Option<i64>) -> Resul
 
 // One value, or null.
 fn or_null(item: Option<Item<'_>>) -> Found<'_>
-    ensures { found_seen result ≡ one (or_null_of (maybe_seen item)) }
+    ensures { found_seen result ≡ one (or_null_of (maybe_seen item.entry)) }
 {
     match item {
         Some(item) => Found::One(Operand::One(item)),
@@ -179,7 +180,7 @@ fn operand_index<'a>(
     name: &str,
 ) -> Result<Option<Item<'a>>, ValueFault>
     requires { name.now ≡ text_of (kind_seen index) }
-    ensures { Gives maybe_seen result (index_of_value (kind_seen index) (operand_seen operand.now)) }
+    ensures { Gives maybe_seen result (index_of_value (kind_seen index.entry) (operand_seen operand.now)) }
 {
     match operand {
         Operand::One(item) => item_index(alloc, item, index, name),
@@ -213,7 +214,7 @@ fn indexes<'a>(
 ) -> Result<Vec<Item<'a>>, ValueFault>
     requires { name.now ≡ text_of (kind_seen index) }
     ensures { Gives (λ found. items_seen found.items) result
-        (index_each (kind_seen index) (items_seen items.now)) }
+        (index_each (kind_seen index.entry) (items_seen items.now)) }
 {
     let mut found = Vec::new(alloc);
     for item in items {
@@ -244,7 +245,7 @@ pub(crate) fn index_found<'a>(
     found: &Found<'a>,
     index: Kind<'_>,
 ) -> Result<Found<'a>, ValueFault>
-    ensures { Gives found_seen result (index_found_of (kind_seen index) (found_seen found.now)) }
+    ensures { Gives found_seen result (index_found_of (kind_seen index.entry) (found_seen found.now)) }
 {
     let name = text_of_kind(alloc, index)?;
     match found {
@@ -255,7 +256,7 @@ pub(crate) fn index_found<'a>(
 
 /// What a chain is outside of it: a filtered list is a list.
 pub(crate) fn outside(found: Found<'_>) -> Operand<'_>
-    ensures { operand_seen result ≡ outside_of (found_seen found) }
+    ensures { operand_seen result ≡ outside_of (found_seen found.entry) }
 {
     match found {
         Found::One(operand) => operand,

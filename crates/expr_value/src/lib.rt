@@ -11,7 +11,6 @@ mod bounded;
 mod compare;
 mod context;
 mod dereference;
-mod evaluate;
 mod filter;
 mod kind;
 mod laws;
