@@ -1,6 +1,5 @@
 -- Decimal digits, one more at a time.
-use Rattle.std.proofs.Common.{◌≡◌, ℕ, zero, suc, ◌+◌, ◌-◌, ◌*◌, ◌<◌, ◌≤◌, Bool, true, false, if◌then◌else◌, ◌&&◌, ◌||◌, not, ◌==◌, nat_lt, nat_le, Option, Some, None, Result, Ok, Err, List, [], ◌∷◌, length, get_or, drop, refl, ap, ◌∙◌, arith}
-use Rattle.std.proofs.Math.Nat.{mul-le-mul_left}
+use Rattle.std.proofs.Common.{◌≡◌, ℕ, zero, suc, ◌+◌, ◌-◌, ◌*◌, ◌<◌, ◌≤◌, Bool, true, false, if◌then◌else◌, ◌&&◌, not, ◌==◌, nat_le, Some, Ok, Err, List, [], ◌∷◌, length, get_or, drop, refl, ap, ◌∙◌, arith}
 use Rattle.std.proofs.Math.Seq.{drop-cons}
 use Rattle.std.proofs.lemmas.Bool.Decides.{nat_tests}
 use Rattle.std.specs.Char.{digit_value}
@@ -8,7 +7,6 @@ use Rattle.std.specs.List.{list_all}
 use Rattle.expr_reader.specs.Bytes.{is_digit}
 use Rattle.expr_reader.specs.Number.{greatest, digits_value}
 use Rattle.expr_value.specs.Number.{is_integer, in_range}
-use Rattle.flow_model.specs.declared.reply.ValueFault.{ValueFault}
 use Rattle.flow_model.specs.declared.reply.ValueFault.TheVariants.{NotWhole}
 
 first_of_both : (t u : Bool) → (t && u) ≡ true → t ≡ true

@@ -11,7 +11,7 @@ use Rattle.expr_reader.specs.declared.tree.Relation.TheVariants.{Less, AtMost, G
 use Rattle.expr_value.specs.Convert.{number_of}
 use Rattle.expr_value.specs.Kind.{Kind, null, truth, whole, text, list, map}
 use Rattle.flow_model.specs.declared.reply.ValueFault.{ValueFault}
-use Rattle.flow_model.specs.declared.reply.ValueFault.TheVariants.{NotWhole, NoIdentity}
+use Rattle.flow_model.specs.declared.reply.ValueFault.TheVariants.{NoIdentity}
 
 -- The order of two texts, ignoring case.
 abbrev pub text_order : List ℕ → List ℕ → Ordering
