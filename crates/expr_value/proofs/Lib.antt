@@ -1,2 +1,4 @@
 mod Digits
 mod Mirror
+mod Fronts
+mod Lists

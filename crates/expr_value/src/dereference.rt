@@ -4,8 +4,8 @@
 ghost use Rattle.std.specs.Prelude.{◌≡◌, ◌++◌, IfOk, Ok};
 ghost use Rattle.std.specs.List.{cons_option, filter_map, flat_map};
 ghost use Rattle.expr_value.specs.Answer.{Gives};
-ghost use Rattle.expr_value.specs.Convert.{text_of};
-ghost use Rattle.expr_value.specs.Dereference.{one, or_null as or_null_of, is_alike as is_alike_of, property_in, property_of as property_of_value, item_at, index_of as index_of_value, contents, index_each, property_found as property_found_of, index_found as index_found_of, all_found as all_found_of, outside as outside_of};
+ghost use Rattle.expr_value.specs.Convert.{text_of, number_of as number_of_kind};
+ghost use Rattle.expr_value.specs.Dereference.{one, or_null as or_null_of, is_alike as is_alike_of, property_in, property_of as property_of_value, item_at, item_found, index_of as index_of_value, contents, index_each, property_found as property_found_of, index_found as index_found_of, all_found as all_found_of, outside as outside_of};
 ghost use Rattle.expr_value.specs.Seen.{item_seen, items_seen, operand_seen, found_seen, maybe_seen, node_seen, kind_seen};
 ghost use Rattle.flow_model.specs.Mapping.{pairs_of};
 ghost use Rattle.flow_model.specs.Plain as plain;
@@ -71,6 +71,14 @@ fn item_of(nodes: &[Node], number: Option<i64>) -> Option<&Node>
     }
 }
 
+// What stands at an index in a list: the item at its number.
+fn index_nodes<'n>(nodes: &'n [Node], index: Kind<'_>) -> Result<Option<&'n Node>, ValueFault>
+    ensures { Gives node_seen result (item_found (number_of_kind (kind_seen index.entry)) (views nodes.now)) }
+{
+    let number = number_of(index)?;
+    Ok(item_of(nodes, number))
+}
+
 // What stands at an index in a value: in a list at its number, in a map at its text, which is `name`.
 fn index_of<'n>(node: &'n Node, index: Kind<'_>, name: &str) -> Result<Option<&'n Node>, ValueFault>
     requires { name.now ≡ text_of (kind_seen index) }
@@ -78,10 +86,7 @@ fn index_of<'n>(node: &'n Node, index: Kind<'_>, name: &str) -> Result<Option<&'
 {
     match node {
         Node::Null | Node::Truth(_) | Node::Whole(_) | Node::Text(_) => Ok(None),
-        Node::List(nodes) => {
-            let number = number_of(index)?;
-            Ok(item_of(nodes.as_slice(), number))
-        },
+        Node::List(nodes) => index_nodes(nodes.as_slice(), index),
         Node::Map(members) => Ok(member(members, name)),
     }
 }
@@ -148,6 +153,18 @@ fn place_of<'a>(alloc: Global, items: &[Item<'a>], number: Option<i64>) -> Resul
     }
 }
 
+// What stands at an index in a list of items.
+fn index_items<'a>(
+    alloc: Global,
+    items: &[Item<'a>],
+    index: Kind<'_>,
+) -> Result<Option<Item<'a>>, ValueFault>
+    ensures { Gives maybe_seen result (item_found (number_of_kind (kind_seen index.entry)) (items_seen items.now)) }
+{
+    let number = number_of(index)?;
+    Ok(place_of(alloc, items, number)?)
+}
+
 // One value, or null.
 fn or_null(item: Option<Item<'_>>) -> Found<'_>
     ensures { found_seen result ≡ one (or_null_of (maybe_seen item.entry)) }
@@ -184,10 +201,7 @@ fn operand_index<'a>(
 {
     match operand {
         Operand::One(item) => item_index(alloc, item, index, name),
-        Operand::Many(items) => {
-            let number = number_of(index)?;
-            Ok(place_of(alloc, items.as_slice(), number)?)
-        },
+        Operand::Many(items) => index_items(alloc, items.as_slice(), index),
     }
 }
 

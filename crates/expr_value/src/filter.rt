@@ -30,7 +30,7 @@ fn push_values<'a>(members: &'a BTreeMap<String, Node>, found: &mut Vec<Item<'a>
     ensures { OnOk result (items_seen found.new.items
         ≡ items_seen found.old.items ++ values_of (plain.members_of (viewed (pairs_of members.now.entries)))) }
 {
-    for (_, node) in members.iter() {
+    for (_key, node) in members.iter() {
         found.push(Item::Lent(node))?;
     }
     Ok(())
@@ -55,23 +55,48 @@ fn push_value_copies(
     ensures { OnOk result (items_seen found.new.items
         ≡ items_seen found.old.items ++ values_of (plain.members_of (viewed (pairs_of members.now.entries)))) }
 {
-    for (_, node) in members.iter() {
+    for (_key, node) in members.iter() {
         found.push(Item::Made(copy_node(alloc, node)?))?;
     }
     Ok(())
 }
 
+// Adds the contents of a node, lent.
+fn push_lent<'a>(node: &'a Node, found: &mut Vec<Item<'a>>) -> Result<(), AllocError>
+    ensures { OnOk result (items_seen found.new.items
+        ≡ items_seen found.old.items ++ contents (view node.now)) }
+{
+    match node {
+        Node::List(nodes) => push_nodes(nodes.as_slice(), found),
+        Node::Map(members) => push_values(members, found),
+        Node::Null | Node::Truth(_) | Node::Whole(_) | Node::Text(_) => Ok(()),
+    }
+}
+
+// Adds copies of the contents of a node.
+fn push_made(alloc: Global, node: &Node, found: &mut Vec<Item<'_>>) -> Result<(), AllocError>
+    ensures { OnOk result (items_seen found.new.items
+        ≡ items_seen found.old.items ++ contents (view node.now)) }
+{
+    match node {
+        Node::List(nodes) => push_node_copies(alloc, nodes.as_slice(), found),
+        Node::Map(members) => push_value_copies(alloc, members, found),
+        Node::Null | Node::Truth(_) | Node::Whole(_) | Node::Text(_) => Ok(()),
+    }
+}
+
 // Adds the contents of an item: what a context lends is lent on.
-fn push_contents<'a>(alloc: Global, item: &Item<'a>, found: &mut Vec<Item<'a>>) -> Result<(), AllocError>
+fn push_contents<'a>(
+    alloc: Global,
+    item: &Item<'a>,
+    found: &mut Vec<Item<'a>>,
+) -> Result<(), AllocError>
     ensures { OnOk result (items_seen found.new.items
         ≡ items_seen found.old.items ++ contents (item_seen item.now)) }
 {
     match item {
-        Item::Lent(Node::List(nodes)) => push_nodes(nodes.as_slice(), found),
-        Item::Lent(Node::Map(members)) => push_values(members, found),
-        Item::Made(Node::List(nodes)) => push_node_copies(alloc, nodes.as_slice(), found),
-        Item::Made(Node::Map(members)) => push_value_copies(alloc, members, found),
-        _ => Ok(()),
+        Item::Lent(node) => push_lent(*node, found),
+        Item::Made(node) => push_made(alloc, node, found),
     }
 }
 

@@ -1,0 +1,9 @@
+use Rattle.std.proofs.Common.{◌≡◌, ◌++◌, ℕ, ◌+◌, length, take, drop}
+use Rattle.expr_value.specs.Seen.{item_seen, items_seen, operand_seen, operands_seen, found_seen, kind_seen}
+use Rattle.expr_value.specs.Dereference.{index_each}
+use Rattle.expr_value.proofs.Fronts.{with_front}
+use Rattle.expr_value.proofs.dereference.indexes.Given as goal
+
+-- what was found and what is left are all
+abbrev pub invariant-loop-item : goal.invariant-loop-item
+invariant-loop-item l = with_front (items_seen l.found.items) (index_each (kind_seen l.index) (items_seen (drop l.item-index l.items))) ≡ index_each (kind_seen l.index) (items_seen l.items)

@@ -1,0 +1,6 @@
+use Rattle.std.proofs.Common.{◌≡◌, ◌++◌, ℕ, ◌+◌, length, take, drop}
+use Rattle.expr_value.specs.Seen.{item_seen, items_seen, operand_seen, operands_seen, found_seen}
+use Rattle.expr_value.proofs.filter.all_again.Given as goal
+
+abbrev pub invariant-loop-item : goal.invariant-loop-item
+invariant-loop-item l = items_seen l.found.items ≡ items_seen (take l.item-index l.items)
