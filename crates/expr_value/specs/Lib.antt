@@ -7,6 +7,7 @@ pub mod Convert
 pub mod Dereference
 pub mod Evaluate
 pub mod Format
+pub mod Formatting
 pub mod Functions
 pub mod Kind
 pub mod Limit

@@ -2,7 +2,7 @@
 
 ghost use Rattle.std.specs.Prelude.{◌≡◌, [], Some, OnOk};
 ghost use Rattle.expr_value.specs.Answer.{Gives};
-ghost use Rattle.expr_value.specs.Bounded.{grown, grown_value};
+ghost use Rattle.expr_value.specs.Bounded.{grown, grown_value, FitsLimit};
 ghost use Rattle.flow_model.specs.Value.{view};
 
 use flow_model::{Node, Text, ValueFault};
@@ -56,7 +56,8 @@ impl Bounded {
 
     /// The text as a value, or `TooLarge`.
     pub(crate) fn finish(self) -> Result<Node, ValueFault>
-        ensures { Gives view result (grown_value self) }
+        ensures value { Gives view result (grown_value self) }
+        ensures fits { FitsLimit self }
     {
         match self.text {
             Some(text) => Ok(Node::Text(Text::new(text))),

@@ -8,6 +8,7 @@
 #![tactic(auto)]
 
 mod bounded;
+mod format;
 mod kind;
 mod operand;
 mod status;
