@@ -1,3 +1,5 @@
-mod Growing
-mod Runs
 mod Braces
+mod Digits
+mod Growing
+mod Mirror
+mod Runs

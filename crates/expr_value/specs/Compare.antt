@@ -1,8 +1,8 @@
 -- Equality and the four relations (GitHub Docs, "Evaluate expressions in workflows and actions": operators).
 use Rattle.std.specs.Prelude.{ℕ, ℤ, Bool, true, false, not, Option, Some, None, Result, Ok, Err, List}
-use Rattle.std.specs.Cmp.Lexicographic.{pointwise, slice_cmp}
-use Rattle.std.specs.declared.cmp.Ordering.{Ordering}
+use Rattle.std.specs.Cmp.Lexicographic.{slice_cmp}
 use Rattle.std.specs.Ordering.{nat_cmp, int_cmp, bool_cmp, is_eq, is_lt, is_le, is_gt, is_ge}
+use Rattle.std.specs.declared.cmp.Ordering.{Ordering}
 use Rattle.expr_reader.specs.Fold.{fold}
 use Rattle.expr_reader.specs.declared.tree.Equality.{Equality}
 use Rattle.expr_reader.specs.declared.tree.Equality.TheVariants.{Equal, NotEqual}
@@ -11,7 +11,7 @@ use Rattle.expr_reader.specs.declared.tree.Relation.TheVariants.{Less, AtMost, G
 use Rattle.expr_value.specs.Convert.{number_of}
 use Rattle.expr_value.specs.Kind.{Kind, null, truth, whole, text, list, map}
 use Rattle.flow_model.specs.declared.reply.ValueFault.{ValueFault}
-use Rattle.flow_model.specs.declared.reply.ValueFault.TheVariants.{NotWhole, NoIdentity}
+use Rattle.flow_model.specs.declared.reply.ValueFault.TheVariants.{NoIdentity}
 
 -- The order of two texts, ignoring case.
 abbrev pub text_order : List ℕ → List ℕ → Ordering

@@ -10,6 +10,7 @@ pub mod Format
 pub mod Formatting
 pub mod Functions
 pub mod Kind
+pub mod Laws
 pub mod Limit
 pub mod Number
 pub mod Seen

@@ -8,11 +8,18 @@
 #![tactic(auto)]
 
 mod bounded;
+mod compare;
 mod format;
 mod kind;
+mod laws;
+mod number;
 mod operand;
 mod status;
 mod text;
+mod truth;
+mod values;
 
+pub use laws::{equality_is_symmetric, inequality_is_opposite, relations_mirror};
 pub use status::Status;
 pub use text::to_text;
+pub use values::{loose_eq, truthy};
