@@ -8,12 +8,17 @@
 #![tactic(auto)]
 
 mod bounded;
+mod call;
 mod compare;
 mod format;
+mod join;
+mod json_text;
 mod kind;
 mod laws;
 mod number;
 mod operand;
+mod parts;
+mod search;
 mod status;
 mod text;
 mod truth;
