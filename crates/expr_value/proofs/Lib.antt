@@ -1,5 +1,6 @@
 mod Braces
 mod Digits
+mod FormatLaws
 mod Growing
 mod Joins
 mod JsonTexts

@@ -1,5 +1,5 @@
 -- A text that stands in another.
-use Rattle.std.proofs.Common.{◌≡◌, ℕ, suc, ◌+◌, ◌<◌, Bool, true, false, ◌||◌, ◌==◌, nat_eq, List, [], ◌∷◌, ◌++◌, length, take, drop, eq-eqb, refl, sym, ap, ◌∙◌, arith}
+use Rattle.std.proofs.Common.{◌≡◌, ℕ, Bool, true, false, ◌||◌, ◌==◌, nat_eq, List, [], ◌∷◌, ◌++◌, length, drop, eq-eqb, refl, sym, ap, ◌∙◌, arith}
 use Rattle.std.proofs.lemmas.Bool.{eqb-true}
 use Rattle.std.proofs.lemmas.Slice.Eq.{starts_is}
 use Rattle.std.specs.List.{starts_with, list_any}
@@ -7,7 +7,7 @@ use Rattle.std.specs.Bool.{Decides}
 use Rattle.std.specs.Prelude.{◌↔◌}
 use Rattle.std.specs.Str.Iter.{HasSubslice}
 use Rattle.expr_value.specs.Functions.{stands_in, contains, is_match}
-use Rattle.expr_value.specs.Kind.{Kind, kind_of, items}
+use Rattle.expr_value.specs.Kind.{Kind, kind_of}
 use Rattle.expr_value.specs.Searching.{contains_kind}
 use Rattle.expr_value.proofs.Joins.{items_back}
 use Rattle.flow_model.specs.Plain.{Plain, null, truth, whole, text, list, map, items_of}

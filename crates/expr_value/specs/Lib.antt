@@ -8,6 +8,7 @@ pub mod Dereference
 pub mod Evaluate
 pub mod Format
 pub mod Formatting
+pub mod FunctionLaws
 pub mod Functions
 pub mod Joining
 pub mod Kind

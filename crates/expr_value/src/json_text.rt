@@ -1,12 +1,13 @@
 //! The functions `toJSON` and `fromJSON`.
 
-ghost use Rattle.std.specs.Prelude.{◌≡◌, IfOk, string_bytes};
+ghost use Rattle.std.specs.Prelude.{◌≡◌, ◌≤◌, IfOk, IsTrue, Ok, Some, string_bytes};
+ghost use Rattle.serde_json.specs.Data.{depth};
 ghost use Rattle.serde_json.specs.Read.{read};
 ghost use Rattle.serde_json.specs.View.{view as json_view, items_view};
 ghost use Rattle.expr_value.specs.Answer.{Gives};
-ghost use Rattle.expr_value.specs.Functions.{pretty_text, to_json as to_json_of, value_read, whole_value};
+ghost use Rattle.expr_value.specs.Functions.{from_json as from_json_of, pretty_text, to_json as to_json_of, value_read, whole_value};
 ghost use Rattle.expr_value.specs.Seen.{items_seen, operand_seen};
-ghost use Rattle.flow_model.specs.Json.{json_items, json_of, value_of as value_of_data};
+ghost use Rattle.flow_model.specs.Json.{is_in_range, json_items, json_of, value_of as value_of_data};
 ghost use Rattle.flow_model.specs.Plain as plain;
 ghost use Rattle.flow_model.specs.Value.{view};
 
@@ -39,19 +40,26 @@ fn json_of_operand(alloc: Global, operand: &Operand<'_>) -> Result<Value, AllocE
 
 // The text of a value's JSON, on lines.
 fn pretty(alloc: Global, operand: &Operand<'_>) -> Result<String, AllocError>
-    ensures { IfOk result (λ text. string_bytes text ≡ pretty_text (json_of (operand_seen operand.now))) }
+    ensures text { IfOk result (λ text. string_bytes text ≡ pretty_text (json_of (operand_seen operand.now))) }
+    ensures back { IfOk result (λ text. depth (json_of (operand_seen operand.now)) ≤ 127
+        → read (string_bytes text) ≡ Some (json_of (operand_seen operand.now))) }
 {
     let json = json_of_operand(alloc, operand)?;
     let text = json.to_string_pretty(alloc)?;
     Ok(text)
 }
 
-/// The text of a value's JSON, on lines, each two spaces deeper for each bracket.
+/// The text of a value's JSON, on lines, each two spaces deeper for each bracket. `fromJSON` of it is the value,
+/// where its numbers are in range and it nests at most 127 deep.
 pub(crate) fn to_json(alloc: Global, operand: &Operand<'_>) -> Result<Node, ValueFault>
-    ensures { Gives view result (to_json_of (operand_seen operand.now)) }
+    ensures value { Gives view result (to_json_of (operand_seen operand.now)) }
+    ensures back { IfOk result (λ node. depth (json_of (operand_seen operand.now)) ≤ 127
+        → IsTrue (is_in_range (operand_seen operand.now))
+        → from_json_of (view node) ≡ Ok (operand_seen operand.now)) }
 {
     let text = pretty(alloc, operand)?;
-    limited(text)
+    let node = limited(text)?;
+    Ok(node)
 }
 
 // The value of a JSON value.

@@ -11,6 +11,7 @@ mod bounded;
 mod call;
 mod compare;
 mod format;
+mod function_laws;
 mod join;
 mod json_text;
 mod kind;
@@ -24,6 +25,7 @@ mod text;
 mod truth;
 mod values;
 
+pub use function_laws::{format_with_doubled_braces, format_without_braces};
 pub use laws::{equality_is_symmetric, inequality_is_opposite, relations_mirror};
 pub use status::Status;
 pub use text::to_text;

@@ -1,11 +1,10 @@
-use Rattle.std.proofs.Common.{◌≡◌, ℕ, ◌+◌, ◌<◌, ◌≤◌, ◌∷◌, List, ◌∙◌, sym, ap, arith, map, length, take, drop}
+use Rattle.std.proofs.Common.{◌≡◌, ◌+◌, ◌<◌, ◌≤◌, ◌∙◌, sym, ap, arith, map, length}
 use Rattle.std.proofs.lemmas.Bool.Decides.{nat_tests}
-use Rattle.std.specs.List.{prefix_len, slice_get}
+use Rattle.std.specs.List.{prefix_len}
 use Rattle.expr_reader.specs.Bytes.{is_digit}
 use Rattle.expr_value.specs.Convert.{text_of}
-use Rattle.expr_value.specs.Format.{formatted, opened, numbered}
+use Rattle.expr_value.specs.Format.{formatted, numbered}
 use Rattle.expr_value.specs.Formatting.{ended, texts_of, place_from}
-use Rattle.expr_value.specs.Kind.{kind_of}
 use Rattle.expr_value.specs.Seen.{kind_seen, operand_seen}
 use Rattle.expr_value.proofs.Braces.{opened_digits, opened_none, digits_pass, numbered_none, argument_found, argument_missing, rest_shorter}
 use Rattle.expr_value.proofs.Growing.{ended_grown}

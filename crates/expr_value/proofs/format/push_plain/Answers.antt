@@ -1,5 +1,4 @@
-use Rattle.std.proofs.Common.{◌≡◌, ◌≤◌, ◌∙◌, sym, ap, arith, length, drop}
-use Rattle.std.specs.List.{prefix_len}
+use Rattle.std.proofs.Common.{◌∙◌, sym, ap, arith}
 use Rattle.expr_value.specs.Format.{formatted}
 use Rattle.expr_value.specs.Formatting.{ended, texts_of, is_plain}
 use Rattle.expr_value.proofs.Braces.{plain_front, plain_some, rest_shorter}

@@ -4,5 +4,5 @@ use Rattle.expr_value.specs.Seen.{operand_seen}
 use Rattle.expr_value.proofs.JsonTexts.{pretty_exact}
 use Rattle.expr_value.proofs.json_text.pretty.Goals as goal
 
-pub returns : goal.returns
-returns c = pretty_exact (string_bytes c.in_ok-text.text) (operand_seen c.args.operand.now) (json_view c.in_ok-json.json) c.in_ok-json.ensures c.in_ok-text.ensures.layout c.in_ok-text.ensures.order
+pub returns-clause-text : goal.returns-clause-text
+returns-clause-text c = pretty_exact (string_bytes c.in_ok-text.text) (operand_seen c.args.operand.now) (json_view c.in_ok-json.json) c.in_ok-json.ensures c.in_ok-text.ensures.layout c.in_ok-text.ensures.order

@@ -1,5 +1,4 @@
 use Rattle.std.proofs.Common.{◌∙◌, ap, sym}
-use Rattle.expr_value.specs.Seen.{kind_seen}
 use Rattle.flow_model.specs.Plain.{list, items_of}
 use Rattle.flow_model.specs.Value.{view, views}
 use Rattle.flow_model.proofs.Nodes.{view-List}
