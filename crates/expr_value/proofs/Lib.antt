@@ -1,4 +1,11 @@
+mod Braces
 mod Digits
-mod Mirror
+mod FormatLaws
 mod Fronts
+mod Growing
+mod Joins
+mod JsonTexts
 mod Lists
+mod Mirror
+mod Runs
+mod Searches

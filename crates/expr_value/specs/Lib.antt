@@ -7,10 +7,14 @@ pub mod Convert
 pub mod Dereference
 pub mod Evaluate
 pub mod Format
+pub mod Formatting
+pub mod FunctionLaws
 pub mod Functions
+pub mod Joining
 pub mod Kind
 pub mod Laws
 pub mod Limit
 pub mod Number
+pub mod Searching
 pub mod Seen
 pub mod Template

@@ -1,8 +1,9 @@
 //! A text that grows up to a limit.
 
-ghost use Rattle.std.specs.Prelude.{◌≡◌, [], Some, OnOk};
+ghost use Rattle.std.specs.Prelude.{◌≡◌, [], Some, OnOk, string_bytes};
 ghost use Rattle.expr_value.specs.Answer.{Gives};
-ghost use Rattle.expr_value.specs.Bounded.{grown, grown_value};
+ghost use Rattle.expr_value.specs.Bounded.{grown, grown_value, FitsLimit};
+ghost use Rattle.expr_value.specs.Limit.{limited as limited_of};
 ghost use Rattle.flow_model.specs.Value.{view};
 
 use flow_model::{Node, Text, ValueFault};
@@ -56,11 +57,23 @@ impl Bounded {
 
     /// The text as a value, or `TooLarge`.
     pub(crate) fn finish(self) -> Result<Node, ValueFault>
-        ensures { Gives view result (grown_value self) }
+        ensures value { Gives view result (grown_value self) }
+        ensures fits { FitsLimit self }
     {
         match self.text {
             Some(text) => Ok(Node::Text(Text::new(text))),
             None => Err(ValueFault::TooLarge),
         }
+    }
+}
+
+/// A text as a value, or `TooLarge`.
+pub(crate) fn limited(text: String) -> Result<Node, ValueFault>
+    ensures { Gives view result (limited_of (string_bytes text)) }
+{
+    if text.len() <= MOST_BYTES {
+        Ok(Node::Text(Text::new(text)))
+    } else {
+        Err(ValueFault::TooLarge)
     }
 }

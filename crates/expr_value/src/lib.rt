@@ -8,20 +8,29 @@
 #![tactic(auto)]
 
 mod bounded;
+mod call;
 mod compare;
 mod context;
 mod dereference;
+mod evaluate;
 mod filter;
+mod format;
+mod function_laws;
+mod join;
+mod json_text;
 mod kind;
 mod laws;
 mod number;
 mod operand;
+mod parts;
+mod search;
 mod status;
 mod text;
 mod truth;
 mod values;
 
 pub use context::Context;
+pub use function_laws::{format_with_doubled_braces, format_without_braces};
 pub use laws::{equality_is_symmetric, inequality_is_opposite, relations_mirror};
 pub use status::Status;
 pub use text::to_text;

@@ -1,0 +1,211 @@
+//! The function `format`.
+
+ghost use Rattle.std.specs.Prelude.{◌≡◌, ◌≢◌, ◌≤◌, ◌<◌, ◌-◌, ◌^◌, ℕ, List, ◌∷◌, true, length, take, drop, map, Option, option_map, MatchOption};
+ghost use Rattle.std.specs.List.{list_all, prefix_len, slice_get};
+ghost use Rattle.expr_reader.specs.Bytes.{is_digit as is_digit_byte};
+ghost use Rattle.expr_value.specs.Answer.{Gives};
+ghost use Rattle.expr_value.specs.Format.{formatted, opened, closed};
+ghost use Rattle.expr_value.specs.Formatting.{texts_of, is_plain as is_plain_byte, place_from, Steps};
+ghost use Rattle.expr_value.specs.Functions.{formatted_value};
+ghost use Rattle.expr_value.specs.Kind.{kind_of};
+ghost use Rattle.expr_value.specs.Seen.{kind_seen, operand_seen};
+ghost use Rattle.flow_model.specs.Value.{view};
+
+use crate::bounded::Bounded;
+use crate::kind::Kind;
+use crate::operand::Operand;
+use crate::text::push_kind;
+use flow_model::{Node, ValueFault};
+use std::alloc::Global;
+
+// Whether a byte stands for itself.
+fn is_plain(byte: u8) -> bool
+    ensures { result ≡ is_plain_byte byte }
+{
+    byte != b'{' && byte != b'}'
+}
+
+// Whether a byte is a digit.
+fn is_digit(byte: u8) -> bool
+    ensures { result ≡ is_digit_byte byte }
+{
+    matches!(byte, b'0'..=b'9')
+}
+
+// The text after a brace at the front, if it stands there.
+fn after_brace(text: &str, brace: char) -> Option<&str>
+    requires { brace < 128 }
+    ensures { MatchOption result ((rest : List ℕ) → text.now ≢ brace ∷ rest) (λ after. text.now ≡ brace ∷ after.now) }
+{
+    text.strip_prefix(brace)
+}
+
+// How many bytes stand before the first brace.
+fn plain_length(bytes: &[u8]) -> usize
+    ensures { result ≡ prefix_len is_plain_byte bytes.now }
+{
+    bytes.iter().take_while(|byte| is_plain(**byte)).count()
+}
+
+// How many digits stand at the front.
+fn digits_length(bytes: &[u8]) -> usize
+    ensures { result ≡ prefix_len is_digit_byte bytes.now }
+{
+    bytes.iter().take_while(|byte| is_digit(**byte)).count()
+}
+
+// The text before the first brace, and the rest.
+#[tactic(auto, using(crate::proofs::Braces::plain_boundary))]
+fn split_plain(text: &str) -> (&str, &str)
+    ensures front { result.0.now ≡ take (prefix_len is_plain_byte text.now) text.now }
+    ensures back { result.1.now ≡ drop (prefix_len is_plain_byte text.now) text.now }
+{
+    let length = plain_length(text.as_bytes());
+    text.split_at(length)
+}
+
+// The digits at the front, and the rest.
+#[tactic(auto, using(crate::proofs::Braces::digit_boundary))]
+fn split_digits(text: &str) -> (&str, &str)
+    ensures front { result.0.now ≡ take (prefix_len is_digit_byte text.now) text.now }
+    ensures back { result.1.now ≡ drop (prefix_len is_digit_byte text.now) text.now }
+{
+    let length = digits_length(text.as_bytes());
+    text.split_at(length)
+}
+
+// The number that digits write, if it fits.
+fn number_of(digits: &str) -> Option<usize>
+    requires some { 0 < length digits.now }
+    requires digits { list_all is_digit_byte digits.now ≡ true }
+    ensures { MatchOption result (2 ^ 64 ≤ place_from 0 digits.now) (λ n. n ≡ place_from 0 digits.now) }
+{
+    match digits.parse::<usize>() {
+        Ok(number) => Some(number),
+        Err(_) => None,
+    }
+}
+
+// The kind of the argument at a number, if there is one.
+fn argument_at<'a>(arguments: &'a [Operand<'_>], digits: &str) -> Option<Kind<'a>>
+    requires some { 0 < length digits.now }
+    requires digits { list_all is_digit_byte digits.now ≡ true }
+    ensures { option_map kind_seen result ≡ option_map kind_of (slice_get (map operand_seen arguments.now) (place_from 0 digits.now)) }
+{
+    let place = number_of(digits)?;
+    let operand = arguments.get(place)?;
+    Some(operand.kind())
+}
+
+// Adds the argument whose number stands at the front, after an opening brace.
+fn push_argument<'a>(
+    bounded: &mut Bounded,
+    alloc: Global,
+    text: &'a str,
+    arguments: &[Operand<'_>],
+) -> Result<&'a str, ValueFault>
+    requires { (rest : List ℕ) → text.now ≢ 123 ∷ rest }
+    ensures { Steps (texts_of arguments.now) bounded.old (opened (texts_of arguments.now) text.now) (length text.now) result bounded.new }
+{
+    let (digits, rest) = split_digits(text);
+    if digits.is_empty() {
+        return Err(ValueFault::BadFormat);
+    }
+    let Some(after) = after_brace(rest, '}') else {
+        return Err(ValueFault::BadFormat);
+    };
+    let Some(kind) = argument_at(arguments, digits) else {
+        return Err(ValueFault::BadFormat);
+    };
+    push_kind(bounded, alloc, kind)?;
+    Ok(after)
+}
+
+// Adds what follows an opening brace.
+fn push_opened<'a>(
+    bounded: &mut Bounded,
+    alloc: Global,
+    text: &'a str,
+    arguments: &[Operand<'_>],
+) -> Result<&'a str, ValueFault>
+    ensures { Steps (texts_of arguments.now) bounded.old (opened (texts_of arguments.now) text.now) (length text.now) result bounded.new }
+{
+    match after_brace(text, '{') {
+        Some(after) => {
+            bounded.push_str("{")?;
+            Ok(after)
+        },
+        None => push_argument(bounded, alloc, text, arguments),
+    }
+}
+
+// Adds what follows a closing brace: another one.
+fn push_closed<'a>(
+    bounded: &mut Bounded,
+    text: &'a str,
+    arguments: &[Operand<'_>],
+) -> Result<&'a str, ValueFault>
+    ensures { Steps (texts_of arguments.now) bounded.old (closed (texts_of arguments.now) text.now) (length text.now) result bounded.new }
+{
+    match after_brace(text, '}') {
+        Some(after) => {
+            bounded.push_str("}")?;
+            Ok(after)
+        },
+        None => Err(ValueFault::BadFormat),
+    }
+}
+
+// Adds the text before the first brace.
+fn push_plain<'a>(
+    bounded: &mut Bounded,
+    text: &'a str,
+    arguments: &[Operand<'_>],
+) -> Result<&'a str, ValueFault>
+    requires some { 0 < length text.now }
+    requires no_opening { (rest : List ℕ) → text.now ≢ 123 ∷ rest }
+    requires no_closing { (rest : List ℕ) → text.now ≢ 125 ∷ rest }
+    ensures { Steps (texts_of arguments.now) bounded.old (formatted (texts_of arguments.now) text.now) (length text.now - 1) result bounded.new }
+{
+    let (plain, rest) = split_plain(text);
+    bounded.push_str(plain)?;
+    Ok(rest)
+}
+
+// Adds what stands at the front: a brace and what belongs to it, or the text before the first brace.
+fn push_piece<'a>(
+    bounded: &mut Bounded,
+    alloc: Global,
+    text: &'a str,
+    arguments: &[Operand<'_>],
+) -> Result<&'a str, ValueFault>
+    requires { 0 < length text.now }
+    ensures { Steps (texts_of arguments.now) bounded.old (formatted (texts_of arguments.now) text.now) (length text.now - 1) result bounded.new }
+{
+    if let Some(after) = after_brace(text, '{') {
+        return push_opened(bounded, alloc, after, arguments);
+    }
+    if let Some(after) = after_brace(text, '}') {
+        return push_closed(bounded, after, arguments);
+    }
+    push_plain(bounded, text, arguments)
+}
+
+/// A format text with its arguments.
+pub(crate) fn format(
+    alloc: Global,
+    text: &str,
+    arguments: &[Operand<'_>],
+) -> Result<Node, ValueFault>
+    ensures { Gives view result (formatted_value (formatted (texts_of arguments.now) text.now)) }
+{
+    let mut bounded = Bounded::empty(alloc);
+    let mut rest = text;
+    'pieces: while !rest.is_empty() {
+        match push_piece(&mut bounded, alloc, rest, arguments) {
+            Ok(after) => rest = after,
+            Err(fault) => return Err(fault),
+        }
+    }
+    bounded.finish()
+}

@@ -1,0 +1,84 @@
+//! The function `join`.
+
+ghost use Rattle.std.specs.Prelude.{◌≡◌, OnOk, map};
+ghost use Rattle.std.specs.List.{join_by};
+ghost use Rattle.expr_value.specs.Answer.{Gives};
+ghost use Rattle.expr_value.specs.Bounded.{grown};
+ghost use Rattle.expr_value.specs.Convert.{text_of};
+ghost use Rattle.expr_value.specs.Functions.{join as join_of, text_of_value};
+ghost use Rattle.expr_value.specs.Joining.{item_text};
+ghost use Rattle.expr_value.specs.Limit.{limited};
+ghost use Rattle.expr_value.specs.Seen.{kind_seen, operand_seen};
+ghost use Rattle.flow_model.specs.Value.{view};
+
+use crate::bounded::Bounded;
+use crate::kind::{Kind, kind_of};
+use crate::operand::Operand;
+use crate::parts::Part;
+use crate::text::push_kind;
+use flow_model::{Node, ValueFault};
+use std::alloc::{AllocError, Global};
+
+// Adds the text of an item, after the separator where it is not the first.
+fn push_item(
+    bounded: &mut Bounded,
+    alloc: Global,
+    separator: &str,
+    first: bool,
+    kind: Kind<'_>,
+) -> Result<(), AllocError>
+    ensures { OnOk result (bounded.new ≡ grown bounded.old (item_text separator.now first (text_of (kind_seen kind.entry)))) }
+{
+    if !first {
+        bounded.push_str(separator)?;
+    }
+    push_kind(bounded, alloc, kind)
+}
+
+// The texts of the parts of a list, with a separator between them.
+fn join_parts<T: Part>(alloc: Global, parts: &[T], separator: &str) -> Result<Node, ValueFault>
+    ensures { Gives view result (limited (join_by text_of_value separator.now (map T.seen parts.now))) }
+{
+    let mut bounded = Bounded::empty(alloc);
+    let mut first = true;
+    for part in parts {
+        push_item(&mut bounded, alloc, separator, first, kind_of(part.part()))?;
+        first = false;
+    }
+    bounded.finish()
+}
+
+// The text of what is no list.
+fn join_kind(alloc: Global, kind: Kind<'_>) -> Result<Node, ValueFault>
+    ensures { Gives view result (limited (text_of (kind_seen kind.entry))) }
+{
+    let mut bounded = Bounded::empty(alloc);
+    push_kind(&mut bounded, alloc, kind)?;
+    bounded.finish()
+}
+
+// The texts of the items of a list, or the text of what is no list.
+fn join_node(alloc: Global, node: &Node, separator: &str) -> Result<Node, ValueFault>
+    ensures { Gives view result (join_of (view node.now) separator.now) }
+{
+    match node {
+        Node::List(nodes) => join_parts(alloc, nodes.as_slice(), separator),
+        Node::Null | Node::Truth(_) | Node::Whole(_) | Node::Text(_) | Node::Map(_) => {
+            join_kind(alloc, kind_of(node))
+        },
+    }
+}
+
+/// The texts of the items of a list, with a separator between them, or the text of what is no list.
+pub(crate) fn join(
+    alloc: Global,
+    operand: &Operand<'_>,
+    separator: &str,
+) -> Result<Node, ValueFault>
+    ensures { Gives view result (join_of (operand_seen operand.now) separator.now) }
+{
+    match operand {
+        Operand::One(item) => join_node(alloc, item.node(), separator),
+        Operand::Many(items) => join_parts(alloc, items.as_slice(), separator),
+    }
+}

@@ -1,0 +1,90 @@
+//! The functions `toJSON` and `fromJSON`.
+
+ghost use Rattle.std.specs.Prelude.{◌≡◌, ◌≤◌, IfOk, IsTrue, Ok, Some, string_bytes};
+ghost use Rattle.serde_json.specs.Data.{depth};
+ghost use Rattle.serde_json.specs.Read.{read};
+ghost use Rattle.serde_json.specs.View.{view as json_view, items_view};
+ghost use Rattle.expr_value.specs.Answer.{Gives};
+ghost use Rattle.expr_value.specs.Functions.{from_json as from_json_of, pretty_text, to_json as to_json_of, value_read, whole_value};
+ghost use Rattle.expr_value.specs.Seen.{items_seen, operand_seen};
+ghost use Rattle.flow_model.specs.Json.{is_in_range, json_items, json_of, value_of as value_of_data};
+ghost use Rattle.flow_model.specs.Plain as plain;
+ghost use Rattle.flow_model.specs.Value.{view};
+
+use crate::bounded::limited;
+use crate::operand::{Item, Operand};
+use flow_model::{JsonFault, Node, ValueFault, json_of_node, value_of};
+use serde_json::Value;
+use std::alloc::{AllocError, Global};
+
+// The JSON of the items of a filtered list.
+fn json_of_items(alloc: Global, items: &[Item<'_>]) -> Result<Vec<Value>, AllocError>
+    ensures { IfOk result (λ json. items_view json.items ≡ json_items (plain.items_of (items_seen items.now))) }
+{
+    let mut json = Vec::with_capacity(alloc, items.len())?;
+    for item in items {
+        json.push(json_of_node(alloc, item.node())?)?;
+    }
+    Ok(json)
+}
+
+// The JSON of a value.
+fn json_of_operand(alloc: Global, operand: &Operand<'_>) -> Result<Value, AllocError>
+    ensures { IfOk result (λ json. json_view json ≡ json_of (operand_seen operand.now)) }
+{
+    match operand {
+        Operand::One(item) => json_of_node(alloc, item.node()),
+        Operand::Many(items) => Ok(Value::Array(json_of_items(alloc, items.as_slice())?)),
+    }
+}
+
+// The text of a value's JSON, on lines.
+fn pretty(alloc: Global, operand: &Operand<'_>) -> Result<String, AllocError>
+    ensures text { IfOk result (λ text. string_bytes text ≡ pretty_text (json_of (operand_seen operand.now))) }
+    ensures back { IfOk result (λ text. depth (json_of (operand_seen operand.now)) ≤ 127
+        → read (string_bytes text) ≡ Some (json_of (operand_seen operand.now))) }
+{
+    let json = json_of_operand(alloc, operand)?;
+    let text = json.to_string_pretty(alloc)?;
+    Ok(text)
+}
+
+/// The text of a value's JSON, on lines, each two spaces deeper for each bracket. `fromJSON` of it is the value,
+/// where its numbers are in range and it nests at most 127 deep.
+pub(crate) fn to_json(alloc: Global, operand: &Operand<'_>) -> Result<Node, ValueFault>
+    ensures value { Gives view result (to_json_of (operand_seen operand.now)) }
+    ensures back { IfOk result (λ node. depth (json_of (operand_seen operand.now)) ≤ 127
+        → IsTrue (is_in_range (operand_seen operand.now))
+        → from_json_of (view node) ≡ Ok (operand_seen operand.now)) }
+{
+    let text = pretty(alloc, operand)?;
+    let node = limited(text)?;
+    Ok(node)
+}
+
+// The value of a JSON value.
+fn value_of_json(alloc: Global, json: &Value) -> Result<Node, ValueFault>
+    ensures { Gives view result (whole_value (value_of_data (json_view json.now))) }
+{
+    match value_of(alloc, json) {
+        Ok(value) => Ok(value.into_node()),
+        Err(JsonFault::NotWhole) => Err(ValueFault::NotWhole),
+        Err(JsonFault::Memory) => Err(ValueFault::Memory),
+    }
+}
+
+/// The value of a text of JSON.
+pub(crate) fn from_json(alloc: Global, text: &str) -> Result<Node, ValueFault>
+    ensures { Gives view result (value_read (read text.now)) }
+{
+    match Value::from_str(alloc, text) {
+        Ok(json) => value_of_json(alloc, &json),
+        Err(error) => {
+            if error.is_memory() {
+                Err(ValueFault::Memory)
+            } else {
+                Err(ValueFault::BadJson)
+            }
+        },
+    }
+}

@@ -1,0 +1,123 @@
+//! The functions `contains`, `startsWith` and `endsWith`.
+
+ghost use Rattle.std.specs.Prelude.{◌≡◌, IfOk, map, string_bytes};
+ghost use Rattle.std.specs.List.{list_any};
+ghost use Rattle.expr_reader.specs.Fold.{fold};
+ghost use Rattle.expr_value.specs.Convert.{text_of};
+ghost use Rattle.expr_value.specs.Functions.{contains as contains_of, folds_pass as folds_pass_of, is_match as is_match_of};
+ghost use Rattle.expr_value.specs.Searching.{contains_kind, finds as finds_of, stands_at as stands_at_of};
+ghost use Rattle.expr_value.specs.Seen.{kind_seen, operand_seen};
+ghost use Rattle.flow_model.specs.Value.{view};
+
+use crate::compare::equals;
+use crate::kind::{Kind, is_collection, kind_of};
+use crate::operand::Operand;
+use crate::parts::Part;
+use crate::text::text_of_kind;
+use flow_model::Node;
+use std::alloc::{AllocError, Global};
+
+/// Where a text is looked for in another.
+#[derive(Clone, Copy)]
+pub(crate) enum Place {
+    Anywhere,
+    Front,
+    End,
+}
+
+// Whether a part stands at the place in a text.
+fn stands_at(place: Place, text: &str, part: &str) -> bool
+    ensures { result ≡ stands_at_of place text.now part.now }
+{
+    match place {
+        Place::Anywhere => text.contains(part),
+        Place::Front => text.starts_with(part),
+        Place::End => text.ends_with(part),
+    }
+}
+
+// The text of a kind, with A to Z replaced by a to z.
+fn folded(alloc: Global, kind: Kind<'_>) -> Result<String, AllocError>
+    ensures { IfOk result (λ text. string_bytes text ≡ fold (text_of (kind_seen kind.entry))) }
+{
+    let mut text = text_of_kind(alloc, kind)?;
+    text.make_ascii_lowercase();
+    Ok(text)
+}
+
+// Whether a part's text stands at the place in a text, ignoring case; not where either is a list or a map.
+fn folds_pass(
+    alloc: Global,
+    place: Place,
+    text: Kind<'_>,
+    part: Kind<'_>,
+) -> Result<bool, AllocError>
+    ensures { IfOk result (λ b. b ≡ folds_pass_of (stands_at_of place) (kind_seen text.entry) (kind_seen part.entry)) }
+{
+    if is_collection(text) || is_collection(part) {
+        return Ok(false);
+    }
+    let text = folded(alloc, text)?;
+    let part = folded(alloc, part)?;
+    Ok(stands_at(place, text.as_str(), part.as_str()))
+}
+
+// Whether an item equals a value; one for which `==` faults does not.
+fn is_match(value: Kind<'_>, item: &Node) -> bool
+    ensures { result ≡ is_match_of (kind_seen value.entry) (view item.now) }
+{
+    match equals(kind_of(item), value) {
+        Ok(same) => same,
+        Err(_) => false,
+    }
+}
+
+// Whether some part of a list equals a value.
+fn any_match<T: Part>(parts: &[T], value: Kind<'_>) -> bool
+    ensures { result ≡ list_any (is_match_of (kind_seen value.entry)) (map T.seen parts.now) }
+{
+    for part in parts {
+        if is_match(value, part.part()) {
+            return true;
+        }
+    }
+    false
+}
+
+// Whether an item of a list equals a value, or its text stands in a text.
+fn node_contains(alloc: Global, node: &Node, value: Kind<'_>) -> Result<bool, AllocError>
+    ensures { IfOk result (λ b. b ≡ contains_kind (view node.now) (kind_seen value.entry)) }
+{
+    match node {
+        Node::List(nodes) => Ok(any_match(nodes.as_slice(), value)),
+        Node::Null | Node::Truth(_) | Node::Whole(_) | Node::Text(_) | Node::Map(_) => {
+            folds_pass(alloc, Place::Anywhere, kind_of(node), value)
+        },
+    }
+}
+
+// Whether an item of a list equals a value, or the value's text stands in a text, ignoring case.
+fn contains(alloc: Global, operand: &Operand<'_>, value: &Operand<'_>) -> Result<bool, AllocError>
+    ensures { IfOk result (λ b. b ≡ contains_of (operand_seen operand.now) (operand_seen value.now)) }
+{
+    match operand {
+        Operand::One(item) => node_contains(alloc, item.node(), value.kind()),
+        Operand::Many(items) => Ok(any_match(items.as_slice(), value.kind())),
+    }
+}
+
+/// Whether a value's text stands at the place in a text, ignoring case, or, if it may stand anywhere, a value in a
+/// list.
+pub(crate) fn finds(
+    alloc: Global,
+    place: Place,
+    operand: &Operand<'_>,
+    value: &Operand<'_>,
+) -> Result<bool, AllocError>
+    ensures { IfOk result (λ b. b ≡ finds_of place (operand_seen operand.now) (operand_seen value.now)) }
+{
+    match place {
+        Place::Anywhere => contains(alloc, operand, value),
+        Place::Front | Place::End => folds_pass(alloc, place, operand.kind(), value.kind()),
+    }
+}
