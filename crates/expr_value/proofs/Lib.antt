@@ -9,3 +9,4 @@ mod Lists
 mod Mirror
 mod Runs
 mod Searches
+mod JoinedTexts

@@ -10,6 +10,7 @@ pub mod Format
 pub mod Formatting
 pub mod FunctionLaws
 pub mod Functions
+pub mod Joined
 pub mod Joining
 pub mod Kind
 pub mod Laws

@@ -11,7 +11,7 @@ use std::alloc::{AllocError, Global};
 use std::marker::Model;
 
 /// The greatest text that an evaluation gives, in bytes.
-const MOST_BYTES: usize = 1_048_576;
+pub(crate) const MOST_BYTES: usize = 1_048_576;
 
 /// A text of at most so many bytes, or nothing once more were added. Contracts see it as that.
 #[derive(Drop)]
