@@ -1,6 +1,7 @@
 -- The texts of a template's pieces, one after the other.
 use Rattle.std.proofs.Common.{◌≡◌, ℕ, Bool, true, false, not, nat_le, cond, Some, Option, Result, Ok, Err, List, [], ◌++◌, length, refl, sym, ap, ◌∙◌}
 use Rattle.expr_value.proofs.Growing.{grown_grown, grown_nothing, limited_grown}
+use Rattle.expr_value.specs.Answer.{Gives}
 use Rattle.expr_value.specs.Bounded.{grown, grown_value, FitsLimit}
 use Rattle.expr_value.specs.Joined.{grown_answer, joined_onto, is_too_large}
 use Rattle.expr_value.specs.Kind.{kind_of}
@@ -8,7 +9,7 @@ use Rattle.expr_value.specs.Limit.{most_bytes, last_value}
 use Rattle.expr_value.specs.Template.{with_text, limited_text}
 use Rattle.flow_model.specs.Plain as plain
 use Rattle.flow_model.specs.declared.reply.ValueFault.{ValueFault}
-use Rattle.flow_model.specs.declared.reply.ValueFault.TheVariants.{TooLarge}
+use Rattle.flow_model.specs.declared.reply.ValueFault.TheVariants.{NotWhole, NoIdentity, BadFormat, BadJson, TooLarge, Memory}
 
 -- a text that grew, with the rest, is the text with both
 pub joined_step : (held next : Option (List ℕ)) (m rest : Result (List ℕ) ValueFault) → grown_answer held m ≡ Ok next → joined_onto next rest ≡ joined_onto held (with_text m rest)
@@ -57,3 +58,13 @@ last_value-small (plain.whole z) h = refl
 last_value-small (plain.text bytes) h = by_fit bytes (nat_le (length bytes) most_bytes) h
 last_value-small (plain.list vs) h = refl
 last_value-small (plain.map ms) h = refl
+
+-- the fault of a piece is that of the whole
+pub fault_stands : {X Y : Type 0} (seen : X → Option (List ℕ)) (view : Y → plain.Plain) (held : Option (List ℕ)) (m rest all : Result (List ℕ) ValueFault) (fault : ValueFault)
+    → Gives seen (Err fault) (grown_answer held m) → joined_onto held (with_text m rest) ≡ limited_text all → Gives view (Err fault) (limited_text all)
+fault_stands seen view held m rest all NotWhole h e = sym e ∙ joined_fault held m rest NotWhole h
+fault_stands seen view held m rest all NoIdentity h e = sym e ∙ joined_fault held m rest NoIdentity h
+fault_stands seen view held m rest all BadFormat h e = sym e ∙ joined_fault held m rest BadFormat h
+fault_stands seen view held m rest all BadJson h e = sym e ∙ joined_fault held m rest BadJson h
+fault_stands seen view held m rest all TooLarge h e = sym e ∙ joined_fault held m rest TooLarge h
+fault_stands seen view held m rest all Memory h e = tt
