@@ -5,6 +5,7 @@
 // stands on `plan_text`, which reads records and prints boards, and on `status_table`, which plays them.
 #![tactic(auto)]
 
+mod contexts;
 mod play;
 mod table;
 #[cfg(test)]

@@ -25,5 +25,6 @@ mod writing;
 pub use board::board_text;
 pub use entry::{print_entry, read_entry};
 pub use fault::LoadFault;
+pub use json_text::read_json;
 pub use plan::{load_plan, print_plan};
 pub use record::{first_line, load_record, print_record};
