@@ -1,44 +1,45 @@
 #!/usr/bin/env bash
 # Prints, for `actrun table` on one plan and 1,000, 10,000 and 100,000 entries, the time per entry (the time
-# beyond that of the plan alone) and the peak memory beside the size of the text.
+# beyond that of the plan alone) and the peak memory beside the size of the text. Times are those of the
+# processor, the least of nine runs.
 set -eu
 top=$(cd "$(dirname "${BASH_SOURCE[0]}")/.." && pwd)
 "$top/actrun" table < "$top/examples/p1.record" > /dev/null
 exec python3 - "$top" <<'PY'
 import os
-import resource
 import subprocess
 import sys
 import tempfile
-import time
 
 top = sys.argv[1]
 program = os.path.join(top, "crates/actrun/out/actrun")
 
+# Runs the program and prints its processor time and its peak memory. Those of a child alone are those of a
+# process that has no other child.
+CHILD = """
+import resource, subprocess, sys
+code = subprocess.run(sys.argv[1:3], stdin=open(sys.argv[3]), stdout=subprocess.DEVNULL).returncode
+used = resource.getrusage(resource.RUSAGE_CHILDREN)
+print(used.ru_utime + used.ru_stime, used.ru_maxrss)
+sys.exit(code)
+"""
 
-def run(count):
-    """The seconds, the peak memory in bytes and the text's size of one run on so many entries."""
-    with tempfile.NamedTemporaryFile() as record, tempfile.NamedTemporaryFile() as peak:
-        big = os.path.join(top, "bench/big_record.py")
-        subprocess.run([sys.executable, big, str(count)], stdout=record, check=True)
-        size = os.path.getsize(record.name)
-        # the peak of a child alone is that of a process that has no other child
-        child = (
-            "import resource, subprocess, sys\n"
-            "code = subprocess.run(sys.argv[1:3], stdin=open(sys.argv[3]), stdout=subprocess.DEVNULL).returncode\n"
-            "print(resource.getrusage(resource.RUSAGE_CHILDREN).ru_maxrss)\n"
-            "sys.exit(code)\n"
-        )
-        start = time.monotonic()
-        done = subprocess.run([sys.executable, "-c", child, program, "table", record.name],
-                              capture_output=True, text=True, check=True)
-        seconds = time.monotonic() - start
-        return seconds, int(done.stdout) * 1024, size
+
+def run(record):
+    """The seconds and the peak memory in bytes of one run."""
+    done = subprocess.run([sys.executable, "-c", CHILD, program, "table", record],
+                          capture_output=True, text=True, check=True)
+    seconds, peak = done.stdout.split()
+    return float(seconds), int(peak) * 1024
 
 
 def best(count):
-    runs = [run(count) for _ in range(3)]
-    return min(r[0] for r in runs), runs[0][1], runs[0][2]
+    """The least seconds, the peak memory and the text's size on so many entries."""
+    with tempfile.NamedTemporaryFile() as record:
+        big = os.path.join(top, "bench/big_record.py")
+        subprocess.run([sys.executable, big, str(count)], stdout=record, check=True)
+        runs = [run(record.name) for _ in range(9)]
+        return min(r[0] for r in runs), max(r[1] for r in runs), os.path.getsize(record.name)
 
 
 base = best(0)

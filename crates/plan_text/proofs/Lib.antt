@@ -4,6 +4,7 @@ pub mod Laws
 mod LineLemmas
 mod LoadLemmas
 mod OneLine
+mod OutlineLaws
 pub mod PlanLaws
 mod RecordLemmas
 mod Steps

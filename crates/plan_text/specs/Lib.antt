@@ -5,6 +5,7 @@ pub mod EntryDocument
 pub mod JobParts
 pub mod Lines
 pub mod Load
+pub mod Outline
 pub mod Parts
 pub mod Reading
 pub mod Record

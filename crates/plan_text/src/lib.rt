@@ -13,6 +13,7 @@ mod entry_writing;
 mod fault;
 mod job_reading;
 mod json_text;
+mod outline;
 mod plan;
 mod plan_reading;
 mod plan_writing;

@@ -9,6 +9,7 @@ ghost use Rattle.plan_text.specs.Load.{json_read, is_version_one, has_other_vers
 
 use crate::fault::LoadFault;
 use crate::json_text::read_json;
+use crate::outline::read_printed;
 use crate::reading::{FromJson, Unread};
 use crate::writing::ToJson;
 use flow_model::{Broken, CheckedPlan, Plan};
@@ -48,6 +49,17 @@ pub fn load_plan(alloc: Global, bytes: &[u8]) -> Result<CheckedPlan, LoadFault>
 }
 
 fn load_bytes(alloc: Global, bytes: &[u8]) -> Result<CheckedPlan, LoadFault>
+    ensures { Answers result (load bytes.now) }
+{
+    // most plans are spelled as they are printed, and then no tree of the whole is needed
+    match read_printed(alloc, bytes) {
+        Ok(plan) => Ok(plan),
+        Err(Unread::Refused(_)) => load_tree(alloc, bytes),
+        Err(Unread::Memory) => Err(LoadFault::Memory),
+    }
+}
+
+fn load_tree(alloc: Global, bytes: &[u8]) -> Result<CheckedPlan, LoadFault>
     ensures { Answers result (load bytes.now) }
 {
     match read_json(alloc, bytes)? {

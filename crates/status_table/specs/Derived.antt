@@ -21,16 +21,34 @@ use Rattle.status_table.specs.Place.{JobAt, LegAt}
 
 -- ---- states
 
+abbrev pub is_going : RunState → Bool
+is_going run_state.New = false
+is_going run_state.Waiting = false
+is_going run_state.Going = true
+is_going (run_state.Closed result) = false
+
 abbrev pub is_closed : RunState → Bool
 is_closed run_state.New = false
 is_closed run_state.Waiting = false
 is_closed run_state.Going = false
 is_closed (run_state.Closed result) = true
 
+abbrev pub is_open : JobState → Bool
+is_open job_state.Unjudged = false
+is_open job_state.Open = true
+is_open (job_state.Shut result) = false
+
 abbrev pub is_shut : JobState → Bool
 is_shut job_state.Unjudged = false
 is_shut job_state.Open = false
 is_shut (job_state.Shut result) = true
+
+abbrev pub is_fresh : LegState → Bool
+is_fresh leg_state.Fresh = true
+is_fresh leg_state.Waiting = false
+is_fresh leg_state.Admitted = false
+is_fresh (leg_state.Running worker in_call) = false
+is_fresh (leg_state.Ended result tolerated) = false
 
 abbrev pub is_ended : LegState → Bool
 is_ended leg_state.Fresh = false

@@ -38,7 +38,7 @@ use Rattle.status_table.specs.declared.status.Status.{Status}
 use Rattle.status_table.specs.declared.status.Status.TheVariants as status
 use Rattle.status_table.specs.Change.{with_run, with_job, with_leg}
 use Rattle.status_table.specs.Conditions.{condition_value, is_set, work_value, env_value}
-use Rattle.status_table.specs.Derived.{is_stopping, leg_result, leg_status, job_status, is_full, needs_have_ended, jobs_have_ended, run_result, is_failure}
+use Rattle.status_table.specs.Derived.{is_going, is_open, is_fresh, is_stopping, leg_result, leg_status, job_status, is_full, needs_have_ended, jobs_have_ended, run_result, is_failure}
 use Rattle.status_table.specs.Place.{RunAt, JobAt, LegAt, run_at, job_at, leg_at}
 
 -- a row of the table: the board after the event and the reply to it, or its refusal
@@ -128,24 +128,6 @@ judge_found b j None = Err fault.NoSuch
 judge_found b j (Some at) = judge_job b at.place (judgement j at)
 
 -- ---- Ask: a leg that is Fresh, of an Open job, asks to be admitted
-
-abbrev pub is_going : RunState → Bool
-is_going run_state.New = false
-is_going run_state.Waiting = false
-is_going run_state.Going = true
-is_going (run_state.Closed result) = false
-
-abbrev pub is_open : JobState → Bool
-is_open job_state.Unjudged = false
-is_open job_state.Open = true
-is_open (job_state.Shut result) = false
-
-abbrev pub is_fresh : LegState → Bool
-is_fresh leg_state.Fresh = true
-is_fresh leg_state.Waiting = false
-is_fresh leg_state.Admitted = false
-is_fresh (leg_state.Running worker in_call) = false
-is_fresh (leg_state.Ended result tolerated) = false
 
 abbrev pub ask_leg : Board → ℕ → LegAt → Row
 ask_leg b l at =

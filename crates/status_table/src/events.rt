@@ -5,6 +5,7 @@ ghost use Rattle.std.specs.Prelude.{◌≡◌, ◌&&◌, Some, None, Ok, IfOk, o
 ghost use Rattle.std.specs.Option.{option_copied};
 ghost use Rattle.status_table.specs.Answers.{Answers, Decides, DecidesAs};
 ghost use Rattle.status_table.specs.Conditions.{work_value as work_value_of};
+ghost use Rattle.status_table.specs.Derived.{is_going, is_open, is_fresh};
 ghost use Rattle.status_table.specs.Place.{run_at, job_at, leg_at};
 ghost use Rattle.status_table.specs.Row as spec;
 ghost use Rattle.status_table.specs.Seen.{beginning_seen, ended_step, job_seen, leg_seen};
@@ -103,7 +104,7 @@ pub(crate) fn judge(
 }
 
 fn is_waiting_to_ask(at: &SeenLeg) -> bool
-    ensures { result ≡ (spec.is_going at.now.run.now.state && spec.is_open at.now.job.now.state && spec.is_fresh at.now.leg.now.state) }
+    ensures { result ≡ (is_going at.now.run.now.state && is_open at.now.job.now.state && is_fresh at.now.leg.now.state) }
 {
     matches!(at.run.state, RunState::Going)
         && matches!(at.job.state, JobState::Open)
