@@ -1,2 +1,3 @@
 pub mod Contexts
+pub mod Eval
 pub mod Table

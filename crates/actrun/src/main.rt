@@ -6,6 +6,7 @@
 #![tactic(auto)]
 
 mod contexts;
+mod eval;
 mod play;
 mod table;
 #[cfg(test)]
@@ -34,5 +35,5 @@ fn status<E: Write>(rt: &HostRuntime, err: &mut E) -> io::Result<u8> {
     let words: Vec<String> = env::args(rt)?.collect(alloc)?;
     let mut input = rt.reader();
     let mut out = io::writer(rt);
-    words::run(alloc, words.as_slice(), &mut input, &mut out, err)
+    words::run(rt, alloc, words.as_slice(), &mut input, &mut out, err)
 }

@@ -1,26 +1,54 @@
 // The command line: which command its words ask for.
+use crate::eval::eval;
 use crate::table::table;
 use clap::error::ErrorKind;
-use clap::{Command, Error};
+use clap::{Arg, ArgMatches, Command, Error};
 use std::alloc::{AllocError, Global};
+use std::fs::{File, Files};
 use std::io;
 use std::io::{Read, Write};
 
 /// The commands, one level deep.
 fn commands<'a>(alloc: Global) -> Result<Command<'a>, AllocError> {
     let table = Command::new(alloc, "table");
+    let eval = Command::new(alloc, "eval")
+        .arg(Arg::new(alloc, "contexts").long("contexts"))?
+        .arg(Arg::new(alloc, "expression").required(true))?;
     Command::new(alloc, "actrun")
         .subcommand_required(true)
-        .subcommand(table)
+        .subcommand(table)?
+        .subcommand(eval)
 }
 
-/// Runs the command that the words ask for, of which the first names the program. The answer is the exit status: 0
-/// done, 2 words or a text refused, 3 no memory.
+/// Runs `eval` with its words. Without `--contexts` it is as with a file of no contexts.
+fn run_eval<F: Files, O: Write, E: Write>(
+    files: &F,
+    alloc: Global,
+    words: &ArgMatches,
+    out: &mut O,
+    err: &mut E,
+) -> io::Result<u8> {
+    let expression = words.get_str("expression").unwrap_or("");
+    match words.get_str("contexts") {
+        Some(file) => {
+            let mut reader = File::open(files, file)?;
+            eval(alloc, file, &mut reader, expression, out, err)
+        },
+        None => {
+            let mut none = "{}".as_bytes();
+            eval(alloc, "", &mut none, expression, out, err)
+        },
+    }
+}
+
+/// Runs the command that the words ask for, of which the first names the program; `files` are those that the words
+/// may name. The answer is the exit status: 0 done, 2 words or a text refused, 3 no memory.
 ///
 /// # Errors
 ///
-/// A read or a write that fails.
-pub fn run<R: Read, O: Write, E: Write>(
+/// A file that cannot be opened; a read or a write that fails.
+pub fn run<F: Files, R: Read, O: Write, E: Write>(
+    files: &F,
     alloc: Global,
     words: &[String],
     input: &mut R,
@@ -34,6 +62,7 @@ pub fn run<R: Read, O: Write, E: Write>(
     match matched {
         Ok(matches) => match matches.subcommand() {
             Some(("table", _)) => table(alloc, input, out, err),
+            Some(("eval", inner)) => run_eval(files, alloc, inner, out, err),
             _ => refuse_words(err),
         },
         Err(error) => refuse(&error, err),
