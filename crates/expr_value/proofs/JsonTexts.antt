@@ -45,8 +45,8 @@ mutual
   members_no_float (member key v ms) = either (has_float (json_of v)) (members_have_float (json_members ms)) (no_float v) (members_no_float ms)
 
 -- A text that is laid out so and has the JSON of a value in order is its text.
-pub pretty_exact : (bytes : List ℕ) (v : Plain) (d : Data) → d ≡ json_of v → bytes ≡ pretty (tokens bytes) → IsInOrder bytes d → bytes ≡ pretty_text (json_of v)
-pretty_exact bytes v d same layout order = layout ∙ ap pretty (tokens_from_order bytes d order (ap has_float same ∙ no_float v)) ∙ ap pretty_text same
+pub pretty_exact : (bytes : List ℕ) (v : Plain) (d : Data) → bytes ≡ pretty (tokens bytes) → IsInOrder bytes d → d ≡ json_of v → bytes ≡ pretty_text (json_of v)
+pretty_exact bytes v d layout order same = layout ∙ ap pretty (tokens_from_order bytes d order (ap has_float same ∙ no_float v)) ∙ ap pretty_text same
 
 -- The JSON of a list's items.
 pub json_of_seen : (vs : List Item) → json_items (items_of (map_list item_seen vs)) ≡ data_items (map_list (λ v. json_of (item_seen v)) vs)

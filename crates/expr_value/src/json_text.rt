@@ -39,6 +39,7 @@ fn json_of_operand(alloc: Global, operand: &Operand<'_>) -> Result<Value, AllocE
 }
 
 // The text of a value's JSON, on lines.
+#[tactic(auto, using(crate::proofs::JsonTexts::pretty_exact))]
 fn pretty(alloc: Global, operand: &Operand<'_>) -> Result<String, AllocError>
     ensures text { IfOk result (λ text. string_bytes text ≡ pretty_text (json_of (operand_seen operand.now))) }
     ensures back { IfOk result (λ text. depth (json_of (operand_seen operand.now)) ≤ 127
