@@ -1,6 +1,8 @@
 // `actrun eval`: the value of an expression.
 ghost use Rattle.std.specs.Prelude.{◌≡◌, IfOk, IfSome, OnOk, string_bytes};
 ghost use Rattle.std.specs.Io.KnownBytes.{Appends};
+ghost use Rattle.serde_json.specs.Written.{compact_text};
+ghost use Rattle.flow_model.specs.Json.{json_of as json_of_value};
 ghost use Rattle.actrun.specs.Eval as spec;
 
 use crate::contexts::{FlowFault, Unread, file_contexts};
@@ -70,12 +72,19 @@ fn value_of(
     }
 }
 
+/// The compact JSON of a value.
+fn compact_json(alloc: Global, value: &Value) -> Result<String, AllocError>
+    ensures { IfOk result (λ text. string_bytes text ≡ compact_text (json_of_value value.now)) }
+{
+    let json = json_of(alloc, value)?;
+    json.to_string(alloc)
+}
+
 /// The line of a value: its compact JSON, and a newline.
 fn line_of(alloc: Global, value: &Value) -> Result<String, AllocError>
     ensures { IfOk result (λ line. string_bytes line ≡ spec.value_line value.now) }
 {
-    let json = json_of(alloc, value)?;
-    let mut line = json.to_string(alloc)?;
+    let mut line = compact_json(alloc, value)?;
     line.push_str("\n")?;
     Ok(line)
 }
@@ -173,7 +182,11 @@ fn say<W: Write>(err: &mut W, file: &str, trouble: EvalTrouble) -> io::Result<()
     ensures { OnOk result (Appends (W.contents err.old) (W.contents err.new) (spec.trouble_line file.now trouble)) }
 {
     match trouble {
-        EvalTrouble::BadContexts(fault) => writeln!(err, "actrun: flow {file} {}", flow_name(fault)),
+        EvalTrouble::BadContexts(fault) => writeln!(
+            err,
+            "actrun: flow {file} {}",
+            flow_name(fault)
+        ),
         EvalTrouble::NoExpression(fault) => writeln!(
             err,
             "actrun: expr {} at {}",

@@ -7,6 +7,8 @@
 
 mod contexts;
 mod eval;
+#[cfg(test)]
+mod eval_tests;
 mod play;
 mod table;
 #[cfg(test)]

@@ -4,7 +4,7 @@ mod FormatLaws
 mod Fronts
 mod Growing
 mod Joins
-mod JsonTexts
+pub mod JsonTexts
 mod Lists
 mod Mirror
 mod Runs
