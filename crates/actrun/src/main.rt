@@ -5,6 +5,8 @@
 // stands on `plan_text`, which reads records and prints boards, and on `status_table`, which plays them.
 #![tactic(auto)]
 
+#[cfg(test)]
+mod bad_input;
 mod contexts;
 mod eval;
 #[cfg(test)]

@@ -9,7 +9,7 @@ use std::process::Abort;
 use std::test::Fail;
 
 /// The plan of one job with one step.
-const P1: &str =
+pub(crate) const P1: &str =
     r#"{"runs":[{"env":{},"event":null,"flow":"ci","group":null,"jobs":[{"condition":null,"env":{},"fail_fast":true,"group":null,"id":"a","legs":[{}],"max_parallel":null,"name":"a","needs":[],"number":0,"outputs":{},"steps":[{"condition":null,"env":{},"id":"s","name":null,"tolerate":false,"work":{"dir":null,"kind":"run","run":"true","shell":"default"}}],"tolerate":false}],"roots":{"github":{},"inputs":{},"secrets":{},"vars":{}}}],"version":1}"#;
 
 /// The same without its step.

@@ -1,5 +1,5 @@
 -- What the outline of a text stands for, part by part.
-use Rattle.std.proofs.Common.{◌≡◌, ◌≤◌, ◌<◌, ℕ, Bool, List, [], ◌∷◌, ◌++◌, length, get_or, map, codes, Option, Some, None, option_map, option_and_then, Ok, refl, sym, ap, ◌∙◌, arith, append-nil}
+use Rattle.std.proofs.Common.{◌≡◌, ◌≤◌, ◌<◌, ℕ, Bool, List, [], ◌∷◌, ◌++◌, length, get_or, codes, Option, Some, None, option_map, option_and_then, Ok, refl, sym, ap, ◌∙◌, arith, append-nil}
 use Rattle.std.proofs.lemmas.Str.{is_utf8-from_IsUtf8}
 use Rattle.std.specs.Str.{IsUtf8}
 use Rattle.json.specs.Lex.{tokens}
@@ -20,11 +20,10 @@ use Rattle.plan_text.specs.Document.{group_data, roots_data, job_data, run_data,
 use Rattle.flow_model.specs.Offered.{IsOffered}
 use Rattle.plan_text.specs.Load.{json_read, load}
 use Rattle.plan_text.specs.Outline.{IsOutline, StandsFor, IsReadOf, IsRunOf}
-use Rattle.plan_text.specs.Parts.{Reading, number_data, optional_data, list_data, map_data, number_of, optional_of, text_of}
-use Rattle.plan_text.specs.Reading.{values_of, group_of, roots_of, job_of}
+use Rattle.plan_text.specs.Parts.{Reading, number_data, optional_data, list_data, map_data, number_of}
 use Rattle.plan_text.proofs.Laws.{Reads, text_reads, number_reads}
 use Rattle.plan_text.proofs.LoadLemmas.{load_again}
-use Rattle.plan_text.proofs.PlanLaws.{text_or_null, group_or_null, values_reads, roots_reads, job_reads}
+use Rattle.plan_text.proofs.PlanLaws.{text_or_null, group_or_null, values_reads, roots_reads}
 
 -- ---- a text
 

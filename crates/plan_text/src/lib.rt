@@ -3,7 +3,8 @@
 // It promises that a text is accepted exactly where it reads as the document of such a plan or entry,
 // that each fault comes exactly in its case, and that what it prints is the compact text of the
 // document and is read as the same plan or entry again. It stands on `flow_model`, which has the data
-// and its rules, and on `serde_json`, which reads and prints JSON (RFC 8259).
+// and its rules, and on `serde_json`, which reads and prints JSON (RFC 8259), and `json`, which gives the
+// outline of a text.
 #![tactic(auto)]
 
 mod board;

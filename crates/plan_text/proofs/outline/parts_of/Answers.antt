@@ -1,4 +1,4 @@
-use Rattle.std.proofs.Common.{◌≡◌, ◌+◌, ◌<◌, ◌≤◌, max, ◌∷◌, ◌++◌, [], Some, map, drop, length, option_map, sym, ap, subst, ◌∙◌, arith}
+use Rattle.std.proofs.Common.{◌≡◌, ◌+◌, ◌≤◌, max, ◌∷◌, ◌++◌, [], Some, map, drop, option_map, sym, ap, subst, ◌∙◌, arith}
 use Rattle.std.proofs.lemmas.List.{drop_more, drop_all, map-append}
 use Rattle.json.specs.Json.{array}
 use Rattle.json.specs.Tree.{depth, items_depth, ItemsHaveNumbers}

@@ -1,4 +1,4 @@
-use Rattle.std.proofs.Common.{◌≡◌, [], Ok, arith, rules}
+use Rattle.std.proofs.Common.{◌≡◌, [], arith, rules}
 use Rattle.json.specs.Value.{value_view}
 use Rattle.plan_text.proofs.OutlineLaws.{outline_loads}
 use Rattle.plan_text.proofs.outline.read_printed.Goals as goal

@@ -1,6 +1,6 @@
-use Rattle.std.proofs.Common.{◌≡◌, ◌∷◌, [], codes, sym, ap, subst, ◌∙◌, arith, rules}
+use Rattle.std.proofs.Common.{◌≡◌, ◌∷◌, [], sym, ap, subst, ◌∙◌, rules}
 use Rattle.std.proofs.lemmas.Result.{IfOk-weaker}
-use Rattle.json.specs.Json.{object, member, no_members}
+use Rattle.json.specs.Json.{object}
 use Rattle.json.specs.Value.{value_view, members_view}
 use Rattle.json.proofs.Trees.{view-Object}
 use Rattle.plan_text.specs.Document.{run_data}
