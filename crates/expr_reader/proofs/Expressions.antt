@@ -50,13 +50,13 @@ no_limit UnknownName ts rest text n stands h = h
 no_limit UnknownFunction ts rest text n stands h = h
 no_limit ArgumentCount ts rest text n stands h = h
 no_limit TooDeep ts rest text n stands h = h
-no_limit TooLong ts rest text n (at_bytes blocks) h = absurd blocks
+no_limit TooLong ts rest text n (at_bytes blocks none) h = absurd blocks
 no_limit TooLong ts rest text n (at_token t after begins none wrong) h = absurd wrong
 no_limit TooLong ts rest text n (at_end ended none wrong) h = absurd wrong
-no_limit UnclosedTemplate ts rest text n (at_bytes blocks) h = blocks
+no_limit UnclosedTemplate ts rest text n (at_bytes blocks none) h = blocks
 no_limit UnclosedTemplate ts rest text n (at_token t after begins none wrong) h = wrong
 no_limit UnclosedTemplate ts rest text n (at_end ended none wrong) h = wrong
-no_limit StatusHere ts rest text n (at_bytes blocks) h = blocks
+no_limit StatusHere ts rest text n (at_bytes blocks none) h = blocks
 no_limit StatusHere ts rest text n (at_token t after begins none wrong) h = wrong
 no_limit StatusHere ts rest text n (at_end ended none wrong) h = wrong
 
@@ -72,7 +72,7 @@ stands_by base text x (Err y) gets h =
     subst (StandsFrom base text) same (
       length text - y.1,
       no_limit y.0 gets.0 gets.1 text (length text - y.1) gets.4
-          (record { before = gets.0; rest = gets.1; leads = gets.2; here = omega (arith, place, gets.3); stands = gets.4 }),
+          (record { before = gets.0; rest = gets.1; leads = gets.2; bare = gets.5; here = omega (arith, place, gets.3); stands = gets.4 }),
       refl,
     )
 

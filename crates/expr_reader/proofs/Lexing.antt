@@ -6,10 +6,10 @@ use Rattle.std.proofs.lemmas.Bool.Decides.{nat_tests}
 use Rattle.std.proofs.lemmas.List.{take-append-drop}
 use Rattle.std.specs.List.{prefix_len}
 use Rattle.std.specs.Prelude.{codes}
-use Rattle.expr_reader.specs.Bytes.{is_white, begins_name, is_name, begins_number, is_number, is_byte, IsRun, Stops, IsWord, IsNumeral}
+use Rattle.expr_reader.specs.Bytes.{is_white, skip_white, begins_name, is_name, begins_number, is_number, is_byte, IsRun, Stops, IsWord, IsNumeral}
 use Rattle.expr_reader.specs.Expr.{null, truth, whole, quoted}
 use Rattle.expr_reader.specs.Grammar.{Token, constant, root, callee, name, relational, equational, mark}
-use Rattle.expr_reader.specs.Lexer.{Lexed, skip_white, unquoted, quoted_token, number_token, number_at, named, begins_call, known_token, word_token, word_at, paired, followed, operator_at, token_at, some_token, next_at, next}
+use Rattle.expr_reader.specs.Lexer.{Lexed, unquoted, quoted_token, number_token, number_at, named, begins_call, known_token, word_token, word_at, paired, followed, operator_at, token_at, some_token, next_at, next}
 use Rattle.expr_reader.specs.Number.{number_of}
 use Rattle.expr_reader.specs.Spelling.{doubled, SpellsToken, EndsToken, Begins}
 use Rattle.expr_reader.specs.Wrong.{IsNoToken, IsUnknown, Blocks}

@@ -1,18 +1,18 @@
 -- A text is read as the tree that it spells, and as no other.
-use Rattle.std.proofs.Common.{◌≡◌, ◌≢◌, ℕ, zero, suc, ◌<◌, ◌≤◌, true, false, Result, Ok, Err, Option, Some, None, List, [], ◌∷◌, ◌++◌, length, take, refl, sym, ap, subst, ◌∙◌, append_assoc, append-nil, length-append, arith}
+use Rattle.std.proofs.Common.{◌≡◌, ◌≢◌, ℕ, zero, suc, ◌<◌, ◌≤◌, true, false, Result, Ok, Err, Option, Some, None, List, [], ◌∷◌, ◌++◌, length, take, drop, refl, sym, ap, subst, ◌∙◌, append_assoc, append-nil, length-append, arith}
 use Rattle.std.proofs.lemmas.List.{take-append-drop}
 use Rattle.std.specs.List.{prefix_len}
 use Rattle.std.specs.Prelude.{codes}
-use Rattle.expr_reader.specs.Bytes.{is_white, IsRun, IsWord, IsNumeral}
+use Rattle.expr_reader.specs.Bytes.{is_white, skip_white, IsRun, Stops, IsWord, IsNumeral}
 use Rattle.expr_reader.specs.Expr.{null, truth, whole, quoted, Expr, depth}
 use Rattle.expr_reader.specs.Grammar.{Token, constant, root, callee, name, relational, equational, mark, tokens, Shaped}
-use Rattle.expr_reader.specs.Lexer.{Lexed, skip_white, next}
+use Rattle.expr_reader.specs.Lexer.{Lexed, next_at, next}
 use Rattle.expr_reader.specs.Wrong.{Wrong}
 use Rattle.expr_reader.specs.Machine.{State, want, dotted, is_dotted, step, run, finish, parse}
 use Rattle.expr_reader.specs.Outcome.{◌>>=◌}
 use Rattle.expr_reader.specs.Reading.{Failure, placed, after_step, after_token, reads}
 use Rattle.expr_reader.specs.Spelling.{SpellsToken, Begins, Lexes}
-use Rattle.expr_reader.specs.Stands.{Leads, BeginNoTree, Stands, at_bytes, at_token, at_end}
+use Rattle.expr_reader.specs.Stands.{Leads, BeginNoTree, GoesOnNoTree, Stands, at_bytes, at_token, at_end}
 use Rattle.expr_reader.specs.declared.fault.Fault.{Fault}
 use Rattle.expr_reader.specs.declared.token.Mark.TheVariants.{Open, Close, OpenIndex, CloseIndex, Dot, Comma, Star, Not, Both, Either}
 use Rattle.expr_reader.specs.declared.tree.Equality.TheVariants.{Equal, NotEqual}
@@ -147,10 +147,20 @@ refused_end done st f h at e shaped shallow same =
     let again : Ok e ≡ Err f = sym (parse_again e shaped shallow) ∙ ap parse same ∙ ap (λ (r : Result State Fault). r >>= finish) h.ran ∙ at in
     cc
 
+-- Where no token is read, none that the text begins with goes on with a tree.
+none_goes_on : (done : List Token) (st : State) (bs : List ℕ) (f : Fault) → Reached done st → next (is_dotted st) bs ≡ Err f → GoesOnNoTree done (skip_white bs)
+none_goes_on done st bs f h none t rest begins = by_step (step st t) refl
+  where
+    again : next (is_dotted st) (skip_white bs) ≡ Err f
+    again = ap (λ (n : ℕ). next_at (is_dotted st) (drop n (skip_white bs))) (spans is_white bs).stops ∙ none
+    by_step : (r : Result State Fault) → step st t ≡ r → BeginNoTree (done ++ t ∷ [])
+    by_step (Err g) at = refused done st t g h at
+    by_step (Ok after) at = cc (next_again (is_dotted st) (skip_white bs) t rest begins (step_agrees st t after at), again)
+
 -- What reading the rest of a text gives: a tree whose tokens it is, or a fault that stands in it.
 abbrev pub Gets : List Token → List ℕ → Result Expr Failure → Type 0
 Gets done bs (Ok e) = (ts : List Token) × Lexes bs ts × Tokenized (done ++ ts) e
-Gets done bs (Err x) = (ts : List Token) × (rest : List ℕ) × Leads bs ts rest × (length rest ≡ x.1) × Stands x.0 (done ++ ts) rest
+Gets done bs (Err x) = (ts : List Token) × (rest : List ℕ) × Leads bs ts rest × (length rest ≡ x.1) × Stands x.0 (done ++ ts) rest × Stops is_white rest
 
 -- Nothing but white space leads to the rest.
 white_leads : (bs : List ℕ) → Leads bs [] (skip_white bs)
@@ -162,7 +172,7 @@ begins_skipped bs t rest b = record { white = []; own = b.own; blank = refl; spe
 
 go_on : (bs : List ℕ) (done : List Token) (t : Token) (rest : List ℕ) → Begins bs t rest → (r : Result Expr Failure) → Gets (done ++ t ∷ []) rest r → Gets done bs r
 go_on bs done t rest begins (Ok e) h = (t ∷ h.0, (rest, begins, h.1), subst (λ (ts : List Token). Tokenized ts e) (append_assoc done (t ∷ []) h.0) h.2)
-go_on bs done t rest begins (Err x) h = (t ∷ h.0, h.1, (rest, begins, h.2), h.3, subst (λ (ts : List Token). Stands x.0 ts h.1) (append_assoc done (t ∷ []) h.0) h.4)
+go_on bs done t rest begins (Err x) h = (t ∷ h.0, h.1, (rest, begins, h.2), h.3, subst (λ (ts : List Token). Stands x.0 ts h.1) (append_assoc done (t ∷ []) h.0) h.4, h.5)
 
 end_sound : (st : State) (bs : List ℕ) (done : List Token) → Reached done st → IsRun is_white bs → (r : Result Expr Fault) → finish st ≡ r → Holds r (Tokenized (state_tokens st)) (Wrong (state_tokens st)) → Gets done bs (placed (length (skip_white bs)) r)
 end_sound st bs done h blank (Ok e) at sound = ([], blank, subst (λ (ts : List Token). Tokenized ts e) (h.after.same ∙ sym (append-nil done)) sound)
@@ -173,6 +183,7 @@ end_sound st bs done h blank (Err f) at sound = (
   refl,
   subst (λ (ts : List Token). Stands f ts (skip_white bs)) (sym (append-nil done))
       (at_end (blank_skipped bs blank) (refused_end done st f h at) (subst (λ (ts : List Token). Wrong ts f) h.after.same sound)),
+  (spans is_white bs).stops,
 )
 
 -- That what is read is spelled so, by fewer than n tokens.
@@ -187,18 +198,26 @@ step_sound n sound st bs done fuel h t rest begins (Err f) at wrong = (
   refl,
   subst (λ (ts : List Token). Stands f ts (skip_white bs)) (sym (append-nil done))
       (at_token t rest (begins_skipped bs t rest begins) (refused done st t f h at) (subst (λ (ts : List Token). Wrong (ts ++ t ∷ []) f) h.after.same wrong)),
+  (spans is_white bs).stops,
 )
 step_sound n sound st bs done fuel h t rest begins (Ok after) at good =
     go_on bs done t rest begins (reads n after rest) (sound after rest (done ++ t ∷ []) (omega (arith, fuel, rest_shorter bs t rest begins)) (reached_more done st t after h at))
 
-token_sound : (n : ℕ) → ReadsSound n → (st : State) (bs : List ℕ) (done : List Token) → length bs < suc n → Reached done st → (r : Result (Option Lexed) Fault) → Comes bs r → Gets done bs (after_token (reads n) st (length (skip_white bs)) r)
-token_sound n sound st bs done fuel h (Err f) comes = ([], skip_white bs, white_leads bs, refl, at_bytes comes)
-token_sound n sound st bs done fuel h (Ok None) comes = end_sound st bs done h comes (finish st) refl (sound_finish st h.after.good)
-token_sound n sound st bs done fuel h (Ok (Some x)) comes = step_sound n sound st bs done fuel h x.0 x.1 comes (step st x.0) refl (sound_step st h.after.good x.0)
+token_sound : (n : ℕ) → ReadsSound n → (st : State) (bs : List ℕ) (done : List Token) → length bs < suc n → Reached done st → (r : Result (Option Lexed) Fault) → next (is_dotted st) bs ≡ r → Comes bs r → Gets done bs (after_token (reads n) st (length (skip_white bs)) r)
+token_sound n sound st bs done fuel h (Err f) at comes = (
+  [],
+  skip_white bs,
+  white_leads bs,
+  refl,
+  subst (λ (ts : List Token). Stands f ts (skip_white bs)) (sym (append-nil done)) (at_bytes comes (none_goes_on done st bs f h at)),
+  (spans is_white bs).stops,
+)
+token_sound n sound st bs done fuel h (Ok None) at comes = end_sound st bs done h comes (finish st) refl (sound_finish st h.after.good)
+token_sound n sound st bs done fuel h (Ok (Some x)) at comes = step_sound n sound st bs done fuel h x.0 x.1 comes (step st x.0) refl (sound_step st h.after.good x.0)
 
 reads_sound : (n : ℕ) → ReadsSound n
 reads_sound zero st bs done fuel h = absurd (omega arith)
-reads_sound (suc n) st bs done fuel h = token_sound n (reads_sound n) st bs done fuel h (next (is_dotted st) bs) (next_comes (is_dotted st) bs)
+reads_sound (suc n) st bs done fuel h = token_sound n (reads_sound n) st bs done fuel h (next (is_dotted st) bs) refl (next_comes (is_dotted st) bs)
 
 -- What is read is spelled so, and a fault stands in the text.
 pub text_sound : (text : List ℕ) → Gets [] text (reads (suc (length text)) (want []) text)

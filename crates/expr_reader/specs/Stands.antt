@@ -1,6 +1,6 @@
 -- When a fault stands at a place of a text.
 use Rattle.std.specs.Prelude.{◌≡◌, ◌≢◌, ℕ, ◌+◌, ◌≤◌, List, [], ◌∷◌, ◌++◌, length}
-use Rattle.expr_reader.specs.Bytes.{is_white, IsRun}
+use Rattle.expr_reader.specs.Bytes.{is_white, IsRun, Stops}
 use Rattle.expr_reader.specs.Expr.{Expr, depth}
 use Rattle.expr_reader.specs.Grammar.{Token, tokens, Shaped}
 use Rattle.expr_reader.specs.Spelling.{Begins}
@@ -16,17 +16,22 @@ Leads text (t ∷ ts) rest = (after : List ℕ) × Begins text t after × Leads 
 abbrev pub BeginNoTree : List Token → Type 0
 BeginNoTree ts = (e : Expr) (later : List Token) → Shaped e → depth e ≤ 50 → tokens e ≢ ts ++ later
 
--- The fault stands before the rest of a text, after these tokens: no token comes next; or one comes with
--- which the tokens begin no tree; or none comes, and the tokens are no tree's.
+-- No token that the rest of a text begins with goes on with a tree after these tokens.
+abbrev pub GoesOnNoTree : List Token → List ℕ → Type 0
+GoesOnNoTree before rest = (t : Token) (after : List ℕ) → Begins rest t after → BeginNoTree (before ++ t ∷ [])
+
+-- The fault stands before the rest of a text, after these tokens: no token that may stand there comes
+-- next; or one comes with which the tokens begin no tree; or none comes, and the tokens are no tree's.
 pub data Stands (f : Fault) (before : List Token) (rest : List ℕ) : Type 0 where
-  at_bytes : Blocks rest f → Stands f before rest
+  at_bytes : Blocks rest f → GoesOnNoTree before rest → Stands f before rest
   at_token : (t : Token) (after : List ℕ) → Begins rest t after → BeginNoTree (before ++ t ∷ []) → Wrong (before ++ t ∷ []) f → Stands f before rest
   at_end : rest ≡ [] → ((e : Expr) → Shaped e → depth e ≤ 50 → tokens e ≢ before) → Wrong before f → Stands f before rest
 
--- The fault stands at a place of the text, which is the number of bytes before it.
+-- The fault stands at a place of the text, which is the number of bytes before it, white space included.
 pub record StandsAt (f : Fault) (text : List ℕ) (place : ℕ) : Type 0 where
   pub before : List Token
   pub rest : List ℕ
   pub leads : Leads text before rest
+  pub bare : Stops is_white rest
   pub here : place + length rest ≡ length text
   pub stands : Stands f before rest
