@@ -8,7 +8,7 @@ use Rattle.expr_reader.specs.Machine.{want}
 use Rattle.expr_reader.specs.Reading.{Failure, reads, located, read_tokens, read_text}
 use Rattle.expr_reader.specs.Spelling.{Lexes}
 use Rattle.expr_reader.specs.Spells.{Spells}
-use Rattle.expr_reader.specs.Stands.{Leads, Stands, at_bytes, at_token, at_end, StandsAt}
+use Rattle.expr_reader.specs.Stands.{is_dot, Leads, Stands, at_bytes, at_token, at_end, StandsAt}
 use Rattle.expr_reader.specs.View.{view}
 use Rattle.expr_reader.specs.declared.fault.ExprFault.{ExprFault}
 use Rattle.expr_reader.specs.declared.fault.Fault.{Fault}
@@ -22,7 +22,7 @@ spelled_read base e text s =
     cond-false (nat_lt 20000 (length text)) (Err (TooLong, base + 20000)) (read_tokens base text) (le-ltb 20000 (length text) s.short)
     ∙ ap (located base (length text)) (text_again e text s.shaped s.shallow s.lexes)
 
-read_by : (base : ℕ) (text : List ℕ) (e : Expr) (r : Result Expr Failure) → Gets [] text r → length text ≤ 20000 → located base (length text) r ≡ Ok e → Spells e text
+read_by : (base : ℕ) (text : List ℕ) (e : Expr) (r : Result Expr Failure) → Gets false [] text r → length text ≤ 20000 → located base (length text) r ≡ Ok e → Spells e text
 read_by base text e (Ok d) gets short h =
     let same : d ≡ e = cc in
     let spells : Spells d text = record { shaped = gets.2.shaped; shallow = gets.2.shallow; short = short; lexes = subst (Lexes text) (sym gets.2.same) gets.1 } in
@@ -37,9 +37,9 @@ limited base text e false test h = read_by base text e (reads (suc (length text)
 pub read_spells : (base : ℕ) (text : List ℕ) (e : Expr) → read_text base text ≡ Ok e → Spells e text
 read_spells base text e h = limited base text e (nat_lt 20000 (length text)) refl h
 
-leads_short : (text : List ℕ) (ts : List Token) (rest : List ℕ) → Leads text ts rest → length rest ≤ length text
-leads_short text [] rest h = omega (arith, ap length h.2, length-append h.0 rest)
-leads_short text (t ∷ ts) rest h = omega (arith, rest_shorter text t h.0 h.1, leads_short h.0 ts rest h.2)
+leads_short : (dotted : Bool) (text : List ℕ) (ts : List Token) (rest : List ℕ) → Leads dotted text ts rest → length rest ≤ length text
+leads_short dotted text [] rest h = omega (arith, ap length h.2, length-append h.0 rest)
+leads_short dotted text (t ∷ ts) rest h = omega (arith, rest_shorter text t h.0 h.1, leads_short (is_dot t) h.0 ts rest h.3)
 
 no_limit : (f : Fault) (ts : List Token) (rest : List ℕ) (text : List ℕ) (n : ℕ) → Stands f ts rest → StandsAt f text n → StandsIn text (f, n)
 no_limit UnclosedText ts rest text n stands h = h
@@ -50,13 +50,13 @@ no_limit UnknownName ts rest text n stands h = h
 no_limit UnknownFunction ts rest text n stands h = h
 no_limit ArgumentCount ts rest text n stands h = h
 no_limit TooDeep ts rest text n stands h = h
-no_limit TooLong ts rest text n (at_bytes blocks) h = absurd blocks
+no_limit TooLong ts rest text n (at_bytes blocks none) h = absurd blocks
 no_limit TooLong ts rest text n (at_token t after begins none wrong) h = absurd wrong
 no_limit TooLong ts rest text n (at_end ended none wrong) h = absurd wrong
-no_limit UnclosedTemplate ts rest text n (at_bytes blocks) h = blocks
+no_limit UnclosedTemplate ts rest text n (at_bytes blocks none) h = blocks
 no_limit UnclosedTemplate ts rest text n (at_token t after begins none wrong) h = wrong
 no_limit UnclosedTemplate ts rest text n (at_end ended none wrong) h = wrong
-no_limit StatusHere ts rest text n (at_bytes blocks) h = blocks
+no_limit StatusHere ts rest text n (at_bytes blocks none) h = blocks
 no_limit StatusHere ts rest text n (at_token t after begins none wrong) h = wrong
 no_limit StatusHere ts rest text n (at_end ended none wrong) h = wrong
 
@@ -64,15 +64,15 @@ no_limit StatusHere ts rest text n (at_end ended none wrong) h = wrong
 abbrev pub StandsFrom : ℕ → List ℕ → Failure → Type 0
 StandsFrom base text x = (k : ℕ) × StandsIn text (x.0, k) × (x.1 ≡ base + k)
 
-stands_by : (base : ℕ) (text : List ℕ) (x : Failure) (r : Result Expr Failure) → Gets [] text r → located base (length text) r ≡ Err x → StandsFrom base text x
+stands_by : (base : ℕ) (text : List ℕ) (x : Failure) (r : Result Expr Failure) → Gets false [] text r → located base (length text) r ≡ Err x → StandsFrom base text x
 stands_by base text x (Ok d) gets h = cc
 stands_by base text x (Err y) gets h =
     let same : (y.0, base + (length text - y.1)) ≡ x = cc in
-    let place = leads_short text gets.0 gets.1 gets.2 in
+    let place = leads_short false text gets.0 gets.1 gets.2 in
     subst (StandsFrom base text) same (
       length text - y.1,
       no_limit y.0 gets.0 gets.1 text (length text - y.1) gets.4
-          (record { before = gets.0; rest = gets.1; leads = gets.2; here = omega (arith, place, gets.3); stands = gets.4 }),
+          (record { before = gets.0; rest = gets.1; leads = gets.2; bare = gets.5; here = omega (arith, place, gets.3); stands = gets.4 }),
       refl,
     )
 

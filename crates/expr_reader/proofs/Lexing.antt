@@ -6,12 +6,13 @@ use Rattle.std.proofs.lemmas.Bool.Decides.{nat_tests}
 use Rattle.std.proofs.lemmas.List.{take-append-drop}
 use Rattle.std.specs.List.{prefix_len}
 use Rattle.std.specs.Prelude.{codes}
-use Rattle.expr_reader.specs.Bytes.{is_white, begins_name, is_name, begins_number, is_number, is_byte, IsRun, Stops, IsWord, IsNumeral}
+use Rattle.expr_reader.specs.Bytes.{is_white, skip_white, begins_name, is_name, begins_number, is_number, is_byte, IsRun, Stops, IsWord, IsNumeral}
 use Rattle.expr_reader.specs.Expr.{null, truth, whole, quoted}
 use Rattle.expr_reader.specs.Grammar.{Token, constant, root, callee, name, relational, equational, mark}
-use Rattle.expr_reader.specs.Lexer.{Lexed, skip_white, unquoted, quoted_token, number_token, number_at, named, begins_call, known_token, word_token, word_at, paired, followed, operator_at, token_at, some_token, next_at, next}
+use Rattle.expr_reader.specs.Lexer.{Lexed, unquoted, quoted_token, number_token, number_at, named, begins_call, known_token, word_token, word_at, paired, followed, operator_at, token_at, some_token, next_at, next}
 use Rattle.expr_reader.specs.Number.{number_of}
 use Rattle.expr_reader.specs.Spelling.{doubled, SpellsToken, EndsToken, Begins}
+use Rattle.expr_reader.specs.Stands.{Fits}
 use Rattle.expr_reader.specs.Wrong.{IsNoToken, IsUnknown, Blocks}
 use Rattle.expr_reader.specs.declared.fault.Fault.{Fault}
 use Rattle.expr_reader.specs.declared.fault.Fault.TheVariants.{BadChar, UnknownName, UnknownFunction}
@@ -67,19 +68,6 @@ number_again dotted (b ∷ bs) rest numeral ends =
     ∙ ap (λ (z : List ℕ). number_token (number_of z) (drop (prefix_len is_number all) all)) (span_take is_number (b ∷ bs) rest numeral.1 ends)
     ∙ ap (λ (z : List ℕ). number_token (number_of (b ∷ bs)) z) (span_drop is_number (b ∷ bs) rest numeral.1 ends))
 
--- What comes after a dot is a name, and only there.
-abbrev pub Agrees : Bool → Token → Type 0
-Agrees dotted (constant null) = dotted ≡ false
-Agrees dotted (constant (truth b)) = dotted ≡ false
-Agrees dotted (constant (whole z)) = Unit {0}
-Agrees dotted (constant (quoted q)) = Unit {0}
-Agrees dotted (root c) = dotted ≡ false
-Agrees dotted (callee f) = dotted ≡ false
-Agrees dotted (name w) = dotted ≡ true
-Agrees dotted (relational r) = Unit {0}
-Agrees dotted (equational q) = Unit {0}
-Agrees dotted (mark m) = Unit {0}
-
 -- A token at the front, with nothing white before it.
 abbrev Fronts : Bool → Token → List ℕ → List ℕ → Type 0
 Fronts dotted t own rest = Stops is_white (own ++ rest) × (next_at dotted (own ++ rest) ≡ Ok (Some (t, rest)))
@@ -100,45 +88,45 @@ pub paired_alone : (one two : Token) (rest : List ℕ) → Stops (is_byte 61) re
 paired_alone one two [] h = refl
 paired_alone one two (b ∷ bs) h = cond-false (nat_eq b 61) (two, bs) (one, b ∷ bs) (head_stops (is_byte 61) b bs h)
 
-token_again : (dotted : Bool) (t : Token) (own rest : List ℕ) → SpellsToken t own → EndsToken t rest → Agrees dotted t → Fronts dotted t own rest
-token_again dotted (constant null) own rest spelled ends agrees =
-    subst (λ (w : List ℕ). Fronts dotted (constant null) w rest) (sym spelled) (named_front dotted (constant null) (codes "null") rest (refl, refl) ends agrees refl)
-token_again dotted (constant (truth true)) own rest spelled ends agrees =
-    subst (λ (w : List ℕ). Fronts dotted (constant (truth true)) w rest) (sym spelled) (named_front dotted (constant (truth true)) (codes "true") rest (refl, refl) ends agrees refl)
-token_again dotted (constant (truth false)) own rest spelled ends agrees =
-    subst (λ (w : List ℕ). Fronts dotted (constant (truth false)) w rest) (sym spelled) (named_front dotted (constant (truth false)) (codes "false") rest (refl, refl) ends agrees refl)
-token_again dotted (constant (whole z)) own rest spelled ends agrees =
+token_again : (dotted : Bool) (t : Token) (own rest : List ℕ) → SpellsToken t own → EndsToken t rest → Fits dotted t → Fronts dotted t own rest
+token_again dotted (constant null) own rest spelled ends fits =
+    subst (λ (w : List ℕ). Fronts dotted (constant null) w rest) (sym spelled) (named_front dotted (constant null) (codes "null") rest (refl, refl) ends fits refl)
+token_again dotted (constant (truth true)) own rest spelled ends fits =
+    subst (λ (w : List ℕ). Fronts dotted (constant (truth true)) w rest) (sym spelled) (named_front dotted (constant (truth true)) (codes "true") rest (refl, refl) ends fits refl)
+token_again dotted (constant (truth false)) own rest spelled ends fits =
+    subst (λ (w : List ℕ). Fronts dotted (constant (truth false)) w rest) (sym spelled) (named_front dotted (constant (truth false)) (codes "false") rest (refl, refl) ends fits refl)
+token_again dotted (constant (whole z)) own rest spelled ends fits =
     (number_front own rest spelled.0, number_again dotted own rest spelled.0 ends ∙ ap (λ (o : Option ℤ). some_token (number_token o rest)) spelled.1)
-token_again dotted (constant (quoted q)) own rest spelled ends agrees =
+token_again dotted (constant (quoted q)) own rest spelled ends fits =
     subst (λ (w : List ℕ). Fronts dotted (constant (quoted q)) w rest) (sym spelled) (refl, ap (λ (o : Option (List ℕ × List ℕ)). some_token (quoted_token o)) (unquoted_again q rest ends))
-token_again dotted (root c) own rest spelled ends agrees = named_front dotted (root c) own rest spelled.0 ends agrees (root_again c own spelled.1)
-token_again dotted (callee f) own rest spelled ends agrees = named_front dotted (callee f) own rest spelled.0 ends agrees (callee_again f own spelled.1)
-token_again dotted (name w) own rest spelled ends agrees =
-    (word_front own rest spelled.0, word_again dotted own rest spelled.0 ends ∙ ap (λ (d : Bool). some_token (word_token d own rest)) agrees ∙ ap (λ (z : List ℕ). Ok (Some (name z, rest))) spelled.1)
-token_again dotted (relational Less) own rest spelled ends agrees =
+token_again dotted (root c) own rest spelled ends fits = named_front dotted (root c) own rest spelled.0 ends fits (root_again c own spelled.1)
+token_again dotted (callee f) own rest spelled ends fits = named_front dotted (callee f) own rest spelled.0 ends fits (callee_again f own spelled.1)
+token_again dotted (name w) own rest spelled ends fits =
+    (word_front own rest spelled.0, word_again dotted own rest spelled.0 ends ∙ ap (λ (d : Bool). some_token (word_token d own rest)) fits ∙ ap (λ (z : List ℕ). Ok (Some (name z, rest))) spelled.1)
+token_again dotted (relational Less) own rest spelled ends fits =
     subst (λ (w : List ℕ). Fronts dotted (relational Less) w rest) (sym spelled) (refl, ap (λ (x : Lexed). Ok (Some x)) (paired_alone (relational Less) (relational AtMost) rest ends))
-token_again dotted (relational AtMost) own rest spelled ends agrees = subst (λ (w : List ℕ). Fronts dotted (relational AtMost) w rest) (sym spelled) (refl, refl)
-token_again dotted (relational Greater) own rest spelled ends agrees =
+token_again dotted (relational AtMost) own rest spelled ends fits = subst (λ (w : List ℕ). Fronts dotted (relational AtMost) w rest) (sym spelled) (refl, refl)
+token_again dotted (relational Greater) own rest spelled ends fits =
     subst (λ (w : List ℕ). Fronts dotted (relational Greater) w rest) (sym spelled) (refl, ap (λ (x : Lexed). Ok (Some x)) (paired_alone (relational Greater) (relational AtLeast) rest ends))
-token_again dotted (relational AtLeast) own rest spelled ends agrees = subst (λ (w : List ℕ). Fronts dotted (relational AtLeast) w rest) (sym spelled) (refl, refl)
-token_again dotted (equational Equal) own rest spelled ends agrees = subst (λ (w : List ℕ). Fronts dotted (equational Equal) w rest) (sym spelled) (refl, refl)
-token_again dotted (equational NotEqual) own rest spelled ends agrees = subst (λ (w : List ℕ). Fronts dotted (equational NotEqual) w rest) (sym spelled) (refl, refl)
-token_again dotted (mark Open) own rest spelled ends agrees = subst (λ (w : List ℕ). Fronts dotted (mark Open) w rest) (sym spelled) (refl, refl)
-token_again dotted (mark Close) own rest spelled ends agrees = subst (λ (w : List ℕ). Fronts dotted (mark Close) w rest) (sym spelled) (refl, refl)
-token_again dotted (mark OpenIndex) own rest spelled ends agrees = subst (λ (w : List ℕ). Fronts dotted (mark OpenIndex) w rest) (sym spelled) (refl, refl)
-token_again dotted (mark CloseIndex) own rest spelled ends agrees = subst (λ (w : List ℕ). Fronts dotted (mark CloseIndex) w rest) (sym spelled) (refl, refl)
-token_again dotted (mark Dot) own rest spelled ends agrees = subst (λ (w : List ℕ). Fronts dotted (mark Dot) w rest) (sym spelled) (refl, refl)
-token_again dotted (mark Comma) own rest spelled ends agrees = subst (λ (w : List ℕ). Fronts dotted (mark Comma) w rest) (sym spelled) (refl, refl)
-token_again dotted (mark Star) own rest spelled ends agrees = subst (λ (w : List ℕ). Fronts dotted (mark Star) w rest) (sym spelled) (refl, refl)
-token_again dotted (mark Not) own rest spelled ends agrees =
+token_again dotted (relational AtLeast) own rest spelled ends fits = subst (λ (w : List ℕ). Fronts dotted (relational AtLeast) w rest) (sym spelled) (refl, refl)
+token_again dotted (equational Equal) own rest spelled ends fits = subst (λ (w : List ℕ). Fronts dotted (equational Equal) w rest) (sym spelled) (refl, refl)
+token_again dotted (equational NotEqual) own rest spelled ends fits = subst (λ (w : List ℕ). Fronts dotted (equational NotEqual) w rest) (sym spelled) (refl, refl)
+token_again dotted (mark Open) own rest spelled ends fits = subst (λ (w : List ℕ). Fronts dotted (mark Open) w rest) (sym spelled) (refl, refl)
+token_again dotted (mark Close) own rest spelled ends fits = subst (λ (w : List ℕ). Fronts dotted (mark Close) w rest) (sym spelled) (refl, refl)
+token_again dotted (mark OpenIndex) own rest spelled ends fits = subst (λ (w : List ℕ). Fronts dotted (mark OpenIndex) w rest) (sym spelled) (refl, refl)
+token_again dotted (mark CloseIndex) own rest spelled ends fits = subst (λ (w : List ℕ). Fronts dotted (mark CloseIndex) w rest) (sym spelled) (refl, refl)
+token_again dotted (mark Dot) own rest spelled ends fits = subst (λ (w : List ℕ). Fronts dotted (mark Dot) w rest) (sym spelled) (refl, refl)
+token_again dotted (mark Comma) own rest spelled ends fits = subst (λ (w : List ℕ). Fronts dotted (mark Comma) w rest) (sym spelled) (refl, refl)
+token_again dotted (mark Star) own rest spelled ends fits = subst (λ (w : List ℕ). Fronts dotted (mark Star) w rest) (sym spelled) (refl, refl)
+token_again dotted (mark Not) own rest spelled ends fits =
     subst (λ (w : List ℕ). Fronts dotted (mark Not) w rest) (sym spelled) (refl, ap (λ (x : Lexed). Ok (Some x)) (paired_alone (mark Not) (equational NotEqual) rest ends))
-token_again dotted (mark Both) own rest spelled ends agrees = subst (λ (w : List ℕ). Fronts dotted (mark Both) w rest) (sym spelled) (refl, refl)
-token_again dotted (mark Either) own rest spelled ends agrees = subst (λ (w : List ℕ). Fronts dotted (mark Either) w rest) (sym spelled) (refl, refl)
+token_again dotted (mark Both) own rest spelled ends fits = subst (λ (w : List ℕ). Fronts dotted (mark Both) w rest) (sym spelled) (refl, refl)
+token_again dotted (mark Either) own rest spelled ends fits = subst (λ (w : List ℕ). Fronts dotted (mark Either) w rest) (sym spelled) (refl, refl)
 
 -- A token that the text begins with is read.
-pub next_again : (dotted : Bool) (text : List ℕ) (t : Token) (rest : List ℕ) → Begins text t rest → Agrees dotted t → next dotted text ≡ Ok (Some (t, rest))
-next_again dotted text t rest b agrees =
-    let front = token_again dotted t b.own rest b.spelled b.ends agrees in
+pub next_again : (dotted : Bool) (text : List ℕ) (t : Token) (rest : List ℕ) → Begins text t rest → Fits dotted t → next dotted text ≡ Ok (Some (t, rest))
+next_again dotted text t rest b fits =
+    let front = token_again dotted t b.own rest b.spelled b.ends fits in
     ap (next dotted) b.same ∙ ap (next_at dotted) (span_drop is_white b.white (b.own ++ rest) b.blank front.0) ∙ front.1
 
 pub blank_skipped : (text : List ℕ) → IsRun is_white text → skip_white text ≡ []
@@ -263,17 +251,17 @@ abbrev dotted_for : Token → Bool
 dotted_for (name w) = true
 dotted_for t = false
 
-agrees_so : (t : Token) → Agrees (dotted_for t) t
-agrees_so (constant null) = refl
-agrees_so (constant (truth b)) = refl
-agrees_so (constant (whole z)) = tt
-agrees_so (constant (quoted q)) = tt
-agrees_so (root c) = refl
-agrees_so (callee f) = refl
-agrees_so (name w) = refl
-agrees_so (relational r) = tt
-agrees_so (equational q) = tt
-agrees_so (mark m) = tt
+fits_so : (t : Token) → Fits (dotted_for t) t
+fits_so (constant null) = refl
+fits_so (constant (truth b)) = refl
+fits_so (constant (whole z)) = tt
+fits_so (constant (quoted q)) = tt
+fits_so (root c) = refl
+fits_so (callee f) = refl
+fits_so (name w) = refl
+fits_so (relational r) = tt
+fits_so (equational q) = tt
+fits_so (mark m) = tt
 
 -- Bytes that begin no token whether a dot stands before or not.
 no_operator : (b : ℕ) (bs : List ℕ) → is_white b ≡ false → nat_eq b 39 ≡ false → begins_number b ≡ false → begins_name b ≡ false → operator_at b bs ≡ Err BadChar → IsNoToken (b ∷ bs)
@@ -284,7 +272,7 @@ no_operator b bs white quote number word none = record {
   no_quote = λ h. cc (eq-eqb b 39 h, quote);
   no_number = number;
   no_name = word;
-  no_token = λ t rest begins. cc (blocked (dotted_for t), next_again (dotted_for t) (b ∷ bs) t rest begins (agrees_so t));
+  no_token = λ t rest begins. cc (blocked (dotted_for t), next_again (dotted_for t) (b ∷ bs) t rest begins (fits_so t));
 }
   where
     blocked : (dotted : Bool) → next dotted (b ∷ bs) ≡ Err BadChar
@@ -338,7 +326,7 @@ next_comes dotted text = comes_at dotted text (skip_white text) refl (spans is_w
 
 -- What the text begins with stands where its white space ends.
 pub skipped : (text : List ℕ) (t : Token) (rest : List ℕ) (b : Begins text t rest) → skip_white text ≡ b.own ++ rest
-skipped text t rest b = ap skip_white b.same ∙ span_drop is_white b.white (b.own ++ rest) b.blank (token_again (dotted_for t) t b.own rest b.spelled b.ends (agrees_so t)).0
+skipped text t rest b = ap skip_white b.same ∙ span_drop is_white b.white (b.own ++ rest) b.blank (token_again (dotted_for t) t b.own rest b.spelled b.ends (fits_so t)).0
 
 pub followed_by_none : (c : ℕ) (t : Token) (rest : List ℕ) → Stops (is_byte c) rest → followed c t rest ≡ Err BadChar
 followed_by_none c t [] h = refl

@@ -1,8 +1,9 @@
 -- Reading a text token by token.
 use Rattle.std.proofs.Common.{◌≡◌, ℕ, zero, suc, ◌+◌, ◌-◌, ◌<◌, ◌≤◌, Bool, Result, Ok, Err, Option, Some, None, IfSome, List, [], length, refl, sym, ap, subst, ◌∙◌, arith}
+use Rattle.expr_reader.specs.Bytes.{skip_white}
 use Rattle.expr_reader.specs.Expr.{Expr}
 use Rattle.expr_reader.specs.Faults.{fault_at, refused_at}
-use Rattle.expr_reader.specs.Lexer.{Lexed, skip_white, next_at, next}
+use Rattle.expr_reader.specs.Lexer.{Lexed, next_at, next}
 use Rattle.expr_reader.specs.Machine.{State, want, is_dotted, step, finish}
 use Rattle.expr_reader.specs.Outcome.{Fails}
 use Rattle.expr_reader.specs.Reading.{Failure, placed, after_step, after_token, reads, located, read_tokens}

@@ -1,49 +1,122 @@
 -- A text is read as the tree that it spells, and as no other.
-use Rattle.std.proofs.Common.{◌≡◌, ◌≢◌, ℕ, zero, suc, ◌<◌, ◌≤◌, true, false, Result, Ok, Err, Option, Some, None, List, [], ◌∷◌, ◌++◌, length, take, refl, sym, ap, subst, ◌∙◌, append_assoc, append-nil, length-append, arith}
+use Rattle.std.proofs.Common.{◌≡◌, ◌≢◌, ℕ, zero, suc, ◌<◌, ◌≤◌, Bool, true, false, Result, Ok, Err, Option, Some, None, List, [], ◌∷◌, ◌++◌, length, take, drop, refl, sym, ap, subst, ◌∙◌, append_assoc, append-nil, length-append, arith}
 use Rattle.std.proofs.lemmas.List.{take-append-drop}
 use Rattle.std.specs.List.{prefix_len}
 use Rattle.std.specs.Prelude.{codes}
-use Rattle.expr_reader.specs.Bytes.{is_white, IsRun, IsWord, IsNumeral}
-use Rattle.expr_reader.specs.Expr.{null, truth, whole, quoted, Expr, depth}
+use Rattle.expr_reader.specs.Bytes.{is_white, skip_white, IsRun, Stops, IsWord, IsNumeral}
+use Rattle.expr_reader.specs.Expr.{null, truth, whole, quoted, Expr, group, property, index, wildcard, exprs_of, depth}
 use Rattle.expr_reader.specs.Grammar.{Token, constant, root, callee, name, relational, equational, mark, tokens, Shaped}
-use Rattle.expr_reader.specs.Lexer.{Lexed, skip_white, next}
+use Rattle.expr_reader.specs.Lexer.{Lexed, next_at, next}
 use Rattle.expr_reader.specs.Wrong.{Wrong}
-use Rattle.expr_reader.specs.Machine.{State, want, dotted, is_dotted, step, run, finish, parse}
+use Rattle.expr_reader.specs.Machine.{Part, equality_of, relation_of, group_of, index_of, call_of, State, want, have, dotted, called, starred, is_dotted, node, called_with, close_relation, close_equality, close_both, close_either, both_more, either_more, have_made, end_round, end_index, end_argument, end_empty, star_index, have_mark, have_step, step, run, finish, parse}
 use Rattle.expr_reader.specs.Outcome.{◌>>=◌}
 use Rattle.expr_reader.specs.Reading.{Failure, placed, after_step, after_token, reads}
 use Rattle.expr_reader.specs.Spelling.{SpellsToken, Begins, Lexes}
-use Rattle.expr_reader.specs.Stands.{Leads, BeginNoTree, Stands, at_bytes, at_token, at_end}
+use Rattle.expr_reader.specs.Stands.{Fits, is_dot, Leads, BeginNoTree, GoesOnNoTree, Stands, at_bytes, at_token, at_end}
 use Rattle.expr_reader.specs.declared.fault.Fault.{Fault}
 use Rattle.expr_reader.specs.declared.token.Mark.TheVariants.{Open, Close, OpenIndex, CloseIndex, Dot, Comma, Star, Not, Both, Either}
 use Rattle.expr_reader.specs.declared.tree.Equality.TheVariants.{Equal, NotEqual}
+use Rattle.expr_reader.specs.declared.tree.Wildcard.TheVariants.{Dotted, Bracketed}
 use Rattle.expr_reader.specs.declared.tree.Relation.TheVariants.{Less, AtMost, Greater, AtLeast}
 use Rattle.expr_reader.proofs.Complete.{parse_again}
-use Rattle.expr_reader.proofs.Lexing.{Agrees, next_again, next_none, Comes, next_comes, skipped, blank_skipped}
+use Rattle.expr_reader.proofs.Lexing.{next_again, next_none, Comes, next_comes, skipped, blank_skipped}
 use Rattle.expr_reader.proofs.Runs.{spans}
 use Rattle.expr_reader.proofs.Sound.{Holds, After, state_tokens, sound_step, Tokenized, sound_finish}
 
 -- A token that a state takes is a property's name after a dot, and only there.
-step_agrees : (st : State) (t : Token) (after : State) → step st t ≡ Ok after → Agrees (is_dotted st) t
-step_agrees (dotted e s) (constant null) after h = cc
-step_agrees (dotted e s) (constant (truth b)) after h = cc
-step_agrees (dotted e s) (constant (whole z)) after h = tt
-step_agrees (dotted e s) (constant (quoted q)) after h = tt
-step_agrees (dotted e s) (root c) after h = cc
-step_agrees (dotted e s) (callee f) after h = cc
-step_agrees (dotted e s) (name w) after h = refl
-step_agrees (dotted e s) (relational r) after h = tt
-step_agrees (dotted e s) (equational q) after h = tt
-step_agrees (dotted e s) (mark m) after h = tt
-step_agrees st (constant null) after h = refl
-step_agrees st (constant (truth b)) after h = refl
-step_agrees st (constant (whole z)) after h = tt
-step_agrees st (constant (quoted q)) after h = tt
-step_agrees st (root c) after h = refl
-step_agrees st (callee f) after h = refl
-step_agrees st (name w) after h = cc
-step_agrees st (relational r) after h = tt
-step_agrees st (equational q) after h = tt
-step_agrees st (mark m) after h = tt
+step_fits : (st : State) (t : Token) (after : State) → step st t ≡ Ok after → Fits (is_dotted st) t
+step_fits (dotted e s) (constant null) after h = cc
+step_fits (dotted e s) (constant (truth b)) after h = cc
+step_fits (dotted e s) (constant (whole z)) after h = tt
+step_fits (dotted e s) (constant (quoted q)) after h = tt
+step_fits (dotted e s) (root c) after h = cc
+step_fits (dotted e s) (callee f) after h = cc
+step_fits (dotted e s) (name w) after h = refl
+step_fits (dotted e s) (relational r) after h = tt
+step_fits (dotted e s) (equational q) after h = tt
+step_fits (dotted e s) (mark m) after h = tt
+step_fits st (constant null) after h = refl
+step_fits st (constant (truth b)) after h = refl
+step_fits st (constant (whole z)) after h = tt
+step_fits st (constant (quoted q)) after h = tt
+step_fits st (root c) after h = refl
+step_fits st (callee f) after h = refl
+step_fits st (name w) after h = cc
+step_fits st (relational r) after h = tt
+step_fits st (equational q) after h = tt
+step_fits st (mark m) after h = tt
+
+-- Where a step gives a state, no dot came last.
+abbrev NoDot : Result State Fault → Type 0
+NoDot (Ok st) = is_dotted st ≡ false
+NoDot (Err f) = Unit {0}
+
+then_no_dot : {A : Type 0} (r : Result A Fault) (f : A → Result State Fault) → ((x : A) → NoDot (f x)) → NoDot (r >>= f)
+then_no_dot (Ok x) f h = h x
+then_no_dot (Err e) f h = tt
+
+made_no_dot : (s : List Part) (made : Result Expr Fault) → NoDot (have_made s made)
+made_no_dot s made = then_no_dot made (λ e. Ok (have e s)) (λ e. refl)
+
+round_no_dot : (e : Expr) (s : List Part) → NoDot (end_round e s)
+round_no_dot e (group_of ∷ s) = made_no_dot s (node (group e))
+round_no_dot e (call_of f es ∷ s) = made_no_dot s (called_with f (exprs_of (es ++ e ∷ [])))
+round_no_dot e s = tt
+
+index_no_dot : (e : Expr) (s : List Part) → NoDot (end_index e s)
+index_no_dot e (index_of a ∷ s) = made_no_dot s (node (index a e))
+index_no_dot e s = tt
+
+argument_no_dot : (e : Expr) (s : List Part) → NoDot (end_argument e s)
+argument_no_dot e (call_of f es ∷ s) = refl
+argument_no_dot e s = tt
+
+empty_no_dot : (s : List Part) → NoDot (end_empty s)
+empty_no_dot (call_of f [] ∷ s) = made_no_dot s (called_with f (exprs_of []))
+empty_no_dot s = tt
+
+star_no_dot : (s : List Part) → NoDot (star_index s)
+star_no_dot (index_of a ∷ s) = refl
+star_no_dot s = tt
+
+-- A dot comes last after the token, if it is one.
+abbrev Dots : Bool → Result State Fault → Type 0
+Dots d (Ok st) = is_dotted st ≡ d
+Dots d (Err f) = Unit {0}
+
+no_dots : (r : Result State Fault) → NoDot r → Dots false r
+no_dots (Ok st) h = h
+no_dots (Err f) h = tt
+
+dots : (st : State) (t : Token) → Dots (is_dot t) (step st t)
+dots (want s) (mark Close) = no_dots (end_empty s) (empty_no_dot s)
+dots (want s) (mark Star) = no_dots (star_index s) (star_no_dot s)
+dots (want s) (mark Open) = refl
+dots (want s) (mark Not) = refl
+dots (want s) (constant l) = refl
+dots (want s) (root c) = refl
+dots (want s) (callee f) = refl
+dots (want s) t = tt
+dots (have e s) (relational r) = no_dots (have_step e s (relational r)) (then_no_dot (close_relation e s) (λ x. Ok (want (relation_of r x.0 ∷ x.1))) (λ x. refl))
+dots (have e s) (equational q) = no_dots (have_step e s (equational q)) (then_no_dot (close_equality e s) (λ x. Ok (want (equality_of q x.0 ∷ x.1))) (λ x. refl))
+dots (have e s) (mark Close) = no_dots (have_mark e s Close) (then_no_dot (close_either e s) (λ x. end_round x.0 x.1) (λ x. round_no_dot x.0 x.1))
+dots (have e s) (mark OpenIndex) = refl
+dots (have e s) (mark CloseIndex) = no_dots (have_mark e s CloseIndex) (then_no_dot (close_either e s) (λ x. end_index x.0 x.1) (λ x. index_no_dot x.0 x.1))
+dots (have e s) (mark Dot) = refl
+dots (have e s) (mark Comma) = no_dots (have_mark e s Comma) (then_no_dot (close_either e s) (λ x. end_argument x.0 x.1) (λ x. argument_no_dot x.0 x.1))
+dots (have e s) (mark Both) = no_dots (have_mark e s Both) (then_no_dot (close_equality e s) (λ x. Ok (want (both_more x.0 x.1))) (λ x. refl))
+dots (have e s) (mark Either) = no_dots (have_mark e s Either) (then_no_dot (close_both e s) (λ x. Ok (want (either_more x.0 x.1))) (λ x. refl))
+dots (have e s) t = tt
+dots (dotted e s) (name w) = no_dots (have_made s (node (property e w))) (made_no_dot s (node (property e w)))
+dots (dotted e s) (mark Star) = no_dots (have_made s (node (wildcard Dotted e))) (made_no_dot s (node (wildcard Dotted e)))
+dots (dotted e s) t = tt
+dots (called f s) (mark Open) = refl
+dots (called f s) t = tt
+dots (starred e s) (mark CloseIndex) = no_dots (have_made s (node (wildcard Bracketed e))) (made_no_dot s (node (wildcard Bracketed e)))
+dots (starred e s) t = tt
+
+step_dots : (st : State) (t : Token) (after : State) → step st t ≡ Ok after → is_dotted after ≡ is_dot t
+step_dots st t after h = subst (Dots (is_dot t)) h (dots st t)
 
 word_long : (w : List ℕ) → IsWord w → 0 < length w
 word_long [] h = absurd h
@@ -93,7 +166,7 @@ ReadsAgain n = (st : State) (bs : List ℕ) (ts : List Token) (e : Expr) → len
 
 stepped : (n : ℕ) → ReadsAgain n → (st : State) (bs : List ℕ) (t : Token) (ts : List Token) (e : Expr) (rest : List ℕ) → length rest < n → Begins bs t rest → Lexes rest ts → (r : Result State Fault) → step st t ≡ r → ((r >>= λ next. run next ts) >>= finish) ≡ Ok e → reads (suc n) st bs ≡ Ok e
 stepped n again st bs t ts e rest fuel begins lexes (Ok after) at parsed =
-    ap (after_token (reads n) st (length (skip_white bs))) (next_again (is_dotted st) bs t rest begins (step_agrees st t after at))
+    ap (after_token (reads n) st (length (skip_white bs))) (next_again (is_dotted st) bs t rest begins (step_fits st t after at))
     ∙ ap (after_step (reads n) (length (skip_white bs)) rest) at
     ∙ again after rest ts e fuel lexes parsed
 stepped n again st bs t ts e rest fuel begins lexes (Err f) at parsed = cc
@@ -147,61 +220,95 @@ refused_end done st f h at e shaped shallow same =
     let again : Ok e ≡ Err f = sym (parse_again e shaped shallow) ∙ ap parse same ∙ ap (λ (r : Result State Fault). r >>= finish) h.ran ∙ at in
     cc
 
+-- The token that is read, if one is.
+abbrev token_read : Result (Option Lexed) Fault → Option Token
+token_read (Ok (Some x)) = Some x.0
+token_read r = None
+
+-- No token that the state takes is read next.
+abbrev TakesNone : State → List ℕ → Type 0
+TakesNone st bs = (t : Token) (rest : List ℕ) (after : State) → step st t ≡ Ok after → next (is_dotted st) bs ≡ Ok (Some (t, rest)) → ⊥
+
+refused_alone : (st : State) (bs : List ℕ) (t : Token) (rest : List ℕ) (f : Fault) → next (is_dotted st) bs ≡ Ok (Some (t, rest)) → step st t ≡ Err f → TakesNone st bs
+refused_alone st bs t rest f comes at u other after stepped found =
+    let same : Some u ≡ Some t = sym (ap token_read found) ∙ ap token_read comes in
+    cc
+
+-- Where the state takes no token that is read next, none that the text begins with goes on with a tree.
+none_goes_on : (done : List Token) (st : State) (bs : List ℕ) → Reached done st → TakesNone st bs → GoesOnNoTree done (skip_white bs)
+none_goes_on done st bs h none t rest begins = by_step (step st t) refl
+  where
+    unskipped : next (is_dotted st) (skip_white bs) ≡ next (is_dotted st) bs
+    unskipped = ap (λ (n : ℕ). next_at (is_dotted st) (drop n (skip_white bs))) (spans is_white bs).stops
+
+    by_step : (r : Result State Fault) → step st t ≡ r → BeginNoTree (done ++ t ∷ [])
+    by_step (Err g) at = refused done st t g h at
+    by_step (Ok after) at = absurd (none t rest after at (sym unskipped ∙ next_again (is_dotted st) (skip_white bs) t rest begins (step_fits st t after at)))
+
 -- What reading the rest of a text gives: a tree whose tokens it is, or a fault that stands in it.
-abbrev pub Gets : List Token → List ℕ → Result Expr Failure → Type 0
-Gets done bs (Ok e) = (ts : List Token) × Lexes bs ts × Tokenized (done ++ ts) e
-Gets done bs (Err x) = (ts : List Token) × (rest : List ℕ) × Leads bs ts rest × (length rest ≡ x.1) × Stands x.0 (done ++ ts) rest
+abbrev pub Gets : Bool → List Token → List ℕ → Result Expr Failure → Type 0
+Gets dot done bs (Ok e) = (ts : List Token) × Lexes bs ts × Tokenized (done ++ ts) e
+Gets dot done bs (Err x) = (ts : List Token) × (rest : List ℕ) × Leads dot bs ts rest × (length rest ≡ x.1) × Stands x.0 (done ++ ts) rest × Stops is_white rest
 
 -- Nothing but white space leads to the rest.
-white_leads : (bs : List ℕ) → Leads bs [] (skip_white bs)
-white_leads bs = (take (prefix_len is_white bs) bs, (spans is_white bs).run, sym (take-append-drop (prefix_len is_white bs) bs))
+white_leads : (dot : Bool) (bs : List ℕ) → Leads dot bs [] (skip_white bs)
+white_leads dot bs = (take (prefix_len is_white bs) bs, (spans is_white bs).run, sym (take-append-drop (prefix_len is_white bs) bs))
 
 -- A token that a text begins with stands where its white space ends.
 begins_skipped : (bs : List ℕ) (t : Token) (rest : List ℕ) → Begins bs t rest → Begins (skip_white bs) t rest
 begins_skipped bs t rest b = record { white = []; own = b.own; blank = refl; spelled = b.spelled; ends = b.ends; same = skipped bs t rest b }
 
-go_on : (bs : List ℕ) (done : List Token) (t : Token) (rest : List ℕ) → Begins bs t rest → (r : Result Expr Failure) → Gets (done ++ t ∷ []) rest r → Gets done bs r
-go_on bs done t rest begins (Ok e) h = (t ∷ h.0, (rest, begins, h.1), subst (λ (ts : List Token). Tokenized ts e) (append_assoc done (t ∷ []) h.0) h.2)
-go_on bs done t rest begins (Err x) h = (t ∷ h.0, h.1, (rest, begins, h.2), h.3, subst (λ (ts : List Token). Stands x.0 ts h.1) (append_assoc done (t ∷ []) h.0) h.4)
+go_on : (dot : Bool) (bs : List ℕ) (done : List Token) (t : Token) (rest : List ℕ) → Begins bs t rest → Fits dot t → (r : Result Expr Failure) → Gets (is_dot t) (done ++ t ∷ []) rest r → Gets dot done bs r
+go_on dot bs done t rest begins fits (Ok e) h = (t ∷ h.0, (rest, begins, h.1), subst (λ (ts : List Token). Tokenized ts e) (append_assoc done (t ∷ []) h.0) h.2)
+go_on dot bs done t rest begins fits (Err x) h = (t ∷ h.0, h.1, (rest, begins, fits, h.2), h.3, subst (λ (ts : List Token). Stands x.0 ts h.1) (append_assoc done (t ∷ []) h.0) h.4, h.5)
 
-end_sound : (st : State) (bs : List ℕ) (done : List Token) → Reached done st → IsRun is_white bs → (r : Result Expr Fault) → finish st ≡ r → Holds r (Tokenized (state_tokens st)) (Wrong (state_tokens st)) → Gets done bs (placed (length (skip_white bs)) r)
+end_sound : (st : State) (bs : List ℕ) (done : List Token) → Reached done st → IsRun is_white bs → (r : Result Expr Fault) → finish st ≡ r → Holds r (Tokenized (state_tokens st)) (Wrong (state_tokens st)) → Gets (is_dotted st) done bs (placed (length (skip_white bs)) r)
 end_sound st bs done h blank (Ok e) at sound = ([], blank, subst (λ (ts : List Token). Tokenized ts e) (h.after.same ∙ sym (append-nil done)) sound)
 end_sound st bs done h blank (Err f) at sound = (
   [],
   skip_white bs,
-  white_leads bs,
+  white_leads (is_dotted st) bs,
   refl,
   subst (λ (ts : List Token). Stands f ts (skip_white bs)) (sym (append-nil done))
       (at_end (blank_skipped bs blank) (refused_end done st f h at) (subst (λ (ts : List Token). Wrong ts f) h.after.same sound)),
+  (spans is_white bs).stops,
 )
 
 -- That what is read is spelled so, by fewer than n tokens.
 abbrev ReadsSound : ℕ → Type 0
-ReadsSound n = (st : State) (bs : List ℕ) (done : List Token) → length bs < n → Reached done st → Gets done bs (reads n st bs)
+ReadsSound n = (st : State) (bs : List ℕ) (done : List Token) → length bs < n → Reached done st → Gets (is_dotted st) done bs (reads n st bs)
 
-step_sound : (n : ℕ) → ReadsSound n → (st : State) (bs : List ℕ) (done : List Token) → length bs < suc n → Reached done st → (t : Token) (rest : List ℕ) → Begins bs t rest → (r : Result State Fault) → step st t ≡ r → Holds r (After (state_tokens st ++ t ∷ [])) (Wrong (state_tokens st ++ t ∷ [])) → Gets done bs (after_step (reads n) (length (skip_white bs)) rest r)
-step_sound n sound st bs done fuel h t rest begins (Err f) at wrong = (
+step_sound : (n : ℕ) → ReadsSound n → (st : State) (bs : List ℕ) (done : List Token) → length bs < suc n → Reached done st → (t : Token) (rest : List ℕ) → next (is_dotted st) bs ≡ Ok (Some (t, rest)) → Begins bs t rest → (r : Result State Fault) → step st t ≡ r → Holds r (After (state_tokens st ++ t ∷ [])) (Wrong (state_tokens st ++ t ∷ [])) → Gets (is_dotted st) done bs (after_step (reads n) (length (skip_white bs)) rest r)
+step_sound n sound st bs done fuel h t rest comes begins (Err f) at wrong = (
   [],
   skip_white bs,
-  white_leads bs,
+  white_leads (is_dotted st) bs,
   refl,
   subst (λ (ts : List Token). Stands f ts (skip_white bs)) (sym (append-nil done))
-      (at_token t rest (begins_skipped bs t rest begins) (refused done st t f h at) (subst (λ (ts : List Token). Wrong (ts ++ t ∷ []) f) h.after.same wrong)),
+      (at_token t rest (begins_skipped bs t rest begins) (none_goes_on done st bs h (refused_alone st bs t rest f comes at)) (subst (λ (ts : List Token). Wrong (ts ++ t ∷ []) f) h.after.same wrong)),
+  (spans is_white bs).stops,
 )
-step_sound n sound st bs done fuel h t rest begins (Ok after) at good =
-    go_on bs done t rest begins (reads n after rest) (sound after rest (done ++ t ∷ []) (omega (arith, fuel, rest_shorter bs t rest begins)) (reached_more done st t after h at))
+step_sound n sound st bs done fuel h t rest comes begins (Ok after) at good =
+    go_on (is_dotted st) bs done t rest begins (step_fits st t after at) (reads n after rest) (subst (λ (d : Bool). Gets d (done ++ t ∷ []) rest (reads n after rest)) (step_dots st t after at) (sound after rest (done ++ t ∷ []) (omega (arith, fuel, rest_shorter bs t rest begins)) (reached_more done st t after h at)))
 
-token_sound : (n : ℕ) → ReadsSound n → (st : State) (bs : List ℕ) (done : List Token) → length bs < suc n → Reached done st → (r : Result (Option Lexed) Fault) → Comes bs r → Gets done bs (after_token (reads n) st (length (skip_white bs)) r)
-token_sound n sound st bs done fuel h (Err f) comes = ([], skip_white bs, white_leads bs, refl, at_bytes comes)
-token_sound n sound st bs done fuel h (Ok None) comes = end_sound st bs done h comes (finish st) refl (sound_finish st h.after.good)
-token_sound n sound st bs done fuel h (Ok (Some x)) comes = step_sound n sound st bs done fuel h x.0 x.1 comes (step st x.0) refl (sound_step st h.after.good x.0)
+token_sound : (n : ℕ) → ReadsSound n → (st : State) (bs : List ℕ) (done : List Token) → length bs < suc n → Reached done st → (r : Result (Option Lexed) Fault) → next (is_dotted st) bs ≡ r → Comes bs r → Gets (is_dotted st) done bs (after_token (reads n) st (length (skip_white bs)) r)
+token_sound n sound st bs done fuel h (Err f) at comes = (
+  [],
+  skip_white bs,
+  white_leads (is_dotted st) bs,
+  refl,
+  subst (λ (ts : List Token). Stands f ts (skip_white bs)) (sym (append-nil done)) (at_bytes comes (none_goes_on done st bs h (λ u after next_state stepped found. cc (found, at)))),
+  (spans is_white bs).stops,
+)
+token_sound n sound st bs done fuel h (Ok None) at comes = end_sound st bs done h comes (finish st) refl (sound_finish st h.after.good)
+token_sound n sound st bs done fuel h (Ok (Some x)) at comes = step_sound n sound st bs done fuel h x.0 x.1 at comes (step st x.0) refl (sound_step st h.after.good x.0)
 
 reads_sound : (n : ℕ) → ReadsSound n
 reads_sound zero st bs done fuel h = absurd (omega arith)
-reads_sound (suc n) st bs done fuel h = token_sound n (reads_sound n) st bs done fuel h (next (is_dotted st) bs) (next_comes (is_dotted st) bs)
+reads_sound (suc n) st bs done fuel h = token_sound n (reads_sound n) st bs done fuel h (next (is_dotted st) bs) refl (next_comes (is_dotted st) bs)
 
 -- What is read is spelled so, and a fault stands in the text.
-pub text_sound : (text : List ℕ) → Gets [] text (reads (suc (length text)) (want []) text)
+pub text_sound : (text : List ℕ) → Gets false [] text (reads (suc (length text)) (want []) text)
 text_sound text = reads_sound (suc (length text)) (want []) text [] (omega arith) reached_none
 
 -- What is spelled so is read.

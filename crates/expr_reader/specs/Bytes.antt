@@ -1,10 +1,14 @@
 -- The bytes that tokens are made of.
-use Rattle.std.specs.Prelude.{◌≡◌, ℕ, Bool, true, ◌&&◌, ◌||◌, ◌==◌, nat_le, List, [], ◌∷◌, length}
+use Rattle.std.specs.Prelude.{◌≡◌, ℕ, Bool, true, ◌&&◌, ◌||◌, ◌==◌, nat_le, List, [], ◌∷◌, length, drop}
 use Rattle.std.specs.List.{prefix_len}
 
 -- A space, a tab, a carriage return or a newline.
 abbrev pub is_white : ℕ → Bool
 is_white b = b == 32 || b == 9 || b == 13 || b == 10
+
+-- The text from its first byte that is not white on.
+abbrev pub skip_white : List ℕ → List ℕ
+skip_white bs = drop (prefix_len is_white bs) bs
 
 abbrev pub is_letter : ℕ → Bool
 is_letter b = nat_le 65 b && nat_le b 90 || nat_le 97 b && nat_le b 122

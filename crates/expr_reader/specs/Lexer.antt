@@ -2,7 +2,7 @@
 use Rattle.std.specs.Prelude.{ℕ, ℤ, Bool, true, false, ◌==◌, if◌then◌else◌, Result, Ok, Err, Option, Some, None, List, [], ◌∷◌, ◌++◌, take, drop, codes}
 use Rattle.std.specs.List.{prefix_len, find}
 use Rattle.std.specs.Str.{bytes_eq}
-use Rattle.expr_reader.specs.Bytes.{is_white, begins_name, is_name, begins_number, is_number}
+use Rattle.expr_reader.specs.Bytes.{skip_white, begins_name, is_name, begins_number, is_number}
 use Rattle.expr_reader.specs.Expr.{null, truth, whole, quoted}
 use Rattle.expr_reader.specs.Fold.{fold}
 use Rattle.expr_reader.specs.Grammar.{Token, constant, root, callee, name, relational, equational, mark}
@@ -21,10 +21,6 @@ use Rattle.expr_reader.specs.declared.tree.Relation.TheVariants.{Less, AtMost, G
 -- A token and the text after it.
 abbrev pub Lexed : Type 0
 Lexed = Token × List ℕ
-
--- The text from its first byte that is not white on.
-abbrev pub skip_white : List ℕ → List ℕ
-skip_white bs = drop (prefix_len is_white bs) bs
 
 -- A text with bytes before it.
 abbrev pub with_front : List ℕ → Option (List ℕ × List ℕ) → Option (List ℕ × List ℕ)

@@ -15,6 +15,7 @@ pub mod Spelling
 pub mod Spells
 pub mod Stack
 pub mod Stands
+pub mod Status
 pub mod Template
 pub mod TemplateReading
 pub mod TemplateStands

@@ -1,8 +1,9 @@
 -- How a text is read: token by token, each taken by the machine. A fault comes with how much of the text
 -- is left from its place on.
 use Rattle.std.specs.Prelude.{ℕ, zero, suc, nat_lt, ◌+◌, ◌-◌, if◌then◌else◌, Result, Ok, Err, Option, Some, None, List, [], length}
+use Rattle.expr_reader.specs.Bytes.{skip_white}
 use Rattle.expr_reader.specs.Expr.{Expr}
-use Rattle.expr_reader.specs.Lexer.{Lexed, skip_white, next}
+use Rattle.expr_reader.specs.Lexer.{Lexed, next}
 use Rattle.expr_reader.specs.Machine.{State, want, is_dotted, step, finish}
 use Rattle.expr_reader.specs.declared.fault.Fault.{Fault}
 use Rattle.expr_reader.specs.declared.fault.Fault.TheVariants.{TooLong}

@@ -2,9 +2,8 @@
 use Rattle.std.specs.Prelude.{◌≡◌, ◌≢◌, ℕ, suc, ◌≤◌, Bool, true, false, not, ◌&&◌, ◌||◌, ◌==◌, nat_eq, if◌then◌else◌, Option, Some, None, List, [], ◌∷◌, ◌++◌, length, take, ◌-◌, codes}
 use Rattle.std.specs.List.{list_any, starts_with, suffix_len}
 use Rattle.std.specs.Option.{option_map}
-use Rattle.expr_reader.specs.Bytes.{is_white}
+use Rattle.expr_reader.specs.Bytes.{is_white, skip_white}
 use Rattle.expr_reader.specs.Expr.{Expr, Exprs, literal, context, call, group, property, index, wildcard, opposite, relation, equality, both, either, none, more}
-use Rattle.expr_reader.specs.Lexer.{skip_white}
 use Rattle.expr_reader.specs.Spells.{Spells}
 use Rattle.expr_reader.specs.declared.tree.Function.{Function}
 use Rattle.expr_reader.specs.declared.tree.Function.TheVariants.{Contains, StartsWith, EndsWith, Format, Join, ToJson, FromJson, Success, Failure, Cancelled, Always}

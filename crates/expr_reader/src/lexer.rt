@@ -2,7 +2,7 @@
 
 ghost use Rattle.std.specs.Prelude.{◌≡◌, ◌∷◌, ◌<◌, Ok, MatchOption, slice_get, drop, IfOk, string_bytes};
 ghost use Rattle.std.specs.Str.{IsUtf8, IsCharBoundary};
-ghost use Rattle.expr_reader.specs.Bytes.{is_byte, Stops};
+ghost use Rattle.expr_reader.specs.Bytes.{skip_white, is_byte, Stops};
 ghost use Rattle.expr_reader.specs.Expr.{quoted as quoted_of};
 ghost use Rattle.expr_reader.specs.Grammar.{constant};
 ghost use Rattle.expr_reader.specs.Lexer as lexer;
@@ -68,7 +68,7 @@ fn number(text: &str) -> Result<(Token, &str), Refusal>
 
 // Whether a parenthesis comes next.
 fn begins_call(text: &str) -> bool
-    ensures { result ≡ lexer.begins_call (lexer.skip_white text.now) }
+    ensures { result ≡ lexer.begins_call (skip_white text.now) }
 {
     let (_, text) = split_run(text, Class::White);
     matches!(text.as_bytes(), [b'(', ..])

@@ -1,19 +1,18 @@
-//! Reading: trees, places of faults and limits.
+//! Reading: trees, templates, conditions and places of faults.
 
 use super::*;
 use std::alloc::Global;
-use std::process::Abort;
 use std::test::Fail;
 
 // What a text is read as, in the words of `Debug`.
-fn shown(alloc: Global, text: &str) -> Result<String, Fail> {
+pub(crate) fn shown(alloc: Global, text: &str) -> Result<String, Fail> {
     let tree = read_expr(alloc, text)?;
     let shown = format!(in alloc; "{tree:?}")?;
     Ok(shown)
 }
 
 // A text of many copies of three parts.
-fn nested(
+pub(crate) fn nested(
     alloc: Global,
     open: &str,
     core: &str,
@@ -32,21 +31,21 @@ fn nested(
 }
 
 // The fault of a text, if it has one.
-fn fault_of(alloc: Global, text: &str) -> Option<ExprFault> {
+pub(crate) fn fault_of(alloc: Global, text: &str) -> Option<ExprFault> {
     match read_expr(alloc, text) {
         Ok(_) => None,
         Err(fault) => Some(fault),
     }
 }
 
-fn template_fault(alloc: Global, text: &str) -> Option<ExprFault> {
+pub(crate) fn template_fault(alloc: Global, text: &str) -> Option<ExprFault> {
     match read_template(alloc, text) {
         Ok(_) => None,
         Err(fault) => Some(fault),
     }
 }
 
-fn condition_fault(alloc: Global, text: &str) -> Option<ExprFault> {
+pub(crate) fn condition_fault(alloc: Global, text: &str) -> Option<ExprFault> {
     match read_condition(alloc, text) {
         Ok(_) => None,
         Err(fault) => Some(fault),
@@ -170,64 +169,6 @@ fn places_of_faults(rt: HostRuntime) {
 }
 
 #[test]
-fn eval_depth_of_parentheses(rt: HostRuntime) -> Result<(), Fail> {
-    let alloc = rt.alloc();
-    for (open, core, close) in [
-        ("(", "1", ")"),
-        ("!", "1", ""),
-        ("", "github", ".a"),
-        ("", "github", ".*"),
-        ("", "github", "[*]"),
-        ("", "github", "[0]"),
-        ("github[", "0", "]"),
-        ("join(", "1", ")"),
-        ("", "1", " < 1"),
-        ("", "1", " == 1"),
-    ] {
-        for (times, is_deep) in [(48, false), (49, false), (50, true)] {
-            let text = nested(alloc, open, core, close, times)?;
-            let fault = fault_of(alloc, text.as_str());
-            assert_eq!(rt;
-                matches!(fault, Some(ExprFault::TooDeep(_))),
-                is_deep,
-                "{text}"
-            );
-            assert_eq!(rt; fault.is_none(), !is_deep, "{text}");
-        }
-    }
-    let chain = nested(alloc, "1 && ", "1 || 1", " || 1", 200)?;
-    assert_eq!(rt; fault_of(alloc, chain.as_str()), None);
-    Ok(())
-}
-
-#[test]
-fn lengths(rt: HostRuntime) -> Result<(), Fail> {
-    let alloc = rt.alloc();
-    let at_most = nested(alloc, " ", "1", "", 19_999)?;
-    assert_eq!(rt; fault_of(alloc, at_most.as_str()), None);
-    let longer = nested(alloc, " ", "1", "", 20_000)?;
-    assert_eq!(rt;
-        fault_of(alloc, longer.as_str()),
-        Some(ExprFault::TooLong(20_000))
-    );
-    assert_eq!(rt; condition_fault(alloc, longer.as_str()), None);
-    let inside = nested(alloc, " ", "}}", "", 20_001)?;
-    let marked = format!(in alloc; "ab${{{{{inside}")?;
-    assert_eq!(rt;
-        template_fault(alloc, marked.as_str()),
-        Some(ExprFault::TooLong(20_005))
-    );
-    let template = nested(alloc, "a", "${{ 1 }}", "", 1_048_568)?;
-    assert_eq!(rt; template_fault(alloc, template.as_str()), None);
-    let longer = nested(alloc, "a", "${{ 1 }}", "", 1_048_569)?;
-    assert_eq!(rt;
-        template_fault(alloc, longer.as_str()),
-        Some(ExprFault::TooLong(1_048_576))
-    );
-    Ok(())
-}
-
-#[test]
 fn templates(rt: HostRuntime) -> Result<(), Fail> {
     let alloc = rt.alloc();
     for (text, want) in [
@@ -319,87 +260,5 @@ fn texts_ignoring_case(rt: HostRuntime) -> Result<(), Fail> {
         assert_eq!(rt; same_text(a, b), same, "{a} {b}");
     }
     assert_eq!(rt; Context::Github.name(), "github");
-    Ok(())
-}
-
-// The place of a fault of the text.
-fn place_of(fault: ExprFault) -> Option<usize> {
-    match fault {
-        ExprFault::UnclosedText(n)
-        | ExprFault::BadNumber(n)
-        | ExprFault::BadChar(n)
-        | ExprFault::Unexpected(n)
-        | ExprFault::UnknownName(n)
-        | ExprFault::UnknownFunction(n)
-        | ExprFault::ArgumentCount(n)
-        | ExprFault::TooDeep(n)
-        | ExprFault::TooLong(n)
-        | ExprFault::UnclosedTemplate(n)
-        | ExprFault::StatusHere(n) => Some(n),
-        ExprFault::Memory(_) => None,
-    }
-}
-
-// Whether a text is read, or has a fault with a place in it.
-fn is_answered(fault: Option<ExprFault>, text: &str) -> bool {
-    match fault {
-        Some(fault) => place_of(fault).is_some_and(|place| place <= text.len()),
-        None => true,
-    }
-}
-
-#[test]
-fn cut_texts(rt: HostRuntime) {
-    let alloc = rt.alloc();
-    for text in [
-        "contains('Hello', 'ELL') && !cancelled()",
-        "format('{{{0}}}', 7) == 'é' || github.*.n[0] <= -9007199254740991",
-        "join(github.*.n, '-')[matrix['os']] != needs[*].result",
-        "a${{ 1 }}b${{ 'it''s }}' }}}",
-    ] {
-        for length in 0..text.len() {
-            if let Some((front, back)) = text.split_at_checked(length) {
-                for part in [front, back] {
-                    assert_eq!(rt; is_answered(fault_of(alloc, part), part), true, "{part}");
-                    assert_eq!(rt;
-                        is_answered(template_fault(alloc, part), part),
-                        true,
-                        "{part}"
-                    );
-                    assert_eq!(rt;
-                        is_answered(condition_fault(alloc, part), part),
-                        true,
-                        "{part}"
-                    );
-                }
-            }
-        }
-    }
-}
-
-// Each token after this one. Of two tokens only `!` and a literal or a context are an expression.
-fn pairs_with(rt: &impl Abort, alloc: Global, first: &str) -> Result<(), Fail> {
-    for second in [
-        "(", ")", "[", "]", ".", ",", "*", "!", "<", "<=", ">", ">=", "==", "!=", "&&", "||",
-        "null", "1", "'a'", "github", "success", "other",
-    ] {
-        let text = format!(in alloc; "{first} {second}")?;
-        let fault = fault_of(alloc, text.as_str());
-        assert_eq!(rt; is_answered(fault, text.as_str()), true, "{text}");
-        let is_read = first == "!" && matches!(second, "null" | "1" | "'a'" | "github");
-        assert_eq!(rt; fault.is_none(), is_read, "{text}");
-    }
-    Ok(())
-}
-
-#[test]
-fn pairs_of_tokens(rt: HostRuntime) -> Result<(), Fail> {
-    let alloc = rt.alloc();
-    for first in [
-        "(", ")", "[", "]", ".", ",", "*", "!", "<", "<=", ">", ">=", "==", "!=", "&&", "||",
-        "null", "1", "'a'", "github", "success", "other",
-    ] {
-        pairs_with(&rt, alloc, first)?;
-    }
     Ok(())
 }

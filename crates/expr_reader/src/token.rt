@@ -1,5 +1,9 @@
 //! The tokens of an expression's text.
 
+ghost use Rattle.std.specs.Prelude.{◌≡◌};
+ghost use Rattle.expr_reader.specs.Stack.{token_of};
+ghost use Rattle.expr_reader.specs.Status.{token_names_status};
+
 use crate::status::is_status;
 use crate::tree::{Context, Equality, Function, Literal, Relation};
 
@@ -33,10 +37,17 @@ pub(crate) enum Token {
 
 impl Token {
     /// Whether it names a status function.
-    pub(crate) fn names_status(&self) -> bool {
+    pub(crate) fn names_status(&self) -> bool
+        ensures { result ≡ token_names_status (token_of self.now) }
+    {
         match self {
             Token::Callee(function) => is_status(*function),
-            _ => false,
+            Token::Constant(_)
+            | Token::Root(_)
+            | Token::Name(_)
+            | Token::Relational(_)
+            | Token::Equational(_)
+            | Token::Mark(_) => false,
         }
     }
 }
