@@ -1,3 +1,4 @@
+pub mod Answered
 pub mod Expressions
 pub mod Lines
 pub mod Tells

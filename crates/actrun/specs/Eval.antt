@@ -69,11 +69,21 @@ value_name value_fault.BadJson = codes "BadJson"
 value_name value_fault.TooLarge = codes "TooLarge"
 value_name value_fault.Memory = codes "Memory"
 
--- The one line that tells of a trouble; one with the contexts names their file.
+-- The line that tells of a file of that name which gives no contexts.
+abbrev pub contexts_line : List ℕ → FlowFault → List ℕ
+contexts_line file fault = codes "actrun: flow " ++ (file ++ (codes " " ++ (flow_name fault ++ codes "\n")))
+
+abbrev pub expression_line : ExprFault → List ℕ
+expression_line fault = codes "actrun: expr " ++ (expr_name fault ++ (codes " at " ++ (decimal (expr_place fault) ++ codes "\n")))
+
+abbrev pub evaluation_line : ValueFault → List ℕ
+evaluation_line fault = codes "actrun: value " ++ (value_name fault ++ codes "\n")
+
+-- The one line that tells of a trouble.
 abbrev pub trouble_line : List ℕ → EvalTrouble → List ℕ
-trouble_line file (BadContexts fault) = codes "actrun: flow " ++ file ++ codes " " ++ flow_name fault ++ codes "\n"
-trouble_line file (NoExpression fault) = codes "actrun: expr " ++ expr_name fault ++ codes " at " ++ decimal (expr_place fault) ++ codes "\n"
-trouble_line file (NoValue fault) = codes "actrun: value " ++ value_name fault ++ codes "\n"
+trouble_line file (BadContexts fault) = contexts_line file fault
+trouble_line file (NoExpression fault) = expression_line fault
+trouble_line file (NoValue fault) = evaluation_line fault
 trouble_line file Memory = codes "actrun: memory\n"
 
 -- The exit status of a trouble: a text is refused, or there is no memory.

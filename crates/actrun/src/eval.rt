@@ -177,31 +177,48 @@ fn expr_place(fault: ExprFault) -> usize
     }
 }
 
+/// Says that a file gives no contexts, in one line.
+fn say_contexts<W: Write>(err: &mut W, file: &str, fault: FlowFault) -> io::Result<()>
+    ensures { OnOk result (Appends (W.contents err.old) (W.contents err.new) (spec.contexts_line file.now fault)) }
+{
+    writeln!(err, "actrun: flow {file} {}", flow_name(fault))
+}
+
+/// Says that a text is no expression, in one line.
+fn say_expression<W: Write>(err: &mut W, fault: ExprFault) -> io::Result<()>
+    ensures { OnOk result (Appends (W.contents err.old) (W.contents err.new) (spec.expression_line fault)) }
+{
+    writeln!(
+        err,
+        "actrun: expr {} at {}",
+        expr_name(fault),
+        expr_place(fault)
+    )
+}
+
+/// Says that an evaluation has a fault, in one line.
+fn say_evaluation<W: Write>(err: &mut W, fault: ValueFault) -> io::Result<()>
+    ensures { OnOk result (Appends (W.contents err.old) (W.contents err.new) (spec.evaluation_line fault)) }
+{
+    writeln!(err, "actrun: value {}", value_name(fault))
+}
+
 /// Says why an expression has no value, in one line; a trouble with the contexts names their file.
-fn say<W: Write>(err: &mut W, file: &str, trouble: &EvalTrouble) -> io::Result<()>
-    ensures { OnOk result (Appends (W.contents err.old) (W.contents err.new) (spec.trouble_line file.now trouble.now)) }
+fn say<W: Write>(err: &mut W, file: &str, trouble: EvalTrouble) -> io::Result<()>
+    ensures { OnOk result (Appends (W.contents err.old) (W.contents err.new) (spec.trouble_line file.now trouble)) }
 {
     match trouble {
-        EvalTrouble::BadContexts(fault) => writeln!(
-            err,
-            "actrun: flow {file} {}",
-            flow_name(*fault)
-        ),
-        EvalTrouble::NoExpression(fault) => writeln!(
-            err,
-            "actrun: expr {} at {}",
-            expr_name(*fault),
-            expr_place(*fault)
-        ),
-        EvalTrouble::NoValue(fault) => writeln!(err, "actrun: value {}", value_name(*fault)),
+        EvalTrouble::BadContexts(fault) => say_contexts(err, file, fault),
+        EvalTrouble::NoExpression(fault) => say_expression(err, fault),
+        EvalTrouble::NoValue(fault) => say_evaluation(err, fault),
         EvalTrouble::Memory => writeln!(err, "actrun: memory"),
     }
 }
 
 /// Says why an expression has no value, and gives the exit status.
-fn refuse<E: Write>(err: &mut E, file: &str, trouble: &EvalTrouble) -> io::Result<u8>
-    ensures line { OnOk result (Appends (E.contents err.old) (E.contents err.new) (spec.trouble_line file.now trouble.now)) }
-    ensures status { IfOk result (λ status. status ≡ spec.trouble_status trouble.now) }
+fn refuse<E: Write>(err: &mut E, file: &str, trouble: EvalTrouble) -> io::Result<u8>
+    ensures line { OnOk result (Appends (E.contents err.old) (E.contents err.new) (spec.trouble_line file.now trouble)) }
+    ensures status { IfOk result (λ status. status ≡ spec.trouble_status trouble) }
 {
     say(err, file, trouble)?;
     match trouble {
@@ -229,7 +246,7 @@ fn tell<O: Write, E: Write>(
             out.write_all(line.as_bytes())?;
             Ok(0)
         },
-        Err(trouble) => refuse(err, file, &trouble),
+        Err(trouble) => refuse(err, file, trouble),
     }
 }
 
@@ -255,7 +272,7 @@ pub fn eval<R: Read, O: Write, E: Write>(
     let mut bytes = Vec::new(alloc);
     if let Err(error) = reader.read_to_end(&mut bytes) {
         if error.kind() == ErrorKind::OutOfMemory {
-            return refuse(err, file, &EvalTrouble::Memory);
+            return refuse(err, file, EvalTrouble::Memory);
         }
         return Err(error);
     }
