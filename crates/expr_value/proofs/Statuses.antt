@@ -1,5 +1,5 @@
 -- What names no status function does not see the status.
-use Rattle.std.proofs.Common.{rules, arith, ◌≡◌, ℕ, Bool, true, false, ◌||◌, cond, Result, Ok, Err, List, [], ◌∷◌, refl, sym, ap, ◌∙◌}
+use Rattle.std.proofs.Common.{rules, ◌≡◌, ℕ, true, false, ◌||◌, Result, Ok, Err, List, [], ◌∷◌, refl, ap, ◌∙◌}
 use Rattle.std.proofs.lemmas.Bool.{or_parts, or_from, cond-false}
 use Rattle.expr_reader.specs.Expr.{Expr, Exprs, literal, context, call, group, property, index, wildcard, opposite, relation, equality, both, either, none, more}
 use Rattle.expr_reader.specs.Template.{Piece, plain, marked, is_status, expr_names_status, any_names_status, piece_names_status, names_status}
@@ -7,7 +7,7 @@ use Rattle.expr_reader.specs.declared.tree.Function.{Function}
 use Rattle.expr_reader.specs.declared.tree.Function.TheVariants.{Contains, StartsWith, EndsWith, Format, Join, ToJson, FromJson, Success, Failure, Cancelled, Always}
 use Rattle.expr_value.specs.Condition.{condition_holds, truth_value}
 use Rattle.expr_value.specs.Context.{Contexts}
-use Rattle.expr_value.specs.Evaluate.{Answer, Chain, ended, begun, then_value, all_values, call_value, conjunction, disjunction, opposite_value, relation_value, equality_value, of_two, property_chain, index_chain, all_chain, chain, answers, value, evaluated}
+use Rattle.expr_value.specs.Evaluate.{Answer, Chain, ended, begun, then_value, all_values, call_value, conjunction, disjunction, opposite_value, relation_value, equality_value, of_two, property_chain, index_chain, all_chain, chain, answers, value}
 use Rattle.expr_value.specs.Functions.{called, is_success}
 use Rattle.expr_value.specs.Limit.{last_value}
 use Rattle.expr_value.specs.Template.{text_answer, piece_text, with_text, pieces_text, limited_text, template_value}

@@ -1,4 +1,4 @@
-use Rattle.std.proofs.Common.{◌≡◌, subst}
+use Rattle.std.proofs.Common.{subst}
 use Rattle.expr_reader.specs.TemplateView.{template_of}
 use Rattle.expr_value.proofs.Statuses.{template_alike}
 use Rattle.expr_value.specs.Answer.{Gives}
