@@ -1,4 +1,4 @@
-use Rattle.std.proofs.Common.{◌≡◌, List, [], ◌∷◌, ◌++◌, Result, Ok, Err, refl, ap, append_assoc}
+use Rattle.std.proofs.Common.{◌≡◌, List, [], ◌++◌, Result, Ok, Err, refl, ap, append_assoc}
 use Rattle.flow_model.specs.declared.reply.ValueFault.{ValueFault}
 
 -- A list with what comes before it, where it is no fault.

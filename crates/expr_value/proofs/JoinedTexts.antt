@@ -1,5 +1,5 @@
 -- The texts of a template's pieces, one after the other.
-use Rattle.std.proofs.Common.{◌≡◌, ℕ, Bool, true, false, not, nat_le, cond, Some, Option, Result, Ok, Err, List, [], ◌++◌, length, refl, sym, ap, ◌∙◌}
+use Rattle.std.proofs.Common.{◌≡◌, ℕ, Bool, true, false, not, nat_le, cond, Some, Option, Result, Ok, Err, List, [], length, refl, sym, ap, ◌∙◌}
 use Rattle.expr_value.proofs.Growing.{grown_grown, grown_nothing, limited_grown}
 use Rattle.expr_value.specs.Answer.{Gives}
 use Rattle.expr_value.specs.Bounded.{grown, grown_value, FitsLimit}

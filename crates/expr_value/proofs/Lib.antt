@@ -10,3 +10,4 @@ mod Mirror
 mod Runs
 mod Searches
 mod JoinedTexts
+mod Statuses

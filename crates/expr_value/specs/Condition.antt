@@ -1,6 +1,6 @@
 -- Whether a condition holds (GitHub Docs, "Evaluate expressions in workflows and actions": status check
 -- functions).
-use Rattle.std.specs.Prelude.{Bool, true, false, ◌||◌, if◌then◌else◌, Result, Ok, Err, List}
+use Rattle.std.specs.Prelude.{Bool, false, ◌||◌, if◌then◌else◌, Result, Ok, Err, List}
 use Rattle.expr_reader.specs.Template.{Piece, names_status}
 use Rattle.expr_value.specs.Context.{Contexts}
 use Rattle.expr_value.specs.Evaluate.{Answer, is_truthy}

@@ -1,6 +1,6 @@
 -- A value as a text, as a number and as a truth value (GitHub Docs, "Evaluate expressions in workflows and
 -- actions": operators, type conversions).
-use Rattle.std.specs.Prelude.{ℕ, ℤ, pos, Bool, true, false, not, ◌==◌, if◌then◌else◌, Option, Some, None, Result, Ok, Err, List, [], length, codes}
+use Rattle.std.specs.Prelude.{ℕ, ℤ, pos, Bool, true, false, not, ◌==◌, if◌then◌else◌, Option, Some, None, Result, Ok, List, [], length, codes}
 use Rattle.std.specs.Fmt.{signed_decimal}
 use Rattle.std.specs.Ordering.{int_eq}
 use Rattle.expr_value.specs.Kind.{Kind, null, truth, whole, text, list, map}

@@ -1,6 +1,6 @@
 -- Properties, items and filtered lists (GitHub Docs, "Evaluate expressions in workflows and actions": object
 -- filters).
-use Rattle.std.specs.Prelude.{ℕ, ℤ, pos, negsuc, Bool, true, false, nat_eq, if◌then◌else◌, Option, Some, None, Result, Ok, Err, List, [], ◌∷◌, ◌++◌}
+use Rattle.std.specs.Prelude.{ℕ, ℤ, pos, negsuc, Bool, if◌then◌else◌, Option, Some, None, Result, Ok, Err, List, [], ◌∷◌}
 use Rattle.std.specs.Cmp.Lexicographic.{slice_cmp}
 use Rattle.std.specs.List.{slice_get, filter_map, cons_option, flat_map}
 use Rattle.std.specs.Option.{option_or}

@@ -1,6 +1,6 @@
 -- The value of an expression over a finite map of contexts and a status: parts are evaluated from the left, and
 -- the first fault is the answer.
-use Rattle.std.specs.Prelude.{ℕ, Bool, true, false, not, if◌then◌else◌, Option, Some, None, Result, Ok, Err, List, [], ◌∷◌}
+use Rattle.std.specs.Prelude.{ℕ, Bool, true, false, not, if◌then◌else◌, Result, Ok, Err, List, [], ◌∷◌}
 use Rattle.expr_reader.specs.Expr.{Constant, null, truth, whole, quoted, Expr, Exprs, literal, context, call, group, property, index, wildcard, opposite, relation, equality, both, either, none, more}
 use Rattle.expr_reader.specs.declared.tree.Equality.{Equality}
 use Rattle.expr_reader.specs.declared.tree.Function.{Function}
@@ -8,7 +8,7 @@ use Rattle.expr_reader.specs.declared.tree.Relation.{Relation}
 use Rattle.expr_value.specs.Compare.{equals, equality_of, related}
 use Rattle.expr_value.specs.Context.{Contexts, context_value}
 use Rattle.expr_value.specs.Convert.{truth_of}
-use Rattle.expr_value.specs.Dereference.{Found, one, filtered, outside, property_found, index_found, all_found}
+use Rattle.expr_value.specs.Dereference.{Found, one, outside, property_found, index_found, all_found}
 use Rattle.expr_value.specs.Functions.{called}
 use Rattle.expr_value.specs.Kind.{kind_of}
 use Rattle.expr_value.specs.Limit.{last_value}

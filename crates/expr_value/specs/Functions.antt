@@ -1,6 +1,6 @@
 -- The functions (GitHub Docs, "Evaluate expressions in workflows and actions": functions, status check
 -- functions).
-use Rattle.std.specs.Prelude.{ℕ, Bool, true, false, not, ◌&&◌, ◌||◌, ◌==◌, nat_eq, Option, Some, None, Result, Ok, Err, List, [], ◌∷◌, length, map, codes, if◌then◌else◌}
+use Rattle.std.specs.Prelude.{ℕ, Bool, true, false, not, ◌&&◌, ◌||◌, ◌==◌, nat_eq, Option, Some, None, Result, Ok, Err, List, [], ◌∷◌, length, map, codes}
 use Rattle.std.specs.List.{list_any, starts_with, ends_with, join_by}
 use Rattle.serde_json.specs.Data.{Data}
 use Rattle.serde_json.specs.Read.{read}

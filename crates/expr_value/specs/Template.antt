@@ -1,6 +1,5 @@
 -- The value of a template.
 use Rattle.std.specs.Prelude.{ℕ, Result, Ok, Err, List, [], ◌∷◌, ◌++◌}
-use Rattle.expr_reader.specs.Expr.{Expr}
 use Rattle.expr_reader.specs.Template.{Piece, plain, marked}
 use Rattle.expr_value.specs.Context.{Contexts}
 use Rattle.expr_value.specs.Evaluate.{Answer, value, evaluated}

@@ -112,7 +112,11 @@ fn lent(node: Option<&Node>) -> Option<Item<'_>>
 }
 
 // The property of an item, where it is a map that has it.
-fn item_property<'a>(alloc: Global, item: &Item<'a>, name: &str) -> Result<Option<Item<'a>>, AllocError>
+fn item_property<'a>(
+    alloc: Global,
+    item: &Item<'a>,
+    name: &str,
+) -> Result<Option<Item<'a>>, AllocError>
     ensures { IfOk result (λ found. maybe_seen found ≡ property_of_value name.now (item_seen item.now)) }
 {
     match item {
@@ -141,7 +145,11 @@ fn item_index<'a>(
 }
 
 // The item at a number, from 0.
-fn place_of<'a>(alloc: Global, items: &[Item<'a>], number: Option<i64>) -> Result<Option<Item<'a>>, AllocError>
+fn place_of<'a>(
+    alloc: Global,
+    items: &[Item<'a>],
+    number: Option<i64>,
+) -> Result<Option<Item<'a>>, AllocError>
     ensures { IfOk result (λ found. maybe_seen found ≡ item_at number (items_seen items.now)) }
 {
     match number {
@@ -206,7 +214,11 @@ fn operand_index<'a>(
 }
 
 // The property of each item that has it.
-fn properties<'a>(alloc: Global, items: &[Item<'a>], name: &str) -> Result<Vec<Item<'a>>, AllocError>
+fn properties<'a>(
+    alloc: Global,
+    items: &[Item<'a>],
+    name: &str,
+) -> Result<Vec<Item<'a>>, AllocError>
     ensures { IfOk result (λ found. items_seen found.items
         ≡ filter_map (property_of_value name.now) (items_seen items.now)) }
 {
@@ -264,7 +276,12 @@ pub(crate) fn index_found<'a>(
     let name = text_of_kind(alloc, index)?;
     match found {
         Found::One(operand) => Ok(or_null(operand_index(alloc, operand, index, name.as_str())?)),
-        Found::Filtered(items) => Ok(Found::Filtered(indexes(alloc, items.as_slice(), index, name.as_str())?)),
+        Found::Filtered(items) => Ok(Found::Filtered(indexes(
+            alloc,
+            items.as_slice(),
+            index,
+            name.as_str(),
+        )?)),
     }
 }
 

@@ -46,7 +46,11 @@ fn literal_node(alloc: Global, literal: &Literal) -> Result<Node, AllocError>
 }
 
 // The value of a context, lent; one that is not given is an empty map.
-fn context_found<'a, C: Context>(alloc: Global, contexts: &'a C, context: expr_reader::Context) -> Found<'a>
+fn context_found<'a, C: Context>(
+    alloc: Global,
+    contexts: &'a C,
+    context: expr_reader::Context,
+) -> Found<'a>
     ensures { found_seen result ≡ one (context_value (C.contexts contexts.now) context) }
 {
     match contexts.root(context.name()) {
@@ -100,8 +104,18 @@ fn chain<'a, C: Context>(
             let right = evaluate(alloc, right, contexts, status)?;
             Ok(begun(Node::Truth(equality(*test, left.kind(), right.kind())?)))
         },
-        Tree::Both(parts) => Ok(Found::One(conjunction(alloc, parts.as_slice(), contexts, status)?)),
-        Tree::Either(parts) => Ok(Found::One(disjunction(alloc, parts.as_slice(), contexts, status)?)),
+        Tree::Both(parts) => Ok(Found::One(conjunction(
+            alloc,
+            parts.as_slice(),
+            contexts,
+            status,
+        )?)),
+        Tree::Either(parts) => Ok(Found::One(disjunction(
+            alloc,
+            parts.as_slice(),
+            contexts,
+            status,
+        )?)),
     }
 }
 

@@ -26,7 +26,10 @@ fn push_nodes<'a>(nodes: &'a [Node], found: &mut Vec<Item<'a>>) -> Result<(), Al
 }
 
 // Adds the values of a map, lent.
-fn push_values<'a>(members: &'a BTreeMap<String, Node>, found: &mut Vec<Item<'a>>) -> Result<(), AllocError>
+fn push_values<'a>(
+    members: &'a BTreeMap<String, Node>,
+    found: &mut Vec<Item<'a>>,
+) -> Result<(), AllocError>
     ensures { OnOk result (items_seen found.new.items
         ≡ items_seen found.old.items ++ values_of (plain.members_of (viewed (pairs_of members.now.entries)))) }
 {
@@ -37,7 +40,11 @@ fn push_values<'a>(members: &'a BTreeMap<String, Node>, found: &mut Vec<Item<'a>
 }
 
 // Adds copies of the items of a list.
-fn push_node_copies(alloc: Global, nodes: &[Node], found: &mut Vec<Item<'_>>) -> Result<(), AllocError>
+fn push_node_copies(
+    alloc: Global,
+    nodes: &[Node],
+    found: &mut Vec<Item<'_>>,
+) -> Result<(), AllocError>
     ensures { OnOk result (items_seen found.new.items ≡ items_seen found.old.items ++ views nodes.now) }
 {
     for node in nodes {

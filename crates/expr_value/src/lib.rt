@@ -13,6 +13,7 @@ mod compare;
 mod context;
 mod dereference;
 mod evaluate;
+mod evaluation_laws;
 mod filter;
 mod format;
 mod function_laws;
@@ -32,9 +33,15 @@ mod truth;
 mod values;
 
 pub use context::Context;
+pub use evaluation_laws::{
+    always_is_true, condition_waits_for_success, expression_without_status, template_without_status,
+};
 pub use function_laws::{format_with_doubled_braces, format_without_braces};
 pub use laws::{equality_is_symmetric, inequality_is_opposite, relations_mirror};
 pub use status::Status;
 pub use template::{eval, eval_condition, eval_text};
 pub use text::to_text;
 pub use values::{loose_eq, truthy};
+
+#[cfg(test)]
+mod tests;

@@ -11,7 +11,7 @@ ghost use Rattle.expr_value.specs.Joined.{grown_answer, is_too_large as is_too_l
 ghost use Rattle.expr_value.specs.Limit.{last_value as last_value_of};
 ghost use Rattle.expr_value.specs.Seen.{kind_seen, operand_seen};
 ghost use Rattle.expr_value.specs.Template.{limited_text, pieces_text, piece_text, text_answer, template_value as template_value_of};
-ghost use Rattle.expr_value.specs.declared.status.Status.TheVariants.{Success};
+ghost use Rattle.expr_value.specs.declared.status.Status.{Status};
 ghost use Rattle.flow_model.specs.Value.{view};
 
 use crate::bounded::{Bounded, MOST_BYTES};
@@ -128,6 +128,20 @@ fn template_value<'a, C: Context>(
     }
 }
 
+// The value of a template, apart from the contexts.
+fn owned_value<C: Context>(
+    alloc: Global,
+    template: &Template,
+    contexts: &C,
+    status: Status,
+) -> Result<Value, ValueFault>
+    ensures { Gives (λ value. value) result
+        (template_value_of (C.contexts contexts.now) status (template_of template.now)) }
+{
+    let operand = template_value(alloc, template, contexts, status)?;
+    Ok(into_value(alloc, operand)?)
+}
+
 /// The value of an expression over contexts and a status (GitHub Docs, "Evaluate expressions in workflows and
 /// actions"). Parts are evaluated from the left, and what `&&` and `||` do not need is not evaluated.
 ///
@@ -149,7 +163,7 @@ pub fn eval<C: Context>(
 }
 
 /// The value of a template: of exactly one expression and nothing else that expression's value, else the join of the
-/// texts of its pieces. The template names no status function.
+/// texts of its pieces. The template names no status function, and has that value under every status.
 ///
 /// # Errors
 ///
@@ -160,11 +174,10 @@ pub fn eval_text<C: Context>(
     contexts: &C,
 ) -> Result<Value, ValueFault>
     requires { names_status_of (template_of template.now) ≡ false }
-    ensures { Gives (λ value. value) result
-        (template_value_of (C.contexts contexts.now) Success (template_of template.now)) }
+    ensures { (s : Status) → Gives (λ value. value) result
+        (template_value_of (C.contexts contexts.now) s (template_of template.now)) }
 {
-    let operand = template_value(alloc, template, contexts, Status::Success)?;
-    Ok(into_value(alloc, operand)?)
+    owned_value(alloc, template, contexts, Status::Success)
 }
 
 /// Whether a condition holds: the truth of its value. One that names no status function does not hold, and is not

@@ -1,4 +1,4 @@
-use Rattle.std.proofs.Common.{◌≡◌, List, ℕ, Option, Result, Ok, ap, sym, subst, ◌∙◌}
+use Rattle.std.proofs.Common.{List, ℕ, Option, Result, Ok, ap, sym, subst, ◌∙◌}
 use Rattle.expr_value.proofs.Lists.{items-again}
 use Rattle.expr_value.specs.Answer.{Gives}
 use Rattle.expr_value.specs.Convert.{number_of}

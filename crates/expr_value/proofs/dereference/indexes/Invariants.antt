@@ -1,5 +1,5 @@
-use Rattle.std.proofs.Common.{◌≡◌, ◌++◌, ℕ, ◌+◌, length, take, drop}
-use Rattle.expr_value.specs.Seen.{item_seen, items_seen, operand_seen, operands_seen, found_seen, kind_seen}
+use Rattle.std.proofs.Common.{◌≡◌, drop}
+use Rattle.expr_value.specs.Seen.{items_seen, kind_seen}
 use Rattle.expr_value.specs.Dereference.{index_each}
 use Rattle.expr_value.proofs.Fronts.{with_front}
 use Rattle.expr_value.proofs.dereference.indexes.Given as goal

@@ -1,4 +1,4 @@
-use Rattle.std.proofs.Common.{◌≡◌, true, Some, None, List, ◌∷◌, String, Global, string_bytes, ap, sym, ◌∙◌}
+use Rattle.std.proofs.Common.{◌≡◌, true, Some, None, List, String, Global, string_bytes, ap, sym, ◌∙◌}
 use Rattle.std.specs.Option.{option_copied}
 use Rattle.expr_value.proofs.Lists.{property_in-exact, property_in-alike, first_at-here}
 use Rattle.expr_value.specs.Dereference.{first_at, is_alike}

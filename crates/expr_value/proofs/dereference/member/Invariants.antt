@@ -1,5 +1,5 @@
 use Rattle.std.proofs.Common.{◌≡◌}
-use Rattle.expr_value.specs.Dereference.{first_at, is_same, is_alike}
+use Rattle.expr_value.specs.Dereference.{first_at, is_alike}
 use Rattle.flow_model.specs.Mapping.{pairs_of}
 use Rattle.flow_model.specs.Plain as plain
 use Rattle.flow_model.specs.Value.{viewed}

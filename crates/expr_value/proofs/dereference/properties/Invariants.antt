@@ -1,5 +1,5 @@
-use Rattle.std.proofs.Common.{◌≡◌, ◌++◌, ℕ, ◌+◌, length, take, drop}
-use Rattle.expr_value.specs.Seen.{item_seen, items_seen, operand_seen, operands_seen, found_seen}
+use Rattle.std.proofs.Common.{◌≡◌, ◌++◌, drop}
+use Rattle.expr_value.specs.Seen.{items_seen}
 use Rattle.std.specs.List.{filter_map}
 use Rattle.expr_value.specs.Dereference.{property_of}
 use Rattle.expr_value.proofs.dereference.properties.Given as goal

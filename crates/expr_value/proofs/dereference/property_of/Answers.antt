@@ -1,4 +1,4 @@
-use Rattle.std.proofs.Common.{◌≡◌, ap, sym, ◌∙◌}
+use Rattle.std.proofs.Common.{ap, sym, ◌∙◌}
 use Rattle.expr_value.specs.Dereference.{property_of}
 use Rattle.flow_model.proofs.Nodes.{view-Map}
 use Rattle.flow_model.specs.Value.{view}

@@ -1,5 +1,5 @@
-use Rattle.std.proofs.Common.{◌≡◌, ◌++◌, ℕ, ◌+◌, length, take, drop}
-use Rattle.expr_value.specs.Seen.{item_seen, items_seen, operand_seen, operands_seen, found_seen}
+use Rattle.std.proofs.Common.{◌≡◌, take}
+use Rattle.expr_value.specs.Seen.{items_seen}
 use Rattle.expr_value.proofs.filter.all_again.Given as goal
 
 abbrev pub invariant-loop-item : goal.invariant-loop-item

@@ -1,6 +1,6 @@
-use Rattle.std.proofs.Common.{◌≡◌, ◌++◌, ℕ, ◌+◌, length, take, drop}
-use Rattle.expr_value.specs.Seen.{item_seen, items_seen, operand_seen, operands_seen, found_seen}
-use Rattle.flow_model.specs.Value.{view, views, viewed}
+use Rattle.std.proofs.Common.{◌≡◌, ◌++◌, take}
+use Rattle.expr_value.specs.Seen.{items_seen}
+use Rattle.flow_model.specs.Value.{views}
 use Rattle.expr_value.proofs.filter.push_node_copies.Given as goal
 
 -- what was added is what stands before the place

@@ -1,6 +1,6 @@
-use Rattle.std.proofs.Common.{◌≡◌, ◌++◌, ℕ, ◌+◌, length, take, drop}
-use Rattle.expr_value.specs.Seen.{item_seen, items_seen, operand_seen, operands_seen, found_seen}
-use Rattle.flow_model.specs.Value.{view, views, viewed}
+use Rattle.std.proofs.Common.{◌≡◌, ◌++◌}
+use Rattle.expr_value.specs.Seen.{items_seen}
+use Rattle.flow_model.specs.Value.{viewed}
 use Rattle.flow_model.specs.Mapping.{pairs_of}
 use Rattle.flow_model.specs.Plain as plain
 use Rattle.expr_value.specs.Kind.{values}

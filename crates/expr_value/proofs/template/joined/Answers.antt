@@ -1,10 +1,10 @@
-use Rattle.std.proofs.Common.{rules, arith, ◌≡◌, ◌+◌, ◌∷◌, Some, [], List, map, drop, ap, sym, ◌∙◌}
+use Rattle.std.proofs.Common.{rules, arith, ◌≡◌, ◌+◌, ◌∷◌, List, map, drop, ap, sym, ◌∙◌}
 use Rattle.std.proofs.lemmas.Result.{err_from_is_err_and}
 use Rattle.expr_reader.specs.TemplateView.{piece_of}
 use Rattle.expr_reader.specs.declared.template.Piece.{Piece}
 use Rattle.expr_value.proofs.JoinedTexts.{fault_stands, joined_first, joined_step}
 use Rattle.expr_value.specs.Joined.{joined_onto}
-use Rattle.expr_value.specs.Template.{limited_text, piece_text, pieces_text, with_text}
+use Rattle.expr_value.specs.Template.{pieces_text}
 use Rattle.flow_model.proofs.Conversions.{drop-next}
 use Rattle.flow_model.specs.Value.{view}
 use Rattle.expr_value.proofs.template.joined.Goals as goal

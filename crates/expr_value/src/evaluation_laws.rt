@@ -1,0 +1,36 @@
+//! Laws of evaluation and of the status, each the contract of a function that does nothing.
+
+ghost use Rattle.std.specs.Prelude.{◌≡◌, false, List, Ok, true};
+ghost use Rattle.expr_reader.specs.Expr.{Expr, call, none};
+ghost use Rattle.expr_reader.specs.Template.{Piece, expr_names_status, names_status};
+ghost use Rattle.expr_reader.specs.declared.tree.Function.TheVariants.{Always};
+ghost use Rattle.expr_value.specs.Condition.{condition_holds};
+ghost use Rattle.expr_value.specs.Context.{Contexts};
+ghost use Rattle.expr_value.specs.Evaluate.{value};
+ghost use Rattle.expr_value.specs.Functions.{is_success};
+ghost use Rattle.expr_value.specs.Template.{template_value};
+ghost use Rattle.expr_value.specs.declared.status.Status.{Status};
+ghost use Rattle.flow_model.specs.Plain as plain;
+
+/// `always()` is true, whatever the status.
+pub fn always_is_true()
+    ensures { (c : Contexts) (s : Status) → value c s (call Always none) ≡ Ok (plain.truth true) }
+{}
+
+/// A condition that names no status function does not hold where the status is not success, whatever it says.
+pub fn condition_waits_for_success()
+    ensures { (c : Contexts) (s : Status) (condition : List Piece)
+        → names_status condition ≡ false → is_success s ≡ false → condition_holds c s condition ≡ Ok false }
+{}
+
+/// An expression that names no status function has one value, or one fault, under every status.
+pub fn expression_without_status()
+    ensures { (c : Contexts) (s t : Status) (expression : Expr)
+        → expr_names_status expression ≡ false → value c s expression ≡ value c t expression }
+{}
+
+/// A template has one value, or one fault, under every status, since it names no status function.
+pub fn template_without_status()
+    ensures { (c : Contexts) (s t : Status) (template : List Piece)
+        → names_status template ≡ false → template_value c s template ≡ template_value c t template }
+{}
