@@ -18,7 +18,7 @@ mod tests;
 mod trouble;
 mod words;
 
-use std::io::Write;
+use std::io::{ErrorKind, Write};
 use std::process::ExitCode;
 use std::{env, io};
 
@@ -26,8 +26,12 @@ fn main(rt: HostRuntime) -> io::Result<ExitCode> {
     let mut err = rt.stderr();
     match status(&rt, &mut err) {
         Ok(status) => Ok(ExitCode::from(status)),
-        Err(_) => {
-            writeln!(err, "actrun: io")?;
+        Err(error) => {
+            if error.kind() == ErrorKind::OutOfMemory {
+                writeln!(err, "actrun: memory")?;
+            } else {
+                writeln!(err, "actrun: io")?;
+            }
             Ok(ExitCode::from(3))
         },
     }
