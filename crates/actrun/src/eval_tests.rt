@@ -1,5 +1,6 @@
 // The examples of expressions, told from text to text.
 use crate::eval::eval;
+use crate::words::run;
 use std::alloc::Global;
 use std::io;
 use std::process::Abort;
@@ -140,6 +141,31 @@ fn contexts_of_each_kind(rt: HostRuntime) -> io::Result<()> {
         ("[]", wrong_shape),
     ] {
         assert_told(&rt, rt.alloc(), file, &told)?;
+    }
+    Ok(())
+}
+
+/// The status, the bytes written to `out`, and those to `err`, for the words of a command that reads nothing.
+fn told_of(rt: &HostRuntime, words: &[&str]) -> io::Result<(u8, Vec<u8>, Vec<u8>)> {
+    let alloc = rt.alloc();
+    let mut owned = Vec::new(alloc);
+    for word in words {
+        owned.push(String::from_str(alloc, *word)?)?;
+    }
+    let mut input = "".as_bytes();
+    let mut out = Vec::new(alloc);
+    let mut err = Vec::new(alloc);
+    let status = run(rt, alloc, owned.as_slice(), &mut input, &mut out, &mut err)?;
+    Ok((status, out, err))
+}
+
+#[test]
+fn eval_without_expression(rt: HostRuntime) -> io::Result<()> {
+    for words in [["actrun", "eval"], ["actrun", "nothing"]] {
+        let (status, out, err) = told_of(&rt, words.as_slice())?;
+        assert_eq!(rt; out.len(), 0);
+        assert_eq!(rt; err.as_slice(), "actrun: words\n".as_bytes());
+        assert_eq!(rt; status, 2);
     }
     Ok(())
 }
