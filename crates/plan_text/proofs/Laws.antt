@@ -12,7 +12,7 @@ use Rattle.serde_json.specs.Data.{Num, unsigned, negative, float, Data, null, bo
 use Rattle.serde_json.specs.View.{items_of}
 use Rattle.serde_json.specs.Written.{has_float, items_have_float, members_have_float}
 use Rattle.flow_model.specs.Rules.{all_there}
-use Rattle.plan_text.specs.Parts.{number_data, optional_data, list_data, pair_members, map_data, Reading, and_then, map_read, or_refused, within, text_of, truth_of, natural_of, number_of, optional_of, items_read, list_of, pairs_read, map_of, next_member, field, no_more, object_of, word_of, numeral_of}
+use Rattle.plan_text.specs.Parts.{number_data, optional_data, list_data, pair_members, map_data, Reading, and_then, map_read, or_refused, within, text_of, truth_of, natural_of, number_of, optional_of, items_read, list_of, pairs_read, map_of, next_member, first_field, field, no_more, object_of, word_of, numeral_of}
 
 -- A part's writing and its reading fit together: what is written of a part that fits is read again, a part
 -- is read only from what is written of it, and what is written nests at most n deep and has no float.
@@ -293,12 +293,15 @@ module _ {A B : Type 0} {write : A → Data} {read : Data → Reading A} {fits :
 
   field_only : (ms : Members) (p : A × B) → field key read reads ms ≡ Ok p → ms ≡ member key (write p.0) (writes p.1)
   field_only ms p e =
-      let r = from_and_then _ (next_member key ms) p e in
-      let s = from_and_then _ (within key (read r.0.0)) p r.1.1 in
-      let t = from_and_then _ (reads r.0.1) p s.1.1 in
-      next_only key ms r.0 r.1.0
-      ∙ (λ i. member key (law.only r.0.0 s.0 (from_within key (read r.0.0) s.0 s.1.0) i) (rest.only r.0.1 t.0 t.1.0 i))
-      ∙ ap (λ q. member key (write q.0) (writes q.1)) (Ok-inj _ _ t.1.1)
+      let r = from_and_then _ (first_field key read ms) p e in
+      let s = from_and_then _ (next_member key ms) r.0 r.1.0 in
+      let t = from_map_read (λ a. (a, s.0.1)) (within key (read s.0.0)) r.0 s.1.1 in
+      let u = from_map_read (λ b. (r.0.0, b)) (reads r.0.1) p r.1.1 in
+      next_only key ms s.0 s.1.0
+      ∙ ap (λ d. member key d s.0.1) (law.only s.0.0 t.0 (from_within key (read s.0.0) t.0 t.1.0))
+      ∙ ap (λ q. member key (write q.0) q.1) t.1.1
+      ∙ ap (λ left. member key (write r.0.0) left) (rest.only r.0.1 u.0 u.1.0)
+      ∙ ap (λ q. member key (write q.0) (writes q.1)) u.1.1
 
   pub field_reads : ReadsMembers (λ p. member key (write p.0) (writes p.1)) (field key read reads) (λ p. fits p.0 && fit p.1) n
   field_reads = record {

@@ -161,9 +161,13 @@ abbrev pub next_member : List ℕ → Members → Reading (Data × Members)
 next_member key no_members = Err key
 next_member key (member found d ms) = match_ordering (slice_cmp nat_cmp found key) (Err found) (Ok (d, ms)) (Err key)
 
+-- the part at the next key, and the members after it
+abbrev pub first_field : {A : Type 0} → List ℕ → (Data → Reading A) → Members → Reading (A × Members)
+first_field key of ms = and_then (λ m. map_read (λ a. (a, m.1)) (within key (of m.0))) (next_member key ms)
+
 -- the part at the next key, and the rest
 abbrev pub field : {A B : Type 0} → List ℕ → (Data → Reading A) → (Members → Reading B) → Members → Reading (A × B)
-field key of rest ms = and_then (λ m. and_then (λ a. and_then (λ b. Ok (a, b)) (rest m.1)) (within key (of m.0))) (next_member key ms)
+field key of rest ms = and_then (λ f. map_read (λ b. (f.0, b)) (rest f.1)) (first_field key of ms)
 
 -- no further member
 abbrev pub no_more : Members → Reading ⊤

@@ -4,7 +4,7 @@ ghost use Rattle.plan_text.specs.Answer.{Gives};
 ghost use Rattle.plan_text.specs.JobParts.{tail_parts};
 ghost use Rattle.plan_text.specs.Reading.{job_tail};
 
-use crate::reading::{FromJson, Unread, members_of, next_member, no_more, part};
+use crate::reading::{FromJson, Unread, field, members_of, no_more};
 use flow_model::{Flag, JobPlan, Mapping, Sequence, StepPlan, Text};
 use serde_json::Value;
 use std::alloc::Global;
@@ -28,22 +28,13 @@ impl FromJson for JobPlan {
 
     fn from_json(alloc: Global, json: &Value) -> Result<JobPlan, Unread> {
         let mut members = members_of(alloc, json)?;
-        let condition = part(
-            alloc,
-            "condition",
-            next_member(alloc, &mut members, "condition")?,
-        )?;
-        let env = part(alloc, "env", next_member(alloc, &mut members, "env")?)?;
-        let fail_fast = part(
-            alloc,
-            "fail_fast",
-            next_member(alloc, &mut members, "fail_fast")?,
-        )?;
-        let group = part(alloc, "group", next_member(alloc, &mut members, "group")?)?;
-        let id = part(alloc, "id", next_member(alloc, &mut members, "id")?)?;
-        let legs = part(alloc, "legs", next_member(alloc, &mut members, "legs")?)?;
-        let limit = next_member(alloc, &mut members, "max_parallel")?;
-        let max_parallel = part(alloc, "max_parallel", limit)?;
+        let condition = field(alloc, &mut members, "condition")?;
+        let env = field(alloc, &mut members, "env")?;
+        let fail_fast = field(alloc, &mut members, "fail_fast")?;
+        let group = field(alloc, &mut members, "group")?;
+        let id = field(alloc, &mut members, "id")?;
+        let legs = field(alloc, &mut members, "legs")?;
+        let max_parallel = field(alloc, &mut members, "max_parallel")?;
         let tail = read_tail(alloc, &mut members)?;
         Ok(JobPlan {
             condition,
@@ -67,12 +58,12 @@ impl FromJson for JobPlan {
 fn read_tail(alloc: Global, members: &mut Iter<'_, String, Value>) -> Result<Tail, Unread>
     ensures { Gives tail_parts result (job_tail (members_view members.old)) }
 {
-    let name = part(alloc, "name", next_member(alloc, members, "name")?)?;
-    let needs = part(alloc, "needs", next_member(alloc, members, "needs")?)?;
-    let number = part(alloc, "number", next_member(alloc, members, "number")?)?;
-    let outputs = part(alloc, "outputs", next_member(alloc, members, "outputs")?)?;
-    let steps = part(alloc, "steps", next_member(alloc, members, "steps")?)?;
-    let tolerate = part(alloc, "tolerate", next_member(alloc, members, "tolerate")?)?;
+    let name = field(alloc, members, "name")?;
+    let needs = field(alloc, members, "needs")?;
+    let number = field(alloc, members, "number")?;
+    let outputs = field(alloc, members, "outputs")?;
+    let steps = field(alloc, members, "steps")?;
+    let tolerate = field(alloc, members, "tolerate")?;
     no_more(alloc, members)?;
     Ok(Tail {
         name,

@@ -4,8 +4,7 @@ ghost use Rattle.plan_text.specs.Answer.{GivesIt};
 ghost use Rattle.plan_text.specs.Reading.{script_of, action_of};
 
 use crate::reading::{
-    FromJson, Unread, expect_number, expect_word, has_word, members_of, next_member, no_more, part,
-    refused,
+    FromJson, Unread, expect_number, expect_word, field, has_word, members_of, no_more, refused,
 };
 use flow_model::{Flag, Group, Plan, Roots, RunPlan, Shell, StepPlan, Text, Work};
 use serde_json::Value;
@@ -32,8 +31,8 @@ impl FromJson for Group {
 
     fn from_json(alloc: Global, json: &Value) -> Result<Group, Unread> {
         let mut members = members_of(alloc, json)?;
-        let cancel = part(alloc, "cancel", next_member(alloc, &mut members, "cancel")?)?;
-        let name = part(alloc, "name", next_member(alloc, &mut members, "name")?)?;
+        let cancel = field(alloc, &mut members, "cancel")?;
+        let name = field(alloc, &mut members, "name")?;
         no_more(alloc, &mut members)?;
         Ok(Group { cancel, name })
     }
@@ -46,14 +45,10 @@ impl FromJson for Roots {
 
     fn from_json(alloc: Global, json: &Value) -> Result<Roots, Unread> {
         let mut members = members_of(alloc, json)?;
-        let github = part(alloc, "github", next_member(alloc, &mut members, "github")?)?;
-        let inputs = part(alloc, "inputs", next_member(alloc, &mut members, "inputs")?)?;
-        let secrets = part(
-            alloc,
-            "secrets",
-            next_member(alloc, &mut members, "secrets")?,
-        )?;
-        let vars = part(alloc, "vars", next_member(alloc, &mut members, "vars")?)?;
+        let github = field(alloc, &mut members, "github")?;
+        let inputs = field(alloc, &mut members, "inputs")?;
+        let secrets = field(alloc, &mut members, "secrets")?;
+        let vars = field(alloc, &mut members, "vars")?;
         no_more(alloc, &mut members)?;
         Ok(Roots {
             github,
@@ -98,15 +93,10 @@ fn read_script(alloc: Global, json: &Value) -> Result<Work, Unread>
     ensures { GivesIt result (script_of (view json.now)) }
 {
     let mut members = members_of(alloc, json)?;
-    let dir = part(alloc, "dir", next_member(alloc, &mut members, "dir")?)?;
-    expect_word(
-        alloc,
-        "kind",
-        "run",
-        next_member(alloc, &mut members, "kind")?,
-    )?;
-    let run = part(alloc, "run", next_member(alloc, &mut members, "run")?)?;
-    let shell = part(alloc, "shell", next_member(alloc, &mut members, "shell")?)?;
+    let dir = field(alloc, &mut members, "dir")?;
+    expect_word(alloc, &mut members, "kind", "run")?;
+    let run = field(alloc, &mut members, "run")?;
+    let shell = field(alloc, &mut members, "shell")?;
     no_more(alloc, &mut members)?;
     Ok(Work::Run { dir, run, shell })
 }
@@ -115,14 +105,9 @@ fn read_action(alloc: Global, json: &Value) -> Result<Work, Unread>
     ensures { GivesIt result (action_of (view json.now)) }
 {
     let mut members = members_of(alloc, json)?;
-    expect_word(
-        alloc,
-        "kind",
-        "uses",
-        next_member(alloc, &mut members, "kind")?,
-    )?;
-    let uses = part(alloc, "uses", next_member(alloc, &mut members, "uses")?)?;
-    let given = part(alloc, "with", next_member(alloc, &mut members, "with")?)?;
+    expect_word(alloc, &mut members, "kind", "uses")?;
+    let uses = field(alloc, &mut members, "uses")?;
+    let given = field(alloc, &mut members, "with")?;
     no_more(alloc, &mut members)?;
     Ok(Work::Uses { uses, given })
 }
@@ -134,20 +119,12 @@ impl FromJson for StepPlan {
 
     fn from_json(alloc: Global, json: &Value) -> Result<StepPlan, Unread> {
         let mut members = members_of(alloc, json)?;
-        let condition = part(
-            alloc,
-            "condition",
-            next_member(alloc, &mut members, "condition")?,
-        )?;
-        let env = part(alloc, "env", next_member(alloc, &mut members, "env")?)?;
-        let id = part(alloc, "id", next_member(alloc, &mut members, "id")?)?;
-        let name = part(alloc, "name", next_member(alloc, &mut members, "name")?)?;
-        let tolerate = part(
-            alloc,
-            "tolerate",
-            next_member(alloc, &mut members, "tolerate")?,
-        )?;
-        let work = part(alloc, "work", next_member(alloc, &mut members, "work")?)?;
+        let condition = field(alloc, &mut members, "condition")?;
+        let env = field(alloc, &mut members, "env")?;
+        let id = field(alloc, &mut members, "id")?;
+        let name = field(alloc, &mut members, "name")?;
+        let tolerate = field(alloc, &mut members, "tolerate")?;
+        let work = field(alloc, &mut members, "work")?;
         no_more(alloc, &mut members)?;
         Ok(StepPlan {
             condition,
@@ -167,12 +144,12 @@ impl FromJson for RunPlan {
 
     fn from_json(alloc: Global, json: &Value) -> Result<RunPlan, Unread> {
         let mut members = members_of(alloc, json)?;
-        let env = part(alloc, "env", next_member(alloc, &mut members, "env")?)?;
-        let event = part(alloc, "event", next_member(alloc, &mut members, "event")?)?;
-        let flow = part(alloc, "flow", next_member(alloc, &mut members, "flow")?)?;
-        let group = part(alloc, "group", next_member(alloc, &mut members, "group")?)?;
-        let jobs = part(alloc, "jobs", next_member(alloc, &mut members, "jobs")?)?;
-        let roots = part(alloc, "roots", next_member(alloc, &mut members, "roots")?)?;
+        let env = field(alloc, &mut members, "env")?;
+        let event = field(alloc, &mut members, "event")?;
+        let flow = field(alloc, &mut members, "flow")?;
+        let group = field(alloc, &mut members, "group")?;
+        let jobs = field(alloc, &mut members, "jobs")?;
+        let roots = field(alloc, &mut members, "roots")?;
         no_more(alloc, &mut members)?;
         Ok(RunPlan {
             env,
@@ -192,13 +169,8 @@ impl FromJson for Plan {
 
     fn from_json(alloc: Global, json: &Value) -> Result<Plan, Unread> {
         let mut members = members_of(alloc, json)?;
-        let runs = part(alloc, "runs", next_member(alloc, &mut members, "runs")?)?;
-        expect_number(
-            alloc,
-            "version",
-            1,
-            next_member(alloc, &mut members, "version")?,
-        )?;
+        let runs = field(alloc, &mut members, "runs")?;
+        expect_number(alloc, &mut members, "version", 1)?;
         no_more(alloc, &mut members)?;
         Ok(Plan { runs })
     }

@@ -3,7 +3,7 @@
 ghost use Rattle.std.specs.Prelude.{◌≡◌, ◌∷◌, ◌++◌, length, decimal, IfOk, Ok, Err, string_bytes, codes, ⊤};
 ghost use Rattle.serde_json.specs.View.{view, items_view, members_view};
 ghost use Rattle.plan_text.specs.Answer.{Gives, GivesIt, IsRefusal, IsWithin};
-ghost use Rattle.plan_text.specs.Parts.{Reading, joined, within, text_of, truth_of, number_of, plain_of, optional_of, items_read, list_of, pairs_read, map_of, members_of, next_member, no_more, word_of, numeral_of, has_word};
+ghost use Rattle.plan_text.specs.Parts.{Reading, joined, within, text_of, truth_of, number_of, plain_of, optional_of, items_read, list_of, pairs_read, map_of, members_of, next_member, first_field, no_more, word_of, numeral_of, has_word};
 
 use flow_model::{JsonFault, Mapping, Sequence, Text};
 use serde_json::Value;
@@ -221,13 +221,26 @@ pub(crate) fn next_member<'v>(
 }
 
 /// The part that stands at a key or place.
-pub(crate) fn part<T: FromJson>(alloc: Global, key: &str, json: &Value) -> Result<T, Unread>
+fn part<T: FromJson>(alloc: Global, key: &str, json: &Value) -> Result<T, Unread>
     ensures { GivesIt result (within key.now (T.reading (view json.now))) }
 {
     match T::from_json(alloc, json) {
         Ok(part) => Ok(part),
         Err(unread) => Err(at(alloc, key, unread)),
     }
+}
+
+/// The part at the next key.
+pub(crate) fn field<T: FromJson>(
+    alloc: Global,
+    members: &mut Iter<'_, String, Value>,
+    key: &str,
+) -> Result<T, Unread>
+    ensures { Gives (λ read. (read, members_view members.new)) result
+        (first_field key.now T.reading (members_view members.old)) }
+{
+    let json = next_member(alloc, members, key)?;
+    part(alloc, key, json)
 }
 
 /// Checks that no member is left.
@@ -240,26 +253,33 @@ pub(crate) fn no_more(alloc: Global, members: &mut Iter<'_, String, Value>) -> R
     }
 }
 
-/// Checks that a text at a key is this word.
-pub(crate) fn expect_word(alloc: Global, key: &str, word: &str, json: &Value) -> Result<(), Unread>
-    ensures { Gives (λ _. tt) result (within key.now (word_of word.now (view json.now))) }
+/// Checks that the text at the next key is this word.
+pub(crate) fn expect_word(
+    alloc: Global,
+    members: &mut Iter<'_, String, Value>,
+    key: &str,
+    word: &str,
+) -> Result<(), Unread>
+    ensures { Gives (λ _. (tt, members_view members.new)) result
+        (first_field key.now (word_of word.now) (members_view members.old)) }
 {
-    match json.as_str() {
+    match next_member(alloc, members, key)?.as_str() {
         Some(text) if text == word => Ok(()),
         _ => Err(refused(alloc, key)),
     }
 }
 
-/// Checks that a number at a key is this one.
+/// Checks that the number at the next key is this one.
 pub(crate) fn expect_number(
     alloc: Global,
+    members: &mut Iter<'_, String, Value>,
     key: &str,
     number: u64,
-    json: &Value,
 ) -> Result<(), Unread>
-    ensures { Gives (λ _. tt) result (within key.now (numeral_of number (view json.now))) }
+    ensures { Gives (λ _. (tt, members_view members.new)) result
+        (first_field key.now (numeral_of number) (members_view members.old)) }
 {
-    match json.as_u64() {
+    match next_member(alloc, members, key)?.as_u64() {
         Some(found) if found == number => Ok(()),
         _ => Err(refused(alloc, key)),
     }
