@@ -6,12 +6,8 @@
 // plays them, and on `expr_reader` and `expr_value`, which read expressions and evaluate them.
 #![tactic(auto)]
 
-#[cfg(test)]
-mod bad_input;
 mod contexts;
 mod eval;
-#[cfg(test)]
-mod eval_tests;
 mod play;
 mod table;
 #[cfg(test)]

@@ -31,8 +31,3 @@ pub use status::names_status;
 pub use template::{Piece, Template};
 pub use templates::{condition_test, read_condition, read_template, template_test};
 pub use tree::{Context, Equality, Function, Literal, Relation, Tree, Wildcard};
-
-#[cfg(test)]
-mod bad_input;
-#[cfg(test)]
-mod tests;

@@ -42,6 +42,3 @@ pub use status::Status;
 pub use template::{eval, eval_condition, eval_text};
 pub use text::to_text;
 pub use values::{loose_eq, truthy};
-
-#[cfg(test)]
-mod tests;

@@ -21,8 +21,6 @@ pub mod plan;
 pub mod reply;
 mod rules;
 pub mod sequence;
-#[cfg(test)]
-mod tests;
 pub mod text;
 mod texts;
 pub mod value;

@@ -20,8 +20,6 @@ mod plan_reading;
 mod plan_writing;
 mod reading;
 mod record;
-#[cfg(test)]
-mod tests;
 mod writing;
 
 pub use board::board_text;

@@ -1,7 +1,8 @@
 //! Values, faults and limits, told from text to text.
 
-use super::*;
+use super::nested;
 use expr_reader::{read_condition, read_expr, read_template};
+use expr_value::{Status, eval, eval_condition, eval_text, loose_eq, to_text, truthy};
 use flow_model::{Mapping, Node, Text, Value, ValueFault, json_of, value_of};
 use std::alloc::Global;
 use std::process::Abort;
@@ -69,25 +70,6 @@ fn assert_values(
     Ok(())
 }
 
-// A text between many copies of two parts.
-fn nested(
-    alloc: Global,
-    open: &str,
-    core: &str,
-    close: &str,
-    times: usize,
-) -> Result<String, Fail> {
-    let mut text = String::new(alloc);
-    for _ in 0..times {
-        text.push_str(open)?;
-    }
-    text.push_str(core)?;
-    for _ in 0..times {
-        text.push_str(close)?;
-    }
-    Ok(text)
-}
-
 // The value of a template over no contexts, as compact JSON or the name of its fault.
 fn template_told(alloc: Global, text: &str) -> Result<String, Fail> {
     let template = read_template(alloc, text)?;
@@ -112,105 +94,6 @@ fn holds(alloc: Global, text: &str, status: Status) -> Result<Result<bool, Value
     let condition = read_condition(alloc, text)?;
     let contexts: Mapping<Value> = Mapping::empty(alloc);
     Ok(eval_condition(alloc, &condition, &contexts, status))
-}
-
-#[test]
-fn eval_text_equality(rt: HostRuntime) -> Result<(), Fail> {
-    assert_values(
-        &rt,
-        rt.alloc(),
-        FILE,
-        &[
-            ("'ABC' == 'abc'", "true"),
-            ("'' == 0", "true"),
-            ("null == 0", "true"),
-            ("'x' == 0", "false"),
-            ("'x' != 0", "true"),
-        ],
-    )
-}
-
-#[test]
-fn eval_whole_numbers(rt: HostRuntime) -> Result<(), Fail> {
-    assert_values(
-        &rt,
-        rt.alloc(),
-        FILE,
-        &[
-            ("'1.5' > 1", "NotWhole"),
-            ("9007199254740992", "BadNumber at 0"),
-            ("0xff", "255"),
-        ],
-    )
-}
-
-#[test]
-fn eval_format_braces(rt: HostRuntime) -> Result<(), Fail> {
-    assert_values(
-        &rt,
-        rt.alloc(),
-        FILE,
-        &[
-            ("format('{{{0}}}', 7)", "\"{7}\""),
-            ("format('{1}', 7)", "BadFormat"),
-            ("\"x\"", "BadChar at 0"),
-        ],
-    )
-}
-
-#[test]
-fn eval_filtered_lists(rt: HostRuntime) -> Result<(), Fail> {
-    assert_values(
-        &rt,
-        rt.alloc(),
-        FILE,
-        &[
-            ("github.*.n", "[1,3]"),
-            ("join(github.*.n, '-')", "\"1-3\""),
-            ("github['A'].n", "1"),
-            ("github.z", "null"),
-        ],
-    )
-}
-
-#[test]
-fn eval_identity_and_branches(rt: HostRuntime) -> Result<(), Fail> {
-    assert_values(
-        &rt,
-        rt.alloc(),
-        FILE,
-        &[
-            ("needs == needs", "NoIdentity"),
-            ("needs < needs", "false"),
-            ("github.c.n && 'x' || 'y'", "\"x\""),
-        ],
-    )
-}
-
-#[test]
-fn eval_depth_of_parentheses(rt: HostRuntime) -> Result<(), Fail> {
-    let alloc = rt.alloc();
-    let contexts = contexts_of(alloc, FILE)?;
-    for (times, want) in [(49, "1"), (50, "TooDeep")] {
-        let text = nested(alloc, "(", "1", ")", times)?;
-        let found = evaluated(alloc, &contexts, text.as_str())?;
-        assert!(rt; found.starts_with(want), "{times}: {found}");
-    }
-    Ok(())
-}
-
-#[test]
-fn eval_functions_ignoring_case(rt: HostRuntime) -> Result<(), Fail> {
-    assert_values(
-        &rt,
-        rt.alloc(),
-        FILE,
-        &[
-            ("contains('Hello', 'ELL')", "true"),
-            ("success() && !cancelled()", "true"),
-            ("nope()", "UnknownFunction at 0"),
-        ],
-    )
 }
 
 #[test]

@@ -1,25 +1,22 @@
 // Texts from outside: what is printed and loaded, and each fault in its case.
-use crate::{
-    LoadFault, board_text, load_plan, load_record, print_entry, print_plan, print_record,
-    read_entry,
-};
+use super::{P1, nested};
 use flow_model::{
     Answer, Board, DoneStep, Entry, Event, Job, JobState, Leg, LegState, Mapping, Outcome, Run,
     RunState, Sequence, Text,
+};
+use plan_text::{
+    LoadFault, board_text, load_plan, load_record, print_entry, print_plan, print_record,
+    read_entry,
 };
 use std::alloc::{AllocError, Global};
 use std::process::Abort;
 use std::test::Fail;
 
-/// A plan of one run, one job, one leg and one step.
-const PLAN: &str =
-    r#"{"runs":[{"env":{},"event":null,"flow":"ci","group":null,"jobs":[{"condition":null,"env":{},"fail_fast":true,"group":null,"id":"a","legs":[{}],"max_parallel":null,"name":"a","needs":[],"number":0,"outputs":{},"steps":[{"condition":null,"env":{},"id":"s","name":null,"tolerate":false,"work":{"dir":null,"kind":"run","run":"true","shell":"default"}}],"tolerate":false}],"roots":{"github":{},"inputs":{},"secrets":{},"vars":{}}}],"version":1}"#;
-
-/// A job to stand after that plan's job.
+/// A job to stand after P1's job.
 const SECOND_JOB: &str =
     r#",{"condition":null,"env":{},"fail_fast":true,"group":null,"id":"b","legs":[{}],"max_parallel":null,"name":"b","needs":[],"number":1,"outputs":{},"steps":[],"tolerate":false}],"roots":"#;
 
-/// The lines of that plan's play.
+/// The lines of P1's play.
 const ENTRIES: &str = r#"{"event":"open","run":0,"worker":0}
 {"event":"judge","job":0,"worker":0}
 {"event":"ask","leg":0,"worker":0}
@@ -73,27 +70,15 @@ fn changed(alloc: Global, text: &str, old: &str, new: &str) -> Result<String, Al
     }
 }
 
-/// So many brackets around nothing.
-fn lists(alloc: Global, depth: usize) -> Result<String, AllocError> {
-    let mut text = String::new(alloc);
-    for _ in 0..depth {
-        text.push('[')?;
-    }
-    for _ in 0..depth {
-        text.push(']')?;
-    }
-    Ok(text)
-}
-
 #[test]
 fn p1_plan_round_trip(rt: HostRuntime) -> Result<(), Fail> {
     let alloc = rt.alloc();
-    assert_eq!(rt; plan_answer(alloc, PLAN.as_bytes())?.as_str(), PLAN);
-    let spaced = format!(in alloc; " \t{PLAN}\r\n")?;
-    assert_eq!(rt; plan_answer(alloc, spaced.as_bytes())?.as_str(), PLAN);
-    let cut = PLAN.strip_suffix("}").unwrap_or("");
+    assert_eq!(rt; plan_answer(alloc, P1.as_bytes())?.as_str(), P1);
+    let spaced = format!(in alloc; " \t{P1}\r\n")?;
+    assert_eq!(rt; plan_answer(alloc, spaced.as_bytes())?.as_str(), P1);
+    let cut = P1.strip_suffix("}").unwrap_or("");
     assert_eq!(rt; plan_answer(alloc, cut.as_bytes())?.as_str(), "NotJson");
-    let two_jobs = changed(alloc, PLAN, r#"],"roots":"#, SECOND_JOB)?;
+    let two_jobs = changed(alloc, P1, r#"],"roots":"#, SECOND_JOB)?;
     assert_eq!(rt;
         plan_answer(alloc, two_jobs.as_bytes())?.as_str(),
         two_jobs.as_str()
@@ -114,7 +99,7 @@ fn plans_are_refused_by_their_faults(rt: HostRuntime) -> Result<(), Fail> {
         (r#""version":1"#, r#""version":"1""#, "Version"),
         (r#","version":1"#, "", "Version"),
         (r#""version":1"#, r#""version":1,"version":2"#, "Version"),
-        (r#""version":1"#, r#""version":9,"version":1"#, PLAN),
+        (r#""version":1"#, r#""version":9,"version":1"#, P1),
         (r#""flow":"ci""#, r#""flow":"\ud800""#, "NotJson"),
         (r#""flow":"ci""#, "\"flow\":\"\u{1}\"", "NotJson"),
         (r#""vars":{}"#, r#""vars":{"a":1e999}"#, "NotJson"),
@@ -176,7 +161,7 @@ fn plans_are_refused_by_their_faults(rt: HostRuntime) -> Result<(), Fail> {
             "NotPlan runs.0.jobs.0.legs",
         ),
     ] {
-        let text = changed(alloc, PLAN, old, new)?;
+        let text = changed(alloc, P1, old, new)?;
         let answer = plan_answer(alloc, text.as_bytes())?;
         assert_eq!(rt; answer.as_str(), want, "at {new}");
     }
@@ -186,10 +171,10 @@ fn plans_are_refused_by_their_faults(rt: HostRuntime) -> Result<(), Fail> {
 #[test]
 fn texts_that_are_no_objects_are_refused(rt: HostRuntime) -> Result<(), Fail> {
     let alloc = rt.alloc();
-    let marked = format!(in alloc; "\u{feff}{PLAN}")?;
-    let doubled = format!(in alloc; "{PLAN}{PLAN}")?;
-    let deepest = lists(alloc, 127)?;
-    let too_deep = lists(alloc, 128)?;
+    let marked = format!(in alloc; "\u{feff}{P1}")?;
+    let doubled = format!(in alloc; "{P1}{P1}")?;
+    let deepest = nested(alloc, "[", "", "]", 127)?;
+    let too_deep = nested(alloc, "[", "", "]", 128)?;
     for (text, want) in [
         ("", "NotJson"),
         ("null", "NotPlan "),
@@ -210,7 +195,7 @@ fn texts_that_are_no_objects_are_refused(rt: HostRuntime) -> Result<(), Fail> {
 #[test]
 fn values_of_roots_are_kept(rt: HostRuntime) -> Result<(), Fail> {
     let alloc = rt.alloc();
-    let deepest = lists(alloc, 100)?;
+    let deepest = nested(alloc, "[", "", "]", 100)?;
     for value in [
         deepest.as_str(),
         "9007199254740991",
@@ -218,13 +203,13 @@ fn values_of_roots_are_kept(rt: HostRuntime) -> Result<(), Fail> {
         r#"{"a":[null,true,"x\n"],"b":{}}"#,
     ] {
         let vars = format!(in alloc; "\"vars\":{{\"a\":{value}}}")?;
-        let text = changed(alloc, PLAN, r#""vars":{}"#, vars.as_str())?;
+        let text = changed(alloc, P1, r#""vars":{}"#, vars.as_str())?;
         let answer = plan_answer(alloc, text.as_bytes())?;
         assert_eq!(rt; answer.as_str(), text.as_str());
     }
-    let too_deep = lists(alloc, 101)?;
+    let too_deep = nested(alloc, "[", "", "]", 101)?;
     let vars = format!(in alloc; "\"vars\":{{\"a\":{too_deep}}}")?;
-    let text = changed(alloc, PLAN, r#""vars":{}"#, vars.as_str())?;
+    let text = changed(alloc, P1, r#""vars":{}"#, vars.as_str())?;
     let answer = plan_answer(alloc, text.as_bytes())?;
     assert_eq!(rt; answer.as_str(), "NotPlan runs.0.roots.vars.a");
     Ok(())
@@ -254,8 +239,8 @@ fn p1_print_entry_and_record(rt: HostRuntime) -> Result<(), Fail> {
     };
     let line = print_entry(alloc, &open)?;
     assert_eq!(rt; line.as_str(), r#"{"event":"open","run":0,"worker":0}"#);
-    let record = format!(in alloc; "{PLAN}\n{ENTRIES}")?;
-    let Ok(plan) = load_plan(alloc, PLAN.as_bytes()) else {
+    let record = format!(in alloc; "{P1}\n{ENTRIES}")?;
+    let Ok(plan) = load_plan(alloc, P1.as_bytes()) else {
         panic!(rt; "the plan was refused");
     };
     let printed = print_record(alloc, &plan, entries.as_slice())?;
@@ -345,19 +330,19 @@ fn assert_record(rt: &impl Abort, alloc: Global, text: &str, want: &str) -> Resu
 #[test]
 fn table_refused_lines(rt: HostRuntime) -> Result<(), Fail> {
     let alloc = rt.alloc();
-    let record = format!(in alloc; "{PLAN}\n{ENTRIES}")?;
+    let record = format!(in alloc; "{P1}\n{ENTRIES}")?;
     let open = r#"{"event":"open","run":0,"worker":0}"#;
-    let lines = format!(in alloc; "{PLAN}\n{open}\n")?;
-    let windows = format!(in alloc; "{PLAN}\r\n{open}\r\n")?;
-    let unended = format!(in alloc; "{PLAN}\n{open}")?;
-    let plan_line = format!(in alloc; "{PLAN}\n")?;
+    let lines = format!(in alloc; "{P1}\n{open}\n")?;
+    let windows = format!(in alloc; "{P1}\r\n{open}\r\n")?;
+    let unended = format!(in alloc; "{P1}\n{open}")?;
+    let plan_line = format!(in alloc; "{P1}\n")?;
     assert_record(&rt, alloc, record.as_str(), record.as_str())?;
     assert_record(&rt, alloc, windows.as_str(), lines.as_str())?;
     assert_record(&rt, alloc, unended.as_str(), lines.as_str())?;
-    assert_record(&rt, alloc, PLAN, plan_line.as_str())?;
-    let cut = format!(in alloc; "{PLAN}\n{open}\n{open}\n{{\"event\":\"ask")?;
+    assert_record(&rt, alloc, P1, plan_line.as_str())?;
+    let cut = format!(in alloc; "{P1}\n{open}\n{open}\n{{\"event\":\"ask")?;
     assert_record(&rt, alloc, cut.as_str(), "NotEntry 4")?;
-    let empty_line = format!(in alloc; "{PLAN}\n\n{open}\n")?;
+    let empty_line = format!(in alloc; "{P1}\n\n{open}\n")?;
     assert_record(&rt, alloc, empty_line.as_str(), "NotEntry 2")?;
     let empty_end = format!(in alloc; "{record}\n")?;
     assert_record(&rt, alloc, empty_end.as_str(), "NotEntry 10")?;

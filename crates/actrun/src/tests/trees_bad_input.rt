@@ -1,7 +1,8 @@
 //! Bad input: tokens side by side, the limits of depth, length and range, each byte, and texts cut anywhere.
 
-use super::*;
-use crate::tests::{condition_fault, fault_of, nested, shown, template_fault};
+use super::nested;
+use super::trees::{condition_fault, fault_of, shown, template_fault};
+use expr_reader::{ExprFault, read_template};
 use std::alloc::Global;
 use std::process::Abort;
 use std::test::Fail;
@@ -295,7 +296,7 @@ fn expect_depth(
 }
 
 #[test]
-fn eval_depth_of_parentheses(rt: HostRuntime) -> Result<(), Fail> {
+fn depth_of_one_node(rt: HostRuntime) -> Result<(), Fail> {
     let alloc = rt.alloc();
     for parts in [
         ("(", "1", ")"),

@@ -1,5 +1,5 @@
 // What no clause says: that calls succeed where there is memory.
-use crate::{
+use flow_model::{
     Answer, CallWork, Duplicate, Entry, Event, Mapping, Member, Node, Reply, StepCall, Text, Value,
     What,
 };

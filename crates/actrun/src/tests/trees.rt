@@ -1,51 +1,34 @@
 //! Reading: trees, templates, conditions and places of faults.
 
-use super::*;
+use expr_reader::{
+    Context, ExprFault, fold, names_status, read_condition, read_expr, read_template, same_text,
+};
 use std::alloc::Global;
 use std::test::Fail;
 
 // What a text is read as, in the words of `Debug`.
-pub(crate) fn shown(alloc: Global, text: &str) -> Result<String, Fail> {
+pub(super) fn shown(alloc: Global, text: &str) -> Result<String, Fail> {
     let tree = read_expr(alloc, text)?;
     let shown = format!(in alloc; "{tree:?}")?;
     Ok(shown)
 }
 
-// A text of many copies of three parts.
-pub(crate) fn nested(
-    alloc: Global,
-    open: &str,
-    core: &str,
-    close: &str,
-    times: usize,
-) -> Result<String, Fail> {
-    let mut text = String::new(alloc);
-    for _ in 0..times {
-        text.push_str(open)?;
-    }
-    text.push_str(core)?;
-    for _ in 0..times {
-        text.push_str(close)?;
-    }
-    Ok(text)
-}
-
 // The fault of a text, if it has one.
-pub(crate) fn fault_of(alloc: Global, text: &str) -> Option<ExprFault> {
+pub(super) fn fault_of(alloc: Global, text: &str) -> Option<ExprFault> {
     match read_expr(alloc, text) {
         Ok(_) => None,
         Err(fault) => Some(fault),
     }
 }
 
-pub(crate) fn template_fault(alloc: Global, text: &str) -> Option<ExprFault> {
+pub(super) fn template_fault(alloc: Global, text: &str) -> Option<ExprFault> {
     match read_template(alloc, text) {
         Ok(_) => None,
         Err(fault) => Some(fault),
     }
 }
 
-pub(crate) fn condition_fault(alloc: Global, text: &str) -> Option<ExprFault> {
+pub(super) fn condition_fault(alloc: Global, text: &str) -> Option<ExprFault> {
     match read_condition(alloc, text) {
         Ok(_) => None,
         Err(fault) => Some(fault),
