@@ -1,5 +1,5 @@
 -- A search that finds something ends there.
-use Rattle.std.proofs.Common.{◌≡◌, ℕ, suc, ◌<◌, List, ◌∷◌, Option, Some, None, Result, Ok, Err, decimal, drop, length, get_or, drop-cons, ap, sym, subst, ◌∙◌}
+use Rattle.std.proofs.Common.{◌≡◌, ℕ, suc, ◌<◌, List, ◌∷◌, Option, Some, None, Err, decimal, drop, length, get_or, drop-cons, ap, sym, subst, ◌∙◌}
 use Rattle.flow_model.specs.Found.{Path, or_else, under, each, Checks}
 use Rattle.flow_model.specs.declared.check.Broken.{Broken}
 use Rattle.flow_model.specs.declared.check.Broken.TheVariants.{Rule, Memory}

@@ -1,6 +1,6 @@
 -- The plans that can be played so far: jobs, needs and plain scripts. A group, a limit of legs, a matrix,
 -- an environment, outputs, an action or a failure that is tolerated is not offered yet.
-use Rattle.std.specs.Prelude.{◌≡◌, ℕ, suc, ◌==◌, ◌&&◌, Bool, true, false, List, [], ◌∷◌, length, codes, Option, Some, None, Result, Ok, Err, is_none}
+use Rattle.std.specs.Prelude.{◌≡◌, ℕ, ◌==◌, Bool, true, false, List, [], ◌∷◌, length, codes, Option, Some, None, Result, Ok, Err, is_none}
 use Rattle.flow_model.specs.Plain.{Plain}
 use Rattle.flow_model.specs.Found.{Path, rule, or_else, under, each}
 use Rattle.flow_model.specs.Rules.{plan_rules}

@@ -1,6 +1,6 @@
 -- The rules of a plan: of its document, and the limits. A plan is one where none of them is broken.
 use Rattle.std.specs.Prelude.{◌≡◌, ℕ, ℤ, pos, negsuc, suc, ◌+◌, ◌-◌, ◌==◌, ◌&&◌, ◌||◌, Bool, true, false, not, nat_le, nat_lt, nat_eq, List, [], ◌∷◌, length, map, sum_by, codes, Option, Some, None, decimal}
-use Rattle.std.specs.List.{list_all, list_any, filter_map, starts_with}
+use Rattle.std.specs.List.{list_all, list_any, starts_with}
 use Rattle.std.specs.Str.{bytes_eq}
 use Rattle.flow_model.specs.Plain.{Plain, null, truth, whole, text, list, map as map_value, Items, no_items, item, Members, no_members, member}
 use Rattle.flow_model.specs.Name.{is_id}

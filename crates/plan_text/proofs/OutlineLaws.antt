@@ -4,7 +4,7 @@ use Rattle.std.proofs.lemmas.Str.{is_utf8-from_IsUtf8}
 use Rattle.std.specs.Str.{IsUtf8}
 use Rattle.json.specs.Lex.{tokens}
 use Rattle.json.specs.Token.{Token}
-use Rattle.json.specs.Json.{Json, Items, no_items, item, Members, no_members, member, object, if_last, value}
+use Rattle.json.specs.Json.{Json, Items, item, Members, no_members, member, object, if_last, value}
 use Rattle.json.specs.Print.{print}
 use Rattle.json.specs.Tree.{json_tokens, depth, HasNumbers}
 use Rattle.json.proofs.Printed.Tokens.{tokens-print}

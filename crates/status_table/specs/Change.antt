@@ -4,7 +4,6 @@ use Rattle.flow_model.specs.declared.board.Board.{Board}
 use Rattle.flow_model.specs.declared.board.Run.{Run}
 use Rattle.flow_model.specs.declared.board.Job.{Job}
 use Rattle.flow_model.specs.declared.board.Leg.{Leg}
-use Rattle.flow_model.specs.declared.board.LegState.{LegState}
 use Rattle.status_table.specs.declared.place.JobPlace.{JobPlace}
 use Rattle.status_table.specs.declared.place.LegPlace.{LegPlace}
 

@@ -1,6 +1,6 @@
 -- What decides: conditions, flags and the texts of a call. Expressions are not offered yet, so a condition is
 -- always `success()`, a flag is spelled out, and a text is itself.
-use Rattle.std.specs.Prelude.{ℕ, Bool, true, false, List, [], Option, Result, Ok, Err}
+use Rattle.std.specs.Prelude.{ℕ, Bool, true, false, List, [], Result, Ok, Err}
 use Rattle.flow_model.specs.declared.plan.Flag.{Flag}
 use Rattle.flow_model.specs.declared.plan.Flag.TheVariants as flag
 use Rattle.flow_model.specs.declared.plan.StepPlan.{StepPlan}

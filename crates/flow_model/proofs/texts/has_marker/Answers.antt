@@ -1,4 +1,4 @@
-use Rattle.std.proofs.Common.{◌≡◌, ◌+◌, ◌<◌, ◌||◌, ℕ, suc, Bool, true, false, List, ◌∷◌, codes, nat_eq, length, drop, get_or, drop-cons, add-one, ap, sym, subst, ◌∙◌}
+use Rattle.std.proofs.Common.{◌≡◌, ◌+◌, ◌<◌, ◌||◌, ℕ, suc, Bool, false, List, ◌∷◌, codes, nat_eq, length, drop, get_or, drop-cons, add-one, ap, sym, subst, ◌∙◌}
 use Rattle.std.specs.List.{starts_with}
 use Rattle.flow_model.specs.Rules.{has_marker}
 use Rattle.flow_model.proofs.texts.has_marker.Goals as goal

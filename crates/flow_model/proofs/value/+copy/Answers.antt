@@ -1,5 +1,5 @@
-use Rattle.std.proofs.Common.{◌≡◌, List, ◌∷◌, ◌++◌, ℕ, string_bytes, ap, sym, rules, ◌∙◌}
-use Rattle.flow_model.specs.Mapping.{pairs_of, map_values}
+use Rattle.std.proofs.Common.{◌≡◌, List, ◌∷◌, ◌++◌, ℕ, string_bytes, ap, sym, ◌∙◌}
+use Rattle.flow_model.specs.Mapping.{pairs_of}
 use Rattle.flow_model.specs.Plain as plain
 use Rattle.flow_model.specs.Value.{view, viewed}
 use Rattle.flow_model.proofs.Nodes.{view-Map}
