@@ -1,5 +1,5 @@
 -- A trouble is told as it is, or as want of memory.
-use Rattle.std.proofs.Common.{◌≡◌, ℕ, List, Option, Result, Ok, Err, inl, inr, sym, subst}
+use Rattle.std.proofs.Common.{◌≡◌, ℕ, List, Option, Result, Err, inl, inr, sym, subst}
 use Rattle.std.specs.Io.KnownBytes.{Appends, Keeps}
 use Rattle.actrun.specs.Table.{Shows, TellsOrMemory, trouble_line, trouble_status}
 use Rattle.actrun.specs.declared.trouble.Trouble.{Trouble}

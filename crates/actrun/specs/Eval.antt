@@ -1,5 +1,5 @@
 -- What `actrun eval` tells: the value of an expression over the contexts of a file, or why there is none.
-use Rattle.std.specs.Prelude.{◌≡◌, ℕ, ◌++◌, codes, decimal, List, [], String, string_bytes, Option, Some, None, Result, Ok, Err}
+use Rattle.std.specs.Prelude.{◌≡◌, ℕ, ◌++◌, codes, decimal, List, String, string_bytes, Option, Some, Result, Ok, Err}
 use Rattle.std.specs.Io.KnownBytes.{Appends, Keeps}
 use Rattle.std.specs.declared.alloc.Global.{Global}
 use Rattle.serde_json.specs.Written.{compact_text}

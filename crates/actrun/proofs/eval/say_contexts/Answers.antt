@@ -1,5 +1,4 @@
 use Rattle.std.proofs.Common.{ℕ, List, ◌++◌, codes, subst}
-use Rattle.std.specs.Prelude.{decimal}
 use Rattle.std.specs.Result.{OnOk}
 use Rattle.std.specs.Io.KnownBytes.{Appends}
 use Rattle.actrun.proofs.eval.say_contexts.Goals as goal

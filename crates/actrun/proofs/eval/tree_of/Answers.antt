@@ -1,4 +1,4 @@
-use Rattle.std.proofs.Common.{◌≡◌, Err, sym, subst}
+use Rattle.std.proofs.Common.{Err, sym, subst}
 use Rattle.actrun.proofs.Expressions.{tree_fault}
 use Rattle.actrun.specs.Eval.{IsTree}
 use Rattle.actrun.specs.declared.eval.EvalTrouble.{EvalTrouble}
