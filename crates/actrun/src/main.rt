@@ -24,20 +24,26 @@ fn main(rt: HostRuntime) -> io::Result<ExitCode> {
     match status(&rt, &mut err) {
         Ok(status) => Ok(ExitCode::from(status)),
         Err(error) => {
-            if error.kind() == ErrorKind::OutOfMemory {
-                writeln!(err, "actrun: memory")?;
+            let name = if error.kind() == ErrorKind::OutOfMemory {
+                "memory"
             } else {
-                writeln!(err, "actrun: io")?;
-            }
+                "io"
+            };
+            // Where this line cannot be written either, the status tells.
+            let _ = writeln!(err, "actrun: {name}");
             Ok(ExitCode::from(3))
         },
     }
 }
 
-/// Runs the command that the words of the command line ask for.
+/// Runs the command that the words of the command line ask for. Words that are not UTF-8 ask for none.
 fn status<E: Write>(rt: &HostRuntime, err: &mut E) -> io::Result<u8> {
     let alloc = rt.alloc();
-    let words: Vec<String> = env::args(rt)?.collect(alloc)?;
+    let words: Vec<String> = match env::args(rt) {
+        Ok(words) => words.collect(alloc)?,
+        Err(error) if error.kind() == ErrorKind::InvalidData => return words::refuse_words(err),
+        Err(error) => return Err(error),
+    };
     let mut input = rt.reader();
     let mut out = io::writer(rt);
     words::run(rt, alloc, words.as_slice(), &mut input, &mut out, err)

@@ -76,7 +76,8 @@ fn refuse<E: Write>(error: &Error, err: &mut E) -> io::Result<u8> {
     refuse_words(err)
 }
 
-fn refuse_words<E: Write>(err: &mut E) -> io::Result<u8> {
+/// Says that the words ask for no command.
+pub(crate) fn refuse_words<E: Write>(err: &mut E) -> io::Result<u8> {
     writeln!(err, "actrun: words")?;
     Ok(2)
 }

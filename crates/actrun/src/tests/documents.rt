@@ -1,8 +1,8 @@
 // Texts from outside: what is printed and loaded, and each fault in its case.
 use super::{P1, nested};
 use flow_model::{
-    Answer, Board, DoneStep, Entry, Event, Job, JobState, Leg, LegState, Mapping, Outcome, Run,
-    RunState, Sequence, Text,
+    Answer, Board, DoneStep, Duplicate, Entry, Event, Job, JobState, Leg, LegState, Mapping,
+    Outcome, Run, RunState, Sequence, Text,
 };
 use plan_text::{
     LoadFault, board_text, load_plan, load_record, print_entry, print_plan, print_record,
@@ -86,6 +86,16 @@ fn p1_plan_round_trip(rt: HostRuntime) -> Result<(), Fail> {
     let later = changed(alloc, two_jobs.as_str(), r#""needs":[]"#, r#""needs":[1]"#)?;
     let answer = plan_answer(alloc, later.as_bytes())?;
     assert_eq!(rt; answer.as_str(), "NotPlan runs.0.jobs.0.needs");
+    Ok(())
+}
+
+#[test]
+fn p1_plan_is_accepted(rt: HostRuntime) -> Result<(), Fail> {
+    let alloc = rt.alloc();
+    let loaded = load_plan(alloc, P1.as_bytes())?;
+    let plan = loaded.plan().copy(alloc)?;
+    let checked = plan.check(alloc);
+    assert!(rt; checked.is_ok());
     Ok(())
 }
 

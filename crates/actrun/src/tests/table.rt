@@ -2,7 +2,7 @@
 use super::P1;
 use crate::table::table;
 use flow_model::{Entry, Event};
-use plan_text::{board_text, load_record};
+use plan_text::{board_text, load_record, read_entry};
 use status_table::{EventFault, PlainBoard, Table, run_entries};
 use std::alloc::Global;
 use std::io;
@@ -223,6 +223,53 @@ fn p1_new_refusals(rt: HostRuntime) -> Result<(), Fail> {
         let refused = board.apply(Entry { worker, event }).err();
         assert_eq!(rt; refused, Some(want));
     }
+    Ok(())
+}
+
+/// Asserts that a board refuses an entry, and shows the same after it.
+fn assert_refused(
+    rt: &impl Abort,
+    alloc: Global,
+    board: &mut PlainBoard,
+    line: &str,
+    want: EventFault,
+) -> Result<(), Fail> {
+    let before = board_text(alloc, &board.view()?)?;
+    let entry = read_entry(alloc, line.as_bytes())?;
+    let refused = board.apply(entry).err();
+    assert_eq!(rt; refused, Some(want));
+    let after = board_text(alloc, &board.view()?)?;
+    assert_eq!(rt; after.as_str(), before.as_str());
+    Ok(())
+}
+
+#[test]
+fn p1_refused_ends_change_nothing(rt: HostRuntime) -> Result<(), Fail> {
+    let alloc = rt.alloc();
+    let mut record = Vec::new(alloc);
+    for text in [P1, TO_TAKE, BEGIN] {
+        record.extend_from_slice(text.as_bytes())?;
+    }
+    let (plan, entries) = load_record(alloc, record.as_slice())?;
+    let mut board = PlainBoard::new(alloc, &plan)?;
+    let outcome = run_entries(alloc, &mut board, entries.as_slice());
+    assert_eq!(rt; outcome, Ok(()));
+    assert_refused(
+        &rt,
+        alloc,
+        &mut board,
+        EXIT_0_OF_WORKER_1,
+        EventFault::OtherWorker,
+    )?;
+    assert_refused(
+        &rt,
+        alloc,
+        &mut board,
+        EXIT_0_WITH_BAD_NAME,
+        EventFault::BadAnswer,
+    )?;
+    board.apply(read_entry(alloc, EXIT_0.as_bytes())?)?;
+    assert_refused(&rt, alloc, &mut board, EXIT_0, EventFault::WrongState)?;
     Ok(())
 }
 
