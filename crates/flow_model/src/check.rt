@@ -162,7 +162,7 @@ pub(crate) fn check_map<V, T: PairTest<V>>(
     under(alloc, key, check_pairs::<V, T>(alloc, pairs))
 }
 
-/// A plan whose rules all hold. It is made by `Plan::check` alone.
+/// A plan whose rules all hold, and of which all is offered so far. It is made by `Plan::check`, or copied.
 #[derive(Debug, Drop)]
 pub struct CheckedPlan {
     plan: Plan,
@@ -187,7 +187,7 @@ impl Model for CheckedPlan {
 impl Plan {
     ghost use Rattle.flow_model.specs.Offered.{ChecksPlan};
 
-    /// Accepts the plan where each of its rules holds.
+    /// Accepts the plan where each of its rules holds and all of it is offered so far.
     ///
     /// # Errors
     ///

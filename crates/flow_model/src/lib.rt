@@ -4,9 +4,9 @@
 // that change it and the replies to them, and three small containers that contracts see as plain
 // lists: a text, a sequence and a mapping.
 //
-// It promises that `Plan::check` accepts exactly the plans whose rules all hold, that a `CheckedPlan`
-// is made nowhere else, that every `copy` is equal to what it was made from, and that JSON becomes a
-// value, and a value JSON, exactly. It stands on `serde_json` alone.
+// It promises that `Plan::check` accepts exactly the plans whose rules all hold and of which all is offered
+// so far, that a `CheckedPlan` is made there or copied from one, that every `copy` is equal to what it was
+// made from, and that JSON becomes a value, and a value JSON, exactly. It stands on `serde_json` alone.
 #![tactic(auto)]
 
 pub mod board;

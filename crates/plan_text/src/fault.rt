@@ -14,8 +14,8 @@ pub enum LoadFault {
     /// It is an object whose `version` is missing or not 1.
     #[error("Version")]
     Version,
-    /// It is no plan's document, or the plan breaks a rule: the path from the root, keys and places
-    /// joined by dots.
+    /// It is no plan's document, or the plan breaks a rule, or not all of it is offered so far: the path from
+    /// the root, keys and places joined by dots.
     #[error("NotPlan({0:?})")]
     NotPlan(Text),
     /// This line, from 1, is no entry.
