@@ -6,6 +6,7 @@ mod Runs
 mod Quoted
 mod Words
 mod Lexing
+mod Fitting
 mod Readings
 mod Boundaries
 mod Digits

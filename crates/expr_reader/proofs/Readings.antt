@@ -12,13 +12,14 @@ use Rattle.expr_reader.specs.Machine.{Part, equality_of, relation_of, group_of, 
 use Rattle.expr_reader.specs.Outcome.{◌>>=◌}
 use Rattle.expr_reader.specs.Reading.{Failure, placed, after_step, after_token, reads}
 use Rattle.expr_reader.specs.Spelling.{SpellsToken, Begins, Lexes}
-use Rattle.expr_reader.specs.Stands.{Fits, is_dot, Leads, BeginNoTree, GoesOnNoTree, Stands, at_bytes, at_token, at_end}
+use Rattle.expr_reader.specs.Stands.{Fits, is_dot, ends_dotted, Leads, BeginNoTree, GoesOnNoTree, Stands, at_bytes, at_token, at_end}
 use Rattle.expr_reader.specs.declared.fault.Fault.{Fault}
 use Rattle.expr_reader.specs.declared.token.Mark.TheVariants.{Open, Close, OpenIndex, CloseIndex, Dot, Comma, Star, Not, Both, Either}
 use Rattle.expr_reader.specs.declared.tree.Equality.TheVariants.{Equal, NotEqual}
 use Rattle.expr_reader.specs.declared.tree.Wildcard.TheVariants.{Dotted, Bracketed}
 use Rattle.expr_reader.specs.declared.tree.Relation.TheVariants.{Less, AtMost, Greater, AtLeast}
 use Rattle.expr_reader.proofs.Complete.{parse_again}
+use Rattle.expr_reader.proofs.Fitting.{ends_last, next_fits}
 use Rattle.expr_reader.proofs.Lexing.{next_again, next_none, Comes, next_comes, skipped, blank_skipped}
 use Rattle.expr_reader.proofs.Runs.{spans}
 use Rattle.expr_reader.proofs.Sound.{Holds, After, state_tokens, sound_step, Tokenized, sound_finish}
@@ -189,10 +190,11 @@ run-append (t ∷ a) b st = run_by (step st t) a b (run-append a b)
 -- A state that is reached by these tokens.
 pub record Reached (done : List Token) (st : State) : Type 0 where
   pub after : After done st
+  pub dots : ends_dotted done ≡ is_dotted st
   pub ran : run (want []) done ≡ Ok st
 
 pub reached_none : Reached [] (want [])
-reached_none = record { after = record { good = tt; same = refl }; ran = refl }
+reached_none = record { after = record { good = tt; same = refl }; dots = refl; ran = refl }
 
 forget : (r : Result State Fault) (P : State → Type 0) (F : Fault → Type 0) → Holds r P F → Holds r P (λ f. Unit {0})
 forget (Ok s) P F h = h
@@ -203,6 +205,7 @@ reached_more done st t after h at = record {
   after =
       let stepped = subst (λ (r : Result State Fault). Holds r (After (state_tokens st ++ t ∷ [])) (λ f. Unit {0})) at (forget (step st t) (After (state_tokens st ++ t ∷ [])) (Wrong (state_tokens st ++ t ∷ [])) (sound_step st h.after.good t)) in
       subst (λ (ts : List Token). After (ts ++ t ∷ []) after) h.after.same stepped;
+  dots = ends_last done t ∙ sym (step_dots st t after at);
   ran = run-append done (t ∷ []) (want []) ∙ ap (λ (r : Result State Fault). r >>= λ s. run s (t ∷ [])) h.ran ∙ ap (λ (r : Result State Fault). r >>= λ s. Ok s) at;
 }
 
@@ -285,7 +288,7 @@ step_sound n sound st bs done fuel h t rest comes begins (Err f) at wrong = (
   white_leads (is_dotted st) bs,
   refl,
   subst (λ (ts : List Token). Stands f ts (skip_white bs)) (sym (append-nil done))
-      (at_token t rest (begins_skipped bs t rest begins) (none_goes_on done st bs h (refused_alone st bs t rest f comes at)) (subst (λ (ts : List Token). Wrong (ts ++ t ∷ []) f) h.after.same wrong)),
+      (at_token t rest (begins_skipped bs t rest begins) (subst (λ (d : Bool). Fits d t) (sym h.dots) (next_fits (is_dotted st) bs t rest comes)) (none_goes_on done st bs h (refused_alone st bs t rest f comes at)) (subst (λ (ts : List Token). Wrong (ts ++ t ∷ []) f) h.after.same wrong)),
   (spans is_white bs).stops,
 )
 step_sound n sound st bs done fuel h t rest comes begins (Ok after) at good =

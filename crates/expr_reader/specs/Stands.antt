@@ -25,6 +25,12 @@ abbrev pub is_dot : Token → Bool
 is_dot (mark Dot) = true
 is_dot t = false
 
+-- Whether the last of the tokens is a dot.
+abbrev pub ends_dotted : List Token → Bool
+ends_dotted [] = false
+ends_dotted (t ∷ []) = is_dot t
+ends_dotted (t ∷ u ∷ ts) = ends_dotted (u ∷ ts)
+
 -- The text, before which a dot stands or none, begins with these tokens and white space, and then the rest
 -- follows.
 abbrev pub Leads : Bool → List ℕ → List Token → List ℕ → Type 0
@@ -39,11 +45,12 @@ BeginNoTree ts = (e : Expr) (later : List Token) → Shaped e → depth e ≤ 50
 abbrev pub GoesOnNoTree : List Token → List ℕ → Type 0
 GoesOnNoTree before rest = (t : Token) (after : List ℕ) → Begins rest t after → BeginNoTree (before ++ t ∷ [])
 
--- The fault stands before the rest of a text, after these tokens: no token comes next, or one with which
--- something is wrong, and none that comes goes on with a tree; or the end comes, and the tokens are no tree's.
+-- The fault stands before the rest of a text, after these tokens: no token comes next, or one that fits after
+-- them and with which something is wrong, and none that comes goes on with a tree; or the end comes, and the
+-- tokens are no tree's.
 pub data Stands (f : Fault) (before : List Token) (rest : List ℕ) : Type 0 where
   at_bytes : Blocks rest f → GoesOnNoTree before rest → Stands f before rest
-  at_token : (t : Token) (after : List ℕ) → Begins rest t after → GoesOnNoTree before rest → Wrong (before ++ t ∷ []) f → Stands f before rest
+  at_token : (t : Token) (after : List ℕ) → Begins rest t after → Fits (ends_dotted before) t → GoesOnNoTree before rest → Wrong (before ++ t ∷ []) f → Stands f before rest
   at_end : rest ≡ [] → ((e : Expr) → Shaped e → depth e ≤ 50 → tokens e ≢ before) → Wrong before f → Stands f before rest
 
 -- The fault stands at a place of the text, which is the number of bytes before it, white space included.
