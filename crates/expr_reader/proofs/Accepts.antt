@@ -1,8 +1,8 @@
 -- Templates and conditions by tests.
-use Rattle.std.proofs.Common.{◌≡◌, ℕ, ◌≤◌, Bool, true, false, not, ◌&&◌, nat_le, Result, Ok, Err, List, length, refl, ap, ◌∙◌, arith}
+use Rattle.std.proofs.Common.{◌≡◌, ℕ, ◌≤◌, Bool, true, false, not, ◌&&◌, nat_le, Result, Ok, Err, List, length, refl, sym, ap, ◌∙◌, arith}
 use Rattle.std.proofs.lemmas.Bool.Decides.{nat_tests}
 use Rattle.expr_reader.specs.Reading.{Failure}
-use Rattle.expr_reader.specs.Template.{Piece, has_mark, names_status, IsTemplate, trimmed, IsCondition}
+use Rattle.expr_reader.specs.Template.{Piece, has_mark, names_status, SpellsTemplate, IsTemplate, trimmed, SpellsCondition, IsCondition}
 use Rattle.expr_reader.specs.TemplateReading.{read_pieces, read_trimmed}
 use Rattle.expr_reader.specs.Accepts.{accepted, is_template, is_read, is_condition}
 use Rattle.expr_reader.proofs.Conditions.{spelled_pieces, template_found, trimmed_by_found, trimmed_by_read}
@@ -41,3 +41,20 @@ condition_tested text h = condition_by text (read_trimmed 0 (trimmed text)) refl
 
 pub condition_passes : (text : List ℕ) → IsCondition text → is_condition text ≡ true
 condition_passes text h = ap is_read (trimmed_by_read 0 (trimmed text) h.0 (has_mark (trimmed text)) h.1)
+
+one_answer : (r : Result (List Piece) Failure) (ps qs : List Piece) → r ≡ Ok ps → r ≡ Ok qs → ps ≡ qs
+one_answer r ps qs is also = same ps qs (sym is ∙ also)
+  where
+    same : (xs ys : List Piece) → (let a : Result (List Piece) Failure = Ok xs in a ≡ Ok ys) → xs ≡ ys
+    same xs ys e = cc
+
+-- A text spells one template at most.
+pub template_once : (ps qs : List Piece) (text : List ℕ) → SpellsTemplate ps text → SpellsTemplate qs text → ps ≡ qs
+template_once ps qs text spelled also =
+    one_answer (read_pieces (length text) text) ps qs (spelled_pieces (length text) text ps spelled.pieces) (spelled_pieces (length text) text qs also.pieces)
+
+-- A text spells one condition at most.
+pub condition_once : (ps qs : List Piece) (text : List ℕ) → SpellsCondition ps text → SpellsCondition qs text → ps ≡ qs
+condition_once ps qs text spelled also =
+    one_answer (read_trimmed 0 (trimmed text)) ps qs (trimmed_by_read 0 (trimmed text) ps (has_mark (trimmed text)) spelled)
+    (trimmed_by_read 0 (trimmed text) qs (has_mark (trimmed text)) also)

@@ -29,5 +29,7 @@ pub use folding::{fold, same_text};
 pub use reader::{one_reading, read_expr};
 pub use status::names_status;
 pub use template::{Piece, Template};
-pub use templates::{condition_test, read_condition, read_template, template_test};
+pub use templates::{
+    condition_test, one_condition, one_template, read_condition, read_template, template_test,
+};
 pub use tree::{Context, Equality, Function, Literal, Relation, Tree, Wildcard};

@@ -104,3 +104,13 @@ pub fn template_test()
 pub fn condition_test()
     ensures { (text : List ℕ) → IsTrue (is_condition text) ↔ IsCondition text }
 {}
+
+/// No text spells two templates.
+pub fn one_template()
+    ensures { (ps qs : List PieceOf) (text : List ℕ) → SpellsTemplate ps text → SpellsTemplate qs text → ps ≡ qs }
+{}
+
+/// No text spells two conditions.
+pub fn one_condition()
+    ensures { (ps qs : List PieceOf) (text : List ℕ) → SpellsCondition ps text → SpellsCondition qs text → ps ≡ qs }
+{}
