@@ -8,7 +8,7 @@ ghost use Rattle.expr_value.specs.Answer.{Gives};
 ghost use Rattle.expr_value.specs.Context.{context_value};
 ghost use Rattle.expr_value.specs.Convert.{truth_of as truth_of_kind};
 ghost use Rattle.expr_value.specs.Dereference.{one};
-ghost use Rattle.expr_value.specs.Evaluate.{all_values, answers, begun, chain as chain_of, conjunction as conjunction_of, constant_value, disjunction as disjunction_of, value};
+ghost use Rattle.expr_value.specs.Evaluate.{all_values, answers, begun as begun_of, chain as chain_of, conjunction as conjunction_of, constant_value, disjunction as disjunction_of, value};
 ghost use Rattle.expr_value.specs.Kind.{kind_of as kind_of_value};
 ghost use Rattle.expr_value.specs.Seen.{item_seen, kind_seen, operand_seen, operands_seen, found_seen};
 ghost use Rattle.flow_model.specs.Plain as plain;
@@ -162,7 +162,7 @@ fn conjunction<'a, C: Context>(
     status: Status,
 ) -> Result<Found<'a>, ValueFault>
     ensures { Gives found_seen result
-        (begun (conjunction_of (plain.truth true) (answers (C.contexts contexts.now) status (exprs_of (tree_views parts.now))))) }
+        (begun_of (conjunction_of (plain.truth true) (answers (C.contexts contexts.now) status (exprs_of (tree_views parts.now))))) }
 {
     let mut value = Operand::One(Item::Made(Node::Truth(true)));
     for part in parts {
@@ -183,7 +183,7 @@ fn disjunction<'a, C: Context>(
     status: Status,
 ) -> Result<Found<'a>, ValueFault>
     ensures { Gives found_seen result
-        (begun (disjunction_of (plain.truth false) (answers (C.contexts contexts.now) status (exprs_of (tree_views parts.now))))) }
+        (begun_of (disjunction_of (plain.truth false) (answers (C.contexts contexts.now) status (exprs_of (tree_views parts.now))))) }
 {
     let mut value = Operand::One(Item::Made(Node::Truth(false)));
     for part in parts {
