@@ -22,10 +22,10 @@ pub enum ExprFault {
     /// A token, or the end, where the grammar has another.
     #[error("Unexpected at {0}")]
     Unexpected(usize),
-    /// A name that is no literal and no context.
+    /// A name that is no context, no function and no literal, and that no parenthesis follows.
     #[error("UnknownName at {0}")]
     UnknownName(usize),
-    /// A name before a parenthesis that is no function.
+    /// A name before a parenthesis that is no context, no function and no literal.
     #[error("UnknownFunction at {0}")]
     UnknownFunction(usize),
     /// The end of a call with another number of arguments than its function takes.

@@ -6,6 +6,10 @@ ghost use Rattle.expr_reader.specs.Fold.{fold, SameText};
 use std::alloc::{AllocError, Global};
 
 /// The text with A to Z replaced by a to z; no other letter is folded.
+///
+/// # Errors
+///
+/// No memory was left.
 pub fn fold(alloc: Global, text: &str) -> Result<String, AllocError>
     ensures { IfOk result (λ folded. string_bytes folded ≡ fold text.now) }
 {

@@ -15,5 +15,6 @@ pub enum Piece {
 /// the join of its pieces' texts.
 #[derive(Debug, Drop)]
 pub struct Template {
+    /// The pieces, in the order of the text.
     pub pieces: Vec<Piece>,
 }

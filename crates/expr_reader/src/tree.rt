@@ -9,7 +9,9 @@ ghost use Rattle.expr_reader.specs.Names.{context_name};
 /// A value that an expression writes out.
 #[derive(Debug, Drop)]
 pub enum Literal {
+    /// `null`
     Null,
+    /// `true` or `false`
     Truth(bool),
     /// From -9007199254740991 to 9007199254740991.
     Whole(i64),
@@ -20,33 +22,56 @@ pub enum Literal {
 /// A context that an expression may name, ignoring case.
 #[derive(Clone, Copy, Debug, PartialEq, Eq)]
 pub enum Context {
+    /// `github`
     Github,
+    /// `env`
     Env,
+    /// `vars`
     Vars,
+    /// `job`
     Job,
+    /// `jobs`
     Jobs,
+    /// `steps`
     Steps,
+    /// `runner`
     Runner,
+    /// `secrets`
     Secrets,
+    /// `strategy`
     Strategy,
+    /// `matrix`
     Matrix,
+    /// `needs`
     Needs,
+    /// `inputs`
     Inputs,
 }
 
 /// A function that an expression may call, its name ignoring case.
 #[derive(Clone, Copy, Debug, PartialEq, Eq)]
 pub enum Function {
+    /// `contains`
     Contains,
+    /// `startsWith`
     StartsWith,
+    /// `endsWith`
     EndsWith,
+    /// `format`
     Format,
+    /// `join`
     Join,
+    /// `toJSON`
     ToJson,
+    /// `fromJSON`
     FromJson,
+    /// `success`
     Success,
+    /// `failure`
     Failure,
+    /// `cancelled`
     Cancelled,
+    /// `always`
     Always,
 }
 
@@ -62,23 +87,31 @@ pub enum Wildcard {
 /// `<`, `<=`, `>` and `>=`.
 #[derive(Clone, Copy, Debug, PartialEq, Eq)]
 pub enum Relation {
+    /// `<`
     Less,
+    /// `<=`
     AtMost,
+    /// `>`
     Greater,
+    /// `>=`
     AtLeast,
 }
 
 /// `==` and `!=`.
 #[derive(Clone, Copy, Debug, PartialEq, Eq)]
 pub enum Equality {
+    /// `==`
     Equal,
+    /// `!=`
     NotEqual,
 }
 
 /// An expression.
 #[derive(Debug, Drop)]
 pub enum Tree {
+    /// A value that is written out.
     Literal(Literal),
+    /// The name of a context.
     Context(Context),
     /// A call with its arguments, as many as the function takes.
     Call(Function, Vec<Tree>),
@@ -92,7 +125,9 @@ pub enum Tree {
     Wildcard(Wildcard, Box<Tree>),
     /// `!tree`
     Not(Box<Tree>),
+    /// `left < right`, or two trees with another relation between them.
     Relation(Relation, Box<Tree>, Box<Tree>),
+    /// `left == right` or `left != right`
     Equality(Equality, Box<Tree>, Box<Tree>),
     /// A chain of `&&`, of two parts or more.
     Both(Vec<Tree>),

@@ -1,4 +1,4 @@
--- The number that a text writes (RFC 8259, section 6: an optional minus, an integer, and where there is one a
+-- The number that a text writes (RFC 8259, "Numbers": an optional minus, an integer, and where there is one a
 -- fraction and an exponent; no white space round it).
 use Rattle.std.specs.Prelude.{ℕ, ℤ, pos, Bool, false, not, ◌&&◌, ◌||◌, ◌==◌, nat_le, if◌then◌else◌, Option, Some, None, Result, Ok, Err, List, [], ◌∷◌, take, drop}
 use Rattle.std.specs.List.{list_all, prefix_len}

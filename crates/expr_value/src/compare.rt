@@ -11,7 +11,7 @@ use expr_reader::{Equality, Relation};
 use flow_model::ValueFault;
 use std::cmp::Ordering;
 
-// The order of two texts, ignoring case.
+/// The order of two texts, ignoring case.
 pub(crate) fn text_order(left: &str, right: &str) -> Ordering
     ensures { result ≡ compare.text_order left.now right.now }
 {

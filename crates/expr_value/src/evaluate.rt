@@ -1,13 +1,14 @@
 //! The values of expressions.
 
 ghost use Rattle.std.specs.Prelude.{◌≡◌, ◌++◌, IfOk, Ok, map, true, false};
+ghost use Rattle.expr_reader.specs.Expr as expr;
 ghost use Rattle.expr_reader.specs.Expr.{exprs_of};
 ghost use Rattle.expr_reader.specs.View.{view as tree_view, views as tree_views, constant_of};
 ghost use Rattle.expr_value.specs.Answer.{Gives};
 ghost use Rattle.expr_value.specs.Context.{context_value};
 ghost use Rattle.expr_value.specs.Convert.{truth_of as truth_of_kind};
 ghost use Rattle.expr_value.specs.Dereference.{one};
-ghost use Rattle.expr_value.specs.Evaluate.{all_values, answers, chain as chain_of, conjunction as conjunction_of, constant_value, disjunction as disjunction_of, value};
+ghost use Rattle.expr_value.specs.Evaluate.{all_values, answers, begun as begun_of, chain as chain_of, conjunction as conjunction_of, constant_value, disjunction as disjunction_of, value};
 ghost use Rattle.expr_value.specs.Kind.{kind_of as kind_of_value};
 ghost use Rattle.expr_value.specs.Seen.{item_seen, kind_seen, operand_seen, operands_seen, found_seen};
 ghost use Rattle.flow_model.specs.Plain as plain;
@@ -90,10 +91,7 @@ fn chain<'a, C: Context>(
             let found = chain(alloc, base, contexts, status)?;
             Ok(all_found(alloc, &found)?)
         },
-        Tree::Not(operand) => {
-            let value = evaluate(alloc, operand, contexts, status)?;
-            Ok(begun(Node::Truth(!truth_of(value.kind()))))
-        },
+        Tree::Not(operand) => opposite_found(alloc, operand, contexts, status),
         Tree::Relation(relation, left, right) => {
             let left = evaluate(alloc, left, contexts, status)?;
             let right = evaluate(alloc, right, contexts, status)?;
@@ -104,19 +102,23 @@ fn chain<'a, C: Context>(
             let right = evaluate(alloc, right, contexts, status)?;
             Ok(begun(Node::Truth(equality(*test, left.kind(), right.kind())?)))
         },
-        Tree::Both(parts) => Ok(Found::One(conjunction(
-            alloc,
-            parts.as_slice(),
-            contexts,
-            status,
-        )?)),
-        Tree::Either(parts) => Ok(Found::One(disjunction(
-            alloc,
-            parts.as_slice(),
-            contexts,
-            status,
-        )?)),
+        Tree::Both(parts) => conjunction(alloc, parts.as_slice(), contexts, status),
+        Tree::Either(parts) => disjunction(alloc, parts.as_slice(), contexts, status),
     }
+}
+
+// The value of `!operand`.
+#[cycle(evaluate)]
+fn opposite_found<'a, C: Context>(
+    alloc: Global,
+    operand: &Tree,
+    contexts: &'a C,
+    status: Status,
+) -> Result<Found<'a>, ValueFault>
+    ensures { Gives found_seen result (chain_of (C.contexts contexts.now) status (expr.opposite (tree_view operand.now))) }
+{
+    let value = evaluate(alloc, operand, contexts, status)?;
+    Ok(begun(Node::Truth(!truth_of(value.kind()))))
 }
 
 /// The value of an expression.
@@ -158,18 +160,18 @@ fn conjunction<'a, C: Context>(
     parts: &[Tree],
     contexts: &'a C,
     status: Status,
-) -> Result<Operand<'a>, ValueFault>
-    ensures { Gives operand_seen result
-        (conjunction_of (plain.truth true) (answers (C.contexts contexts.now) status (exprs_of (tree_views parts.now)))) }
+) -> Result<Found<'a>, ValueFault>
+    ensures { Gives found_seen result
+        (begun_of (conjunction_of (plain.truth true) (answers (C.contexts contexts.now) status (exprs_of (tree_views parts.now))))) }
 {
     let mut value = Operand::One(Item::Made(Node::Truth(true)));
     for part in parts {
         if !truth_of(value.kind()) {
-            return Ok(value);
+            return Ok(Found::One(value));
         }
         value = evaluate(alloc, part, contexts, status)?;
     }
-    Ok(value)
+    Ok(Found::One(value))
 }
 
 // The first part that is true, or the last one; what stands after it is not evaluated.
@@ -179,16 +181,16 @@ fn disjunction<'a, C: Context>(
     parts: &[Tree],
     contexts: &'a C,
     status: Status,
-) -> Result<Operand<'a>, ValueFault>
-    ensures { Gives operand_seen result
-        (disjunction_of (plain.truth false) (answers (C.contexts contexts.now) status (exprs_of (tree_views parts.now)))) }
+) -> Result<Found<'a>, ValueFault>
+    ensures { Gives found_seen result
+        (begun_of (disjunction_of (plain.truth false) (answers (C.contexts contexts.now) status (exprs_of (tree_views parts.now))))) }
 {
     let mut value = Operand::One(Item::Made(Node::Truth(false)));
     for part in parts {
         if truth_of(value.kind()) {
-            return Ok(value);
+            return Ok(Found::One(value));
         }
         value = evaluate(alloc, part, contexts, status)?;
     }
-    Ok(value)
+    Ok(Found::One(value))
 }

@@ -157,7 +157,7 @@ fn unsigned_number(bytes: &[u8]) -> Result<Option<u64>, ValueFault>
     number_of_parts(digits, rest)
 }
 
-/// The number that a text writes (RFC 8259, section 6). None is not-a-number; the empty text is 0.
+/// The number that a text writes (RFC 8259, "Numbers"). None is not-a-number; the empty text is 0.
 ///
 /// # Errors
 ///

@@ -5,8 +5,11 @@ ghost use Rattle.std.specs.Prelude.{◌≡◌};
 /// A status (GitHub Docs, "Evaluate expressions in workflows and actions": status check functions).
 #[derive(Clone, Copy, Debug, PartialEq, Eq)]
 pub enum Status {
+    /// The status of which `success()` is true.
     Success,
+    /// The status of which `failure()` is true.
     Failure,
+    /// The status of which `cancelled()` is true.
     Cancelled,
     /// None of the three, as where an ancestor was skipped.
     Other,

@@ -51,6 +51,10 @@ pub(crate) fn text_of_kind(alloc: Global, kind: Kind<'_>) -> Result<String, Allo
 /// The text of a value (GitHub Docs, "Evaluate expressions in workflows and actions": operators, type
 /// conversions): nothing of null, `true` or `false`, a number in decimal, a text itself, `Array` of any list and
 /// `Object` of any map. It has no limit.
+///
+/// # Errors
+///
+/// No memory was left.
 pub fn to_text(alloc: Global, value: &Value) -> Result<Text, AllocError>
     ensures { IfOk result (λ text. text ≡ text_of (kind_of_value value.now)) }
 {
