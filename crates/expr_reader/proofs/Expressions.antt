@@ -50,13 +50,13 @@ no_limit UnknownName ts rest text n stands h = h
 no_limit UnknownFunction ts rest text n stands h = h
 no_limit ArgumentCount ts rest text n stands h = h
 no_limit TooDeep ts rest text n stands h = h
-no_limit TooLong ts rest text n (at_bytes blocks none) h = absurd blocks
+no_limit TooLong ts rest text n (at_bytes blocks alone none) h = absurd blocks
 no_limit TooLong ts rest text n (at_token t after begins fits none wrong) h = absurd wrong
 no_limit TooLong ts rest text n (at_end ended none wrong) h = absurd wrong
-no_limit UnclosedTemplate ts rest text n (at_bytes blocks none) h = blocks
+no_limit UnclosedTemplate ts rest text n (at_bytes blocks alone none) h = blocks
 no_limit UnclosedTemplate ts rest text n (at_token t after begins fits none wrong) h = wrong
 no_limit UnclosedTemplate ts rest text n (at_end ended none wrong) h = wrong
-no_limit StatusHere ts rest text n (at_bytes blocks none) h = blocks
+no_limit StatusHere ts rest text n (at_bytes blocks alone none) h = blocks
 no_limit StatusHere ts rest text n (at_token t after begins fits none wrong) h = wrong
 no_limit StatusHere ts rest text n (at_end ended none wrong) h = wrong
 

@@ -12,7 +12,7 @@ use Rattle.expr_reader.specs.Machine.{Part, equality_of, relation_of, group_of, 
 use Rattle.expr_reader.specs.Outcome.{◌>>=◌}
 use Rattle.expr_reader.specs.Reading.{Failure, placed, after_step, after_token, reads}
 use Rattle.expr_reader.specs.Spelling.{SpellsToken, Begins, Lexes}
-use Rattle.expr_reader.specs.Stands.{Fits, is_dot, ends_dotted, Leads, BeginNoTree, GoesOnNoTree, Stands, at_bytes, at_token, at_end}
+use Rattle.expr_reader.specs.Stands.{Fits, is_dot, ends_dotted, Leads, BeginNoTree, GoesOnNoTree, BeginsNone, Stands, at_bytes, at_token, at_end}
 use Rattle.expr_reader.specs.declared.fault.Fault.{Fault}
 use Rattle.expr_reader.specs.declared.token.Mark.TheVariants.{Open, Close, OpenIndex, CloseIndex, Dot, Comma, Star, Not, Both, Either}
 use Rattle.expr_reader.specs.declared.tree.Equality.TheVariants.{Equal, NotEqual}
@@ -277,6 +277,12 @@ end_sound st bs done h blank (Err f) at sound = (
   (spans is_white bs).stops,
 )
 
+-- Where no token is read, the text begins with none that fits.
+none_fits : (dot last : Bool) (bs : List ℕ) (f : Fault) → dot ≡ last → next dot bs ≡ Err f → BeginsNone last (skip_white bs)
+none_fits dot last bs f same at t after begins fits =
+    let unskipped : next dot (skip_white bs) ≡ next dot bs = ap (λ (n : ℕ). next_at dot (drop n (skip_white bs))) (spans is_white bs).stops in
+    cc (at, unskipped, next_again dot (skip_white bs) t after begins (subst (λ (d : Bool). Fits d t) (sym same) fits))
+
 -- That what is read is spelled so, by fewer than n tokens.
 abbrev ReadsSound : ℕ → Type 0
 ReadsSound n = (st : State) (bs : List ℕ) (done : List Token) → length bs < n → Reached done st → Gets (is_dotted st) done bs (reads n st bs)
@@ -300,7 +306,7 @@ token_sound n sound st bs done fuel h (Err f) at comes = (
   skip_white bs,
   white_leads (is_dotted st) bs,
   refl,
-  subst (λ (ts : List Token). Stands f ts (skip_white bs)) (sym (append-nil done)) (at_bytes comes (none_goes_on done st bs h (λ u after next_state stepped found. cc (found, at)))),
+  subst (λ (ts : List Token). Stands f ts (skip_white bs)) (sym (append-nil done)) (at_bytes comes (none_fits (is_dotted st) (ends_dotted done) bs f (sym h.dots) at) (none_goes_on done st bs h (λ u after next_state stepped found. cc (found, at)))),
   (spans is_white bs).stops,
 )
 token_sound n sound st bs done fuel h (Ok None) at comes = end_sound st bs done h comes (finish st) refl (sound_finish st h.after.good)

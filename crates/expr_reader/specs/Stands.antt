@@ -45,11 +45,15 @@ BeginNoTree ts = (e : Expr) (later : List Token) → Shaped e → depth e ≤ 50
 abbrev pub GoesOnNoTree : List Token → List ℕ → Type 0
 GoesOnNoTree before rest = (t : Token) (after : List ℕ) → Begins rest t after → BeginNoTree (before ++ t ∷ [])
 
--- The fault stands before the rest of a text, after these tokens: no token comes next, or one that fits after
--- them and with which something is wrong, and none that comes goes on with a tree; or the end comes, and the
--- tokens are no tree's.
+-- The text begins with no token that fits.
+abbrev pub BeginsNone : Bool → List ℕ → Type 0
+BeginsNone dotted text = (t : Token) (after : List ℕ) → Begins text t after → Fits dotted t → ⊥
+
+-- The fault stands before the rest of a text, after these tokens: no token that fits after them comes next, or one
+-- with which something is wrong, and none that comes goes on with a tree; or the end comes, and the tokens are no
+-- tree's.
 pub data Stands (f : Fault) (before : List Token) (rest : List ℕ) : Type 0 where
-  at_bytes : Blocks rest f → GoesOnNoTree before rest → Stands f before rest
+  at_bytes : Blocks rest f → BeginsNone (ends_dotted before) rest → GoesOnNoTree before rest → Stands f before rest
   at_token : (t : Token) (after : List ℕ) → Begins rest t after → Fits (ends_dotted before) t → GoesOnNoTree before rest → Wrong (before ++ t ∷ []) f → Stands f before rest
   at_end : rest ≡ [] → ((e : Expr) → Shaped e → depth e ≤ 50 → tokens e ≢ before) → Wrong before f → Stands f before rest
 
