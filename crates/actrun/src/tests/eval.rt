@@ -185,6 +185,17 @@ fn assert_words<R: Abort + Files>(
 }
 
 #[test]
+fn eval_without_expression(rt: HostRuntime) -> io::Result<()> {
+    let words = ["actrun", "eval"];
+    assert_words(
+        &rt,
+        rt.alloc(),
+        words.as_slice(),
+        ("", "actrun: words\n", 2),
+    )
+}
+
+#[test]
 fn words_of_eval(rt: HostRuntime) -> io::Result<()> {
     let alloc = rt.alloc();
     fs::write(&rt, "contexts.json", FILE)?;
@@ -209,7 +220,7 @@ fn words_of_no_command(rt: HostRuntime) -> io::Result<()> {
     let alloc = rt.alloc();
     let none = ("", "actrun: words\n", 2);
     assert_words(&rt, alloc, ["actrun"].as_slice(), none)?;
-    for second in ["--help", "--version", "nothing", "eval"] {
+    for second in ["--help", "--version", "nothing"] {
         assert_words(&rt, alloc, ["actrun", second].as_slice(), none)?;
     }
     assert_words(&rt, alloc, ["actrun", "table", "more"].as_slice(), none)?;
