@@ -207,6 +207,7 @@ fn words_of_eval(rt: HostRuntime) -> io::Result<()> {
         "github.a.n",
     ];
     assert_words(&rt, alloc, file.as_slice(), ("1\n", "", 0))?;
+    fs::remove_file(&rt, "contexts.json")?;
     let none = ["actrun", "eval", "github.a.n"];
     assert_words(&rt, alloc, none.as_slice(), ("null\n", "", 0))?;
     let missing = ["actrun", "eval", "--contexts", "missing.json", "1"];
