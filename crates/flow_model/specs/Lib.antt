@@ -3,6 +3,7 @@ pub mod Found
 pub mod Json
 pub mod Mapping
 pub mod Name
+pub mod Numbers
 pub mod Offered
 pub mod Plain
 pub mod Rules
