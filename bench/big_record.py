@@ -1,14 +1,15 @@
 #!/usr/bin/env python3
-"""Prints a big legal record: one plan, whatever the count, and its first N entries.
+"""Prints a big legal record: one plan, whatever the count, and its first COUNT entries.
 
-The plan has one run of 194 jobs, each with one leg of 256 steps, which is enough for 100,000 entries.
-Each leg is played to its end before the next one is judged.
+  big_record.py COUNT [RUNS JOBS STEPS NEEDS]
+
+The plan has RUNS runs of JOBS jobs, each with one leg of STEPS steps; each job needs the NEEDS jobs before it in its
+run, so that every earlier job is its ancestor. Without further words it has one run of 194 jobs of 256 steps that need
+nothing, which is enough for 100,000 entries; `1000000 16 256 122 4` has enough for 1,000,000. Each leg is played to its
+end before the next job is judged, and each run before the next one is opened.
 """
 import json
 import sys
-
-JOBS = 194
-STEPS = 256
 
 
 def text(value):
@@ -20,43 +21,45 @@ def step(number):
     return {"condition": None, "env": {}, "id": None, "name": None, "tolerate": False, "work": work}
 
 
-def job(number):
-    name = f"job-{number}"
+def job(first, place, steps, needs):
+    name = f"job-{place}"
     return {
         "condition": None, "env": {}, "fail_fast": True, "group": None, "id": name, "legs": [{}],
-        "max_parallel": None, "name": name, "needs": [], "number": number, "outputs": {},
-        "steps": [step(k) for k in range(STEPS)], "tolerate": False,
+        "max_parallel": None, "name": name, "needs": [first + k for k in range(max(0, place - needs), place)],
+        "number": first + place, "outputs": {}, "steps": [step(k) for k in range(steps)], "tolerate": False,
     }
 
 
-def plan():
+def run(number, jobs, steps, needs):
     roots = {"github": {}, "inputs": {}, "secrets": {}, "vars": {}}
-    run = {
+    first = number * jobs
+    return {
         "env": {}, "event": None, "flow": "big", "group": None,
-        "jobs": [job(number) for number in range(JOBS)], "roots": roots,
+        "jobs": [job(first, place, steps, needs) for place in range(jobs)], "roots": roots,
     }
-    return {"runs": [run], "version": 1}
 
 
-def entries():
-    yield {"event": "open", "run": 0, "worker": 0}
-    for leg in range(JOBS):
-        worker = leg % 16
-        yield {"event": "judge", "job": leg, "worker": 0}
-        yield {"event": "ask", "leg": leg, "worker": 0}
-        yield {"event": "take", "leg": leg, "worker": worker}
-        for _ in range(STEPS):
-            answer = {"code": 0, "kind": "exit", "outputs": {}}
-            yield {"event": "begin", "leg": leg, "worker": worker}
-            yield {"answer": answer, "event": "end", "leg": leg, "worker": worker}
-        yield {"event": "finish", "leg": leg, "worker": worker}
-    yield {"event": "close", "run": 0, "worker": 0}
+def entries(runs, jobs, steps):
+    for number in range(runs):
+        yield {"event": "open", "run": number, "worker": 0}
+        for leg in range(number * jobs, (number + 1) * jobs):
+            worker = leg % 16
+            yield {"event": "judge", "job": leg, "worker": 0}
+            yield {"event": "ask", "leg": leg, "worker": 0}
+            yield {"event": "take", "leg": leg, "worker": worker}
+            for _ in range(steps):
+                answer = {"code": 0, "kind": "exit", "outputs": {}}
+                yield {"event": "begin", "leg": leg, "worker": worker}
+                yield {"answer": answer, "event": "end", "leg": leg, "worker": worker}
+            yield {"event": "finish", "leg": leg, "worker": worker}
+        yield {"event": "close", "run": number, "worker": 0}
 
 
 def main():
-    count = int(sys.argv[1])
-    print(text(plan()))
-    for place, entry in enumerate(entries()):
+    words = [int(word) for word in sys.argv[1:]]
+    count, runs, jobs, steps, needs = words if len(words) == 5 else [words[0], 1, 194, 256, 0]
+    print(text({"runs": [run(number, jobs, steps, needs) for number in range(runs)], "version": 1}))
+    for place, entry in enumerate(entries(runs, jobs, steps)):
         if place == count:
             break
         print(text(entry))
