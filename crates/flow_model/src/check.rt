@@ -163,7 +163,7 @@ pub(crate) fn check_map<V, T: PairTest<V>>(
 }
 
 /// A plan whose rules all hold, and of which all is offered so far. It is made by `Plan::check`, or copied.
-#[derive(Debug, Drop)]
+#[derive(Drop)]
 pub struct CheckedPlan {
     plan: Plan,
 }

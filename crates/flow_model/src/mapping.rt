@@ -11,7 +11,7 @@ use std::collections::btree_map::Iter;
 use std::marker::Model;
 
 /// A map from texts to values, in the byte order of its keys.
-#[derive(Debug, Drop)]
+#[derive(Drop)]
 pub struct Mapping<V> {
     entries: BTreeMap<String, V>,
 }

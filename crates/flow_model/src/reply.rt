@@ -53,7 +53,7 @@ impl<T: Drop> From<AllocFailed<T>> for ValueFault {
 }
 
 /// A step that is to be played, with its texts evaluated.
-#[derive(Debug, Drop)]
+#[derive(Drop)]
 pub struct StepCall {
     pub leg: u64,
     /// Its place in the job, from 0.
@@ -63,7 +63,7 @@ pub struct StepCall {
 }
 
 /// What a call asks for.
-#[derive(Debug, Drop)]
+#[derive(Drop)]
 pub enum CallWork {
     Script {
         text: Text,
@@ -77,7 +77,7 @@ pub enum CallWork {
 }
 
 /// What an event did, beside its change of the board.
-#[derive(Debug, Drop)]
+#[derive(Drop)]
 pub enum What {
     /// No step began.
     Moved,
@@ -90,7 +90,7 @@ pub enum What {
 }
 
 /// The answer to an event that was accepted.
-#[derive(Debug, Drop)]
+#[derive(Drop)]
 pub struct Reply {
     pub what: What,
     /// The run or leg that became going or admitted by the event.

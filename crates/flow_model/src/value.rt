@@ -11,7 +11,7 @@ use std::collections::BTreeMap;
 use std::marker::Model;
 
 /// A value, level by level (RFC 8259, without fractions and exponents).
-#[derive(Debug, Drop)]
+#[derive(Drop)]
 pub enum Node {
     /// Nothing.
     Null,
@@ -28,7 +28,7 @@ pub enum Node {
 }
 
 /// A value, which contracts see as plain data.
-#[derive(Debug, Drop)]
+#[derive(Drop)]
 pub struct Value {
     node: Node,
 }
