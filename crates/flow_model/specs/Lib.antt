@@ -1,4 +1,5 @@
 pub mod Answer
+pub mod Faults
 pub mod Found
 pub mod Json
 pub mod Mapping

@@ -1,5 +1,6 @@
 // What the board answers to an event that it accepts.
 ghost use Rattle.std.specs.Prelude.{◌≡◌};
+ghost use Rattle.flow_model.specs.Faults.{value_fault_name};
 
 use crate::duplicate::Duplicate;
 use crate::event::Member;
@@ -11,25 +12,36 @@ use thiserror::Error;
 
 /// Why a text could not be evaluated.
 #[derive(Clone, Copy, Debug, PartialEq, Eq, Error)]
+#[error("{}", self.name())]
 pub enum ValueFault {
     /// A number is no whole number, or out of range.
-    #[error("NotWhole")]
     NotWhole,
     /// Lists or maps were compared for identity.
-    #[error("NoIdentity")]
     NoIdentity,
     /// A format has a brace that fits none of its forms.
-    #[error("BadFormat")]
     BadFormat,
     /// A text is no JSON.
-    #[error("BadJson")]
     BadJson,
     /// A text has more than 1,048,576 bytes.
-    #[error("TooLarge")]
     TooLarge,
     /// There is no memory.
-    #[error("Memory")]
     Memory,
+}
+
+impl ValueFault {
+    /// The fault's name, as it is printed.
+    pub fn name(self) -> &'static str
+        ensures { result.now ≡ value_fault_name self }
+    {
+        match self {
+            ValueFault::NotWhole => "NotWhole",
+            ValueFault::NoIdentity => "NoIdentity",
+            ValueFault::BadFormat => "BadFormat",
+            ValueFault::BadJson => "BadJson",
+            ValueFault::TooLarge => "TooLarge",
+            ValueFault::Memory => "Memory",
+        }
+    }
 }
 
 impl From<AllocError> for ValueFault {
