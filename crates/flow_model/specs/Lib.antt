@@ -8,4 +8,5 @@ pub mod Numbers
 pub mod Offered
 pub mod Plain
 pub mod Rules
+pub mod Sound
 pub mod Value
