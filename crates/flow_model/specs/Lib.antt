@@ -2,6 +2,7 @@ pub mod Answer
 pub mod Faults
 pub mod Found
 pub mod Json
+pub mod Laws
 pub mod Mapping
 pub mod Name
 pub mod Numbers

@@ -205,11 +205,13 @@ impl Plan {
 
 impl CheckedPlan {
     ghost use Rattle.flow_model.specs.Offered.{IsOffered};
+    ghost use Rattle.flow_model.specs.Sound.{SoundPlan};
 
     /// The plan that was accepted.
     pub fn plan(&self) -> &Plan
         ensures same { result.now ≡ self.now }
         ensures sound { IsOffered result.now }
+        ensures rules { SoundPlan result.now }
     {
         &self.plan
     }

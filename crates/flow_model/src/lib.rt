@@ -14,6 +14,7 @@ pub mod check;
 pub mod duplicate;
 pub mod event;
 pub mod json;
+pub mod laws;
 pub mod mapping;
 pub mod name;
 mod offer;
