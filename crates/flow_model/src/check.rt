@@ -6,7 +6,7 @@ ghost use Rattle.std.specs.Prelude.{◌≡◌, is_ok, ◌+◌, ◌≤◌, ℕ, B
 ghost use Rattle.std.specs.List.{list_any};
 ghost use Rattle.std.specs.Str.{bytes_eq};
 ghost use Rattle.flow_model.specs.Found as found;
-ghost use Rattle.flow_model.specs.Found.{Checks};
+ghost use Rattle.flow_model.specs.Found.{Checks, ChecksUnder};
 
 use crate::duplicate::Duplicate;
 use crate::mapping::Mapping;
@@ -70,7 +70,7 @@ pub(crate) fn rule(alloc: Global, path: &str, holds: bool) -> Result<(), Broken>
 
 /// A check of a part, seen from the whole that has the part at this key.
 pub(crate) fn under(alloc: Global, key: &str, checked: Result<(), Broken>) -> Result<(), Broken>
-    ensures { (path : Option (List ℕ)) → Checks path checked → Checks (found.under key.now path) result }
+    ensures { ChecksUnder key.now checked result }
 {
     match checked {
         Ok(()) => Ok(()),
@@ -88,7 +88,7 @@ pub(crate) fn at_place(
     place: usize,
     checked: Result<(), Broken>,
 ) -> Result<(), Broken>
-    ensures checks { (path : Option (List ℕ)) → Checks path checked → Checks (found.under (decimal place) path) result }
+    ensures checks { ChecksUnder (decimal place) checked result }
     ensures ok { is_ok result ≡ is_ok checked }
 {
     match checked {

@@ -48,13 +48,6 @@ impl<V> Mapping<V> {
         self.entries
     }
 
-    /// The pairs as a map.
-    pub fn as_map(&self) -> &BTreeMap<String, V>
-        ensures { pairs_of result.now.entries ≡ self.now }
-    {
-        &self.entries
-    }
-
     /// How many pairs there are.
     pub fn len(&self) -> usize
         ensures { result ≡ length self.now }

@@ -106,7 +106,8 @@ fn copy_members(
     alloc: Global,
     members: &BTreeMap<String, Node>,
 ) -> Result<BTreeMap<String, Node>, AllocError>
-    ensures { IfOk result (λ twins. viewed (pairs_of twins.entries) ≡ viewed (pairs_of members.now.entries)) }
+    ensures { IfOk result
+        (λ twins. viewed (pairs_of twins.entries) ≡ viewed (pairs_of members.now.entries)) }
 {
     let mut twins = Mapping::empty(alloc);
     for (key, node) in members.iter() {

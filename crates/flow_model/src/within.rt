@@ -52,7 +52,8 @@ fn are_within(nodes: &Vec<Node>, room: u64) -> bool
 
 #[cycle(within)]
 fn are_members_within(members: &BTreeMap<String, Node>, room: u64) -> bool
-    ensures { result ≡ spec.members_within room (plain.members_of (viewed (pairs_of members.now.entries))) }
+    ensures { result
+        ≡ spec.members_within room (plain.members_of (viewed (pairs_of members.now.entries))) }
 {
     for (_key, node) in members.iter() {
         if !is_within(node, room) {
