@@ -3,7 +3,7 @@ use Rattle.std.proofs.Common.{◌≡◌, ◌+◌, ◌<◌, ◌≤◌, ◌&&◌, 
 use Rattle.flow_model.specs.Found.{Path, rule, or_else, under, each, each_pair, if_there}
 use Rattle.flow_model.specs.Name.{is_id}
 use Rattle.flow_model.specs.Plain.{Plain}
-use Rattle.flow_model.specs.Rules.{all_there, is_condition, is_template, is_flag, is_property, is_variable, is_input, is_job_output, are_distinct, with_id, ascend_between, is_limit, work_rules, step_rules, group_rules, leg_rules, step_ids, steps_rules, legs_rules, roots_rules}
+use Rattle.flow_model.specs.Rules.{all_there, is_condition, is_evaluable, is_flag, is_property, is_variable, is_input, is_job_output, are_distinct, with_id, ascend_between, is_limit, greatest, script_rules, work_rules, step_rules, group_rules, leg_rules, step_ids, steps_rules, legs_rules, roots_rules}
 use Rattle.flow_model.specs.Sound.{Each, HaveDistinctNames, AscendStrictly, IsProperty, SoundWork, SoundStep, SoundGroup}
 use Rattle.flow_model.specs.declared.plan.Group.{Group}
 use Rattle.flow_model.specs.declared.plan.JobPlan.{JobPlan}
@@ -35,12 +35,12 @@ no_properties ps h = none_each_pair is_property IsProperty (λ p k. nests-is_wit
 work_sound : (w : Work) → work_rules w ≡ None → SoundWork w
 work_sound (Run dir run shell) e =
     let r = or_else_none _ _ e in
-    (from_all_there is_template (λ t. IsTrue (is_template t)) (λ t h. h) dir (rule_none _ _ r.0), rule_none _ _ r.1)
+    (from_all_there is_evaluable (λ t. IsTrue (is_evaluable t)) (λ t h. h) dir (rule_none _ _ r.0), rule_none _ _ r.1)
 work_sound (Uses uses given) e = pass is_input (codes "with") given e
 
 sound_work : (w : Work) → SoundWork w → work_rules w ≡ None
 sound_work (Run dir run shell) h =
-    none_or_else _ _ (none_rule _ _ (to_all_there is_template (λ t. IsTrue (is_template t)) (λ t k. k) dir h.0)) (none_rule _ _ h.1)
+    none_or_else _ _ (none_rule _ _ (to_all_there is_evaluable (λ t. IsTrue (is_evaluable t)) (λ t k. k) dir h.0)) (none_rule _ _ h.1)
 sound_work (Uses uses given) h = passed is_input (codes "with") given h
 
 step_sound : (s : StepPlan) → step_rules s ≡ None → SoundStep s
@@ -96,20 +96,20 @@ sound_group g h = none_or_else _ _ (none_rule _ _ h.cancel) (none_rule _ _ h.nam
 
 -- ---- legs
 
-limit_sound : (n : ℕ) → IsTrue (is_limit n) → (1 ≤ n) × (n ≤ 9007199254740991)
+limit_sound : (n : ℕ) → IsTrue (is_limit n) → (1 ≤ n) × (n ≤ greatest)
 limit_sound n h =
-    let r = both (nat_le 1 n) (nat_le n 9007199254740991) h in
-    (from_le 1 n r.0, from_le n 9007199254740991 r.1)
+    let r = both (nat_le 1 n) (nat_le n greatest) h in
+    (from_le 1 n r.0, from_le n greatest r.1)
 
-sound_limit : (n : ℕ) → (1 ≤ n) × (n ≤ 9007199254740991) → IsTrue (is_limit n)
-sound_limit n h = pair (nat_le 1 n) (nat_le n 9007199254740991) (to_le 1 n h.0) (to_le n 9007199254740991 h.1)
+sound_limit : (n : ℕ) → (1 ≤ n) × (n ≤ greatest) → IsTrue (is_limit n)
+sound_limit n h = pair (nat_le 1 n) (nat_le n greatest) (to_le 1 n h.0) (to_le n greatest h.1)
 
 -- the rules of a job's legs, each in its own words
 pub record SoundLegs (j : JobPlan) : Type 0 where
   pub some_leg : 1 ≤ length j.legs
   pub few_legs : length j.legs ≤ 256
   pub legs : Each (λ combo. Each IsProperty combo) j.legs
-  pub max_parallel : IfSome j.max_parallel (λ n. (1 ≤ n) × (n ≤ 9007199254740991))
+  pub max_parallel : IfSome j.max_parallel (λ n. (1 ≤ n) × (n ≤ greatest))
 
 pub legs_sound : (j : JobPlan) → legs_rules j ≡ None → SoundLegs j
 legs_sound j e =
@@ -120,14 +120,14 @@ legs_sound j e =
       some_leg = from_le 1 (length j.legs) counts.0;
       few_legs = from_le (length j.legs) 256 counts.1;
       legs = each_none leg_rules (λ combo. Each IsProperty combo) properties 0 j.legs (under_none (codes "legs") (each leg_rules 0 j.legs) b.0);
-      max_parallel = from_all_there is_limit (λ n. (1 ≤ n) × (n ≤ 9007199254740991)) limit_sound j.max_parallel (rule_none (codes "max_parallel") _ b.1)
+      max_parallel = from_all_there is_limit (λ n. (1 ≤ n) × (n ≤ greatest)) limit_sound j.max_parallel (rule_none (codes "max_parallel") _ b.1)
     }
 
 pub sound_legs : (j : JobPlan) → SoundLegs j → legs_rules j ≡ None
 sound_legs j h =
     none_or_else _ _ (none_rule _ _ (pair (nat_le 1 (length j.legs)) (nat_le (length j.legs) 256) (to_le 1 (length j.legs) h.some_leg) (to_le (length j.legs) 256 h.few_legs)))
     (none_or_else _ _ (none_under (codes "legs") (each leg_rules 0 j.legs) (none_each leg_rules (λ combo. Each IsProperty combo) no_properties 0 j.legs h.legs))
-    (none_rule (codes "max_parallel") _ (to_all_there is_limit (λ n. (1 ≤ n) × (n ≤ 9007199254740991)) sound_limit j.max_parallel h.max_parallel)))
+    (none_rule (codes "max_parallel") _ (to_all_there is_limit (λ n. (1 ≤ n) × (n ≤ greatest)) sound_limit j.max_parallel h.max_parallel)))
 
 -- ---- needs
 

@@ -122,6 +122,9 @@ earlier_jobs first js here i j e k need en =
     let there = slice_get_there js (need - first) (omega (arith, b.0, b.1, within)) in
     (need - first, there.0, omega (arith, b.0, b.1), there.1, omega (arith, (here (need - first) there.0 there.1).number, b.0))
 
+from_first : (first i : ℕ) → first + (0 + i) ≡ first + i
+from_first first i = omega arith
+
 run_here : (first : ℕ) (r : RunPlan) → run_rules first r ≡ None → RunHere first r
 run_here first r e =
     let env = or_else_none _ _ e in
@@ -132,7 +135,7 @@ run_here first r e =
     let counts = both (nat_le 1 (length r.jobs)) (nat_le (length r.jobs) 256) (rule_none _ _ count.0) in
     let from_zero = jobs_here first 0 r.jobs (under_none (codes "jobs") (jobs_rules first 0 r.jobs) jobs.0) in
     let here : (i : ℕ) (j : JobPlan) → slice_get r.jobs i ≡ Some j → JobHere first (first + i) j =
-    λ i j h. moved first (first + (0 + i)) (first + i) j (omega arith) (from_zero i j h) in
+    λ i j h. moved first (first + (0 + i)) (first + i) j (from_first first i) (from_zero i j h) in
     let roots = roots_sound r.roots (under_none (codes "roots") (roots_rules r.roots) jobs.1) in
     record {
       sound = record {

@@ -73,7 +73,7 @@ abbrev mutual
   members_in_range (plain.member key v ms) = is_in_range v && members_in_range ms
 
 -- What was read is the meaning; NotWhole says that there is none, and Memory says nothing.
-abbrev pub Gives : {A B : Type 0} → (A → B) → Result A JsonFault → Option B → Type 0
-Gives seen (Ok read) meaning = meaning ≡ Some (seen read)
-Gives seen (Err NotWhole) meaning = meaning ≡ None
-Gives seen (Err Memory) meaning = Unit {0}
+abbrev pub ReadsAs : {A B : Type 0} → (A → B) → Result A JsonFault → Option B → Type 0
+ReadsAs seen (Ok read) meaning = meaning ≡ Some (seen read)
+ReadsAs seen (Err NotWhole) meaning = meaning ≡ None
+ReadsAs seen (Err Memory) meaning = Unit {0}

@@ -24,8 +24,8 @@ has_marker [] = false
 has_marker (b ∷ bs) = starts_with nat_eq (b ∷ bs) (codes "${{") || has_marker bs
 
 -- A text that is evaluated has at most 1,048,576 bytes. Marked expressions are not read yet, so it has none.
-abbrev pub is_template : List ℕ → Bool
-is_template t = nat_le (length t) 1048576 && not (has_marker t)
+abbrev pub is_evaluable : List ℕ → Bool
+is_evaluable t = nat_le (length t) 1048576 && not (has_marker t)
 
 -- Expressions are not read yet, so no text is a condition.
 abbrev pub is_condition : List ℕ → Bool
@@ -34,7 +34,7 @@ is_condition t = false
 -- a flag that is spelled out, or a text that is evaluated
 abbrev pub is_flag : Flag → Bool
 is_flag (Truth b) = true
-is_flag (Text t) = is_template t
+is_flag (Text t) = is_evaluable t
 
 -- a test of what may be missing
 abbrev pub all_there : {T : Type 0} → (T → Bool) → Option T → Bool
@@ -80,7 +80,7 @@ abbrev pub is_scalar : Plain → Bool
 is_scalar null = true
 is_scalar (truth b) = true
 is_scalar (whole z) = is_whole z
-is_scalar (text t) = is_template t
+is_scalar (text t) = is_evaluable t
 is_scalar (list vs) = false
 is_scalar (map_value ms) = false
 
@@ -102,7 +102,7 @@ is_input p = is_scalar p.1
 
 -- an output of a job: a name like an id, and a text that is evaluated
 abbrev pub is_job_output : List ℕ × List ℕ → Bool
-is_job_output p = is_id p.0 && is_template p.1
+is_job_output p = is_id p.0 && is_evaluable p.1
 
 -- ---- the parts of a plan
 
@@ -118,7 +118,7 @@ ascend_between low high (n ∷ ns) = nat_le low n && nat_lt n high && ascend_bet
 
 -- the rules of a script and its directory
 abbrev pub script_rules : Option (List ℕ) → List ℕ → Option Path
-script_rules dir run = or_else (rule (codes "dir") (all_there is_template dir)) (rule (codes "run") (is_template run))
+script_rules dir run = or_else (rule (codes "dir") (all_there is_evaluable dir)) (rule (codes "run") (is_evaluable run))
 
 -- the rules of what a step does
 abbrev pub work_rules : Work → Option Path
@@ -136,7 +136,7 @@ step_rules s =
 
 -- the rules of a concurrency group
 abbrev pub group_rules : Group → Option Path
-group_rules g = or_else (rule (codes "cancel") (is_flag g.cancel)) (rule (codes "name") (is_template g.name))
+group_rules g = or_else (rule (codes "cancel") (is_flag g.cancel)) (rule (codes "name") (is_evaluable g.name))
 
 -- the rules of a combination
 abbrev pub leg_rules : List (List ℕ × Plain) → Option Path

@@ -16,7 +16,7 @@ pub mod event;
 pub mod json;
 pub mod laws;
 pub mod mapping;
-pub mod name;
+mod name;
 mod offer;
 pub mod plan;
 pub mod reply;

@@ -13,7 +13,7 @@ use crate::check::{
 use crate::name::is_id;
 use crate::plan::{Combo, Group, JobPlan, Plan, Roots, RunPlan, StepPlan, Work};
 use crate::text::Text;
-use crate::texts::{is_flag, is_optional_condition, is_optional_template, is_template};
+use crate::texts::{is_flag, is_optional_condition, is_optional_text, is_evaluable};
 use crate::value::Value;
 use crate::within::{GREATEST, Input, JobOutput, Property, Variable};
 use std::alloc::Global;
@@ -24,8 +24,8 @@ pub(crate) struct Document;
 fn check_script(alloc: Global, dir: &Option<Text>, run: &Text) -> Result<(), Broken>
     ensures { Checks (spec.script_rules dir.now run.now) result }
 {
-    rule(alloc, "dir", is_optional_template(dir))?;
-    rule(alloc, "run", is_template(run.as_str()))
+    rule(alloc, "dir", is_optional_text(dir))?;
+    rule(alloc, "run", is_evaluable(run.as_str()))
 }
 
 impl Rules<Work> for Document {
@@ -64,7 +64,7 @@ fn check_group(alloc: Global, group: &Group) -> Result<(), Broken>
     ensures { Checks (spec.group_rules group.now) result }
 {
     rule(alloc, "cancel", is_flag(&group.cancel))?;
-    rule(alloc, "name", is_template(group.name.as_str()))
+    rule(alloc, "name", is_evaluable(group.name.as_str()))
 }
 
 impl Rules<Option<Group>> for Document {

@@ -9,7 +9,7 @@ ghost use Rattle.flow_model.specs.Value.{view, views, viewed};
 use crate::check::PairTest;
 use crate::name::is_id;
 use crate::text::Text;
-use crate::texts::is_template;
+use crate::texts::is_evaluable;
 use crate::value::{Node, Value};
 use std::collections::BTreeMap;
 
@@ -71,7 +71,7 @@ fn is_scalar(value: &Value) -> bool
         Node::Null => true,
         Node::Truth(_) => true,
         Node::Whole(number) => is_whole(*number),
-        Node::Text(text) => is_template(text.as_str()),
+        Node::Text(text) => is_evaluable(text.as_str()),
         Node::List(_) => false,
         Node::Map(_) => false,
     }
@@ -130,6 +130,6 @@ impl PairTest<Text> for JobOutput {
     ghost test = { spec.is_job_output };
 
     fn passes(key: &str, value: &Text) -> bool {
-        is_id(key) && is_template(value.as_str())
+        is_id(key) && is_evaluable(value.as_str())
     }
 }
