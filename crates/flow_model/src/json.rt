@@ -105,8 +105,7 @@ fn json_of_members(
 {
     let mut json = Mapping::empty(alloc);
     for (key, node) in members.iter() {
-        let name = Text::from_str(alloc, key.as_str())?;
-        json.insert(name, json_of_node(alloc, node)?)?;
+        json.set(alloc, key.as_str(), json_of_node(alloc, node)?)?;
     }
     Ok(json.into_map())
 }
@@ -168,8 +167,7 @@ fn members_of(
 {
     let mut members = Mapping::empty(alloc);
     for (key, member) in json.iter() {
-        let name = Text::from_str(alloc, key.as_str())?;
-        members.insert(name, node_of(alloc, member)?)?;
+        members.set(alloc, key.as_str(), node_of(alloc, member)?)?;
     }
     Ok(members.into_map())
 }

@@ -87,6 +87,15 @@ impl<V: Drop> Mapping<V> {
         drop(self.entries.insert(key.into_string(), value)?);
         Ok(())
     }
+
+    /// Sets the value at a copy of a key; where memory runs out, nothing is changed.
+    pub fn set(&mut self, alloc: Global, key: &str, value: V) -> Result<(), AllocError>
+        ensures ok { OnOk result (self.new ≡ with_pair key.now value self.old) }
+        ensures err { OnErr result (self.new ≡ self.old) }
+    {
+        let key = Text::from_str(alloc, key)?;
+        self.insert(key, value)
+    }
 }
 
 impl<V: Duplicate + Drop> Duplicate for Mapping<V> {
@@ -94,8 +103,7 @@ impl<V: Duplicate + Drop> Duplicate for Mapping<V> {
         let from = self.iter();
         let mut twin = Mapping::empty(alloc);
         for (key, value) in from {
-            let name = Text::from_str(alloc, key.as_str())?;
-            twin.insert(name, value.copy(alloc)?)?;
+            twin.set(alloc, key.as_str(), value.copy(alloc)?)?;
         }
         Ok(twin)
     }

@@ -111,8 +111,7 @@ fn copy_members(
 {
     let mut twins = Mapping::empty(alloc);
     for (key, node) in members.iter() {
-        let name = Text::from_str(alloc, key.as_str())?;
-        twins.insert(name, copy_node(alloc, node)?)?;
+        twins.set(alloc, key.as_str(), copy_node(alloc, node)?)?;
     }
     Ok(twins.into_map())
 }
