@@ -3,7 +3,7 @@ use Rattle.std.specs.Prelude.{◌≡◌, ℕ, ℤ, pos, negsuc, suc, ◌+◌, �
 use Rattle.std.specs.List.{list_all, list_any, starts_with}
 use Rattle.std.specs.Str.{bytes_eq}
 use Rattle.flow_model.specs.Plain.{Plain, null, truth, whole, text, list, map as map_value, Items, no_items, item, Members, no_members, member}
-use Rattle.flow_model.specs.Name.{is_id}
+use Rattle.flow_model.specs.Name.{is_id, is_one_of}
 use Rattle.flow_model.specs.Found.{Path, rule, or_else, under, each, each_pair, if_there}
 use Rattle.flow_model.specs.declared.plan.Plan.{Plan}
 use Rattle.flow_model.specs.declared.plan.RunPlan.{RunPlan}
@@ -63,10 +63,12 @@ abbrev mutual
   is_within room (list vs) = nat_lt 0 room && items_within (room - 1) vs
   is_within room (map_value ms) = nat_lt 0 room && members_within (room - 1) ms
 
+  -- the same of a list's items
   pub items_within : ℕ → Items → Bool
   items_within room no_items = true
   items_within room (item v vs) = is_within room v && items_within room vs
 
+  -- the same of a map's members
   pub members_within : ℕ → Members → Bool
   members_within room no_members = true
   members_within room (member k v ms) = is_within room v && members_within room ms
@@ -86,7 +88,7 @@ is_scalar (map_value ms) = false
 
 -- neither `=` nor a zero byte
 abbrev pub is_variable_byte : ℕ → Bool
-is_variable_byte b = not (b == 61) && not (b == 0)
+is_variable_byte b = not (is_one_of (codes "=") b) && not (b == 0)
 
 -- the name of a variable of an environment is not empty, and has no `=` and no zero byte
 abbrev pub is_variable_name : List ℕ → Bool

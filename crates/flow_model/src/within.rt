@@ -17,7 +17,7 @@ use std::collections::BTreeMap;
 pub const GREATEST: i64 = 9_007_199_254_740_991;
 
 /// Whether a number is in the range of whole numbers.
-pub fn is_whole(number: i64) -> bool
+pub(crate) fn is_whole(number: i64) -> bool
     ensures { result ≡ spec.is_whole number }
 {
     -GREATEST <= number && number <= GREATEST
