@@ -1,5 +1,5 @@
 -- A search for a broken rule: the path of the first one, from the part that was searched.
-use Rattle.std.specs.Prelude.{◌≡◌, ℕ, suc, ◌++◌, Bool, List, [], ◌∷◌, Option, Some, None, Result, Ok, Err, decimal, if◌then◌else◌}
+use Rattle.std.specs.Prelude.{◌≡◌, ℕ, suc, ◌++◌, Bool, List, [], ◌∷◌, Option, Some, None, Result, Ok, Err, codes, decimal, if◌then◌else◌}
 use Rattle.flow_model.specs.declared.check.Broken.{Broken}
 use Rattle.flow_model.specs.declared.check.Broken.TheVariants.{Rule, Memory}
 
@@ -19,7 +19,7 @@ or_else (Some path) other = Some path
 -- what was found in a part, seen from the whole that has the part at this key
 abbrev pub under : Path → Option Path → Option Path
 under key None = None
-under key (Some path) = Some (key ++ 46 ∷ path)
+under key (Some path) = Some (key ++ (codes "." ++ path))
 
 -- the first broken rule of a list's items, each at its place, counted from k
 abbrev pub each : {T : Type 0} → (T → Option Path) → ℕ → List T → Option Path
@@ -41,3 +41,7 @@ abbrev pub Checks : Option Path → Result (Unit {0}) Broken → Type 0
 Checks found (Ok done) = found ≡ None
 Checks found (Err (Rule path)) = found ≡ Some path
 Checks found (Err Memory) = Unit {0}
+
+-- Where a check of a part answers what a search finds, this is the answer of the whole that has the part at this key.
+abbrev pub ChecksUnder : Path → Result (Unit {0}) Broken → Result (Unit {0}) Broken → Type 0
+ChecksUnder key checked result = (found : Option Path) → Checks found checked → Checks (under key found) result

@@ -17,10 +17,12 @@ abbrev mutual
   json_of (plain.list vs) = array (json_items vs)
   json_of (plain.map ms) = object (json_members ms)
 
+  -- those of a list's items
   pub json_items : plain.Items → Items
   json_items plain.no_items = no_items
   json_items (plain.item v vs) = item (json_of v) (json_items vs)
 
+  -- those of a map's members
   pub json_members : plain.Members → Members
   json_members plain.no_members = no_members
   json_members (plain.member key v ms) = member key (json_of v) (json_members ms)
@@ -46,10 +48,12 @@ abbrev mutual
   value_of (array ds) = option_map plain.list (value_items ds)
   value_of (object ms) = option_map plain.map (value_members ms)
 
+  -- those of an array's items
   pub value_items : Items → Option plain.Items
   value_items no_items = Some plain.no_items
   value_items (item d ds) = option_and_then (λ v. option_map (plain.item v) (value_items ds)) (value_of d)
 
+  -- those of an object's members
   pub value_members : Members → Option plain.Members
   value_members no_members = Some plain.no_members
   value_members (member key d ms) = option_and_then (λ v. option_map (plain.member key v) (value_members ms)) (value_of d)
@@ -64,16 +68,18 @@ abbrev mutual
   is_in_range (plain.list vs) = items_in_range vs
   is_in_range (plain.map ms) = members_in_range ms
 
+  -- the same of a list's items
   pub items_in_range : plain.Items → Bool
   items_in_range plain.no_items = true
   items_in_range (plain.item v vs) = is_in_range v && items_in_range vs
 
+  -- the same of a map's members
   pub members_in_range : plain.Members → Bool
   members_in_range plain.no_members = true
   members_in_range (plain.member key v ms) = is_in_range v && members_in_range ms
 
 -- What was read is the meaning; NotWhole says that there is none, and Memory says nothing.
-abbrev pub Gives : {A B : Type 0} → (A → B) → Result A JsonFault → Option B → Type 0
-Gives seen (Ok read) meaning = meaning ≡ Some (seen read)
-Gives seen (Err NotWhole) meaning = meaning ≡ None
-Gives seen (Err Memory) meaning = Unit {0}
+abbrev pub ReadsAs : {A B : Type 0} → (A → B) → Result A JsonFault → Option B → Type 0
+ReadsAs seen (Ok read) meaning = meaning ≡ Some (seen read)
+ReadsAs seen (Err NotWhole) meaning = meaning ≡ None
+ReadsAs seen (Err Memory) meaning = Unit {0}

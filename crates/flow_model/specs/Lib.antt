@@ -1,10 +1,13 @@
 pub mod Answer
+pub mod Faults
 pub mod Found
 pub mod Json
+pub mod Laws
 pub mod Mapping
 pub mod Name
 pub mod Numbers
 pub mod Offered
 pub mod Plain
 pub mod Rules
+pub mod Sound
 pub mod Value

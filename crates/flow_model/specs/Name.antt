@@ -1,25 +1,31 @@
 -- The names of jobs, steps and outputs.
-use Rattle.std.specs.Prelude.{ℕ, ◌==◌, ◌&&◌, ◌||◌, Bool, false, nat_le, List, [], ◌∷◌, length}
-use Rattle.std.specs.List.{list_all}
+use Rattle.std.specs.Prelude.{ℕ, ◌&&◌, ◌||◌, Bool, false, nat_eq, nat_le, List, [], ◌∷◌, codes, length}
+use Rattle.std.specs.List.{list_all, list_any}
 
 -- A to Z and a to z
 abbrev pub is_letter : ℕ → Bool
 is_letter b = (nat_le 65 b && nat_le b 90) || (nat_le 97 b && nat_le b 122)
 
+-- 0 to 9
 abbrev pub is_digit : ℕ → Bool
 is_digit b = nat_le 48 b && nat_le b 57
 
+-- one of these bytes
+abbrev pub is_one_of : List ℕ → ℕ → Bool
+is_one_of bytes b = list_any (nat_eq b) bytes
+
 -- a letter, a digit, `-` or `_`
 abbrev pub is_name_byte : ℕ → Bool
-is_name_byte b = is_letter b || is_digit b || b == 45 || b == 95
+is_name_byte b = is_letter b || is_digit b || is_one_of (codes "-_") b
 
+-- letters, digits, `-` and `_`
 abbrev pub are_name_bytes : List ℕ → Bool
 are_name_bytes bytes = list_all is_name_byte bytes
 
 -- an id begins with a letter or `_`, and has only letters, digits, `-` and `_`
 abbrev pub is_id : List ℕ → Bool
 is_id [] = false
-is_id (b ∷ bs) = (is_letter b || b == 95) && are_name_bytes bs
+is_id (b ∷ bs) = (is_letter b || is_one_of (codes "_") b) && are_name_bytes bs
 
 -- an answer's output is named by 1 to 256 letters, digits, `-` and `_`
 abbrev pub is_output_name : List ℕ → Bool

@@ -15,6 +15,7 @@ use Rattle.flow_model.specs.declared.plan.StepPlan.{StepPlan}
 use Rattle.flow_model.specs.declared.plan.Work.{Work}
 use Rattle.flow_model.specs.declared.plan.Work.TheVariants.{Run, Uses}
 
+-- no item
 abbrev pub is_empty : {T : Type 0} → List T → Bool
 is_empty xs = length xs == 0
 
@@ -35,12 +36,14 @@ is_one_leg [] = false
 is_one_leg (combo ∷ []) = is_empty combo
 is_one_leg (combo ∷ other ∷ more) = false
 
+-- the first part of a step that is not offered yet
 abbrev pub step_offer : StepPlan → Option Path
 step_offer s =
     or_else (rule (codes "env") (is_empty s.env))
     (or_else (rule (codes "tolerate") (is_never s.tolerate))
     (rule (codes "work") (is_script s.work)))
 
+-- the first part of a job that is not offered yet
 abbrev pub job_offer : JobPlan → Option Path
 job_offer j =
     or_else (rule (codes "env") (is_empty j.env))
@@ -51,6 +54,7 @@ job_offer j =
     (or_else (under (codes "steps") (each step_offer 0 j.steps))
     (rule (codes "tolerate") (is_never j.tolerate)))))))
 
+-- the first part of a run that is not offered yet
 abbrev pub run_offer : RunPlan → Option Path
 run_offer r =
     or_else (rule (codes "env") (is_empty r.env))

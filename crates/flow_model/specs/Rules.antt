@@ -3,7 +3,7 @@ use Rattle.std.specs.Prelude.{◌≡◌, ℕ, ℤ, pos, negsuc, suc, ◌+◌, �
 use Rattle.std.specs.List.{list_all, list_any, starts_with}
 use Rattle.std.specs.Str.{bytes_eq}
 use Rattle.flow_model.specs.Plain.{Plain, null, truth, whole, text, list, map as map_value, Items, no_items, item, Members, no_members, member}
-use Rattle.flow_model.specs.Name.{is_id}
+use Rattle.flow_model.specs.Name.{is_id, is_one_of}
 use Rattle.flow_model.specs.Found.{Path, rule, or_else, under, each, each_pair, if_there}
 use Rattle.flow_model.specs.declared.plan.Plan.{Plan}
 use Rattle.flow_model.specs.declared.plan.RunPlan.{RunPlan}
@@ -23,18 +23,18 @@ abbrev pub has_marker : List ℕ → Bool
 has_marker [] = false
 has_marker (b ∷ bs) = starts_with nat_eq (b ∷ bs) (codes "${{") || has_marker bs
 
--- A template has at most 1,048,576 bytes. Marked expressions are not read yet, so no text that has one is a template.
-abbrev pub is_template : List ℕ → Bool
-is_template t = nat_le (length t) 1048576 && not (has_marker t)
+-- A text that is evaluated has at most 1,048,576 bytes. Marked expressions are not read yet, so it has none.
+abbrev pub is_evaluable : List ℕ → Bool
+is_evaluable t = nat_le (length t) 1048576 && not (has_marker t)
 
 -- Expressions are not read yet, so no text is a condition.
 abbrev pub is_condition : List ℕ → Bool
 is_condition t = false
 
--- a flag that is spelled out, or a template
+-- a flag that is spelled out, or a text that is evaluated
 abbrev pub is_flag : Flag → Bool
 is_flag (Truth b) = true
-is_flag (Text t) = is_template t
+is_flag (Text t) = is_evaluable t
 
 -- a test of what may be missing
 abbrev pub all_there : {T : Type 0} → (T → Bool) → Option T → Bool
@@ -43,10 +43,14 @@ all_there test (Some x) = test x
 
 -- ---- values
 
--- -9007199254740991 to 9007199254740991
+-- the greatest whole number; the least is its opposite
+abbrev pub greatest : ℕ
+greatest = 9007199254740991
+
+-- in the range of whole numbers
 abbrev pub is_whole : ℤ → Bool
-is_whole (pos n) = nat_le n 9007199254740991
-is_whole (negsuc n) = nat_lt n 9007199254740991
+is_whole (pos n) = nat_le n greatest
+is_whole (negsuc n) = nat_lt n greatest
 
 abbrev mutual
   -- a value nests at most so deep, and its numbers are in range: a scalar nests 0 deep, a list or map
@@ -59,10 +63,12 @@ abbrev mutual
   is_within room (list vs) = nat_lt 0 room && items_within (room - 1) vs
   is_within room (map_value ms) = nat_lt 0 room && members_within (room - 1) ms
 
+  -- the same of a list's items
   pub items_within : ℕ → Items → Bool
   items_within room no_items = true
   items_within room (item v vs) = is_within room v && items_within room vs
 
+  -- the same of a map's members
   pub members_within : ℕ → Members → Bool
   members_within room no_members = true
   members_within room (member k v ms) = is_within room v && members_within room ms
@@ -76,13 +82,13 @@ abbrev pub is_scalar : Plain → Bool
 is_scalar null = true
 is_scalar (truth b) = true
 is_scalar (whole z) = is_whole z
-is_scalar (text t) = is_template t
+is_scalar (text t) = is_evaluable t
 is_scalar (list vs) = false
 is_scalar (map_value ms) = false
 
 -- neither `=` nor a zero byte
 abbrev pub is_variable_byte : ℕ → Bool
-is_variable_byte b = not (b == 61) && not (b == 0)
+is_variable_byte b = not (is_one_of (codes "=") b) && not (b == 0)
 
 -- the name of a variable of an environment is not empty, and has no `=` and no zero byte
 abbrev pub is_variable_name : List ℕ → Bool
@@ -96,9 +102,9 @@ is_variable p = is_variable_name p.0 && is_scalar p.1
 abbrev pub is_input : List ℕ × Plain → Bool
 is_input p = is_scalar p.1
 
--- an output of a job: a name like an id, and a template
+-- an output of a job: a name like an id, and a text that is evaluated
 abbrev pub is_job_output : List ℕ × List ℕ → Bool
-is_job_output p = is_id p.0 && is_template p.1
+is_job_output p = is_id p.0 && is_evaluable p.1
 
 -- ---- the parts of a plan
 
@@ -112,10 +118,16 @@ abbrev pub ascend_between : ℕ → ℕ → List ℕ → Bool
 ascend_between low high [] = true
 ascend_between low high (n ∷ ns) = nat_le low n && nat_lt n high && ascend_between (suc n) high ns
 
+-- the rules of a script and its directory
+abbrev pub script_rules : Option (List ℕ) → List ℕ → Option Path
+script_rules dir run = or_else (rule (codes "dir") (all_there is_evaluable dir)) (rule (codes "run") (is_evaluable run))
+
+-- the rules of what a step does
 abbrev pub work_rules : Work → Option Path
-work_rules (Run dir run shell) = or_else (rule (codes "dir") (all_there is_template dir)) (rule (codes "run") (is_template run))
+work_rules (Run dir run shell) = script_rules dir run
 work_rules (Uses uses given) = under (codes "with") (each_pair is_input given)
 
+-- the rules of a step
 abbrev pub step_rules : StepPlan → Option Path
 step_rules s =
     or_else (rule (codes "condition") (all_there is_condition s.condition))
@@ -124,9 +136,11 @@ step_rules s =
     (or_else (rule (codes "tolerate") (is_flag s.tolerate))
     (under (codes "work") (work_rules s.work)))))
 
+-- the rules of a concurrency group
 abbrev pub group_rules : Group → Option Path
-group_rules g = or_else (rule (codes "cancel") (is_flag g.cancel)) (rule (codes "name") (is_template g.name))
+group_rules g = or_else (rule (codes "cancel") (is_flag g.cancel)) (rule (codes "name") (is_evaluable g.name))
 
+-- the rules of a combination
 abbrev pub leg_rules : List (List ℕ × Plain) → Option Path
 leg_rules combo = each_pair is_property combo
 
@@ -147,9 +161,9 @@ steps_rules steps =
     (or_else (rule (codes "steps") (are_distinct (step_ids steps)))
     (under (codes "steps") (each step_rules 0 steps)))
 
--- from 1
+-- a limit of the legs that are under way: from 1
 abbrev pub is_limit : ℕ → Bool
-is_limit n = nat_le 1 n && nat_le n 9007199254740991
+is_limit n = nat_le 1 n && nat_le n greatest
 
 -- the rules of a job's legs: 1 to 256, and a limit from 1
 abbrev pub legs_rules : JobPlan → Option Path
@@ -178,9 +192,11 @@ abbrev pub jobs_rules : ℕ → ℕ → List JobPlan → Option Path
 jobs_rules first k [] = None
 jobs_rules first k (j ∷ js) = or_else (under (decimal k) (job_rules first (first + k) j)) (jobs_rules first (suc k) js)
 
+-- the ids of jobs
 abbrev pub job_ids : List JobPlan → List (List ℕ)
 job_ids jobs = map (λ j. j.id) jobs
 
+-- the rules of the contexts that a run is handed
 abbrev pub roots_rules : Roots → Option Path
 roots_rules r =
     or_else (under (codes "github") (each_pair is_property r.github))

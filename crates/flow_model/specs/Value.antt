@@ -14,6 +14,7 @@ view_step (Node-F.Text t) = plain.text t
 view_step (Node-F.List vs) = plain.list (plain.items_of vs.items)
 view_step (Node-F.Map m) = plain.map (plain.members_of (pairs_of m.entries))
 
+-- the data of a node
 abbrev pub view : Node → plain.Plain
 view = fold-Node plain.Plain view_step
 

@@ -7,7 +7,7 @@ use crate::text::Text;
 use std::alloc::{AllocError, Global};
 
 /// How far a plan is. Jobs are numbered through all runs, and legs through all jobs, as in the plan.
-#[derive(Debug, Drop)]
+#[derive(Drop)]
 pub struct Board {
     pub runs: Sequence<Run>,
     /// The numbers of the legs that are `Ended`, in the order in which they became so.
@@ -15,7 +15,7 @@ pub struct Board {
 }
 
 /// How far a run is.
-#[derive(Debug, Drop)]
+#[derive(Drop)]
 pub struct Run {
     pub state: RunState,
     /// Whether it was told to stop.
@@ -26,7 +26,7 @@ pub struct Run {
 }
 
 /// The states of a run.
-#[derive(Clone, Copy, Debug, PartialEq, Eq)]
+#[derive(Clone, Copy, PartialEq, Eq)]
 pub enum RunState {
     New,
     Waiting,
@@ -35,14 +35,14 @@ pub enum RunState {
 }
 
 /// How far a job is.
-#[derive(Debug, Drop)]
+#[derive(Drop)]
 pub struct Job {
     pub state: JobState,
     pub legs: Sequence<Leg>,
 }
 
 /// The states of a job.
-#[derive(Clone, Copy, Debug, PartialEq, Eq)]
+#[derive(Clone, Copy, PartialEq, Eq)]
 pub enum JobState {
     Unjudged,
     Open,
@@ -50,7 +50,7 @@ pub enum JobState {
 }
 
 /// How far a leg is.
-#[derive(Debug, Drop)]
+#[derive(Drop)]
 pub struct Leg {
     pub state: LegState,
     /// Whether it was told to stop.
@@ -64,7 +64,7 @@ pub struct Leg {
 }
 
 /// The states of a leg.
-#[derive(Clone, Copy, Debug, PartialEq, Eq)]
+#[derive(Clone, Copy, PartialEq, Eq)]
 pub enum LegState {
     Fresh,
     Waiting,
@@ -76,7 +76,7 @@ pub enum LegState {
 }
 
 /// A step that is done (GitHub Docs, contexts: `steps`).
-#[derive(Debug, Drop)]
+#[derive(Drop)]
 pub struct DoneStep {
     /// How it ended.
     pub outcome: Outcome,

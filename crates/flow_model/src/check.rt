@@ -6,7 +6,7 @@ ghost use Rattle.std.specs.Prelude.{◌≡◌, is_ok, ◌+◌, ◌≤◌, ℕ, B
 ghost use Rattle.std.specs.List.{list_any};
 ghost use Rattle.std.specs.Str.{bytes_eq};
 ghost use Rattle.flow_model.specs.Found as found;
-ghost use Rattle.flow_model.specs.Found.{Checks};
+ghost use Rattle.flow_model.specs.Found.{Checks, ChecksUnder};
 
 use crate::duplicate::Duplicate;
 use crate::mapping::Mapping;
@@ -70,7 +70,7 @@ pub(crate) fn rule(alloc: Global, path: &str, holds: bool) -> Result<(), Broken>
 
 /// A check of a part, seen from the whole that has the part at this key.
 pub(crate) fn under(alloc: Global, key: &str, checked: Result<(), Broken>) -> Result<(), Broken>
-    ensures { (path : Option (List ℕ)) → Checks path checked → Checks (found.under key.now path) result }
+    ensures { ChecksUnder key.now checked result }
 {
     match checked {
         Ok(()) => Ok(()),
@@ -88,7 +88,7 @@ pub(crate) fn at_place(
     place: usize,
     checked: Result<(), Broken>,
 ) -> Result<(), Broken>
-    ensures checks { (path : Option (List ℕ)) → Checks path checked → Checks (found.under (decimal place) path) result }
+    ensures checks { ChecksUnder (decimal place) checked result }
     ensures ok { is_ok result ≡ is_ok checked }
 {
     match checked {
@@ -163,7 +163,7 @@ pub(crate) fn check_map<V, T: PairTest<V>>(
 }
 
 /// A plan whose rules all hold, and of which all is offered so far. It is made by `Plan::check`, or copied.
-#[derive(Debug, Drop)]
+#[derive(Drop)]
 pub struct CheckedPlan {
     plan: Plan,
 }
@@ -205,11 +205,13 @@ impl Plan {
 
 impl CheckedPlan {
     ghost use Rattle.flow_model.specs.Offered.{IsOffered};
+    ghost use Rattle.flow_model.specs.Sound.{SoundPlan};
 
     /// The plan that was accepted.
     pub fn plan(&self) -> &Plan
         ensures same { result.now ≡ self.now }
         ensures sound { IsOffered result.now }
+        ensures rules { SoundPlan result.now }
     {
         &self.plan
     }

@@ -26,3 +26,39 @@ impl Duplicate for u64 {
         Ok(*self)
     }
 }
+
+/// References side by side, `(a, (b, .. ()))`, which are copied in one go.
+pub(crate) trait Copies {
+    /// What they refer to, side by side.
+    type Made;
+
+    ghost seen: { Self → Self.Made };
+
+    /// A copy of each.
+    fn copies(self, alloc: Global) -> Result<Self::Made, AllocError>
+    where
+        Self: Sized,
+        ensures { IfOk result (λ made. made ≡ seen self) };
+}
+
+impl Copies for () {
+    type Made = ();
+
+    ghost seen = { λ parts. parts };
+
+    fn copies(self, _alloc: Global) -> Result<(), AllocError> {
+        Ok(())
+    }
+}
+
+impl<'a, A: Duplicate + Drop, R: Copies + Drop> Copies for (&'a A, R) {
+    type Made = (A, R::Made);
+
+    ghost seen = { λ parts. (parts.0.now, R.seen parts.1) };
+
+    fn copies(self, alloc: Global) -> Result<(A, R::Made), AllocError> {
+        let (first, others) = self;
+        let first = first.copy(alloc)?;
+        Ok((first, others.copies(alloc)?))
+    }
+}

@@ -1,7 +1,7 @@
 // A value to JSON and back, for all that reads or prints values.
 ghost use Rattle.std.specs.Prelude.{◌≡◌, IfOk, IsTrue, Some, map};
 ghost use Rattle.serde_json.specs.View.{view as json_view, items_view, members_view, number_view};
-ghost use Rattle.flow_model.specs.Json.{json_items, json_members, json_of, value_of, whole_of, value_items, value_members, is_in_range, Gives};
+ghost use Rattle.flow_model.specs.Json.{json_items, json_members, json_of, value_of, whole_of, value_items, value_members, is_in_range, ReadsAs};
 ghost use Rattle.flow_model.specs.Mapping.{pairs_of};
 ghost use Rattle.flow_model.specs.Plain as plain;
 ghost use Rattle.flow_model.specs.Value.{view, views, viewed};
@@ -57,7 +57,7 @@ pub fn json_of(alloc: Global, value: &Value) -> Result<serde_json::Value, AllocE
 /// The value of a JSON value. It is `NotWhole` exactly where a number in it has a fraction or an
 /// exponent, or is not in -9007199254740991..=9007199254740991.
 pub fn value_of(alloc: Global, json: &serde_json::Value) -> Result<Value, JsonFault>
-    ensures value { Gives (λ v. v) result (value_of (json_view json.now)) }
+    ensures value { ReadsAs (λ v. v) result (value_of (json_view json.now)) }
     ensures in_range { IfOk result (λ value. IsTrue (is_in_range value)) }
     ensures back { IfOk result (λ value. json_of value ≡ json_view json.now) }
 {
@@ -105,15 +105,14 @@ fn json_of_members(
 {
     let mut json = Mapping::empty(alloc);
     for (key, node) in members.iter() {
-        let name = Text::from_str(alloc, key.as_str())?;
-        json.insert(name, json_of_node(alloc, node)?)?;
+        json.set(alloc, key.as_str(), json_of_node(alloc, node)?)?;
     }
     Ok(json.into_map())
 }
 
 #[cycle(read)]
 fn node_of(alloc: Global, json: &serde_json::Value) -> Result<Node, JsonFault>
-    ensures { Gives view result (value_of (json_view json.now)) }
+    ensures { ReadsAs view result (value_of (json_view json.now)) }
 {
     match json {
         serde_json::Value::Null => Ok(Node::Null),
@@ -131,7 +130,7 @@ fn node_of(alloc: Global, json: &serde_json::Value) -> Result<Node, JsonFault>
 /// The whole number that a JSON number is. It is `NotWhole` exactly where the number has a fraction or
 /// an exponent, or is not in -9007199254740991..=9007199254740991.
 pub fn whole_of(number: &serde_json::Number) -> Result<i64, JsonFault>
-    ensures { Gives (λ z. z) result (whole_of (number_view number.now)) }
+    ensures { ReadsAs (λ z. z) result (whole_of (number_view number.now)) }
 {
     if let Some(whole) = number.as_u64() {
         return if whole <= GREATEST as u64 {
@@ -148,7 +147,7 @@ pub fn whole_of(number: &serde_json::Number) -> Result<i64, JsonFault>
 
 #[cycle(read)]
 fn nodes_of(alloc: Global, items: &Vec<serde_json::Value>) -> Result<Vec<Node>, JsonFault>
-    ensures { Gives (λ nodes. plain.items_of (views nodes.items)) result
+    ensures { ReadsAs (λ nodes. plain.items_of (views nodes.items)) result
         (value_items (items_view items.now.items)) }
 {
     let mut nodes = Vec::with_capacity(alloc, items.len())?;
@@ -163,13 +162,12 @@ fn members_of(
     alloc: Global,
     json: &BTreeMap<String, serde_json::Value>,
 ) -> Result<BTreeMap<String, Node>, JsonFault>
-    ensures { Gives (λ members. plain.members_of (viewed (pairs_of members.entries))) result
+    ensures { ReadsAs (λ members. plain.members_of (viewed (pairs_of members.entries))) result
         (value_members (members_view json.now.entries)) }
 {
     let mut members = Mapping::empty(alloc);
     for (key, member) in json.iter() {
-        let name = Text::from_str(alloc, key.as_str())?;
-        members.insert(name, node_of(alloc, member)?)?;
+        members.set(alloc, key.as_str(), node_of(alloc, member)?)?;
     }
     Ok(members.into_map())
 }

@@ -11,7 +11,7 @@ use std::collections::btree_map::Iter;
 use std::marker::Model;
 
 /// A map from texts to values, in the byte order of its keys.
-#[derive(Debug, Drop)]
+#[derive(Drop)]
 pub struct Mapping<V> {
     entries: BTreeMap<String, V>,
 }
@@ -46,13 +46,6 @@ impl<V> Mapping<V> {
         ensures { pairs_of result.entries ≡ self }
     {
         self.entries
-    }
-
-    /// The pairs as a map.
-    pub fn as_map(&self) -> &BTreeMap<String, V>
-        ensures { pairs_of result.now.entries ≡ self.now }
-    {
-        &self.entries
     }
 
     /// How many pairs there are.
@@ -94,6 +87,15 @@ impl<V: Drop> Mapping<V> {
         drop(self.entries.insert(key.into_string(), value)?);
         Ok(())
     }
+
+    /// Sets the value at a copy of a key; where memory runs out, nothing is changed.
+    pub fn set(&mut self, alloc: Global, key: &str, value: V) -> Result<(), AllocError>
+        ensures ok { OnOk result (self.new ≡ with_pair key.now value self.old) }
+        ensures err { OnErr result (self.new ≡ self.old) }
+    {
+        let key = Text::from_str(alloc, key)?;
+        self.insert(key, value)
+    }
 }
 
 impl<V: Duplicate + Drop> Duplicate for Mapping<V> {
@@ -101,8 +103,7 @@ impl<V: Duplicate + Drop> Duplicate for Mapping<V> {
         let from = self.iter();
         let mut twin = Mapping::empty(alloc);
         for (key, value) in from {
-            let name = Text::from_str(alloc, key.as_str())?;
-            twin.insert(name, value.copy(alloc)?)?;
+            twin.set(alloc, key.as_str(), value.copy(alloc)?)?;
         }
         Ok(twin)
     }

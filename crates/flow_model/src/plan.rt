@@ -2,7 +2,7 @@
 //
 // The fields are the keys of the plan document. GitHub Docs, workflow syntax, says what each key of a
 // workflow means.
-use crate::duplicate::Duplicate;
+use crate::duplicate::{Copies, Duplicate};
 use crate::mapping::Mapping;
 use crate::sequence::Sequence;
 use crate::text::Text;
@@ -10,13 +10,13 @@ use crate::value::Value;
 use std::alloc::{AllocError, Global};
 
 /// The runs of a plan, 1 to 64 of them.
-#[derive(Debug, Drop)]
+#[derive(Drop)]
 pub struct Plan {
     pub runs: Sequence<RunPlan>,
 }
 
 /// One workflow's run.
-#[derive(Debug, Drop)]
+#[derive(Drop)]
 pub struct RunPlan {
     /// The workflow's `env`: names to texts, numbers, truth values or null.
     pub env: Mapping<Value>,
@@ -33,7 +33,7 @@ pub struct RunPlan {
 }
 
 /// A concurrency group (workflow syntax: `concurrency`).
-#[derive(Debug, Drop)]
+#[derive(Drop)]
 pub struct Group {
     /// Whether entering stops the holder (`cancel-in-progress`).
     pub cancel: Flag,
@@ -42,14 +42,14 @@ pub struct Group {
 }
 
 /// A truth value that a workflow spells out, or as a text to be evaluated.
-#[derive(Debug, Drop)]
+#[derive(Drop)]
 pub enum Flag {
     Truth(bool),
     Text(Text),
 }
 
 /// The contexts that a run is handed, each a map of properties.
-#[derive(Debug, Drop)]
+#[derive(Drop)]
 pub struct Roots {
     pub github: Mapping<Value>,
     pub inputs: Mapping<Value>,
@@ -61,7 +61,7 @@ pub struct Roots {
 pub type Combo = Mapping<Value>;
 
 /// One job of a run, with a leg for each combination of its matrix.
-#[derive(Debug, Drop)]
+#[derive(Drop)]
 pub struct JobPlan {
     /// The text of `if`.
     pub condition: Option<Text>,
@@ -87,7 +87,7 @@ pub struct JobPlan {
 }
 
 /// One step of a job.
-#[derive(Debug, Drop)]
+#[derive(Drop)]
 pub struct StepPlan {
     /// The text of `if`.
     pub condition: Option<Text>,
@@ -100,7 +100,7 @@ pub struct StepPlan {
 }
 
 /// What a step does.
-#[derive(Debug, Drop)]
+#[derive(Drop)]
 pub enum Work {
     /// A script.
     Run {
@@ -120,7 +120,7 @@ pub enum Work {
 }
 
 /// The shell of a script (workflow syntax: `shell`).
-#[derive(Clone, Copy, Debug, PartialEq, Eq)]
+#[derive(Clone, Copy, PartialEq, Eq)]
 pub enum Shell {
     /// None was named.
     Default,
@@ -137,13 +137,16 @@ impl Duplicate for Plan {
 
 impl Duplicate for RunPlan {
     fn copy(&self, alloc: Global) -> Result<RunPlan, AllocError> {
+        let others = (&self.group, (&self.jobs, (&self.roots, ())));
+        let parts = (&self.env, (&self.event, (&self.flow, others)));
+        let (env, (event, (flow, (group, (jobs, (roots, ())))))) = parts.copies(alloc)?;
         Ok(RunPlan {
-            env: self.env.copy(alloc)?,
-            event: self.event.copy(alloc)?,
-            flow: self.flow.copy(alloc)?,
-            group: self.group.copy(alloc)?,
-            jobs: self.jobs.copy(alloc)?,
-            roots: self.roots.copy(alloc)?,
+            env,
+            event,
+            flow,
+            group,
+            jobs,
+            roots,
         })
     }
 }
@@ -178,33 +181,42 @@ impl Duplicate for Roots {
 
 impl Duplicate for JobPlan {
     fn copy(&self, alloc: Global) -> Result<JobPlan, AllocError> {
+        let last = (&self.outputs, (&self.steps, (&self.tolerate, ())));
+        let others = (&self.legs, (&self.name, (&self.needs, last)));
+        let parts = (&self.group, (&self.id, others));
+        let parts = (&self.condition, (&self.env, parts));
+        let (condition, (env, (group, (id, others)))) = parts.copies(alloc)?;
+        let (legs, (name, (needs, (outputs, (steps, (tolerate, ())))))) = others;
         Ok(JobPlan {
-            condition: self.condition.copy(alloc)?,
-            env: self.env.copy(alloc)?,
+            condition,
+            env,
             fail_fast: self.fail_fast,
-            group: self.group.copy(alloc)?,
-            id: self.id.copy(alloc)?,
-            legs: self.legs.copy(alloc)?,
+            group,
+            id,
+            legs,
             max_parallel: self.max_parallel,
-            name: self.name.copy(alloc)?,
-            needs: self.needs.copy(alloc)?,
+            name,
+            needs,
             number: self.number,
-            outputs: self.outputs.copy(alloc)?,
-            steps: self.steps.copy(alloc)?,
-            tolerate: self.tolerate.copy(alloc)?,
+            outputs,
+            steps,
+            tolerate,
         })
     }
 }
 
 impl Duplicate for StepPlan {
     fn copy(&self, alloc: Global) -> Result<StepPlan, AllocError> {
+        let others = (&self.name, (&self.tolerate, (&self.work, ())));
+        let parts = (&self.condition, (&self.env, (&self.id, others)));
+        let (condition, (env, (id, (name, (tolerate, (work, ())))))) = parts.copies(alloc)?;
         Ok(StepPlan {
-            condition: self.condition.copy(alloc)?,
-            env: self.env.copy(alloc)?,
-            id: self.id.copy(alloc)?,
-            name: self.name.copy(alloc)?,
-            tolerate: self.tolerate.copy(alloc)?,
-            work: self.work.copy(alloc)?,
+            condition,
+            env,
+            id,
+            name,
+            tolerate,
+            work,
         })
     }
 }

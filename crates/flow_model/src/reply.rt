@@ -1,5 +1,6 @@
 // What the board answers to an event that it accepts.
 ghost use Rattle.std.specs.Prelude.{◌≡◌};
+ghost use Rattle.flow_model.specs.Faults.{value_fault_name};
 
 use crate::duplicate::Duplicate;
 use crate::event::Member;
@@ -11,25 +12,36 @@ use thiserror::Error;
 
 /// Why a text could not be evaluated.
 #[derive(Clone, Copy, Debug, PartialEq, Eq, Error)]
+#[error("{}", self.name())]
 pub enum ValueFault {
     /// A number is no whole number, or out of range.
-    #[error("NotWhole")]
     NotWhole,
     /// Lists or maps were compared for identity.
-    #[error("NoIdentity")]
     NoIdentity,
     /// A format has a brace that fits none of its forms.
-    #[error("BadFormat")]
     BadFormat,
     /// A text is no JSON.
-    #[error("BadJson")]
     BadJson,
     /// A text has more than 1,048,576 bytes.
-    #[error("TooLarge")]
     TooLarge,
     /// There is no memory.
-    #[error("Memory")]
     Memory,
+}
+
+impl ValueFault {
+    /// The fault's name, as it is printed.
+    pub fn name(self) -> &'static str
+        ensures { result.now ≡ value_fault_name self }
+    {
+        match self {
+            ValueFault::NotWhole => "NotWhole",
+            ValueFault::NoIdentity => "NoIdentity",
+            ValueFault::BadFormat => "BadFormat",
+            ValueFault::BadJson => "BadJson",
+            ValueFault::TooLarge => "TooLarge",
+            ValueFault::Memory => "Memory",
+        }
+    }
 }
 
 impl From<AllocError> for ValueFault {
@@ -53,7 +65,7 @@ impl<T: Drop> From<AllocFailed<T>> for ValueFault {
 }
 
 /// A step that is to be played, with its texts evaluated.
-#[derive(Debug, Drop)]
+#[derive(Drop)]
 pub struct StepCall {
     pub leg: u64,
     /// Its place in the job, from 0.
@@ -63,7 +75,7 @@ pub struct StepCall {
 }
 
 /// What a call asks for.
-#[derive(Debug, Drop)]
+#[derive(Drop)]
 pub enum CallWork {
     Script {
         text: Text,
@@ -77,7 +89,7 @@ pub enum CallWork {
 }
 
 /// What an event did, beside its change of the board.
-#[derive(Debug, Drop)]
+#[derive(Drop)]
 pub enum What {
     /// No step began.
     Moved,
@@ -90,7 +102,7 @@ pub enum What {
 }
 
 /// The answer to an event that was accepted.
-#[derive(Debug, Drop)]
+#[derive(Drop)]
 pub struct Reply {
     pub what: What,
     /// The run or leg that became going or admitted by the event.

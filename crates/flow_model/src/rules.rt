@@ -13,19 +13,19 @@ use crate::check::{
 use crate::name::is_id;
 use crate::plan::{Combo, Group, JobPlan, Plan, Roots, RunPlan, StepPlan, Work};
 use crate::text::Text;
-use crate::texts::{is_flag, is_optional_condition, is_optional_template, is_template};
+use crate::texts::{is_flag, is_optional_condition, is_optional_text, is_evaluable};
 use crate::value::Value;
-use crate::within::{Input, JobOutput, Property, Variable};
+use crate::within::{GREATEST, Input, JobOutput, Property, Variable};
 use std::alloc::Global;
 
 /// The rules of plan documents.
 pub(crate) struct Document;
 
 fn check_script(alloc: Global, dir: &Option<Text>, run: &Text) -> Result<(), Broken>
-    ensures { Checks (found.or_else (found.rule (codes "dir") (spec.all_there spec.is_template dir.now)) (found.rule (codes "run") (spec.is_template run.now))) result }
+    ensures { Checks (spec.script_rules dir.now run.now) result }
 {
-    rule(alloc, "dir", is_optional_template(dir))?;
-    rule(alloc, "run", is_template(run.as_str()))
+    rule(alloc, "dir", is_optional_text(dir))?;
+    rule(alloc, "run", is_evaluable(run.as_str()))
 }
 
 impl Rules<Work> for Document {
@@ -64,7 +64,7 @@ fn check_group(alloc: Global, group: &Group) -> Result<(), Broken>
     ensures { Checks (spec.group_rules group.now) result }
 {
     rule(alloc, "cancel", is_flag(&group.cancel))?;
-    rule(alloc, "name", is_template(group.name.as_str()))
+    rule(alloc, "name", is_evaluable(group.name.as_str()))
 }
 
 impl Rules<Option<Group>> for Document {
@@ -124,7 +124,7 @@ fn is_limit(limit: Option<u64>) -> bool
     ensures { result ≡ spec.all_there spec.is_limit limit }
 {
     match limit {
-        Some(limit) => 1 <= limit && limit <= 9_007_199_254_740_991,
+        Some(limit) => 1 <= limit && limit <= GREATEST as u64,
         None => true,
     }
 }
@@ -273,7 +273,8 @@ fn check_runs(alloc: Global, runs: &[RunPlan]) -> Result<(), Broken>
 
 /// What is left of a room after the legs of some jobs, if they fit.
 fn room_after_jobs(jobs: &[JobPlan], room: usize) -> Option<usize>
-    ensures { MatchOption result (room < spec.legs_of_jobs jobs.now) (λ left. left + spec.legs_of_jobs jobs.now ≡ room) }
+    ensures { MatchOption result (room < spec.legs_of_jobs jobs.now)
+        (λ left. left + spec.legs_of_jobs jobs.now ≡ room) }
 {
     let mut left = room;
     for job in jobs {

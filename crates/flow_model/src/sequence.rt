@@ -1,5 +1,5 @@
 // A sequence, which contracts see as the list of its items.
-ghost use Rattle.std.specs.Prelude.{◌≡◌, ◌<◌, ◌==◌, [], ◌∷◌, ◌++◌, Some, OnOk, OnErr, length, slice_get, slice_set};
+ghost use Rattle.std.specs.Prelude.{◌≡◌, ◌==◌, [], ◌∷◌, ◌++◌, OnOk, OnErr, length, slice_get, slice_set};
 ghost use Rattle.std.specs.Option.{option_copied_mut};
 
 use crate::duplicate::Duplicate;
@@ -7,7 +7,7 @@ use std::alloc::{AllocError, Global};
 use std::marker::Model;
 
 /// A list of items.
-#[derive(Debug, Drop)]
+#[derive(Drop)]
 pub struct Sequence<T> {
     items: Vec<T>,
 }
@@ -21,7 +21,7 @@ impl<T> Model for Sequence<T> {
 }
 
 impl<T> Sequence<T> {
-    ghost use Rattle.std.specs.Borrow.{Lends, LendsIf, sem};
+    ghost use Rattle.std.specs.Borrow.{LendsIf, sem};
     ghost use Rattle.flow_model.specs.contracts.sequence.Sequence.{the_row};
 
     /// A sequence of no items. It takes no memory.
@@ -67,18 +67,10 @@ impl<T> Sequence<T> {
         self.items.is_empty()
     }
 
-    /// The item at a place, to be changed there.
-    pub fn item_mut(&mut self, place: usize) -> &mut T
-        requires { place < length self.old }
-        ensures* writes_back { sem 𝓛 (Lends (the_row T.row) T.row self.entry result (slice_set self.old place)) }
-        ensures value { slice_get self.old place ≡ Some result.now }
-    {
-        &mut self.items[place]
-    }
-
     /// The item at a place, if there is one, to be changed there.
     pub fn get_mut(&mut self, place: usize) -> Option<&mut T>
-        ensures* writes_back { sem 𝓛 (LendsIf (the_row T.row) T.row self.entry result (slice_set self.old place) self.old) }
+        ensures* writes_back { sem 𝓛
+            (LendsIf (the_row T.row) T.row self.entry result (slice_set self.old place) self.old) }
         ensures value { option_copied_mut result ≡ slice_get self.old place }
     {
         self.items.get_mut(place)

@@ -28,18 +28,18 @@ fn has_marker(text: &str) -> bool
     false
 }
 
-/// Whether a text can be evaluated as a template.
-pub(crate) fn is_template(text: &str) -> bool
-    ensures { result ≡ spec.is_template text.now }
+/// Whether a text can be evaluated.
+pub(crate) fn is_evaluable(text: &str) -> bool
+    ensures { result ≡ spec.is_evaluable text.now }
 {
     text.len() <= 1_048_576 && !has_marker(text)
 }
 
-pub(crate) fn is_optional_template(text: &Option<Text>) -> bool
-    ensures { result ≡ spec.all_there spec.is_template text.now }
+pub(crate) fn is_optional_text(text: &Option<Text>) -> bool
+    ensures { result ≡ spec.all_there spec.is_evaluable text.now }
 {
     match text {
-        Some(text) => is_template(text.as_str()),
+        Some(text) => is_evaluable(text.as_str()),
         None => true,
     }
 }
@@ -60,6 +60,6 @@ pub(crate) fn is_flag(flag: &Flag) -> bool
 {
     match flag {
         Flag::Truth(_) => true,
-        Flag::Text(text) => is_template(text.as_str()),
+        Flag::Text(text) => is_evaluable(text.as_str()),
     }
 }

@@ -11,7 +11,7 @@ use std::collections::BTreeMap;
 use std::marker::Model;
 
 /// A value, level by level (RFC 8259, without fractions and exponents).
-#[derive(Debug, Drop)]
+#[derive(Drop)]
 pub enum Node {
     /// Nothing.
     Null,
@@ -28,7 +28,7 @@ pub enum Node {
 }
 
 /// A value, which contracts see as plain data.
-#[derive(Debug, Drop)]
+#[derive(Drop)]
 pub struct Value {
     node: Node,
 }
@@ -106,12 +106,12 @@ fn copy_members(
     alloc: Global,
     members: &BTreeMap<String, Node>,
 ) -> Result<BTreeMap<String, Node>, AllocError>
-    ensures { IfOk result (λ twins. viewed (pairs_of twins.entries) ≡ viewed (pairs_of members.now.entries)) }
+    ensures { IfOk result
+        (λ twins. viewed (pairs_of twins.entries) ≡ viewed (pairs_of members.now.entries)) }
 {
     let mut twins = Mapping::empty(alloc);
     for (key, node) in members.iter() {
-        let name = Text::from_str(alloc, key.as_str())?;
-        twins.insert(name, copy_node(alloc, node)?)?;
+        twins.set(alloc, key.as_str(), copy_node(alloc, node)?)?;
     }
     Ok(twins.into_map())
 }

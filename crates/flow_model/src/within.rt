@@ -9,7 +9,7 @@ ghost use Rattle.flow_model.specs.Value.{view, views, viewed};
 use crate::check::PairTest;
 use crate::name::is_id;
 use crate::text::Text;
-use crate::texts::is_template;
+use crate::texts::is_evaluable;
 use crate::value::{Node, Value};
 use std::collections::BTreeMap;
 
@@ -17,7 +17,7 @@ use std::collections::BTreeMap;
 pub const GREATEST: i64 = 9_007_199_254_740_991;
 
 /// Whether a number is in the range of whole numbers.
-pub fn is_whole(number: i64) -> bool
+pub(crate) fn is_whole(number: i64) -> bool
     ensures { result ≡ spec.is_whole number }
 {
     -GREATEST <= number && number <= GREATEST
@@ -52,7 +52,8 @@ fn are_within(nodes: &Vec<Node>, room: u64) -> bool
 
 #[cycle(within)]
 fn are_members_within(members: &BTreeMap<String, Node>, room: u64) -> bool
-    ensures { result ≡ spec.members_within room (plain.members_of (viewed (pairs_of members.now.entries))) }
+    ensures { result
+        ≡ spec.members_within room (plain.members_of (viewed (pairs_of members.now.entries))) }
 {
     for (_key, node) in members.iter() {
         if !is_within(node, room) {
@@ -70,7 +71,7 @@ fn is_scalar(value: &Value) -> bool
         Node::Null => true,
         Node::Truth(_) => true,
         Node::Whole(number) => is_whole(*number),
-        Node::Text(text) => is_template(text.as_str()),
+        Node::Text(text) => is_evaluable(text.as_str()),
         Node::List(_) => false,
         Node::Map(_) => false,
     }
@@ -129,6 +130,6 @@ impl PairTest<Text> for JobOutput {
     ghost test = { spec.is_job_output };
 
     fn passes(key: &str, value: &Text) -> bool {
-        is_id(key) && is_template(value.as_str())
+        is_id(key) && is_evaluable(value.as_str())
     }
 }

@@ -23,7 +23,7 @@ json_of_members-loop-key-preserved t c =
     let converted : Node → Data = λ n. json_of (view n) in
     let all : map_values json_view c.loop-key.json ++ (string_bytes c.in-Some.key.now, converted c.in-Some.node.now) ∷ map_values converted (pairs_of left) ≡ map_values converted (pairs_of c.args.members.now.entries) =
     ap (λ es. map_values json_view c.loop-key.json ++ map_values converted (pairs_of es)) (sym c.in-Some.ensures.steps) ∙ c.loop-key.invariant in
-    rw (c.in_ok-insert.ensures.ok, map_values-with_pair json_view c.in_ok-name.name c.in_ok-json_of_node.field-0 c.loop-key.json, c.in_ok-name.ensures, c.as_str.ensures.value, c.in_ok-json_of_node.ensures)
+    rw (c.in_ok-set.ensures.ok, map_values-with_pair json_view c.as_str.result.now c.in_ok-json_of_node.field-0 c.loop-key.json, c.as_str.ensures.value, c.in_ok-json_of_node.ensures)
     (with_pair-next (map_values json_view c.loop-key.json) (string_bytes c.in-Some.key.now) (converted c.in-Some.node.now) (map_values converted (pairs_of left)) _ all
     (Ascends-map_values converted _ (Ascends-pairs_of _ c.iter-key-items.ensures.ordered)))
 

@@ -36,7 +36,7 @@ members_of-loop-key-preserved t c =
     let ascends = Ascends-pairs_of _ c.iter-key-items.ensures.ordered in
     let keys : keys_of c.loop-key.members ++ k ∷ keys_of (pairs_of left) ≡ keys_of (pairs_of c.args.json.now.entries) =
     ap (λ es. keys_of c.loop-key.members ++ keys_of (pairs_of es)) (sym c.in-Some.ensures.steps) ∙ c.loop-key.invariant.keys in
-    rw (c.in_ok-insert.ensures.ok, c.in_ok-name.ensures, c.as_str.ensures.value) (record {
+    rw (c.in_ok-set.ensures.ok, c.as_str.ensures.value) (record {
       keys = keys_of-next c.loop-key.members k v (keys_of (pairs_of left)) _ keys ascends;
       reads = rw (with_pair-above c.loop-key.members k v (keys_of (pairs_of left)) _ keys ascends, map-append {B = List ℕ × plain.Plain} (λ p. (p.0, view p.1)) c.loop-key.members ((k, v) ∷ []))
           (members_step (viewed c.loop-key.members) (view v) (c.in-Some.key.now, c.in-Some.member.now) left _

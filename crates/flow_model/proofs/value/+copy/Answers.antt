@@ -11,7 +11,7 @@ copy_members-loop-key-preserved t c =
     let left = c.next.new.self in
     let all : viewed c.loop-key.twins ++ (string_bytes c.in-Some.key.now, view c.in-Some.node.now) ∷ viewed (pairs_of left) ≡ viewed (pairs_of c.args.members.now.entries) =
     ap (λ es. viewed c.loop-key.twins ++ viewed (pairs_of es)) (sym c.in-Some.ensures.steps) ∙ c.loop-key.invariant in
-    rw (c.in_ok-insert.ensures.ok, map_values-with_pair view c.in_ok-name.name c.in_ok-copy_node.field-0 c.loop-key.twins, c.in_ok-name.ensures, c.as_str.ensures.value, c.in_ok-copy_node.ensures)
+    rw (c.in_ok-set.ensures.ok, map_values-with_pair view c.as_str.result.now c.in_ok-copy_node.field-0 c.loop-key.twins, c.as_str.ensures.value, c.in_ok-copy_node.ensures)
     (with_pair-next (viewed c.loop-key.twins) (string_bytes c.in-Some.key.now) (view c.in-Some.node.now) (viewed (pairs_of left)) _ all
     (Ascends-map_values view _ (Ascends-pairs_of _ c.iter-key-items.ensures.ordered)))
 

@@ -8,5 +8,5 @@ loop-key-preserved g c =
     let left = c.next.new.self in
     let all : c.loop-key.twin ++ (string_bytes c.in-Some.key.now, c.in-Some.value.now) ∷ pairs_of left ≡ c.args.self.now =
     ap (λ es. c.loop-key.twin ++ pairs_of es) (sym c.in-Some.ensures.steps) ∙ c.loop-key.invariant in
-    rw (c.in_ok-insert.ensures.ok, c.in_ok-name.ensures, c.as_str.ensures.value, c.in_ok-copy.ensures)
+    rw (c.in_ok-set.ensures.ok, c.as_str.ensures.value, c.in_ok-copy.ensures)
     (with_pair-next c.loop-key.twin (string_bytes c.in-Some.key.now) c.in-Some.value.now (pairs_of left) c.args.self.now all c.iter-from.ensures.ascends)

@@ -1,0 +1,5 @@
+use Rattle.flow_model.proofs.SoundRules.{plan_sound, sound_plan}
+use Rattle.flow_model.proofs.laws.rules_hold.Goals as goal
+
+pub returns : goal.returns
+returns c = λ p. (plan_sound p, sound_plan p)
