@@ -32,12 +32,13 @@ pub record HoldsMiscount (ts : List Token) : Type 0 where
   pub miscount : takes function (count arguments) ≡ false
   pub same : before ++ (tokens (call function arguments) ++ after) ≡ ts
 
--- What is wrong with tokens that begin no tree within the limits.
-abbrev pub Wrong : List Token → Fault → Type 0
-Wrong ts Unexpected = Unit {0}
-Wrong ts ArgumentCount = HoldsMiscount ts
-Wrong ts TooDeep = HoldsDeep ts
-Wrong ts f = ⊥
+-- What is wrong with tokens that begin no tree within the limits: a limit is not kept, or even without
+-- limits they begin none, as unformed says.
+abbrev pub Wrong : Type 0 → List Token → Fault → Type 0
+Wrong unformed ts Unexpected = unformed
+Wrong unformed ts ArgumentCount = HoldsMiscount ts
+Wrong unformed ts TooDeep = HoldsDeep ts
+Wrong unformed ts f = ⊥
 
 -- The bytes begin with a quote that nothing closes.
 pub record IsUnclosed (bs : List ℕ) : Type 0 where
