@@ -3,6 +3,7 @@ use Rattle.std.specs.Prelude.{ℕ, nat_le, nat_lt, Bool, true, false, if◌then�
 use Rattle.expr_reader.specs.Expr.{Expr, Exprs, literal, context, call, group, property, index, wildcard, opposite, relation, equality, both, either, exprs_of, count, depth}
 use Rattle.expr_reader.specs.Grammar.{Token, constant, root, callee, name, relational, equational, mark, takes, any_count}
 use Rattle.expr_reader.specs.Outcome.{◌>>=◌}
+use Rattle.expr_reader.specs.Sizes.{greatest_depth}
 use Rattle.expr_reader.specs.declared.fault.Fault.{Fault}
 use Rattle.expr_reader.specs.declared.fault.Fault.TheVariants.{Unexpected, ArgumentCount, TooDeep}
 use Rattle.expr_reader.specs.declared.tree.Equality.{Equality}
@@ -115,7 +116,7 @@ pub record Limits : Type 0 where
 
 -- The limits of an expression.
 abbrev pub limits : Limits
-limits = record { too_deep = nat_lt 50; counts = takes }
+limits = record { too_deep = nat_lt greatest_depth; counts = takes }
 
 -- No limits.
 abbrev pub no_limits : Limits

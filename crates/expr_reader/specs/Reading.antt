@@ -5,6 +5,7 @@ use Rattle.expr_reader.specs.Bytes.{skip_white}
 use Rattle.expr_reader.specs.Expr.{Expr}
 use Rattle.expr_reader.specs.Lexer.{Lexed, next}
 use Rattle.expr_reader.specs.Machine.{State, want, is_dotted, limits, step, finish}
+use Rattle.expr_reader.specs.Sizes.{longest_expression}
 use Rattle.expr_reader.specs.declared.fault.Fault.{Fault}
 use Rattle.expr_reader.specs.declared.fault.Fault.TheVariants.{TooLong}
 
@@ -44,4 +45,4 @@ read_tokens base text = located base (length text) (reads (suc (length text)) (w
 
 -- The tree of a text within the limit; a longer one is too long from its byte 20,000 on.
 abbrev pub read_text : ℕ → List ℕ → Result Expr Failure
-read_text base text = if nat_lt 20000 (length text) then Err (TooLong, base + 20000) else read_tokens base text
+read_text base text = if nat_lt longest_expression (length text) then Err (TooLong, base + longest_expression) else read_tokens base text

@@ -4,6 +4,7 @@ use Rattle.expr_reader.specs.Bytes.{is_white, IsRun, Stops}
 use Rattle.expr_reader.specs.Expr.{null, truth, whole, quoted, Expr, depth}
 use Rattle.expr_reader.specs.Grammar.{Token, constant, root, callee, name, relational, equational, mark, tokens, Shaped, Formed}
 use Rattle.expr_reader.specs.Spelling.{Begins}
+use Rattle.expr_reader.specs.Sizes.{greatest_depth}
 use Rattle.expr_reader.specs.Wrong.{Wrong, Blocks}
 use Rattle.expr_reader.specs.declared.fault.Fault.{Fault}
 use Rattle.expr_reader.specs.declared.token.Mark.TheVariants.{Dot}
@@ -39,7 +40,7 @@ Leads dotted text (t ∷ ts) rest = (after : List ℕ) × Begins text t after ×
 
 -- No tree within the limits has tokens that begin so.
 abbrev pub BeginNoTree : List Token → Type 0
-BeginNoTree ts = (e : Expr) (later : List Token) → Shaped e → depth e ≤ 50 → tokens e ≢ ts ++ later
+BeginNoTree ts = (e : Expr) (later : List Token) → Shaped e → depth e ≤ greatest_depth → tokens e ≢ ts ++ later
 
 -- No tree begins so, however deep it is and however many arguments its calls have.
 abbrev pub BeginNoFormed : List Token → Type 0
@@ -70,7 +71,7 @@ pub data Stands (f : Fault) (before : List Token) (rest : List ℕ) : Type 0 whe
       → Wrong (BeginNoFormed (before ++ t ∷ [])) (before ++ t ∷ []) f
       → Stands f before rest
   at_end :
-      rest ≡ [] → ((e : Expr) → Shaped e → depth e ≤ 50 → tokens e ≢ before)
+      rest ≡ [] → ((e : Expr) → Shaped e → depth e ≤ greatest_depth → tokens e ≢ before)
       → Wrong (AreNoFormed before) before f
       → Stands f before rest
 

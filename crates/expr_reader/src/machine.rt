@@ -622,6 +622,6 @@ fn end_text(operand: Operand, mut frames: Vec<Frame>) -> Result<Tree, Refusal>
 {
     match pop(&mut frames) {
         Some(frame) => refuse(frame),
-        None => Ok(operand.tree),
+        None => Ok(operand.into_tree()),
     }
 }

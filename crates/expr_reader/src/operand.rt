@@ -12,13 +12,13 @@ use crate::tree::{Context, Equality, Function, Literal, Relation, Tree, Wildcard
 use std::alloc::Global;
 
 /// How deep a tree may be.
-pub(crate) const DEEPEST: usize = 50;
+const DEEPEST: usize = 50;
 
 /// A tree that is whole, with its depth.
 #[derive(Drop)]
 pub(crate) struct Operand {
-    pub(crate) tree: Tree,
-    pub(crate) height: usize,
+    tree: Tree,
+    height: usize,
     ghost measured: { height ≡ depth_of (view tree) },
     ghost shallow: { height ≤ 50 },
 }
@@ -26,8 +26,8 @@ pub(crate) struct Operand {
 /// Trees one after another, with the depth of the deepest.
 #[derive(Drop)]
 pub(crate) struct Trees {
-    pub(crate) trees: Vec<Tree>,
-    pub(crate) height: usize,
+    trees: Vec<Tree>,
+    height: usize,
     ghost measured: { height ≡ deepest_of (exprs_of (views trees.items)) },
     ghost shallow: { height ≤ 50 },
 }
@@ -76,6 +76,13 @@ impl Trees {
 
 impl Operand {
     ghost use Rattle.expr_reader.specs.Stack.{tree_of, trees_of};
+
+    /// Its tree.
+    pub(crate) fn into_tree(self) -> Tree
+        ensures { view result ≡ tree_of self }
+    {
+        self.tree
+    }
 
     pub(crate) fn literal(literal: Literal) -> Operand
         ensures { tree_of result ≡ literal_of (constant_of literal) }
