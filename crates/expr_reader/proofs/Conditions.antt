@@ -4,7 +4,7 @@ use Rattle.std.proofs.lemmas.Bool.{cond-false, le-ltb, ltb-true, ltb-false}
 use Rattle.expr_reader.specs.Expr.{Expr}
 use Rattle.expr_reader.specs.Faults.{fault_at, Answers}
 use Rattle.expr_reader.specs.Reading.{Failure, read_text}
-use Rattle.expr_reader.specs.Template.{Piece, marked, has_mark, Pieces, names_status, SpellsTemplate, SpellsTrimmed}
+use Rattle.expr_reader.specs.Template.{Piece, marked, has_marker, Pieces, names_status, SpellsTemplate, SpellsTrimmed}
 use Rattle.expr_reader.specs.TemplateReading.{read_pieces, one_piece, trimmed_by, read_trimmed}
 use Rattle.expr_reader.specs.TemplateStands.{StandsInPieces, StandsInTemplate, StandsInTrimmed, IsReadAs, in_pieces, in_expression, too_long_condition, in_marks}
 use Rattle.expr_reader.specs.TemplateView.{template_of}
@@ -71,10 +71,10 @@ trimmed_by_read base text ps false h = ap one_piece (spelled_read base h.0 text 
 trimmed_by_read base text ps true h =
     cond-false (nat_lt 1048576 (length text)) (Err (TooLong, base + 1048576)) (read_pieces (base + length text) text) (le-ltb 1048576 (length text) h.0) ∙ spelled_pieces (base + length text) text ps h.1
 
-trimmed_by_stands : (base : ℕ) (text : List ℕ) (x : Failure) (mark : Bool) → has_mark text ≡ mark → trimmed_by mark base text ≡ Err x → StandsInTrimmed base text x
+trimmed_by_stands : (base : ℕ) (text : List ℕ) (x : Failure) (mark : Bool) → has_marker text ≡ mark → trimmed_by mark base text ≡ Err x → StandsInTrimmed base text x
 trimmed_by_stands base text x false mark h = one_stands base text x (read_text base text) mark refl h
   where
-    one_stands : (base : ℕ) (text : List ℕ) (x : Failure) (r : Result Expr Failure) → has_mark text ≡ false → read_text base text ≡ r → one_piece r ≡ Err x → StandsInTrimmed base text x
+    one_stands : (base : ℕ) (text : List ℕ) (x : Failure) (r : Result Expr Failure) → has_marker text ≡ false → read_text base text ≡ r → one_piece r ≡ Err x → StandsInTrimmed base text x
     one_stands base text x (Ok e) mark at h = cc
     one_stands base text x (Err y) mark at h =
         let same : y ≡ x = cc in
@@ -82,22 +82,22 @@ trimmed_by_stands base text x false mark h = one_stands base text x (read_text b
         subst (StandsInTrimmed base text) same (in_expression mark found.0 found.1 found.2)
 trimmed_by_stands base text x true mark h = long_stands base text x (nat_lt 1048576 (length text)) mark refl h
   where
-    long_stands : (base : ℕ) (text : List ℕ) (x : Failure) (t : Bool) → has_mark text ≡ true → nat_lt 1048576 (length text) ≡ t → cond t (Err (TooLong, base + 1048576)) (read_pieces (base + length text) text) ≡ Err x → StandsInTrimmed base text x
+    long_stands : (base : ℕ) (text : List ℕ) (x : Failure) (t : Bool) → has_marker text ≡ true → nat_lt 1048576 (length text) ≡ t → cond t (Err (TooLong, base + 1048576)) (read_pieces (base + length text) text) ≡ Err x → StandsInTrimmed base text x
     long_stands base text x true mark test h = let same : (TooLong, base + 1048576) ≡ x = cc in too_long_condition mark (ltb-true 1048576 (length text) test) (sym same)
     long_stands base text x false mark test h = in_marks mark (pieces_stand (base + length text) text x (omega arith) h)
 
 -- A condition: found, only and stands.
-pub condition_found : (base : ℕ) (text : List ℕ) (result : Result Template ExprFault) → Answers template_of result (read_trimmed base text) → IfOk result (λ t. SpellsTrimmed (has_mark text) (template_of t) text)
-condition_found base text (Ok t) h = trimmed_by_found base text (template_of t) (has_mark text) h
+pub condition_found : (base : ℕ) (text : List ℕ) (result : Result Template ExprFault) → Answers template_of result (read_trimmed base text) → IfOk result (λ t. SpellsTrimmed (has_marker text) (template_of t) text)
+condition_found base text (Ok t) h = trimmed_by_found base text (template_of t) (has_marker text) h
 condition_found base text (Err f) h = tt
 
-pub condition_only : (base : ℕ) (text : List ℕ) (result : Result Template ExprFault) → Answers template_of result (read_trimmed base text) → (ps : List Piece) → SpellsTrimmed (has_mark text) ps text → IsReadAs result ps
-condition_only base text (Ok t) h ps s = one_template (read_trimmed base text) (template_of t) ps h (trimmed_by_read base text ps (has_mark text) s)
-condition_only base text (Err f) h ps s = only_memory (read_trimmed base text) ps f (fault_at f) refl (trimmed_by_read base text ps (has_mark text) s) h
+pub condition_only : (base : ℕ) (text : List ℕ) (result : Result Template ExprFault) → Answers template_of result (read_trimmed base text) → (ps : List Piece) → SpellsTrimmed (has_marker text) ps text → IsReadAs result ps
+condition_only base text (Ok t) h ps s = one_template (read_trimmed base text) (template_of t) ps h (trimmed_by_read base text ps (has_marker text) s)
+condition_only base text (Err f) h ps s = only_memory (read_trimmed base text) ps f (fault_at f) refl (trimmed_by_read base text ps (has_marker text) s) h
 
 condition_stands_by : (base : ℕ) (text : List ℕ) (o : Option Failure) → IfSome o (λ x. read_trimmed base text ≡ Err x) → IfSome o (StandsInTrimmed base text)
 condition_stands_by base text None h = tt
-condition_stands_by base text (Some x) h = trimmed_by_stands base text x (has_mark text) refl h
+condition_stands_by base text (Some x) h = trimmed_by_stands base text x (has_marker text) refl h
 
 pub condition_stands : (base : ℕ) (text : List ℕ) (result : Result Template ExprFault) → Answers template_of result (read_trimmed base text) → IfErr result (λ f. IfSome (fault_at f) (StandsInTrimmed base text))
 condition_stands base text (Ok t) h = tt

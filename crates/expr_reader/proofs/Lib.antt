@@ -1,8 +1,9 @@
-mod Nodes
 mod Depths
+mod Stacks
 mod Complete
 mod Sound
 mod Runs
+mod Unlimited
 mod Quoted
 mod Words
 mod Lexing

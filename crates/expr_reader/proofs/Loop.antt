@@ -4,7 +4,7 @@ use Rattle.expr_reader.specs.Bytes.{skip_white}
 use Rattle.expr_reader.specs.Expr.{Expr}
 use Rattle.expr_reader.specs.Faults.{fault_at, refused_at}
 use Rattle.expr_reader.specs.Lexer.{Lexed, next_at, next}
-use Rattle.expr_reader.specs.Machine.{State, want, is_dotted, step, finish}
+use Rattle.expr_reader.specs.Machine.{State, want, is_dotted, limits, step, finish}
 use Rattle.expr_reader.specs.Outcome.{Fails}
 use Rattle.expr_reader.specs.Reading.{Failure, placed, after_step, after_token, reads, located, read_tokens}
 use Rattle.expr_reader.specs.declared.fault.ExprFault.{ExprFault}
@@ -27,7 +27,7 @@ fuel_token n m same st bs left low high (Err f) comes = refl
 fuel_token n m same st bs left low high (Ok None) comes = refl
 fuel_token n m same st bs left low high (Ok (Some x)) comes =
     let shorter = rest_shorter bs x.0 x.1 comes in
-    fuel_step n m same left x.1 (omega (arith, shorter)) (omega (arith, shorter)) (step st x.0)
+    fuel_step n m same left x.1 (omega (arith, shorter)) (omega (arith, shorter)) (step limits st x.0)
 
 same_fuel : (n : ℕ) → SameFuel n
 same_fuel zero m st bs low high = absurd (omega arith)
@@ -64,21 +64,21 @@ token_refused base text rest start st why e reading start_is at fails =
     given base text e why (base + (length text - length start)) at (λ f h. whole base text rest start st (Err f) reading start_is (fails_so why f (next_at (is_dotted st) start) h fails))
 
 -- A token comes that is refused.
-pub step_refused : (base : ℕ) (text rest start : List ℕ) (st : State) (x : Lexed) (why : Refusal) (e : ExprFault) → IsReading text rest st → start ≡ skip_white rest → next_at (is_dotted st) start ≡ Ok (Some x) → fault_at e ≡ refused_at why (base + (length text - length start)) → Fails why (step st x.0) → IfSome (fault_at e) (λ x. read_tokens base text ≡ Err x)
+pub step_refused : (base : ℕ) (text rest start : List ℕ) (st : State) (x : Lexed) (why : Refusal) (e : ExprFault) → IsReading text rest st → start ≡ skip_white rest → next_at (is_dotted st) start ≡ Ok (Some x) → fault_at e ≡ refused_at why (base + (length text - length start)) → Fails why (step limits st x.0) → IfSome (fault_at e) (λ x. read_tokens base text ≡ Err x)
 step_refused base text rest start st x why e reading start_is comes at fails =
     given base text e why (base + (length text - length start)) at
     (λ f h. whole base text rest start st (Ok (Some x)) reading start_is comes
-    ∙ ap (λ (r : Result State Fault). located base (length text) (after_step (reads (length rest)) (length start) x.1 r)) (fails_so why f (step st x.0) h fails))
+    ∙ ap (λ (r : Result State Fault). located base (length text) (after_step (reads (length rest)) (length start) x.1 r)) (fails_so why f (step limits st x.0) h fails))
 
 -- The end comes too early.
-pub end_refused : (base : ℕ) (text rest start : List ℕ) (st : State) (why : Refusal) (e : ExprFault) → IsReading text rest st → start ≡ skip_white rest → next_at (is_dotted st) start ≡ Ok None → fault_at e ≡ refused_at why (base + (length text - length start)) → Fails why (finish st) → IfSome (fault_at e) (λ x. read_tokens base text ≡ Err x)
+pub end_refused : (base : ℕ) (text rest start : List ℕ) (st : State) (why : Refusal) (e : ExprFault) → IsReading text rest st → start ≡ skip_white rest → next_at (is_dotted st) start ≡ Ok None → fault_at e ≡ refused_at why (base + (length text - length start)) → Fails why (finish limits st) → IfSome (fault_at e) (λ x. read_tokens base text ≡ Err x)
 end_refused base text rest start st why e reading start_is comes at fails =
     given base text e why (base + (length text - length start)) at
     (λ f h. whole base text rest start st (Ok None) reading start_is comes
-    ∙ ap (λ (r : Result Expr Fault). located base (length text) (placed (length start) r)) (fails_so why f (finish st) h fails))
+    ∙ ap (λ (r : Result Expr Fault). located base (length text) (placed (length start) r)) (fails_so why f (finish limits st) h fails))
 
 -- The end comes, and the tree is whole.
-pub end_read : (base : ℕ) (text rest start : List ℕ) (st : State) (e : Expr) → IsReading text rest st → start ≡ skip_white rest → next_at (is_dotted st) start ≡ Ok None → finish st ≡ Ok e → read_tokens base text ≡ Ok e
+pub end_read : (base : ℕ) (text rest start : List ℕ) (st : State) (e : Expr) → IsReading text rest st → start ≡ skip_white rest → next_at (is_dotted st) start ≡ Ok None → finish limits st ≡ Ok e → read_tokens base text ≡ Ok e
 end_read base text rest start st e reading start_is comes done =
     whole base text rest start st (Ok None) reading start_is comes ∙ ap (λ (r : Result Expr Fault). located base (length text) (placed (length start) r)) done
 
@@ -90,7 +90,7 @@ pub shorter : (rest start : List ℕ) (d : Bool) (x : Lexed) → start ≡ skip_
 shorter rest start d x start_is comes = rest_shorter rest x.0 x.1 (comes_so rest x d (ap (next_at d) (sym start_is) ∙ comes))
 
 -- A token comes and is taken.
-pub goes_on : (text rest start : List ℕ) (st : State) (x : Lexed) (after : State) → IsReading text rest st → start ≡ skip_white rest → next_at (is_dotted st) start ≡ Ok (Some x) → step st x.0 ≡ Ok after → IsReading text x.1 after
+pub goes_on : (text rest start : List ℕ) (st : State) (x : Lexed) (after : State) → IsReading text rest st → start ≡ skip_white rest → next_at (is_dotted st) start ≡ Ok (Some x) → step limits st x.0 ≡ Ok after → IsReading text x.1 after
 goes_on text rest start st x after reading start_is comes taken =
     let less = shorter rest start (is_dotted st) x start_is comes in
     record {

@@ -8,7 +8,7 @@ use Rattle.std.proofs.lemmas.Str.{IsCharBoundary-end, IsCharBoundary-before_asci
 use Rattle.std.specs.Option.{option_map}
 use Rattle.std.specs.Str.{IsUtf8, IsCharBoundary}
 use Rattle.std.specs.Prelude.{codes}
-use Rattle.expr_reader.specs.Template.{begins_mark, has_mark, begins_end, open_after, end_place, EndsPlain}
+use Rattle.expr_reader.specs.Template.{begins_mark, has_marker, begins_end, open_after, end_place, EndsPlain}
 use Rattle.expr_reader.specs.TemplateReading.{mark_place}
 use Rattle.expr_reader.proofs.Runs.{if_holds}
 
@@ -62,16 +62,16 @@ ends_place [] ends = refl
 ends_place (b ∷ bs) ends = cond-true (begins_mark (b ∷ bs)) 0 (suc (mark_place bs)) ends
 
 -- Plain text reaches to the first mark.
-pub plain_place : (p rest : List ℕ) → has_mark p ≡ false → EndsPlain rest → mark_place (p ++ rest) ≡ length p
+pub plain_place : (p rest : List ℕ) → has_marker p ≡ false → EndsPlain rest → mark_place (p ++ rest) ≡ length p
 plain_place [] rest unmarked ends = ends_place rest ends
 plain_place (b ∷ p) rest unmarked ends =
-    cond-false (begins_mark ((b ∷ p) ++ rest)) 0 (suc (mark_place (p ++ rest))) (no_mark_over b p rest (or_left (begins_mark (b ∷ p)) (has_mark p) unmarked) ends)
-    ∙ ap suc (plain_place p rest (or_right (begins_mark (b ∷ p)) (has_mark p) unmarked) ends)
+    cond-false (begins_mark ((b ∷ p) ++ rest)) 0 (suc (mark_place (p ++ rest))) (no_mark_over b p rest (or_left (begins_mark (b ∷ p)) (has_marker p) unmarked) ends)
+    ∙ ap suc (plain_place p rest (or_right (begins_mark (b ∷ p)) (has_marker p) unmarked) ends)
 
 -- What stands before the first mark, and what follows.
 pub record Parts (bs : List ℕ) : Type 0 where
   pub within : mark_place bs ≤ length bs
-  pub unmarked : has_mark (take (mark_place bs) bs) ≡ false
+  pub unmarked : has_marker (take (mark_place bs) bs) ≡ false
   pub ends : EndsPlain (drop (mark_place bs) bs)
 
 -- A front has no mark that the whole has not.
@@ -91,9 +91,9 @@ front_unmarked b (c ∷ bs) (suc zero) h = short (nat_eq 36 b) (nat_eq 123 c)
 front_unmarked b (c ∷ []) (suc (suc n)) h = h
 front_unmarked b (c ∷ d ∷ bs) (suc (suc n)) h = h
 
-parts_by : (b : ℕ) (bs : List ℕ) (t : Bool) → begins_mark (b ∷ bs) ≡ t → Parts bs → (cond t 0 (suc (mark_place bs)) ≤ suc (length bs)) × (has_mark (take (cond t 0 (suc (mark_place bs))) (b ∷ bs)) ≡ false) × EndsPlain (drop (cond t 0 (suc (mark_place bs))) (b ∷ bs))
+parts_by : (b : ℕ) (bs : List ℕ) (t : Bool) → begins_mark (b ∷ bs) ≡ t → Parts bs → (cond t 0 (suc (mark_place bs)) ≤ suc (length bs)) × (has_marker (take (cond t 0 (suc (mark_place bs))) (b ∷ bs)) ≡ false) × EndsPlain (drop (cond t 0 (suc (mark_place bs))) (b ∷ bs))
 parts_by b bs true test h = (omega arith, refl, test)
-parts_by b bs false test h = (omega (arith, h.within), ap (λ (t : Bool). t || has_mark (take (mark_place bs) bs)) (front_unmarked b bs (mark_place bs) test) ∙ h.unmarked, h.ends)
+parts_by b bs false test h = (omega (arith, h.within), ap (λ (t : Bool). t || has_marker (take (mark_place bs) bs)) (front_unmarked b bs (mark_place bs) test) ∙ h.unmarked, h.ends)
 
 pub parts : (bs : List ℕ) → Parts bs
 parts [] = record { within = omega arith; unmarked = refl; ends = tt }
@@ -234,6 +234,6 @@ has_mark_by true n m h e = let test : nat_lt 0 (suc m) ≡ true = grind (arith, 
 has_mark_by false n m h e = e ∙ grind (arith, nat_tests)
 
 -- Some mark stands in a text where the first is before the end.
-pub has_mark_by_place : (bs : List ℕ) → has_mark bs ≡ nat_lt (mark_place bs) (length bs)
-has_mark_by_place [] = refl
-has_mark_by_place (b ∷ bs) = has_mark_by (begins_mark (b ∷ bs)) (mark_place bs) (length bs) (has_mark bs) (has_mark_by_place bs)
+pub has_marker_by_place : (bs : List ℕ) → has_marker bs ≡ nat_lt (mark_place bs) (length bs)
+has_marker_by_place [] = refl
+has_marker_by_place (b ∷ bs) = has_mark_by (begins_mark (b ∷ bs)) (mark_place bs) (length bs) (has_marker bs) (has_marker_by_place bs)

@@ -7,7 +7,7 @@ use Rattle.std.specs.Prelude.{codes}
 use Rattle.expr_reader.specs.Expr.{Expr}
 use Rattle.expr_reader.specs.Reading.{Failure, read_text}
 use Rattle.expr_reader.specs.Spells.{Spells}
-use Rattle.expr_reader.specs.Template.{Piece, plain, marked, begins_mark, has_mark, end_place, EndsPlain, IsPlain, Pieces}
+use Rattle.expr_reader.specs.Template.{Piece, plain, marked, begins_mark, has_marker, end_place, EndsPlain, IsPlain, Pieces}
 use Rattle.expr_reader.specs.TemplateReading.{mark_place, inside_piece, marked_at, piece_at, with_pieces, after_piece, pieces_of}
 use Rattle.expr_reader.specs.TemplateStands.{StandsInMark, unclosed, within, StandsInPieces}
 use Rattle.expr_reader.proofs.Expressions.{spelled_read, read_spells, read_stands}
@@ -19,7 +19,7 @@ plain_again : (size b : ℕ) (p rest : List ℕ) → IsPlain (b ∷ p) rest → 
 plain_again size b p rest h =
     let bs : List ℕ = (b ∷ p) ++ rest in
     let place = plain_place (b ∷ p) rest h.unmarked h.ends in
-    cond-false (begins_mark bs) (marked_at size (drop 3 bs) (end_place false (drop 3 bs))) (Ok (plain (take (mark_place bs) bs), drop (mark_place bs) bs)) (no_mark_over b p rest (or_left (begins_mark (b ∷ p)) (has_mark p) h.unmarked) h.ends)
+    cond-false (begins_mark bs) (marked_at size (drop 3 bs) (end_place false (drop 3 bs))) (Ok (plain (take (mark_place bs) bs), drop (mark_place bs) bs)) (no_mark_over b p rest (or_left (begins_mark (b ∷ p)) (has_marker p) h.unmarked) h.ends)
     ∙ ap (λ (n : ℕ). Ok (plain (take n bs), drop n bs)) place
     ∙ ap (λ (z : List ℕ). Ok (plain z, drop (length (b ∷ p)) bs)) (take-append_seam (b ∷ p) rest)
     ∙ ap (λ (z : List ℕ). Ok (plain (b ∷ p), z)) (drop-append_seam (b ∷ p) rest)
@@ -57,7 +57,7 @@ plain_comes b bs n place h = (
     drop (suc n) (b ∷ bs),
     record {
       some = λ none. cc;
-      unmarked = subst (λ (k : ℕ). has_mark (take k (b ∷ bs)) ≡ false) place h.unmarked;
+      unmarked = subst (λ (k : ℕ). has_marker (take k (b ∷ bs)) ≡ false) place h.unmarked;
       ends = subst (λ (k : ℕ). EndsPlain (drop k (b ∷ bs))) place h.ends;
     },
     sym (take-append-drop (suc n) (b ∷ bs)),

@@ -1,10 +1,14 @@
 -- The bytes that tokens are made of.
 use Rattle.std.specs.Prelude.{◌≡◌, ℕ, Bool, true, ◌&&◌, ◌||◌, ◌==◌, nat_le, List, [], ◌∷◌, length, drop}
-use Rattle.std.specs.List.{prefix_len}
+use Rattle.std.specs.List.{prefix_len, list_all}
 
 -- A space, a tab, a carriage return or a newline.
 abbrev pub is_white : ℕ → Bool
 is_white b = b == 32 || b == 9 || b == 13 || b == 10
+
+-- Nothing but white space.
+abbrev pub is_blank : List ℕ → Bool
+is_blank text = list_all is_white text
 
 -- The text from its first byte that is not white on.
 abbrev pub skip_white : List ℕ → List ℕ

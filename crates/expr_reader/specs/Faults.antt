@@ -1,7 +1,8 @@
 -- What a fault that is answered says.
-use Rattle.std.specs.Prelude.{◌≡◌, ℕ, ◌<◌, Option, Some, None, Result, Ok, Err, IfSome, List, length}
+use Rattle.std.specs.Prelude.{◌≡◌, ℕ, ◌<◌, Option, Some, None, Result, Ok, Err, IfSome, List, ◌++◌, length, codes, decimal}
 use Rattle.expr_reader.specs.Expr.{Expr}
 use Rattle.expr_reader.specs.Reading.{Failure}
+use Rattle.expr_reader.specs.Sizes.{longest_expression}
 use Rattle.expr_reader.specs.Stands.{StandsAt}
 use Rattle.expr_reader.specs.View.{view}
 use Rattle.expr_reader.specs.declared.fault.ExprFault.{ExprFault}
@@ -10,6 +11,40 @@ use Rattle.expr_reader.specs.declared.fault.Fault.TheVariants.{UnclosedText, Bad
 use Rattle.expr_reader.specs.declared.fault.Refusal.{Refusal}
 use Rattle.expr_reader.specs.declared.fault.Refusal.TheVariants as refusal
 use Rattle.expr_reader.specs.declared.tree.Tree.{Tree}
+
+-- A fault's name.
+abbrev pub fault_name : ExprFault → List ℕ
+fault_name (expr.UnclosedText n) = codes "UnclosedText"
+fault_name (expr.BadNumber n) = codes "BadNumber"
+fault_name (expr.BadChar n) = codes "BadChar"
+fault_name (expr.Unexpected n) = codes "Unexpected"
+fault_name (expr.UnknownName n) = codes "UnknownName"
+fault_name (expr.UnknownFunction n) = codes "UnknownFunction"
+fault_name (expr.ArgumentCount n) = codes "ArgumentCount"
+fault_name (expr.TooDeep n) = codes "TooDeep"
+fault_name (expr.TooLong n) = codes "TooLong"
+fault_name (expr.UnclosedTemplate n) = codes "UnclosedTemplate"
+fault_name (expr.StatusHere n) = codes "StatusHere"
+fault_name (expr.Memory n) = codes "Memory"
+
+-- How many bytes stand before a fault.
+abbrev pub fault_place : ExprFault → ℕ
+fault_place (expr.UnclosedText n) = n
+fault_place (expr.BadNumber n) = n
+fault_place (expr.BadChar n) = n
+fault_place (expr.Unexpected n) = n
+fault_place (expr.UnknownName n) = n
+fault_place (expr.UnknownFunction n) = n
+fault_place (expr.ArgumentCount n) = n
+fault_place (expr.TooDeep n) = n
+fault_place (expr.TooLong n) = n
+fault_place (expr.UnclosedTemplate n) = n
+fault_place (expr.StatusHere n) = n
+fault_place (expr.Memory n) = n
+
+-- What is shown of a fault: its name and its place.
+abbrev pub fault_text : ExprFault → List ℕ
+fault_text fault = fault_name fault ++ (codes " at " ++ decimal (fault_place fault))
 
 -- A fault of the text and its place; want of memory is none.
 abbrev pub fault_at : ExprFault → Option Failure
@@ -47,7 +82,7 @@ Answers view (Err fault) reading = IfSome (fault_at fault) (λ x. reading ≡ Er
 
 -- What stands in an expression's text: more than 20,000 bytes, or the fault at its place.
 abbrev pub StandsIn : List ℕ → Failure → Type 0
-StandsIn text (TooLong, n) = (20000 < length text) × (n ≡ 20000)
+StandsIn text (TooLong, n) = (longest_expression < length text) × (n ≡ longest_expression)
 StandsIn text (UnclosedText, n) = StandsAt UnclosedText text n
 StandsIn text (BadNumber, n) = StandsAt BadNumber text n
 StandsIn text (BadChar, n) = StandsAt BadChar text n

@@ -90,23 +90,41 @@ IsChain none = ⊥
 IsChain (more a none) = ⊥
 IsChain (more a (more b es)) = Unit {0}
 
-abbrev mutual
-  -- The grammar has the tree. Comparisons and dereferences group from the left.
-  pub Shaped : Expr → Type 0
-  Shaped (literal l) = Unit {0}
-  Shaped (context c) = Unit {0}
-  Shaped (call f es) = (takes f (count es) ≡ true) × AllShaped 0 es
-  Shaped (group e) = Shaped e
-  Shaped (property e s) = (5 ≤ level e) × Shaped e
-  Shaped (index e i) = (5 ≤ level e) × Shaped e × Shaped i
-  Shaped (wildcard w e) = (5 ≤ level e) × Shaped e
-  Shaped (opposite e) = (4 ≤ level e) × Shaped e
-  Shaped (relation r a b) = (3 ≤ level a) × (4 ≤ level b) × Shaped a × Shaped b
-  Shaped (equality q a b) = (2 ≤ level a) × (3 ≤ level b) × Shaped a × Shaped b
-  Shaped (both es) = IsChain es × AllShaped 2 es
-  Shaped (either es) = IsChain es × AllShaped 1 es
+module _ (counts : Function → ℕ → Bool) where
+  abbrev mutual
+    -- The grammar has the tree, where functions take these counts of arguments. Comparisons and
+    -- dereferences group from the left.
+    pub FormedBy : Expr → Type 0
+    FormedBy (literal l) = Unit {0}
+    FormedBy (context c) = Unit {0}
+    FormedBy (call f es) = (counts f (count es) ≡ true) × AllFormedBy 0 es
+    FormedBy (group e) = FormedBy e
+    FormedBy (property e s) = (5 ≤ level e) × FormedBy e
+    FormedBy (index e i) = (5 ≤ level e) × FormedBy e × FormedBy i
+    FormedBy (wildcard w e) = (5 ≤ level e) × FormedBy e
+    FormedBy (opposite e) = (4 ≤ level e) × FormedBy e
+    FormedBy (relation r a b) = (3 ≤ level a) × (4 ≤ level b) × FormedBy a × FormedBy b
+    FormedBy (equality q a b) = (2 ≤ level a) × (3 ≤ level b) × FormedBy a × FormedBy b
+    FormedBy (both es) = IsChain es × AllFormedBy 2 es
+    FormedBy (either es) = IsChain es × AllFormedBy 1 es
 
-  -- The grammar has each of the trees, and none holds together more loosely than k.
-  pub AllShaped : ℕ → Exprs → Type 0
-  AllShaped k none = Unit {0}
-  AllShaped k (more e es) = (k ≤ level e) × Shaped e × AllShaped k es
+    -- The same of each of the trees, of which none holds together more loosely than k.
+    pub AllFormedBy : ℕ → Exprs → Type 0
+    AllFormedBy k none = Unit {0}
+    AllFormedBy k (more e es) = (k ≤ level e) × FormedBy e × AllFormedBy k es
+
+-- The grammar has the tree.
+abbrev pub Shaped : Expr → Type 0
+Shaped e = FormedBy takes e
+
+-- The grammar has each of the trees, and none holds together more loosely than k.
+abbrev pub AllShaped : ℕ → Exprs → Type 0
+AllShaped k es = AllFormedBy takes k es
+
+-- Any count of arguments.
+abbrev pub any_count : Function → ℕ → Bool
+any_count f n = true
+
+-- The grammar without its limits has the tree: calls may have any count of arguments.
+abbrev pub Formed : Expr → Type 0
+Formed e = FormedBy any_count e

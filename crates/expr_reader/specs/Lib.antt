@@ -11,6 +11,7 @@ pub mod Names
 pub mod Number
 pub mod Outcome
 pub mod Reading
+pub mod Sizes
 pub mod Spelling
 pub mod Spells
 pub mod Stack

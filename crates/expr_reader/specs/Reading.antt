@@ -4,7 +4,8 @@ use Rattle.std.specs.Prelude.{ℕ, zero, suc, nat_lt, ◌+◌, ◌-◌, if◌the
 use Rattle.expr_reader.specs.Bytes.{skip_white}
 use Rattle.expr_reader.specs.Expr.{Expr}
 use Rattle.expr_reader.specs.Lexer.{Lexed, next}
-use Rattle.expr_reader.specs.Machine.{State, want, is_dotted, step, finish}
+use Rattle.expr_reader.specs.Machine.{State, want, is_dotted, limits, step, finish}
+use Rattle.expr_reader.specs.Sizes.{longest_expression}
 use Rattle.expr_reader.specs.declared.fault.Fault.{Fault}
 use Rattle.expr_reader.specs.declared.fault.Fault.TheVariants.{TooLong}
 
@@ -25,8 +26,8 @@ after_step go left rest (Ok st) = go st rest
 -- What comes of the next token.
 abbrev pub after_token : (State → List ℕ → Result Expr Failure) → State → ℕ → Result (Option Lexed) Fault → Result Expr Failure
 after_token go st left (Err f) = Err (f, left)
-after_token go st left (Ok None) = placed left (finish st)
-after_token go st left (Ok (Some x)) = after_step go left x.1 (step st x.0)
+after_token go st left (Ok None) = placed left (finish limits st)
+after_token go st left (Ok (Some x)) = after_step go left x.1 (step limits st x.0)
 
 -- The tree of the rest of a text, by fewer than n tokens.
 abbrev pub reads : ℕ → State → List ℕ → Result Expr Failure
@@ -44,4 +45,4 @@ read_tokens base text = located base (length text) (reads (suc (length text)) (w
 
 -- The tree of a text within the limit; a longer one is too long from its byte 20,000 on.
 abbrev pub read_text : ℕ → List ℕ → Result Expr Failure
-read_text base text = if nat_lt 20000 (length text) then Err (TooLong, base + 20000) else read_tokens base text
+read_text base text = if nat_lt longest_expression (length text) then Err (TooLong, base + longest_expression) else read_tokens base text

@@ -36,8 +36,11 @@ part (frame.Index o) = index_of (tree_of o)
 part (frame.Call f ts) = call_of f (trees_of ts)
 
 -- What is open, the innermost first.
+abbrev pub parts_of : List Frame → List Part
+parts_of frames = reverse (map part frames)
+
 abbrev pub parts : Vec Frame Global → List Part
-parts frames = reverse (map part frames.items)
+parts frames = parts_of frames.items
 
 -- An operand over what is open.
 abbrev pub held : Operand × Vec Frame Global → Held

@@ -5,6 +5,7 @@ use Rattle.std.specs.Option.{option_map}
 use Rattle.expr_reader.specs.Bytes.{is_white, skip_white}
 use Rattle.expr_reader.specs.Expr.{Expr, Exprs, literal, context, call, group, property, index, wildcard, opposite, relation, equality, both, either, none, more}
 use Rattle.expr_reader.specs.Spells.{Spells}
+use Rattle.expr_reader.specs.Sizes.{longest_template}
 use Rattle.expr_reader.specs.declared.tree.Function.{Function}
 use Rattle.expr_reader.specs.declared.tree.Function.TheVariants.{Contains, StartsWith, EndsWith, Format, Join, ToJson, FromJson, Success, Failure, Cancelled, Always}
 
@@ -18,9 +19,9 @@ abbrev pub begins_mark : List ℕ → Bool
 begins_mark bs = starts_with nat_eq bs (codes "${{")
 
 -- ${{ stands anywhere.
-abbrev pub has_mark : List ℕ → Bool
-has_mark [] = false
-has_mark (b ∷ bs) = begins_mark (b ∷ bs) || has_mark bs
+abbrev pub has_marker : List ℕ → Bool
+has_marker [] = false
+has_marker (b ∷ bs) = begins_mark (b ∷ bs) || has_marker bs
 
 -- }} stands at the front.
 abbrev pub begins_end : List ℕ → Bool
@@ -43,7 +44,7 @@ EndsPlain (b ∷ bs) = begins_mark (b ∷ bs) ≡ true
 -- Plain text up to the first ${{ or the end, with what follows it.
 pub record IsPlain (p rest : List ℕ) : Type 0 where
   pub some : p ≢ []
-  pub unmarked : has_mark p ≡ false
+  pub unmarked : has_marker p ≡ false
   pub ends : EndsPlain rest
 
 -- The text begins with an expression between ${{ and the first }} outside quotes, and then the rest follows.
@@ -104,7 +105,7 @@ names_status ps = list_any piece_names_status ps
 -- The text spells the template: it is these pieces, of which none names a status function, and has at
 -- most 1,048,576 bytes.
 pub record SpellsTemplate (ps : List Piece) (text : List ℕ) : Type 0 where
-  pub short : length text ≤ 1048576
+  pub short : length text ≤ longest_template
   pub pieces : Pieces text ps []
   pub plain_status : names_status ps ≡ false
 
@@ -122,12 +123,12 @@ trimmed text = trimmed_end (skip_white text)
 
 -- A condition without ${{ is one expression, with it a template that may name status functions.
 abbrev pub SpellsTrimmed : Bool → List Piece → List ℕ → Type 0
-SpellsTrimmed true ps text = (length text ≤ 1048576) × Pieces text ps []
+SpellsTrimmed true ps text = (length text ≤ longest_template) × Pieces text ps []
 SpellsTrimmed false ps text = (e : Expr) × (ps ≡ marked e ∷ []) × Spells e text
 
 -- The text spells the condition, which is taken trimmed.
 abbrev pub SpellsCondition : List Piece → List ℕ → Type 0
-SpellsCondition ps text = SpellsTrimmed (has_mark (trimmed text)) ps (trimmed text)
+SpellsCondition ps text = SpellsTrimmed (has_marker (trimmed text)) ps (trimmed text)
 
 -- The text is a condition.
 abbrev pub IsCondition : List ℕ → Type 0

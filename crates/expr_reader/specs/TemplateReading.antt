@@ -2,7 +2,8 @@
 use Rattle.std.specs.Prelude.{ℕ, zero, suc, ◌+◌, ◌-◌, Bool, true, false, nat_lt, if◌then◌else◌, Option, Some, None, Result, Ok, Err, List, [], ◌∷◌, ◌++◌, length, take, drop}
 use Rattle.expr_reader.specs.Expr.{Expr}
 use Rattle.expr_reader.specs.Reading.{Failure, read_text}
-use Rattle.expr_reader.specs.Template.{Piece, plain, marked, begins_mark, has_mark, end_place}
+use Rattle.expr_reader.specs.Sizes.{longest_template}
+use Rattle.expr_reader.specs.Template.{Piece, plain, marked, begins_mark, has_marker, end_place}
 use Rattle.expr_reader.specs.declared.fault.Fault.TheVariants.{TooLong, UnclosedTemplate}
 
 -- How many bytes stand before the first ${{, or before the end.
@@ -48,8 +49,8 @@ one_piece (Err x) = Err x
 
 -- A condition without white space at its ends that begins at a place: a template, or one expression.
 abbrev pub trimmed_by : Bool → ℕ → List ℕ → Result (List Piece) Failure
-trimmed_by true base text = if nat_lt 1048576 (length text) then Err (TooLong, base + 1048576) else read_pieces (base + length text) text
+trimmed_by true base text = if nat_lt longest_template (length text) then Err (TooLong, base + longest_template) else read_pieces (base + length text) text
 trimmed_by false base text = one_piece (read_text base text)
 
 abbrev pub read_trimmed : ℕ → List ℕ → Result (List Piece) Failure
-read_trimmed base text = trimmed_by (has_mark text) base text
+read_trimmed base text = trimmed_by (has_marker text) base text

@@ -4,7 +4,8 @@ use Rattle.std.specs.List.{prefix_len}
 use Rattle.expr_reader.specs.Bytes.{is_white}
 use Rattle.expr_reader.specs.Faults.{fault_at, OnlyMemory, StandsIn}
 use Rattle.expr_reader.specs.Reading.{Failure}
-use Rattle.expr_reader.specs.Template.{Piece, has_mark, end_place, Pieces, names_status, trimmed}
+use Rattle.expr_reader.specs.Sizes.{longest_template}
+use Rattle.expr_reader.specs.Template.{Piece, has_marker, end_place, Pieces, names_status, trimmed}
 use Rattle.expr_reader.specs.TemplateView.{template_of}
 use Rattle.expr_reader.specs.declared.fault.ExprFault.{ExprFault}
 use Rattle.expr_reader.specs.declared.template.Template.{Template}
@@ -26,16 +27,16 @@ pub record StandsInPieces (size : ℕ) (text : List ℕ) (x : Failure) : Type 0 
 -- The fault stands in a template's text: it is too long, or a mark has the fault, or an expression names a
 -- status function.
 pub data StandsInTemplate (text : List ℕ) (x : Failure) : Type 0 where
-  too_long : 1048576 < length text → x ≡ (TooLong, 1048576) → StandsInTemplate text x
+  too_long : longest_template < length text → x ≡ (TooLong, longest_template) → StandsInTemplate text x
   in_pieces : StandsInPieces (length text) text x → StandsInTemplate text x
   status : (ps : List Piece) → Pieces text ps [] → names_status ps ≡ true → x.0 ≡ StatusHere → StandsInTemplate text x
 
 -- The fault stands in a condition's text, of which the white space at its start is so long: the rest is an
 -- expression or a template that has the fault.
 pub data StandsInTrimmed (base : ℕ) (text : List ℕ) (x : Failure) : Type 0 where
-  in_expression : has_mark text ≡ false → (k : ℕ) → StandsIn text (x.0, k) → x.1 ≡ base + k → StandsInTrimmed base text x
-  too_long_condition : has_mark text ≡ true → 1048576 < length text → x ≡ (TooLong, base + 1048576) → StandsInTrimmed base text x
-  in_marks : has_mark text ≡ true → StandsInPieces (base + length text) text x → StandsInTrimmed base text x
+  in_expression : has_marker text ≡ false → (k : ℕ) → StandsIn text (x.0, k) → x.1 ≡ base + k → StandsInTrimmed base text x
+  too_long_condition : has_marker text ≡ true → longest_template < length text → x ≡ (TooLong, base + longest_template) → StandsInTrimmed base text x
+  in_marks : has_marker text ≡ true → StandsInPieces (base + length text) text x → StandsInTrimmed base text x
 
 -- A template is read as these pieces, unless memory runs out.
 abbrev pub IsReadAs : Result Template ExprFault → List Piece → Type 0

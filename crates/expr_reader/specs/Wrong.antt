@@ -7,6 +7,7 @@ use Rattle.expr_reader.specs.Grammar.{Token, mark, tokens, takes, Shaped, AllSha
 use Rattle.expr_reader.specs.Names.{context_name, function_name}
 use Rattle.expr_reader.specs.Number.{number_of}
 use Rattle.expr_reader.specs.Spelling.{doubled, Begins}
+use Rattle.expr_reader.specs.Sizes.{greatest_depth}
 use Rattle.expr_reader.specs.declared.fault.Fault.{Fault}
 use Rattle.expr_reader.specs.declared.fault.Fault.TheVariants.{UnclosedText, BadNumber, BadChar, Unexpected, UnknownName, UnknownFunction, ArgumentCount, TooDeep}
 use Rattle.expr_reader.specs.declared.token.Mark.TheVariants.{Open}
@@ -19,7 +20,7 @@ pub record HoldsDeep (ts : List Token) : Type 0 where
   pub deep : Expr
   pub after : List Token
   pub shaped : Shaped deep
-  pub above : 50 < depth deep
+  pub above : greatest_depth < depth deep
   pub same : before ++ (tokens deep ++ after) ≡ ts
 
 -- Among the tokens are those of a call with another number of arguments than its function takes.
@@ -32,12 +33,13 @@ pub record HoldsMiscount (ts : List Token) : Type 0 where
   pub miscount : takes function (count arguments) ≡ false
   pub same : before ++ (tokens (call function arguments) ++ after) ≡ ts
 
--- What is wrong with tokens that begin no tree within the limits.
-abbrev pub Wrong : List Token → Fault → Type 0
-Wrong ts Unexpected = Unit {0}
-Wrong ts ArgumentCount = HoldsMiscount ts
-Wrong ts TooDeep = HoldsDeep ts
-Wrong ts f = ⊥
+-- What is wrong with tokens that begin no tree within the limits: a limit is not kept, or even without
+-- limits they begin none, as unformed says.
+abbrev pub Wrong : Type 0 → List Token → Fault → Type 0
+Wrong unformed ts Unexpected = unformed
+Wrong unformed ts ArgumentCount = HoldsMiscount ts
+Wrong unformed ts TooDeep = HoldsDeep ts
+Wrong unformed ts f = ⊥
 
 -- The bytes begin with a quote that nothing closes.
 pub record IsUnclosed (bs : List ℕ) : Type 0 where

@@ -3,12 +3,12 @@
 ghost use Rattle.std.specs.Prelude.{◌≡◌, take, drop};
 ghost use Rattle.std.specs.List.{prefix_len, suffix_len};
 ghost use Rattle.std.specs.Str.{IsCharBoundary};
-ghost use Rattle.expr_reader.specs.Bytes.{is_white, begins_name as begins_name_of, begins_number as begins_number_of};
+ghost use Rattle.expr_reader.specs.Bytes.{is_white, is_blank as is_blank_of, begins_name as begins_name_of, begins_number as begins_number_of};
 ghost use Rattle.expr_reader.specs.Class.{in_class};
 ghost use Rattle.expr_reader.specs.Template.{trimmed_end};
 
 /// Bytes that go on in a run.
-#[derive(Clone, Copy, Debug, PartialEq, Eq)]
+#[derive(Clone, Copy)]
 pub(crate) enum Class {
     /// Spaces, tabs, carriage returns and newlines.
     White,
@@ -84,4 +84,18 @@ pub(crate) fn trim_end(text: &str) -> &str
     let length = white_end(text.as_bytes());
     let (trimmed, _) = text.split_at(text.len() - length);
     trimmed
+}
+
+// Whether all bytes are white.
+fn all_white(bytes: &[u8]) -> bool
+    ensures { result ≡ is_blank_of bytes.now }
+{
+    bytes.iter().all(|byte| Class::White.contains(*byte))
+}
+
+/// Whether the text is nothing but spaces, tabs, carriage returns and newlines.
+pub fn is_blank(text: &str) -> bool
+    ensures { result ≡ is_blank_of text.now }
+{
+    all_white(text.as_bytes())
 }

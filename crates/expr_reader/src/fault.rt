@@ -1,9 +1,11 @@
 //! What is wrong with a text.
 
 ghost use Rattle.std.specs.Prelude.{◌≡◌};
+ghost use Rattle.expr_reader.specs.Faults.{fault_name, fault_place, fault_text};
 ghost use Rattle.expr_reader.specs.declared.fault.Refusal.TheVariants.{Memory};
 
 use std::alloc::{AllocError, AllocFailed};
+use std::fmt;
 use thiserror::Error;
 
 /// Why a text is no expression, template or condition, with the byte from the start of the text at
@@ -11,45 +13,86 @@ use thiserror::Error;
 #[derive(Clone, Copy, Debug, PartialEq, Eq, Error)]
 pub enum ExprFault {
     /// A text without its closing quote; the offset is that of its first quote.
-    #[error("UnclosedText at {0}")]
     UnclosedText(usize),
     /// A run of number characters that is no whole number in range.
-    #[error("BadNumber at {0}")]
     BadNumber(usize),
     /// A byte that begins no token.
-    #[error("BadChar at {0}")]
     BadChar(usize),
     /// A token, or the end, where the grammar has another.
-    #[error("Unexpected at {0}")]
     Unexpected(usize),
     /// A name that is no context, no function and no literal, and that no parenthesis follows.
-    #[error("UnknownName at {0}")]
     UnknownName(usize),
     /// A name before a parenthesis that is no context, no function and no literal.
-    #[error("UnknownFunction at {0}")]
     UnknownFunction(usize),
     /// The end of a call with another number of arguments than its function takes.
-    #[error("ArgumentCount at {0}")]
     ArgumentCount(usize),
     /// The place at which the tree would be deeper than 50.
-    #[error("TooDeep at {0}")]
     TooDeep(usize),
     /// An expression of more than 20,000 bytes, or a text of more than 1,048,576.
-    #[error("TooLong at {0}")]
     TooLong(usize),
     /// `${{` without its `}}`.
-    #[error("UnclosedTemplate at {0}")]
     UnclosedTemplate(usize),
     /// A template that names a status function.
-    #[error("StatusHere at {0}")]
     StatusHere(usize),
     /// No memory was left.
-    #[error("Memory at {0}")]
     Memory(usize),
 }
 
+impl ExprFault {
+    /// The fault's name.
+    pub fn name(self) -> &'static str
+        ensures { result.now ≡ fault_name self }
+    {
+        match self {
+            ExprFault::UnclosedText(_) => "UnclosedText",
+            ExprFault::BadNumber(_) => "BadNumber",
+            ExprFault::BadChar(_) => "BadChar",
+            ExprFault::Unexpected(_) => "Unexpected",
+            ExprFault::UnknownName(_) => "UnknownName",
+            ExprFault::UnknownFunction(_) => "UnknownFunction",
+            ExprFault::ArgumentCount(_) => "ArgumentCount",
+            ExprFault::TooDeep(_) => "TooDeep",
+            ExprFault::TooLong(_) => "TooLong",
+            ExprFault::UnclosedTemplate(_) => "UnclosedTemplate",
+            ExprFault::StatusHere(_) => "StatusHere",
+            ExprFault::Memory(_) => "Memory",
+        }
+    }
+
+    /// How many bytes of the text stand before the fault.
+    pub fn place(self) -> usize
+        ensures { result ≡ fault_place self }
+    {
+        match self {
+            ExprFault::UnclosedText(place)
+            | ExprFault::BadNumber(place)
+            | ExprFault::BadChar(place)
+            | ExprFault::Unexpected(place)
+            | ExprFault::UnknownName(place)
+            | ExprFault::UnknownFunction(place)
+            | ExprFault::ArgumentCount(place)
+            | ExprFault::TooDeep(place)
+            | ExprFault::TooLong(place)
+            | ExprFault::UnclosedTemplate(place)
+            | ExprFault::StatusHere(place)
+            | ExprFault::Memory(place) => place,
+        }
+    }
+}
+
+/// The name and the place, as `Unexpected at 4`.
+impl fmt::Display for ExprFault {
+    ghost use Rattle.std.specs.Prelude.{Some};
+
+    ghost output = { λ fault. Some (fault_text fault) };
+
+    fn fmt<W: fmt::Write>(&self, f: &mut fmt::Formatter<W>) -> fmt::Result {
+        write!(f, "{} at {}", self.name(), self.place())
+    }
+}
+
 /// What is wrong, without its place.
-#[derive(Clone, Copy, Debug, PartialEq, Eq)]
+#[derive(Clone, Copy)]
 pub(crate) enum Fault {
     UnclosedText,
     BadNumber,
@@ -65,7 +108,7 @@ pub(crate) enum Fault {
 }
 
 /// A fault of the text, or want of memory.
-#[derive(Clone, Copy, Debug, PartialEq, Eq)]
+#[derive(Clone, Copy)]
 pub(crate) enum Refusal {
     Fault(Fault),
     Memory,

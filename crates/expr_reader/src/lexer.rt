@@ -106,9 +106,9 @@ fn quoted(alloc: Global, inside: &str) -> Result<(Token, &str), Refusal>
     let bytes = inside.as_bytes();
     let mut text = Vec::new(alloc);
     let mut after_quote = false;
-    for (i, byte) in bytes.iter().enumerate() {
+    for (place, byte) in bytes.iter().enumerate() {
         if after_quote && *byte != b'\'' {
-            let (_, rest) = inside.split_at(i);
+            let (_, rest) = inside.split_at(place);
             return Ok(quoted_token(text, rest));
         }
         if after_quote || *byte != b'\'' {

@@ -24,12 +24,15 @@ mod templates;
 mod token;
 mod tree;
 
+pub use bytes::is_blank;
 pub use fault::ExprFault;
 pub use folding::{fold, same_text};
+pub use marks::has_marker;
 pub use reader::{one_reading, read_expr};
 pub use status::names_status;
 pub use template::{Piece, Template};
 pub use templates::{
-    condition_test, one_condition, one_template, read_condition, read_template, template_test,
+    condition_reading, condition_test, one_condition, one_template, read_condition, read_template,
+    template_reading, template_test,
 };
 pub use tree::{Context, Equality, Function, Literal, Relation, Tree, Wildcard};

@@ -1,9 +1,12 @@
 //! Makes a tree of tokens, from the left, with a stack of what is open.
 
-ghost use Rattle.std.specs.Prelude.{◌≡◌, [], ◌∷◌, Ok, MatchOption, OnOk, IfErr};
+ghost use Rattle.std.specs.Prelude.{◌≡◌, ◌<◌, ◌≤◌, [], ◌∷◌, ◌++◌, Ok, Err, MatchOption, OnOk, IfErr, string_bytes};
+ghost use Rattle.expr_reader.specs.Expr as expr;
+ghost use Rattle.expr_reader.specs.Grammar as grammar;
 ghost use Rattle.expr_reader.specs.Machine as machine;
+ghost use Rattle.expr_reader.specs.Machine.{limits};
 ghost use Rattle.expr_reader.specs.Outcome.{Gives};
-ghost use Rattle.expr_reader.specs.Stack.{tree_of, part, parts, held, state_of, token_of};
+ghost use Rattle.expr_reader.specs.Stack.{tree_of, trees_of, part, parts, parts_of, held, state_of, token_of};
 ghost use Rattle.expr_reader.specs.View.{view};
 
 use crate::fault::{Fault, Refusal};
@@ -11,6 +14,17 @@ use crate::operand::{Operand, Trees};
 use crate::token::{Mark, Token};
 use crate::tree::{Equality, Function, Relation, Tree, Wildcard};
 use std::alloc::Global;
+
+/// How tightly an open `||` binds, and so on; what is no operator binds 0.
+const EITHER: u8 = 1;
+
+const BOTH: u8 = 2;
+
+const EQUALITY: u8 = 3;
+
+const RELATION: u8 = 4;
+
+const NOT: u8 = 5;
 
 /// A node that still wants its last part.
 #[derive(Drop)]
@@ -57,6 +71,39 @@ fn unexpected() -> Refusal
     Refusal::Fault(Fault::Unexpected)
 }
 
+// What was read is not what may stand here.
+fn refuse<T: Drop, R>(_: T) -> Result<R, Refusal>
+    ensures { result ≡ Err (Refusal.Fault Fault.Unexpected) }
+{
+    Err(unexpected())
+}
+
+impl Frame {
+    // How tightly an operator binds its last part; a bracket is no operator.
+    fn binding(&self) -> u8
+        ensures { result ≡ machine.binding (part self.now) }
+    {
+        match self {
+            Frame::Group | Frame::Index(_) | Frame::Call(_, _) => 0,
+            Frame::Either(_) => EITHER,
+            Frame::Both(_) => BOTH,
+            Frame::Equality(_, _) => EQUALITY,
+            Frame::Relation(_, _) => RELATION,
+            Frame::Not => NOT,
+        }
+    }
+}
+
+// How tightly the innermost of what is open binds, 0 where nothing is open.
+fn top_binding(frames: &[Frame]) -> u8
+    ensures { result ≡ machine.top_binding (parts_of frames.now) }
+{
+    match frames.last() {
+        Some(frame) => frame.binding(),
+        None => 0,
+    }
+}
+
 fn pop(frames: &mut Vec<Frame>) -> Option<Frame>
     ensures { MatchOption result
         ((parts frames.old ≡ []) × (parts frames.new ≡ []))
@@ -73,143 +120,49 @@ fn push(frames: &mut Vec<Frame>, frame: Frame) -> Result<(), Refusal>
     Ok(())
 }
 
-// Each `!` before the operand takes it.
-fn close_not(alloc: Global, operand: Operand, mut frames: Vec<Frame>) -> Result<Held, Refusal>
-    ensures { Gives held result (machine.close_not (tree_of operand) (parts frames)) }
+// An open operator with its last part.
+fn completed(alloc: Global, frame: Frame, operand: Operand) -> Result<Operand, Refusal>
+    requires { 1 ≤ machine.binding (part frame) }
+    ensures { Gives tree_of result
+        (machine.node limits (machine.completed (part frame) (tree_of operand))) }
 {
-    match pop(&mut frames) {
-        Some(Frame::Not) => close_not(alloc, Operand::not(alloc, operand)?, frames),
-        Some(frame) => {
-            push(&mut frames, frame)?;
-            Ok((operand, frames))
-        }
-        None => Ok((operand, frames)),
+    match frame {
+        Frame::Either(trees) => Operand::either(trees, operand),
+        Frame::Both(trees) => Operand::both(trees, operand),
+        Frame::Equality(equality, left) => Operand::equality(alloc, equality, left, operand),
+        Frame::Relation(relation, left) => Operand::relation(alloc, relation, left, operand),
+        Frame::Not => Operand::not(alloc, operand),
+        Frame::Group | Frame::Index(_) | Frame::Call(_, _) => Ok(operand),
     }
 }
 
-// An open relation takes the operand.
-fn related(alloc: Global, operand: Operand, mut frames: Vec<Frame>) -> Result<Held, Refusal>
-    ensures { Gives held result (machine.related (tree_of operand) (parts frames)) }
+// The innermost of what is open is taken, if it is an operator that binds so tightly.
+fn pop_binding(frames: &mut Vec<Frame>, least: u8) -> Option<Frame>
+    requires { 1 ≤ least }
+    ensures { MatchOption result
+        ((machine.top_binding (parts frames.old) < least) × (parts frames.new ≡ parts frames.old))
+        (λ f. (least ≤ machine.binding (part f)) × (parts frames.old ≡ part f ∷ parts frames.new)) }
 {
-    match pop(&mut frames) {
-        Some(Frame::Relation(relation, left)) => Ok((
-            Operand::relation(alloc, relation, left, operand)?,
-            frames,
-        )),
-        Some(frame) => {
-            push(&mut frames, frame)?;
-            Ok((operand, frames))
-        }
-        None => Ok((operand, frames)),
+    if top_binding(frames.as_slice()) < least {
+        return None;
     }
+    pop(frames)
 }
 
-// An open equality takes the operand.
-fn equated(alloc: Global, operand: Operand, mut frames: Vec<Frame>) -> Result<Held, Refusal>
-    ensures { Gives held result (machine.equated (tree_of operand) (parts frames)) }
-{
-    match pop(&mut frames) {
-        Some(Frame::Equality(equality, left)) => Ok((
-            Operand::equality(alloc, equality, left, operand)?,
-            frames,
-        )),
-        Some(frame) => {
-            push(&mut frames, frame)?;
-            Ok((operand, frames))
-        }
-        None => Ok((operand, frames)),
-    }
-}
-
-// An open chain of `&&` ends with the operand.
-fn both_ended(operand: Operand, mut frames: Vec<Frame>) -> Result<Held, Refusal>
-    ensures { Gives held result (machine.both_ended (tree_of operand) (parts frames)) }
-{
-    match pop(&mut frames) {
-        Some(Frame::Both(trees)) => Ok((Operand::both(trees.push(operand)?)?, frames)),
-        Some(frame) => {
-            push(&mut frames, frame)?;
-            Ok((operand, frames))
-        }
-        None => Ok((operand, frames)),
-    }
-}
-
-// An open chain of `||` ends with the operand.
-fn either_ended(operand: Operand, mut frames: Vec<Frame>) -> Result<Held, Refusal>
-    ensures { Gives held result (machine.either_ended (tree_of operand) (parts frames)) }
-{
-    match pop(&mut frames) {
-        Some(Frame::Either(trees)) => Ok((Operand::either(trees.push(operand)?)?, frames)),
-        Some(frame) => {
-            push(&mut frames, frame)?;
-            Ok((operand, frames))
-        }
-        None => Ok((operand, frames)),
-    }
-}
-
-// What is open and holds as tight as a relation takes the operand, and so on below.
-fn close_relation(alloc: Global, operand: Operand, frames: Vec<Frame>) -> Result<Held, Refusal>
-    ensures { Gives held result (machine.close_relation (tree_of operand) (parts frames)) }
-{
-    let (operand, frames) = close_not(alloc, operand, frames)?;
-    related(alloc, operand, frames)
-}
-
-fn close_equality(alloc: Global, operand: Operand, frames: Vec<Frame>) -> Result<Held, Refusal>
-    ensures { Gives held result (machine.close_equality (tree_of operand) (parts frames)) }
-{
-    let (operand, frames) = close_relation(alloc, operand, frames)?;
-    equated(alloc, operand, frames)
-}
-
-fn close_both(alloc: Global, operand: Operand, frames: Vec<Frame>) -> Result<Held, Refusal>
-    ensures { Gives held result (machine.close_both (tree_of operand) (parts frames)) }
-{
-    let (operand, frames) = close_equality(alloc, operand, frames)?;
-    both_ended(operand, frames)
-}
-
-fn close_either(alloc: Global, operand: Operand, frames: Vec<Frame>) -> Result<Held, Refusal>
-    ensures { Gives held result (machine.close_either (tree_of operand) (parts frames)) }
-{
-    let (operand, frames) = close_both(alloc, operand, frames)?;
-    either_ended(operand, frames)
-}
-
-// A chain of `&&` begins with the operand, or goes on with it.
-fn both_more(alloc: Global, operand: Operand, mut frames: Vec<Frame>) -> Result<Vec<Frame>, Refusal>
-    ensures { Gives parts result (Ok (machine.both_more (tree_of operand) (parts frames))) }
-{
-    match pop(&mut frames) {
-        Some(Frame::Both(trees)) => push(&mut frames, Frame::Both(trees.push(operand)?))?,
-        Some(frame) => {
-            push(&mut frames, frame)?;
-            push(&mut frames, Frame::Both(Trees::new(alloc).push(operand)?))?;
-        }
-        None => push(&mut frames, Frame::Both(Trees::new(alloc).push(operand)?))?,
-    }
-    Ok(frames)
-}
-
-// A chain of `||` begins with the operand, or goes on with it.
-fn either_more(
+// What is open and binds at least so tightly takes the operand, the innermost first.
+fn close(
     alloc: Global,
-    operand: Operand,
+    mut operand: Operand,
     mut frames: Vec<Frame>,
-) -> Result<Vec<Frame>, Refusal>
-    ensures { Gives parts result (Ok (machine.either_more (tree_of operand) (parts frames))) }
+    least: u8,
+) -> Result<Held, Refusal>
+    requires { 1 ≤ least }
+    ensures { Gives held result (machine.close limits least (tree_of operand) (parts frames)) }
 {
-    match pop(&mut frames) {
-        Some(Frame::Either(trees)) => push(&mut frames, Frame::Either(trees.push(operand)?))?,
-        Some(frame) => {
-            push(&mut frames, frame)?;
-            push(&mut frames, Frame::Either(Trees::new(alloc).push(operand)?))?;
-        }
-        None => push(&mut frames, Frame::Either(Trees::new(alloc).push(operand)?))?,
+    while let Some(frame) = pop_binding(&mut frames, least) {
+        operand = completed(alloc, frame, operand)?;
     }
-    Ok(frames)
+    Ok((operand, frames))
 }
 
 fn have(operand: Operand, frames: Vec<Frame>) -> Machine
@@ -237,28 +190,145 @@ fn opened(mut frames: Vec<Frame>, frame: Frame) -> Result<Machine, Refusal>
     Ok(want(frames))
 }
 
-// A closing parenthesis ends a group or a call.
-fn end_round(alloc: Global, operand: Operand, mut frames: Vec<Frame>) -> Result<Machine, Refusal>
-    ensures { Gives state_of result (machine.end_round (tree_of operand) (parts frames)) }
+// The innermost chain goes on with the operand.
+fn lengthened(operand: Operand, mut frames: Vec<Frame>) -> Result<Machine, Refusal>
+    ensures { Gives state_of result (machine.lengthened (tree_of operand) (parts frames)) }
 {
     match pop(&mut frames) {
-        Some(Frame::Group) => Ok(have(Operand::group(alloc, operand)?, frames)),
-        Some(Frame::Call(function, trees)) => Ok(have(
-            Operand::call(function, trees.push(operand)?)?,
-            frames,
-        )),
-        _ => Err(unexpected()),
+        Some(Frame::Both(trees)) => opened(frames, Frame::Both(trees.push(operand)?)),
+        Some(Frame::Either(trees)) => opened(frames, Frame::Either(trees.push(operand)?)),
+        Some(other) => refuse(other),
+        None => Err(unexpected()),
+    }
+}
+
+// A chain of `&&` begins with the operand, or goes on with it.
+#[tactic(auto, using(crate::proofs::Stacks::both_goes_on, crate::proofs::Stacks::both_begins))]
+fn both_more(alloc: Global, operand: Operand, frames: Vec<Frame>) -> Result<Machine, Refusal>
+    ensures { Gives state_of result
+        (Ok (machine.want (machine.both_more (tree_of operand) (parts frames)))) }
+{
+    if top_binding(frames.as_slice()) == BOTH {
+        return lengthened(operand, frames);
+    }
+    opened(frames, Frame::Both(Trees::new(alloc).push(operand)?))
+}
+
+// A chain of `||` begins with the operand, or goes on with it.
+#[tactic(auto, using(crate::proofs::Stacks::either_goes_on, crate::proofs::Stacks::either_begins))]
+fn either_more(alloc: Global, operand: Operand, frames: Vec<Frame>) -> Result<Machine, Refusal>
+    ensures { Gives state_of result
+        (Ok (machine.want (machine.either_more (tree_of operand) (parts frames)))) }
+{
+    if top_binding(frames.as_slice()) == EITHER {
+        return lengthened(operand, frames);
+    }
+    opened(frames, Frame::Either(Trees::new(alloc).push(operand)?))
+}
+
+// The group is whole.
+fn grouped(alloc: Global, operand: Operand, frames: Vec<Frame>) -> Result<Machine, Refusal>
+    ensures { Gives state_of result (machine.have_made (parts frames)
+        (machine.node limits (expr.group (tree_of operand)))) }
+{
+    Ok(have(Operand::group(alloc, operand)?, frames))
+}
+
+// The call is whole.
+fn called(function: Function, arguments: Trees, frames: Vec<Frame>) -> Result<Machine, Refusal>
+    ensures { Gives state_of result (machine.have_made (parts frames)
+        (machine.called_with limits function (expr.exprs_of (trees_of arguments)))) }
+{
+    Ok(have(Operand::call(function, arguments)?, frames))
+}
+
+// The index is whole.
+fn indexed(
+    alloc: Global,
+    base: Operand,
+    index: Operand,
+    frames: Vec<Frame>,
+) -> Result<Machine, Refusal>
+    ensures { Gives state_of result (machine.have_made (parts frames)
+        (machine.node limits (expr.index (tree_of base) (tree_of index)))) }
+{
+    Ok(have(Operand::index(alloc, base, index)?, frames))
+}
+
+// The property is whole.
+fn property(
+    alloc: Global,
+    base: Operand,
+    name: String,
+    frames: Vec<Frame>,
+) -> Result<Machine, Refusal>
+    ensures { Gives state_of result (machine.have_made (parts frames)
+        (machine.node limits (expr.property (tree_of base) (string_bytes name)))) }
+{
+    Ok(have(Operand::property(alloc, base, name)?, frames))
+}
+
+// The dereference of every item is whole.
+fn wildcard(
+    alloc: Global,
+    wildcard: Wildcard,
+    base: Operand,
+    frames: Vec<Frame>,
+) -> Result<Machine, Refusal>
+    ensures { Gives state_of result (machine.have_made (parts frames)
+        (machine.node limits (expr.wildcard wildcard (tree_of base)))) }
+{
+    Ok(have(Operand::wildcard(alloc, wildcard, base)?, frames))
+}
+
+// The call has its last argument.
+fn called_last(
+    function: Function,
+    arguments: Trees,
+    last: Operand,
+    frames: Vec<Frame>,
+) -> Result<Machine, Refusal>
+    ensures { Gives state_of result (machine.have_made (parts frames)
+        (machine.called_with limits function
+        (expr.exprs_of (trees_of arguments ++ tree_of last ∷ [])))) }
+{
+    called(function, arguments.push(last)?, frames)
+}
+
+// A closing parenthesis ends a group or a call.
+fn end_round(alloc: Global, operand: Operand, mut frames: Vec<Frame>) -> Result<Machine, Refusal>
+    ensures { Gives state_of result (machine.end_round limits (tree_of operand) (parts frames)) }
+{
+    match pop(&mut frames) {
+        Some(Frame::Group) => grouped(alloc, operand, frames),
+        Some(Frame::Call(function, trees)) => called_last(function, trees, operand, frames),
+        Some(other) => refuse(other),
+        None => Err(unexpected()),
     }
 }
 
 // A closing bracket ends an index.
 fn end_index(alloc: Global, operand: Operand, mut frames: Vec<Frame>) -> Result<Machine, Refusal>
-    ensures { Gives state_of result (machine.end_index (tree_of operand) (parts frames)) }
+    ensures { Gives state_of result (machine.end_index limits (tree_of operand) (parts frames)) }
 {
     match pop(&mut frames) {
-        Some(Frame::Index(base)) => Ok(have(Operand::index(alloc, base, operand)?, frames)),
-        _ => Err(unexpected()),
+        Some(Frame::Index(base)) => indexed(alloc, base, operand, frames),
+        Some(other) => refuse(other),
+        None => Err(unexpected()),
     }
+}
+
+// The call has one argument more.
+fn next_argument(
+    function: Function,
+    arguments: Trees,
+    last: Operand,
+    frames: Vec<Frame>,
+) -> Result<Machine, Refusal>
+    ensures { Gives state_of result (Ok (machine.want
+        (machine.call_of function (trees_of arguments ++ tree_of last ∷ []) ∷ parts frames))) }
+{
+    opened(frames, Frame::Call(function, arguments.push(last)?))
 }
 
 // A comma ends an argument.
@@ -266,28 +336,37 @@ fn end_argument(operand: Operand, mut frames: Vec<Frame>) -> Result<Machine, Ref
     ensures { Gives state_of result (machine.end_argument (tree_of operand) (parts frames)) }
 {
     match pop(&mut frames) {
-        Some(Frame::Call(function, trees)) => opened(
-            frames,
-            Frame::Call(function, trees.push(operand)?),
-        ),
-        _ => Err(unexpected()),
+        Some(Frame::Call(function, trees)) => next_argument(function, trees, operand, frames),
+        Some(other) => refuse(other),
+        None => Err(unexpected()),
+    }
+}
+
+// The call has no arguments.
+#[tactic(auto, using(crate::proofs::Depths::end_arguments))]
+fn called_empty(
+    function: Function,
+    arguments: Trees,
+    frames: Vec<Frame>,
+) -> Result<Machine, Refusal>
+    ensures { Gives state_of result
+        (machine.end_empty limits (machine.call_of function (trees_of arguments) ∷ parts frames)) }
+{
+    if arguments.is_empty() {
+        called(function, arguments, frames)
+    } else {
+        refuse(arguments)
     }
 }
 
 // A closing parenthesis in an operand's place ends a call without arguments.
-#[tactic(auto, using(crate::proofs::Depths::end_arguments))]
 fn end_empty(mut frames: Vec<Frame>) -> Result<Machine, Refusal>
-    ensures { Gives state_of result (machine.end_empty (parts frames)) }
+    ensures { Gives state_of result (machine.end_empty limits (parts frames)) }
 {
     match pop(&mut frames) {
-        Some(Frame::Call(function, trees)) => {
-            if trees.is_empty() {
-                Ok(have(Operand::call(function, trees)?, frames))
-            } else {
-                Err(unexpected())
-            }
-        }
-        _ => Err(unexpected()),
+        Some(Frame::Call(function, trees)) => called_empty(function, trees, frames),
+        Some(other) => refuse(other),
+        None => Err(unexpected()),
     }
 }
 
@@ -300,12 +379,13 @@ fn star_index(mut frames: Vec<Frame>) -> Result<Machine, Refusal>
             mode: Mode::Starred(base),
             frames,
         }),
-        _ => Err(unexpected()),
+        Some(other) => refuse(other),
+        None => Err(unexpected()),
     }
 }
 
 fn want_mark(frames: Vec<Frame>, mark: Mark) -> Result<Machine, Refusal>
-    ensures { Gives state_of result (machine.want_mark (parts frames) mark) }
+    ensures { Gives state_of result (machine.want_mark limits (parts frames) mark) }
 {
     match mark {
         Mark::Open => opened(frames, Frame::Group),
@@ -317,46 +397,71 @@ fn want_mark(frames: Vec<Frame>, mark: Mark) -> Result<Machine, Refusal>
     }
 }
 
+fn at_close(alloc: Global, operand: Operand, frames: Vec<Frame>) -> Result<Machine, Refusal>
+    ensures { Gives state_of result
+        (machine.have_mark limits (tree_of operand) (parts frames) Mark.Close) }
+{
+    let (operand, frames) = close(alloc, operand, frames, EITHER)?;
+    end_round(alloc, operand, frames)
+}
+
+fn at_close_index(alloc: Global, operand: Operand, frames: Vec<Frame>) -> Result<Machine, Refusal>
+    ensures { Gives state_of result
+        (machine.have_mark limits (tree_of operand) (parts frames) Mark.CloseIndex) }
+{
+    let (operand, frames) = close(alloc, operand, frames, EITHER)?;
+    end_index(alloc, operand, frames)
+}
+
+fn at_comma(alloc: Global, operand: Operand, frames: Vec<Frame>) -> Result<Machine, Refusal>
+    ensures { Gives state_of result
+        (machine.have_mark limits (tree_of operand) (parts frames) Mark.Comma) }
+{
+    let (operand, frames) = close(alloc, operand, frames, EITHER)?;
+    end_argument(operand, frames)
+}
+
+fn at_both(alloc: Global, operand: Operand, frames: Vec<Frame>) -> Result<Machine, Refusal>
+    ensures { Gives state_of result
+        (machine.have_mark limits (tree_of operand) (parts frames) Mark.Both) }
+{
+    let (operand, frames) = close(alloc, operand, frames, EQUALITY)?;
+    both_more(alloc, operand, frames)
+}
+
+fn at_either(alloc: Global, operand: Operand, frames: Vec<Frame>) -> Result<Machine, Refusal>
+    ensures { Gives state_of result
+        (machine.have_mark limits (tree_of operand) (parts frames) Mark.Either) }
+{
+    let (operand, frames) = close(alloc, operand, frames, BOTH)?;
+    either_more(alloc, operand, frames)
+}
+
 fn have_mark(
     alloc: Global,
     operand: Operand,
     frames: Vec<Frame>,
     mark: Mark,
 ) -> Result<Machine, Refusal>
-    ensures { Gives state_of result (machine.have_mark (tree_of operand) (parts frames) mark) }
+    ensures { Gives state_of result (machine.have_mark limits (tree_of operand) (parts frames) mark) }
 {
     match mark {
-        Mark::Close => {
-            let (operand, frames) = close_either(alloc, operand, frames)?;
-            end_round(alloc, operand, frames)
-        }
+        Mark::Close => at_close(alloc, operand, frames),
         Mark::OpenIndex => opened(frames, Frame::Index(operand)),
-        Mark::CloseIndex => {
-            let (operand, frames) = close_either(alloc, operand, frames)?;
-            end_index(alloc, operand, frames)
-        }
+        Mark::CloseIndex => at_close_index(alloc, operand, frames),
         Mark::Dot => Ok(Machine {
             mode: Mode::Dotted(operand),
             frames,
         }),
-        Mark::Comma => {
-            let (operand, frames) = close_either(alloc, operand, frames)?;
-            end_argument(operand, frames)
-        }
-        Mark::Both => {
-            let (operand, frames) = close_equality(alloc, operand, frames)?;
-            Ok(want(both_more(alloc, operand, frames)?))
-        }
-        Mark::Either => {
-            let (operand, frames) = close_both(alloc, operand, frames)?;
-            Ok(want(either_more(alloc, operand, frames)?))
-        }
+        Mark::Comma => at_comma(alloc, operand, frames),
+        Mark::Both => at_both(alloc, operand, frames),
+        Mark::Either => at_either(alloc, operand, frames),
         Mark::Open | Mark::Star | Mark::Not => Err(unexpected()),
     }
 }
 
 fn want_token(frames: Vec<Frame>, token: Token) -> Result<Machine, Refusal>
-    ensures { Gives state_of result (machine.want_step (parts frames) (token_of token)) }
+    ensures { Gives state_of result (machine.want_step limits (parts frames) (token_of token)) }
 {
     match token {
         Token::Constant(literal) => Ok(have(Operand::literal(literal), frames)),
@@ -366,8 +471,34 @@ fn want_token(frames: Vec<Frame>, token: Token) -> Result<Machine, Refusal>
             frames,
         }),
         Token::Mark(mark) => want_mark(frames, mark),
-        Token::Name(_) | Token::Relational(_) | Token::Equational(_) => Err(unexpected()),
+        other => refuse(other),
     }
+}
+
+fn at_relation(
+    alloc: Global,
+    relation: Relation,
+    operand: Operand,
+    frames: Vec<Frame>,
+) -> Result<Machine, Refusal>
+    ensures { Gives state_of result
+        (machine.have_step limits (tree_of operand) (parts frames) (grammar.relational relation)) }
+{
+    let (left, frames) = close(alloc, operand, frames, RELATION)?;
+    opened(frames, Frame::Relation(relation, left))
+}
+
+fn at_equality(
+    alloc: Global,
+    equality: Equality,
+    operand: Operand,
+    frames: Vec<Frame>,
+) -> Result<Machine, Refusal>
+    ensures { Gives state_of result
+        (machine.have_step limits (tree_of operand) (parts frames) (grammar.equational equality)) }
+{
+    let (left, frames) = close(alloc, operand, frames, EQUALITY)?;
+    opened(frames, Frame::Equality(equality, left))
 }
 
 fn have_token(
@@ -376,21 +507,14 @@ fn have_token(
     frames: Vec<Frame>,
     token: Token,
 ) -> Result<Machine, Refusal>
-    ensures { Gives state_of result (machine.have_step (tree_of operand) (parts frames) (token_of token)) }
+    ensures { Gives state_of result
+        (machine.have_step limits (tree_of operand) (parts frames) (token_of token)) }
 {
     match token {
-        Token::Relational(relation) => {
-            let (left, frames) = close_relation(alloc, operand, frames)?;
-            opened(frames, Frame::Relation(relation, left))
-        }
-        Token::Equational(equality) => {
-            let (left, frames) = close_equality(alloc, operand, frames)?;
-            opened(frames, Frame::Equality(equality, left))
-        }
+        Token::Relational(relation) => at_relation(alloc, relation, operand, frames),
+        Token::Equational(equality) => at_equality(alloc, equality, operand, frames),
         Token::Mark(mark) => have_mark(alloc, operand, frames, mark),
-        Token::Constant(_) | Token::Root(_) | Token::Callee(_) | Token::Name(_) => Err(
-            unexpected(),
-        ),
+        other => refuse(other),
     }
 }
 
@@ -400,15 +524,13 @@ fn dotted_token(
     frames: Vec<Frame>,
     token: Token,
 ) -> Result<Machine, Refusal>
-    ensures { Gives state_of result (machine.dotted_step (tree_of base) (parts frames) (token_of token)) }
+    ensures { Gives state_of result
+        (machine.dotted_step limits (tree_of base) (parts frames) (token_of token)) }
 {
     match token {
-        Token::Name(name) => Ok(have(Operand::property(alloc, base, name)?, frames)),
-        Token::Mark(Mark::Star) => Ok(have(
-            Operand::wildcard(alloc, Wildcard::Dotted, base)?,
-            frames,
-        )),
-        _ => Err(unexpected()),
+        Token::Name(name) => property(alloc, base, name, frames),
+        Token::Mark(Mark::Star) => wildcard(alloc, Wildcard::Dotted, base, frames),
+        other => refuse(other),
     }
 }
 
@@ -422,7 +544,7 @@ fn called_token(
 {
     match token {
         Token::Mark(Mark::Open) => opened(frames, Frame::Call(function, Trees::new(alloc))),
-        _ => Err(unexpected()),
+        other => refuse(other),
     }
 }
 
@@ -432,14 +554,12 @@ fn starred_token(
     frames: Vec<Frame>,
     token: Token,
 ) -> Result<Machine, Refusal>
-    ensures { Gives state_of result (machine.starred_step (tree_of base) (parts frames) (token_of token)) }
+    ensures { Gives state_of result
+        (machine.starred_step limits (tree_of base) (parts frames) (token_of token)) }
 {
     match token {
-        Token::Mark(Mark::CloseIndex) => Ok(have(
-            Operand::wildcard(alloc, Wildcard::Bracketed, base)?,
-            frames,
-        )),
-        _ => Err(unexpected()),
+        Token::Mark(Mark::CloseIndex) => wildcard(alloc, Wildcard::Bracketed, base, frames),
+        other => refuse(other),
     }
 }
 
@@ -463,7 +583,7 @@ impl Machine {
 
     /// Takes the next token.
     pub(crate) fn advance(self, alloc: Global, token: Token) -> Result<Machine, Refusal>
-        ensures { Gives state_of result (machine.step (state_of self) (token_of token)) }
+        ensures { Gives state_of result (machine.step limits (state_of self) (token_of token)) }
     {
         let Machine { mode, frames } = self;
         match mode {
@@ -477,17 +597,23 @@ impl Machine {
 
     /// The tree, once all tokens were taken.
     pub(crate) fn finish(self, alloc: Global) -> Result<Tree, Refusal>
-        ensures { Gives view result (machine.finish (state_of self)) }
+        ensures { Gives view result (machine.finish limits (state_of self)) }
     {
         let Machine { mode, frames } = self;
         match mode {
-            Mode::Have(operand) => {
-                let (operand, frames) = close_either(alloc, operand, frames)?;
-                end_text(operand, frames)
-            }
-            Mode::Want | Mode::Dotted(_) | Mode::Called(_) | Mode::Starred(_) => Err(unexpected()),
+            Mode::Have(operand) => whole(alloc, operand, frames),
+            other => refuse(other),
         }
     }
+}
+
+// The tree at the end of the tokens.
+fn whole(alloc: Global, operand: Operand, frames: Vec<Frame>) -> Result<Tree, Refusal>
+    ensures { Gives view result
+        (machine.finish limits (machine.have (tree_of operand) (parts frames))) }
+{
+    let (operand, frames) = close(alloc, operand, frames, EITHER)?;
+    end_text(operand, frames)
 }
 
 // At the end nothing may be open.
@@ -495,7 +621,7 @@ fn end_text(operand: Operand, mut frames: Vec<Frame>) -> Result<Tree, Refusal>
     ensures { Gives view result (machine.end_text (tree_of operand) (parts frames)) }
 {
     match pop(&mut frames) {
-        Some(_) => Err(unexpected()),
-        None => Ok(operand.tree),
+        Some(frame) => refuse(frame),
+        None => Ok(operand.into_tree()),
     }
 }

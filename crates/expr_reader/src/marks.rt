@@ -1,7 +1,7 @@
 //! The marks of expressions in a text.
 
 ghost use Rattle.std.specs.Prelude.{◌≡◌, ℕ, Bool, false, MatchOption, length, ◌≤◌, take, drop, None, Some, ◌+◌};
-ghost use Rattle.expr_reader.specs.Template.{begins_mark as begins_mark_of, begins_end as begins_end_of, open_after as open_after_of, has_mark as has_mark_of, end_place as end_place_of};
+ghost use Rattle.expr_reader.specs.Template.{begins_mark as begins_mark_of, begins_end as begins_end_of, open_after as open_after_of, has_marker as has_marker_of, end_place as end_place_of};
 ghost use Rattle.expr_reader.specs.TemplateReading.{mark_place as mark_place_of};
 
 /// Whether `${{` stands at the front.
@@ -25,12 +25,12 @@ fn open_after(quoted: bool, byte: u8) -> bool
     if byte == b'\'' { !quoted } else { quoted }
 }
 
-// What follows the first i bytes.
-fn tail(bytes: &[u8], i: usize) -> &[u8]
-    requires { i ≤ length bytes.now }
-    ensures { result.now ≡ drop i bytes.now }
+// What follows the bytes before a place.
+fn tail(bytes: &[u8], place: usize) -> &[u8]
+    requires { place ≤ length bytes.now }
+    ensures { result.now ≡ drop place bytes.now }
 {
-    &bytes[i..]
+    &bytes[place..]
 }
 
 // How many bytes stand before the first `${{`, or before the end.
@@ -38,9 +38,9 @@ fn tail(bytes: &[u8], i: usize) -> &[u8]
 fn mark_place(bytes: &[u8]) -> usize
     ensures { result ≡ mark_place_of bytes.now }
 {
-    for i in 0..bytes.len() {
-        if begins_mark(tail(bytes, i)) {
-            return i;
+    for place in 0..bytes.len() {
+        if begins_mark(tail(bytes, place)) {
+            return place;
         }
     }
     bytes.len()
@@ -52,19 +52,19 @@ fn end_place(bytes: &[u8]) -> Option<usize>
     ensures { result ≡ end_place_of false bytes.now }
 {
     let mut quoted = false;
-    for (i, byte) in bytes.iter().enumerate() {
-        if !quoted && begins_end(tail(bytes, i)) {
-            return Some(i);
+    for (place, byte) in bytes.iter().enumerate() {
+        if !quoted && begins_end(tail(bytes, place)) {
+            return Some(place);
         }
         quoted = open_after(quoted, *byte);
     }
     None
 }
 
-/// Whether `${{` stands anywhere.
-#[tactic(auto, using(crate::proofs::MarkPlaces::has_mark_by_place))]
-pub(crate) fn has_mark(text: &str) -> bool
-    ensures { result ≡ has_mark_of text.now }
+/// Whether `${{`, the marker of an expression, stands anywhere in the text.
+#[tactic(auto, using(crate::proofs::MarkPlaces::has_marker_by_place))]
+pub fn has_marker(text: &str) -> bool
+    ensures { result ≡ has_marker_of text.now }
 {
     mark_place(text.as_bytes()) < text.len()
 }
@@ -82,7 +82,10 @@ pub(crate) fn split_mark(text: &str) -> (&str, &str)
 /// The text before the first `}}` outside quotes, and the rest after it.
 #[tactic(auto, using(crate::proofs::MarkPlaces::end_boundary, crate::proofs::MarkPlaces::end_past))]
 pub(crate) fn split_end(text: &str) -> Option<(&str, &str)>
-    ensures { MatchOption result (end_place_of false text.now ≡ None) (λ x. (n : ℕ) × (end_place_of false text.now ≡ Some n) × (x.0.now ≡ take n text.now) × (x.1.now ≡ drop (n + 2) text.now)) }
+    ensures { MatchOption result
+        (end_place_of false text.now ≡ None)
+        (λ x. (n : ℕ) × (end_place_of false text.now ≡ Some n)
+        × (x.0.now ≡ take n text.now) × (x.1.now ≡ drop (n + 2) text.now)) }
 {
     let place = end_place(text.as_bytes())?;
     let (inside, rest) = text.split_at(place);

@@ -69,8 +69,8 @@ pub(crate) fn whole_number(bytes: &[u8]) -> Option<i64>
 {
     match bytes {
         [] => None,
-        [b'-', digits @ ..] => decimal_number(digits).map(|n| -(n as i64)),
-        [b'0', rest @ ..] => after_zero(rest).map(|n| n as i64),
-        _ => decimal_number(bytes).map(|n| n as i64),
+        [b'-', digits @ ..] => decimal_number(digits).map(|number| -(number as i64)),
+        [b'0', rest @ ..] => after_zero(rest).map(|number| number as i64),
+        _ => decimal_number(bytes).map(|number| number as i64),
     }
 }

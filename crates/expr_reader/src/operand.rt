@@ -3,7 +3,7 @@
 ghost use Rattle.std.specs.Prelude.{◌≡◌, ◌≤◌, suc, ◌≢◌, ◌∷◌, ◌++◌, [], IfOk, IfErr, MatchBool, string_bytes};
 ghost use Rattle.expr_reader.specs.Expr.{depth as depth_of, deepest as deepest_of, exprs_of, literal as literal_of, context as context_of, call as call_of, group as group_of, property as property_of, index as index_of, wildcard as wildcard_of, opposite, relation as relation_of, equality as equality_of, both as both_of, either as either_of};
 ghost use Rattle.expr_reader.specs.Grammar.{takes as takes_of};
-ghost use Rattle.expr_reader.specs.Machine.{node, called_with};
+ghost use Rattle.expr_reader.specs.Machine.{limits, node, called_with};
 ghost use Rattle.expr_reader.specs.Outcome.{Gives};
 ghost use Rattle.expr_reader.specs.View.{view, views, constant_of};
 
@@ -12,13 +12,13 @@ use crate::tree::{Context, Equality, Function, Literal, Relation, Tree, Wildcard
 use std::alloc::Global;
 
 /// How deep a tree may be.
-pub(crate) const DEEPEST: usize = 50;
+const DEEPEST: usize = 50;
 
 /// A tree that is whole, with its depth.
 #[derive(Drop)]
 pub(crate) struct Operand {
-    pub(crate) tree: Tree,
-    pub(crate) height: usize,
+    tree: Tree,
+    height: usize,
     ghost measured: { height ≡ depth_of (view tree) },
     ghost shallow: { height ≤ 50 },
 }
@@ -26,8 +26,8 @@ pub(crate) struct Operand {
 /// Trees one after another, with the depth of the deepest.
 #[derive(Drop)]
 pub(crate) struct Trees {
-    pub(crate) trees: Vec<Tree>,
-    pub(crate) height: usize,
+    trees: Vec<Tree>,
+    height: usize,
     ghost measured: { height ≡ deepest_of (exprs_of (views trees.items)) },
     ghost shallow: { height ≤ 50 },
 }
@@ -75,8 +75,17 @@ impl Trees {
 }
 
 impl Operand {
+    ghost use Rattle.expr_reader.specs.Stack.{tree_of, trees_of};
+
+    /// Its tree.
+    pub(crate) fn into_tree(self) -> Tree
+        ensures { view result ≡ tree_of self }
+    {
+        self.tree
+    }
+
     pub(crate) fn literal(literal: Literal) -> Operand
-        ensures { view result.tree ≡ literal_of (constant_of literal) }
+        ensures { tree_of result ≡ literal_of (constant_of literal) }
     {
         Operand {
             tree: Tree::Literal(literal),
@@ -85,7 +94,7 @@ impl Operand {
     }
 
     pub(crate) fn context(context: Context) -> Operand
-        ensures { view result.tree ≡ context_of context }
+        ensures { tree_of result ≡ context_of context }
     {
         Operand {
             tree: Tree::Context(context),
@@ -94,7 +103,7 @@ impl Operand {
     }
 
     pub(crate) fn group(alloc: Global, inner: Operand) -> Result<Operand, Refusal>
-        ensures { Gives (λ o. view o.tree) result (node (group_of (view inner.tree))) }
+        ensures { Gives tree_of result (node limits (group_of (tree_of inner))) }
     {
         let height = height_above(inner.height)?;
         let inner = Box::new(alloc, inner.tree)?;
@@ -105,7 +114,7 @@ impl Operand {
     }
 
     pub(crate) fn property(alloc: Global, base: Operand, name: String) -> Result<Operand, Refusal>
-        ensures { Gives (λ o. view o.tree) result (node (property_of (view base.tree) (string_bytes name))) }
+        ensures { Gives tree_of result (node limits (property_of (tree_of base) (string_bytes name))) }
     {
         let height = height_above(base.height)?;
         let base = Box::new(alloc, base.tree)?;
@@ -116,7 +125,7 @@ impl Operand {
     }
 
     pub(crate) fn index(alloc: Global, base: Operand, index: Operand) -> Result<Operand, Refusal>
-        ensures { Gives (λ o. view o.tree) result (node (index_of (view base.tree) (view index.tree))) }
+        ensures { Gives tree_of result (node limits (index_of (tree_of base) (tree_of index))) }
     {
         let height = height_above(base.height.max(index.height))?;
         let base = Box::new(alloc, base.tree)?;
@@ -132,7 +141,7 @@ impl Operand {
         wildcard: Wildcard,
         base: Operand,
     ) -> Result<Operand, Refusal>
-        ensures { Gives (λ o. view o.tree) result (node (wildcard_of wildcard (view base.tree))) }
+        ensures { Gives tree_of result (node limits (wildcard_of wildcard (tree_of base))) }
     {
         let height = height_above(base.height)?;
         let base = Box::new(alloc, base.tree)?;
@@ -143,7 +152,7 @@ impl Operand {
     }
 
     pub(crate) fn not(alloc: Global, operand: Operand) -> Result<Operand, Refusal>
-        ensures { Gives (λ o. view o.tree) result (node (opposite (view operand.tree))) }
+        ensures { Gives tree_of result (node limits (opposite (tree_of operand))) }
     {
         let height = height_above(operand.height)?;
         let operand = Box::new(alloc, operand.tree)?;
@@ -159,7 +168,7 @@ impl Operand {
         left: Operand,
         right: Operand,
     ) -> Result<Operand, Refusal>
-        ensures { Gives (λ o. view o.tree) result (node (relation_of relation (view left.tree) (view right.tree))) }
+        ensures { Gives tree_of result (node limits (relation_of relation (tree_of left) (tree_of right))) }
     {
         let height = height_above(left.height.max(right.height))?;
         let left = Box::new(alloc, left.tree)?;
@@ -176,7 +185,7 @@ impl Operand {
         left: Operand,
         right: Operand,
     ) -> Result<Operand, Refusal>
-        ensures { Gives (λ o. view o.tree) result (node (equality_of equality (view left.tree) (view right.tree))) }
+        ensures { Gives tree_of result (node limits (equality_of equality (tree_of left) (tree_of right))) }
     {
         let height = height_above(left.height.max(right.height))?;
         let left = Box::new(alloc, left.tree)?;
@@ -187,9 +196,12 @@ impl Operand {
         })
     }
 
-    pub(crate) fn both(parts: Trees) -> Result<Operand, Refusal>
-        ensures { Gives (λ o. view o.tree) result (node (both_of (exprs_of (views parts.trees.items)))) }
+    /// A chain of `&&`, with its last part.
+    pub(crate) fn both(parts: Trees, last: Operand) -> Result<Operand, Refusal>
+        ensures { Gives tree_of result (node limits
+            (both_of (exprs_of (trees_of parts ++ tree_of last ∷ [])))) }
     {
+        let parts = parts.push(last)?;
         let height = height_above(parts.height)?;
         Ok(Operand {
             tree: Tree::Both(parts.trees),
@@ -197,9 +209,12 @@ impl Operand {
         })
     }
 
-    pub(crate) fn either(parts: Trees) -> Result<Operand, Refusal>
-        ensures { Gives (λ o. view o.tree) result (node (either_of (exprs_of (views parts.trees.items)))) }
+    /// A chain of `||`, with its last part.
+    pub(crate) fn either(parts: Trees, last: Operand) -> Result<Operand, Refusal>
+        ensures { Gives tree_of result (node limits
+            (either_of (exprs_of (trees_of parts ++ tree_of last ∷ [])))) }
     {
+        let parts = parts.push(last)?;
         let height = height_above(parts.height)?;
         Ok(Operand {
             tree: Tree::Either(parts.trees),
@@ -209,7 +224,7 @@ impl Operand {
 
     #[tactic(auto, using(crate::proofs::Depths::count_views))]
     pub(crate) fn call(function: Function, arguments: Trees) -> Result<Operand, Refusal>
-        ensures { Gives (λ o. view o.tree) result (called_with function (exprs_of (views arguments.trees.items))) }
+        ensures { Gives tree_of result (called_with limits function (exprs_of (trees_of arguments))) }
     {
         if takes(function, arguments.trees.len()) {
             Operand::fitting_call(function, arguments)
@@ -219,7 +234,7 @@ impl Operand {
     }
 
     fn fitting_call(function: Function, arguments: Trees) -> Result<Operand, Refusal>
-        ensures { Gives (λ o. view o.tree) result (node (call_of function (exprs_of (views arguments.trees.items)))) }
+        ensures { Gives tree_of result (node limits (call_of function (exprs_of (trees_of arguments)))) }
     {
         let height = height_above(arguments.height)?;
         Ok(Operand {

@@ -118,6 +118,15 @@ pub fn read_expr(alloc: Global, text: &str) -> Result<Tree, ExprFault>
     ensures only { (e : Expr) → Spells e text.now → IsRead result e }
     ensures stands { IfErr result (λ fault. FaultStands text.now fault) }
 {
+    read_alone(alloc, text)
+}
+
+// Reads an expression that stands in no longer text, whichever functions it names.
+fn read_alone(alloc: Global, text: &str) -> Result<Tree, ExprFault>
+    ensures found { IfOk result (λ tree. Spells (view tree) text.now) }
+    ensures only { (e : Expr) → Spells e text.now → IsRead result e }
+    ensures stands { IfErr result (λ fault. FaultStands text.now fault) }
+{
     let mut status = None;
     read_at(alloc, text, 0, &mut status)
 }

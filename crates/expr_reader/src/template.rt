@@ -3,7 +3,7 @@
 use crate::tree::Tree;
 
 /// A piece of a template.
-#[derive(Debug, Drop)]
+#[derive(Drop)]
 pub enum Piece {
     /// Text that stands for itself.
     Text(String),
@@ -13,7 +13,7 @@ pub enum Piece {
 
 /// A text with expressions in it. One of a single expression has that expression's value; any other is
 /// the join of its pieces' texts.
-#[derive(Debug, Drop)]
+#[derive(Drop)]
 pub struct Template {
     /// The pieces, in the order of the text.
     pub pieces: Vec<Piece>,

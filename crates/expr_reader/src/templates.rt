@@ -2,7 +2,7 @@
 
 ghost use Rattle.std.specs.Prelude.{◌≡◌, ℕ, ◌+◌, ◌^◌, ◌<◌, ◌↔◌, IsTrue, List, length, IfOk, IfErr};
 ghost use Rattle.expr_reader.specs.Template.{Piece as PieceOf, SpellsTemplate, IsTemplate, SpellsCondition, IsCondition};
-ghost use Rattle.expr_reader.specs.Accepts.{is_template, is_condition};
+ghost use Rattle.expr_reader.specs.Accepts.{is_template, is_condition, template_read, condition_read, TemplatesAreRead, ConditionsAreRead, ReadsAs};
 ghost use Rattle.expr_reader.specs.Faults.{Answers};
 ghost use Rattle.expr_reader.specs.TemplateReading.{read_trimmed};
 ghost use Rattle.expr_reader.specs.TemplateStands.{IsReadAs, TemplateFaultStands, ConditionFaultStands};
@@ -10,7 +10,7 @@ ghost use Rattle.expr_reader.specs.TemplateView.{template_of};
 
 use crate::bytes::{Class, split_run, trim_end};
 use crate::fault::ExprFault;
-use crate::marks::has_mark;
+use crate::marks::has_marker;
 use crate::pieces::{read_pieces, single};
 use crate::reader::read_at;
 use crate::status::names_status;
@@ -33,6 +33,16 @@ pub fn read_template(alloc: Global, text: &str) -> Result<Template, ExprFault>
     // What is read is spelled so.
     ensures found { IfOk result (λ template. SpellsTemplate (template_of template) text.now) }
     // What is spelled so is read, unless memory runs out.
+    ensures only { (ps : List PieceOf) → SpellsTemplate ps text.now → IsReadAs result ps }
+    ensures stands { IfErr result (λ fault. TemplateFaultStands text.now fault) }
+    ensures reads { ReadsAs result (template_read text.now) }
+{
+    read_marked(alloc, text)
+}
+
+// Reads a template.
+fn read_marked(alloc: Global, text: &str) -> Result<Template, ExprFault>
+    ensures found { IfOk result (λ template. SpellsTemplate (template_of template) text.now) }
     ensures only { (ps : List PieceOf) → SpellsTemplate ps text.now → IsReadAs result ps }
     ensures stands { IfErr result (λ fault. TemplateFaultStands text.now fault) }
 {
@@ -67,6 +77,7 @@ pub fn read_condition(alloc: Global, text: &str) -> Result<Template, ExprFault>
     // What is spelled so is read, unless memory runs out.
     ensures only { (ps : List PieceOf) → SpellsCondition ps text.now → IsReadAs result ps }
     ensures stands { IfErr result (λ fault. ConditionFaultStands text.now fault) }
+    ensures reads { ReadsAs result (condition_read text.now) }
 {
     let (_, start) = split_run(text, Class::White);
     let base = text.len() - start.len();
@@ -80,7 +91,7 @@ fn read_trimmed(alloc: Global, text: &str, base: usize) -> Result<Template, Expr
     ensures { Answers template_of result (read_trimmed base text.now) }
 {
     let mut status = None;
-    if !has_mark(text) {
+    if !has_marker(text) {
         return match read_at(alloc, text, base, &mut status) {
             Ok(tree) => single(alloc, tree, base),
             Err(fault) => Err(fault),
@@ -95,6 +106,16 @@ fn read_trimmed(alloc: Global, text: &str, base: usize) -> Result<Template, Expr
     }
 }
 
+/// What `template_read` gives for a text is what the text spells as a template.
+pub fn template_reading()
+    ensures { TemplatesAreRead }
+{}
+
+/// What `condition_read` gives for a text is what the text spells as a condition.
+pub fn condition_reading()
+    ensures { ConditionsAreRead }
+{}
+
 /// The test `is_template` tells the templates.
 pub fn template_test()
     ensures { (text : List ℕ) → IsTrue (is_template text) ↔ IsTemplate text }
@@ -107,10 +128,12 @@ pub fn condition_test()
 
 /// No text spells two templates.
 pub fn one_template()
-    ensures { (ps qs : List PieceOf) (text : List ℕ) → SpellsTemplate ps text → SpellsTemplate qs text → ps ≡ qs }
+    ensures { (ps qs : List PieceOf) (text : List ℕ)
+        → SpellsTemplate ps text → SpellsTemplate qs text → ps ≡ qs }
 {}
 
 /// No text spells two conditions.
 pub fn one_condition()
-    ensures { (ps qs : List PieceOf) (text : List ℕ) → SpellsCondition ps text → SpellsCondition qs text → ps ≡ qs }
+    ensures { (ps qs : List PieceOf) (text : List ℕ)
+        → SpellsCondition ps text → SpellsCondition qs text → ps ≡ qs }
 {}

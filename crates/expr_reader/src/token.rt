@@ -8,7 +8,7 @@ use crate::status::is_status;
 use crate::tree::{Context, Equality, Function, Literal, Relation};
 
 /// Brackets, separators and the operators that are no comparison.
-#[derive(Clone, Copy, Debug, PartialEq, Eq)]
+#[derive(Clone, Copy)]
 pub(crate) enum Mark {
     Open,
     Close,

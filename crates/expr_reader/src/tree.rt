@@ -7,7 +7,7 @@ ghost use Rattle.std.specs.Prelude.{◌≡◌};
 ghost use Rattle.expr_reader.specs.Names.{context_name};
 
 /// A value that an expression writes out.
-#[derive(Debug, Drop)]
+#[derive(Drop)]
 pub enum Literal {
     /// `null`
     Null,
@@ -20,7 +20,7 @@ pub enum Literal {
 }
 
 /// A context that an expression may name, ignoring case.
-#[derive(Clone, Copy, Debug, PartialEq, Eq)]
+#[derive(Clone, Copy, PartialEq, Eq)]
 pub enum Context {
     /// `github`
     Github,
@@ -49,7 +49,7 @@ pub enum Context {
 }
 
 /// A function that an expression may call, its name ignoring case.
-#[derive(Clone, Copy, Debug, PartialEq, Eq)]
+#[derive(Clone, Copy, PartialEq, Eq)]
 pub enum Function {
     /// `contains`
     Contains,
@@ -76,7 +76,7 @@ pub enum Function {
 }
 
 /// How the dereference of every item is written; both mean the same.
-#[derive(Clone, Copy, Debug, PartialEq, Eq)]
+#[derive(Clone, Copy, PartialEq, Eq)]
 pub enum Wildcard {
     /// `.*`
     Dotted,
@@ -85,7 +85,7 @@ pub enum Wildcard {
 }
 
 /// `<`, `<=`, `>` and `>=`.
-#[derive(Clone, Copy, Debug, PartialEq, Eq)]
+#[derive(Clone, Copy, PartialEq, Eq)]
 pub enum Relation {
     /// `<`
     Less,
@@ -98,7 +98,7 @@ pub enum Relation {
 }
 
 /// `==` and `!=`.
-#[derive(Clone, Copy, Debug, PartialEq, Eq)]
+#[derive(Clone, Copy, PartialEq, Eq)]
 pub enum Equality {
     /// `==`
     Equal,
@@ -107,7 +107,7 @@ pub enum Equality {
 }
 
 /// An expression.
-#[derive(Debug, Drop)]
+#[derive(Drop)]
 pub enum Tree {
     /// A value that is written out.
     Literal(Literal),

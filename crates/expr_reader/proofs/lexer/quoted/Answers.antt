@@ -6,17 +6,17 @@ use Rattle.expr_reader.proofs.lexer.quoted.Goals as goal
 pub split_at-requires : goal.split_at-requires
 split_at-requires c =
     let bytes = c.as_bytes-bytes.result.now in
-    let closed = closed_at c.loop-i.text.items bytes c.loop-i.after_quote c.loop-i.i c.if-after_quote.true c.loop-i-test.true c.if-byte-ne39.true c.loop-i.invariant in
-    subst (λ (bs : List ℕ). IsCharBoundary bs c.loop-i.i) c.as_bytes-bytes.ensures.value (rest_boundary bytes c.loop-i.text.items c.loop-i.i closed (omega arith) c.as_bytes-bytes.ensures.utf8)
+    let closed = closed_at c.loop-place.text.items bytes c.loop-place.after_quote c.loop-place.place c.if-after_quote.true c.loop-place-test.true c.if-byte-ne39.true c.loop-place.invariant in
+    subst (λ (bs : List ℕ). IsCharBoundary bs c.loop-place.place) c.as_bytes-bytes.ensures.value (rest_boundary bytes c.loop-place.text.items c.loop-place.place closed (omega arith) c.as_bytes-bytes.ensures.utf8)
 
 pub quoted_token-requires : goal.quoted_token-requires
 quoted_token-requires c =
     let bytes = c.as_bytes-bytes.result.now in
-    let closed = closed_at c.loop-i.text.items bytes c.loop-i.after_quote c.loop-i.i c.if-after_quote.true c.loop-i-test.true c.if-byte-ne39.true c.loop-i.invariant in
-    text_utf8 bytes c.loop-i.text.items (drop c.loop-i.i bytes) closed c.as_bytes-bytes.ensures.utf8
+    let closed = closed_at c.loop-place.text.items bytes c.loop-place.after_quote c.loop-place.place c.if-after_quote.true c.loop-place-test.true c.if-byte-ne39.true c.loop-place.invariant in
+    text_utf8 bytes c.loop-place.text.items (drop c.loop-place.place bytes) closed c.as_bytes-bytes.ensures.utf8
 
 pub quoted_token-requires-then-after_quote-3 : goal.quoted_token-requires-then-after_quote-3
 quoted_token-requires-then-after_quote-3 c =
     let bytes = c.as_bytes-bytes.result.now in
-    let closed = closed_end c.loop-i.text.items bytes c.loop-i.after_quote c.loop-i.i c.if-after_quote-3.true (omega arith) c.loop-i.invariant in
-    text_utf8 bytes c.loop-i.text.items [] closed c.as_bytes-bytes.ensures.utf8
+    let closed = closed_end c.loop-place.text.items bytes c.loop-place.after_quote c.loop-place.place c.if-after_quote-3.true (omega arith) c.loop-place.invariant in
+    text_utf8 bytes c.loop-place.text.items [] closed c.as_bytes-bytes.ensures.utf8

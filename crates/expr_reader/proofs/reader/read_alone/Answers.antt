@@ -1,5 +1,5 @@
 use Rattle.expr_reader.proofs.Expressions.{answers_found, answers_only, answers_stand}
-use Rattle.expr_reader.proofs.reader.read_expr.Goals as goal
+use Rattle.expr_reader.proofs.reader.read_alone.Goals as goal
 
 pub returns-clause-found : goal.returns-clause-found
 returns-clause-found c = answers_found c.args.text.now c.read_at.result c.read_at.ensures

@@ -1,0 +1,5 @@
+use Rattle.expr_reader.proofs.Accepts.{templates_are_read}
+use Rattle.expr_reader.proofs.templates.template_reading.Goals as goal
+
+pub returns : goal.returns
+returns c = templates_are_read
