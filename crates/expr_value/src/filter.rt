@@ -1,8 +1,9 @@
 //! The contents of values, for `.*`.
 
-ghost use Rattle.std.specs.Prelude.{◌≡◌, ◌++◌, IfOk, OnOk};
+ghost use Rattle.std.specs.Prelude.{◌≡◌, ◌++◌, IfOk, Ok, OnOk};
 ghost use Rattle.std.specs.List.{flat_map};
-ghost use Rattle.expr_value.specs.Dereference.{contents, all_found as all_found_of};
+ghost use Rattle.expr_value.specs.Answer.{Gives};
+ghost use Rattle.expr_value.specs.Dereference.{contents, one, filtered, all_found as all_found_of};
 ghost use Rattle.expr_value.specs.Kind.{items as items_of_list, values as values_of};
 ghost use Rattle.expr_value.specs.Seen.{item_seen, items_seen, operand_seen, found_seen};
 ghost use Rattle.flow_model.specs.Mapping.{pairs_of};
@@ -11,7 +12,7 @@ ghost use Rattle.flow_model.specs.Value.{view, views, viewed};
 
 use crate::dereference::Found;
 use crate::operand::{Item, Operand, again};
-use flow_model::{Node, copy_node};
+use flow_model::{Node, ValueFault, copy_node};
 use std::alloc::{AllocError, Global};
 use std::collections::BTreeMap;
 
@@ -143,12 +144,26 @@ fn operand_contents<'a>(alloc: Global, operand: &Operand<'a>) -> Result<Vec<Item
     }
 }
 
+// `.*` of one value.
+fn one_contents<'a>(alloc: Global, operand: &Operand<'a>) -> Result<Found<'a>, ValueFault>
+    ensures { Gives found_seen result (Ok (all_found_of (one (operand_seen operand.now)))) }
+{
+    Ok(Found::Filtered(operand_contents(alloc, operand)?))
+}
+
+// `.*` of a filtered list.
+fn filtered_contents<'a>(alloc: Global, items: &[Item<'a>]) -> Result<Found<'a>, ValueFault>
+    ensures { Gives found_seen result (Ok (all_found_of (filtered (items_seen items.now)))) }
+{
+    Ok(Found::Filtered(all_contents(alloc, items)?))
+}
+
 /// `.*`: the contents of one value, or of each item of a filtered list.
-pub(crate) fn all_found<'a>(alloc: Global, found: &Found<'a>) -> Result<Found<'a>, AllocError>
-    ensures { IfOk result (λ next. found_seen next ≡ all_found_of (found_seen found.now)) }
+pub(crate) fn all_found<'a>(alloc: Global, found: &Found<'a>) -> Result<Found<'a>, ValueFault>
+    ensures { Gives found_seen result (Ok (all_found_of (found_seen found.now))) }
 {
     match found {
-        Found::One(operand) => Ok(Found::Filtered(operand_contents(alloc, operand)?)),
-        Found::Filtered(items) => Ok(Found::Filtered(all_contents(alloc, items.as_slice())?)),
+        Found::One(operand) => one_contents(alloc, operand),
+        Found::Filtered(items) => filtered_contents(alloc, items.as_slice()),
     }
 }
