@@ -1,5 +1,6 @@
 -- The value of `format` (GitHub Docs, "Evaluate expressions in workflows and actions": format).
-use Rattle.std.specs.Prelude.{ℕ, ◌+◌, ◌*◌, ◌-◌, ◌==◌, if◌then◌else◌, Option, Some, None, List, [], ◌∷◌, ◌++◌}
+use Rattle.std.specs.Prelude.{ℕ, ◌+◌, ◌*◌, ◌==◌, if◌then◌else◌, Option, Some, None, List, [], ◌∷◌, ◌++◌}
+use Rattle.std.specs.Char.{digit_value}
 use Rattle.std.specs.List.{slice_get}
 use Rattle.std.specs.Option.{option_map, option_and_then}
 use Rattle.expr_reader.specs.Bytes.{is_digit}
@@ -22,12 +23,12 @@ abbrev mutual
   -- After an opening brace.
   pub opened : List (List ℕ) → List ℕ → Option (List ℕ)
   opened arguments [] = None
-  opened arguments (b ∷ bs) = if b == 123 then after_byte 123 (formatted arguments bs) else if is_digit b then numbered arguments (b - 48) bs else None
+  opened arguments (b ∷ bs) = if b == 123 then after_byte 123 (formatted arguments bs) else if is_digit b then numbered arguments (digit_value b) bs else None
 
   -- After an opening brace and the digits of a number.
   pub numbered : List (List ℕ) → ℕ → List ℕ → Option (List ℕ)
   numbered arguments n [] = None
-  numbered arguments n (b ∷ bs) = if is_digit b then numbered arguments (n * 10 + (b - 48)) bs else if b == 125 then after_argument (slice_get arguments n) (formatted arguments bs) else None
+  numbered arguments n (b ∷ bs) = if is_digit b then numbered arguments (n * 10 + digit_value b) bs else if b == 125 then after_argument (slice_get arguments n) (formatted arguments bs) else None
 
   -- After a closing brace.
   pub closed : List (List ℕ) → List ℕ → Option (List ℕ)

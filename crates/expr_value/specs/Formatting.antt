@@ -1,5 +1,5 @@
 -- The steps in which `format` is computed.
-use Rattle.std.specs.Prelude.{◌≡◌, ℕ, ◌+◌, ◌*◌, ◌-◌, ◌≤◌, ◌==◌, ◌||◌, Bool, not, Option, Some, None, Result, Ok, Err, List, [], ◌∷◌, length, map}
+use Rattle.std.specs.Prelude.{◌≡◌, ℕ, ◌≤◌, ◌==◌, ◌||◌, Bool, not, Option, Some, None, Result, Ok, Err, List, length, map}
 use Rattle.std.specs.Borrow.{Bor}
 use Rattle.expr_value.specs.Bounded.{grown, grown_value}
 use Rattle.expr_value.specs.Format.{formatted}
@@ -17,11 +17,6 @@ texts_of arguments = map text_of_value (map operand_seen arguments)
 -- A byte that stands for itself.
 abbrev pub is_plain : ℕ → Bool
 is_plain b = not (b == 123 || b == 125)
-
--- The number of digits after digits of number n.
-abbrev pub place_from : ℕ → List ℕ → ℕ
-place_from n [] = n
-place_from n (b ∷ bs) = place_from (n * 10 + (b - 48)) bs
 
 -- What a text that grew so far gives, where the rest is formatted to this.
 abbrev pub ended : Option (List ℕ) → Option (List ℕ) → Result Plain ValueFault

@@ -12,6 +12,7 @@ pub mod FunctionLaws
 pub mod Functions
 pub mod Joined
 pub mod Joining
+pub mod JsonNumber
 pub mod Kind
 pub mod Laws
 pub mod Limit

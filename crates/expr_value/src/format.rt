@@ -3,9 +3,10 @@
 ghost use Rattle.std.specs.Prelude.{◌≡◌, ◌≢◌, ◌≤◌, ◌<◌, ◌-◌, ◌^◌, ℕ, List, ◌∷◌, true, length, take, drop, map, Option, option_map, MatchOption};
 ghost use Rattle.std.specs.List.{list_all, prefix_len, slice_get};
 ghost use Rattle.expr_reader.specs.Bytes.{is_digit as is_digit_byte};
+ghost use Rattle.expr_reader.specs.Number.{digits_value};
 ghost use Rattle.expr_value.specs.Answer.{Gives};
 ghost use Rattle.expr_value.specs.Format.{formatted, opened, closed};
-ghost use Rattle.expr_value.specs.Formatting.{texts_of, is_plain as is_plain_byte, place_from, Steps};
+ghost use Rattle.expr_value.specs.Formatting.{texts_of, is_plain as is_plain_byte, Steps};
 ghost use Rattle.expr_value.specs.Functions.{formatted_value};
 ghost use Rattle.expr_value.specs.Kind.{kind_of};
 ghost use Rattle.expr_value.specs.Seen.{kind_seen, operand_seen};
@@ -78,7 +79,7 @@ fn split_digits(text: &str) -> (&str, &str)
 fn number_of(digits: &str) -> Option<usize>
     requires some { 0 < length digits.now }
     requires digits { list_all is_digit_byte digits.now ≡ true }
-    ensures { MatchOption result (2 ^ 64 ≤ place_from 0 digits.now) (λ n. n ≡ place_from 0 digits.now) }
+    ensures { MatchOption result (2 ^ 64 ≤ digits_value 10 0 digits.now) (λ n. n ≡ digits_value 10 0 digits.now) }
 {
     match digits.parse::<usize>() {
         Ok(number) => Some(number),
@@ -90,7 +91,7 @@ fn number_of(digits: &str) -> Option<usize>
 fn argument_at<'a>(arguments: &'a [Operand<'_>], digits: &str) -> Option<Kind<'a>>
     requires some { 0 < length digits.now }
     requires digits { list_all is_digit_byte digits.now ≡ true }
-    ensures { option_map kind_seen result ≡ option_map kind_of (slice_get (map operand_seen arguments.now) (place_from 0 digits.now)) }
+    ensures { option_map kind_seen result ≡ option_map kind_of (slice_get (map operand_seen arguments.now) (digits_value 10 0 digits.now)) }
 {
     let place = number_of(digits)?;
     let operand = arguments.get(place)?;

@@ -22,6 +22,7 @@ mod json_text;
 mod kind;
 mod laws;
 mod number;
+mod number_laws;
 mod operand;
 mod owned;
 mod parts;
@@ -36,8 +37,13 @@ pub use context::Context;
 pub use evaluation_laws::{
     always_is_true, condition_waits_for_success, expression_without_status, template_without_status,
 };
-pub use function_laws::{format_with_doubled_braces, format_without_braces};
+pub use function_laws::{
+    format_with_doubled_braces, format_with_one_place, format_with_places, format_without_braces,
+};
 pub use laws::{equality_is_symmetric, inequality_is_opposite, relations_mirror};
+pub use number_laws::{
+    decimal_is_its_number, integer_has_its_value, other_number_is_not_whole, other_text_is_no_number,
+};
 pub use status::Status;
 pub use template::{eval, eval_condition, eval_text};
 pub use text::to_text;
