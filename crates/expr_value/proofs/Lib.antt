@@ -4,6 +4,7 @@ mod FormatLaws
 mod Fronts
 mod Growing
 mod Joins
+mod JsonAgain
 mod JsonNumbers
 pub mod JsonTexts
 mod Lists

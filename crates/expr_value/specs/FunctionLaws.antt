@@ -1,9 +1,17 @@
 -- Laws of the functions.
-use Rattle.std.specs.Prelude.{ℕ, ◌==◌, Bool, true, ◌&&◌, if◌then◌else◌, IsTrue, Option, Some, None, is_some, unwrap_or, List, [], ◌∷◌, ◌++◌, codes, decimal, flat_map}
+use Rattle.std.specs.Prelude.{ℕ, ◌≤◌, ◌==◌, Bool, true, ◌&&◌, if◌then◌else◌, IsTrue, Option, Some, None, is_some, unwrap_or, List, [], ◌∷◌, ◌++◌, length, codes, decimal, flat_map}
 use Rattle.std.specs.List.{list_all, slice_get}
 use Rattle.expr_reader.specs.Number.{digits_value}
 use Rattle.expr_value.specs.Formatting.{is_plain}
+use Rattle.expr_value.specs.Functions.{pretty_text}
 use Rattle.expr_value.specs.JsonNumber.{IsDigits}
+use Rattle.expr_value.specs.Limit.{most_bytes}
+use Rattle.expr_value.specs.Ordered.{HasOrderedKeys}
+use Rattle.flow_model.specs.Json.{is_in_range, json_of}
+use Rattle.flow_model.specs.Plain.{Plain}
+use Rattle.serde_json.specs.Data.{depth}
+
+-- ---- format
 
 -- A text without braces.
 abbrev pub HasNoBrace : List ℕ → Type 0
@@ -50,3 +58,13 @@ filled_text arguments slots = if list_all (is_given arguments) slots then Some (
 -- A format text with the place of argument n between two texts.
 abbrev pub with_place : List ℕ → ℕ → List ℕ → List ℕ
 with_place before n after = with_doubled_braces before ++ (codes "{" ++ (decimal n ++ (codes "}" ++ with_doubled_braces after)))
+
+-- ---- toJSON, fromJSON
+
+-- A value whose JSON is a text that reads back: its numbers are in range, it nests at most 127 deep, its maps have
+-- their keys in order, and the text is within the limit.
+pub record IsPrintable (v : Plain) : Type 0 where
+  pub in_range : IsTrue (is_in_range v)
+  pub shallow : depth (json_of v) ≤ 127
+  pub ordered : HasOrderedKeys v
+  pub short : length (pretty_text (json_of v)) ≤ most_bytes

@@ -17,6 +17,7 @@ pub mod Kind
 pub mod Laws
 pub mod Limit
 pub mod Number
+pub mod Ordered
 pub mod Searching
 pub mod Seen
 pub mod Template

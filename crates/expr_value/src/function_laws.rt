@@ -1,11 +1,16 @@
 //! Laws of the functions, each the contract of a function that does nothing.
 
-ghost use Rattle.std.specs.Prelude.{◌≡◌, ◌<◌, ◌^◌, ◌++◌, ℕ, List, flat_map, Some, None, Err};
+ghost use Rattle.std.specs.Prelude.{◌≡◌, ◌<◌, ◌^◌, ◌++◌, ℕ, List, flat_map, Some, None, Ok, Err};
 ghost use Rattle.std.specs.List.{slice_get, AllByRecursion};
+ghost use Rattle.expr_reader.specs.Expr.{Expr, call, more, none};
+ghost use Rattle.expr_reader.specs.declared.tree.Function.TheVariants.{FromJson, ToJson};
+ghost use Rattle.expr_value.specs.Context.{Contexts};
+ghost use Rattle.expr_value.specs.Evaluate.{value};
 ghost use Rattle.expr_value.specs.Format.{formatted};
-ghost use Rattle.expr_value.specs.FunctionLaws.{HasDigits, HasNoBrace, Slot, filled_text, slot_text, with_doubled_braces, with_place};
+ghost use Rattle.expr_value.specs.FunctionLaws.{HasDigits, HasNoBrace, IsPrintable, Slot, filled_text, slot_text, with_doubled_braces, with_place};
 ghost use Rattle.expr_value.specs.Functions.{format, text_of_value};
 ghost use Rattle.expr_value.specs.Limit.{limited};
+ghost use Rattle.expr_value.specs.declared.status.Status.{Status};
 ghost use Rattle.flow_model.specs.Plain.{Plain, text};
 ghost use Rattle.flow_model.specs.declared.reply.ValueFault.TheVariants.{BadFormat};
 
@@ -38,4 +43,10 @@ pub fn format_with_one_place()
     ensures missing { (arguments : List Plain) (before after : List ℕ) (n : ℕ)
         → n < 2 ^ 64 → slice_get arguments n ≡ None
         → format (text (with_place before n after)) arguments ≡ Err BadFormat }
+{}
+
+/// `fromJSON(toJSON(e))` has the value of e, where that is printable.
+pub fn from_json_of_to_json()
+    ensures { (c : Contexts) (s : Status) (e : Expr) (v : Plain) → value c s e ≡ Ok v → IsPrintable v
+        → value c s (call FromJson (more (call ToJson (more e none)) none)) ≡ Ok v }
 {}

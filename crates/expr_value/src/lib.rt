@@ -39,6 +39,7 @@ pub use evaluation_laws::{
 };
 pub use function_laws::{
     format_with_doubled_braces, format_with_one_place, format_with_places, format_without_braces,
+    from_json_of_to_json,
 };
 pub use laws::{equality_is_symmetric, inequality_is_opposite, relations_mirror};
 pub use number_laws::{
