@@ -11,7 +11,7 @@ use Rattle.std.specs.Int.{IsInRange}
 use Rattle.std.specs.List.{list_all, prefix_len}
 use Rattle.expr_reader.specs.Bytes.{is_digit}
 use Rattle.expr_reader.specs.Number.{greatest, digits_value, negative}
-use Rattle.expr_value.proofs.Digits.{digit_is}
+use Rattle.expr_value.proofs.DigitLemmas.{digit_is}
 use Rattle.expr_value.proofs.Runs.{all_parts}
 use Rattle.expr_value.specs.JsonNumber.{IsDigits, IsInteger, IsFraction, IsExponent, IsNumber, IsNotWhole}
 use Rattle.expr_value.specs.Number.{is_digits, is_integer, is_power, is_exponent, is_part, is_tail, in_range, number_of_parts, unsigned_number, with_sign, number_of_text}

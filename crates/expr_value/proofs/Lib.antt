@@ -1,5 +1,5 @@
 mod Braces
-mod Digits
+mod DigitLemmas
 mod FormatLaws
 mod Fronts
 mod Growing

@@ -2,6 +2,7 @@
 use Rattle.std.specs.Prelude.{ℕ, ◌≤◌, ◌==◌, Bool, true, ◌&&◌, if◌then◌else◌, IsTrue, Option, Some, None, is_some, unwrap_or, List, [], ◌∷◌, ◌++◌, length, codes, decimal, flat_map}
 use Rattle.std.specs.List.{list_all, slice_get}
 use Rattle.expr_reader.specs.Number.{digits_value}
+use Rattle.expr_value.specs.Format.{opening, closing}
 use Rattle.expr_value.specs.Formatting.{is_plain}
 use Rattle.expr_value.specs.Functions.{pretty_text}
 use Rattle.expr_value.specs.JsonNumber.{IsDigits}
@@ -20,7 +21,10 @@ HasNoBrace bytes = IsTrue (list_all is_plain bytes)
 -- A text with each brace doubled.
 abbrev pub with_doubled_braces : List ℕ → List ℕ
 with_doubled_braces [] = []
-with_doubled_braces (b ∷ bs) = if b == 123 then 123 ∷ 123 ∷ with_doubled_braces bs else if b == 125 then 125 ∷ 125 ∷ with_doubled_braces bs else b ∷ with_doubled_braces bs
+with_doubled_braces (b ∷ bs) =
+    if b == opening then opening ∷ opening ∷ with_doubled_braces bs
+    else if b == closing then closing ∷ closing ∷ with_doubled_braces bs
+    else b ∷ with_doubled_braces bs
 
 -- What a format text is made of: a text that stands for itself, and the place of an argument by its digits.
 pub data Slot : Type 0 where
@@ -53,11 +57,13 @@ filled arguments (place digits) = unwrap_or (argument_of arguments digits) []
 
 -- All texts one after another, where each argument is there.
 abbrev pub filled_text : List (List ℕ) → List Slot → Option (List ℕ)
-filled_text arguments slots = if list_all (is_given arguments) slots then Some (flat_map (filled arguments) slots) else None
+filled_text arguments slots =
+    if list_all (is_given arguments) slots then Some (flat_map (filled arguments) slots) else None
 
 -- A format text with the place of argument n between two texts.
 abbrev pub with_place : List ℕ → ℕ → List ℕ → List ℕ
-with_place before n after = with_doubled_braces before ++ (codes "{" ++ (decimal n ++ (codes "}" ++ with_doubled_braces after)))
+with_place before n after =
+    with_doubled_braces before ++ (codes "{" ++ (decimal n ++ (codes "}" ++ with_doubled_braces after)))
 
 -- ---- toJSON, fromJSON
 

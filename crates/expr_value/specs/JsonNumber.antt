@@ -42,4 +42,5 @@ pub record IsNumber (text : List ℕ) : Type 0 where
 
 -- A number with a fraction or an exponent, or one whose integer is out of range.
 abbrev pub IsNotWhole : List ℕ → Type 0
-IsNotWhole text = (n : IsNumber text) × ((n.fraction ≢ []) ⊎ ((n.exponent ≢ []) ⊎ (greatest < digits_value 10 0 n.integer)))
+IsNotWhole text =
+    (n : IsNumber text) × ((n.fraction ≢ []) ⊎ ((n.exponent ≢ []) ⊎ (greatest < digits_value 10 0 n.integer)))

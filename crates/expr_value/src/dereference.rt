@@ -6,10 +6,8 @@ ghost use Rattle.std.specs.List.{cons_option, filter_map, flat_map};
 ghost use Rattle.expr_value.specs.Answer.{Gives};
 ghost use Rattle.expr_value.specs.Convert.{text_of, number_of as number_of_kind};
 ghost use Rattle.expr_value.specs.Dereference.{one, filtered, or_null as or_null_of, is_alike as is_alike_of, property_in, property_of as property_of_value, item_at, item_found, index_of as index_of_value, contents, index_each, property_found as property_found_of, index_found as index_found_of, all_found as all_found_of, outside as outside_of};
-ghost use Rattle.expr_value.specs.Seen.{item_seen, items_seen, operand_seen, found_seen, maybe_seen, node_seen, kind_seen};
-ghost use Rattle.flow_model.specs.Mapping.{pairs_of};
-ghost use Rattle.flow_model.specs.Plain as plain;
-ghost use Rattle.flow_model.specs.Value.{view, views, viewed};
+ghost use Rattle.expr_value.specs.Seen.{item_seen, items_seen, operand_seen, found_seen, maybe_seen, node_seen, kind_seen, members_seen};
+ghost use Rattle.flow_model.specs.Value.{view, views};
 
 use crate::compare::text_order;
 use crate::kind::Kind;
@@ -38,7 +36,7 @@ fn is_alike(name: &str, key: &str) -> bool
 // The property of exactly that name, else the first in key order that equals it ignoring case.
 fn member<'n>(members: &'n BTreeMap<String, Node>, name: &str) -> Option<&'n Node>
     ensures { node_seen result
-        ≡ property_in name.now (plain.members_of (viewed (pairs_of members.now.entries))) }
+        ≡ property_in name.now (members_seen members.now.entries) }
 {
     if let Some(node) = members.get(name) {
         return Some(node);
@@ -73,7 +71,8 @@ fn item_of(nodes: &[Node], number: Option<i64>) -> Option<&Node>
 
 // What stands at an index in a list: the item at its number.
 fn index_nodes<'n>(nodes: &'n [Node], index: Kind<'_>) -> Result<Option<&'n Node>, ValueFault>
-    ensures { Gives node_seen result (item_found (number_of_kind (kind_seen index.entry)) (views nodes.now)) }
+    ensures { Gives node_seen result
+        (item_found (number_of_kind (kind_seen index.entry)) (views nodes.now)) }
 {
     let number = number_of(index)?;
     Ok(item_of(nodes, number))
@@ -86,7 +85,7 @@ fn index_members<'n>(
     index: Kind<'_>,
 ) -> Result<Option<&'n Node>, ValueFault>
     ensures { Gives node_seen result
-        (Ok (property_in (text_of (kind_seen index.entry)) (plain.members_of (viewed (pairs_of members.now.entries))))) }
+        (Ok (property_in (text_of (kind_seen index.entry)) (members_seen members.now.entries))) }
 {
     if let Kind::Text(name) = index {
         return Ok(member(members, name));
@@ -136,7 +135,8 @@ fn item_property<'a>(
     item: &Item<'a>,
     name: &str,
 ) -> Result<Option<Item<'a>>, AllocError>
-    ensures { IfOk result (λ found. maybe_seen found ≡ property_of_value name.now (item_seen item.now)) }
+    ensures { IfOk result
+        (λ found. maybe_seen found ≡ property_of_value name.now (item_seen item.now)) }
 {
     match item {
         Item::Lent(node) => Ok(lent(property_of(*node, name))),
@@ -162,7 +162,8 @@ fn item_index<'a>(
     item: &Item<'a>,
     index: Kind<'_>,
 ) -> Result<Option<Item<'a>>, ValueFault>
-    ensures { Gives maybe_seen result (index_of_value (kind_seen index.entry) (item_seen item.now)) }
+    ensures { Gives maybe_seen result
+        (index_of_value (kind_seen index.entry) (item_seen item.now)) }
 {
     match item {
         Item::Lent(node) => Ok(lent(index_of(alloc, *node, index)?)),
@@ -193,7 +194,8 @@ fn index_items<'a>(
     items: &[Item<'a>],
     index: Kind<'_>,
 ) -> Result<Option<Item<'a>>, ValueFault>
-    ensures { Gives maybe_seen result (item_found (number_of_kind (kind_seen index.entry)) (items_seen items.now)) }
+    ensures { Gives maybe_seen result
+        (item_found (number_of_kind (kind_seen index.entry)) (items_seen items.now)) }
 {
     let number = number_of(index)?;
     Ok(place_of(alloc, items, number)?)
@@ -215,7 +217,8 @@ fn operand_property<'a>(
     operand: &Operand<'a>,
     name: &str,
 ) -> Result<Option<Item<'a>>, AllocError>
-    ensures { IfOk result (λ found. maybe_seen found ≡ property_of_value name.now (operand_seen operand.now)) }
+    ensures { IfOk result
+        (λ found. maybe_seen found ≡ property_of_value name.now (operand_seen operand.now)) }
 {
     match operand {
         Operand::One(item) => item_property(alloc, item, name),
@@ -229,7 +232,8 @@ fn operand_index<'a>(
     operand: &Operand<'a>,
     index: Kind<'_>,
 ) -> Result<Option<Item<'a>>, ValueFault>
-    ensures { Gives maybe_seen result (index_of_value (kind_seen index.entry) (operand_seen operand.now)) }
+    ensures { Gives maybe_seen result
+        (index_of_value (kind_seen index.entry) (operand_seen operand.now)) }
 {
     match operand {
         Operand::One(item) => item_index(alloc, item, index),
@@ -279,7 +283,8 @@ fn one_property<'a>(
     operand: &Operand<'a>,
     name: &str,
 ) -> Result<Found<'a>, ValueFault>
-    ensures { Gives found_seen result (Ok (property_found_of name.now (one (operand_seen operand.now)))) }
+    ensures { Gives found_seen result
+        (Ok (property_found_of name.now (one (operand_seen operand.now)))) }
 {
     Ok(or_null(operand_property(alloc, operand, name)?))
 }
@@ -290,7 +295,8 @@ fn filtered_properties<'a>(
     items: &[Item<'a>],
     name: &str,
 ) -> Result<Found<'a>, ValueFault>
-    ensures { Gives found_seen result (Ok (property_found_of name.now (filtered (items_seen items.now)))) }
+    ensures { Gives found_seen result
+        (Ok (property_found_of name.now (filtered (items_seen items.now)))) }
 {
     Ok(Found::Filtered(properties(alloc, items, name)?))
 }
@@ -315,7 +321,8 @@ fn one_index<'a>(
     operand: &Operand<'a>,
     index: Kind<'_>,
 ) -> Result<Found<'a>, ValueFault>
-    ensures { Gives found_seen result (index_found_of (kind_seen index.entry) (one (operand_seen operand.now))) }
+    ensures { Gives found_seen result
+        (index_found_of (kind_seen index.entry) (one (operand_seen operand.now))) }
 {
     Ok(or_null(operand_index(alloc, operand, index)?))
 }
@@ -326,7 +333,8 @@ fn filtered_indexes<'a>(
     items: &[Item<'a>],
     index: Kind<'_>,
 ) -> Result<Found<'a>, ValueFault>
-    ensures { Gives found_seen result (index_found_of (kind_seen index.entry) (filtered (items_seen items.now))) }
+    ensures { Gives found_seen result
+        (index_found_of (kind_seen index.entry) (filtered (items_seen items.now))) }
 {
     Ok(Found::Filtered(indexes(alloc, items, index)?))
 }
@@ -337,7 +345,8 @@ pub(crate) fn index_found<'a>(
     found: &Found<'a>,
     index: Kind<'_>,
 ) -> Result<Found<'a>, ValueFault>
-    ensures { Gives found_seen result (index_found_of (kind_seen index.entry) (found_seen found.now)) }
+    ensures { Gives found_seen result
+        (index_found_of (kind_seen index.entry) (found_seen found.now)) }
 {
     match found {
         Found::One(operand) => one_index(alloc, operand, index),

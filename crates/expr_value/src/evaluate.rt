@@ -2,16 +2,15 @@
 
 ghost use Rattle.std.specs.Prelude.{◌≡◌, ◌++◌, IfOk, Ok, map, true, false};
 ghost use Rattle.expr_reader.specs.Expr as expr;
-ghost use Rattle.expr_reader.specs.Expr.{exprs_of};
-ghost use Rattle.expr_reader.specs.View.{view as tree_view, views as tree_views, constant_of};
+ghost use Rattle.expr_reader.specs.View.{view as tree_view, constant_of};
 ghost use Rattle.expr_value.specs.Answer.{Gives};
 ghost use Rattle.expr_value.specs.Context.{context_value};
 ghost use Rattle.expr_value.specs.Convert.{truth_of as truth_of_kind};
 ghost use Rattle.expr_value.specs.Dereference.{one};
-ghost use Rattle.expr_value.specs.Evaluate.{all_chain, all_values, answers, begun as begun_of, call_value, chain as chain_of, conjunction as conjunction_of, constant_value, disjunction as disjunction_of, equality_value, indexed, relation_value, then_value, value};
+ghost use Rattle.expr_value.specs.Evaluate.{all_chain, all_values, begun as begun_of, call_value, chain as chain_of, conjunction as conjunction_of, constant_value, disjunction as disjunction_of, equality_value, indexed, relation_value, then_value, value};
 ghost use Rattle.expr_value.specs.Functions.{called};
 ghost use Rattle.expr_value.specs.Kind.{kind_of as kind_of_value};
-ghost use Rattle.expr_value.specs.Seen.{item_seen, kind_seen, operand_seen, operands_seen, found_seen};
+ghost use Rattle.expr_value.specs.Seen.{item_seen, kind_seen, operand_seen, operands_seen, found_seen, tree_answers};
 ghost use Rattle.flow_model.specs.Plain as plain;
 ghost use Rattle.flow_model.specs.Value.{view};
 
@@ -75,7 +74,8 @@ fn call_found<'a>(
     status: Status,
     values: &[Operand<'_>],
 ) -> Result<Found<'a>, ValueFault>
-    ensures { Gives found_seen result (begun_of (called function status (operands_seen values.now))) }
+    ensures { Gives found_seen result
+        (begun_of (called function status (operands_seen values.now))) }
 {
     Ok(begun(call(alloc, function, status, values)?))
 }
@@ -112,7 +112,8 @@ fn chain<'a, C: Context>(
     contexts: &'a C,
     status: Status,
 ) -> Result<Found<'a>, ValueFault>
-    ensures { Gives found_seen result (chain_of (C.contexts contexts.now) status (tree_view tree.now)) }
+    ensures { Gives found_seen result
+        (chain_of (C.contexts contexts.now) status (tree_view tree.now)) }
 {
     match tree {
         Tree::Literal(literal) => literal_found(alloc, literal),
@@ -151,7 +152,7 @@ fn called_with<'a, C: Context>(
     status: Status,
 ) -> Result<Found<'a>, ValueFault>
     ensures { Gives found_seen result (begun_of (call_value function status
-        (all_values (answers (C.contexts contexts.now) status (exprs_of (tree_views arguments.now)))))) }
+        (all_values (tree_answers (C.contexts contexts.now) status arguments.now)))) }
 {
     let values = evaluate_all(alloc, arguments, contexts, status)?;
     call_found(alloc, function, status, values.as_slice())
@@ -165,7 +166,8 @@ fn grouped<'a, C: Context>(
     contexts: &'a C,
     status: Status,
 ) -> Result<Found<'a>, ValueFault>
-    ensures { Gives found_seen result (chain_of (C.contexts contexts.now) status (expr.group (tree_view inner.now))) }
+    ensures { Gives found_seen result
+        (chain_of (C.contexts contexts.now) status (expr.group (tree_view inner.now))) }
 {
     let value = evaluate(alloc, inner, contexts, status)?;
     Ok(Found::One(value))
@@ -197,7 +199,8 @@ fn indexed_by<'a, C: Context>(
     status: Status,
 ) -> Result<Found<'a>, ValueFault>
     ensures { Gives found_seen result
-        (indexed (found_seen found.entry) (value (C.contexts contexts.now) status (tree_view index.now))) }
+        (indexed (found_seen found.entry)
+        (value (C.contexts contexts.now) status (tree_view index.now))) }
 {
     let index = evaluate(alloc, index, contexts, status)?;
     index_found(alloc, &found, index.kind())
@@ -211,7 +214,8 @@ fn contents_of<'a, C: Context>(
     contexts: &'a C,
     status: Status,
 ) -> Result<Found<'a>, ValueFault>
-    ensures { Gives found_seen result (all_chain (chain_of (C.contexts contexts.now) status (tree_view base.now))) }
+    ensures { Gives found_seen result
+        (all_chain (chain_of (C.contexts contexts.now) status (tree_view base.now))) }
 {
     let found = chain(alloc, base, contexts, status)?;
     all_found(alloc, &found)
@@ -225,7 +229,8 @@ fn opposite_of<'a, C: Context>(
     contexts: &'a C,
     status: Status,
 ) -> Result<Found<'a>, ValueFault>
-    ensures { Gives found_seen result (chain_of (C.contexts contexts.now) status (expr.opposite (tree_view operand.now))) }
+    ensures { Gives found_seen result
+        (chain_of (C.contexts contexts.now) status (expr.opposite (tree_view operand.now))) }
 {
     let value = evaluate(alloc, operand, contexts, status)?;
     Ok(begun(Node::Truth(!truth_of(value.kind()))))
@@ -275,7 +280,8 @@ pub(crate) fn evaluate<'a, C: Context>(
     contexts: &'a C,
     status: Status,
 ) -> Result<Operand<'a>, ValueFault>
-    ensures { Gives operand_seen result (value (C.contexts contexts.now) status (tree_view tree.now)) }
+    ensures { Gives operand_seen result
+        (value (C.contexts contexts.now) status (tree_view tree.now)) }
 {
     let found = chain(alloc, tree, contexts, status)?;
     Ok(outside(found))
@@ -290,7 +296,7 @@ fn evaluate_all<'a, C: Context>(
     status: Status,
 ) -> Result<Vec<Operand<'a>>, ValueFault>
     ensures { Gives (λ values. operands_seen values.items) result
-        (all_values (answers (C.contexts contexts.now) status (exprs_of (tree_views trees.now)))) }
+        (all_values (tree_answers (C.contexts contexts.now) status trees.now)) }
 {
     let mut values = Vec::with_capacity(alloc, trees.len())?;
     for tree in trees {
@@ -308,7 +314,8 @@ fn conjunction<'a, C: Context>(
     status: Status,
 ) -> Result<Found<'a>, ValueFault>
     ensures { Gives found_seen result
-        (begun_of (conjunction_of (plain.truth true) (answers (C.contexts contexts.now) status (exprs_of (tree_views parts.now))))) }
+        (begun_of (conjunction_of (plain.truth true)
+        (tree_answers (C.contexts contexts.now) status parts.now))) }
 {
     let mut value = Operand::One(Item::Made(Node::Truth(true)));
     for part in parts {
@@ -329,7 +336,8 @@ fn disjunction<'a, C: Context>(
     status: Status,
 ) -> Result<Found<'a>, ValueFault>
     ensures { Gives found_seen result
-        (begun_of (disjunction_of (plain.truth false) (answers (C.contexts contexts.now) status (exprs_of (tree_views parts.now))))) }
+        (begun_of (disjunction_of (plain.truth false)
+        (tree_answers (C.contexts contexts.now) status parts.now))) }
 {
     let mut value = Operand::One(Item::Made(Node::Truth(false)));
     for part in parts {

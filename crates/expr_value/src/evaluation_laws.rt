@@ -20,7 +20,8 @@ pub fn always_is_true()
 /// A condition that names no status function does not hold where the status is not success, whatever it says.
 pub fn condition_waits_for_success()
     ensures { (c : Contexts) (s : Status) (condition : List Piece)
-        → names_status condition ≡ false → is_success s ≡ false → condition_holds c s condition ≡ Ok false }
+        → names_status condition ≡ false → is_success s ≡ false
+        → condition_holds c s condition ≡ Ok false }
 {}
 
 /// An expression that names no status function has one value, or one fault, under every status.
@@ -32,5 +33,6 @@ pub fn expression_without_status()
 /// A template has one value, or one fault, under every status, since it names no status function.
 pub fn template_without_status()
     ensures { (c : Contexts) (s t : Status) (template : List Piece)
-        → names_status template ≡ false → template_value c s template ≡ template_value c t template }
+        → names_status template ≡ false
+        → template_value c s template ≡ template_value c t template }
 {}

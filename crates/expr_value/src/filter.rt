@@ -5,10 +5,8 @@ ghost use Rattle.std.specs.List.{flat_map};
 ghost use Rattle.expr_value.specs.Answer.{Gives};
 ghost use Rattle.expr_value.specs.Dereference.{contents, one, filtered, all_found as all_found_of};
 ghost use Rattle.expr_value.specs.Kind.{items as items_of_list, values as values_of};
-ghost use Rattle.expr_value.specs.Seen.{item_seen, items_seen, operand_seen, found_seen};
-ghost use Rattle.flow_model.specs.Mapping.{pairs_of};
-ghost use Rattle.flow_model.specs.Plain as plain;
-ghost use Rattle.flow_model.specs.Value.{view, views, viewed};
+ghost use Rattle.expr_value.specs.Seen.{item_seen, items_seen, operand_seen, found_seen, members_seen};
+ghost use Rattle.flow_model.specs.Value.{view, views};
 
 use crate::dereference::Found;
 use crate::operand::{Item, Operand, again};
@@ -18,7 +16,8 @@ use std::collections::BTreeMap;
 
 // Adds the items of a list, lent.
 fn push_nodes<'a>(nodes: &'a [Node], found: &mut Vec<Item<'a>>) -> Result<(), AllocError>
-    ensures { OnOk result (items_seen found.new.items ≡ items_seen found.old.items ++ views nodes.now) }
+    ensures { OnOk result
+        (items_seen found.new.items ≡ items_seen found.old.items ++ views nodes.now) }
 {
     for node in nodes {
         found.push(Item::Lent(node))?;
@@ -32,7 +31,7 @@ fn push_values<'a>(
     found: &mut Vec<Item<'a>>,
 ) -> Result<(), AllocError>
     ensures { OnOk result (items_seen found.new.items
-        ≡ items_seen found.old.items ++ values_of (plain.members_of (viewed (pairs_of members.now.entries)))) }
+        ≡ items_seen found.old.items ++ values_of (members_seen members.now.entries)) }
 {
     for (_key, node) in members.iter() {
         found.push(Item::Lent(node))?;
@@ -46,7 +45,8 @@ fn push_node_copies(
     nodes: &[Node],
     found: &mut Vec<Item<'_>>,
 ) -> Result<(), AllocError>
-    ensures { OnOk result (items_seen found.new.items ≡ items_seen found.old.items ++ views nodes.now) }
+    ensures { OnOk result
+        (items_seen found.new.items ≡ items_seen found.old.items ++ views nodes.now) }
 {
     for node in nodes {
         found.push(Item::Made(copy_node(alloc, node)?))?;
@@ -61,7 +61,7 @@ fn push_value_copies(
     found: &mut Vec<Item<'_>>,
 ) -> Result<(), AllocError>
     ensures { OnOk result (items_seen found.new.items
-        ≡ items_seen found.old.items ++ values_of (plain.members_of (viewed (pairs_of members.now.entries)))) }
+        ≡ items_seen found.old.items ++ values_of (members_seen members.now.entries)) }
 {
     for (_key, node) in members.iter() {
         found.push(Item::Made(copy_node(alloc, node)?))?;
@@ -110,7 +110,8 @@ fn push_contents<'a>(
 
 // The contents of each item, one after the other.
 fn all_contents<'a>(alloc: Global, items: &[Item<'a>]) -> Result<Vec<Item<'a>>, AllocError>
-    ensures { IfOk result (λ found. items_seen found.items ≡ flat_map contents (items_seen items.now)) }
+    ensures { IfOk result
+        (λ found. items_seen found.items ≡ flat_map contents (items_seen items.now)) }
 {
     let mut found = Vec::new(alloc);
     for item in items {

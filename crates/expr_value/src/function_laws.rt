@@ -47,6 +47,7 @@ pub fn format_with_one_place()
 
 /// `fromJSON(toJSON(e))` has the value of e, where that is printable.
 pub fn from_json_of_to_json()
-    ensures { (c : Contexts) (s : Status) (e : Expr) (v : Plain) → value c s e ≡ Ok v → IsPrintable v
+    ensures { (c : Contexts) (s : Status) (e : Expr) (v : Plain) → value c s e
+        ≡ Ok v → IsPrintable v
         → value c s (call FromJson (more (call ToJson (more e none)) none)) ≡ Ok v }
 {}

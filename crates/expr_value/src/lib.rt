@@ -12,6 +12,7 @@ mod call;
 mod compare;
 mod context;
 mod dereference;
+mod digits;
 mod evaluate;
 mod evaluation_laws;
 mod filter;
