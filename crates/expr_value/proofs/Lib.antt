@@ -1,3 +1,4 @@
+mod Agreeing
 mod Braces
 mod DigitLemmas
 mod FormatLaws

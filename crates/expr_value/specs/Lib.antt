@@ -16,6 +16,7 @@ pub mod JsonNumber
 pub mod Kind
 pub mod Laws
 pub mod Limit
+pub mod Named
 pub mod Number
 pub mod Ordered
 pub mod Searching
