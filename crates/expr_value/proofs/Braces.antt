@@ -9,16 +9,19 @@ use Rattle.std.proofs.lemmas.Str.{IsCharBoundary-start, IsCharBoundary-after_asc
 use Rattle.std.proofs.lemmas.Str.Parse.{IsNumeralModel, numerals_by_fold, parse_digits}
 use Rattle.std.specs.Str.Parse.{ParsesUnsigned}
 use Rattle.std.specs.Prelude.{Result, Ok, Err, MatchResult, ◌^◌}
+use Rattle.std.specs.Char.{digit_value}
 use Rattle.std.specs.List.{prefix_len, list_all, slice_get}
 use Rattle.std.specs.Option.{option_map}
 use Rattle.std.specs.Str.{IsUtf8, IsCharBoundary}
 use Rattle.expr_reader.specs.Bytes.{is_digit}
+use Rattle.expr_reader.specs.Number.{digits_value}
 use Rattle.expr_value.specs.Convert.{text_of}
 use Rattle.expr_value.specs.Format.{formatted, opened, numbered, closed, after_byte, after_argument}
-use Rattle.expr_value.specs.Formatting.{is_plain, place_from}
+use Rattle.expr_value.specs.Formatting.{is_plain}
 use Rattle.expr_value.specs.Functions.{text_of_value}
 use Rattle.expr_value.specs.Kind.{Kind, kind_of}
 use Rattle.flow_model.specs.Plain.{Plain}
+use Rattle.expr_value.proofs.JsonNumbers.{own_digits}
 use Rattle.expr_value.proofs.Runs.{if_holds, spans, first_fails, all_parts}
 
 -- ---- where a format text may be cut
@@ -49,10 +52,6 @@ plain_boundary bs =
 
 -- ---- digits
 
--- The number of digits, by std's words.
-pub own_digits : IsNumeralModel (λ (ds : List ℕ). list_all is_digit ds ≡ true) (place_from 0)
-own_digits = numerals_by_fold _ (search rules) place_from (search rules)
-
 past_by : (n v most : ℕ) (t : Bool) → nat_lt v most ≡ t → 0 < n → ((0 < n) × (v < most) → ⊥) → most ≤ v
 past_by n v most true test some h = absurd (h (some, grind (arith, nat_tests)))
 past_by n v most false test some h = grind (arith, nat_tests)
@@ -62,32 +61,32 @@ pub past_most : (n v most : ℕ) → 0 < n → ((0 < n) × (v < most) → ⊥) �
 past_most n v most some h = past_by n v most (nat_lt v most) refl some h
 
 -- Digits are gone over.
-numbered_run : (arguments : List (List ℕ)) (n : ℕ) (ds rest : List ℕ) → list_all is_digit ds ≡ true → numbered arguments n (ds ++ rest) ≡ numbered arguments (place_from n ds) rest
+numbered_run : (arguments : List (List ℕ)) (n : ℕ) (ds rest : List ℕ) → list_all is_digit ds ≡ true → numbered arguments n (ds ++ rest) ≡ numbered arguments (digits_value 10 n ds) rest
 numbered_run arguments n [] rest h = refl
 numbered_run arguments n (b ∷ ds) rest h =
     let parts = all_parts is_digit b ds h in
-    cond-true (is_digit b) _ _ parts.0 ∙ numbered_run arguments (n * 10 + (b - 48)) ds rest parts.1
+    cond-true (is_digit b) _ _ parts.0 ∙ numbered_run arguments (n * 10 + digit_value b) ds rest parts.1
 
 digit_no_brace : (b : ℕ) → is_digit b ≡ true → (b == 123) ≡ false
 digit_no_brace b h = grind (arith, nat_tests)
 
 -- After an opening brace, the digits of a number are gone over.
-opened_run : (arguments : List (List ℕ)) (ds rest : List ℕ) → list_all is_digit ds ≡ true → 0 < length ds → opened arguments (ds ++ rest) ≡ numbered arguments (place_from 0 ds) rest
+pub opened_run : (arguments : List (List ℕ)) (ds rest : List ℕ) → list_all is_digit ds ≡ true → 0 < length ds → opened arguments (ds ++ rest) ≡ numbered arguments (digits_value 10 0 ds) rest
 opened_run arguments [] rest h some = absurd (omega arith)
 opened_run arguments (b ∷ ds) rest h some =
     let parts = all_parts is_digit b ds h in
-    let same : 0 * 10 + (b - 48) ≡ b - 48 = omega arith in
+    let same : 0 * 10 + digit_value b ≡ digit_value b = omega arith in
     cond-false (b == 123) _ _ (digit_no_brace b parts.0)
     ∙ cond-true (is_digit b) _ _ parts.0
-    ∙ numbered_run arguments (b - 48) ds rest parts.1
-    ∙ ap (λ (k : ℕ). numbered arguments (place_from k ds) rest) (sym same)
+    ∙ numbered_run arguments (digit_value b) ds rest parts.1
+    ∙ ap (λ (k : ℕ). numbered arguments (digits_value 10 k ds) rest) (sym same)
 
 -- Those bytes are digits.
 pub digits_pass : (text ds : List ℕ) → ds ≡ take (prefix_len is_digit text) text → list_all is_digit ds ≡ true
 digits_pass text ds front = ap (list_all is_digit) front ∙ (spans is_digit text).run
 
 -- A brace that is not closed at once has the digits of a number.
-pub opened_digits : (arguments : List (List ℕ)) (text ds rest : List ℕ) → ds ≡ take (prefix_len is_digit text) text → rest ≡ drop (prefix_len is_digit text) text → 0 < length ds → opened arguments text ≡ numbered arguments (place_from 0 ds) rest
+pub opened_digits : (arguments : List (List ℕ)) (text ds rest : List ℕ) → ds ≡ take (prefix_len is_digit text) text → rest ≡ drop (prefix_len is_digit text) text → 0 < length ds → opened arguments text ≡ numbered arguments (digits_value 10 0 ds) rest
 opened_digits arguments text ds rest front back some =
     let joined : text ≡ ds ++ rest = sym (take-append-drop (prefix_len is_digit text) text) ∙ ap (λ (w : List ℕ). w ++ drop (prefix_len is_digit text) text) (sym front) ∙ ap (λ (w : List ℕ). ds ++ w) (sym back) in
     ap (opened arguments) joined ∙ opened_run arguments ds rest (digits_pass text ds front) some
@@ -122,11 +121,11 @@ closed_none arguments (b ∷ bs) other =
 plain_step : (b : ℕ) → is_plain b ≡ true → ((b == 123) ≡ false) × ((b == 125) ≡ false)
 plain_step b h = (grind (arith, nat_tests), grind (arith, nat_tests))
 
-consed : (b : ℕ) (p : List ℕ) (o : Option (List ℕ)) → after_byte b (option_map (λ (w : List ℕ). p ++ w) o) ≡ option_map (λ (w : List ℕ). b ∷ (p ++ w)) o
+pub consed : (b : ℕ) (p : List ℕ) (o : Option (List ℕ)) → after_byte b (option_map (λ (w : List ℕ). p ++ w) o) ≡ option_map (λ (w : List ℕ). b ∷ (p ++ w)) o
 consed b p None = refl
 consed b p (Some w) = refl
 
-unchanged : (o : Option (List ℕ)) → o ≡ option_map (λ (w : List ℕ). [] ++ w) o
+pub unchanged : (o : Option (List ℕ)) → o ≡ option_map (λ (w : List ℕ). [] ++ w) o
 unchanged None = refl
 unchanged (Some w) = refl
 
@@ -163,9 +162,9 @@ pub argument_text : (arguments : List Plain) (n : ℕ) → slice_get (map text_o
 argument_text arguments n = slice_get-map text_of_value arguments n ∙ texts_by (slice_get arguments n)
 
 -- What parsing the digits of a number gives.
-pub number_read : {E : Type 0} (ds : List ℕ) (r : Result ℕ E) → ParsesUnsigned 64 10 ds r → list_all is_digit ds ≡ true → 0 < length ds → MatchResult r (λ n. n ≡ place_from 0 ds) (λ e. 2 ^ 64 ≤ place_from 0 ds)
+pub number_read : {E : Type 0} (ds : List ℕ) (r : Result ℕ E) → ParsesUnsigned 64 10 ds r → list_all is_digit ds ≡ true → 0 < length ds → MatchResult r (λ n. n ≡ digits_value 10 0 ds) (λ e. 2 ^ 64 ≤ digits_value 10 0 ds)
 number_read {E} ds (Ok n) h all some = (parse_digits own_digits {E = E} 64 ds (Ok n) h all).1
-number_read {E} ds (Err e) h all some = past_most (length ds) (place_from 0 ds) (2 ^ 64) some (parse_digits own_digits {E = E} 64 ds (Err e) h all)
+number_read {E} ds (Err e) h all some = past_most (length ds) (digits_value 10 0 ds) (2 ^ 64) some (parse_digits own_digits {E = E} 64 ds (Err e) h all)
 
 -- ---- the steps
 

@@ -1,9 +1,12 @@
+mod Agreeing
 mod Braces
-mod Digits
+mod DigitLemmas
 mod FormatLaws
 mod Fronts
 mod Growing
 mod Joins
+mod JsonAgain
+mod JsonNumbers
 pub mod JsonTexts
 mod Lists
 mod Mirror

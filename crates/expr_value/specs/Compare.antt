@@ -24,7 +24,8 @@ number_order (Some m) None = None
 number_order None n = None
 
 -- The order of two values by number; a fault on either side is the fault.
-abbrev pub order_of_numbers : Result (Option ℤ) ValueFault → Result (Option ℤ) ValueFault → Result (Option Ordering) ValueFault
+abbrev pub order_of_numbers : Result (Option ℤ) ValueFault → Result (Option ℤ) ValueFault
+    → Result (Option Ordering) ValueFault
 order_of_numbers (Ok m) (Ok n) = Ok (number_order m n)
 order_of_numbers (Ok m) (Err fault) = Err fault
 order_of_numbers (Err fault) n = Err fault

@@ -91,7 +91,8 @@ one_or_null (Ok v) = Ok (one (or_null v))
 one_or_null (Err fault) = Err fault
 
 -- With the first item's answer before those of the others.
-abbrev pub with_found : Result (Option plain.Plain) ValueFault → Result (List plain.Plain) ValueFault → Result (List plain.Plain) ValueFault
+abbrev pub with_found : Result (Option plain.Plain) ValueFault → Result (List plain.Plain) ValueFault
+    → Result (List plain.Plain) ValueFault
 with_found (Ok v) (Ok vs) = Ok (cons_option v vs)
 with_found (Ok v) (Err fault) = Err fault
 with_found (Err fault) vs = Err fault

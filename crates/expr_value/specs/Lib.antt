@@ -12,10 +12,13 @@ pub mod FunctionLaws
 pub mod Functions
 pub mod Joined
 pub mod Joining
+pub mod JsonNumber
 pub mod Kind
 pub mod Laws
 pub mod Limit
+pub mod Named
 pub mod Number
+pub mod Ordered
 pub mod Searching
 pub mod Seen
 pub mod Template

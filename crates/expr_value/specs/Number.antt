@@ -8,6 +8,25 @@ use Rattle.expr_reader.specs.Number.{greatest, digits_value, negative}
 use Rattle.flow_model.specs.declared.reply.ValueFault.{ValueFault}
 use Rattle.flow_model.specs.declared.reply.ValueFault.TheVariants.{NotWhole}
 
+-- 0, the signs, the point, e and E
+abbrev pub zero_digit : ℕ
+zero_digit = 48
+
+abbrev pub plus : ℕ
+plus = 43
+
+abbrev pub minus : ℕ
+minus = 45
+
+abbrev pub point : ℕ
+point = 46
+
+abbrev pub small_e : ℕ
+small_e = 101
+
+abbrev pub large_e : ℕ
+large_e = 69
+
 -- One digit or more, and nothing else.
 abbrev pub is_digits : List ℕ → Bool
 is_digits [] = false
@@ -17,17 +36,17 @@ is_digits (b ∷ bs) = list_all is_digit (b ∷ bs)
 abbrev pub is_integer : List ℕ → Bool
 is_integer [] = false
 is_integer (b ∷ []) = is_digit b
-is_integer (b ∷ c ∷ bs) = not (b == 48) && list_all is_digit (b ∷ c ∷ bs)
+is_integer (b ∷ c ∷ bs) = not (b == zero_digit) && list_all is_digit (b ∷ c ∷ bs)
 
 -- Digits, with + or - before them or nothing.
 abbrev pub is_power : List ℕ → Bool
 is_power [] = false
-is_power (b ∷ bs) = if b == 43 || b == 45 then is_digits bs else is_digits (b ∷ bs)
+is_power (b ∷ bs) = if b == plus || b == minus then is_digits bs else is_digits (b ∷ bs)
 
 -- e or E and a power.
 abbrev pub is_exponent : List ℕ → Bool
 is_exponent [] = false
-is_exponent (b ∷ bs) = (b == 101 || b == 69) && is_power bs
+is_exponent (b ∷ bs) = (b == small_e || b == large_e) && is_power bs
 
 -- Digits, and then nothing or an exponent.
 abbrev pub is_part : List ℕ → List ℕ → Bool
@@ -37,7 +56,9 @@ is_part digits (b ∷ bs) = is_digits digits && is_exponent (b ∷ bs)
 -- What may follow a number's integer: a fraction, an exponent, or both.
 abbrev pub is_tail : List ℕ → Bool
 is_tail [] = false
-is_tail (b ∷ bs) = if b == 46 then is_part (take (prefix_len is_digit bs) bs) (drop (prefix_len is_digit bs) bs) else is_exponent (b ∷ bs)
+is_tail (b ∷ bs) =
+    if b == point then is_part (take (prefix_len is_digit bs) bs) (drop (prefix_len is_digit bs) bs)
+    else is_exponent (b ∷ bs)
 
 -- A whole number in range, or the fault of one out of range.
 abbrev pub in_range : ℕ → Result (Option ℕ) ValueFault
@@ -60,4 +81,5 @@ with_sign sign (Err fault) = Err fault
 -- The number of a text: none is not-a-number, and the empty text is 0.
 abbrev pub number_of_text : List ℕ → Result (Option ℤ) ValueFault
 number_of_text [] = Ok (Some (pos 0))
-number_of_text (b ∷ bs) = if b == 45 then with_sign negative (unsigned_number bs) else with_sign pos (unsigned_number (b ∷ bs))
+number_of_text (b ∷ bs) =
+    if b == minus then with_sign negative (unsigned_number bs) else with_sign pos (unsigned_number (b ∷ bs))

@@ -1,7 +1,13 @@
 -- The values that the evaluator's own types stand for.
-use Rattle.std.specs.Prelude.{List, Option, map}
+use Rattle.std.specs.Prelude.{List, Option, String, map}
 use Rattle.std.specs.Borrow.{Bor}
 use Rattle.std.specs.Option.{option_map, option_copied}
+use Rattle.std.specs.declared.alloc.Global.{Global}
+use Rattle.expr_reader.specs.Expr.{exprs_of}
+use Rattle.expr_reader.specs.View.{views}
+use Rattle.expr_reader.specs.declared.tree.Tree.{Tree}
+use Rattle.expr_value.specs.Context.{Contexts}
+use Rattle.expr_value.specs.Evaluate.{Answer, answers}
 use Rattle.expr_value.specs.Kind.{Kind, null, truth, whole, text, list}
 use Rattle.expr_value.specs.Kind as plain_kind
 use Rattle.expr_value.specs.declared.kind.Kind as lent
@@ -14,7 +20,9 @@ use Rattle.expr_value.specs.declared.operand.Item.TheVariants.{Lent, Made}
 use Rattle.expr_value.specs.declared.operand.Operand as operand
 use Rattle.expr_value.specs.declared.operand.Operand.TheVariants.{One, Many}
 use Rattle.flow_model.specs.Plain as plain
-use Rattle.flow_model.specs.Value.{view}
+use Rattle.expr_value.specs.declared.status.Status.{Status}
+use Rattle.flow_model.specs.Mapping.{pairs_of}
+use Rattle.flow_model.specs.Value.{view, viewed}
 use Rattle.flow_model.specs.declared.value.Node.{Node}
 
 abbrev pub kind_seen : lent.Kind → Kind
@@ -49,3 +57,11 @@ maybe_seen v = option_map item_seen v
 
 abbrev pub operands_seen : List operand.Operand → List plain.Plain
 operands_seen vs = map operand_seen vs
+
+-- The members of a map.
+abbrev pub members_seen : List (String Global × Node) → plain.Members
+members_seen entries = plain.members_of (viewed (pairs_of entries))
+
+-- The answers of trees.
+abbrev pub tree_answers : Contexts → Status → List Tree → List Answer
+tree_answers c s trees = answers c s (exprs_of (views trees))

@@ -45,7 +45,8 @@ fn order_by_number(left: Kind<'_>, right: Kind<'_>) -> Result<Option<Ordering>, 
 
 // Whether two values are equal by number.
 fn equals_by_number(left: Kind<'_>, right: Kind<'_>) -> Result<bool, ValueFault>
-    ensures { result ≡ compare.passes is_eq (compare.order_by_number (kind_seen left.entry) (kind_seen right.entry)) }
+    ensures { result
+        ≡ compare.passes is_eq (compare.order_by_number (kind_seen left.entry) (kind_seen right.entry)) }
 {
     match order_by_number(left, right) {
         Ok(Some(order)) => Ok(order.is_eq()),
@@ -83,7 +84,8 @@ pub(crate) fn equality(
     left: Kind<'_>,
     right: Kind<'_>,
 ) -> Result<bool, ValueFault>
-    ensures { result ≡ compare.equality_of equality (compare.equals (kind_seen left.entry) (kind_seen right.entry)) }
+    ensures { result
+        ≡ compare.equality_of equality (compare.equals (kind_seen left.entry) (kind_seen right.entry)) }
 {
     match equals(left, right) {
         Ok(same) => match equality {
@@ -112,7 +114,8 @@ fn related_by_number(
     left: Kind<'_>,
     right: Kind<'_>,
 ) -> Result<bool, ValueFault>
-    ensures { result ≡ compare.passes (compare.admits relation) (compare.order_by_number (kind_seen left.entry) (kind_seen right.entry)) }
+    ensures { result ≡ compare.passes (compare.admits relation)
+        (compare.order_by_number (kind_seen left.entry) (kind_seen right.entry)) }
 {
     match order_by_number(left, right) {
         Ok(Some(order)) => Ok(admits(relation, order)),

@@ -5,11 +5,9 @@ ghost use Rattle.std.specs.Prelude.{◌≡◌, ◌++◌, IfOk, Ok};
 ghost use Rattle.std.specs.List.{cons_option, filter_map, flat_map};
 ghost use Rattle.expr_value.specs.Answer.{Gives};
 ghost use Rattle.expr_value.specs.Convert.{text_of, number_of as number_of_kind};
-ghost use Rattle.expr_value.specs.Dereference.{one, or_null as or_null_of, is_alike as is_alike_of, property_in, property_of as property_of_value, item_at, item_found, index_of as index_of_value, contents, index_each, property_found as property_found_of, index_found as index_found_of, all_found as all_found_of, outside as outside_of};
-ghost use Rattle.expr_value.specs.Seen.{item_seen, items_seen, operand_seen, found_seen, maybe_seen, node_seen, kind_seen};
-ghost use Rattle.flow_model.specs.Mapping.{pairs_of};
-ghost use Rattle.flow_model.specs.Plain as plain;
-ghost use Rattle.flow_model.specs.Value.{view, views, viewed};
+ghost use Rattle.expr_value.specs.Dereference.{one, filtered, or_null as or_null_of, is_alike as is_alike_of, property_in, property_of as property_of_value, item_at, item_found, index_of as index_of_value, contents, index_each, property_found as property_found_of, index_found as index_found_of, all_found as all_found_of, outside as outside_of};
+ghost use Rattle.expr_value.specs.Seen.{item_seen, items_seen, operand_seen, found_seen, maybe_seen, node_seen, kind_seen, members_seen};
+ghost use Rattle.flow_model.specs.Value.{view, views};
 
 use crate::compare::text_order;
 use crate::kind::Kind;
@@ -38,7 +36,7 @@ fn is_alike(name: &str, key: &str) -> bool
 // The property of exactly that name, else the first in key order that equals it ignoring case.
 fn member<'n>(members: &'n BTreeMap<String, Node>, name: &str) -> Option<&'n Node>
     ensures { node_seen result
-        ≡ property_in name.now (plain.members_of (viewed (pairs_of members.now.entries))) }
+        ≡ property_in name.now (members_seen members.now.entries) }
 {
     if let Some(node) = members.get(name) {
         return Some(node);
@@ -73,21 +71,41 @@ fn item_of(nodes: &[Node], number: Option<i64>) -> Option<&Node>
 
 // What stands at an index in a list: the item at its number.
 fn index_nodes<'n>(nodes: &'n [Node], index: Kind<'_>) -> Result<Option<&'n Node>, ValueFault>
-    ensures { Gives node_seen result (item_found (number_of_kind (kind_seen index.entry)) (views nodes.now)) }
+    ensures { Gives node_seen result
+        (item_found (number_of_kind (kind_seen index.entry)) (views nodes.now)) }
 {
     let number = number_of(index)?;
     Ok(item_of(nodes, number))
 }
 
-// What stands at an index in a value: in a list at its number, in a map at its text, which is `name`.
-fn index_of<'n>(node: &'n Node, index: Kind<'_>, name: &str) -> Result<Option<&'n Node>, ValueFault>
-    requires { name.now ≡ text_of (kind_seen index) }
+// What stands at an index in a map: the property at its text, which is made only where the index is none.
+fn index_members<'n>(
+    alloc: Global,
+    members: &'n BTreeMap<String, Node>,
+    index: Kind<'_>,
+) -> Result<Option<&'n Node>, ValueFault>
+    ensures { Gives node_seen result
+        (Ok (property_in (text_of (kind_seen index.entry)) (members_seen members.now.entries))) }
+{
+    if let Kind::Text(name) = index {
+        return Ok(member(members, name));
+    }
+    let name = text_of_kind(alloc, index)?;
+    Ok(member(members, name.as_str()))
+}
+
+// What stands at an index in a value: in a list at its number, in a map at its text.
+fn index_of<'n>(
+    alloc: Global,
+    node: &'n Node,
+    index: Kind<'_>,
+) -> Result<Option<&'n Node>, ValueFault>
     ensures { Gives node_seen result (index_of_value (kind_seen index.entry) (view node.now)) }
 {
     match node {
         Node::Null | Node::Truth(_) | Node::Whole(_) | Node::Text(_) => Ok(None),
         Node::List(nodes) => index_nodes(nodes.as_slice(), index),
-        Node::Map(members) => Ok(member(members, name)),
+        Node::Map(members) => index_members(alloc, members, index),
     }
 }
 
@@ -117,7 +135,8 @@ fn item_property<'a>(
     item: &Item<'a>,
     name: &str,
 ) -> Result<Option<Item<'a>>, AllocError>
-    ensures { IfOk result (λ found. maybe_seen found ≡ property_of_value name.now (item_seen item.now)) }
+    ensures { IfOk result
+        (λ found. maybe_seen found ≡ property_of_value name.now (item_seen item.now)) }
 {
     match item {
         Item::Lent(node) => Ok(lent(property_of(*node, name))),
@@ -125,22 +144,30 @@ fn item_property<'a>(
     }
 }
 
+// What stands at an index in a value that was made, as an item of its own.
+fn made_index<'a>(
+    alloc: Global,
+    node: &Node,
+    index: Kind<'_>,
+) -> Result<Option<Item<'a>>, ValueFault>
+    ensures { Gives maybe_seen result (index_of_value (kind_seen index.entry) (view node.now)) }
+{
+    let found = index_of(alloc, node, index)?;
+    Ok(made(alloc, found)?)
+}
+
 // What stands at an index in an item.
 fn item_index<'a>(
     alloc: Global,
     item: &Item<'a>,
     index: Kind<'_>,
-    name: &str,
 ) -> Result<Option<Item<'a>>, ValueFault>
-    requires { name.now ≡ text_of (kind_seen index) }
-    ensures { Gives maybe_seen result (index_of_value (kind_seen index.entry) (item_seen item.now)) }
+    ensures { Gives maybe_seen result
+        (index_of_value (kind_seen index.entry) (item_seen item.now)) }
 {
     match item {
-        Item::Lent(node) => Ok(lent(index_of(*node, index, name)?)),
-        Item::Made(node) => {
-            let found = index_of(node, index, name)?;
-            Ok(made(alloc, found)?)
-        },
+        Item::Lent(node) => Ok(lent(index_of(alloc, *node, index)?)),
+        Item::Made(node) => made_index(alloc, node, index),
     }
 }
 
@@ -167,7 +194,8 @@ fn index_items<'a>(
     items: &[Item<'a>],
     index: Kind<'_>,
 ) -> Result<Option<Item<'a>>, ValueFault>
-    ensures { Gives maybe_seen result (item_found (number_of_kind (kind_seen index.entry)) (items_seen items.now)) }
+    ensures { Gives maybe_seen result
+        (item_found (number_of_kind (kind_seen index.entry)) (items_seen items.now)) }
 {
     let number = number_of(index)?;
     Ok(place_of(alloc, items, number)?)
@@ -189,7 +217,8 @@ fn operand_property<'a>(
     operand: &Operand<'a>,
     name: &str,
 ) -> Result<Option<Item<'a>>, AllocError>
-    ensures { IfOk result (λ found. maybe_seen found ≡ property_of_value name.now (operand_seen operand.now)) }
+    ensures { IfOk result
+        (λ found. maybe_seen found ≡ property_of_value name.now (operand_seen operand.now)) }
 {
     match operand {
         Operand::One(item) => item_property(alloc, item, name),
@@ -202,13 +231,12 @@ fn operand_index<'a>(
     alloc: Global,
     operand: &Operand<'a>,
     index: Kind<'_>,
-    name: &str,
 ) -> Result<Option<Item<'a>>, ValueFault>
-    requires { name.now ≡ text_of (kind_seen index) }
-    ensures { Gives maybe_seen result (index_of_value (kind_seen index.entry) (operand_seen operand.now)) }
+    ensures { Gives maybe_seen result
+        (index_of_value (kind_seen index.entry) (operand_seen operand.now)) }
 {
     match operand {
-        Operand::One(item) => item_index(alloc, item, index, name),
+        Operand::One(item) => item_index(alloc, item, index),
         Operand::Many(items) => index_items(alloc, items.as_slice(), index),
     }
 }
@@ -236,19 +264,41 @@ fn indexes<'a>(
     alloc: Global,
     items: &[Item<'a>],
     index: Kind<'_>,
-    name: &str,
 ) -> Result<Vec<Item<'a>>, ValueFault>
-    requires { name.now ≡ text_of (kind_seen index) }
     ensures { Gives (λ found. items_seen found.items) result
         (index_each (kind_seen index.entry) (items_seen items.now)) }
 {
     let mut found = Vec::new(alloc);
     for item in items {
-        if let Some(place) = item_index(alloc, item, index, name)? {
+        if let Some(place) = item_index(alloc, item, index)? {
             found.push(place)?;
         }
     }
     Ok(found)
+}
+
+// `.name` of one value: the property, or null.
+fn one_property<'a>(
+    alloc: Global,
+    operand: &Operand<'a>,
+    name: &str,
+) -> Result<Found<'a>, ValueFault>
+    ensures { Gives found_seen result
+        (Ok (property_found_of name.now (one (operand_seen operand.now)))) }
+{
+    Ok(or_null(operand_property(alloc, operand, name)?))
+}
+
+// `.name` of a filtered list.
+fn filtered_properties<'a>(
+    alloc: Global,
+    items: &[Item<'a>],
+    name: &str,
+) -> Result<Found<'a>, ValueFault>
+    ensures { Gives found_seen result
+        (Ok (property_found_of name.now (filtered (items_seen items.now)))) }
+{
+    Ok(Found::Filtered(properties(alloc, items, name)?))
 }
 
 /// `.name`: the property of one value or null, or of each item of a filtered list that has it.
@@ -256,13 +306,37 @@ pub(crate) fn property_found<'a>(
     alloc: Global,
     found: &Found<'a>,
     name: &str,
-) -> Result<Found<'a>, AllocError>
-    ensures { IfOk result (λ next. found_seen next ≡ property_found_of name.now (found_seen found.now)) }
+) -> Result<Found<'a>, ValueFault>
+    ensures { Gives found_seen result (Ok (property_found_of name.now (found_seen found.now))) }
 {
     match found {
-        Found::One(operand) => Ok(or_null(operand_property(alloc, operand, name)?)),
-        Found::Filtered(items) => Ok(Found::Filtered(properties(alloc, items.as_slice(), name)?)),
+        Found::One(operand) => one_property(alloc, operand, name),
+        Found::Filtered(items) => filtered_properties(alloc, items.as_slice(), name),
     }
+}
+
+// `[index]` of one value: what stands there, or null.
+fn one_index<'a>(
+    alloc: Global,
+    operand: &Operand<'a>,
+    index: Kind<'_>,
+) -> Result<Found<'a>, ValueFault>
+    ensures { Gives found_seen result
+        (index_found_of (kind_seen index.entry) (one (operand_seen operand.now))) }
+{
+    Ok(or_null(operand_index(alloc, operand, index)?))
+}
+
+// `[index]` of a filtered list.
+fn filtered_indexes<'a>(
+    alloc: Global,
+    items: &[Item<'a>],
+    index: Kind<'_>,
+) -> Result<Found<'a>, ValueFault>
+    ensures { Gives found_seen result
+        (index_found_of (kind_seen index.entry) (filtered (items_seen items.now))) }
+{
+    Ok(Found::Filtered(indexes(alloc, items, index)?))
 }
 
 /// `[index]`: what stands there in one value or null, or in each item of a filtered list that has it.
@@ -271,17 +345,12 @@ pub(crate) fn index_found<'a>(
     found: &Found<'a>,
     index: Kind<'_>,
 ) -> Result<Found<'a>, ValueFault>
-    ensures { Gives found_seen result (index_found_of (kind_seen index.entry) (found_seen found.now)) }
+    ensures { Gives found_seen result
+        (index_found_of (kind_seen index.entry) (found_seen found.now)) }
 {
-    let name = text_of_kind(alloc, index)?;
     match found {
-        Found::One(operand) => Ok(or_null(operand_index(alloc, operand, index, name.as_str())?)),
-        Found::Filtered(items) => Ok(Found::Filtered(indexes(
-            alloc,
-            items.as_slice(),
-            index,
-            name.as_str(),
-        )?)),
+        Found::One(operand) => one_index(alloc, operand, index),
+        Found::Filtered(items) => filtered_indexes(alloc, items.as_slice(), index),
     }
 }
 

@@ -8,6 +8,7 @@ ghost use Rattle.expr_value.specs.Condition.{condition_holds};
 ghost use Rattle.expr_value.specs.Context.{Contexts};
 ghost use Rattle.expr_value.specs.Evaluate.{value};
 ghost use Rattle.expr_value.specs.Functions.{is_success};
+ghost use Rattle.expr_value.specs.Named.{AgreeOn, expr_names_context, pieces_name_context};
 ghost use Rattle.expr_value.specs.Template.{template_value};
 ghost use Rattle.expr_value.specs.declared.status.Status.{Status};
 ghost use Rattle.flow_model.specs.Plain as plain;
@@ -20,7 +21,8 @@ pub fn always_is_true()
 /// A condition that names no status function does not hold where the status is not success, whatever it says.
 pub fn condition_waits_for_success()
     ensures { (c : Contexts) (s : Status) (condition : List Piece)
-        → names_status condition ≡ false → is_success s ≡ false → condition_holds c s condition ≡ Ok false }
+        → names_status condition ≡ false → is_success s ≡ false
+        → condition_holds c s condition ≡ Ok false }
 {}
 
 /// An expression that names no status function has one value, or one fault, under every status.
@@ -32,5 +34,27 @@ pub fn expression_without_status()
 /// A template has one value, or one fault, under every status, since it names no status function.
 pub fn template_without_status()
     ensures { (c : Contexts) (s t : Status) (template : List Piece)
-        → names_status template ≡ false → template_value c s template ≡ template_value c t template }
+        → names_status template ≡ false
+        → template_value c s template ≡ template_value c t template }
+{}
+
+/// Over two maps of contexts that agree on each context that an expression names it has one value, or one fault.
+pub fn expression_by_its_contexts()
+    ensures { (c d : Contexts) (s : Status) (expression : Expr)
+        → AgreeOn (λ x. expr_names_context x expression) c d
+        → value c s expression ≡ value d s expression }
+{}
+
+/// Over two maps of contexts that agree on each context that a template names it has one value, or one fault.
+pub fn template_by_its_contexts()
+    ensures { (c d : Contexts) (s : Status) (template : List Piece)
+        → AgreeOn (λ x. pieces_name_context x template) c d
+        → template_value c s template ≡ template_value d s template }
+{}
+
+/// Over two maps of contexts that agree on each context that a condition names it holds or not alike.
+pub fn condition_by_its_contexts()
+    ensures { (c d : Contexts) (s : Status) (condition : List Piece)
+        → AgreeOn (λ x. pieces_name_context x condition) c d
+        → condition_holds c s condition ≡ condition_holds d s condition }
 {}

@@ -1,23 +1,23 @@
 //! The contents of values, for `.*`.
 
-ghost use Rattle.std.specs.Prelude.{◌≡◌, ◌++◌, IfOk, OnOk};
+ghost use Rattle.std.specs.Prelude.{◌≡◌, ◌++◌, IfOk, Ok, OnOk};
 ghost use Rattle.std.specs.List.{flat_map};
-ghost use Rattle.expr_value.specs.Dereference.{contents, all_found as all_found_of};
+ghost use Rattle.expr_value.specs.Answer.{Gives};
+ghost use Rattle.expr_value.specs.Dereference.{contents, one, filtered, all_found as all_found_of};
 ghost use Rattle.expr_value.specs.Kind.{items as items_of_list, values as values_of};
-ghost use Rattle.expr_value.specs.Seen.{item_seen, items_seen, operand_seen, found_seen};
-ghost use Rattle.flow_model.specs.Mapping.{pairs_of};
-ghost use Rattle.flow_model.specs.Plain as plain;
-ghost use Rattle.flow_model.specs.Value.{view, views, viewed};
+ghost use Rattle.expr_value.specs.Seen.{item_seen, items_seen, operand_seen, found_seen, members_seen};
+ghost use Rattle.flow_model.specs.Value.{view, views};
 
 use crate::dereference::Found;
 use crate::operand::{Item, Operand, again};
-use flow_model::{Node, copy_node};
+use flow_model::{Node, ValueFault, copy_node};
 use std::alloc::{AllocError, Global};
 use std::collections::BTreeMap;
 
 // Adds the items of a list, lent.
 fn push_nodes<'a>(nodes: &'a [Node], found: &mut Vec<Item<'a>>) -> Result<(), AllocError>
-    ensures { OnOk result (items_seen found.new.items ≡ items_seen found.old.items ++ views nodes.now) }
+    ensures { OnOk result
+        (items_seen found.new.items ≡ items_seen found.old.items ++ views nodes.now) }
 {
     for node in nodes {
         found.push(Item::Lent(node))?;
@@ -31,7 +31,7 @@ fn push_values<'a>(
     found: &mut Vec<Item<'a>>,
 ) -> Result<(), AllocError>
     ensures { OnOk result (items_seen found.new.items
-        ≡ items_seen found.old.items ++ values_of (plain.members_of (viewed (pairs_of members.now.entries)))) }
+        ≡ items_seen found.old.items ++ values_of (members_seen members.now.entries)) }
 {
     for (_key, node) in members.iter() {
         found.push(Item::Lent(node))?;
@@ -45,7 +45,8 @@ fn push_node_copies(
     nodes: &[Node],
     found: &mut Vec<Item<'_>>,
 ) -> Result<(), AllocError>
-    ensures { OnOk result (items_seen found.new.items ≡ items_seen found.old.items ++ views nodes.now) }
+    ensures { OnOk result
+        (items_seen found.new.items ≡ items_seen found.old.items ++ views nodes.now) }
 {
     for node in nodes {
         found.push(Item::Made(copy_node(alloc, node)?))?;
@@ -60,7 +61,7 @@ fn push_value_copies(
     found: &mut Vec<Item<'_>>,
 ) -> Result<(), AllocError>
     ensures { OnOk result (items_seen found.new.items
-        ≡ items_seen found.old.items ++ values_of (plain.members_of (viewed (pairs_of members.now.entries)))) }
+        ≡ items_seen found.old.items ++ values_of (members_seen members.now.entries)) }
 {
     for (_key, node) in members.iter() {
         found.push(Item::Made(copy_node(alloc, node)?))?;
@@ -109,7 +110,8 @@ fn push_contents<'a>(
 
 // The contents of each item, one after the other.
 fn all_contents<'a>(alloc: Global, items: &[Item<'a>]) -> Result<Vec<Item<'a>>, AllocError>
-    ensures { IfOk result (λ found. items_seen found.items ≡ flat_map contents (items_seen items.now)) }
+    ensures { IfOk result
+        (λ found. items_seen found.items ≡ flat_map contents (items_seen items.now)) }
 {
     let mut found = Vec::new(alloc);
     for item in items {
@@ -143,12 +145,26 @@ fn operand_contents<'a>(alloc: Global, operand: &Operand<'a>) -> Result<Vec<Item
     }
 }
 
+// `.*` of one value.
+fn one_contents<'a>(alloc: Global, operand: &Operand<'a>) -> Result<Found<'a>, ValueFault>
+    ensures { Gives found_seen result (Ok (all_found_of (one (operand_seen operand.now)))) }
+{
+    Ok(Found::Filtered(operand_contents(alloc, operand)?))
+}
+
+// `.*` of a filtered list.
+fn filtered_contents<'a>(alloc: Global, items: &[Item<'a>]) -> Result<Found<'a>, ValueFault>
+    ensures { Gives found_seen result (Ok (all_found_of (filtered (items_seen items.now)))) }
+{
+    Ok(Found::Filtered(all_contents(alloc, items)?))
+}
+
 /// `.*`: the contents of one value, or of each item of a filtered list.
-pub(crate) fn all_found<'a>(alloc: Global, found: &Found<'a>) -> Result<Found<'a>, AllocError>
-    ensures { IfOk result (λ next. found_seen next ≡ all_found_of (found_seen found.now)) }
+pub(crate) fn all_found<'a>(alloc: Global, found: &Found<'a>) -> Result<Found<'a>, ValueFault>
+    ensures { Gives found_seen result (Ok (all_found_of (found_seen found.now))) }
 {
     match found {
-        Found::One(operand) => Ok(Found::Filtered(operand_contents(alloc, operand)?)),
-        Found::Filtered(items) => Ok(Found::Filtered(all_contents(alloc, items.as_slice())?)),
+        Found::One(operand) => one_contents(alloc, operand),
+        Found::Filtered(items) => filtered_contents(alloc, items.as_slice()),
     }
 }

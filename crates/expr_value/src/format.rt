@@ -1,17 +1,19 @@
 //! The function `format`.
 
-ghost use Rattle.std.specs.Prelude.{◌≡◌, ◌≢◌, ◌≤◌, ◌<◌, ◌-◌, ◌^◌, ℕ, List, ◌∷◌, true, length, take, drop, map, Option, option_map, MatchOption};
+ghost use Rattle.std.specs.Prelude.{◌≡◌, ◌≤◌, ◌<◌, ◌-◌, ◌^◌, [], ◌∷◌, codes, true, length, take, drop, map, Option, option_map, MatchOption};
 ghost use Rattle.std.specs.List.{list_all, prefix_len, slice_get};
 ghost use Rattle.expr_reader.specs.Bytes.{is_digit as is_digit_byte};
+ghost use Rattle.expr_reader.specs.Number.{digits_value};
 ghost use Rattle.expr_value.specs.Answer.{Gives};
 ghost use Rattle.expr_value.specs.Format.{formatted, opened, closed};
-ghost use Rattle.expr_value.specs.Formatting.{texts_of, is_plain as is_plain_byte, place_from, Steps};
+ghost use Rattle.expr_value.specs.Formatting.{texts_of, is_plain as is_plain_byte, BeginsOther, Steps};
 ghost use Rattle.expr_value.specs.Functions.{formatted_value};
 ghost use Rattle.expr_value.specs.Kind.{kind_of};
 ghost use Rattle.expr_value.specs.Seen.{kind_seen, operand_seen};
 ghost use Rattle.flow_model.specs.Value.{view};
 
 use crate::bounded::Bounded;
+use crate::digits::digits_length;
 use crate::kind::Kind;
 use crate::operand::Operand;
 use crate::text::push_kind;
@@ -25,17 +27,11 @@ fn is_plain(byte: u8) -> bool
     byte != b'{' && byte != b'}'
 }
 
-// Whether a byte is a digit.
-fn is_digit(byte: u8) -> bool
-    ensures { result ≡ is_digit_byte byte }
-{
-    matches!(byte, b'0'..=b'9')
-}
-
 // The text after a brace at the front, if it stands there.
 fn after_brace(text: &str, brace: char) -> Option<&str>
     requires { brace < 128 }
-    ensures { MatchOption result ((rest : List ℕ) → text.now ≢ brace ∷ rest) (λ after. text.now ≡ brace ∷ after.now) }
+    ensures { MatchOption result
+        (BeginsOther (brace ∷ []) text.now) (λ after. text.now ≡ brace ∷ after.now) }
 {
     text.strip_prefix(brace)
 }
@@ -45,13 +41,6 @@ fn plain_length(bytes: &[u8]) -> usize
     ensures { result ≡ prefix_len is_plain_byte bytes.now }
 {
     bytes.iter().take_while(|byte| is_plain(**byte)).count()
-}
-
-// How many digits stand at the front.
-fn digits_length(bytes: &[u8]) -> usize
-    ensures { result ≡ prefix_len is_digit_byte bytes.now }
-{
-    bytes.iter().take_while(|byte| is_digit(**byte)).count()
 }
 
 // The text before the first brace, and the rest.
@@ -78,7 +67,8 @@ fn split_digits(text: &str) -> (&str, &str)
 fn number_of(digits: &str) -> Option<usize>
     requires some { 0 < length digits.now }
     requires digits { list_all is_digit_byte digits.now ≡ true }
-    ensures { MatchOption result (2 ^ 64 ≤ place_from 0 digits.now) (λ n. n ≡ place_from 0 digits.now) }
+    ensures { MatchOption result (2 ^ 64 ≤ digits_value 10 0 digits.now)
+        (λ n. n ≡ digits_value 10 0 digits.now) }
 {
     match digits.parse::<usize>() {
         Ok(number) => Some(number),
@@ -90,7 +80,9 @@ fn number_of(digits: &str) -> Option<usize>
 fn argument_at<'a>(arguments: &'a [Operand<'_>], digits: &str) -> Option<Kind<'a>>
     requires some { 0 < length digits.now }
     requires digits { list_all is_digit_byte digits.now ≡ true }
-    ensures { option_map kind_seen result ≡ option_map kind_of (slice_get (map operand_seen arguments.now) (place_from 0 digits.now)) }
+    ensures { option_map kind_seen result
+        ≡ option_map kind_of
+        (slice_get (map operand_seen arguments.now) (digits_value 10 0 digits.now)) }
 {
     let place = number_of(digits)?;
     let operand = arguments.get(place)?;
@@ -104,8 +96,9 @@ fn push_argument<'a>(
     text: &'a str,
     arguments: &[Operand<'_>],
 ) -> Result<&'a str, ValueFault>
-    requires { (rest : List ℕ) → text.now ≢ 123 ∷ rest }
-    ensures { Steps (texts_of arguments.now) bounded.old (opened (texts_of arguments.now) text.now) (length text.now) result bounded.new }
+    requires { BeginsOther (codes "{") text.now }
+    ensures { Steps (texts_of arguments.now) bounded.old (opened (texts_of arguments.now) text.now)
+        (length text.now) result bounded.new }
 {
     let (digits, rest) = split_digits(text);
     if digits.is_empty() {
@@ -128,7 +121,8 @@ fn push_opened<'a>(
     text: &'a str,
     arguments: &[Operand<'_>],
 ) -> Result<&'a str, ValueFault>
-    ensures { Steps (texts_of arguments.now) bounded.old (opened (texts_of arguments.now) text.now) (length text.now) result bounded.new }
+    ensures { Steps (texts_of arguments.now) bounded.old (opened (texts_of arguments.now) text.now)
+        (length text.now) result bounded.new }
 {
     match after_brace(text, '{') {
         Some(after) => {
@@ -145,7 +139,8 @@ fn push_closed<'a>(
     text: &'a str,
     arguments: &[Operand<'_>],
 ) -> Result<&'a str, ValueFault>
-    ensures { Steps (texts_of arguments.now) bounded.old (closed (texts_of arguments.now) text.now) (length text.now) result bounded.new }
+    ensures { Steps (texts_of arguments.now) bounded.old (closed (texts_of arguments.now) text.now)
+        (length text.now) result bounded.new }
 {
     match after_brace(text, '}') {
         Some(after) => {
@@ -163,9 +158,10 @@ fn push_plain<'a>(
     arguments: &[Operand<'_>],
 ) -> Result<&'a str, ValueFault>
     requires some { 0 < length text.now }
-    requires no_opening { (rest : List ℕ) → text.now ≢ 123 ∷ rest }
-    requires no_closing { (rest : List ℕ) → text.now ≢ 125 ∷ rest }
-    ensures { Steps (texts_of arguments.now) bounded.old (formatted (texts_of arguments.now) text.now) (length text.now - 1) result bounded.new }
+    requires no_opening { BeginsOther (codes "{") text.now }
+    requires no_closing { BeginsOther (codes "}") text.now }
+    ensures { Steps (texts_of arguments.now) bounded.old
+        (formatted (texts_of arguments.now) text.now) (length text.now - 1) result bounded.new }
 {
     let (plain, rest) = split_plain(text);
     bounded.push_str(plain)?;
@@ -180,7 +176,8 @@ fn push_piece<'a>(
     arguments: &[Operand<'_>],
 ) -> Result<&'a str, ValueFault>
     requires { 0 < length text.now }
-    ensures { Steps (texts_of arguments.now) bounded.old (formatted (texts_of arguments.now) text.now) (length text.now - 1) result bounded.new }
+    ensures { Steps (texts_of arguments.now) bounded.old
+        (formatted (texts_of arguments.now) text.now) (length text.now - 1) result bounded.new }
 {
     if let Some(after) = after_brace(text, '{') {
         return push_opened(bounded, alloc, after, arguments);

@@ -27,7 +27,8 @@ fn push_item(
     first: bool,
     kind: Kind<'_>,
 ) -> Result<(), AllocError>
-    ensures { OnOk result (bounded.new ≡ grown bounded.old (item_text separator.now first (text_of (kind_seen kind.entry)))) }
+    ensures { OnOk result (bounded.new
+        ≡ grown bounded.old (item_text separator.now first (text_of (kind_seen kind.entry)))) }
 {
     if !first {
         bounded.push_str(separator)?;
@@ -37,7 +38,8 @@ fn push_item(
 
 // The texts of the parts of a list, with a separator between them.
 fn join_parts<T: Part>(alloc: Global, parts: &[T], separator: &str) -> Result<Node, ValueFault>
-    ensures { Gives view result (limited (join_by text_of_value separator.now (map T.seen parts.now))) }
+    ensures { Gives view result
+        (limited (join_by text_of_value separator.now (map T.seen parts.now))) }
 {
     let mut bounded = Bounded::empty(alloc);
     let mut first = true;

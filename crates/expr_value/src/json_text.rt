@@ -19,7 +19,8 @@ use std::alloc::{AllocError, Global};
 
 // The JSON of the items of a filtered list.
 fn json_of_items(alloc: Global, items: &[Item<'_>]) -> Result<Vec<Value>, AllocError>
-    ensures { IfOk result (λ json. items_view json.items ≡ json_items (plain.items_of (items_seen items.now))) }
+    ensures { IfOk result
+        (λ json. items_view json.items ≡ json_items (plain.items_of (items_seen items.now))) }
 {
     let mut json = Vec::with_capacity(alloc, items.len())?;
     for item in items {
@@ -41,7 +42,8 @@ fn json_of_operand(alloc: Global, operand: &Operand<'_>) -> Result<Value, AllocE
 // The text of a value's JSON, on lines.
 #[tactic(auto, using(crate::proofs::JsonTexts::pretty_exact))]
 fn pretty(alloc: Global, operand: &Operand<'_>) -> Result<String, AllocError>
-    ensures text { IfOk result (λ text. string_bytes text ≡ pretty_text (json_of (operand_seen operand.now))) }
+    ensures text { IfOk result
+        (λ text. string_bytes text ≡ pretty_text (json_of (operand_seen operand.now))) }
     ensures back { IfOk result (λ text. depth (json_of (operand_seen operand.now)) ≤ 127
         → read (string_bytes text) ≡ Some (json_of (operand_seen operand.now))) }
 {

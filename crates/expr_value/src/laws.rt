@@ -14,10 +14,12 @@ pub fn equality_is_symmetric()
 
 /// `a != b` is the opposite of `a == b`, and faults alike.
 pub fn inequality_is_opposite()
-    ensures { (a b : Kind) → AreOpposite (equality_of Equal (equals a b)) (equality_of NotEqual (equals a b)) }
+    ensures { (a b : Kind)
+        → AreOpposite (equality_of Equal (equals a b)) (equality_of NotEqual (equals a b)) }
 {}
 
 /// `a < b` is `b > a`, `a <= b` is `b >= a`, and both fault alike.
 pub fn relations_mirror()
-    ensures { (relation : Relation) (a b : Kind) → related relation a b ≡ related (mirror relation) b a }
+    ensures { (relation : Relation) (a b : Kind) → related relation a b
+        ≡ related (mirror relation) b a }
 {}

@@ -12,6 +12,7 @@ mod call;
 mod compare;
 mod context;
 mod dereference;
+mod digits;
 mod evaluate;
 mod evaluation_laws;
 mod filter;
@@ -21,7 +22,9 @@ mod join;
 mod json_text;
 mod kind;
 mod laws;
+mod named;
 mod number;
+mod number_laws;
 mod operand;
 mod owned;
 mod parts;
@@ -34,10 +37,19 @@ mod values;
 
 pub use context::Context;
 pub use evaluation_laws::{
-    always_is_true, condition_waits_for_success, expression_without_status, template_without_status,
+    always_is_true, condition_by_its_contexts, condition_waits_for_success,
+    expression_by_its_contexts, expression_without_status, template_by_its_contexts,
+    template_without_status,
 };
-pub use function_laws::{format_with_doubled_braces, format_without_braces};
+pub use function_laws::{
+    format_with_doubled_braces, format_with_one_place, format_with_places, format_without_braces,
+    from_json_of_to_json,
+};
 pub use laws::{equality_is_symmetric, inequality_is_opposite, relations_mirror};
+pub use named::{names_context, template_names_context};
+pub use number_laws::{
+    decimal_is_its_number, integer_has_its_value, other_number_is_not_whole, other_text_is_no_number,
+};
 pub use status::Status;
 pub use template::{eval, eval_condition, eval_text};
 pub use text::to_text;

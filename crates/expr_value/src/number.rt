@@ -8,11 +8,13 @@ ghost use Rattle.expr_value.specs.Convert.{number_of as number_of_kind};
 ghost use Rattle.expr_value.specs.Number as number;
 ghost use Rattle.expr_value.specs.Seen.{kind_seen};
 
+use crate::digits::digits_length;
 use crate::kind::Kind;
 use flow_model::ValueFault;
+use flow_model::within::GREATEST;
 
-/// The greatest whole number; the least is its opposite.
-const GREATEST: u64 = 9_007_199_254_740_991;
+// The greatest whole number; the least is its opposite.
+const MOST: u64 = GREATEST as u64;
 
 // Nothing but digits.
 fn all_digits(bytes: &[u8]) -> bool
@@ -78,17 +80,6 @@ fn is_part(digits: &[u8], rest: &[u8]) -> bool
     }
 }
 
-// How many digits stand at the front.
-fn digits_length(bytes: &[u8]) -> usize
-    ensures value { result ≡ prefix_len is_digit bytes.now }
-    ensures within { result ≤ length bytes.now }
-{
-    bytes
-        .iter()
-        .take_while(|byte| byte.is_ascii_digit())
-        .count()
-}
-
 // The digits at the front, and the rest.
 fn split_digits(bytes: &[u8]) -> (&[u8], &[u8])
     ensures front { result.0.now ≡ take (prefix_len is_digit bytes.now) bytes.now }
@@ -112,7 +103,7 @@ fn is_tail(bytes: &[u8]) -> bool
 }
 
 // The value of digits, where it is in range.
-#[tactic(auto, using(crate::proofs::Digits::digit_low, crate::proofs::Digits::value_over, crate::proofs::Digits::value_step, crate::proofs::Digits::value_end))]
+#[tactic(auto, using(crate::proofs::DigitLemmas::digit_low, crate::proofs::DigitLemmas::value_over, crate::proofs::DigitLemmas::value_step, crate::proofs::DigitLemmas::value_end))]
 fn digits_value(digits: &[u8]) -> Result<Option<u64>, ValueFault>
     requires { list_all is_digit digits.now ≡ true }
     ensures value { result ≡ number.in_range (digits_value_of 10 0 digits.now) }
@@ -121,7 +112,7 @@ fn digits_value(digits: &[u8]) -> Result<Option<u64>, ValueFault>
     let mut value: u64 = 0;
     for digit in digits {
         value = value * 10 + u64::from(*digit - b'0');
-        if value > GREATEST {
+        if value > MOST {
             return Err(ValueFault::NotWhole);
         }
     }
@@ -129,7 +120,7 @@ fn digits_value(digits: &[u8]) -> Result<Option<u64>, ValueFault>
 }
 
 // The number of the digits at its front and what follows them.
-#[tactic(auto, using(crate::proofs::Digits::integer_digits))]
+#[tactic(auto, using(crate::proofs::DigitLemmas::integer_digits))]
 fn number_of_parts(digits: &[u8], rest: &[u8]) -> Result<Option<u64>, ValueFault>
     ensures value { result ≡ number.number_of_parts digits.now rest.now }
     ensures range { IfOk result (λ number. IfSome number (λ n. n ≤ greatest)) }

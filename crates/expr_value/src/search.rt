@@ -52,7 +52,8 @@ fn folds_pass(
     text: Kind<'_>,
     part: Kind<'_>,
 ) -> Result<bool, AllocError>
-    ensures { IfOk result (λ b. b ≡ folds_pass_of (stands_at_of place) (kind_seen text.entry) (kind_seen part.entry)) }
+    ensures { IfOk result (λ b. b
+        ≡ folds_pass_of (stands_at_of place) (kind_seen text.entry) (kind_seen part.entry)) }
 {
     if is_collection(text) || is_collection(part) {
         return Ok(false);
@@ -98,7 +99,8 @@ fn node_contains(alloc: Global, node: &Node, value: Kind<'_>) -> Result<bool, Al
 
 // Whether an item of a list equals a value, or the value's text stands in a text, ignoring case.
 fn contains(alloc: Global, operand: &Operand<'_>, value: &Operand<'_>) -> Result<bool, AllocError>
-    ensures { IfOk result (λ b. b ≡ contains_of (operand_seen operand.now) (operand_seen value.now)) }
+    ensures { IfOk result
+        (λ b. b ≡ contains_of (operand_seen operand.now) (operand_seen value.now)) }
 {
     match operand {
         Operand::One(item) => node_contains(alloc, item.node(), value.kind()),
@@ -114,7 +116,8 @@ pub(crate) fn finds(
     operand: &Operand<'_>,
     value: &Operand<'_>,
 ) -> Result<bool, AllocError>
-    ensures { IfOk result (λ b. b ≡ finds_of place (operand_seen operand.now) (operand_seen value.now)) }
+    ensures { IfOk result
+        (λ b. b ≡ finds_of place (operand_seen operand.now) (operand_seen value.now)) }
 {
     match place {
         Place::Anywhere => contains(alloc, operand, value),

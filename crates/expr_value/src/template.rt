@@ -54,7 +54,8 @@ fn evaluated<'a, C: Context>(
     contexts: &'a C,
     status: Status,
 ) -> Result<Operand<'a>, ValueFault>
-    ensures { Gives operand_seen result (evaluated_of (C.contexts contexts.now) status (tree_view tree.now)) }
+    ensures { Gives operand_seen result
+        (evaluated_of (C.contexts contexts.now) status (tree_view tree.now)) }
 {
     let operand = evaluate(alloc, tree, contexts, status)?;
     last_value(operand)
@@ -69,7 +70,8 @@ fn push_value<C: Context>(
     text: &mut Bounded,
 ) -> Result<(), ValueFault>
     ensures { Gives (λ done. text.new) result
-        (grown_answer text.old (text_answer (value (C.contexts contexts.now) status (tree_view tree.now)))) }
+        (grown_answer text.old
+        (text_answer (value (C.contexts contexts.now) status (tree_view tree.now)))) }
 {
     let operand = evaluate(alloc, tree, contexts, status)?;
     push_kind(text, alloc, operand.kind())?;
@@ -103,7 +105,8 @@ fn joined<C: Context>(
     contexts: &C,
     status: Status,
 ) -> Result<Node, ValueFault>
-    ensures { Gives view result (limited_text (pieces_text (C.contexts contexts.now) status (map piece_of pieces.now))) }
+    ensures { Gives view result
+        (limited_text (pieces_text (C.contexts contexts.now) status (map piece_of pieces.now))) }
 {
     let mut text = Bounded::empty(alloc);
     for piece in pieces {

@@ -19,6 +19,5 @@ returns-in-List c =
 
 pub returns-in-Map : goal.returns-in-Map
 returns-in-Map c =
-    let kind = kind_seen c.args.index in
-    let ms = plain.members_of (viewed (pairs_of c.in-Map.members.entries)) in
-    ap (index_of kind) (ap view c.in-Map.is ∙ view-Map c.in-Map.members) ∙ ap (λ (t : List ℕ). Ok (property_in t ms)) (sym c.requires) ∙ ap Ok (sym c.member.ensures)
+    let meaning = ap (index_of (kind_seen c.args.index)) (ap view c.in-Map.is ∙ view-Map c.in-Map.members) in
+    subst (λ (m : Result (Option plain.Plain) ValueFault). Gives node_seen c.index_members.result m) (sym meaning) c.index_members.ensures

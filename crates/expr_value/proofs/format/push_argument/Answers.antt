@@ -2,9 +2,10 @@ use Rattle.std.proofs.Common.{◌≡◌, ◌+◌, ◌<◌, ◌≤◌, ◌∙◌,
 use Rattle.std.proofs.lemmas.Bool.Decides.{nat_tests}
 use Rattle.std.specs.List.{prefix_len}
 use Rattle.expr_reader.specs.Bytes.{is_digit}
+use Rattle.expr_reader.specs.Number.{digits_value}
 use Rattle.expr_value.specs.Convert.{text_of}
 use Rattle.expr_value.specs.Format.{formatted, numbered}
-use Rattle.expr_value.specs.Formatting.{ended, texts_of, place_from}
+use Rattle.expr_value.specs.Formatting.{ended, texts_of}
 use Rattle.expr_value.specs.Seen.{kind_seen, operand_seen}
 use Rattle.expr_value.proofs.Braces.{opened_digits, opened_none, digits_pass, numbered_none, argument_found, argument_missing, rest_shorter}
 use Rattle.expr_value.proofs.Growing.{ended_grown}
@@ -26,7 +27,7 @@ returns-in_default c =
     let rest = c.split_digits.result.1.now in
     let some : 0 < length digits = grind (arith, nat_tests) in
     let stops : prefix_len is_digit rest ≡ 0 = ap (prefix_len is_digit) c.split_digits.ensures.back ∙ (spans is_digit text).stops in
-    opened_digits arguments text digits rest c.split_digits.ensures.front c.split_digits.ensures.back some ∙ numbered_none arguments (place_from 0 digits) rest c.in_default.ensures stops
+    opened_digits arguments text digits rest c.split_digits.ensures.front c.split_digits.ensures.back some ∙ numbered_none arguments (digits_value 10 0 digits) rest c.in_default.ensures stops
 
 pub argument_at-requires-clause-digits : goal.argument_at-requires-clause-digits
 argument_at-requires-clause-digits c = digits_pass c.args.text.now c.split_digits.result.0.now c.split_digits.ensures.front
@@ -40,8 +41,8 @@ returns-in_default-argument_at c =
     let after = c.in-Some.after.now in
     let some : 0 < length digits = grind (arith, nat_tests) in
     opened_digits arguments text digits rest c.split_digits.ensures.front c.split_digits.ensures.back some
-    ∙ ap (numbered arguments (place_from 0 digits)) c.in-Some.ensures
-    ∙ argument_missing (map operand_seen c.args.arguments.now) (place_from 0 digits) (formatted arguments after) c.in_default-argument_at.ensures
+    ∙ ap (numbered arguments (digits_value 10 0 digits)) c.in-Some.ensures
+    ∙ argument_missing (map operand_seen c.args.arguments.now) (digits_value 10 0 digits) (formatted arguments after) c.in_default-argument_at.ensures
 
 pub returns : goal.returns
 returns c =
@@ -55,6 +56,6 @@ returns c =
     let shorter : length rest ≤ length text = omega (arith, rest_shorter is_digit text rest c.split_digits.ensures.back) in
     let longer : length rest ≡ 1 + length after = ap length c.in-Some.ensures ∙ omega arith in
     let meaning = opened_digits arguments text digits rest c.split_digits.ensures.front c.split_digits.ensures.back some
-    ∙ ap (numbered arguments (place_from 0 digits)) c.in-Some.ensures
-    ∙ argument_found (map operand_seen c.args.arguments.now) (place_from 0 digits) (kind_seen c.in-Some-argument_at.kind) (formatted arguments after) c.in-Some-argument_at.ensures in
+    ∙ ap (numbered arguments (digits_value 10 0 digits)) c.in-Some.ensures
+    ∙ argument_found (map operand_seen c.args.arguments.now) (digits_value 10 0 digits) (kind_seen c.in-Some-argument_at.kind) (formatted arguments after) c.in-Some-argument_at.ensures in
     (ap (λ o. ended o (formatted arguments after)) c.in_ok-push_kind.ensures ∙ ended_grown c.args.bounded.now bytes (formatted arguments after) ∙ ap (ended c.args.bounded.now) (sym meaning), omega arith)

@@ -41,7 +41,7 @@ value_over n bs over =
     let test : nat_le (digits_value 10 n bs) greatest ≡ false = grind (arith, nat_tests) in
     ap (λ (v : Bool). if v then Ok (Some (digits_value 10 n bs)) else Err NotWhole) test
 
-digit_is : (b : ℕ) → 48 ≤ b → b ≤ 57 → digit_value b ≡ b - 48
+pub digit_is : (b : ℕ) → 48 ≤ b → b ≤ 57 → digit_value b ≡ b - 48
 digit_is b low high = grind (arith, nat_tests)
 
 -- The next digit.
