@@ -2,7 +2,7 @@ pub mod Answer
 pub mod BoardText
 pub mod Document
 pub mod EntryDocument
-pub mod JobParts
+pub mod Fields
 pub mod Lines
 pub mod Load
 pub mod Outline

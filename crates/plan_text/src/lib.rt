@@ -12,6 +12,7 @@ mod entry;
 mod entry_reading;
 mod entry_writing;
 mod fault;
+mod fields;
 mod job_reading;
 mod json_text;
 mod outline;
