@@ -3,8 +3,10 @@ pub mod Fitting
 pub mod Laws
 mod LineLemmas
 mod LoadLemmas
+mod Numerals
 mod OneLine
 mod OutlineLaws
 pub mod PlanLaws
+mod PrintedLaws
 mod RecordLemmas
 mod Steps

@@ -28,7 +28,7 @@ use Rattle.plan_text.proofs.PlanLaws.{text_or_null, group_or_null, values_reads,
 -- ---- a text
 
 -- what is printed of an outline is read as what it stands for
-read-printed : (j : Json) → HasNumbers j → depth j ≤ 127 → read (print (json_tokens j)) ≡ of_json j
+pub read-printed : (j : Json) → HasNumbers j → depth j ≤ 127 → read (print (json_tokens j)) ≡ of_json j
 read-printed j numbers low =
     ap (λ r. option_and_then of_json (option_and_then (λ p. if_last p.0 p.1) r))
     (ap (value 127) (tokens-print (json_tokens j) (ArePrintable-json_tokens j numbers) ∙ sym (append-nil (json_tokens j))) ∙ value-json_tokens j 127 [] low)

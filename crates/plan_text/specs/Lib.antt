@@ -7,5 +7,6 @@ pub mod Lines
 pub mod Load
 pub mod Outline
 pub mod Parts
+pub mod PrintedEntry
 pub mod Reading
 pub mod Record

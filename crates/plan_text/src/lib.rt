@@ -19,6 +19,7 @@ mod outline;
 mod plan;
 mod plan_reading;
 mod plan_writing;
+mod printed;
 mod reading;
 mod record;
 mod writing;
