@@ -1,3 +1,4 @@
+mod BoardLaws
 pub mod EntryLaws
 pub mod Fitting
 pub mod Laws

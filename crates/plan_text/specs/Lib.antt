@@ -1,4 +1,5 @@
 pub mod Answer
+pub mod BoardNumbers
 pub mod BoardText
 pub mod Document
 pub mod EntryDocument
