@@ -1,10 +1,13 @@
+mod BoardLaws
 pub mod EntryLaws
 pub mod Fitting
 pub mod Laws
 mod LineLemmas
 mod LoadLemmas
+mod Numerals
 mod OneLine
 mod OutlineLaws
 pub mod PlanLaws
+mod PrintedLaws
 mod RecordLemmas
 mod Steps

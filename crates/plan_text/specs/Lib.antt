@@ -1,11 +1,13 @@
 pub mod Answer
+pub mod BoardNumbers
 pub mod BoardText
 pub mod Document
 pub mod EntryDocument
-pub mod JobParts
+pub mod Fields
 pub mod Lines
 pub mod Load
 pub mod Outline
 pub mod Parts
+pub mod PrintedEntry
 pub mod Reading
 pub mod Record

@@ -1,28 +1,37 @@
 -- The outline of a text: its JSON as it is spelled, before it is turned to data.
-use Rattle.std.specs.Prelude.{◌≡◌, ◌≤◌, Some, Ok}
-use Rattle.json.specs.Json.{Json}
-use Rattle.json.specs.Tree.{depth, HasNumbers}
-use Rattle.serde_json.specs.Data.{Data}
-use Rattle.serde_json.specs.Read.{of_json}
-use Rattle.flow_model.specs.declared.plan.RunPlan.{RunPlan}
-use Rattle.plan_text.specs.Document.{job_data}
-use Rattle.plan_text.specs.Parts.{Reading, list_data, optional_of, text_of}
-use Rattle.plan_text.specs.Reading.{values_of, group_of, roots_of}
+use Rattle.std.specs.Prelude.{◌≡◌, ◌≤◌, ℕ, List, [], ◌∷◌, Some, Ok}
+use Rattle.json.specs.Json as json
+use Rattle.json.specs.Tree.{depth, members_depth, HasNumbers, MembersHaveNumbers}
+use Rattle.serde_json.specs.Data.{Data, Members, put}
+use Rattle.serde_json.specs.Read.{of_json, of_members}
+use Rattle.plan_text.specs.Parts.{Reading}
 
 -- its numbers are numbers, and it nests to 127
-abbrev pub IsOutline : Json → Type 0
+abbrev pub IsOutline : json.Json → Type 0
 IsOutline j = HasNumbers j × (depth j ≤ 127)
 
+-- the same of the members of an object
+abbrev pub AreOutlines : json.Members → Type 0
+AreOutlines ms = MembersHaveNumbers ms × (members_depth ms ≤ 126)
+
 -- it stands for this data
-abbrev pub StandsFor : Json → Data → Type 0
+abbrev pub StandsFor : json.Json → Data → Type 0
 StandsFor j d = of_json j ≡ Some d
 
 -- this part is read of the data that it stands for
-abbrev pub IsReadOf : {A : Type 0} → (Data → Reading A) → Json → A → Type 0
+abbrev pub IsReadOf : {A : Type 0} → (Data → Reading A) → json.Json → A → Type 0
 IsReadOf reading j a = (d : Data) × ((of_json j ≡ Some d) × (reading d ≡ Ok a))
 
--- the members of a run are read of these
-abbrev pub IsRunOf : Json → Json → Json → Json → Json → Json → RunPlan → Type 0
-IsRunOf env event flow group jobs roots r =
-    IsReadOf values_of env r.env × (IsReadOf (optional_of text_of) event r.event × (IsReadOf text_of flow r.flow
-    × (IsReadOf (optional_of group_of) group r.group × (StandsFor jobs (list_data job_data r.jobs) × IsReadOf roots_of roots r.roots))))
+-- a part's document at the first key, and the others' at the other keys
+abbrev pub documents_at : {A B : Type 0} → (A → Data) → (List (List ℕ) → B → List (List ℕ × Data)) → List (List ℕ) → A × B → List (List ℕ × Data)
+documents_at of rest [] parts = []
+documents_at of rest (key ∷ keys) parts = (key, of parts.0) ∷ rest keys parts.1
+
+-- an object's members, after these were put into it one after the other
+abbrev pub put_each : List (List ℕ × Data) → Members → Members
+put_each [] found = found
+put_each (p ∷ ps) found = put_each ps (put p.0 p.1 found)
+
+-- the members of an object stand for these, whatever stands before them
+abbrev pub StandFor : json.Members → List (List ℕ × Data) → Type 0
+StandFor ms ps = (found : Members) → of_members ms found ≡ Some (put_each ps found)

@@ -7,12 +7,13 @@ ghost use Rattle.std.specs.Prelude.{◌≡◌, IfOk, Ok};
 ghost use Rattle.json.specs.Value.{value_view};
 ghost use Rattle.serde_json.specs.View.{view};
 ghost use Rattle.plan_text.specs.Load.{load};
-ghost use Rattle.plan_text.specs.Outline.{IsOutline, StandsFor, IsReadOf, IsRunOf};
-ghost use Rattle.plan_text.specs.Parts.{list_data};
+ghost use Rattle.plan_text.specs.Outline.{IsOutline, StandsFor, IsReadOf};
 
 use crate::json_text::read_json;
 use crate::reading::{FromJson, Unread, refused};
-use flow_model::{Broken, CheckedPlan, JobPlan, Plan, RunPlan, Sequence};
+use flow_model::{
+    Broken, CheckedPlan, Group, JobPlan, Mapping, Plan, Roots, RunPlan, Sequence, Text,
+};
 use json::{Error, Reader, Scratch};
 use serde_json::Value;
 use std::alloc::Global;
@@ -20,7 +21,7 @@ use std::alloc::Global;
 /// How deep a text may nest.
 const MAX_DEPTH: usize = 127;
 
-/// A part of a plan that is read piece by piece.
+/// A part of a plan that is read of its outline.
 trait FromOutline {
     ghost use Rattle.serde_json.specs.Data.{Data};
 
@@ -34,6 +35,81 @@ trait FromOutline {
         ensures { IfOk result (λ part. StandsFor (value_view outline.now) (document part)) };
 }
 
+/// A part that is read of its tree.
+fn part_of<T: FromJson>(alloc: Global, outline: &json::Value<'_>) -> Result<T, Unread>
+    requires { IsOutline (value_view outline.now) }
+    ensures { IfOk result (λ part. IsReadOf T.reading (value_view outline.now) part) }
+{
+    let tree = tree_of(alloc, outline)?;
+    T::from_json(alloc, &tree)
+}
+
+impl FromOutline for u64 {
+    ghost use Rattle.plan_text.specs.Parts.{number_data};
+
+    ghost document = { number_data };
+
+    fn from_outline(alloc: Global, outline: &json::Value<'_>) -> Result<u64, Unread> {
+        part_of(alloc, outline)
+    }
+}
+
+impl FromOutline for Text {
+    ghost use Rattle.serde_json.specs.Data.{string};
+
+    ghost document = { string };
+
+    fn from_outline(alloc: Global, outline: &json::Value<'_>) -> Result<Text, Unread> {
+        part_of(alloc, outline)
+    }
+}
+
+impl FromOutline for Option<Text> {
+    ghost use Rattle.serde_json.specs.Data.{string};
+    ghost use Rattle.plan_text.specs.Parts.{optional_data};
+
+    ghost document = { optional_data string };
+
+    fn from_outline(alloc: Global, outline: &json::Value<'_>) -> Result<Option<Text>, Unread> {
+        part_of(alloc, outline)
+    }
+}
+
+impl FromOutline for Option<Group> {
+    ghost use Rattle.plan_text.specs.Document.{group_data};
+    ghost use Rattle.plan_text.specs.Parts.{optional_data};
+
+    ghost document = { optional_data group_data };
+
+    fn from_outline(alloc: Global, outline: &json::Value<'_>) -> Result<Option<Group>, Unread> {
+        part_of(alloc, outline)
+    }
+}
+
+impl FromOutline for Mapping<flow_model::Value> {
+    ghost use Rattle.flow_model.specs.Json.{json_of};
+    ghost use Rattle.plan_text.specs.Parts.{map_data};
+
+    ghost document = { map_data json_of };
+
+    fn from_outline(
+        alloc: Global,
+        outline: &json::Value<'_>,
+    ) -> Result<Mapping<flow_model::Value>, Unread> {
+        part_of(alloc, outline)
+    }
+}
+
+impl FromOutline for Roots {
+    ghost use Rattle.plan_text.specs.Document.{roots_data};
+
+    ghost document = { roots_data };
+
+    fn from_outline(alloc: Global, outline: &json::Value<'_>) -> Result<Roots, Unread> {
+        part_of(alloc, outline)
+    }
+}
+
 impl FromOutline for JobPlan {
     ghost use Rattle.plan_text.specs.Document.{job_data};
 
@@ -41,6 +117,84 @@ impl FromOutline for JobPlan {
 
     fn from_outline(alloc: Global, outline: &json::Value<'_>) -> Result<JobPlan, Unread> {
         part_of(alloc, outline)
+    }
+}
+
+/// Members of an outline, up to the last: a part and the members after it, or none.
+trait OutlineFields {
+    ghost use Rattle.std.specs.Prelude.{ℕ, List, map};
+    ghost use Rattle.serde_json.specs.Data.{Data};
+    ghost use Rattle.json.specs.Value.{members_view};
+    ghost use Rattle.plan_text.specs.Outline.{AreOutlines, StandFor};
+
+    /// Their documents, at these keys.
+    ghost documents: { List (List ℕ) → Self → List (List ℕ × Data) };
+
+    fn read(
+        alloc: Global,
+        members: &[(&str, json::Value<'_>)],
+        keys: &[&str],
+    ) -> Result<Self, Unread>
+    where
+        Self: Sized,
+        requires { AreOutlines (members_view members.now) }
+        ensures { IfOk result (λ parts. StandFor (members_view members.now)
+            (documents (map (λ key. key.now) keys.now) parts)) };
+}
+
+impl OutlineFields for () {
+    ghost use Rattle.std.specs.Prelude.{[]};
+
+    ghost documents = { λ keys parts. [] };
+
+    fn read(alloc: Global, members: &[(&str, json::Value<'_>)], _: &[&str]) -> Result<(), Unread> {
+        if members.is_empty() {
+            Ok(())
+        } else {
+            Err(refused(alloc, ""))
+        }
+    }
+}
+
+impl<A: FromOutline + Drop, R: OutlineFields> OutlineFields for (A, R) {
+    ghost use Rattle.plan_text.specs.Outline.{documents_at};
+
+    ghost documents = { documents_at A.document R.documents };
+
+    fn read(
+        alloc: Global,
+        members: &[(&str, json::Value<'_>)],
+        keys: &[&str],
+    ) -> Result<(A, R), Unread> {
+        let [member, members @ ..] = members else {
+            return Err(refused(alloc, ""));
+        };
+        let [key, keys @ ..] = keys else {
+            return Err(refused(alloc, ""));
+        };
+        if member.0 != *key {
+            return Err(refused(alloc, ""));
+        }
+        let first = A::from_outline(alloc, &member.1)?;
+        Ok((first, R::read(alloc, members, keys)?))
+    }
+}
+
+impl<T: FromOutline + Drop> FromOutline for Sequence<T> {
+    ghost use Rattle.plan_text.specs.Parts.{list_data};
+
+    ghost document = { list_data T.document };
+
+    fn from_outline(alloc: Global, outline: &json::Value<'_>) -> Result<Sequence<T>, Unread> {
+        let json::Value::Array(items) = outline else {
+            return Err(refused(alloc, ""));
+        };
+        let from = items.as_slice();
+        let mut parts = Sequence::empty(alloc);
+        for item in from {
+            parts.push(T::from_outline(alloc, item)?)?;
+        }
+        Ok(parts)
     }
 }
 
@@ -53,54 +207,21 @@ impl FromOutline for RunPlan {
         let json::Value::Object(members) = outline else {
             return Err(refused(alloc, ""));
         };
-        let [env, event, flow, group, jobs, roots] = members.as_slice() else {
-            return Err(refused(alloc, ""));
-        };
-        if env.0 != "env" || event.0 != "event" || flow.0 != "flow" {
-            return Err(refused(alloc, ""));
-        }
-        if group.0 != "group" || jobs.0 != "jobs" || roots.0 != "roots" {
-            return Err(refused(alloc, ""));
-        }
-        run_of(
-            alloc, &env.1, &event.1, &flow.1, &group.1, &jobs.1, &roots.1,
-        )
+        let keys = ["env", "event", "flow", "group", "jobs", "roots"];
+        let (env, (event, (flow, (group, (jobs, (roots, ())))))) = OutlineFields::read(
+            alloc,
+            members.as_slice(),
+            &keys,
+        )?;
+        Ok(RunPlan {
+            env,
+            event,
+            flow,
+            group,
+            jobs,
+            roots,
+        })
     }
-}
-
-/// A run of the outlines of its members.
-fn run_of(
-    alloc: Global,
-    env: &json::Value<'_>,
-    event: &json::Value<'_>,
-    flow: &json::Value<'_>,
-    group: &json::Value<'_>,
-    jobs: &json::Value<'_>,
-    roots: &json::Value<'_>,
-) -> Result<RunPlan, Unread>
-    requires env { IsOutline (value_view env.now) }
-    requires event { IsOutline (value_view event.now) }
-    requires flow { IsOutline (value_view flow.now) }
-    requires group { IsOutline (value_view group.now) }
-    requires jobs { IsOutline (value_view jobs.now) }
-    requires roots { IsOutline (value_view roots.now) }
-    ensures { IfOk result (λ run. IsRunOf (value_view env.now) (value_view event.now) (value_view flow.now)
-        (value_view group.now) (value_view jobs.now) (value_view roots.now) run) }
-{
-    let env = part_of(alloc, env)?;
-    let event = part_of(alloc, event)?;
-    let flow = part_of(alloc, flow)?;
-    let group = part_of(alloc, group)?;
-    let jobs = parts_of(alloc, jobs)?;
-    let roots = part_of(alloc, roots)?;
-    Ok(RunPlan {
-        env,
-        event,
-        flow,
-        group,
-        jobs,
-        roots,
-    })
 }
 
 impl FromOutline for Plan {
@@ -112,18 +233,17 @@ impl FromOutline for Plan {
         let json::Value::Object(members) = outline else {
             return Err(refused(alloc, ""));
         };
-        let [runs, version] = members.as_slice() else {
-            return Err(refused(alloc, ""));
-        };
-        if runs.0 != "runs" || version.0 != "version" {
-            return Err(refused(alloc, ""));
+        let keys = ["runs", "version"];
+        let (runs, (version, ())): (Sequence<RunPlan>, (u64, ())) = OutlineFields::read(
+            alloc,
+            members.as_slice(),
+            &keys,
+        )?;
+        if version == 1 {
+            Ok(Plan { runs })
+        } else {
+            Err(refused(alloc, ""))
         }
-        let number: u64 = part_of(alloc, &version.1)?;
-        if number != 1 {
-            return Err(refused(alloc, ""));
-        }
-        let runs = parts_of(alloc, &runs.1)?;
-        Ok(Plan { runs })
     }
 }
 
@@ -137,34 +257,6 @@ fn tree_of(alloc: Global, outline: &json::Value<'_>) -> Result<Value, Unread>
         Some(tree) => Ok(tree),
         None => Err(refused(alloc, "")),
     }
-}
-
-/// A part that is read of its tree.
-fn part_of<T: FromJson>(alloc: Global, outline: &json::Value<'_>) -> Result<T, Unread>
-    requires { IsOutline (value_view outline.now) }
-    ensures { IfOk result (λ part. IsReadOf T.reading (value_view outline.now) part) }
-{
-    let tree = tree_of(alloc, outline)?;
-    T::from_json(alloc, &tree)
-}
-
-/// A list of parts, one after the other.
-fn parts_of<T: FromOutline + Drop>(
-    alloc: Global,
-    outline: &json::Value<'_>,
-) -> Result<Sequence<T>, Unread>
-    requires { IsOutline (value_view outline.now) }
-    ensures { IfOk result (λ parts. StandsFor (value_view outline.now) (list_data T.document parts)) }
-{
-    let json::Value::Array(items) = outline else {
-        return Err(refused(alloc, ""));
-    };
-    let from = items.as_slice();
-    let mut parts = Sequence::empty(alloc);
-    for item in from {
-        parts.push(T::from_outline(alloc, item)?)?;
-    }
-    Ok(parts)
 }
 
 /// The plan whose document a text is, spelled in the order in which it is printed.

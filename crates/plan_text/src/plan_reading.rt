@@ -3,6 +3,7 @@ ghost use Rattle.serde_json.specs.View.{view};
 ghost use Rattle.plan_text.specs.Answer.{GivesIt};
 ghost use Rattle.plan_text.specs.Reading.{script_of, action_of};
 
+use crate::fields::{Fields, read_object};
 use crate::reading::{
     FromJson, Unread, expect_number, expect_word, field, has_word, members_of, no_more, refused,
 };
@@ -30,10 +31,7 @@ impl FromJson for Group {
     ghost reading = { group_of };
 
     fn from_json(alloc: Global, json: &Value) -> Result<Group, Unread> {
-        let mut members = members_of(alloc, json)?;
-        let cancel = field(alloc, &mut members, "cancel")?;
-        let name = field(alloc, &mut members, "name")?;
-        no_more(alloc, &mut members)?;
+        let (cancel, (name, ())) = read_object(alloc, json, &["cancel", "name"])?;
         Ok(Group { cancel, name })
     }
 }
@@ -44,12 +42,8 @@ impl FromJson for Roots {
     ghost reading = { roots_of };
 
     fn from_json(alloc: Global, json: &Value) -> Result<Roots, Unread> {
-        let mut members = members_of(alloc, json)?;
-        let github = field(alloc, &mut members, "github")?;
-        let inputs = field(alloc, &mut members, "inputs")?;
-        let secrets = field(alloc, &mut members, "secrets")?;
-        let vars = field(alloc, &mut members, "vars")?;
-        no_more(alloc, &mut members)?;
+        let keys = ["github", "inputs", "secrets", "vars"];
+        let (github, (inputs, (secrets, (vars, ())))) = read_object(alloc, json, &keys)?;
         Ok(Roots {
             github,
             inputs,
@@ -95,9 +89,7 @@ fn read_script(alloc: Global, json: &Value) -> Result<Work, Unread>
     let mut members = members_of(alloc, json)?;
     let dir = field(alloc, &mut members, "dir")?;
     expect_word(alloc, &mut members, "kind", "run")?;
-    let run = field(alloc, &mut members, "run")?;
-    let shell = field(alloc, &mut members, "shell")?;
-    no_more(alloc, &mut members)?;
+    let (run, (shell, ())) = Fields::read(alloc, &mut members, &["run", "shell"])?;
     Ok(Work::Run { dir, run, shell })
 }
 
@@ -106,9 +98,7 @@ fn read_action(alloc: Global, json: &Value) -> Result<Work, Unread>
 {
     let mut members = members_of(alloc, json)?;
     expect_word(alloc, &mut members, "kind", "uses")?;
-    let uses = field(alloc, &mut members, "uses")?;
-    let given = field(alloc, &mut members, "with")?;
-    no_more(alloc, &mut members)?;
+    let (uses, (given, ())) = Fields::read(alloc, &mut members, &["uses", "with"])?;
     Ok(Work::Uses { uses, given })
 }
 
@@ -118,14 +108,10 @@ impl FromJson for StepPlan {
     ghost reading = { step_of };
 
     fn from_json(alloc: Global, json: &Value) -> Result<StepPlan, Unread> {
-        let mut members = members_of(alloc, json)?;
-        let condition = field(alloc, &mut members, "condition")?;
-        let env = field(alloc, &mut members, "env")?;
-        let id = field(alloc, &mut members, "id")?;
-        let name = field(alloc, &mut members, "name")?;
-        let tolerate = field(alloc, &mut members, "tolerate")?;
-        let work = field(alloc, &mut members, "work")?;
-        no_more(alloc, &mut members)?;
+        let keys = ["condition", "env", "id", "name", "tolerate", "work"];
+        let (condition, (env, (id, (name, (tolerate, (work, ())))))) = read_object(
+            alloc, json, &keys,
+        )?;
         Ok(StepPlan {
             condition,
             env,
@@ -143,14 +129,8 @@ impl FromJson for RunPlan {
     ghost reading = { run_of };
 
     fn from_json(alloc: Global, json: &Value) -> Result<RunPlan, Unread> {
-        let mut members = members_of(alloc, json)?;
-        let env = field(alloc, &mut members, "env")?;
-        let event = field(alloc, &mut members, "event")?;
-        let flow = field(alloc, &mut members, "flow")?;
-        let group = field(alloc, &mut members, "group")?;
-        let jobs = field(alloc, &mut members, "jobs")?;
-        let roots = field(alloc, &mut members, "roots")?;
-        no_more(alloc, &mut members)?;
+        let keys = ["env", "event", "flow", "group", "jobs", "roots"];
+        let (env, (event, (flow, (group, (jobs, (roots, ())))))) = read_object(alloc, json, &keys)?;
         Ok(RunPlan {
             env,
             event,

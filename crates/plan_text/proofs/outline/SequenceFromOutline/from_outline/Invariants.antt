@@ -3,7 +3,7 @@ use Rattle.json.specs.Tree.{items_depth, ItemsHaveNumbers}
 use Rattle.json.specs.Value.{items_view}
 use Rattle.serde_json.specs.Read.{of_items}
 use Rattle.plan_text.proofs.OutlineLaws.{before}
-use Rattle.plan_text.proofs.outline.parts_of.Given as goal
+use Rattle.plan_text.proofs.outline.SequenceFromOutline.from_outline.Given as goal
 
 -- what was read stands before what is left, and that is an outline
 abbrev pub invariant-loop-item : goal.invariant-loop-item

@@ -8,7 +8,7 @@ use Rattle.serde_json.specs.Data as held
 use Rattle.serde_json.specs.Read.{of_json, of_items}
 use Rattle.serde_json.specs.View.{items_of}
 use Rattle.plan_text.proofs.OutlineLaws.{before, before-none, one_more}
-use Rattle.plan_text.proofs.outline.parts_of.Goals as goal
+use Rattle.plan_text.proofs.outline.SequenceFromOutline.from_outline.Goals as goal
 
 pub loop-item-preserved : goal.loop-item-preserved
 loop-item-preserved g c =
