@@ -1,18 +1,8 @@
-// actrun: the program. `main` gathers words, input and writers, and `run` hands them to a command.
-//
-// Each command is one public function over readers and two writers, which carries the theorem of what it writes:
-// `table` writes the text of the board after the record that it reads, `eval` the value of an expression, or one line
-// that says why there is none. It stands on `plan_text`, which reads records and prints boards, on `status_table`, which
-// plays them, and on `expr_reader` and `expr_value`, which read expressions and evaluate them.
+// actrun: the program. `main` gathers words, input and writers, and `run` hands them to a command of `commands`.
 #![tactic(auto)]
 
-mod contexts;
-mod eval;
-mod play;
-mod table;
 #[cfg(test)]
 mod tests;
-mod trouble;
 mod words;
 
 use std::io::{ErrorKind, Write};

@@ -1,6 +1,6 @@
 // The command line: which command its words ask for.
-use crate::eval::eval;
-use crate::table::table;
+use commands::eval::eval;
+use commands::table::table;
 use clap::error::ErrorKind;
 use clap::{Arg, ArgMatches, Command, Error};
 use std::alloc::{AllocError, Global};
@@ -9,7 +9,7 @@ use std::io;
 use std::io::{Read, Write};
 
 /// The commands, one level deep.
-fn commands<'a>(alloc: Global) -> Result<Command<'a>, AllocError> {
+fn known_commands<'a>(alloc: Global) -> Result<Command<'a>, AllocError> {
     let table = Command::new(alloc, "table");
     let eval = Command::new(alloc, "eval")
         .arg(Arg::new(alloc, "contexts").long("contexts"))?
@@ -55,8 +55,8 @@ pub fn run<F: Files, R: Read, O: Write, E: Write>(
     out: &mut O,
     err: &mut E,
 ) -> io::Result<u8> {
-    let matched = match commands(alloc) {
-        Ok(commands) => commands.try_get_matches_from(words),
+    let matched = match known_commands(alloc) {
+        Ok(known) => known.try_get_matches_from(words),
         Err(_) => return refuse_memory(err),
     };
     match matched {

@@ -1,5 +1,5 @@
 // The examples of expressions, told from text to text.
-use crate::eval::eval;
+use commands::eval::eval;
 use crate::words::run;
 use std::alloc::Global;
 use std::fs::Files;

@@ -1,6 +1,6 @@
 // The examples of the table, told from text to text.
 use super::P1;
-use crate::table::table;
+use commands::table::table;
 use flow_model::{Entry, Event};
 use plan_text::{board_text, load_record, read_entry};
 use status_table::{EventFault, PlainBoard, Table, run_entries};

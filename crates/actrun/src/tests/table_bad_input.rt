@@ -1,7 +1,7 @@
 // What bad input gets: the record of one job cut, garbled and put in another order. Each is told as a board on `out`
 // alone, or in one line on `err` alone.
 use super::P1;
-use crate::table::table;
+use commands::table::table;
 use std::alloc::Global;
 use std::io;
 use std::process::Abort;
