@@ -3,6 +3,7 @@ pub mod BoardNumbers
 pub mod BoardText
 pub mod Document
 pub mod EntryDocument
+pub mod Fault
 pub mod Fields
 pub mod Lines
 pub mod Load

@@ -1,9 +1,10 @@
 -- The outline of a text: its JSON as it is spelled, before it is turned to data.
-use Rattle.std.specs.Prelude.{◌≡◌, ◌≤◌, ℕ, List, [], ◌∷◌, Some, Ok}
+use Rattle.std.specs.Prelude.{◌≡◌, ◌≤◌, ℕ, List, Some, Ok}
 use Rattle.json.specs.Json as json
 use Rattle.json.specs.Tree.{depth, members_depth, HasNumbers, MembersHaveNumbers}
-use Rattle.serde_json.specs.Data.{Data, Members, put}
+use Rattle.serde_json.specs.Data.{Data, Members}
 use Rattle.serde_json.specs.Read.{of_json, of_members}
+use Rattle.plan_text.specs.Fields.{put_each}
 use Rattle.plan_text.specs.Parts.{Reading}
 
 -- its numbers are numbers, and it nests to 127
@@ -21,16 +22,6 @@ StandsFor j d = of_json j ≡ Some d
 -- this part is read of the data that it stands for
 abbrev pub IsReadOf : {A : Type 0} → (Data → Reading A) → json.Json → A → Type 0
 IsReadOf reading j a = (d : Data) × ((of_json j ≡ Some d) × (reading d ≡ Ok a))
-
--- a part's document at the first key, and the others' at the other keys
-abbrev pub documents_at : {A B : Type 0} → (A → Data) → (List (List ℕ) → B → List (List ℕ × Data)) → List (List ℕ) → A × B → List (List ℕ × Data)
-documents_at of rest [] parts = []
-documents_at of rest (key ∷ keys) parts = (key, of parts.0) ∷ rest keys parts.1
-
--- an object's members, after these were put into it one after the other
-abbrev pub put_each : List (List ℕ × Data) → Members → Members
-put_each [] found = found
-put_each (p ∷ ps) found = put_each ps (put p.0 p.1 found)
 
 -- the members of an object stand for these, whatever stands before them
 abbrev pub StandFor : json.Members → List (List ℕ × Data) → Type 0

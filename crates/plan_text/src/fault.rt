@@ -1,5 +1,6 @@
 // Why a text is refused.
 ghost use Rattle.std.specs.Prelude.{◌≡◌};
+ghost use Rattle.plan_text.specs.Fault.{load_fault_name};
 
 use flow_model::Text;
 use std::alloc::{AllocError, AllocFailed};
@@ -9,21 +10,36 @@ use thiserror::Error;
 #[derive(Debug, Drop, Error)]
 pub enum LoadFault {
     /// It is no JSON (RFC 8259).
-    #[error("NotJson")]
+    #[error("{}", self.name())]
     NotJson,
     /// It is an object whose `version` is missing or not 1.
-    #[error("Version")]
+    #[error("{}", self.name())]
     Version,
     /// It is no plan's document, or the plan breaks a rule, or not all of it is offered so far: the path from
     /// the root, keys and places joined by dots.
-    #[error("NotPlan({0:?})")]
+    #[error("{name}({0:?})", name = self.name())]
     NotPlan(Text),
     /// This line, from 1, is no entry.
-    #[error("NotEntry({0})")]
+    #[error("{name}({0})", name = self.name())]
     NotEntry(u64),
     /// There is no memory.
-    #[error("Memory")]
+    #[error("{}", self.name())]
     Memory,
+}
+
+impl LoadFault {
+    /// The fault's name, as it is printed.
+    pub fn name(&self) -> &'static str
+        ensures { result.now ≡ load_fault_name self.now }
+    {
+        match self {
+            LoadFault::NotJson => "NotJson",
+            LoadFault::Version => "Version",
+            LoadFault::NotPlan(_) => "NotPlan",
+            LoadFault::NotEntry(_) => "NotEntry",
+            LoadFault::Memory => "Memory",
+        }
+    }
 }
 
 impl From<AllocError> for LoadFault {

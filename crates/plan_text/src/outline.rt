@@ -157,7 +157,7 @@ impl OutlineFields for () {
 }
 
 impl<A: FromOutline + Drop, R: OutlineFields> OutlineFields for (A, R) {
-    ghost use Rattle.plan_text.specs.Outline.{documents_at};
+    ghost use Rattle.plan_text.specs.Fields.{documents_at};
 
     ghost documents = { documents_at A.document R.documents };
 

@@ -1,7 +1,7 @@
 // The document of a plan and of each of its parts, object by object.
-use crate::writing::{ToJson, put, put_word};
+use crate::writing::{ToJson, Word, object};
 use flow_model::{Flag, Group, JobPlan, Plan, Roots, RunPlan, Shell, StepPlan, Work};
-use serde_json::{Map, Value};
+use serde_json::Value;
 use std::alloc::{AllocError, Global};
 
 impl ToJson for Flag {
@@ -23,10 +23,9 @@ impl ToJson for Group {
     ghost writing = { group_data };
 
     fn to_json(&self, alloc: Global) -> Result<Value, AllocError> {
-        let mut members = Map::new(alloc);
-        put(alloc, &mut members, "cancel", &self.cancel)?;
-        put(alloc, &mut members, "name", &self.name)?;
-        Ok(Value::Object(members))
+        let keys = ["cancel", "name"];
+        let parts = (&self.cancel, (&self.name, ()));
+        object(alloc, &keys, parts)
     }
 }
 
@@ -36,12 +35,12 @@ impl ToJson for Roots {
     ghost writing = { roots_data };
 
     fn to_json(&self, alloc: Global) -> Result<Value, AllocError> {
-        let mut members = Map::new(alloc);
-        put(alloc, &mut members, "github", &self.github)?;
-        put(alloc, &mut members, "inputs", &self.inputs)?;
-        put(alloc, &mut members, "secrets", &self.secrets)?;
-        put(alloc, &mut members, "vars", &self.vars)?;
-        Ok(Value::Object(members))
+        let keys = ["github", "inputs", "secrets", "vars"];
+        let parts = (
+            &self.github,
+            (&self.inputs, (&self.secrets, (&self.vars, ()))),
+        );
+        object(alloc, &keys, parts)
     }
 }
 
@@ -56,8 +55,7 @@ impl ToJson for Shell {
             Shell::Sh => "sh",
             Shell::Bash => "bash",
         };
-        let word = String::from_str(alloc, word)?;
-        Ok(Value::String(word))
+        Word(word).to_json(alloc)
     }
 }
 
@@ -67,20 +65,14 @@ impl ToJson for Work {
     ghost writing = { work_data };
 
     fn to_json(&self, alloc: Global) -> Result<Value, AllocError> {
-        let mut members = Map::new(alloc);
         match self {
             Work::Run { dir, run, shell } => {
-                put(alloc, &mut members, "dir", dir)?;
-                put_word(alloc, &mut members, "kind", "run")?;
-                put(alloc, &mut members, "run", run)?;
-                put(alloc, &mut members, "shell", shell)?;
-                Ok(Value::Object(members))
+                let keys = ["dir", "kind", "run", "shell"];
+                object(alloc, &keys, (dir, (&Word("run"), (run, (shell, ())))))
             },
             Work::Uses { uses, given } => {
-                put_word(alloc, &mut members, "kind", "uses")?;
-                put(alloc, &mut members, "uses", uses)?;
-                put(alloc, &mut members, "with", given)?;
-                Ok(Value::Object(members))
+                let keys = ["kind", "uses", "with"];
+                object(alloc, &keys, (&Word("uses"), (uses, (given, ()))))
             },
         }
     }
@@ -92,14 +84,15 @@ impl ToJson for StepPlan {
     ghost writing = { step_data };
 
     fn to_json(&self, alloc: Global) -> Result<Value, AllocError> {
-        let mut members = Map::new(alloc);
-        put(alloc, &mut members, "condition", &self.condition)?;
-        put(alloc, &mut members, "env", &self.env)?;
-        put(alloc, &mut members, "id", &self.id)?;
-        put(alloc, &mut members, "name", &self.name)?;
-        put(alloc, &mut members, "tolerate", &self.tolerate)?;
-        put(alloc, &mut members, "work", &self.work)?;
-        Ok(Value::Object(members))
+        let keys = ["condition", "env", "id", "name", "tolerate", "work"];
+        let parts = (
+            &self.condition,
+            (
+                &self.env,
+                (&self.id, (&self.name, (&self.tolerate, (&self.work, ())))),
+            ),
+        );
+        object(alloc, &keys, parts)
     }
 }
 
@@ -109,21 +102,29 @@ impl ToJson for JobPlan {
     ghost writing = { job_data };
 
     fn to_json(&self, alloc: Global) -> Result<Value, AllocError> {
-        let mut members = Map::new(alloc);
-        put(alloc, &mut members, "condition", &self.condition)?;
-        put(alloc, &mut members, "env", &self.env)?;
-        put(alloc, &mut members, "fail_fast", &self.fail_fast)?;
-        put(alloc, &mut members, "group", &self.group)?;
-        put(alloc, &mut members, "id", &self.id)?;
-        put(alloc, &mut members, "legs", &self.legs)?;
-        put(alloc, &mut members, "max_parallel", &self.max_parallel)?;
-        put(alloc, &mut members, "name", &self.name)?;
-        put(alloc, &mut members, "needs", &self.needs)?;
-        put(alloc, &mut members, "number", &self.number)?;
-        put(alloc, &mut members, "outputs", &self.outputs)?;
-        put(alloc, &mut members, "steps", &self.steps)?;
-        put(alloc, &mut members, "tolerate", &self.tolerate)?;
-        Ok(Value::Object(members))
+        let keys = [
+            "condition",
+            "env",
+            "fail_fast",
+            "group",
+            "id",
+            "legs",
+            "max_parallel",
+            "name",
+            "needs",
+            "number",
+            "outputs",
+            "steps",
+            "tolerate",
+        ];
+        let tail = (&self.outputs, (&self.steps, (&self.tolerate, ())));
+        let tail = (&self.name, (&self.needs, (&self.number, tail)));
+        let tail = (&self.id, (&self.legs, (&self.max_parallel, tail)));
+        let parts = (
+            &self.condition,
+            (&self.env, (&self.fail_fast, (&self.group, tail))),
+        );
+        object(alloc, &keys, parts)
     }
 }
 
@@ -133,14 +134,15 @@ impl ToJson for RunPlan {
     ghost writing = { run_data };
 
     fn to_json(&self, alloc: Global) -> Result<Value, AllocError> {
-        let mut members = Map::new(alloc);
-        put(alloc, &mut members, "env", &self.env)?;
-        put(alloc, &mut members, "event", &self.event)?;
-        put(alloc, &mut members, "flow", &self.flow)?;
-        put(alloc, &mut members, "group", &self.group)?;
-        put(alloc, &mut members, "jobs", &self.jobs)?;
-        put(alloc, &mut members, "roots", &self.roots)?;
-        Ok(Value::Object(members))
+        let keys = ["env", "event", "flow", "group", "jobs", "roots"];
+        let parts = (
+            &self.env,
+            (
+                &self.event,
+                (&self.flow, (&self.group, (&self.jobs, (&self.roots, ())))),
+            ),
+        );
+        object(alloc, &keys, parts)
     }
 }
 
@@ -150,9 +152,8 @@ impl ToJson for Plan {
     ghost writing = { document };
 
     fn to_json(&self, alloc: Global) -> Result<Value, AllocError> {
-        let mut members = Map::new(alloc);
-        put(alloc, &mut members, "runs", &self.runs)?;
-        put(alloc, &mut members, "version", &1u64)?;
-        Ok(Value::Object(members))
+        let keys = ["runs", "version"];
+        let parts = (&self.runs, (&1u64, ()));
+        object(alloc, &keys, parts)
     }
 }

@@ -1,7 +1,8 @@
 // How a part of a document is written as JSON.
-ghost use Rattle.std.specs.Prelude.{◌≡◌, IfOk, OnOk};
-ghost use Rattle.serde_json.specs.Data.{string, put as with_member};
+ghost use Rattle.std.specs.Prelude.{◌≡◌, IfOk, OnOk, map};
+ghost use Rattle.serde_json.specs.Data.{object, no_members, put as with_member};
 ghost use Rattle.serde_json.specs.View.{view, members_view};
+ghost use Rattle.plan_text.specs.Fields.{put_each};
 
 use flow_model::{Mapping, Sequence, Text};
 use serde_json::{Map, Value};
@@ -112,8 +113,23 @@ impl<T: ToJson> ToJson for Mapping<T> {
     }
 }
 
+/// A word of a document.
+#[derive(Clone, Copy)]
+pub(crate) struct Word(pub(crate) &'static str);
+
+impl ToJson for Word {
+    ghost use Rattle.serde_json.specs.Data.{string};
+
+    ghost writing = { λ word. string word.0.now };
+
+    fn to_json(&self, alloc: Global) -> Result<Value, AllocError> {
+        let text = String::from_str(alloc, self.0)?;
+        Ok(Value::String(text))
+    }
+}
+
 /// Adds a part to an object, at its key.
-pub(crate) fn put<T: ToJson>(
+fn put<T: ToJson>(
     alloc: Global,
     members: &mut Map<String, Value>,
     key: &str,
@@ -126,16 +142,72 @@ pub(crate) fn put<T: ToJson>(
     serde_json::put(members, alloc, key, part)
 }
 
-/// Adds a word to an object, at its key.
-pub(crate) fn put_word(
+/// Members of an object that are to be written: a part and the members after it, or none.
+pub(crate) trait Members {
+    ghost use Rattle.std.specs.Prelude.{ℕ, List, map};
+    ghost use Rattle.serde_json.specs.Data.{Data};
+    ghost use Rattle.plan_text.specs.Fields.{put_each};
+
+    /// Their documents, at these keys.
+    ghost documents: { List (List ℕ) → Self → List (List ℕ × Data) };
+
+    fn put_all(
+        self,
+        alloc: Global,
+        members: &mut Map<String, Value>,
+        keys: &[&str],
+    ) -> Result<(), AllocError>
+    where
+        Self: Sized,
+        ensures { OnOk result (members_view members.new.entries
+            ≡ put_each (documents (map (λ key. key.now) keys.now) self) (members_view members.old.entries)) };
+}
+
+impl Members for () {
+    ghost use Rattle.std.specs.Prelude.{[]};
+
+    ghost documents = { λ keys parts. [] };
+
+    fn put_all(
+        self,
+        _alloc: Global,
+        _: &mut Map<String, Value>,
+        _: &[&str],
+    ) -> Result<(), AllocError> {
+        Ok(())
+    }
+}
+
+impl<'a, A: ToJson, R: Members + Drop> Members for (&'a A, R) {
+    ghost use Rattle.plan_text.specs.Fields.{documents_at};
+
+    ghost documents = { documents_at (λ part. A.writing part.now) R.documents };
+
+    fn put_all(
+        self,
+        alloc: Global,
+        members: &mut Map<String, Value>,
+        keys: &[&str],
+    ) -> Result<(), AllocError> {
+        let [key, keys @ ..] = keys else {
+            return Ok(());
+        };
+        let (part, others) = self;
+        put(alloc, members, key, part)?;
+        others.put_all(alloc, members, keys)
+    }
+}
+
+/// The object that has these parts at these keys.
+pub(crate) fn object<M: Members>(
     alloc: Global,
-    members: &mut Map<String, Value>,
-    key: &str,
-    word: &str,
-) -> Result<(), AllocError>
-    ensures { OnOk result (members_view members.new.entries
-        ≡ with_member key.now (string word.now) (members_view members.old.entries)) }
+    keys: &[&str],
+    parts: M,
+) -> Result<Value, AllocError>
+    ensures { IfOk result (λ json. view json
+        ≡ object (put_each (M.documents (map (λ key. key.now) keys.now) parts) no_members)) }
 {
-    let word = String::from_str(alloc, word)?;
-    serde_json::put(members, alloc, key, Value::String(word))
+    let mut members = Map::new(alloc);
+    parts.put_all(alloc, &mut members, keys)?;
+    Ok(Value::Object(members))
 }
