@@ -1,3 +1,4 @@
+-- The lemmas, from the lowest on.
 mod Depths
 mod Stacks
 mod Complete

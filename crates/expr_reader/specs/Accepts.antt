@@ -1,4 +1,4 @@
--- What a text spells as a template or a condition, as functions, for definitions that have to compute.
+-- What a text spells as a template or a condition, as functions.
 use Rattle.std.specs.Prelude.{◌≡◌, ◌↔◌, ℕ, Bool, is_some, nat_le, if◌then◌else◌, Option, Some, None, IfSome, option_and_then, Result, Ok, Err, List, length}
 use Rattle.expr_reader.specs.Faults.{fault_at}
 use Rattle.expr_reader.specs.Reading.{Failure}
@@ -39,14 +39,16 @@ is_condition text = is_some (condition_read text)
 
 -- What is read as a template is what the text spells.
 abbrev pub TemplatesAreRead : Type 0
-TemplatesAreRead = (text : List ℕ) (ps : List Piece) → (template_read text ≡ Some ps) ↔ SpellsTemplate ps text
+TemplatesAreRead =
+    (text : List ℕ) (ps : List Piece) → (template_read text ≡ Some ps) ↔ SpellsTemplate ps text
 
 -- What is read as a condition is what the text spells.
 abbrev pub ConditionsAreRead : Type 0
-ConditionsAreRead = (text : List ℕ) (ps : List Piece) → (condition_read text ≡ Some ps) ↔ SpellsCondition ps text
+ConditionsAreRead =
+    (text : List ℕ) (ps : List Piece) → (condition_read text ≡ Some ps) ↔ SpellsCondition ps text
 
--- A template is answered where these are its pieces, and a fault other than want of memory where there
--- are none.
+-- A template is answered where these are its pieces, and a fault other than want of memory only
+-- where there are none.
 abbrev pub ReadsAs : Result Template ExprFault → Option (List Piece) → Type 0
 ReadsAs (Ok template) pieces = pieces ≡ Some (template_of template)
 ReadsAs (Err fault) pieces = IfSome (fault_at fault) (λ x. pieces ≡ None)

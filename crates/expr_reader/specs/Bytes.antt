@@ -1,10 +1,11 @@
 -- The bytes that tokens are made of.
 use Rattle.std.specs.Prelude.{◌≡◌, ℕ, Bool, true, ◌&&◌, ◌||◌, ◌==◌, nat_le, List, [], ◌∷◌, length, drop}
 use Rattle.std.specs.List.{prefix_len, list_all}
+use Rattle.expr_reader.specs.Codes.{tab, newline, carriage_return, space, plus, hyphen, dot, digit_0, digit_9, upper_a, upper_z, underscore, lower_a, lower_z}
 
 -- A space, a tab, a carriage return or a newline.
 abbrev pub is_white : ℕ → Bool
-is_white b = b == 32 || b == 9 || b == 13 || b == 10
+is_white b = b == space || b == tab || b == carriage_return || b == newline
 
 -- Nothing but white space.
 abbrev pub is_blank : List ℕ → Bool
@@ -15,26 +16,26 @@ abbrev pub skip_white : List ℕ → List ℕ
 skip_white bs = drop (prefix_len is_white bs) bs
 
 abbrev pub is_letter : ℕ → Bool
-is_letter b = nat_le 65 b && nat_le b 90 || nat_le 97 b && nat_le b 122
+is_letter b = nat_le upper_a b && nat_le b upper_z || nat_le lower_a b && nat_le b lower_z
 
 abbrev pub is_digit : ℕ → Bool
-is_digit b = nat_le 48 b && nat_le b 57
+is_digit b = nat_le digit_0 b && nat_le b digit_9
 
 -- What a name begins with: a letter or _.
 abbrev pub begins_name : ℕ → Bool
-begins_name b = is_letter b || b == 95
+begins_name b = is_letter b || b == underscore
 
 -- What a name goes on with: letters, digits, _ and -.
 abbrev pub is_name : ℕ → Bool
-is_name b = is_letter b || is_digit b || b == 95 || b == 45
+is_name b = is_letter b || is_digit b || b == underscore || b == hyphen
 
 -- What a number begins with: a digit or -.
 abbrev pub begins_number : ℕ → Bool
-begins_number b = is_digit b || b == 45
+begins_number b = is_digit b || b == hyphen
 
 -- What a number goes on with: letters, digits, _, ., + and -.
 abbrev pub is_number : ℕ → Bool
-is_number b = is_letter b || is_digit b || b == 95 || b == 46 || b == 43 || b == 45
+is_number b = is_letter b || is_digit b || b == underscore || b == dot || b == plus || b == hyphen
 
 -- The one byte c.
 abbrev pub is_byte : ℕ → ℕ → Bool

@@ -3,6 +3,7 @@ use Rattle.std.specs.Prelude.{ℕ, ℤ, Bool, true, false, ◌==◌, if◌then�
 use Rattle.std.specs.List.{prefix_len, find}
 use Rattle.std.specs.Str.{bytes_eq}
 use Rattle.expr_reader.specs.Bytes.{skip_white, begins_name, is_name, begins_number, is_number}
+use Rattle.expr_reader.specs.Codes.{exclamation, ampersand, quote, open_round, close_round, star, comma, dot, less, equals, greater, open_square, close_square, bar}
 use Rattle.expr_reader.specs.Expr.{null, truth, whole, quoted}
 use Rattle.expr_reader.specs.Fold.{fold}
 use Rattle.expr_reader.specs.Grammar.{Token, constant, root, callee, name, relational, equational, mark}
@@ -47,18 +48,29 @@ number_token None rest = Err BadNumber
 number_token (Some z) rest = Ok (constant (whole z), rest)
 
 abbrev pub number_at : List ℕ → Result Lexed Fault
-number_at bs = number_token (number_of (take (prefix_len is_number bs) bs)) (drop (prefix_len is_number bs) bs)
+number_at bs =
+    number_token (number_of (take (prefix_len is_number bs) bs)) (drop (prefix_len is_number bs) bs)
 
 -- The context of a name in small letters.
 abbrev pub context_named : List ℕ → Option Context
-context_named f = find (λ c. bytes_eq f (context_name c)) (Github ∷ Env ∷ Vars ∷ Job ∷ Jobs ∷ Steps ∷ Runner ∷ Secrets ∷ Strategy ∷ Matrix ∷ Needs ∷ Inputs ∷ [])
+context_named f =
+    find (λ c. bytes_eq f (context_name c))
+    (Github ∷ Env ∷ Vars ∷ Job ∷ Jobs ∷ Steps ∷ Runner ∷ Secrets ∷ Strategy ∷ Matrix ∷ Needs ∷ Inputs
+    ∷ [])
 
 -- The function of a name in small letters.
 abbrev pub function_named : List ℕ → Option Function
-function_named f = find (λ g. bytes_eq f (function_name g)) (Contains ∷ StartsWith ∷ EndsWith ∷ Format ∷ Join ∷ ToJson ∷ FromJson ∷ Success ∷ Failure ∷ Cancelled ∷ Always ∷ [])
+function_named f =
+    find (λ g. bytes_eq f (function_name g))
+    (Contains ∷ StartsWith ∷ EndsWith ∷ Format ∷ Join ∷ ToJson ∷ FromJson ∷ Success ∷ Failure
+    ∷ Cancelled ∷ Always ∷ [])
 
 abbrev pub literal_named : List ℕ → Option Token
-literal_named w = if bytes_eq w (codes "null") then Some (constant null) else if bytes_eq w (codes "true") then Some (constant (truth true)) else if bytes_eq w (codes "false") then Some (constant (truth false)) else None
+literal_named w =
+    if bytes_eq w (codes "null") then Some (constant null)
+    else if bytes_eq w (codes "true") then Some (constant (truth true))
+    else if bytes_eq w (codes "false") then Some (constant (truth false))
+    else None
 
 abbrev pub function_or_literal : Option Function → List ℕ → Option Token
 function_or_literal (Some f) w = Some (callee f)
@@ -74,7 +86,7 @@ named w = context_or_other (context_named (fold w)) w
 
 abbrev pub begins_call : List ℕ → Bool
 begins_call [] = false
-begins_call (b ∷ bs) = b == 40
+begins_call (b ∷ bs) = b == open_round
 
 abbrev pub known_token : Option Token → List ℕ → Result Lexed Fault
 known_token (Some t) rest = Ok (t, rest)
@@ -85,12 +97,13 @@ word_token true w rest = Ok (name w, rest)
 word_token false w rest = known_token (named w) rest
 
 abbrev pub word_at : Bool → List ℕ → Result Lexed Fault
-word_at dotted bs = word_token dotted (take (prefix_len is_name bs) bs) (drop (prefix_len is_name bs) bs)
+word_at dotted bs =
+    word_token dotted (take (prefix_len is_name bs) bs) (drop (prefix_len is_name bs) bs)
 
 -- One token, or the other where = follows.
 abbrev pub paired : Token → Token → List ℕ → Lexed
 paired one two [] = (one, [])
-paired one two (b ∷ bs) = if b == 61 then (two, bs) else (one, b ∷ bs)
+paired one two (b ∷ bs) = if b == equals then (two, bs) else (one, b ∷ bs)
 
 -- A token where the byte c follows.
 abbrev pub followed : ℕ → Token → List ℕ → Result Lexed Fault
@@ -100,25 +113,25 @@ followed c t (b ∷ bs) = if b == c then Ok (t, bs) else Err BadChar
 -- A token that begins with an operator's byte.
 abbrev pub operator_at : ℕ → List ℕ → Result Lexed Fault
 operator_at b bs =
-    if b == 40 then Ok (mark Open, bs)
-    else if b == 41 then Ok (mark Close, bs)
-    else if b == 91 then Ok (mark OpenIndex, bs)
-    else if b == 93 then Ok (mark CloseIndex, bs)
-    else if b == 46 then Ok (mark Dot, bs)
-    else if b == 44 then Ok (mark Comma, bs)
-    else if b == 42 then Ok (mark Star, bs)
-    else if b == 33 then Ok (paired (mark Not) (equational NotEqual) bs)
-    else if b == 60 then Ok (paired (relational Less) (relational AtMost) bs)
-    else if b == 62 then Ok (paired (relational Greater) (relational AtLeast) bs)
-    else if b == 61 then followed 61 (equational Equal) bs
-    else if b == 38 then followed 38 (mark Both) bs
-    else if b == 124 then followed 124 (mark Either) bs
+    if b == open_round then Ok (mark Open, bs)
+    else if b == close_round then Ok (mark Close, bs)
+    else if b == open_square then Ok (mark OpenIndex, bs)
+    else if b == close_square then Ok (mark CloseIndex, bs)
+    else if b == dot then Ok (mark Dot, bs)
+    else if b == comma then Ok (mark Comma, bs)
+    else if b == star then Ok (mark Star, bs)
+    else if b == exclamation then Ok (paired (mark Not) (equational NotEqual) bs)
+    else if b == less then Ok (paired (relational Less) (relational AtMost) bs)
+    else if b == greater then Ok (paired (relational Greater) (relational AtLeast) bs)
+    else if b == equals then followed equals (equational Equal) bs
+    else if b == ampersand then followed ampersand (mark Both) bs
+    else if b == bar then followed bar (mark Either) bs
     else Err BadChar
 
 -- The token that begins with these bytes.
 abbrev pub token_at : Bool → ℕ → List ℕ → Result Lexed Fault
 token_at dotted b bs =
-    if b == 39 then quoted_token (unquoted bs)
+    if b == quote then quoted_token (unquoted bs)
     else if begins_number b then number_at (b ∷ bs)
     else if begins_name b then word_at dotted (b ∷ bs)
     else operator_at b bs

@@ -1,6 +1,8 @@
+-- The definitions that contracts cite.
 pub mod Accepts
 pub mod Bytes
 pub mod Class
+pub mod Codes
 pub mod Expr
 pub mod Faults
 pub mod Fold

@@ -38,7 +38,7 @@ abbrev pub is_dotted : State → Bool
 is_dotted (dotted e s) = true
 is_dotted st = false
 
--- How tightly an operator that is open binds: one more than the level of its node. Brackets are no operators.
+-- How tightly an operator that is open binds: one more than the level of its node, and 0 for a bracket.
 abbrev pub binding : Part → ℕ
 binding (either_of es) = 1
 binding (both_of es) = 2

@@ -3,6 +3,7 @@ use Rattle.std.specs.Prelude.{ℕ, zero, suc, ◌+◌, ◌*◌, ℤ, pos, negsuc
 use Rattle.std.specs.Char.{digit_value}
 use Rattle.std.specs.List.{list_all}
 use Rattle.std.specs.Option.{option_map}
+use Rattle.expr_reader.specs.Codes.{hyphen, digit_0, lower_x}
 
 -- The greatest whole number; the least is its opposite.
 abbrev pub greatest : ℕ
@@ -19,7 +20,10 @@ is_digit_in base b = nat_lt (digit_value b) base
 
 -- The number of digits in a base that come after digits of value n, where it is in range.
 abbrev pub digits_from : ℕ → ℕ → List ℕ → Option ℕ
-digits_from base n bs = if list_all (is_digit_in base) bs && nat_le (digits_value base n bs) greatest then Some (digits_value base n bs) else None
+digits_from base n bs =
+    if list_all (is_digit_in base) bs && nat_le (digits_value base n bs) greatest
+    then Some (digits_value base n bs)
+    else None
 
 -- The number of one digit or more.
 abbrev pub digits_number : ℕ → List ℕ → Option ℕ
@@ -30,12 +34,12 @@ digits_number base (b ∷ bs) = digits_from base 0 (b ∷ bs)
 abbrev pub decimal_number : List ℕ → Option ℕ
 decimal_number [] = None
 decimal_number (b ∷ []) = digits_number 10 (b ∷ [])
-decimal_number (b ∷ c ∷ bs) = if b == 48 then None else digits_number 10 (b ∷ c ∷ bs)
+decimal_number (b ∷ c ∷ bs) = if b == digit_0 then None else digits_number 10 (b ∷ c ∷ bs)
 
 -- After a 0: nothing, or x and hexadecimal digits.
 abbrev pub after_zero : List ℕ → Option ℕ
 after_zero [] = Some 0
-after_zero (b ∷ bs) = if b == 120 then digits_number 16 bs else None
+after_zero (b ∷ bs) = if b == lower_x then digits_number 16 bs else None
 
 -- The opposite of a number.
 abbrev pub negative : ℕ → ℤ
@@ -46,4 +50,6 @@ negative (suc n) = negsuc n
 -- or 0x and hexadecimal digits.
 abbrev pub number_of : List ℕ → Option ℤ
 number_of [] = None
-number_of (b ∷ bs) = if b == 45 then option_map negative (decimal_number bs) else option_map pos (if b == 48 then after_zero bs else decimal_number (b ∷ bs))
+number_of (b ∷ bs) =
+    if b == hyphen then option_map negative (decimal_number bs)
+    else option_map pos (if b == digit_0 then after_zero bs else decimal_number (b ∷ bs))

@@ -19,12 +19,15 @@ placed left (Ok x) = Ok x
 placed left (Err f) = Err (f, left)
 
 -- What comes of a step: the rest is read on by go.
-abbrev pub after_step : (State → List ℕ → Result Expr Failure) → ℕ → List ℕ → Result State Fault → Result Expr Failure
+abbrev pub after_step :
+    (State → List ℕ → Result Expr Failure) → ℕ → List ℕ → Result State Fault → Result Expr Failure
 after_step go left rest (Err f) = Err (f, left)
 after_step go left rest (Ok st) = go st rest
 
 -- What comes of the next token.
-abbrev pub after_token : (State → List ℕ → Result Expr Failure) → State → ℕ → Result (Option Lexed) Fault → Result Expr Failure
+abbrev pub after_token :
+    (State → List ℕ → Result Expr Failure) → State → ℕ → Result (Option Lexed) Fault
+    → Result Expr Failure
 after_token go st left (Err f) = Err (f, left)
 after_token go st left (Ok None) = placed left (finish limits st)
 after_token go st left (Ok (Some x)) = after_step go left x.1 (step limits st x.0)
@@ -45,4 +48,6 @@ read_tokens base text = located base (length text) (reads (suc (length text)) (w
 
 -- The tree of a text within the limit; a longer one is too long from its byte 20,000 on.
 abbrev pub read_text : ℕ → List ℕ → Result Expr Failure
-read_text base text = if nat_lt longest_expression (length text) then Err (TooLong, base + longest_expression) else read_tokens base text
+read_text base text =
+    if nat_lt longest_expression (length text) then Err (TooLong, base + longest_expression)
+    else read_tokens base text

@@ -1,6 +1,7 @@
 -- How tokens are spelled, and which tokens a text is.
 use Rattle.std.specs.Prelude.{◌≡◌, ℕ, true, false, ◌==◌, if◌then◌else◌, Some, List, [], ◌∷◌, ◌++◌, codes}
 use Rattle.expr_reader.specs.Bytes.{is_white, is_name, is_number, is_byte, IsRun, Stops, IsWord, IsNumeral}
+use Rattle.expr_reader.specs.Codes.{quote, equals}
 use Rattle.expr_reader.specs.Expr.{Constant, null, truth, whole, quoted}
 use Rattle.expr_reader.specs.Fold.{fold}
 use Rattle.expr_reader.specs.Grammar.{Token, constant, root, callee, name, relational, equational, mark}
@@ -15,8 +16,8 @@ use Rattle.expr_reader.specs.declared.tree.Relation.TheVariants.{Less, AtMost, G
 
 -- A text inside quotes with each quote doubled, and the closing quote.
 abbrev pub doubled : List ℕ → List ℕ
-doubled [] = 39 ∷ []
-doubled (b ∷ bs) = if b == 39 then 39 ∷ 39 ∷ doubled bs else b ∷ doubled bs
+doubled [] = quote ∷ []
+doubled (b ∷ bs) = if b == quote then quote ∷ quote ∷ doubled bs else b ∷ doubled bs
 
 abbrev pub relation_text : Relation → List ℕ
 relation_text Less = codes "<"
@@ -46,7 +47,7 @@ SpellsConstant null s = s ≡ codes "null"
 SpellsConstant (truth true) s = s ≡ codes "true"
 SpellsConstant (truth false) s = s ≡ codes "false"
 SpellsConstant (whole z) s = IsNumeral s × (number_of s ≡ Some z)
-SpellsConstant (quoted q) s = s ≡ 39 ∷ doubled q
+SpellsConstant (quoted q) s = s ≡ quote ∷ doubled q
 
 -- The bytes of a token. Contexts and functions are named ignoring case.
 abbrev pub SpellsToken : Token → List ℕ → Type 0
@@ -63,7 +64,7 @@ abbrev pub EndsConstant : Constant → List ℕ → Type 0
 EndsConstant null rest = Stops is_name rest
 EndsConstant (truth b) rest = Stops is_name rest
 EndsConstant (whole z) rest = Stops is_number rest
-EndsConstant (quoted q) rest = Stops (is_byte 39) rest
+EndsConstant (quoted q) rest = Stops (is_byte quote) rest
 
 -- A token that is followed so is as long as can be.
 abbrev pub EndsToken : Token → List ℕ → Type 0
@@ -71,9 +72,9 @@ EndsToken (constant l) rest = EndsConstant l rest
 EndsToken (root c) rest = Stops is_name rest
 EndsToken (callee f) rest = Stops is_name rest
 EndsToken (name w) rest = Stops is_name rest
-EndsToken (relational Less) rest = Stops (is_byte 61) rest
-EndsToken (relational Greater) rest = Stops (is_byte 61) rest
-EndsToken (mark Not) rest = Stops (is_byte 61) rest
+EndsToken (relational Less) rest = Stops (is_byte equals) rest
+EndsToken (relational Greater) rest = Stops (is_byte equals) rest
+EndsToken (mark Not) rest = Stops (is_byte equals) rest
 EndsToken t rest = Unit {0}
 
 -- The text begins with white space and a token as long as can be, and then the rest follows.

@@ -36,11 +36,13 @@ ends_dotted (t ∷ u ∷ ts) = ends_dotted (u ∷ ts)
 -- follows.
 abbrev pub Leads : Bool → List ℕ → List Token → List ℕ → Type 0
 Leads dotted text [] rest = (white : List ℕ) × IsRun is_white white × (text ≡ white ++ rest)
-Leads dotted text (t ∷ ts) rest = (after : List ℕ) × Begins text t after × Fits dotted t × Leads (is_dot t) after ts rest
+Leads dotted text (t ∷ ts) rest =
+    (after : List ℕ) × Begins text t after × Fits dotted t × Leads (is_dot t) after ts rest
 
 -- No tree within the limits has tokens that begin so.
 abbrev pub BeginNoTree : List Token → Type 0
-BeginNoTree ts = (e : Expr) (later : List Token) → Shaped e → depth e ≤ greatest_depth → tokens e ≢ ts ++ later
+BeginNoTree ts =
+    (e : Expr) (later : List Token) → Shaped e → depth e ≤ greatest_depth → tokens e ≢ ts ++ later
 
 -- No tree begins so, however deep it is and however many arguments its calls have.
 abbrev pub BeginNoFormed : List Token → Type 0
@@ -52,7 +54,8 @@ AreNoFormed ts = (e : Expr) → Formed e → tokens e ≢ ts
 
 -- No token that the rest of a text begins with goes on with a tree after these tokens.
 abbrev pub GoesOnNoTree : List Token → List ℕ → Type 0
-GoesOnNoTree before rest = (t : Token) (after : List ℕ) → Begins rest t after → BeginNoTree (before ++ t ∷ [])
+GoesOnNoTree before rest =
+    (t : Token) (after : List ℕ) → Begins rest t after → BeginNoTree (before ++ t ∷ [])
 
 -- The text begins with no token that fits.
 abbrev pub BeginsNone : Bool → List ℕ → Type 0

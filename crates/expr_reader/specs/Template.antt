@@ -3,6 +3,7 @@ use Rattle.std.specs.Prelude.{◌≡◌, ◌≢◌, ℕ, suc, ◌≤◌, Bool, t
 use Rattle.std.specs.List.{list_any, starts_with, suffix_len}
 use Rattle.std.specs.Option.{option_map}
 use Rattle.expr_reader.specs.Bytes.{is_white, skip_white}
+use Rattle.expr_reader.specs.Codes.{quote}
 use Rattle.expr_reader.specs.Expr.{Expr, Exprs, literal, context, call, group, property, index, wildcard, opposite, relation, equality, both, either, none, more}
 use Rattle.expr_reader.specs.Spells.{Spells}
 use Rattle.expr_reader.specs.Sizes.{longest_template}
@@ -29,12 +30,14 @@ begins_end bs = starts_with nat_eq bs (codes "}}")
 
 -- Whether a quote is open after a byte.
 abbrev pub open_after : Bool → ℕ → Bool
-open_after quoted b = if b == 39 then not quoted else quoted
+open_after quoted b = if b == quote then not quoted else quoted
 
 -- How many bytes stand before the first }} outside quotes, if there is one. A quote may be open in front.
 abbrev pub end_place : Bool → List ℕ → Option ℕ
 end_place quoted [] = None
-end_place quoted (b ∷ bs) = if not quoted && begins_end (b ∷ bs) then Some 0 else option_map suc (end_place (open_after quoted b) bs)
+end_place quoted (b ∷ bs) =
+    if not quoted && begins_end (b ∷ bs) then Some 0
+    else option_map suc (end_place (open_after quoted b) bs)
 
 -- The end, or ${{.
 abbrev pub EndsPlain : List ℕ → Type 0
@@ -57,8 +60,10 @@ pub record IsMarked (text : List ℕ) (e : Expr) (rest : List ℕ) : Type 0 wher
 -- The text begins with these pieces, and then the rest follows.
 abbrev pub Pieces : List ℕ → List Piece → List ℕ → Type 0
 Pieces text [] rest = text ≡ rest
-Pieces text (plain p ∷ ps) rest = (after : List ℕ) × IsPlain p after × (text ≡ p ++ after) × Pieces after ps rest
-Pieces text (marked e ∷ ps) rest = (after : List ℕ) × IsMarked text e after × Pieces after ps rest
+Pieces text (plain p ∷ ps) rest =
+    (after : List ℕ) × IsPlain p after × (text ≡ p ++ after) × Pieces after ps rest
+Pieces text (marked e ∷ ps) rest =
+    (after : List ℕ) × IsMarked text e after × Pieces after ps rest
 
 -- success, failure, cancelled and always are the status functions.
 abbrev pub is_status : Function → Bool

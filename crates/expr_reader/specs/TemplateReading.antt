@@ -18,18 +18,22 @@ inside_piece rest (Err x) = Err x
 -- A marked expression, from after its ${{ on, with the place of its end.
 abbrev pub marked_at : ℕ → List ℕ → Option ℕ → Result (Piece × List ℕ) Failure
 marked_at size bs None = Err (UnclosedTemplate, size - (length bs + 3))
-marked_at size bs (Some n) = inside_piece (drop (n + 2) bs) (read_text (size - length bs) (take n bs))
+marked_at size bs (Some n) =
+    inside_piece (drop (n + 2) bs) (read_text (size - length bs) (take n bs))
 
 -- The first piece and what follows it.
 abbrev pub piece_at : ℕ → List ℕ → Result (Piece × List ℕ) Failure
-piece_at size bs = if begins_mark bs then marked_at size (drop 3 bs) (end_place false (drop 3 bs)) else Ok (plain (take (mark_place bs) bs), drop (mark_place bs) bs)
+piece_at size bs =
+    if begins_mark bs then marked_at size (drop 3 bs) (end_place false (drop 3 bs))
+    else Ok (plain (take (mark_place bs) bs), drop (mark_place bs) bs)
 
 -- Pieces with others before them.
 abbrev pub with_pieces : List Piece → Result (List Piece) Failure → Result (List Piece) Failure
 with_pieces front (Ok ps) = Ok (front ++ ps)
 with_pieces front (Err x) = Err x
 
-abbrev pub after_piece : (List ℕ → Result (List Piece) Failure) → Result (Piece × List ℕ) Failure → Result (List Piece) Failure
+abbrev pub after_piece :
+    (List ℕ → Result (List Piece) Failure) → Result (Piece × List ℕ) Failure → Result (List Piece) Failure
 after_piece go (Ok x) = with_pieces (x.0 ∷ []) (go x.1)
 after_piece go (Err x) = Err x
 
@@ -49,7 +53,9 @@ one_piece (Err x) = Err x
 
 -- A condition without white space at its ends that begins at a place: a template, or one expression.
 abbrev pub trimmed_by : Bool → ℕ → List ℕ → Result (List Piece) Failure
-trimmed_by true base text = if nat_lt longest_template (length text) then Err (TooLong, base + longest_template) else read_pieces (base + length text) text
+trimmed_by true base text =
+    if nat_lt longest_template (length text) then Err (TooLong, base + longest_template)
+    else read_pieces (base + length text) text
 trimmed_by false base text = one_piece (read_text base text)
 
 abbrev pub read_trimmed : ℕ → List ℕ → Result (List Piece) Failure

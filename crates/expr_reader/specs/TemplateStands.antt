@@ -14,8 +14,14 @@ use Rattle.expr_reader.specs.declared.fault.Fault.TheVariants.{TooLong, Unclosed
 -- The fault stands in the mark that a text begins with, where the text's end has this place: no }} closes
 -- the mark, or the fault stands in the expression.
 pub data StandsInMark (size : ℕ) (text : List ℕ) (x : Failure) : Type 0 where
-  unclosed : (after : List ℕ) → text ≡ codes "${{" ++ after → end_place false after ≡ None → x.0 ≡ UnclosedTemplate → x.1 + length text ≡ size → StandsInMark size text x
-  within : (inside after : List ℕ) → text ≡ codes "${{" ++ (inside ++ (codes "}}" ++ after)) → end_place false (inside ++ (codes "}}" ++ after)) ≡ Some (length inside) → (base k : ℕ) → base + length (inside ++ (codes "}}" ++ after)) ≡ size → StandsIn inside (x.0, k) → x.1 ≡ base + k → StandsInMark size text x
+  unclosed :
+      (after : List ℕ) → text ≡ codes "${{" ++ after → end_place false after ≡ None
+      → x.0 ≡ UnclosedTemplate → x.1 + length text ≡ size → StandsInMark size text x
+  within :
+      (inside after : List ℕ) → text ≡ codes "${{" ++ (inside ++ (codes "}}" ++ after))
+      → end_place false (inside ++ (codes "}}" ++ after)) ≡ Some (length inside)
+      → (base k : ℕ) → base + length (inside ++ (codes "}}" ++ after)) ≡ size
+      → StandsIn inside (x.0, k) → x.1 ≡ base + k → StandsInMark size text x
 
 -- The fault stands in a mark after some pieces.
 pub record StandsInPieces (size : ℕ) (text : List ℕ) (x : Failure) : Type 0 where
@@ -27,16 +33,21 @@ pub record StandsInPieces (size : ℕ) (text : List ℕ) (x : Failure) : Type 0 
 -- The fault stands in a template's text: it is too long, or a mark has the fault, or an expression names a
 -- status function.
 pub data StandsInTemplate (text : List ℕ) (x : Failure) : Type 0 where
-  too_long : longest_template < length text → x ≡ (TooLong, longest_template) → StandsInTemplate text x
+  too_long :
+      longest_template < length text → x ≡ (TooLong, longest_template) → StandsInTemplate text x
   in_pieces : StandsInPieces (length text) text x → StandsInTemplate text x
-  status : (ps : List Piece) → Pieces text ps [] → names_status ps ≡ true → x.0 ≡ StatusHere → StandsInTemplate text x
+  status :
+      (ps : List Piece) → Pieces text ps [] → names_status ps ≡ true → x.0 ≡ StatusHere → StandsInTemplate text x
 
 -- The fault stands in a condition's text, of which the white space at its start is so long: the rest is an
 -- expression or a template that has the fault.
 pub data StandsInTrimmed (base : ℕ) (text : List ℕ) (x : Failure) : Type 0 where
-  in_expression : has_marker text ≡ false → (k : ℕ) → StandsIn text (x.0, k) → x.1 ≡ base + k → StandsInTrimmed base text x
-  too_long_condition : has_marker text ≡ true → longest_template < length text → x ≡ (TooLong, base + longest_template) → StandsInTrimmed base text x
-  in_marks : has_marker text ≡ true → StandsInPieces (base + length text) text x → StandsInTrimmed base text x
+  in_expression :
+      has_marker text ≡ false → (k : ℕ) → StandsIn text (x.0, k) → x.1 ≡ base + k → StandsInTrimmed base text x
+  too_long_condition :
+      has_marker text ≡ true → longest_template < length text → x ≡ (TooLong, base + longest_template) → StandsInTrimmed base text x
+  in_marks :
+      has_marker text ≡ true → StandsInPieces (base + length text) text x → StandsInTrimmed base text x
 
 -- A template is read as these pieces, unless memory runs out.
 abbrev pub IsReadAs : Result Template ExprFault → List Piece → Type 0
@@ -49,4 +60,5 @@ TemplateFaultStands text fault = IfSome (fault_at fault) (StandsInTemplate text)
 
 -- A fault that is answered stands in the condition's text.
 abbrev pub ConditionFaultStands : List ℕ → ExprFault → Type 0
-ConditionFaultStands text fault = IfSome (fault_at fault) (StandsInTrimmed (prefix_len is_white text) (trimmed text))
+ConditionFaultStands text fault =
+    IfSome (fault_at fault) (StandsInTrimmed (prefix_len is_white text) (trimmed text))

@@ -1,6 +1,7 @@
 -- What is wrong with a text at the place of a fault.
 use Rattle.std.specs.Prelude.{◌≡◌, ◌≢◌, ℕ, ℤ, ◌<◌, false, Some, List, ◌∷◌, ◌++◌, codes}
 use Rattle.expr_reader.specs.Bytes.{begins_name, is_name, begins_number, is_number, is_byte, Stops, IsWord, IsNumeral}
+use Rattle.expr_reader.specs.Codes.{quote}
 use Rattle.expr_reader.specs.Expr.{Expr, Exprs, call, count, depth}
 use Rattle.expr_reader.specs.Fold.{fold}
 use Rattle.expr_reader.specs.Grammar.{Token, mark, tokens, takes, Shaped, AllShaped}
@@ -44,8 +45,8 @@ Wrong unformed ts f = ⊥
 -- The bytes begin with a quote that nothing closes.
 pub record IsUnclosed (bs : List ℕ) : Type 0 where
   pub inside : List ℕ
-  pub same : bs ≡ 39 ∷ inside
-  pub open_ended : (q rest : List ℕ) → Stops (is_byte 39) rest → inside ≢ doubled q ++ rest
+  pub same : bs ≡ quote ∷ inside
+  pub open_ended : (q rest : List ℕ) → Stops (is_byte quote) rest → inside ≢ doubled q ++ rest
 
 -- The bytes begin with a run of number characters, as long as can be, that is no number in range.
 pub record IsNoNumber (bs : List ℕ) : Type 0 where
@@ -61,7 +62,7 @@ pub record IsNoToken (bs : List ℕ) : Type 0 where
   pub first : ℕ
   pub after : List ℕ
   pub same : bs ≡ first ∷ after
-  pub no_quote : first ≢ 39
+  pub no_quote : first ≢ quote
   pub no_number : begins_number first ≡ false
   pub no_name : begins_name first ≡ false
   pub no_token : (t : Token) (rest : List ℕ) → Begins bs t rest → ⊥

@@ -21,7 +21,8 @@ use std::alloc::Global;
 #[tactic(auto, using(crate::proofs::Boundaries::first_boundary))]
 fn strip_byte(text: &str, byte: u8) -> Option<&str>
     requires { byte < 128 }
-    ensures { MatchOption result (Stops (is_byte byte) text.now) (λ rest. text.now ≡ byte ∷ rest.now) }
+    ensures { MatchOption result
+        (Stops (is_byte byte) text.now) (λ rest. text.now ≡ byte ∷ rest.now) }
 {
     match text.as_bytes() {
         [first, ..] if *first == byte => {

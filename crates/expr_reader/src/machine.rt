@@ -443,7 +443,8 @@ fn have_mark(
     frames: Vec<Frame>,
     mark: Mark,
 ) -> Result<Machine, Refusal>
-    ensures { Gives state_of result (machine.have_mark limits (tree_of operand) (parts frames) mark) }
+    ensures { Gives state_of result
+        (machine.have_mark limits (tree_of operand) (parts frames) mark) }
 {
     match mark {
         Mark::Close => at_close(alloc, operand, frames),

@@ -44,6 +44,8 @@ fn height_above(parts: usize) -> Result<usize, Refusal>
 }
 
 impl Trees {
+    ghost use Rattle.expr_reader.specs.Stack.{tree_of, trees_of};
+
     pub(crate) fn new(alloc: Global) -> Trees
         ensures { result.trees.items ≡ [] }
     {
@@ -61,7 +63,7 @@ impl Trees {
 
     #[tactic(auto, using(crate::proofs::Depths::deepest_push))]
     pub(crate) fn push(self, operand: Operand) -> Result<Trees, Refusal>
-        ensures ok { IfOk result (λ t. views t.trees.items ≡ views self.trees.items ++ view operand.tree ∷ []) }
+        ensures ok { IfOk result (λ t. trees_of t ≡ trees_of self ++ tree_of operand ∷ []) }
         ensures err { IfErr result (λ e. e ≡ Refusal.Memory) }
     {
         let Trees { mut trees, height } = self;
@@ -114,7 +116,8 @@ impl Operand {
     }
 
     pub(crate) fn property(alloc: Global, base: Operand, name: String) -> Result<Operand, Refusal>
-        ensures { Gives tree_of result (node limits (property_of (tree_of base) (string_bytes name))) }
+        ensures { Gives tree_of result
+            (node limits (property_of (tree_of base) (string_bytes name))) }
     {
         let height = height_above(base.height)?;
         let base = Box::new(alloc, base.tree)?;
@@ -168,7 +171,8 @@ impl Operand {
         left: Operand,
         right: Operand,
     ) -> Result<Operand, Refusal>
-        ensures { Gives tree_of result (node limits (relation_of relation (tree_of left) (tree_of right))) }
+        ensures { Gives tree_of result
+            (node limits (relation_of relation (tree_of left) (tree_of right))) }
     {
         let height = height_above(left.height.max(right.height))?;
         let left = Box::new(alloc, left.tree)?;
@@ -185,7 +189,8 @@ impl Operand {
         left: Operand,
         right: Operand,
     ) -> Result<Operand, Refusal>
-        ensures { Gives tree_of result (node limits (equality_of equality (tree_of left) (tree_of right))) }
+        ensures { Gives tree_of result
+            (node limits (equality_of equality (tree_of left) (tree_of right))) }
     {
         let height = height_above(left.height.max(right.height))?;
         let left = Box::new(alloc, left.tree)?;
@@ -224,7 +229,8 @@ impl Operand {
 
     #[tactic(auto, using(crate::proofs::Depths::count_views))]
     pub(crate) fn call(function: Function, arguments: Trees) -> Result<Operand, Refusal>
-        ensures { Gives tree_of result (called_with limits function (exprs_of (trees_of arguments))) }
+        ensures { Gives tree_of result
+            (called_with limits function (exprs_of (trees_of arguments))) }
     {
         if takes(function, arguments.trees.len()) {
             Operand::fitting_call(function, arguments)
@@ -234,7 +240,8 @@ impl Operand {
     }
 
     fn fitting_call(function: Function, arguments: Trees) -> Result<Operand, Refusal>
-        ensures { Gives tree_of result (node limits (call_of function (exprs_of (trees_of arguments)))) }
+        ensures { Gives tree_of result
+            (node limits (call_of function (exprs_of (trees_of arguments)))) }
     {
         let height = height_above(arguments.height)?;
         Ok(Operand {

@@ -58,7 +58,8 @@ fn marked_piece<'a>(
 // Adds a piece, at a place.
 #[tactic(auto, using(crate::proofs::PieceLoop::pieces_push))]
 fn push(pieces: &mut Vec<Piece>, piece: Piece, place: usize) -> Result<(), ExprFault>
-    ensures ok { OnOk result (pieces_of_vec pieces.new ≡ pieces_of_vec pieces.old ++ piece_of piece ∷ []) }
+    ensures ok { OnOk result
+        (pieces_of_vec pieces.new ≡ pieces_of_vec pieces.old ++ piece_of piece ∷ []) }
     ensures err { IfErr result OnlyMemory }
 {
     match pieces.push(piece) {

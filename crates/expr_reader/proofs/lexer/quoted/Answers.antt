@@ -1,3 +1,4 @@
+-- A text may be cut after its closing quote, and its inside is UTF-8.
 use Rattle.std.proofs.Common.{List, ℕ, [], drop, subst, arith}
 use Rattle.std.specs.Str.{IsCharBoundary}
 use Rattle.expr_reader.proofs.Utf8.{text_utf8, rest_boundary, closed_at, closed_end}

@@ -1,3 +1,4 @@
+-- The text so far and what is left of it are the whole text.
 use Rattle.std.proofs.Common.{◌≡◌, cond, drop}
 use Rattle.expr_reader.specs.Lexer.{with_front, unquoted, after_quote}
 use Rattle.expr_reader.proofs.lexer.quoted.Given as goal

@@ -1,3 +1,4 @@
+-- A text may be cut after its first byte, where that is ASCII.
 use Rattle.std.proofs.Common.{List, ℕ, subst, arith}
 use Rattle.std.proofs.lemmas.Str.{IsCharBoundary-after_ascii}
 use Rattle.std.specs.Str.{IsCharBoundary}

@@ -1,3 +1,4 @@
+-- What is left to close gives what the whole stack gives.
 use Rattle.std.proofs.Common.{◌≡◌, length}
 use Rattle.expr_reader.specs.Machine.{limits, close}
 use Rattle.expr_reader.specs.Stack.{tree_of, parts}

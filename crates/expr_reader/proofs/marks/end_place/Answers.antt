@@ -1,3 +1,4 @@
+-- One byte more is no end.
 use Rattle.std.proofs.Common.{◌≡◌, ◌+◌, Bool, false, drop, sym, ap, ◌∙◌}
 use Rattle.expr_reader.specs.Template.{begins_end, end_place}
 use Rattle.expr_reader.proofs.MarkPlaces.{further, end_further}

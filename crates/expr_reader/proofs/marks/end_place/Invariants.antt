@@ -1,3 +1,4 @@
+-- What is left to search gives what the whole text gives.
 use Rattle.std.proofs.Common.{◌≡◌, false, drop}
 use Rattle.expr_reader.specs.Template.{end_place}
 use Rattle.expr_reader.proofs.MarkPlaces.{further}

@@ -1,3 +1,4 @@
+-- One byte more is no mark.
 use Rattle.std.proofs.Common.{◌≡◌, false, drop, sym, ap, ◌∙◌, arith}
 use Rattle.expr_reader.specs.Template.{begins_mark}
 use Rattle.expr_reader.proofs.MarkPlaces.{mark_further}

@@ -1,3 +1,4 @@
+-- What is left to search gives what the whole text gives.
 use Rattle.std.proofs.Common.{◌≡◌, ◌+◌, drop}
 use Rattle.expr_reader.specs.TemplateReading.{mark_place}
 use Rattle.expr_reader.proofs.marks.mark_place.Given as goal

@@ -1,3 +1,4 @@
+-- The text is cut at the place of the end.
 use Rattle.std.proofs.Common.{◌≡◌, false, Some, drop, sym, ap, ◌∙◌}
 use Rattle.expr_reader.specs.Template.{end_place}
 use Rattle.expr_reader.proofs.MarkPlaces.{end_boundary, end_dropped}

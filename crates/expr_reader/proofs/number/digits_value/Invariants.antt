@@ -1,3 +1,4 @@
+-- The digits so far and those that are left are the whole number.
 use Rattle.std.proofs.Common.{◌≡◌, ◌≤◌, drop}
 use Rattle.expr_reader.specs.Number.{greatest, digits_from}
 use Rattle.expr_reader.proofs.number.digits_value.Given as goal

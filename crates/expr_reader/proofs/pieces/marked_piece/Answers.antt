@@ -1,3 +1,4 @@
+-- A text may be cut after its mark.
 use Rattle.expr_reader.proofs.MarkPlaces.{mark_cut}
 use Rattle.expr_reader.proofs.pieces.marked_piece.Goals as goal
 

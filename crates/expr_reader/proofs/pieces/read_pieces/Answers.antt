@@ -1,3 +1,4 @@
+-- One piece more leaves a shorter rest.
 use Rattle.std.proofs.Common.{◌≡◌, ◌≢◌, ℕ, nat_eq, true, List, [], length, ap, rules}
 use Rattle.expr_reader.specs.Template.{Piece}
 use Rattle.expr_reader.specs.TemplateView.{piece_of, pieces_of_vec}

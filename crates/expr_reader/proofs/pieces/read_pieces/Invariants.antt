@@ -1,3 +1,4 @@
+-- The pieces so far and those of the rest are the whole text's.
 use Rattle.std.proofs.Common.{length}
 use denote.Shadow.{shadow}
 use denote.Text.{Utf8}

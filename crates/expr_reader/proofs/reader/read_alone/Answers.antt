@@ -1,3 +1,4 @@
+-- What reading gives, in the words of the text's spelling.
 use Rattle.expr_reader.proofs.Expressions.{answers_found, answers_only, answers_stand}
 use Rattle.expr_reader.proofs.reader.read_alone.Goals as goal
 

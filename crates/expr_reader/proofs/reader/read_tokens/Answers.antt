@@ -1,3 +1,4 @@
+-- One token more leaves a shorter rest.
 use Rattle.std.proofs.Common.{◌≡◌, Bool, Ok, Some, sym, ap, ◌∙◌, rules}
 use Rattle.expr_reader.specs.Lexer.{Lexed, next_at}
 use Rattle.expr_reader.specs.Machine.{is_dotted}

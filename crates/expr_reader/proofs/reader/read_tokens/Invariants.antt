@@ -1,3 +1,4 @@
+-- What is left to read gives what the whole text gives.
 use Rattle.std.proofs.Common.{length}
 use denote.Shadow.{shadow}
 use denote.Text.{Utf8}

@@ -1,3 +1,4 @@
+-- No tree so far names a status function.
 use Rattle.std.proofs.Common.{◌≡◌, drop}
 use Rattle.expr_reader.specs.Expr.{exprs_of}
 use Rattle.expr_reader.specs.Template.{any_names_status}

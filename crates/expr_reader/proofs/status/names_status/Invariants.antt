@@ -1,3 +1,4 @@
+-- No piece so far names a status function.
 use Rattle.std.proofs.Common.{◌≡◌, drop, map}
 use Rattle.expr_reader.specs.Template.{names_status}
 use Rattle.expr_reader.specs.TemplateView.{piece_of}

@@ -1,3 +1,4 @@
+-- What reading the trimmed text gives, in the words of the text's spelling.
 use Rattle.std.proofs.Common.{◌≡◌, ◌-◌, ℕ, List, length, IfOk, IfErr, IfSome, subst, ap, ◌∙◌, arith}
 use Rattle.std.proofs.lemmas.List.{length-drop}
 use Rattle.std.proofs.lemmas.List.Sums.{prefix_len-le-length}

@@ -1,3 +1,4 @@
+-- What reading the pieces gives, in the words of the text's spelling.
 use Rattle.std.proofs.Common.{sym, refl, arith}
 use Rattle.expr_reader.specs.TemplateStands.{status}
 use Rattle.expr_reader.specs.TemplateView.{pieces_of_vec}

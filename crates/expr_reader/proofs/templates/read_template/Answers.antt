@@ -1,3 +1,4 @@
+-- What is answered, by the template that the text spells.
 use Rattle.expr_reader.proofs.Accepts.{template_answered}
 use Rattle.expr_reader.proofs.templates.read_template.Goals as goal
 
