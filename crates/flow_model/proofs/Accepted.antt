@@ -1,6 +1,6 @@
 -- A plan that is not refused keeps the rules in their own words, and one that is refused breaks one or has a part that is not offered yet.
-use Rattle.std.proofs.Common.{◌≡◌, Option, Some, None, Result, Ok, Err, ap, sym, ◌∙◌}
-use Rattle.flow_model.specs.Found.{Path, or_else}
+use Rattle.std.proofs.Common.{◌≡◌, Option, Some, None, Result, Ok, Err}
+use Rattle.flow_model.specs.Found.{Path}
 use Rattle.flow_model.specs.Offered.{AcceptsSound, ChecksPlan, IsOffered, plan_offer, refusal}
 use Rattle.flow_model.specs.Rules.{plan_rules}
 use Rattle.flow_model.specs.Sound.{SoundPlan}

@@ -13,7 +13,7 @@ use crate::check::{
 use crate::name::is_id;
 use crate::plan::{Combo, Group, JobPlan, Plan, Roots, RunPlan, StepPlan, Work};
 use crate::text::Text;
-use crate::texts::{is_flag, is_optional_condition, is_optional_text, is_evaluable};
+use crate::texts::{is_evaluable, is_flag, is_optional_condition, is_optional_text};
 use crate::value::Value;
 use crate::within::{GREATEST, Input, JobOutput, Property, Variable};
 use std::alloc::Global;
