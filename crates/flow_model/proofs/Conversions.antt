@@ -13,29 +13,20 @@ use Rattle.flow_model.specs.Plain as plain
 use Rattle.flow_model.specs.Rules.{is_whole, is_within, items_within, members_within}
 use Rattle.flow_model.specs.Value.{view, views, viewed}
 use Rattle.flow_model.specs.declared.value.Node.{Node}
+use Rattle.flow_model.proofs.Places.{same_Some}
+use Rattle.flow_model.proofs.Tests.{both, pair}
 
 -- ---- options
-
-Some-inj : {A : Type 0} {x y : A} → Some x ≡ Some y → x ≡ y
-Some-inj e = cc
 
 -- what was mapped to
 pub from_map : {A B : Type 0} (f : A → B) (o : Option A) (b : B) → option_map f o ≡ Some b → (a : A) × ((o ≡ Some a) × (f a ≡ b))
 from_map f None b e = absurd (cc)
-from_map f (Some a) b e = (a, (refl, Some-inj e))
+from_map f (Some a) b e = (a, (refl, same_Some e))
 
 -- what went on
 pub from_and_then : {A B : Type 0} (f : A → Option B) (o : Option A) (b : B) → option_and_then f o ≡ Some b → (a : A) × ((o ≡ Some a) × (f a ≡ Some b))
 from_and_then f None b e = absurd (cc)
 from_and_then f (Some a) b e = (a, (refl, e))
-
-both : (a b : Bool) → IsTrue (a && b) → IsTrue a × IsTrue b
-both true b h = (refl, h)
-both false b h = absurd (cc)
-
-pair : (a b : Bool) → IsTrue a → IsTrue b → IsTrue (a && b)
-pair true b h k = k
-pair false b h k = absurd (cc)
 
 -- ---- whole numbers
 
@@ -44,7 +35,7 @@ if_true true x y h = refl
 if_true false x y h = absurd (cc)
 
 from_if : {A : Type 0} (b : Bool) (x y : A) → cond b (Some x) None ≡ Some y → IsTrue b × (x ≡ y)
-from_if true x y e = (refl, Some-inj e)
+from_if true x y e = (refl, same_Some e)
 from_if false x y e = absurd (cc)
 
 pub whole_again : (z : ℤ) → IsTrue (is_whole z) → whole_of (of_integer z) ≡ Some z
@@ -94,12 +85,12 @@ mutual
 -- a value is that of its JSON alone
 mutual
   pub value_only : (d : Data) (v : plain.Plain) → value_of d ≡ Some v → json_of v ≡ d
-  value_only null v e = ap json_of (sym (Some-inj e))
-  value_only (boolean b) v e = ap json_of (sym (Some-inj e))
+  value_only null v e = ap json_of (sym (same_Some e))
+  value_only (boolean b) v e = ap json_of (sym (same_Some e))
   value_only (number n) v e =
       let r = from_map plain.whole (whole_of n) v e in
       ap json_of (sym r.1.1) ∙ ap number (whole_only n r.0 r.1.0)
-  value_only (string bytes) v e = ap json_of (sym (Some-inj e))
+  value_only (string bytes) v e = ap json_of (sym (same_Some e))
   value_only (array ds) v e =
       let r = from_map plain.list (value_items ds) v e in
       ap json_of (sym r.1.1) ∙ ap array (items_only ds r.0 r.1.0)
@@ -108,14 +99,14 @@ mutual
       ap json_of (sym r.1.1) ∙ ap object (members_only ms r.0 r.1.0)
 
   items_only : (ds : Items) (vs : plain.Items) → value_items ds ≡ Some vs → json_items vs ≡ ds
-  items_only no_items vs e = ap json_items (sym (Some-inj e))
+  items_only no_items vs e = ap json_items (sym (same_Some e))
   items_only (item d ds) vs e =
       let r = from_and_then (λ v. option_map (plain.item v) (value_items ds)) (value_of d) vs e in
       let s = from_map (plain.item r.0) (value_items ds) vs r.1.1 in
       ap json_items (sym s.1.1) ∙ (λ i. item (value_only d r.0 r.1.0 i) (items_only ds s.0 s.1.0 i))
 
   members_only : (ms : Members) (vs : plain.Members) → value_members ms ≡ Some vs → json_members vs ≡ ms
-  members_only no_members vs e = ap json_members (sym (Some-inj e))
+  members_only no_members vs e = ap json_members (sym (same_Some e))
   members_only (member key d ms) vs e =
       let r = from_and_then (λ v. option_map (plain.member key v) (value_members ms)) (value_of d) vs e in
       let s = from_map (plain.member key r.0) (value_members ms) vs r.1.1 in
@@ -124,12 +115,12 @@ mutual
 -- what is read is in range
 mutual
   pub value_in_range : (d : Data) (v : plain.Plain) → value_of d ≡ Some v → IsTrue (is_in_range v)
-  value_in_range null v e = subst (λ w. IsTrue (is_in_range w)) (Some-inj e) refl
-  value_in_range (boolean b) v e = subst (λ w. IsTrue (is_in_range w)) (Some-inj e) refl
+  value_in_range null v e = subst (λ w. IsTrue (is_in_range w)) (same_Some e) refl
+  value_in_range (boolean b) v e = subst (λ w. IsTrue (is_in_range w)) (same_Some e) refl
   value_in_range (number n) v e =
       let r = from_map plain.whole (whole_of n) v e in
       subst (λ w. IsTrue (is_in_range w)) r.1.1 (whole_is_whole n r.0 r.1.0)
-  value_in_range (string bytes) v e = subst (λ w. IsTrue (is_in_range w)) (Some-inj e) refl
+  value_in_range (string bytes) v e = subst (λ w. IsTrue (is_in_range w)) (same_Some e) refl
   value_in_range (array ds) v e =
       let r = from_map plain.list (value_items ds) v e in
       subst (λ w. IsTrue (is_in_range w)) r.1.1 (items_are_in_range ds r.0 r.1.0)
@@ -138,14 +129,14 @@ mutual
       subst (λ w. IsTrue (is_in_range w)) r.1.1 (members_are_in_range ms r.0 r.1.0)
 
   items_are_in_range : (ds : Items) (vs : plain.Items) → value_items ds ≡ Some vs → IsTrue (items_in_range vs)
-  items_are_in_range no_items vs e = subst (λ ws. IsTrue (items_in_range ws)) (Some-inj e) refl
+  items_are_in_range no_items vs e = subst (λ ws. IsTrue (items_in_range ws)) (same_Some e) refl
   items_are_in_range (item d ds) vs e =
       let r = from_and_then (λ v. option_map (plain.item v) (value_items ds)) (value_of d) vs e in
       let s = from_map (plain.item r.0) (value_items ds) vs r.1.1 in
       subst (λ ws. IsTrue (items_in_range ws)) s.1.1 (pair _ _ (value_in_range d r.0 r.1.0) (items_are_in_range ds s.0 s.1.0))
 
   members_are_in_range : (ms : Members) (vs : plain.Members) → value_members ms ≡ Some vs → IsTrue (members_in_range vs)
-  members_are_in_range no_members vs e = subst (λ ws. IsTrue (members_in_range ws)) (Some-inj e) refl
+  members_are_in_range no_members vs e = subst (λ ws. IsTrue (members_in_range ws)) (same_Some e) refl
   members_are_in_range (member key d ms) vs e =
       let r = from_and_then (λ v. option_map (plain.member key v) (value_members ms)) (value_of d) vs e in
       let s = from_map (plain.member key r.0) (value_members ms) vs r.1.1 in

@@ -1,5 +1,5 @@
 -- A search that finds nothing: none of its parts does.
-use Rattle.std.proofs.Common.{◌≡◌, ℕ, zero, suc, ◌+◌, Bool, true, false, IsTrue, List, [], ◌∷◌, decimal, length, Option, Some, None, IfSome, refl, ap, subst, ◌∙◌, arith}
+use Rattle.std.proofs.Common.{◌≡◌, ℕ, suc, Bool, true, false, IsTrue, List, [], ◌∷◌, decimal, Option, Some, None, IfSome, refl, ap, ◌∙◌}
 use Rattle.flow_model.specs.Found.{Path, rule, or_else, under, each, each_pair, if_there}
 use Rattle.flow_model.specs.Sound.{Each}
 use Rattle.flow_model.proofs.Places.{Each-nil, Each-cons, Each-head, Each-tail}

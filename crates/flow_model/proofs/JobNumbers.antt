@@ -1,9 +1,9 @@
 -- Where the jobs of a run stand among all jobs, and what a sound plan says of their numbers.
-use Rattle.std.proofs.Common.{◌≡◌, ◌+◌, ◌<◌, ◌≤◌, ℕ, zero, suc, List, [], ◌∷◌, ◌++◌, length, take, Some, slice_get, refl, ap, sym, subst, ◌∙◌, arith, length-append}
+use Rattle.std.proofs.Common.{◌≡◌, ◌+◌, ◌<◌, ◌≤◌, ℕ, zero, suc, List, [], ◌∷◌, ◌++◌, length, take, Some, slice_get, ap, sym, subst, ◌∙◌, arith, length-append}
 use Rattle.std.specs.List.{flat_map}
-use Rattle.flow_model.specs.Numbers.{plan_jobs, first_job}
+use Rattle.flow_model.specs.Numbers.{first_job}
 use Rattle.flow_model.specs.Rules.{IsPlan}
-use Rattle.flow_model.specs.Sound.{Each, SoundPlan}
+use Rattle.flow_model.specs.Sound.{Each}
 use Rattle.flow_model.specs.declared.plan.JobPlan.{JobPlan}
 use Rattle.flow_model.specs.declared.plan.Plan.{Plan}
 use Rattle.flow_model.specs.declared.plan.RunPlan.{RunPlan}
@@ -30,8 +30,10 @@ pub needs_back : (p : Plan) → IsPlan p → (r i : ℕ) (run : RunPlan) (job : 
 needs_back p h r i run job er ej =
     let s = plan_sound p h in
     let numbered : (k : ℕ) (other : JobPlan) → slice_get run.jobs k ≡ Some other → other.number ≡ first_job p r + k =
-    λ k other e. s.numbers (first_job p r + k) other (jobs_follow p.runs r k run other er e) in
-    (numbered i job ej, λ k need en.
-        let earlier = (s.runs r run er).needs i job ej k need en in
-        let number = numbered earlier.0 earlier.1 earlier.3 in
-        (omega (arith, number, earlier.4), omega (arith, number, earlier.4, earlier.2)))
+    λ k other e. s.numbers (first_job p r + k) other (jobs_follow p.runs r k run other er e) in (
+      numbered i job ej,
+      λ k need en.
+          let earlier = (s.runs r run er).needs i job ej k need en in
+          let number = numbered earlier.0 earlier.1 earlier.3 in
+          (omega (arith, number, earlier.4), omega (arith, number, earlier.4, earlier.2)),
+    )

@@ -1,5 +1,5 @@
 -- A value is within some depth exactly where it nests no deeper, and its numbers are in range.
-use Rattle.std.proofs.Common.{◌≡◌, ◌≤◌, ◌-◌, ℕ, IsTrue, ◌&&◌, nat_lt, refl, arith}
+use Rattle.std.proofs.Common.{◌≤◌, ◌-◌, ℕ, IsTrue, nat_lt, refl, arith}
 use Rattle.flow_model.specs.Json.{is_in_range, items_in_range, members_in_range}
 use Rattle.flow_model.specs.Plain.{Plain, null, truth, whole, text, list, map, Items, no_items, item, Members, no_members, member}
 use Rattle.flow_model.specs.Rules.{is_within, items_within, members_within}

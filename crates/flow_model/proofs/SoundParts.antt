@@ -1,9 +1,9 @@
 -- The rules of steps, groups, jobs and contexts: none is broken exactly where each holds in its own words.
-use Rattle.std.proofs.Common.{◌≡◌, ◌+◌, ◌<◌, ◌≤◌, ◌&&◌, ◌==◌, nat_lt, ℕ, zero, suc, Bool, true, IsTrue, nat_le, codes, decimal, List, [], ◌∷◌, length, Option, Some, None, IfSome, refl, ap, sym, subst, ◌∙◌, arith}
-use Rattle.flow_model.specs.Found.{Path, rule, or_else, under, each, each_pair, if_there}
+use Rattle.std.proofs.Common.{◌≡◌, ◌<◌, ◌≤◌, ◌&&◌, nat_lt, ℕ, suc, Bool, IsTrue, nat_le, codes, List, [], ◌∷◌, length, None, IfSome, refl, ap, sym, subst, arith}
+use Rattle.flow_model.specs.Found.{Path, under, each, each_pair}
 use Rattle.flow_model.specs.Name.{is_id}
 use Rattle.flow_model.specs.Plain.{Plain}
-use Rattle.flow_model.specs.Rules.{all_there, is_condition, is_evaluable, is_flag, is_property, is_variable, is_input, is_job_output, are_distinct, with_id, ascend_between, is_limit, greatest, script_rules, work_rules, step_rules, group_rules, leg_rules, step_ids, steps_rules, legs_rules, roots_rules}
+use Rattle.flow_model.specs.Rules.{is_condition, is_evaluable, is_property, is_variable, is_input, are_distinct, with_id, ascend_between, is_limit, greatest, work_rules, step_rules, group_rules, leg_rules, step_ids, steps_rules, legs_rules, roots_rules}
 use Rattle.flow_model.specs.Sound.{Each, HaveDistinctNames, AscendStrictly, IsProperty, SoundWork, SoundStep, SoundGroup}
 use Rattle.flow_model.specs.declared.plan.Group.{Group}
 use Rattle.flow_model.specs.declared.plan.JobPlan.{JobPlan}
@@ -11,10 +11,10 @@ use Rattle.flow_model.specs.declared.plan.Roots.{Roots}
 use Rattle.flow_model.specs.declared.plan.StepPlan.{StepPlan}
 use Rattle.flow_model.specs.declared.plan.Work.{Work}
 use Rattle.flow_model.specs.declared.plan.Work.TheVariants.{Run, Uses}
-use Rattle.flow_model.proofs.FoundNothing.{or_else_none, none_or_else, under_none, none_under, rule_none, none_rule, each_none, none_each, each_pair_none, none_each_pair, if_there_none, none_if_there}
+use Rattle.flow_model.proofs.FoundNothing.{or_else_none, none_or_else, under_none, none_under, rule_none, none_rule, each_none, none_each, each_pair_none, none_each_pair}
 use Rattle.flow_model.proofs.Nesting.{is_within-nests, nests-is_within}
 use Rattle.flow_model.proofs.Places.{Each-nil, Each-cons, Each-head, Each-tail, Each-weaker, names_by, distinct_names, names_distinct, ascend-nil, ascend-cons, ascend-head, ascend-tail}
-use Rattle.flow_model.proofs.Tests.{both, pair, from_le, to_le, from_lt, to_lt, from_same, to_same, from_all_there, to_all_there}
+use Rattle.flow_model.proofs.Tests.{both, pair, from_le, to_le, from_lt, to_lt, from_all_there, to_all_there}
 
 -- ---- maps
 
@@ -54,7 +54,7 @@ step_sound s e =
       env = pass is_variable (codes "env") s.env b.0;
       id = from_all_there is_id (λ t. IsTrue (is_id t)) (λ t h. h) s.id (rule_none _ _ c.0);
       tolerate = rule_none _ _ d.0;
-      work = work_sound s.work (under_none (codes "work") (work_rules s.work) d.1)
+      work = work_sound s.work (under_none (codes "work") (work_rules s.work) d.1);
     }
 
 sound_step : (s : StepPlan) → SoundStep s → step_rules s ≡ None
@@ -73,10 +73,11 @@ step_ids-names_by (s ∷ ss) = ap (with_id s.id) (step_ids-names_by ss)
 pub steps_sound : (ss : List StepPlan) → steps_rules ss ≡ None → (length ss ≤ 256) × HaveDistinctNames (λ s. s.id) ss × Each SoundStep ss
 steps_sound ss e =
     let a = or_else_none _ _ e in
-    let b = or_else_none _ _ a.1 in
-    (from_le (length ss) 256 (rule_none _ _ a.0),
-    distinct_names (λ s. s.id) ss (subst (λ ids. IsTrue (are_distinct ids)) (step_ids-names_by ss) (rule_none _ _ b.0)),
-    each_none step_rules SoundStep step_sound 0 ss (under_none (codes "steps") (each step_rules 0 ss) b.1))
+    let b = or_else_none _ _ a.1 in (
+      from_le (length ss) 256 (rule_none _ _ a.0),
+      distinct_names (λ s. s.id) ss (subst (λ ids. IsTrue (are_distinct ids)) (step_ids-names_by ss) (rule_none _ _ b.0)),
+      each_none step_rules SoundStep step_sound 0 ss (under_none (codes "steps") (each step_rules 0 ss) b.1),
+    )
 
 pub sound_steps : (ss : List StepPlan) → length ss ≤ 256 → HaveDistinctNames (λ s. s.id) ss → Each SoundStep ss → steps_rules ss ≡ None
 sound_steps ss few ids hs =
@@ -120,7 +121,7 @@ legs_sound j e =
       some_leg = from_le 1 (length j.legs) counts.0;
       few_legs = from_le (length j.legs) 256 counts.1;
       legs = each_none leg_rules (λ combo. Each IsProperty combo) properties 0 j.legs (under_none (codes "legs") (each leg_rules 0 j.legs) b.0);
-      max_parallel = from_all_there is_limit (λ n. (1 ≤ n) × (n ≤ greatest)) limit_sound j.max_parallel (rule_none (codes "max_parallel") _ b.1)
+      max_parallel = from_all_there is_limit (λ n. (1 ≤ n) × (n ≤ greatest)) limit_sound j.max_parallel (rule_none (codes "max_parallel") _ b.1);
     }
 
 pub sound_legs : (j : JobPlan) → SoundLegs j → legs_rules j ≡ None
@@ -142,9 +143,10 @@ needs_sound low high (n ∷ ns) h =
     let b = both (nat_le low n) (nat_lt n high) a.0 in
     let from : low ≤ n = from_le low n b.0 in
     let later = needs_sound (suc n) high ns a.1 in
-    let above : Each (λ m. n < m) ns = Each-weaker (IsBetween (suc n) high) (λ m. n < m) (λ m k. omega (arith, k.0)) ns later.0 in
-    (Each-cons (IsBetween low high) n ns (from, from_lt n high b.1) (Each-weaker (IsBetween (suc n) high) (IsBetween low high) (λ m k. (omega (arith, from, k.0), k.1)) ns later.0),
-    ascend-cons n ns above later.1)
+    let above : Each (λ m. n < m) ns = Each-weaker (IsBetween (suc n) high) (λ m. n < m) (λ m k. omega (arith, k.0)) ns later.0 in (
+      Each-cons (IsBetween low high) n ns (from, from_lt n high b.1) (Each-weaker (IsBetween (suc n) high) (IsBetween low high) (λ m k. (omega (arith, from, k.0), k.1)) ns later.0),
+      ascend-cons n ns above later.1,
+    )
 
 pub sound_needs : (low high : ℕ) (ns : List ℕ) → Each (IsBetween low high) ns → AscendStrictly ns → IsTrue (ascend_between low high ns)
 sound_needs low high [] h up = refl
@@ -174,7 +176,7 @@ roots_sound r e =
       github = properties r.github (under_none (codes "github") (each_pair is_property r.github) a.0);
       inputs = properties r.inputs (under_none (codes "inputs") (each_pair is_property r.inputs) b.0);
       secrets = properties r.secrets (under_none (codes "secrets") (each_pair is_property r.secrets) c.0);
-      vars = properties r.vars (under_none (codes "vars") (each_pair is_property r.vars) c.1)
+      vars = properties r.vars (under_none (codes "vars") (each_pair is_property r.vars) c.1);
     }
 
 pub sound_roots : (r : Roots) → SoundRoots r → roots_rules r ≡ None

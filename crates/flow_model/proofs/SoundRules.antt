@@ -1,14 +1,12 @@
 -- No rule of a plan is broken exactly where each holds in its own words.
-use Rattle.std.proofs.Common.{◌≡◌, ◌+◌, ◌-◌, ◌<◌, ◌≤◌, ◌&&◌, ◌==◌, ◌++◌, inl, inr, ℕ, zero, suc, IsTrue, nat_le, codes, decimal, List, [], ◌∷◌, length, Option, Some, None, IfSome, slice_get, refl, ap, sym, subst, ◌∙◌, arith, sum_by, length-append}
+use Rattle.std.proofs.Common.{◌≡◌, ◌+◌, ◌-◌, inl, inr, ℕ, zero, suc, IsTrue, nat_le, codes, decimal, List, [], ◌∷◌, length, Some, None, slice_get, refl, ap, sym, subst, ◌∙◌, arith, length-append}
 use Rattle.std.specs.List.{flat_map}
 use Rattle.std.proofs.lemmas.List.Concat.{length-flat_map, flat_map-append}
 use Rattle.std.proofs.lemmas.List.Sums.{sum_by-cons}
 use Rattle.std.proofs.lemmas.Option.{slice_get_within}
-use Rattle.flow_model.specs.Found.{Path, rule, or_else, under, each_pair, if_there}
-use Rattle.flow_model.specs.Name.{is_id}
-use Rattle.flow_model.specs.Numbers.{plan_jobs, plan_legs}
-use Rattle.flow_model.specs.Rules.{all_there, is_condition, is_flag, is_variable, is_job_output, are_distinct, ascend_between, group_rules, steps_rules, legs_rules, job_rules, jobs_rules, job_ids, roots_rules, run_rules, runs_rules, legs_of_jobs, legs_of_runs, plan_rules, IsPlan}
-use Rattle.flow_model.specs.Sound.{Each, HaveDistinctNames, SoundGroup, SoundJob, NeedEarlierJobs, SoundRun, SoundPlan}
+use Rattle.flow_model.specs.Found.{under, if_there}
+use Rattle.flow_model.specs.Rules.{is_condition, is_variable, is_job_output, are_distinct, group_rules, steps_rules, legs_rules, job_rules, jobs_rules, job_ids, roots_rules, run_rules, runs_rules, legs_of_jobs, legs_of_runs, IsPlan}
+use Rattle.flow_model.specs.Sound.{Each, SoundGroup, SoundJob, NeedEarlierJobs, SoundRun, SoundPlan}
 use Rattle.flow_model.specs.declared.plan.JobPlan.{JobPlan}
 use Rattle.flow_model.specs.declared.plan.Plan.{Plan}
 use Rattle.flow_model.specs.declared.plan.RunPlan.{RunPlan}
@@ -54,10 +52,10 @@ job_here first n j e =
         few_steps = of_steps.0;
         step_ids = of_steps.1;
         steps = of_steps.2;
-        tolerate = rule_none _ _ steps.1
+        tolerate = rule_none _ _ steps.1;
       };
       number = from_same j.number n (rule_none _ _ number.0);
-      needs = of_needs.0
+      needs = of_needs.0;
     }
 
 here_job : (first n : ℕ) (j : JobPlan) → JobHere first n j → job_rules first n j ≡ None
@@ -149,9 +147,9 @@ run_here first r e =
         github = roots.github;
         inputs = roots.inputs;
         secrets = roots.secrets;
-        vars = roots.vars
+        vars = roots.vars;
       };
-      numbers = λ i j h. (here i j h).number
+      numbers = λ i j h. (here i j h).number;
     }
 
 here_run : (first : ℕ) (r : RunPlan) → RunHere first r → run_rules first r ≡ None
@@ -165,7 +163,7 @@ here_run first r h =
       needs = λ k need en.
           let earlier = s.needs i j e k need en in
           let number = h.numbers earlier.0 earlier.1 earlier.3 in
-          (omega (arith, number, earlier.4), omega (arith, number, earlier.4, earlier.2))
+          (omega (arith, number, earlier.4), omega (arith, number, earlier.4, earlier.2));
     } in
     none_or_else _ _ (passed is_variable (codes "env") r.env s.env)
     (none_or_else _ _ (none_under (codes "group") (if_there group_rules r.group) (none_if_there group_rules SoundGroup sound_group r.group s.group))
@@ -186,12 +184,13 @@ runs_here first k [] e = (Each-nil SoundRun, λ n j h. absurd (cc))
 runs_here first k (r ∷ rs) e =
     let parts = or_else_none (under (decimal k) (run_rules first r)) (runs_rules (first + length r.jobs) (suc k) rs) e in
     let here = run_here first r (under_none (decimal k) (run_rules first r) parts.0) in
-    let later = runs_here (first + length r.jobs) (suc k) rs parts.1 in
-    (Each-cons SoundRun r rs here.sound later.0,
-    λ n j h. elim (slice_get-append r.jobs (flat_map (λ run. run.jobs) rs) n j h) [
-        inl own ↦ here.numbers n j own
-      | inr other ↦ omega (arith, other.1, later.1 other.0 j other.2)
-    ])
+    let later = runs_here (first + length r.jobs) (suc k) rs parts.1 in (
+      Each-cons SoundRun r rs here.sound later.0,
+      λ n j h. elim (slice_get-append r.jobs (flat_map (λ run. run.jobs) rs) n j h) [
+        | inl own ↦ here.numbers n j own
+        | inr other ↦ omega (arith, other.1, later.1 other.0 j other.2)
+      ],
+    )
 
 here_runs : (first k : ℕ) (rs : List RunPlan) → Each SoundRun rs → Numbered first rs → runs_rules first k rs ≡ None
 here_runs first k [] h numbers = refl
@@ -199,7 +198,7 @@ here_runs first k (r ∷ rs) h numbers =
     let rest = flat_map (λ run. run.jobs) rs in
     let here : RunHere first r = record {
       sound = Each-head SoundRun r rs h;
-      numbers = λ i j e. numbers i j (slice_get-append_left r.jobs rest i j e)
+      numbers = λ i j e. numbers i j (slice_get-append_left r.jobs rest i j e);
     } in
     let later : Numbered (first + length r.jobs) rs =
     λ n j e. omega (arith, numbers (length r.jobs + n) j (slice_get-append_right r.jobs rest n ∙ e)) in
@@ -231,7 +230,7 @@ plan_sound p e =
       few_runs = from_le (length p.runs) 64 counts.1;
       few_legs = omega (arith, legs, legs_count p.runs);
       numbers = λ n j h. omega (arith, here.1 n j h);
-      runs = here.0
+      runs = here.0;
     }
 
 pub sound_plan : (p : Plan) → SoundPlan p → IsPlan p

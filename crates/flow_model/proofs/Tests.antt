@@ -1,5 +1,5 @@
 -- Tests joined by `&&`, of what may be missing, and of numbers.
-use Rattle.std.proofs.Common.{◌≡◌, ◌≤◌, ◌<◌, ℕ, ℤ, Bool, true, false, IsTrue, ◌&&◌, ◌==◌, nat_le, nat_lt, Option, Some, None, IfSome, refl, arith}
+use Rattle.std.proofs.Common.{◌≡◌, ◌≤◌, ◌<◌, ℕ, Bool, true, false, IsTrue, ◌&&◌, ◌==◌, nat_le, nat_lt, Option, Some, None, IfSome, refl, arith}
 use Rattle.std.proofs.lemmas.Bool.Decides.{nat_tests}
 use Rattle.flow_model.specs.Rules.{all_there}
 

@@ -4,6 +4,7 @@ use Rattle.std.specs.Prelude.{◌≡◌, ℕ, ◌==◌, Bool, true, false, List,
 use Rattle.flow_model.specs.Plain.{Plain}
 use Rattle.flow_model.specs.Found.{Path, rule, or_else, under, each}
 use Rattle.flow_model.specs.Rules.{plan_rules}
+use Rattle.flow_model.specs.Sound.{SoundPlan}
 use Rattle.flow_model.specs.declared.check.Broken.{Broken}
 use Rattle.flow_model.specs.declared.check.Broken.TheVariants.{Rule, Memory}
 use Rattle.flow_model.specs.declared.plan.Plan.{Plan}
@@ -78,3 +79,9 @@ abbrev pub ChecksPlan : Plan → Result Plan Broken → Type 0
 ChecksPlan p (Ok checked) = IsOffered p
 ChecksPlan p (Err (Rule path)) = refusal p ≡ Some path
 ChecksPlan p (Err Memory) = Unit {0}
+
+-- The same in the rules' own words: a plan is accepted exactly where each rule holds and all of it is offered so far.
+abbrev pub AcceptsSound : Plan → Result Plan Broken → Type 0
+AcceptsSound p (Ok checked) = SoundPlan p × (plan_offer p ≡ None)
+AcceptsSound p (Err (Rule path)) = SoundPlan p → plan_offer p ≡ None → ⊥
+AcceptsSound p (Err Memory) = Unit {0}

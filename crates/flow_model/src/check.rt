@@ -7,6 +7,7 @@ ghost use Rattle.std.specs.List.{list_any};
 ghost use Rattle.std.specs.Str.{bytes_eq};
 ghost use Rattle.flow_model.specs.Found as found;
 ghost use Rattle.flow_model.specs.Found.{Checks, ChecksUnder};
+ghost use Rattle.flow_model.specs.Offered.{refusal};
 
 use crate::duplicate::Duplicate;
 use crate::mapping::Mapping;
@@ -162,6 +163,14 @@ pub(crate) fn check_map<V, T: PairTest<V>>(
     under(alloc, key, check_pairs::<V, T>(alloc, pairs))
 }
 
+/// Checks the rules of a plan, and then that all of it is offered so far.
+fn check_whole(alloc: Global, plan: &Plan) -> Result<(), Broken>
+    ensures { Checks (refusal plan.now) result }
+{
+    check_plan(alloc, plan)?;
+    check_offer(alloc, plan)
+}
+
 /// A plan whose rules all hold, and of which all is offered so far. It is made by `Plan::check`, or copied.
 #[derive(Drop)]
 pub struct CheckedPlan {
@@ -185,7 +194,7 @@ impl Model for CheckedPlan {
 }
 
 impl Plan {
-    ghost use Rattle.flow_model.specs.Offered.{ChecksPlan};
+    ghost use Rattle.flow_model.specs.Offered.{AcceptsSound, ChecksPlan};
 
     /// Accepts the plan where each of its rules holds and all of it is offered so far.
     ///
@@ -196,9 +205,9 @@ impl Plan {
     pub fn check(self, alloc: Global) -> Result<CheckedPlan, Broken>
         ensures accepted { IfOk result (λ checked. checked ≡ self) }
         ensures exact { ChecksPlan self result }
+        ensures rules { AcceptsSound self result }
     {
-        check_plan(alloc, &self)?;
-        check_offer(alloc, &self)?;
+        check_whole(alloc, &self)?;
         Ok(CheckedPlan { plan: self })
     }
 }

@@ -83,6 +83,7 @@ pub fn json_of_node(alloc: Global, node: &Node) -> Result<serde_json::Value, All
     }
 }
 
+/// The JSON of what nodes stand for.
 #[cycle(print)]
 fn json_of_nodes(alloc: Global, nodes: &Vec<Node>) -> Result<Vec<serde_json::Value>, AllocError>
     ensures { IfOk result
@@ -95,6 +96,7 @@ fn json_of_nodes(alloc: Global, nodes: &Vec<Node>) -> Result<Vec<serde_json::Val
     Ok(items)
 }
 
+/// The JSON of what members stand for.
 #[cycle(print)]
 fn json_of_members(
     alloc: Global,
@@ -110,6 +112,7 @@ fn json_of_members(
     Ok(json.into_map())
 }
 
+/// The node of a JSON value.
 #[cycle(read)]
 fn node_of(alloc: Global, json: &serde_json::Value) -> Result<Node, JsonFault>
     ensures { ReadsAs view result (value_of (json_view json.now)) }
@@ -145,6 +148,7 @@ pub fn whole_of(number: &serde_json::Number) -> Result<i64, JsonFault>
     }
 }
 
+/// The nodes of an array's items.
 #[cycle(read)]
 fn nodes_of(alloc: Global, items: &Vec<serde_json::Value>) -> Result<Vec<Node>, JsonFault>
     ensures { ReadsAs (λ nodes. plain.items_of (views nodes.items)) result
@@ -157,6 +161,7 @@ fn nodes_of(alloc: Global, items: &Vec<serde_json::Value>) -> Result<Vec<Node>, 
     Ok(nodes)
 }
 
+/// The members of an object.
 #[cycle(read)]
 fn members_of(
     alloc: Global,

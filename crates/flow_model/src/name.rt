@@ -2,18 +2,21 @@
 ghost use Rattle.std.specs.Prelude.{◌≡◌};
 ghost use Rattle.flow_model.specs.Name as spec;
 
+/// A to Z and a to z.
 fn is_letter(byte: u8) -> bool
     ensures { result ≡ spec.is_letter byte }
 {
     matches!(byte, b'A'..=b'Z' | b'a'..=b'z')
 }
 
+/// A letter, a digit, `-` or `_`.
 fn is_name_byte(byte: u8) -> bool
     ensures { result ≡ spec.is_name_byte byte }
 {
     is_letter(byte) || matches!(byte, b'0'..=b'9') || byte == b'-' || byte == b'_'
 }
 
+/// Letters, digits, `-` and `_`.
 fn are_name_bytes(bytes: &[u8]) -> bool
     ensures { result ≡ spec.are_name_bytes bytes.now }
 {

@@ -10,6 +10,7 @@ use std::alloc::Global;
 /// What can be played so far.
 pub(crate) struct Offer;
 
+/// Whether a flag is spelled out as false.
 fn is_never(flag: &Flag) -> bool
     ensures { result ≡ spec.is_never flag.now }
 {
@@ -19,6 +20,7 @@ fn is_never(flag: &Flag) -> bool
     }
 }
 
+/// Whether a step is a script.
 fn is_script(work: &Work) -> bool
     ensures { result ≡ spec.is_script work.now }
 {
@@ -32,6 +34,7 @@ fn is_script(work: &Work) -> bool
     }
 }
 
+/// Whether there is one combination, and it is empty.
 fn is_one_leg(legs: &[Combo]) -> bool
     ensures { result ≡ spec.is_one_leg legs.now }
 {

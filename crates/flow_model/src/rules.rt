@@ -13,7 +13,7 @@ use crate::check::{
 use crate::name::is_id;
 use crate::plan::{Combo, Group, JobPlan, Plan, Roots, RunPlan, StepPlan, Work};
 use crate::text::Text;
-use crate::texts::{is_flag, is_optional_condition, is_optional_text, is_evaluable};
+use crate::texts::{is_evaluable, is_flag, is_optional_condition, is_optional_text};
 use crate::value::Value;
 use crate::within::{GREATEST, Input, JobOutput, Property, Variable};
 use std::alloc::Global;
@@ -21,6 +21,7 @@ use std::alloc::Global;
 /// The rules of plan documents.
 pub(crate) struct Document;
 
+/// Checks a script and its directory.
 fn check_script(alloc: Global, dir: &Option<Text>, run: &Text) -> Result<(), Broken>
     ensures { Checks (spec.script_rules dir.now run.now) result }
 {
@@ -39,6 +40,7 @@ impl Rules<Work> for Document {
     }
 }
 
+/// Whether an id, if there is one, is spelled as ids are.
 fn is_optional_id(id: &Option<Text>) -> bool
     ensures { result ≡ spec.all_there is_id_text id.now }
 {
@@ -60,6 +62,7 @@ impl Rules<StepPlan> for Document {
     }
 }
 
+/// Checks a concurrency group.
 fn check_group(alloc: Global, group: &Group) -> Result<(), Broken>
     ensures { Checks (spec.group_rules group.now) result }
 {
@@ -86,6 +89,7 @@ impl Rules<Combo> for Document {
     }
 }
 
+/// Whether one of the steps has this id.
 fn is_step_id(id: &str, steps: &[StepPlan]) -> bool
     ensures { result ≡ list_any (bytes_eq id.now) (spec.step_ids steps.now) }
 {
@@ -99,6 +103,7 @@ fn is_step_id(id: &str, steps: &[StepPlan]) -> bool
     false
 }
 
+/// Whether no two steps have one id.
 fn are_steps_distinct(steps: &[StepPlan]) -> bool
     ensures { result ≡ spec.are_distinct (spec.step_ids steps.now) }
 {
@@ -112,6 +117,7 @@ fn are_steps_distinct(steps: &[StepPlan]) -> bool
     true
 }
 
+/// Checks the steps of a job.
 fn check_steps(alloc: Global, steps: &[StepPlan]) -> Result<(), Broken>
     ensures { Checks (spec.steps_rules steps.now) result }
 {
@@ -120,6 +126,7 @@ fn check_steps(alloc: Global, steps: &[StepPlan]) -> Result<(), Broken>
     check_list::<StepPlan, Document>(alloc, "steps", steps)
 }
 
+/// Whether a limit of the legs under way, if there is one, is in range.
 fn is_limit(limit: Option<u64>) -> bool
     ensures { result ≡ spec.all_there spec.is_limit limit }
 {
@@ -129,6 +136,7 @@ fn is_limit(limit: Option<u64>) -> bool
     }
 }
 
+/// Checks the legs of a job, and their limit.
 fn check_legs(alloc: Global, job: &JobPlan) -> Result<(), Broken>
     ensures { Checks (spec.legs_rules job.now) result }
 {
@@ -138,6 +146,7 @@ fn check_legs(alloc: Global, job: &JobPlan) -> Result<(), Broken>
     rule(alloc, "max_parallel", is_limit(job.max_parallel))
 }
 
+/// Whether numbers ascend strictly, from `low` on and below `high`.
 fn ascend_between(low: u64, high: u64, numbers: &[u64]) -> bool
     ensures { result ≡ spec.ascend_between low high numbers.now }
 {
@@ -151,6 +160,7 @@ fn ascend_between(low: u64, high: u64, numbers: &[u64]) -> bool
     true
 }
 
+/// Checks a job of this number, where its run's first job has the number `first`.
 fn check_job(alloc: Global, first: u64, number: u64, job: &JobPlan) -> Result<(), Broken>
     ensures { Checks (spec.job_rules first number job.now) result }
 {
@@ -170,6 +180,7 @@ fn check_job(alloc: Global, first: u64, number: u64, job: &JobPlan) -> Result<()
     rule(alloc, "tolerate", is_flag(&job.tolerate))
 }
 
+/// Checks the job at a place of its run, seen from the run's jobs.
 fn check_job_at(alloc: Global, first: u64, place: usize, job: &JobPlan) -> Result<(), Broken>
     requires { first + place < 2 ^ 64 }
     ensures { Checks (found.under (decimal place) (spec.job_rules first (first + place) job.now)) result }
@@ -181,6 +192,7 @@ fn check_job_at(alloc: Global, first: u64, place: usize, job: &JobPlan) -> Resul
     )
 }
 
+/// Checks the jobs of a run.
 fn check_jobs(alloc: Global, first: u64, jobs: &[JobPlan]) -> Result<(), Broken>
     requires { first + length jobs.now < 2 ^ 64 }
     ensures { Checks (spec.jobs_rules first 0 jobs.now) result }
@@ -193,6 +205,7 @@ fn check_jobs(alloc: Global, first: u64, jobs: &[JobPlan]) -> Result<(), Broken>
     Ok(())
 }
 
+/// Checks the jobs of a run, seen from the run.
 fn check_jobs_of_run(alloc: Global, first: u64, jobs: &[JobPlan]) -> Result<(), Broken>
     requires { first + length jobs.now < 2 ^ 64 }
     ensures { Checks (found.under (codes "jobs") (spec.jobs_rules first 0 jobs.now)) result }
@@ -200,6 +213,7 @@ fn check_jobs_of_run(alloc: Global, first: u64, jobs: &[JobPlan]) -> Result<(), 
     under(alloc, "jobs", check_jobs(alloc, first, jobs))
 }
 
+/// Whether one of the jobs has this id.
 fn is_job_id(id: &str, jobs: &[JobPlan]) -> bool
     ensures { result ≡ list_any (bytes_eq id.now) (spec.job_ids jobs.now) }
 {
@@ -211,6 +225,7 @@ fn is_job_id(id: &str, jobs: &[JobPlan]) -> bool
     false
 }
 
+/// Whether no two jobs have one id.
 fn are_jobs_distinct(jobs: &[JobPlan]) -> bool
     ensures { result ≡ spec.are_distinct (spec.job_ids jobs.now) }
 {
@@ -249,6 +264,7 @@ fn check_run(alloc: Global, first: u64, run: &RunPlan) -> Result<(), Broken>
     check_under::<Roots, Document>(alloc, "roots", &run.roots)
 }
 
+/// Checks the run at a place, seen from all runs.
 fn check_run_at(alloc: Global, first: u64, place: usize, run: &RunPlan) -> Result<(), Broken>
     requires { first ≤ 65536 }
     ensures checks { Checks (found.under (decimal place) (spec.run_rules first run.now)) result }
@@ -257,6 +273,7 @@ fn check_run_at(alloc: Global, first: u64, place: usize, run: &RunPlan) -> Resul
     at_place(alloc, place, check_run(alloc, first, run))
 }
 
+/// Checks all runs.
 fn check_runs(alloc: Global, runs: &[RunPlan]) -> Result<(), Broken>
     requires { length runs.now ≤ 64 }
     ensures { Checks (spec.runs_rules 0 0 runs.now) result }
@@ -287,6 +304,7 @@ fn room_after_jobs(jobs: &[JobPlan], room: usize) -> Option<usize>
     Some(left)
 }
 
+/// Whether the runs have at most 4,096 legs.
 fn are_few_legs(runs: &[RunPlan]) -> bool
     ensures { result ≡ nat_le (spec.legs_of_runs runs.now) 4096 }
 {
@@ -300,6 +318,7 @@ fn are_few_legs(runs: &[RunPlan]) -> bool
     true
 }
 
+/// Checks all runs, seen from the plan.
 fn check_runs_of_plan(alloc: Global, runs: &[RunPlan]) -> Result<(), Broken>
     requires { length runs.now ≤ 64 }
     ensures { Checks (found.under (codes "runs") (spec.runs_rules 0 0 runs.now)) result }

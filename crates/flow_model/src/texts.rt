@@ -35,6 +35,7 @@ pub(crate) fn is_evaluable(text: &str) -> bool
     text.len() <= 1_048_576 && !has_marker(text)
 }
 
+/// Whether a text, if there is one, can be evaluated.
 pub(crate) fn is_optional_text(text: &Option<Text>) -> bool
     ensures { result ≡ spec.all_there spec.is_evaluable text.now }
 {
@@ -44,6 +45,7 @@ pub(crate) fn is_optional_text(text: &Option<Text>) -> bool
     }
 }
 
+/// Whether a condition, if there is one, can be evaluated.
 pub(crate) fn is_optional_condition(text: &Option<Text>) -> bool
     ensures { result ≡ spec.all_there spec.is_condition text.now }
 {

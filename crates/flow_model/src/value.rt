@@ -90,6 +90,7 @@ pub fn copy_node(alloc: Global, node: &Node) -> Result<Node, AllocError>
     }
 }
 
+/// Nodes that stand for the same data.
 #[cycle(copy)]
 fn copy_nodes(alloc: Global, nodes: &Vec<Node>) -> Result<Vec<Node>, AllocError>
     ensures { IfOk result (λ twins. views twins.items ≡ views nodes.now.items) }
@@ -101,6 +102,7 @@ fn copy_nodes(alloc: Global, nodes: &Vec<Node>) -> Result<Vec<Node>, AllocError>
     Ok(twins)
 }
 
+/// Members that stand for the same data.
 #[cycle(copy)]
 fn copy_members(
     alloc: Global,

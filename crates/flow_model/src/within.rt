@@ -38,6 +38,7 @@ pub fn is_within(node: &Node, room: u64) -> bool
     }
 }
 
+/// The same of a list's items.
 #[cycle(within)]
 fn are_within(nodes: &Vec<Node>, room: u64) -> bool
     ensures { result ≡ spec.items_within room (plain.items_of (views nodes.now.items)) }
@@ -50,6 +51,7 @@ fn are_within(nodes: &Vec<Node>, room: u64) -> bool
     true
 }
 
+/// The same of a map's members.
 #[cycle(within)]
 fn are_members_within(members: &BTreeMap<String, Node>, room: u64) -> bool
     ensures { result
@@ -77,6 +79,7 @@ fn is_scalar(value: &Value) -> bool
     }
 }
 
+/// Whether there is neither `=` nor a zero byte.
 fn are_variable_bytes(bytes: &[u8]) -> bool
     ensures { result ≡ list_all spec.is_variable_byte bytes.now }
 {
