@@ -1,5 +1,5 @@
 -- Joining, item by item.
-use Rattle.std.proofs.Common.{◌≡◌, ℕ, Bool, true, false, Option, Result, List, [], ◌∷◌, ◌++◌, refl, sym, ap, subst, ◌∙◌}
+use Rattle.std.proofs.Common.{◌≡◌, ℕ, Bool, true, false, Option, Result, List, ◌∷◌, ◌++◌, refl, sym, ap, subst, ◌∙◌}
 use Rattle.expr_value.specs.Bounded.{grown}
 use Rattle.expr_value.specs.Functions.{text_of_value}
 use Rattle.expr_value.specs.Joining.{item_text, items_text}
@@ -7,7 +7,6 @@ use Rattle.expr_value.proofs.Growing.{grown_grown}
 use Rattle.expr_value.proofs.Lists.{items-again}
 use Rattle.std.specs.List.{join_by}
 use Rattle.expr_value.specs.Answer.{Gives}
-use Rattle.expr_value.specs.Kind.{items}
 use Rattle.expr_value.specs.Limit.{limited}
 use Rattle.expr_value.specs.Functions.{join}
 use Rattle.flow_model.specs.Plain.{Plain, list, items_of}

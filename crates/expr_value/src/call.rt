@@ -8,9 +8,9 @@ ghost use Rattle.expr_value.specs.Seen.{item_seen};
 ghost use Rattle.flow_model.specs.Value.{view};
 
 use crate::format::format;
+use crate::item::Item;
 use crate::join::join;
 use crate::json_text::{from_json, to_json};
-use crate::item::Item;
 use crate::search::{Place, finds};
 use crate::status::Status;
 use crate::text::text_of_kind;

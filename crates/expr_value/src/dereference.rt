@@ -10,9 +10,9 @@ ghost use Rattle.expr_value.specs.Seen.{item_seen, items_seen, found_seen, maybe
 ghost use Rattle.flow_model.specs.Value.{view, views};
 
 use crate::compare::text_order;
+use crate::item::{Item, item_copies};
 use crate::kind::Kind;
 use crate::number::number_of;
-use crate::item::{Item, item_copies};
 use crate::text::text_of_kind;
 use flow_model::{Node, ValueFault, copy_node};
 use std::alloc::{AllocError, Global};
@@ -218,11 +218,7 @@ fn indexes<'a>(
 }
 
 // `.name` of one value: the property, or null.
-fn one_property<'a>(
-    alloc: Global,
-    item: &Item<'a>,
-    name: &str,
-) -> Result<Found<'a>, ValueFault>
+fn one_property<'a>(alloc: Global, item: &Item<'a>, name: &str) -> Result<Found<'a>, ValueFault>
     ensures { Gives found_seen result
         (Ok (property_found_of name.now (one (item_seen item.now)))) }
 {
@@ -256,11 +252,7 @@ pub(crate) fn property_found<'a>(
 }
 
 // `[index]` of one value: what stands there, or null.
-fn one_index<'a>(
-    alloc: Global,
-    item: &Item<'a>,
-    index: Kind<'_>,
-) -> Result<Found<'a>, ValueFault>
+fn one_index<'a>(alloc: Global, item: &Item<'a>, index: Kind<'_>) -> Result<Found<'a>, ValueFault>
     ensures { Gives found_seen result
         (index_found_of (kind_seen index.entry) (one (item_seen item.now))) }
 {

@@ -14,8 +14,8 @@ ghost use Rattle.flow_model.specs.Value.{view};
 
 use crate::bounded::Bounded;
 use crate::digits::digits_length;
-use crate::kind::Kind;
 use crate::item::Item;
+use crate::kind::Kind;
 use crate::text::push_kind;
 use flow_model::{Node, ValueFault};
 use std::alloc::Global;
@@ -189,11 +189,7 @@ fn push_piece<'a>(
 }
 
 /// A format text with its arguments.
-pub(crate) fn format(
-    alloc: Global,
-    text: &str,
-    arguments: &[Item<'_>],
-) -> Result<Node, ValueFault>
+pub(crate) fn format(alloc: Global, text: &str, arguments: &[Item<'_>]) -> Result<Node, ValueFault>
     ensures { Gives view result (formatted_value (formatted (texts_of arguments.now) text.now)) }
 {
     let mut bounded = Bounded::empty(alloc);

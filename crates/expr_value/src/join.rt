@@ -12,8 +12,8 @@ ghost use Rattle.expr_value.specs.Seen.{kind_seen, item_seen};
 ghost use Rattle.flow_model.specs.Value.{view, views};
 
 use crate::bounded::Bounded;
-use crate::kind::{Kind, kind_of};
 use crate::item::Item;
+use crate::kind::{Kind, kind_of};
 use crate::text::push_kind;
 use flow_model::{Node, ValueFault};
 use std::alloc::{AllocError, Global};

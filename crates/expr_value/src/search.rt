@@ -10,8 +10,8 @@ ghost use Rattle.expr_value.specs.Seen.{kind_seen, item_seen};
 ghost use Rattle.flow_model.specs.Value.{view, views};
 
 use crate::compare::equals;
-use crate::kind::{Kind, is_collection, kind_of};
 use crate::item::Item;
+use crate::kind::{Kind, is_collection, kind_of};
 use crate::text::text_of_kind;
 use flow_model::Node;
 use std::alloc::{AllocError, Global};
