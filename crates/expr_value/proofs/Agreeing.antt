@@ -7,14 +7,13 @@ use Rattle.expr_reader.specs.declared.tree.Context.TheVariants.{Github, Env, Var
 use Rattle.expr_value.specs.Condition.{condition_holds, truth_value}
 use Rattle.expr_value.specs.Context.{Contexts}
 use Rattle.expr_value.specs.Dereference.{one}
-use Rattle.expr_value.specs.Evaluate.{Answer, Chain, ended, begun, then_value, all_values, call_value, conjunction, disjunction, opposite_value, relation_value, equality_value, of_two, property_chain, index_chain, all_chain, chain, answers, value, evaluated}
+use Rattle.expr_value.specs.Evaluate.{Answer, Chain, ended, begun, then_value, all_values, call_value, conjunction, disjunction, opposite_value, relation_value, equality_value, of_two, property_chain, index_chain, all_chain, chain, answers, value}
 use Rattle.expr_value.specs.Functions.{is_success}
 use Rattle.expr_value.specs.Limit.{last_value}
 use Rattle.expr_value.specs.Named.{is_same_context, expr_names_context, any_names_context, piece_names_context, pieces_name_context, AgreeOn}
 use Rattle.expr_value.specs.Template.{text_answer, piece_text, with_text, pieces_text, limited_text, template_value}
 use Rattle.expr_value.specs.declared.status.Status.{Status}
 use Rattle.flow_model.specs.Plain as model
-use Rattle.flow_model.specs.declared.reply.ValueFault.{ValueFault}
 
 same_itself : (x : Context) → is_same_context x x ≡ true
 same_itself Github = refl

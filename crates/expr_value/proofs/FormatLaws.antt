@@ -1,13 +1,11 @@
 -- Laws of `format`.
-use Rattle.std.proofs.Common.{◌≡◌, ℕ, ◌^◌, ◌<◌, Bool, true, false, cond, ◌&&◌, ◌==◌, Option, Some, None, is_some, unwrap_or, Result, Ok, Err, List, [], ◌∷◌, ◌++◌, length, map, decimal, append-nil, append_assoc, refl, sym, ap, ◌∙◌, arith}
+use Rattle.std.proofs.Common.{◌≡◌, ℕ, ◌^◌, ◌<◌, Bool, true, false, cond, ◌&&◌, ◌==◌, Option, Some, None, is_some, unwrap_or, Err, List, [], ◌∷◌, ◌++◌, length, map, decimal, append-nil, append_assoc, refl, sym, ap, ◌∙◌, arith}
 use Rattle.std.specs.Prelude.{codes, flat_map}
 use Rattle.std.proofs.lemmas.Bool.{cond-false, eqb-true}
 use Rattle.std.proofs.lemmas.Fmt.{digits_decimal, digits_value-decimal, decimal_nonempty}
 use Rattle.std.proofs.lemmas.Option.{slice_get-map}
 use Rattle.std.specs.List.{list_all, slice_get, AllByRecursion}
 use Rattle.std.specs.Option.{option_map}
-use Rattle.expr_reader.specs.Bytes.{is_digit}
-use Rattle.expr_reader.specs.Number.{digits_value}
 use Rattle.expr_value.proofs.Braces.{plain_run, opened_run, consed, unchanged}
 use Rattle.expr_value.proofs.JsonNumbers.{own_digits}
 use Rattle.expr_value.specs.Format.{formatted, after_byte, after_argument}
@@ -16,7 +14,6 @@ use Rattle.expr_value.specs.Functions.{format, formatted_value, text_of_value}
 use Rattle.expr_value.specs.JsonNumber.{IsDigits}
 use Rattle.expr_value.specs.Limit.{limited}
 use Rattle.flow_model.specs.Plain.{Plain, text}
-use Rattle.flow_model.specs.declared.reply.ValueFault.{ValueFault}
 use Rattle.flow_model.specs.declared.reply.ValueFault.TheVariants.{BadFormat}
 
 pub without_braces : (arguments : List (List ℕ)) (bytes : List ℕ) → HasNoBrace bytes → formatted arguments bytes ≡ Some bytes

@@ -1,5 +1,5 @@
 -- The text of a value's JSON is read back as that value.
-use Rattle.std.proofs.Common.{◌≡◌, ℕ, zero, suc, ◌*◌, ◌^◌, ◌<◌, ◌≤◌, max, inl, inr, ℤ, pos, negsuc, Bool, true, false, IsTrue, ◌&&◌, nat_le, cond, Option, Some, None, option_map, option_and_then, Result, Ok, Err, List, [], ◌∷◌, ◌++◌, length, map, replicate, decimal, refl, sym, ap, subst, ◌∙◌, append-nil, append_assoc, arith, Greater, Less, nat_cmp}
+use Rattle.std.proofs.Common.{◌≡◌, ℕ, zero, suc, ◌*◌, ◌^◌, ◌<◌, ◌≤◌, max, inl, inr, ℤ, pos, negsuc, Bool, true, false, IsTrue, ◌&&◌, nat_le, Option, Some, option_map, option_and_then, Ok, List, [], ◌∷◌, ◌++◌, length, map, replicate, refl, sym, ap, subst, ◌∙◌, append-nil, append_assoc, arith, Greater, Less, nat_cmp}
 use Rattle.std.proofs.lemmas.Bool.{cond-true}
 use Rattle.std.proofs.lemmas.Bool.Decides.{nat_tests}
 use Rattle.std.proofs.lemmas.Cmp.{nat_list_cmp_total}
@@ -11,7 +11,7 @@ use Rattle.json.proofs.Printed.Decimals.{IsNumber-signed_decimal}
 use Rattle.json.proofs.Printed.Tokens.{tokens-print_spaced}
 use Rattle.json.proofs.Printed.Trees.{value-json_tokens, ArePrintable-json_tokens}
 use Rattle.json.specs.Json as json
-use Rattle.json.specs.Layout.{Last, nothing, bracket, name, value as after_value, is_value, line, gap, depth_at, after, step, pretty_from, pretty}
+use Rattle.json.specs.Layout.{Last, nothing, bracket, name, value as after_value, is_value, gap, depth_at, after, step, pretty_from, pretty}
 use Rattle.json.specs.Lex.{tokens}
 use Rattle.json.specs.Print.{IsNumber, begins, ends, separator, token_text, ArePrintable}
 use Rattle.json.specs.Spaced.{IsGap, AreGaps, print_spaced}

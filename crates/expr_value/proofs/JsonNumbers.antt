@@ -69,8 +69,8 @@ integer_fact : (bs : List ℕ) → is_integer bs ≡ true → IsInteger bs
 integer_fact [] h = absurd (cc)
 integer_fact (b ∷ []) h =
     elim (cases_Bool (b == 48)) [
-      inl e ↦ inl (ap (λ (c : ℕ). c ∷ []) (eqb-true b 48 e))
-    | inr e ↦ inr ((cons_some b [], one_digit b h), λ rest. other_first b [] rest e)
+      | inl e ↦ inl (ap (λ (c : ℕ). c ∷ []) (eqb-true b 48 e))
+      | inr e ↦ inr ((cons_some b [], one_digit b h), λ rest. other_first b [] rest e)
     ]
 integer_fact (b ∷ c ∷ bs) h =
     let parts = and_parts (not (b == 48)) (list_all is_digit (b ∷ c ∷ bs)) h in
@@ -99,6 +99,7 @@ exponent_test bs h = go h.marked
   where
     power : is_power (h.sign ++ h.digits) ≡ true
     power = power_test h.sign h.digits h.signed h.are_digits
+
     go : (h.mark ≡ codes "e") ⊎ (h.mark ≡ codes "E") → is_exponent bs ≡ true
     go (inl e) = ap is_exponent (h.same ∙ ap (λ (m : List ℕ). m ++ (h.sign ++ h.digits)) e) ∙ power
     go (inr e) = ap is_exponent (h.same ∙ ap (λ (m : List ℕ). m ++ (h.sign ++ h.digits)) e) ∙ power
@@ -243,23 +244,23 @@ record Unsigned (bs : List ℕ) : Type 0 where
 parts_cases : (ds rest : List ℕ) → (number_of_parts ds rest ≡ Ok None) ⊎ Unsigned (ds ++ rest)
 parts_cases ds [] =
     elim (cases_Bool (is_integer ds)) [
-      inl e ↦ inr (record { integer = ds; fraction = []; exponent = []; same = refl; is_integer = integer_fact ds e; is_fraction = inl refl; is_exponent = inl refl })
-    | inr e ↦ inl (cond-false (is_integer ds) (in_range (digits_value 10 0 ds)) (Ok None) e)
+      | inl e ↦ inr (record { integer = ds; fraction = []; exponent = []; same = refl; is_integer = integer_fact ds e; is_fraction = inl refl; is_exponent = inl refl })
+      | inr e ↦ inl (cond-false (is_integer ds) (in_range (digits_value 10 0 ds)) (Ok None) e)
     ]
 parts_cases ds (b ∷ bs) =
     elim (cases_Bool (is_integer ds && is_tail (b ∷ bs))) [
-      inl e ↦
-        (let both = and_parts (is_integer ds) (is_tail (b ∷ bs)) e in
-        let t = tail_fact (b ∷ bs) both.1 in
-        inr (record { integer = ds; fraction = t.fraction; exponent = t.exponent; same = ap (λ (w : List ℕ). ds ++ w) t.same; is_integer = integer_fact ds both.0; is_fraction = t.is_fraction; is_exponent = t.is_exponent }))
-    | inr e ↦ inl (cond-false (is_integer ds && is_tail (b ∷ bs)) (Err NotWhole) (Ok None) e)
+      | inl e ↦
+          (let both = and_parts (is_integer ds) (is_tail (b ∷ bs)) e in
+          let t = tail_fact (b ∷ bs) both.1 in
+          inr (record { integer = ds; fraction = t.fraction; exponent = t.exponent; same = ap (λ (w : List ℕ). ds ++ w) t.same; is_integer = integer_fact ds both.0; is_fraction = t.is_fraction; is_exponent = t.is_exponent }))
+      | inr e ↦ inl (cond-false (is_integer ds && is_tail (b ∷ bs)) (Err NotWhole) (Ok None) e)
     ]
 
 unsigned_cases : (bs : List ℕ) → (unsigned_number bs ≡ Ok None) ⊎ Unsigned bs
 unsigned_cases bs =
     elim (parts_cases (take (prefix_len is_digit bs) bs) (drop (prefix_len is_digit bs) bs)) [
-      inl e ↦ inl e
-    | inr u ↦ inr (subst Unsigned (take-append-drop (prefix_len is_digit bs) bs) u)
+      | inl e ↦ inl e
+      | inr u ↦ inr (subst Unsigned (take-append-drop (prefix_len is_digit bs) bs) u)
     ]
 
 -- ---- a number with its sign
@@ -374,8 +375,8 @@ not_whole_if : (text : List ℕ) → number_of_text text ≡ Err NotWhole → Is
 not_whole_if text h =
     let some : text ≢ [] = λ empty. empty_some (sym (ap number_of_text empty) ∙ h) in
     elim (number_cases text some) [
-      inl e ↦ absurd (not_both (number_of_text text) e h)
-    | inr n ↦ (let s = number_meaning text n in (n, why_by n.integer n.fraction n.exponent s.sign n.is_fraction n.is_exponent (sym s.value ∙ h)))
+      | inl e ↦ absurd (not_both (number_of_text text) e h)
+      | inr n ↦ (let s = number_meaning text n in (n, why_by n.integer n.fraction n.exponent s.sign n.is_fraction n.is_exponent (sym s.value ∙ h)))
     ]
   where
     empty_some : number_of_text [] ≡ Err NotWhole → ⊥
@@ -445,7 +446,7 @@ pub integer_has_its_value : (digits : List ℕ) → IsInteger digits → digits_
     → (number_of_text digits ≡ Ok (Some (pos (digits_value 10 0 digits)))) × (number_of_text (codes "-" ++ digits) ≡ Ok (Some (negative (digits_value 10 0 digits))))
 integer_has_its_value digits h small = (
   ap number_of_text (sym (append-nil digits)) ∙ digit_first digits [] (integer_some digits h)
-  ∙ ap (λ (w : List ℕ). with_sign pos (unsigned_number w)) (append-nil digits) ∙ ap (with_sign pos) value,
+      ∙ ap (λ (w : List ℕ). with_sign pos (unsigned_number w)) (append-nil digits) ∙ ap (with_sign pos) value,
   ap (with_sign negative) value,
 )
   where

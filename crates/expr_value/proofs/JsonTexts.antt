@@ -1,9 +1,8 @@
 -- The text of a value's JSON.
-use Rattle.std.proofs.Common.{◌≡◌, ℕ, ℤ, Ok, Some, pos, negsuc, Bool, true, false, ◌||◌, List, [], ◌∷◌, map as map_list, refl, ap, ◌∙◌}
+use Rattle.std.proofs.Common.{◌≡◌, ℕ, ℤ, Ok, Some, pos, negsuc, Bool, true, false, ◌||◌, List, refl, ap, ◌∙◌}
 use Rattle.json.specs.Layout.{pretty}
 use Rattle.json.specs.Lex.{tokens}
-use Rattle.serde_json.specs.Data.{Data, item as data_item}
-use Rattle.serde_json.specs.View.{items_of as data_items}
+use Rattle.serde_json.specs.Data.{Data}
 use Rattle.serde_json.specs.Find.{of_integer, is_float}
 use Rattle.serde_json.specs.Written.{IsInOrder, has_float, items_have_float, members_have_float}
 use Rattle.serde_json.proofs.Texts.{tokens_from_order}
@@ -13,10 +12,8 @@ use Rattle.expr_value.specs.Functions.{pretty_text, from_json, value_read, whole
 use Rattle.expr_value.specs.Limit.{limited}
 use Rattle.expr_value.proofs.Growing.{limited_is}
 use Rattle.flow_model.proofs.Conversions.{value_again}
-use Rattle.expr_value.specs.Seen.{item_seen}
-use Rattle.expr_value.specs.declared.operand.Item.{Item}
 use Rattle.flow_model.specs.Json.{is_in_range, json_of, json_items, json_members}
-use Rattle.flow_model.specs.Plain.{Plain, null, truth, whole, text, list, map, Items, items_of, no_items, item, Members, no_members, member}
+use Rattle.flow_model.specs.Plain.{Plain, null, truth, whole, text, list, map, Items, no_items, item, Members, no_members, member}
 
 either : (a b : Bool) → a ≡ false → b ≡ false → (a || b) ≡ false
 either true b at_a at_b = at_a
@@ -47,11 +44,6 @@ mutual
 -- A text that is laid out so and has the JSON of a value in order is its text.
 pub pretty_exact : (bytes : List ℕ) (v : Plain) (d : Data) → bytes ≡ pretty (tokens bytes) → IsInOrder bytes d → d ≡ json_of v → bytes ≡ pretty_text (json_of v)
 pretty_exact bytes v d layout order same = layout ∙ ap pretty (tokens_from_order bytes d order (ap has_float same ∙ no_float v)) ∙ ap pretty_text same
-
--- The JSON of a list's items.
-pub json_of_seen : (vs : List Item) → json_items (items_of (map_list item_seen vs)) ≡ data_items (map_list (λ v. json_of (item_seen v)) vs)
-json_of_seen [] = refl
-json_of_seen (v ∷ vs) = ap (data_item (json_of (item_seen v))) (json_of_seen vs)
 
 -- The value of a text that reads as the JSON of a value in range.
 pub text_read : (v : Plain) (bytes : List ℕ) (node : Plain) → limited bytes ≡ Ok node → read bytes ≡ Some (json_of v) → IsTrue (is_in_range v) → from_json node ≡ Ok v

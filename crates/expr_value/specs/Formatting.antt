@@ -4,15 +4,15 @@ use Rattle.std.specs.Borrow.{Bor}
 use Rattle.expr_value.specs.Bounded.{grown, grown_value}
 use Rattle.expr_value.specs.Format.{opening, closing, formatted}
 use Rattle.expr_value.specs.Functions.{text_of_value}
-use Rattle.expr_value.specs.Seen.{operand_seen}
-use Rattle.expr_value.specs.declared.operand.Operand.{Operand}
+use Rattle.expr_value.specs.Seen.{items_seen}
+use Rattle.expr_value.specs.declared.item.Item.{Item}
 use Rattle.flow_model.specs.Plain.{Plain}
 use Rattle.flow_model.specs.declared.reply.ValueFault.{ValueFault}
 use Rattle.flow_model.specs.declared.reply.ValueFault.TheVariants.{NotWhole, NoIdentity, BadFormat, BadJson, TooLarge, Memory}
 
 -- The texts of arguments.
-abbrev pub texts_of : List Operand → List (List ℕ)
-texts_of arguments = map text_of_value (map operand_seen arguments)
+abbrev pub texts_of : List Item → List (List ℕ)
+texts_of arguments = map text_of_value (items_seen arguments)
 
 -- A byte that stands for itself.
 abbrev pub is_plain : ℕ → Bool

@@ -15,10 +15,8 @@ use Rattle.expr_value.specs.declared.kind.Kind.TheVariants as variant
 use Rattle.expr_value.specs.Dereference as chain
 use Rattle.expr_value.specs.declared.dereference.Found as found
 use Rattle.expr_value.specs.declared.dereference.Found.TheVariants as found_variant
-use Rattle.expr_value.specs.declared.operand.Item as item
-use Rattle.expr_value.specs.declared.operand.Item.TheVariants.{Lent, Made}
-use Rattle.expr_value.specs.declared.operand.Operand as operand
-use Rattle.expr_value.specs.declared.operand.Operand.TheVariants.{One, Many}
+use Rattle.expr_value.specs.declared.item.Item as item
+use Rattle.expr_value.specs.declared.item.Item.TheVariants.{Lent, Made}
 use Rattle.flow_model.specs.Plain as plain
 use Rattle.expr_value.specs.declared.status.Status.{Status}
 use Rattle.flow_model.specs.Mapping.{pairs_of}
@@ -40,12 +38,8 @@ item_seen (Made node) = view node
 abbrev pub items_seen : List item.Item → List plain.Plain
 items_seen vs = map item_seen vs
 
-abbrev pub operand_seen : operand.Operand → plain.Plain
-operand_seen (One v) = item_seen v
-operand_seen (Many vs) = plain.list (plain.items_of (items_seen vs.items))
-
 abbrev pub found_seen : found.Found → chain.Found
-found_seen (found_variant.One v) = chain.one (operand_seen v)
+found_seen (found_variant.One v) = chain.one (item_seen v)
 found_seen (found_variant.Filtered vs) = chain.filtered (items_seen vs.items)
 
 -- A node or an item that may be there.
@@ -54,9 +48,6 @@ node_seen node = option_map view (option_copied node)
 
 abbrev pub maybe_seen : Option item.Item → Option plain.Plain
 maybe_seen v = option_map item_seen v
-
-abbrev pub operands_seen : List operand.Operand → List plain.Plain
-operands_seen vs = map operand_seen vs
 
 -- The members of a map.
 abbrev pub members_seen : List (String Global × Node) → plain.Members

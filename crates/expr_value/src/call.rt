@@ -4,13 +4,13 @@ ghost use Rattle.std.specs.Prelude.{◌≡◌, codes, map};
 ghost use Rattle.expr_value.specs.Answer.{Gives};
 ghost use Rattle.expr_value.specs.Functions.{called, format_of, from_json as from_json_of, join_of, status_of, to_json as to_json_of, with_one, with_two};
 ghost use Rattle.expr_value.specs.Searching.{finds as finds_of};
-ghost use Rattle.expr_value.specs.Seen.{operand_seen};
+ghost use Rattle.expr_value.specs.Seen.{item_seen};
 ghost use Rattle.flow_model.specs.Value.{view};
 
 use crate::format::format;
+use crate::item::Item;
 use crate::join::join;
 use crate::json_text::{from_json, to_json};
-use crate::operand::Operand;
 use crate::search::{Place, finds};
 use crate::status::Status;
 use crate::text::text_of_kind;
@@ -19,59 +19,59 @@ use flow_model::{Node, ValueFault};
 use std::alloc::Global;
 
 // A call of `contains`, `startsWith` or `endsWith`.
-fn call_finds(alloc: Global, place: Place, arguments: &[Operand<'_>]) -> Result<Node, ValueFault>
-    ensures { Gives view result (with_two (finds_of place) (map operand_seen arguments.now)) }
+fn call_finds(alloc: Global, place: Place, arguments: &[Item<'_>]) -> Result<Node, ValueFault>
+    ensures { Gives view result (with_two (finds_of place) (map item_seen arguments.now)) }
 {
     match arguments {
-        [operand, value] => Ok(Node::Truth(finds(alloc, place, operand, value)?)),
+        [item, value] => Ok(Node::Truth(finds(alloc, place, item, value)?)),
         [] | [_] | [_, _, _, ..] => Ok(Node::Null),
     }
 }
 
 // A call of `format`.
-fn call_format(alloc: Global, arguments: &[Operand<'_>]) -> Result<Node, ValueFault>
-    ensures { Gives view result (format_of (map operand_seen arguments.now)) }
+fn call_format(alloc: Global, arguments: &[Item<'_>]) -> Result<Node, ValueFault>
+    ensures { Gives view result (format_of (map item_seen arguments.now)) }
 {
     match arguments {
         [] => Ok(Node::Null),
-        [operand, rest @ ..] => {
-            let text = text_of_kind(alloc, operand.kind())?;
+        [item, rest @ ..] => {
+            let text = text_of_kind(alloc, item.kind())?;
             format(alloc, text.as_str(), rest)
         },
     }
 }
 
 // A call of `join`.
-fn call_join(alloc: Global, arguments: &[Operand<'_>]) -> Result<Node, ValueFault>
-    ensures { Gives view result (join_of (map operand_seen arguments.now)) }
+fn call_join(alloc: Global, arguments: &[Item<'_>]) -> Result<Node, ValueFault>
+    ensures { Gives view result (join_of (map item_seen arguments.now)) }
 {
     match arguments {
-        [operand] => join(alloc, operand, ","),
-        [operand, separator] => {
+        [item] => join(alloc, item, ","),
+        [item, separator] => {
             let separator = text_of_kind(alloc, separator.kind())?;
-            join(alloc, operand, separator.as_str())
+            join(alloc, item, separator.as_str())
         },
         [] | [_, _, _, ..] => Ok(Node::Null),
     }
 }
 
 // A call of `toJSON`.
-fn call_to_json(alloc: Global, arguments: &[Operand<'_>]) -> Result<Node, ValueFault>
-    ensures { Gives view result (with_one to_json_of (map operand_seen arguments.now)) }
+fn call_to_json(alloc: Global, arguments: &[Item<'_>]) -> Result<Node, ValueFault>
+    ensures { Gives view result (with_one to_json_of (map item_seen arguments.now)) }
 {
     match arguments {
-        [operand] => to_json(alloc, operand),
+        [item] => to_json(alloc, item),
         [] | [_, _, ..] => Ok(Node::Null),
     }
 }
 
 // A call of `fromJSON`.
-fn call_from_json(alloc: Global, arguments: &[Operand<'_>]) -> Result<Node, ValueFault>
-    ensures { Gives view result (with_one from_json_of (map operand_seen arguments.now)) }
+fn call_from_json(alloc: Global, arguments: &[Item<'_>]) -> Result<Node, ValueFault>
+    ensures { Gives view result (with_one from_json_of (map item_seen arguments.now)) }
 {
     match arguments {
-        [operand] => {
-            let text = text_of_kind(alloc, operand.kind())?;
+        [item] => {
+            let text = text_of_kind(alloc, item.kind())?;
             from_json(alloc, text.as_str())
         },
         [] | [_, _, ..] => Ok(Node::Null),
@@ -79,8 +79,8 @@ fn call_from_json(alloc: Global, arguments: &[Operand<'_>]) -> Result<Node, Valu
 }
 
 // A call of a status function, whose test holds or not.
-fn call_status(holds: bool, arguments: &[Operand<'_>]) -> Result<Node, ValueFault>
-    ensures { Gives view result (status_of holds (map operand_seen arguments.now)) }
+fn call_status(holds: bool, arguments: &[Item<'_>]) -> Result<Node, ValueFault>
+    ensures { Gives view result (status_of holds (map item_seen arguments.now)) }
 {
     match arguments {
         [] => Ok(Node::Truth(holds)),
@@ -94,9 +94,9 @@ pub(crate) fn call(
     alloc: Global,
     function: Function,
     status: Status,
-    arguments: &[Operand<'_>],
+    arguments: &[Item<'_>],
 ) -> Result<Node, ValueFault>
-    ensures { Gives view result (called function status (map operand_seen arguments.now)) }
+    ensures { Gives view result (called function status (map item_seen arguments.now)) }
 {
     match function {
         Function::Contains => call_finds(alloc, Place::Anywhere, arguments),

@@ -6,13 +6,13 @@ ghost use Rattle.std.specs.List.{cons_option, filter_map, flat_map};
 ghost use Rattle.expr_value.specs.Answer.{Gives};
 ghost use Rattle.expr_value.specs.Convert.{text_of, number_of as number_of_kind};
 ghost use Rattle.expr_value.specs.Dereference.{one, filtered, or_null as or_null_of, is_alike as is_alike_of, property_in, property_of as property_of_value, item_at, item_found, index_of as index_of_value, contents, index_each, property_found as property_found_of, index_found as index_found_of, all_found as all_found_of, outside as outside_of};
-ghost use Rattle.expr_value.specs.Seen.{item_seen, items_seen, operand_seen, found_seen, maybe_seen, node_seen, kind_seen, members_seen};
+ghost use Rattle.expr_value.specs.Seen.{item_seen, items_seen, found_seen, maybe_seen, node_seen, kind_seen, members_seen};
 ghost use Rattle.flow_model.specs.Value.{view, views};
 
 use crate::compare::text_order;
+use crate::item::{Item, item_copies};
 use crate::kind::Kind;
 use crate::number::number_of;
-use crate::operand::{Item, Operand, again};
 use crate::text::text_of_kind;
 use flow_model::{Node, ValueFault, copy_node};
 use std::alloc::{AllocError, Global};
@@ -22,7 +22,7 @@ use std::collections::BTreeMap;
 /// What a chain of dereferences has come to: one value, or a filtered list.
 #[derive(Drop)]
 pub(crate) enum Found<'a> {
-    One(Operand<'a>),
+    One(Item<'a>),
     Filtered(Vec<Item<'a>>),
 }
 
@@ -171,73 +171,13 @@ fn item_index<'a>(
     }
 }
 
-// The item at a number, from 0.
-fn place_of<'a>(
-    alloc: Global,
-    items: &[Item<'a>],
-    number: Option<i64>,
-) -> Result<Option<Item<'a>>, AllocError>
-    ensures { IfOk result (λ found. maybe_seen found ≡ item_at number (items_seen items.now)) }
-{
-    match number {
-        Some(place) if place >= 0 => match items.get(place as usize) {
-            Some(item) => Ok(Some(again(alloc, item)?)),
-            None => Ok(None),
-        },
-        _ => Ok(None),
-    }
-}
-
-// What stands at an index in a list of items.
-fn index_items<'a>(
-    alloc: Global,
-    items: &[Item<'a>],
-    index: Kind<'_>,
-) -> Result<Option<Item<'a>>, ValueFault>
-    ensures { Gives maybe_seen result
-        (item_found (number_of_kind (kind_seen index.entry)) (items_seen items.now)) }
-{
-    let number = number_of(index)?;
-    Ok(place_of(alloc, items, number)?)
-}
-
 // One value, or null.
 fn or_null(item: Option<Item<'_>>) -> Found<'_>
     ensures { found_seen result ≡ one (or_null_of (maybe_seen item.entry)) }
 {
     match item {
-        Some(item) => Found::One(Operand::One(item)),
-        None => Found::One(Operand::One(Item::Made(Node::Null))),
-    }
-}
-
-// The property of an operand, where it is a map that has it.
-fn operand_property<'a>(
-    alloc: Global,
-    operand: &Operand<'a>,
-    name: &str,
-) -> Result<Option<Item<'a>>, AllocError>
-    ensures { IfOk result
-        (λ found. maybe_seen found ≡ property_of_value name.now (operand_seen operand.now)) }
-{
-    match operand {
-        Operand::One(item) => item_property(alloc, item, name),
-        Operand::Many(_) => Ok(None),
-    }
-}
-
-// What stands at an index in an operand.
-fn operand_index<'a>(
-    alloc: Global,
-    operand: &Operand<'a>,
-    index: Kind<'_>,
-) -> Result<Option<Item<'a>>, ValueFault>
-    ensures { Gives maybe_seen result
-        (index_of_value (kind_seen index.entry) (operand_seen operand.now)) }
-{
-    match operand {
-        Operand::One(item) => item_index(alloc, item, index),
-        Operand::Many(items) => index_items(alloc, items.as_slice(), index),
+        Some(item) => Found::One(item),
+        None => Found::One(Item::Made(Node::Null)),
     }
 }
 
@@ -278,15 +218,11 @@ fn indexes<'a>(
 }
 
 // `.name` of one value: the property, or null.
-fn one_property<'a>(
-    alloc: Global,
-    operand: &Operand<'a>,
-    name: &str,
-) -> Result<Found<'a>, ValueFault>
+fn one_property<'a>(alloc: Global, item: &Item<'a>, name: &str) -> Result<Found<'a>, ValueFault>
     ensures { Gives found_seen result
-        (Ok (property_found_of name.now (one (operand_seen operand.now)))) }
+        (Ok (property_found_of name.now (one (item_seen item.now)))) }
 {
-    Ok(or_null(operand_property(alloc, operand, name)?))
+    Ok(or_null(item_property(alloc, item, name)?))
 }
 
 // `.name` of a filtered list.
@@ -310,21 +246,17 @@ pub(crate) fn property_found<'a>(
     ensures { Gives found_seen result (Ok (property_found_of name.now (found_seen found.now))) }
 {
     match found {
-        Found::One(operand) => one_property(alloc, operand, name),
+        Found::One(item) => one_property(alloc, item, name),
         Found::Filtered(items) => filtered_properties(alloc, items.as_slice(), name),
     }
 }
 
 // `[index]` of one value: what stands there, or null.
-fn one_index<'a>(
-    alloc: Global,
-    operand: &Operand<'a>,
-    index: Kind<'_>,
-) -> Result<Found<'a>, ValueFault>
+fn one_index<'a>(alloc: Global, item: &Item<'a>, index: Kind<'_>) -> Result<Found<'a>, ValueFault>
     ensures { Gives found_seen result
-        (index_found_of (kind_seen index.entry) (one (operand_seen operand.now))) }
+        (index_found_of (kind_seen index.entry) (one (item_seen item.now))) }
 {
-    Ok(or_null(operand_index(alloc, operand, index)?))
+    Ok(or_null(item_index(alloc, item, index)?))
 }
 
 // `[index]` of a filtered list.
@@ -349,17 +281,24 @@ pub(crate) fn index_found<'a>(
         (index_found_of (kind_seen index.entry) (found_seen found.now)) }
 {
     match found {
-        Found::One(operand) => one_index(alloc, operand, index),
+        Found::One(item) => one_index(alloc, item, index),
         Found::Filtered(items) => filtered_indexes(alloc, items.as_slice(), index),
     }
 }
 
+// A filtered list as a list.
+fn listed<'a>(alloc: Global, items: &[Item<'_>]) -> Result<Item<'a>, ValueFault>
+    ensures { Gives item_seen result (Ok (outside_of (filtered (items_seen items.now)))) }
+{
+    Ok(Item::Made(Node::List(item_copies(alloc, items)?)))
+}
+
 /// What a chain is outside of it: a filtered list is a list.
-pub(crate) fn outside(found: Found<'_>) -> Operand<'_>
-    ensures { operand_seen result ≡ outside_of (found_seen found.entry) }
+pub(crate) fn outside<'a>(alloc: Global, found: Found<'a>) -> Result<Item<'a>, ValueFault>
+    ensures { Gives item_seen result (Ok (outside_of (found_seen found.entry))) }
 {
     match found {
-        Found::One(operand) => operand,
-        Found::Filtered(items) => Operand::Many(items),
+        Found::One(item) => Ok(item),
+        Found::Filtered(items) => listed(alloc, items.as_slice()),
     }
 }

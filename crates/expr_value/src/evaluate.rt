@@ -10,7 +10,7 @@ ghost use Rattle.expr_value.specs.Dereference.{one};
 ghost use Rattle.expr_value.specs.Evaluate.{all_chain, all_values, begun as begun_of, call_value, chain as chain_of, conjunction as conjunction_of, constant_value, disjunction as disjunction_of, equality_value, indexed, relation_value, then_value, value};
 ghost use Rattle.expr_value.specs.Functions.{called};
 ghost use Rattle.expr_value.specs.Kind.{kind_of as kind_of_value};
-ghost use Rattle.expr_value.specs.Seen.{item_seen, kind_seen, operand_seen, operands_seen, found_seen, tree_answers};
+ghost use Rattle.expr_value.specs.Seen.{item_seen, items_seen, kind_seen, found_seen, tree_answers};
 ghost use Rattle.flow_model.specs.Plain as plain;
 ghost use Rattle.flow_model.specs.Value.{view};
 
@@ -19,7 +19,7 @@ use crate::compare::{equality, related};
 use crate::context::Context;
 use crate::dereference::{Found, index_found, outside, property_found};
 use crate::filter::all_found;
-use crate::operand::{Item, Operand};
+use crate::item::Item;
 use crate::status::Status;
 use crate::truth::truth_of;
 use expr_reader::{Equality, Function, Literal, Relation, Tree};
@@ -31,7 +31,7 @@ use std::collections::BTreeMap;
 fn begun<'a>(node: Node) -> Found<'a>
     ensures { found_seen result ≡ one (view node) }
 {
-    Found::One(Operand::One(Item::Made(node)))
+    Found::One(Item::Made(node))
 }
 
 // The value of a literal.
@@ -55,7 +55,7 @@ fn context_found<'a, C: Context>(
     ensures { found_seen result ≡ one (context_value (C.contexts contexts.now) context) }
 {
     match contexts.root(context.name()) {
-        Some(value) => Found::One(Operand::One(Item::Lent(value.node()))),
+        Some(value) => Found::One(Item::Lent(value.node())),
         None => begun(Node::Map(BTreeMap::new(alloc))),
     }
 }
@@ -72,10 +72,10 @@ fn call_found<'a>(
     alloc: Global,
     function: Function,
     status: Status,
-    values: &[Operand<'_>],
+    values: &[Item<'_>],
 ) -> Result<Found<'a>, ValueFault>
     ensures { Gives found_seen result
-        (begun_of (called function status (operands_seen values.now))) }
+        (begun_of (called function status (items_seen values.now))) }
 {
     Ok(begun(call(alloc, function, status, values)?))
 }
@@ -83,11 +83,11 @@ fn call_found<'a>(
 // The value of a relation of two values.
 fn relation_found<'a>(
     relation: Relation,
-    left: &Operand<'_>,
-    right: &Operand<'_>,
+    left: &Item<'_>,
+    right: &Item<'_>,
 ) -> Result<Found<'a>, ValueFault>
     ensures { Gives found_seen result
-        (begun_of (relation_value relation (operand_seen left.now) (operand_seen right.now))) }
+        (begun_of (relation_value relation (item_seen left.now) (item_seen right.now))) }
 {
     Ok(begun(Node::Truth(related(relation, left.kind(), right.kind())?)))
 }
@@ -95,11 +95,11 @@ fn relation_found<'a>(
 // The value of an equality of two values.
 fn equality_found<'a>(
     test: Equality,
-    left: &Operand<'_>,
-    right: &Operand<'_>,
+    left: &Item<'_>,
+    right: &Item<'_>,
 ) -> Result<Found<'a>, ValueFault>
     ensures { Gives found_seen result
-        (begun_of (equality_value test (operand_seen left.now) (operand_seen right.now))) }
+        (begun_of (equality_value test (item_seen left.now) (item_seen right.now))) }
 {
     Ok(begun(Node::Truth(equality(test, left.kind(), right.kind())?)))
 }
@@ -241,14 +241,14 @@ fn opposite_of<'a, C: Context>(
 fn related_to<'a, C: Context>(
     alloc: Global,
     relation: Relation,
-    left: Operand<'a>,
+    left: Item<'a>,
     right: &Tree,
     contexts: &'a C,
     status: Status,
 ) -> Result<Found<'a>, ValueFault>
     ensures { Gives found_seen result (begun_of (then_value
         (value (C.contexts contexts.now) status (tree_view right.now))
-        (relation_value relation (operand_seen left.entry)))) }
+        (relation_value relation (item_seen left.entry)))) }
 {
     let right = evaluate(alloc, right, contexts, status)?;
     relation_found(relation, &left, &right)
@@ -259,14 +259,14 @@ fn related_to<'a, C: Context>(
 fn equal_to<'a, C: Context>(
     alloc: Global,
     test: Equality,
-    left: Operand<'a>,
+    left: Item<'a>,
     right: &Tree,
     contexts: &'a C,
     status: Status,
 ) -> Result<Found<'a>, ValueFault>
     ensures { Gives found_seen result (begun_of (then_value
         (value (C.contexts contexts.now) status (tree_view right.now))
-        (equality_value test (operand_seen left.entry)))) }
+        (equality_value test (item_seen left.entry)))) }
 {
     let right = evaluate(alloc, right, contexts, status)?;
     equality_found(test, &left, &right)
@@ -279,12 +279,12 @@ pub(crate) fn evaluate<'a, C: Context>(
     tree: &Tree,
     contexts: &'a C,
     status: Status,
-) -> Result<Operand<'a>, ValueFault>
-    ensures { Gives operand_seen result
+) -> Result<Item<'a>, ValueFault>
+    ensures { Gives item_seen result
         (value (C.contexts contexts.now) status (tree_view tree.now)) }
 {
     let found = chain(alloc, tree, contexts, status)?;
-    Ok(outside(found))
+    outside(alloc, found)
 }
 
 // The values of all arguments, from the left.
@@ -294,8 +294,8 @@ fn evaluate_all<'a, C: Context>(
     trees: &[Tree],
     contexts: &'a C,
     status: Status,
-) -> Result<Vec<Operand<'a>>, ValueFault>
-    ensures { Gives (λ values. operands_seen values.items) result
+) -> Result<Vec<Item<'a>>, ValueFault>
+    ensures { Gives (λ values. items_seen values.items) result
         (all_values (tree_answers (C.contexts contexts.now) status trees.now)) }
 {
     let mut values = Vec::with_capacity(alloc, trees.len())?;
@@ -317,7 +317,7 @@ fn conjunction<'a, C: Context>(
         (begun_of (conjunction_of (plain.truth true)
         (tree_answers (C.contexts contexts.now) status parts.now))) }
 {
-    let mut value = Operand::One(Item::Made(Node::Truth(true)));
+    let mut value = Item::Made(Node::Truth(true));
     for part in parts {
         if !truth_of(value.kind()) {
             return Ok(Found::One(value));
@@ -339,7 +339,7 @@ fn disjunction<'a, C: Context>(
         (begun_of (disjunction_of (plain.truth false)
         (tree_answers (C.contexts contexts.now) status parts.now))) }
 {
-    let mut value = Operand::One(Item::Made(Node::Truth(false)));
+    let mut value = Item::Made(Node::Truth(false));
     for part in parts {
         if truth_of(value.kind()) {
             return Ok(Found::One(value));

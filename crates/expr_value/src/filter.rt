@@ -5,11 +5,11 @@ ghost use Rattle.std.specs.List.{flat_map};
 ghost use Rattle.expr_value.specs.Answer.{Gives};
 ghost use Rattle.expr_value.specs.Dereference.{contents, one, filtered, all_found as all_found_of};
 ghost use Rattle.expr_value.specs.Kind.{items as items_of_list, values as values_of};
-ghost use Rattle.expr_value.specs.Seen.{item_seen, items_seen, operand_seen, found_seen, members_seen};
+ghost use Rattle.expr_value.specs.Seen.{item_seen, items_seen, found_seen, members_seen};
 ghost use Rattle.flow_model.specs.Value.{view, views};
 
 use crate::dereference::Found;
-use crate::operand::{Item, Operand, again};
+use crate::item::Item;
 use flow_model::{Node, ValueFault, copy_node};
 use std::alloc::{AllocError, Global};
 use std::collections::BTreeMap;
@@ -120,36 +120,13 @@ fn all_contents<'a>(alloc: Global, items: &[Item<'a>]) -> Result<Vec<Item<'a>>, 
     Ok(found)
 }
 
-// The same items.
-fn all_again<'a>(alloc: Global, items: &[Item<'a>]) -> Result<Vec<Item<'a>>, AllocError>
-    ensures { IfOk result (λ found. items_seen found.items ≡ items_seen items.now) }
+// `.*` of one value.
+fn one_contents<'a>(alloc: Global, item: &Item<'a>) -> Result<Found<'a>, ValueFault>
+    ensures { Gives found_seen result (Ok (all_found_of (one (item_seen item.now)))) }
 {
     let mut found = Vec::new(alloc);
-    for item in items {
-        found.push(again(alloc, item)?)?;
-    }
-    Ok(found)
-}
-
-// The contents of one value.
-fn operand_contents<'a>(alloc: Global, operand: &Operand<'a>) -> Result<Vec<Item<'a>>, AllocError>
-    ensures { IfOk result (λ found. items_seen found.items ≡ contents (operand_seen operand.now)) }
-{
-    match operand {
-        Operand::One(item) => {
-            let mut found = Vec::new(alloc);
-            push_contents(alloc, item, &mut found)?;
-            Ok(found)
-        },
-        Operand::Many(items) => all_again(alloc, items.as_slice()),
-    }
-}
-
-// `.*` of one value.
-fn one_contents<'a>(alloc: Global, operand: &Operand<'a>) -> Result<Found<'a>, ValueFault>
-    ensures { Gives found_seen result (Ok (all_found_of (one (operand_seen operand.now)))) }
-{
-    Ok(Found::Filtered(operand_contents(alloc, operand)?))
+    push_contents(alloc, item, &mut found)?;
+    Ok(Found::Filtered(found))
 }
 
 // `.*` of a filtered list.
@@ -164,7 +141,7 @@ pub(crate) fn all_found<'a>(alloc: Global, found: &Found<'a>) -> Result<Found<'a
     ensures { Gives found_seen result (Ok (all_found_of (found_seen found.now))) }
 {
     match found {
-        Found::One(operand) => one_contents(alloc, operand),
+        Found::One(item) => one_contents(alloc, item),
         Found::Filtered(items) => filtered_contents(alloc, items.as_slice()),
     }
 }

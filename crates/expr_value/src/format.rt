@@ -9,13 +9,13 @@ ghost use Rattle.expr_value.specs.Format.{formatted, opened, closed};
 ghost use Rattle.expr_value.specs.Formatting.{texts_of, is_plain as is_plain_byte, BeginsOther, Steps};
 ghost use Rattle.expr_value.specs.Functions.{formatted_value};
 ghost use Rattle.expr_value.specs.Kind.{kind_of};
-ghost use Rattle.expr_value.specs.Seen.{kind_seen, operand_seen};
+ghost use Rattle.expr_value.specs.Seen.{kind_seen, item_seen};
 ghost use Rattle.flow_model.specs.Value.{view};
 
 use crate::bounded::Bounded;
 use crate::digits::digits_length;
+use crate::item::Item;
 use crate::kind::Kind;
-use crate::operand::Operand;
 use crate::text::push_kind;
 use flow_model::{Node, ValueFault};
 use std::alloc::Global;
@@ -77,16 +77,16 @@ fn number_of(digits: &str) -> Option<usize>
 }
 
 // The kind of the argument at a number, if there is one.
-fn argument_at<'a>(arguments: &'a [Operand<'_>], digits: &str) -> Option<Kind<'a>>
+fn argument_at<'a>(arguments: &'a [Item<'_>], digits: &str) -> Option<Kind<'a>>
     requires some { 0 < length digits.now }
     requires digits { list_all is_digit_byte digits.now ≡ true }
     ensures { option_map kind_seen result
         ≡ option_map kind_of
-        (slice_get (map operand_seen arguments.now) (digits_value 10 0 digits.now)) }
+        (slice_get (map item_seen arguments.now) (digits_value 10 0 digits.now)) }
 {
     let place = number_of(digits)?;
-    let operand = arguments.get(place)?;
-    Some(operand.kind())
+    let argument = arguments.get(place)?;
+    Some(argument.kind())
 }
 
 // Adds the argument whose number stands at the front, after an opening brace.
@@ -94,7 +94,7 @@ fn push_argument<'a>(
     bounded: &mut Bounded,
     alloc: Global,
     text: &'a str,
-    arguments: &[Operand<'_>],
+    arguments: &[Item<'_>],
 ) -> Result<&'a str, ValueFault>
     requires { BeginsOther (codes "{") text.now }
     ensures { Steps (texts_of arguments.now) bounded.old (opened (texts_of arguments.now) text.now)
@@ -119,7 +119,7 @@ fn push_opened<'a>(
     bounded: &mut Bounded,
     alloc: Global,
     text: &'a str,
-    arguments: &[Operand<'_>],
+    arguments: &[Item<'_>],
 ) -> Result<&'a str, ValueFault>
     ensures { Steps (texts_of arguments.now) bounded.old (opened (texts_of arguments.now) text.now)
         (length text.now) result bounded.new }
@@ -137,7 +137,7 @@ fn push_opened<'a>(
 fn push_closed<'a>(
     bounded: &mut Bounded,
     text: &'a str,
-    arguments: &[Operand<'_>],
+    arguments: &[Item<'_>],
 ) -> Result<&'a str, ValueFault>
     ensures { Steps (texts_of arguments.now) bounded.old (closed (texts_of arguments.now) text.now)
         (length text.now) result bounded.new }
@@ -155,7 +155,7 @@ fn push_closed<'a>(
 fn push_plain<'a>(
     bounded: &mut Bounded,
     text: &'a str,
-    arguments: &[Operand<'_>],
+    arguments: &[Item<'_>],
 ) -> Result<&'a str, ValueFault>
     requires some { 0 < length text.now }
     requires no_opening { BeginsOther (codes "{") text.now }
@@ -173,7 +173,7 @@ fn push_piece<'a>(
     bounded: &mut Bounded,
     alloc: Global,
     text: &'a str,
-    arguments: &[Operand<'_>],
+    arguments: &[Item<'_>],
 ) -> Result<&'a str, ValueFault>
     requires { 0 < length text.now }
     ensures { Steps (texts_of arguments.now) bounded.old
@@ -189,11 +189,7 @@ fn push_piece<'a>(
 }
 
 /// A format text with its arguments.
-pub(crate) fn format(
-    alloc: Global,
-    text: &str,
-    arguments: &[Operand<'_>],
-) -> Result<Node, ValueFault>
+pub(crate) fn format(alloc: Global, text: &str, arguments: &[Item<'_>]) -> Result<Node, ValueFault>
     ensures { Gives view result (formatted_value (formatted (texts_of arguments.now) text.now)) }
 {
     let mut bounded = Bounded::empty(alloc);

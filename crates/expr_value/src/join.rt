@@ -1,6 +1,6 @@
 //! The function `join`.
 
-ghost use Rattle.std.specs.Prelude.{◌≡◌, OnOk, map};
+ghost use Rattle.std.specs.Prelude.{◌≡◌, OnOk};
 ghost use Rattle.std.specs.List.{join_by};
 ghost use Rattle.expr_value.specs.Answer.{Gives};
 ghost use Rattle.expr_value.specs.Bounded.{grown};
@@ -8,13 +8,12 @@ ghost use Rattle.expr_value.specs.Convert.{text_of};
 ghost use Rattle.expr_value.specs.Functions.{join as join_of, text_of_value};
 ghost use Rattle.expr_value.specs.Joining.{item_text};
 ghost use Rattle.expr_value.specs.Limit.{limited};
-ghost use Rattle.expr_value.specs.Seen.{kind_seen, operand_seen};
-ghost use Rattle.flow_model.specs.Value.{view};
+ghost use Rattle.expr_value.specs.Seen.{kind_seen, item_seen};
+ghost use Rattle.flow_model.specs.Value.{view, views};
 
 use crate::bounded::Bounded;
+use crate::item::Item;
 use crate::kind::{Kind, kind_of};
-use crate::operand::Operand;
-use crate::parts::Part;
 use crate::text::push_kind;
 use flow_model::{Node, ValueFault};
 use std::alloc::{AllocError, Global};
@@ -36,15 +35,15 @@ fn push_item(
     push_kind(bounded, alloc, kind)
 }
 
-// The texts of the parts of a list, with a separator between them.
-fn join_parts<T: Part>(alloc: Global, parts: &[T], separator: &str) -> Result<Node, ValueFault>
+// The texts of the items of a list, with a separator between them.
+fn join_nodes(alloc: Global, nodes: &[Node], separator: &str) -> Result<Node, ValueFault>
     ensures { Gives view result
-        (limited (join_by text_of_value separator.now (map T.seen parts.now))) }
+        (limited (join_by text_of_value separator.now (views nodes.now))) }
 {
     let mut bounded = Bounded::empty(alloc);
     let mut first = true;
-    for part in parts {
-        push_item(&mut bounded, alloc, separator, first, kind_of(part.part()))?;
+    for node in nodes {
+        push_item(&mut bounded, alloc, separator, first, kind_of(node))?;
         first = false;
     }
     bounded.finish()
@@ -64,7 +63,7 @@ fn join_node(alloc: Global, node: &Node, separator: &str) -> Result<Node, ValueF
     ensures { Gives view result (join_of (view node.now) separator.now) }
 {
     match node {
-        Node::List(nodes) => join_parts(alloc, nodes.as_slice(), separator),
+        Node::List(nodes) => join_nodes(alloc, nodes.as_slice(), separator),
         Node::Null | Node::Truth(_) | Node::Whole(_) | Node::Text(_) | Node::Map(_) => {
             join_kind(alloc, kind_of(node))
         },
@@ -72,15 +71,8 @@ fn join_node(alloc: Global, node: &Node, separator: &str) -> Result<Node, ValueF
 }
 
 /// The texts of the items of a list, with a separator between them, or the text of what is no list.
-pub(crate) fn join(
-    alloc: Global,
-    operand: &Operand<'_>,
-    separator: &str,
-) -> Result<Node, ValueFault>
-    ensures { Gives view result (join_of (operand_seen operand.now) separator.now) }
+pub(crate) fn join(alloc: Global, item: &Item<'_>, separator: &str) -> Result<Node, ValueFault>
+    ensures { Gives view result (join_of (item_seen item.now) separator.now) }
 {
-    match operand {
-        Operand::One(item) => join_node(alloc, item.node(), separator),
-        Operand::Many(items) => join_parts(alloc, items.as_slice(), separator),
-    }
+    join_node(alloc, item.node(), separator)
 }

@@ -3,64 +3,41 @@
 ghost use Rattle.std.specs.Prelude.{◌≡◌, ◌≤◌, IfOk, IsTrue, Ok, Some, string_bytes};
 ghost use Rattle.serde_json.specs.Data.{depth};
 ghost use Rattle.serde_json.specs.Read.{read};
-ghost use Rattle.serde_json.specs.View.{view as json_view, items_view};
+ghost use Rattle.serde_json.specs.View.{view as json_view};
 ghost use Rattle.expr_value.specs.Answer.{Gives};
 ghost use Rattle.expr_value.specs.Functions.{from_json as from_json_of, pretty_text, to_json as to_json_of, value_read, whole_value};
-ghost use Rattle.expr_value.specs.Seen.{items_seen, operand_seen};
-ghost use Rattle.flow_model.specs.Json.{is_in_range, json_items, json_of, value_of as value_of_data};
-ghost use Rattle.flow_model.specs.Plain as plain;
+ghost use Rattle.expr_value.specs.Seen.{item_seen};
+ghost use Rattle.flow_model.specs.Json.{is_in_range, json_of, value_of as value_of_data};
 ghost use Rattle.flow_model.specs.Value.{view};
 
 use crate::bounded::limited;
-use crate::operand::{Item, Operand};
+use crate::item::Item;
 use flow_model::{JsonFault, Node, ValueFault, json_of_node, value_of};
 use serde_json::Value;
 use std::alloc::{AllocError, Global};
 
-// The JSON of the items of a filtered list.
-fn json_of_items(alloc: Global, items: &[Item<'_>]) -> Result<Vec<Value>, AllocError>
-    ensures { IfOk result
-        (λ json. items_view json.items ≡ json_items (plain.items_of (items_seen items.now))) }
-{
-    let mut json = Vec::with_capacity(alloc, items.len())?;
-    for item in items {
-        json.push(json_of_node(alloc, item.node())?)?;
-    }
-    Ok(json)
-}
-
-// The JSON of a value.
-fn json_of_operand(alloc: Global, operand: &Operand<'_>) -> Result<Value, AllocError>
-    ensures { IfOk result (λ json. json_view json ≡ json_of (operand_seen operand.now)) }
-{
-    match operand {
-        Operand::One(item) => json_of_node(alloc, item.node()),
-        Operand::Many(items) => Ok(Value::Array(json_of_items(alloc, items.as_slice())?)),
-    }
-}
-
 // The text of a value's JSON, on lines.
 #[tactic(auto, using(crate::proofs::JsonTexts::pretty_exact))]
-fn pretty(alloc: Global, operand: &Operand<'_>) -> Result<String, AllocError>
+fn pretty(alloc: Global, item: &Item<'_>) -> Result<String, AllocError>
     ensures text { IfOk result
-        (λ text. string_bytes text ≡ pretty_text (json_of (operand_seen operand.now))) }
-    ensures back { IfOk result (λ text. depth (json_of (operand_seen operand.now)) ≤ 127
-        → read (string_bytes text) ≡ Some (json_of (operand_seen operand.now))) }
+        (λ text. string_bytes text ≡ pretty_text (json_of (item_seen item.now))) }
+    ensures back { IfOk result (λ text. depth (json_of (item_seen item.now)) ≤ 127
+        → read (string_bytes text) ≡ Some (json_of (item_seen item.now))) }
 {
-    let json = json_of_operand(alloc, operand)?;
+    let json = json_of_node(alloc, item.node())?;
     let text = json.to_string_pretty(alloc)?;
     Ok(text)
 }
 
 /// The text of a value's JSON, on lines, each two spaces deeper for each bracket. `fromJSON` of it is the value,
 /// where its numbers are in range and it nests at most 127 deep.
-pub(crate) fn to_json(alloc: Global, operand: &Operand<'_>) -> Result<Node, ValueFault>
-    ensures value { Gives view result (to_json_of (operand_seen operand.now)) }
-    ensures back { IfOk result (λ node. depth (json_of (operand_seen operand.now)) ≤ 127
-        → IsTrue (is_in_range (operand_seen operand.now))
-        → from_json_of (view node) ≡ Ok (operand_seen operand.now)) }
+pub(crate) fn to_json(alloc: Global, item: &Item<'_>) -> Result<Node, ValueFault>
+    ensures value { Gives view result (to_json_of (item_seen item.now)) }
+    ensures back { IfOk result (λ node. depth (json_of (item_seen item.now)) ≤ 127
+        → IsTrue (is_in_range (item_seen item.now))
+        → from_json_of (view node) ≡ Ok (item_seen item.now)) }
 {
-    let text = pretty(alloc, operand)?;
+    let text = pretty(alloc, item)?;
     let node = limited(text)?;
     Ok(node)
 }

@@ -18,6 +18,7 @@ mod evaluation_laws;
 mod filter;
 mod format;
 mod function_laws;
+mod item;
 mod join;
 mod json_text;
 mod kind;
@@ -25,9 +26,6 @@ mod laws;
 mod named;
 mod number;
 mod number_laws;
-mod operand;
-mod owned;
-mod parts;
 mod search;
 mod status;
 mod template;
@@ -48,7 +46,8 @@ pub use function_laws::{
 pub use laws::{equality_is_symmetric, inequality_is_opposite, relations_mirror};
 pub use named::{names_context, template_names_context};
 pub use number_laws::{
-    decimal_is_its_number, integer_has_its_value, other_number_is_not_whole, other_text_is_no_number,
+    decimal_is_its_number, integer_has_its_value, other_number_is_not_whole,
+    other_text_is_no_number,
 };
 pub use status::Status;
 pub use template::{eval, eval_condition, eval_text};

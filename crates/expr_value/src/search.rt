@@ -1,18 +1,17 @@
 //! The functions `contains`, `startsWith` and `endsWith`.
 
-ghost use Rattle.std.specs.Prelude.{◌≡◌, IfOk, map, string_bytes};
+ghost use Rattle.std.specs.Prelude.{◌≡◌, IfOk, string_bytes};
 ghost use Rattle.std.specs.List.{list_any};
 ghost use Rattle.expr_reader.specs.Fold.{fold};
 ghost use Rattle.expr_value.specs.Convert.{text_of};
 ghost use Rattle.expr_value.specs.Functions.{contains as contains_of, folds_pass as folds_pass_of, is_match as is_match_of};
 ghost use Rattle.expr_value.specs.Searching.{contains_kind, finds as finds_of, stands_at as stands_at_of};
-ghost use Rattle.expr_value.specs.Seen.{kind_seen, operand_seen};
-ghost use Rattle.flow_model.specs.Value.{view};
+ghost use Rattle.expr_value.specs.Seen.{kind_seen, item_seen};
+ghost use Rattle.flow_model.specs.Value.{view, views};
 
 use crate::compare::equals;
+use crate::item::Item;
 use crate::kind::{Kind, is_collection, kind_of};
-use crate::operand::Operand;
-use crate::parts::Part;
 use crate::text::text_of_kind;
 use flow_model::Node;
 use std::alloc::{AllocError, Global};
@@ -73,12 +72,12 @@ fn is_match(value: Kind<'_>, item: &Node) -> bool
     }
 }
 
-// Whether some part of a list equals a value.
-fn any_match<T: Part>(parts: &[T], value: Kind<'_>) -> bool
-    ensures { result ≡ list_any (is_match_of (kind_seen value.entry)) (map T.seen parts.now) }
+// Whether some item of a list equals a value.
+fn any_match(nodes: &[Node], value: Kind<'_>) -> bool
+    ensures { result ≡ list_any (is_match_of (kind_seen value.entry)) (views nodes.now) }
 {
-    for part in parts {
-        if is_match(value, part.part()) {
+    for node in nodes {
+        if is_match(value, node) {
             return true;
         }
     }
@@ -98,14 +97,10 @@ fn node_contains(alloc: Global, node: &Node, value: Kind<'_>) -> Result<bool, Al
 }
 
 // Whether an item of a list equals a value, or the value's text stands in a text, ignoring case.
-fn contains(alloc: Global, operand: &Operand<'_>, value: &Operand<'_>) -> Result<bool, AllocError>
-    ensures { IfOk result
-        (λ b. b ≡ contains_of (operand_seen operand.now) (operand_seen value.now)) }
+fn contains(alloc: Global, item: &Item<'_>, value: &Item<'_>) -> Result<bool, AllocError>
+    ensures { IfOk result (λ b. b ≡ contains_of (item_seen item.now) (item_seen value.now)) }
 {
-    match operand {
-        Operand::One(item) => node_contains(alloc, item.node(), value.kind()),
-        Operand::Many(items) => Ok(any_match(items.as_slice(), value.kind())),
-    }
+    node_contains(alloc, item.node(), value.kind())
 }
 
 /// Whether a value's text stands at the place in a text, ignoring case, or, if it may stand anywhere, a value in a
@@ -113,14 +108,14 @@ fn contains(alloc: Global, operand: &Operand<'_>, value: &Operand<'_>) -> Result
 pub(crate) fn finds(
     alloc: Global,
     place: Place,
-    operand: &Operand<'_>,
-    value: &Operand<'_>,
+    item: &Item<'_>,
+    value: &Item<'_>,
 ) -> Result<bool, AllocError>
     ensures { IfOk result
-        (λ b. b ≡ finds_of place (operand_seen operand.now) (operand_seen value.now)) }
+        (λ b. b ≡ finds_of place (item_seen item.now) (item_seen value.now)) }
 {
     match place {
-        Place::Anywhere => contains(alloc, operand, value),
-        Place::Front | Place::End => folds_pass(alloc, place, operand.kind(), value.kind()),
+        Place::Anywhere => contains(alloc, item, value),
+        Place::Front | Place::End => folds_pass(alloc, place, item.kind(), value.kind()),
     }
 }

@@ -9,7 +9,7 @@ ghost use Rattle.expr_value.specs.Condition.{condition_holds};
 ghost use Rattle.expr_value.specs.Evaluate.{evaluated as evaluated_of, value};
 ghost use Rattle.expr_value.specs.Joined.{grown_answer, is_too_large as is_too_large_of};
 ghost use Rattle.expr_value.specs.Limit.{last_value as last_value_of};
-ghost use Rattle.expr_value.specs.Seen.{kind_seen, operand_seen};
+ghost use Rattle.expr_value.specs.Seen.{kind_seen, item_seen};
 ghost use Rattle.expr_value.specs.Template.{limited_text, pieces_text, piece_text, text_answer, template_value as template_value_of};
 ghost use Rattle.expr_value.specs.declared.status.Status.{Status};
 ghost use Rattle.flow_model.specs.Value.{view};
@@ -17,9 +17,8 @@ ghost use Rattle.flow_model.specs.Value.{view};
 use crate::bounded::{Bounded, MOST_BYTES};
 use crate::context::Context;
 use crate::evaluate::evaluate;
+use crate::item::{Item, into_value};
 use crate::kind::Kind;
-use crate::operand::{Item, Operand};
-use crate::owned::into_value;
 use crate::status::Status;
 use crate::text::push_kind;
 use crate::truth::truth_of;
@@ -38,13 +37,13 @@ fn is_too_large(kind: Kind<'_>) -> bool
 }
 
 // A value that ends an evaluation: a text beyond the limit is TooLarge.
-fn last_value(operand: Operand<'_>) -> Result<Operand<'_>, ValueFault>
-    ensures { Gives operand_seen result (last_value_of (operand_seen operand.entry)) }
+fn last_value(item: Item<'_>) -> Result<Item<'_>, ValueFault>
+    ensures { Gives item_seen result (last_value_of (item_seen item.entry)) }
 {
-    if is_too_large(operand.kind()) {
+    if is_too_large(item.kind()) {
         return Err(ValueFault::TooLarge);
     }
-    Ok(operand)
+    Ok(item)
 }
 
 // The value that an evaluation of an expression gives.
@@ -53,12 +52,12 @@ fn evaluated<'a, C: Context>(
     tree: &Tree,
     contexts: &'a C,
     status: Status,
-) -> Result<Operand<'a>, ValueFault>
-    ensures { Gives operand_seen result
+) -> Result<Item<'a>, ValueFault>
+    ensures { Gives item_seen result
         (evaluated_of (C.contexts contexts.now) status (tree_view tree.now)) }
 {
-    let operand = evaluate(alloc, tree, contexts, status)?;
-    last_value(operand)
+    let item = evaluate(alloc, tree, contexts, status)?;
+    last_value(item)
 }
 
 // Adds the text of an expression's value.
@@ -73,8 +72,8 @@ fn push_value<C: Context>(
         (grown_answer text.old
         (text_answer (value (C.contexts contexts.now) status (tree_view tree.now)))) }
 {
-    let operand = evaluate(alloc, tree, contexts, status)?;
-    push_kind(text, alloc, operand.kind())?;
+    let item = evaluate(alloc, tree, contexts, status)?;
+    push_kind(text, alloc, item.kind())?;
     Ok(())
 }
 
@@ -121,13 +120,13 @@ fn template_value<'a, C: Context>(
     template: &Template,
     contexts: &'a C,
     status: Status,
-) -> Result<Operand<'a>, ValueFault>
-    ensures { Gives operand_seen result
+) -> Result<Item<'a>, ValueFault>
+    ensures { Gives item_seen result
         (template_value_of (C.contexts contexts.now) status (template_of template.now)) }
 {
     match template.pieces.as_slice() {
         [Piece::Expression(tree)] => evaluated(alloc, tree, contexts, status),
-        pieces => Ok(Operand::One(Item::Made(joined(alloc, pieces, contexts, status)?))),
+        pieces => Ok(Item::Made(joined(alloc, pieces, contexts, status)?)),
     }
 }
 
@@ -141,8 +140,8 @@ fn owned_value<C: Context>(
     ensures { Gives (λ value. value) result
         (template_value_of (C.contexts contexts.now) status (template_of template.now)) }
 {
-    let operand = template_value(alloc, template, contexts, status)?;
-    Ok(into_value(alloc, operand)?)
+    let item = template_value(alloc, template, contexts, status)?;
+    Ok(into_value(alloc, item)?)
 }
 
 /// The value of an expression over contexts and a status (GitHub Docs, "Evaluate expressions in workflows and
@@ -161,8 +160,8 @@ pub fn eval<C: Context>(
     ensures { Gives (λ value. value) result
         (evaluated_of (C.contexts contexts.now) status (tree_view tree.now)) }
 {
-    let operand = evaluated(alloc, tree, contexts, status)?;
-    Ok(into_value(alloc, operand)?)
+    let item = evaluated(alloc, tree, contexts, status)?;
+    Ok(into_value(alloc, item)?)
 }
 
 /// The value of a template: of exactly one expression and nothing else that expression's value, else the join of the
@@ -202,6 +201,6 @@ pub fn eval_condition<C: Context>(
     if !names_status(template) && !status.is_success() {
         return Ok(false);
     }
-    let operand = template_value(alloc, template, contexts, status)?;
-    Ok(truth_of(operand.kind()))
+    let item = template_value(alloc, template, contexts, status)?;
+    Ok(truth_of(item.kind()))
 }

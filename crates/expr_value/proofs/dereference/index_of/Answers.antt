@@ -1,13 +1,12 @@
-use Rattle.std.proofs.Common.{List, ℕ, Option, Result, Ok, ap, sym, subst, ◌∙◌}
+use Rattle.std.proofs.Common.{Option, Result, ap, sym, subst, ◌∙◌}
 use Rattle.expr_value.proofs.Lists.{items-again}
 use Rattle.expr_value.specs.Answer.{Gives}
 use Rattle.expr_value.specs.Convert.{number_of}
-use Rattle.expr_value.specs.Dereference.{index_of, item_found, property_in}
+use Rattle.expr_value.specs.Dereference.{index_of, item_found}
 use Rattle.expr_value.specs.Seen.{kind_seen, node_seen}
 use Rattle.flow_model.proofs.Nodes.{view-List, view-Map}
-use Rattle.flow_model.specs.Mapping.{pairs_of}
 use Rattle.flow_model.specs.Plain as plain
-use Rattle.flow_model.specs.Value.{view, views, viewed}
+use Rattle.flow_model.specs.Value.{view, views}
 use Rattle.flow_model.specs.declared.reply.ValueFault.{ValueFault}
 use Rattle.expr_value.proofs.dereference.index_of.Goals as goal
 

@@ -6,7 +6,7 @@ use Rattle.expr_reader.specs.Number.{digits_value}
 use Rattle.expr_value.specs.Convert.{text_of}
 use Rattle.expr_value.specs.Format.{formatted, numbered}
 use Rattle.expr_value.specs.Formatting.{ended, texts_of}
-use Rattle.expr_value.specs.Seen.{kind_seen, operand_seen}
+use Rattle.expr_value.specs.Seen.{kind_seen, item_seen}
 use Rattle.expr_value.proofs.Braces.{opened_digits, opened_none, digits_pass, numbered_none, argument_found, argument_missing, rest_shorter}
 use Rattle.expr_value.proofs.Growing.{ended_grown}
 use Rattle.expr_value.proofs.Runs.{spans}
@@ -42,7 +42,7 @@ returns-in_default-argument_at c =
     let some : 0 < length digits = grind (arith, nat_tests) in
     opened_digits arguments text digits rest c.split_digits.ensures.front c.split_digits.ensures.back some
     ∙ ap (numbered arguments (digits_value 10 0 digits)) c.in-Some.ensures
-    ∙ argument_missing (map operand_seen c.args.arguments.now) (digits_value 10 0 digits) (formatted arguments after) c.in_default-argument_at.ensures
+    ∙ argument_missing (map item_seen c.args.arguments.now) (digits_value 10 0 digits) (formatted arguments after) c.in_default-argument_at.ensures
 
 pub returns : goal.returns
 returns c =
@@ -57,5 +57,5 @@ returns c =
     let longer : length rest ≡ 1 + length after = ap length c.in-Some.ensures ∙ omega arith in
     let meaning = opened_digits arguments text digits rest c.split_digits.ensures.front c.split_digits.ensures.back some
     ∙ ap (numbered arguments (digits_value 10 0 digits)) c.in-Some.ensures
-    ∙ argument_found (map operand_seen c.args.arguments.now) (digits_value 10 0 digits) (kind_seen c.in-Some-argument_at.kind) (formatted arguments after) c.in-Some-argument_at.ensures in
+    ∙ argument_found (map item_seen c.args.arguments.now) (digits_value 10 0 digits) (kind_seen c.in-Some-argument_at.kind) (formatted arguments after) c.in-Some-argument_at.ensures in
     (ap (λ o. ended o (formatted arguments after)) c.in_ok-push_kind.ensures ∙ ended_grown c.args.bounded.now bytes (formatted arguments after) ∙ ap (ended c.args.bounded.now) (sym meaning), omega arith)

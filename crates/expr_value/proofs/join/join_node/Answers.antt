@@ -7,6 +7,6 @@ use Rattle.expr_value.proofs.join.join_node.Goals as goal
 
 pub returns-in-List : goal.returns-in-List
 returns-in-List c =
-    join_list (view c.args.node.now) (views c.as_slice.result.now) c.args.separator.now c.join_parts.result
+    join_list (view c.args.node.now) (views c.as_slice.result.now) c.args.separator.now c.join_nodes.result
     (ap view c.in-List.is ∙ view-List c.in-List.nodes ∙ ap (λ nodes. list (items_of (views nodes))) (sym c.as_slice.ensures.value))
-    c.join_parts.ensures
+    c.join_nodes.ensures

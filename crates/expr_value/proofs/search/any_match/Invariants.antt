@@ -1,9 +1,10 @@
-use Rattle.std.proofs.Common.{◌≡◌, map, drop}
+use Rattle.std.proofs.Common.{◌≡◌, drop}
 use Rattle.std.specs.List.{list_any}
 use Rattle.expr_value.specs.Functions.{is_match}
 use Rattle.expr_value.specs.Seen.{kind_seen}
+use Rattle.flow_model.specs.Value.{views}
 use Rattle.expr_value.proofs.search.any_match.Given as goal
 
--- No part so far has matched.
-abbrev pub invariant-loop-part : goal.invariant-loop-part
-invariant-loop-part g l = list_any (is_match (kind_seen l.value)) (map g.T.Part.seen (drop l.part-index l.parts)) ≡ list_any (is_match (kind_seen l.value)) (map g.T.Part.seen l.parts)
+-- No item so far has matched.
+abbrev pub invariant-loop-node : goal.invariant-loop-node
+invariant-loop-node l = list_any (is_match (kind_seen l.value)) (views (drop l.node-index l.nodes)) ≡ list_any (is_match (kind_seen l.value)) (views l.nodes)

@@ -1,6 +1,0 @@
-use Rattle.std.proofs.Common.{◌≡◌, take}
-use Rattle.expr_value.specs.Seen.{items_seen}
-use Rattle.expr_value.proofs.filter.all_again.Given as goal
-
-abbrev pub invariant-loop-item : goal.invariant-loop-item
-invariant-loop-item l = items_seen l.found.items ≡ items_seen (take l.item-index l.items)
