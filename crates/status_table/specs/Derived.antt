@@ -141,21 +141,23 @@ run_result run =
 
 -- ---- needs. A job's needs are numbers; the number of its run's first job makes places of them.
 
+-- a truth that may be missing
+abbrev pub holds : Option Bool → Bool
+holds None = false
+holds (Some b) = b
+
 -- the truth at a place; beyond the end there is none
 abbrev pub holds_at : List Bool → ℕ → Bool
 holds_at tests k = holds (slice_get tests k)
-  where
-    holds : Option Bool → Bool
-    holds None = false
-    holds (Some b) = b
+
+-- the places of the jobs that a job needs, where there is one
+abbrev pub places_needed : ℕ → Option JobPlan → List ℕ
+places_needed first None = []
+places_needed first (Some job) = map (λ need. need - first) job.needs
 
 -- the places of the jobs that the job at a place needs
 abbrev pub needs_at : ℕ → List JobPlan → ℕ → List ℕ
-needs_at first jobs k = places (slice_get jobs k)
-  where
-    places : Option JobPlan → List ℕ
-    places None = []
-    places (Some job) = map (λ need. need - first) job.needs
+needs_at first jobs k = places_needed first (slice_get jobs k)
 
 -- Whether an ancestor of the job at place k passes a test that was made of each job: a job that it needs, or an
 -- ancestor of one, over at most n needs.
@@ -170,15 +172,27 @@ needs_have_ended first run plan = list_all (λ need. holds_at (map (job_has_ende
 
 -- ---- statuses
 
--- the status of a job: cancelled where its run is told to stop, else by the results of its ancestors; the chain
--- of needs to an ancestor is no longer than the run has jobs
+-- the results of a run's jobs
+abbrev pub job_results : Run → List Outcome
+job_results run = map (job_result run) run.jobs
+
+-- a status by whether an ancestor failed, and whether one did not succeed
+abbrev pub status_by : Bool → Bool → Status
+status_by true unsuccessful = status.Failure
+status_by false true = status.Other
+status_by false false = status.Success
+
+-- what the results of a run's jobs make of the status of the job at place k, by its ancestors; the chain of needs to
+-- an ancestor is no longer than the run has jobs
+abbrev pub ancestors_status : ℕ → List JobPlan → List Outcome → ℕ → Status
+ancestors_status first jobs results k =
+    status_by (some_ancestor first jobs (map is_failure results) (length jobs) k)
+    (some_ancestor first jobs (map (λ result. not (is_success result)) results) (length jobs) k)
+
+-- the status of a job: cancelled where its run is told to stop, else by the results of its ancestors
 abbrev pub job_status : ℕ → JobAt → Status
 job_status first at =
-    if at.run.stop then status.Cancelled
-    else (if some_ancestor first at.run_plan.jobs (map (λ job. is_failure (job_result at.run job)) at.run.jobs) (length at.run_plan.jobs) at.place.job
-    then status.Failure
-    else (if some_ancestor first at.run_plan.jobs (map (λ job. not (is_success (job_result at.run job))) at.run.jobs) (length at.run_plan.jobs) at.place.job
-    then status.Other else status.Success))
+    if at.run.stop then status.Cancelled else ancestors_status first at.run_plan.jobs (job_results at.run) at.place.job
 
 -- A leg is to stop where it was told to; or where its job fails fast and a leg of it has failed; or where its
 -- run was told to and the job's condition does not give true as that of a cancelled one.

@@ -1,20 +1,23 @@
 // The events of the table, each as a change of a board.
 //
 // Each function looks for a refusal first, makes what room it needs, and only then changes the board.
-ghost use Rattle.std.specs.Prelude.{◌≡◌, ◌&&◌, Some, None, Ok, IfOk, option_map};
+ghost use Rattle.std.specs.Prelude.{◌≡◌, ◌<◌, ◌&&◌, IfOk, length};
 ghost use Rattle.std.specs.Option.{option_copied};
+ghost use Rattle.status_table.specs.Ancestors.{NeedsPointBack};
 ghost use Rattle.status_table.specs.Answers.{Answers, Decides, DecidesAs};
 ghost use Rattle.status_table.specs.Conditions.{work_value as work_value_of};
 ghost use Rattle.status_table.specs.Derived.{is_going, is_open, is_fresh};
+ghost use Rattle.status_table.specs.InPlay.{InPlay};
 ghost use Rattle.status_table.specs.Place.{run_at, job_at, leg_at};
 ghost use Rattle.status_table.specs.Row as spec;
 ghost use Rattle.status_table.specs.Seen.{beginning_seen, ended_step, job_seen, leg_seen};
 
+use crate::ancestors::job_status;
 use crate::change::{add_step, end_leg, set_job_state, set_leg_state, set_run_state};
 use crate::conditions::{condition_holds, is_set, work_value};
 use crate::derived::{
-    is_failure, is_full, is_stopping, job_status, jobs_have_ended, leg_result, leg_status,
-    needs_have_ended, run_result,
+    is_failure, is_full, is_stopping, jobs_have_ended, leg_result, leg_status, needs_have_ended,
+    run_result,
 };
 use crate::fault::EventFault;
 use crate::place::{SeenJob, SeenLeg, SeenRun, find_job, find_leg, find_run};
@@ -68,6 +71,8 @@ fn judged_state(stop: bool, holds: bool) -> JobState
 
 /// The state into which a job is judged, or why it is not.
 fn judgement(alloc: Global, number: u64, at: &SeenJob) -> Result<JobState, EventFault>
+    requires back { NeedsPointBack (spec.first_of number (job_seen at.now)) at.now.run_plan.now.jobs }
+    requires within { at.now.place.job < length at.now.run_plan.now.jobs }
     ensures { Decides (spec.judgement number (job_seen at.now)) result }
 {
     match (at.run.state, at.job.state) {
@@ -92,6 +97,7 @@ pub(crate) fn judge(
     board: &mut Board,
     number: u64,
 ) -> Result<Reply, EventFault>
+    requires { InPlay plan.now board.old }
     ensures { Answers (spec.judge_found board.old number (job_at plan.now board.old number)) board.old result board.new }
 {
     let Some(at) = find_job(plan, board, number as usize) else {

@@ -6,11 +6,13 @@
 // a list of entries on any table, up to the first that is refused. It stands on `flow_model` alone.
 #![tactic(auto)]
 
+mod ancestors;
 mod change;
 mod conditions;
 mod derived;
 mod events;
 pub mod fault;
+pub mod laws;
 mod new_board;
 pub mod place;
 pub mod plain_board;
