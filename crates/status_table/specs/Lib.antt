@@ -4,6 +4,7 @@ pub mod Change
 pub mod Conditions
 pub mod Derived
 pub mod Ends
+pub mod Fault
 pub mod InPlay
 pub mod Numbered
 pub mod Place
