@@ -6,7 +6,7 @@ use Rattle.std.proofs.lemmas.Bool.Decides.{nat_tests}
 use Rattle.std.proofs.lemmas.Option.{slice_get-map, slice_get_within}
 use Rattle.flow_model.specs.declared.plan.JobPlan.{JobPlan}
 use Rattle.flow_model.specs.declared.event.Outcome.{Outcome}
-use Rattle.status_table.specs.Ancestors.{IsAncestor, need, of_need, SomeAncestor, EachAncestor, SaysOf, NeedsPointBack, any_need}
+use Rattle.status_table.specs.Ancestors.{IsAncestor, need, of_need, SomeAncestor, EachAncestor, SaysOf, NeedsPointBack, StandsAfterNeeds, any_need}
 use Rattle.status_table.specs.Derived.{holds, holds_at, places_needed, needs_at, some_ancestor, is_success, is_failure, job_results, status_by, ancestors_status, job_status}
 use Rattle.status_table.specs.Place.{JobAt}
 use Rattle.status_table.specs.declared.status.Status.TheVariants as status
@@ -167,20 +167,20 @@ held {T} t xs a h = by (slice_get xs a) refl (sym (ap holds (slice_get-map t xs 
 holding : {T : Type 0} (t : T → Bool) (xs : List T) (a : ℕ) (x : T) → slice_get xs a ≡ Some x → t x ≡ true → holds_at (map t xs) a ≡ true
 holding t xs a x is passes = ap holds (slice_get-map t xs a ∙ ap (option_map t) is) ∙ passes
 
-module _ (first : ℕ) (at : JobAt) (back : NeedsPointBack first at.run_plan.jobs) (within : at.place.job < length at.run_plan.jobs) where
+module _ (first : ℕ) (at : JobAt) (stands : StandsAfterNeeds first at) where
   abbrev found : (Outcome → Bool) → Bool
   found test = some_ancestor first at.run_plan.jobs (map test (job_results at.run)) (length at.run_plan.jobs) at.place.job
 
   some_found : (test : Outcome → Bool) → found test ≡ true → SomeAncestor first at test
   some_found test h =
-      let ancestor = found_ancestor first at.run_plan.jobs back (map test (job_results at.run)) (length at.run_plan.jobs) at.place.job h in
+      let ancestor = found_ancestor first at.run_plan.jobs stands.back (map test (job_results at.run)) (length at.run_plan.jobs) at.place.job h in
       let result = held test (job_results at.run) ancestor.0 ancestor.2 in
       (ancestor.0, result.0, ancestor.1, result.1, result.2)
 
   none_found : (test : Outcome → Bool) → found test ≡ false → (a : ℕ) (result : Outcome) → IsAncestor first at.run_plan.jobs a at.place.job
       → slice_get (job_results at.run) a ≡ Some result → test result ≡ true → ⊥
   none_found test h a result ancestor is passes =
-      true≢false (sym (ancestor_found first at.run_plan.jobs back (map test (job_results at.run)) (length at.run_plan.jobs) ancestor (omega (arith, within))
+      true≢false (sym (ancestor_found first at.run_plan.jobs stands.back (map test (job_results at.run)) (length at.run_plan.jobs) ancestor (omega (arith, stands.within))
       (holding test (job_results at.run) a result is passes)) ∙ h)
 
   unless : (c : Bool) → (c ≡ true → ⊥) → not c ≡ true

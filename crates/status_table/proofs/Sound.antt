@@ -12,7 +12,7 @@ use Rattle.flow_model.specs.declared.plan.RunPlan.{RunPlan}
 use Rattle.flow_model.specs.declared.plan.JobPlan.{JobPlan}
 use Rattle.flow_model.specs.declared.board.Board.{Board}
 use Rattle.flow_model.specs.declared.board.Run.{Run}
-use Rattle.status_table.specs.Ancestors.{NeedsPointBack}
+use Rattle.status_table.specs.Ancestors.{NeedsPointBack, StandsAfterNeeds}
 use Rattle.status_table.specs.InPlay.{InPlay}
 use Rattle.status_table.specs.Place.{JobAt, job_at}
 use Rattle.status_table.specs.Row.{first_of}
@@ -124,7 +124,7 @@ between first low high (n ∷ ns) le h =
     (between first (suc n) high ns (omega (arith, le, least)) (and-right (nat_le low n && nat_lt n high) (ascend_between (suc n) high ns) h))
 
 -- in a plan that was accepted, the needs of the jobs beside one point backwards
-pub needs_point_back : (p : Plan) (b : Board) (j : ℕ) (at : JobAt) → IsOffered p → HasShape p b → job_at p b j ≡ Some at
+needs_point_back : (p : Plan) (b : Board) (j : ℕ) (at : JobAt) → IsOffered p → HasShape p b → job_at p b j ≡ Some at
     → NeedsPointBack (first_of j at) at.run_plan.jobs
 needs_point_back p b j at offered shape is =
     let stands = job_stands p b j at is in
@@ -143,5 +143,8 @@ needs_point_back p b j at offered shape is =
     subst (λ first. list_all (λ need. nat_le first need && nat_lt need ((j - at.place.job) + k)) job.needs ≡ true) same
     (between (0 + planned_before at.place.run p.runs) (0 + planned_before at.place.run p.runs) ((j - at.place.job) + k) job.needs (omega arith) (subst (λ most. ascend_between (0 + planned_before at.place.run p.runs) most job.needs ≡ true) high needs))
 
-pub job_within : (p : Plan) (b : Board) (j : ℕ) (at : JobAt) → job_at p b j ≡ Some at → at.place.job < length at.run_plan.jobs
+job_within : (p : Plan) (b : Board) (j : ℕ) (at : JobAt) → job_at p b j ≡ Some at → at.place.job < length at.run_plan.jobs
 job_within p b j at is = slice_get_within at.run_plan.jobs at.place.job at.plan (job_stands p b j at is).plan
+
+pub stands_after_needs : (p : Plan) (b : Board) (j : ℕ) (at : JobAt) → InPlay p b → job_at p b j ≡ Some at → StandsAfterNeeds (first_of j at) at
+stands_after_needs p b j at in_play is = record { back = needs_point_back p b j at in_play.offered in_play.shape is; within = job_within p b j at is }

@@ -3,7 +3,8 @@
 // Needs point backwards, so one pass from the front finds which jobs have an ancestor that is looked for.
 ghost use Rattle.std.specs.Prelude.{◌≡◌, ◌<◌, IfOk, map, length};
 ghost use Rattle.status_table.specs.Ancestors as spec;
-ghost use Rattle.status_table.specs.Derived.{holds_at as holds_at_of, some_ancestor, job_results, job_status as status_of_job};
+ghost use Rattle.status_table.specs.Derived as derived;
+ghost use Rattle.status_table.specs.Derived.{any_ancestor, job_results};
 ghost use Rattle.status_table.specs.Seen.{job_seen};
 
 use crate::derived::{is_failure, is_success, job_result};
@@ -44,7 +45,7 @@ fn job_tests(alloc: Global, run: &Run, wanted: Wanted) -> Result<Vec<bool>, Allo
 
 /// The truth at a place; beyond the end there is none.
 fn holds_at(tests: &[bool], place: usize) -> bool
-    ensures { result ≡ holds_at_of tests.now place }
+    ensures { result ≡ derived.holds_at tests.now place }
 {
     match tests.get(place) {
         Some(holds) => *holds,
@@ -76,7 +77,7 @@ fn has_ancestor(
 ) -> Result<bool, AllocError>
     requires back { spec.NeedsPointBack first jobs.now }
     requires within { place < length jobs.now }
-    ensures { IfOk result (λ found. found ≡ some_ancestor first jobs.now tests.now (length jobs.now) place) }
+    ensures { IfOk result (λ found. found ≡ any_ancestor first jobs.now tests.now place) }
 {
     let mut marks = Vec::with_capacity(alloc, jobs.len())?;
     for job in jobs {
@@ -92,8 +93,7 @@ fn has_ancestor_with(
     at: &SeenJob,
     wanted: Wanted,
 ) -> Result<bool, AllocError>
-    requires back { spec.NeedsPointBack first at.now.run_plan.now.jobs }
-    requires within { at.now.place.job < length at.now.run_plan.now.jobs }
+    requires { spec.StandsAfterNeeds first (job_seen at.now) }
     ensures { IfOk result (λ found. found ≡ spec.has_ancestor_with first (job_seen at.now) wanted) }
 {
     let tests = job_tests(alloc, at.run, wanted)?;
@@ -103,9 +103,8 @@ fn has_ancestor_with(
 
 /// The status of a job, whose run's first job has the number `first`.
 pub(crate) fn job_status(alloc: Global, first: u64, at: &SeenJob) -> Result<Status, AllocError>
-    requires back { spec.NeedsPointBack first at.now.run_plan.now.jobs }
-    requires within { at.now.place.job < length at.now.run_plan.now.jobs }
-    ensures { IfOk result (λ status. status ≡ status_of_job first (job_seen at.now)) }
+    requires { spec.StandsAfterNeeds first (job_seen at.now) }
+    ensures { IfOk result (λ status. status ≡ derived.job_status first (job_seen at.now)) }
 {
     if at.run.stop {
         return Ok(Status::Cancelled);

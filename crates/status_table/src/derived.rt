@@ -152,7 +152,7 @@ pub(crate) fn job_result(run: &Run, job: &Job) -> Outcome
 }
 
 fn is_any_job_failed(run: &Run) -> bool
-    ensures { result ≡ list_any (λ job. spec.is_failure (spec.job_result run.now job)) run.now.jobs }
+    ensures { result ≡ spec.is_any_job_failed run.now }
 {
     run.jobs
         .as_slice()
@@ -161,7 +161,7 @@ fn is_any_job_failed(run: &Run) -> bool
 }
 
 fn is_any_job_cancelled(run: &Run) -> bool
-    ensures { result ≡ list_any (λ job. spec.is_cancelled (spec.job_result run.now job)) run.now.jobs }
+    ensures { result ≡ spec.is_any_job_cancelled run.now }
 {
     run.jobs
         .as_slice()

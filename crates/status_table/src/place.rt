@@ -6,14 +6,14 @@ ghost use Rattle.status_table.specs.Seen.{run_seen, job_seen, leg_seen};
 use flow_model::{Board, Job, JobPlan, Leg, Plan, Run, RunPlan};
 
 /// A job by its run's place and its own in the run.
-#[derive(Clone, Copy, Debug, PartialEq, Eq)]
+#[derive(Clone, Copy)]
 pub struct JobPlace {
     pub run: usize,
     pub job: usize,
 }
 
 /// A leg by its run's place, its job's in the run, and its own in the job.
-#[derive(Clone, Copy, Debug, PartialEq, Eq)]
+#[derive(Clone, Copy)]
 pub struct LegPlace {
     pub run: usize,
     pub job: usize,
@@ -48,6 +48,7 @@ pub(crate) struct SeenLeg<'a> {
     pub leg: &'a Leg,
 }
 
+/// The place of the job with a number.
 fn find_job_place(runs: &[Run], number: usize) -> Option<JobPlace>
     ensures { result ≡ spec.job_place_from 0 runs.now number }
 {
@@ -65,6 +66,7 @@ fn find_job_place(runs: &[Run], number: usize) -> Option<JobPlace>
     None
 }
 
+/// The place of the leg with a number in a run's jobs; else what is left of the number.
 fn find_leg_in_jobs(run: usize, jobs: &[Job], number: usize) -> Result<LegPlace, usize>
     ensures { result ≡ spec.leg_in_jobs run 0 jobs.now number }
 {
@@ -83,6 +85,7 @@ fn find_leg_in_jobs(run: usize, jobs: &[Job], number: usize) -> Result<LegPlace,
     Err(left)
 }
 
+/// The place of the leg with a number.
 fn find_leg_place(runs: &[Run], number: usize) -> Option<LegPlace>
     ensures { result ≡ spec.leg_place_from 0 runs.now number }
 {

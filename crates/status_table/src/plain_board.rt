@@ -4,7 +4,7 @@ ghost use Rattle.flow_model.specs.declared.board.Board.{Board};
 ghost use Rattle.status_table.specs.Answers.{Answers};
 ghost use Rattle.status_table.specs.InPlay.{InPlay};
 ghost use Rattle.status_table.specs.Row.{event_row};
-ghost use Rattle.status_table.specs.Runs.{new_board};
+ghost use Rattle.status_table.specs.Runs.{new_play};
 
 use crate::events::{ask, begin, close, end, finish, judge, open, take};
 use crate::fault::EventFault;
@@ -41,14 +41,14 @@ impl Model for PlainBoard {
 impl PlainBoard {
     /// A copy of the plan with its board on which all is new. It keeps the allocator.
     pub fn new(alloc: Global, plan: &CheckedPlan) -> Result<PlainBoard, AllocError>
-        ensures { IfOk result (λ made. made ≡ record { plan = plan.now; board = new_board plan.now }) }
+        ensures { IfOk result (λ made. made ≡ new_play plan.now) }
     {
         PlainBoard::from_plan(alloc, plan.copy(alloc)?)
     }
 
     /// The plan, without a copy, with its board on which all is new. It keeps the allocator.
     pub fn from_plan(alloc: Global, plan: CheckedPlan) -> Result<PlainBoard, AllocError>
-        ensures { IfOk result (λ made. made ≡ record { plan = plan; board = new_board plan }) }
+        ensures { IfOk result (λ made. made ≡ new_play plan) }
     {
         let board = make_board(alloc, plan.plan())?;
         Ok(PlainBoard { plan, board, alloc })
