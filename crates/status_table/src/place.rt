@@ -108,11 +108,10 @@ pub(crate) fn find_run<'a>(plan: &'a Plan, board: &'a Board, number: usize) -> O
     Some(SeenRun { plan, run })
 }
 
-/// The job with a number.
-pub(crate) fn find_job<'a>(plan: &'a Plan, board: &'a Board, number: usize) -> Option<SeenJob<'a>>
-    ensures { option_map job_seen result ≡ spec.job_at plan.now board.now number }
+/// The job at a place.
+fn find_placed<'a>(plan: &'a Plan, board: &'a Board, place: JobPlace) -> Option<SeenJob<'a>>
+    ensures { option_map job_seen result ≡ spec.job_placed plan.now board.now place }
 {
-    let place = find_job_place(board.runs.as_slice(), number)?;
     let at = find_run(plan, board, place.run)?;
     let plan = at.plan.jobs.as_slice().get(place.job)?;
     let job = at.run.jobs.as_slice().get(place.job)?;
@@ -125,21 +124,31 @@ pub(crate) fn find_job<'a>(plan: &'a Plan, board: &'a Board, number: usize) -> O
     })
 }
 
+/// The job with a number.
+pub(crate) fn find_job<'a>(plan: &'a Plan, board: &'a Board, number: usize) -> Option<SeenJob<'a>>
+    ensures { option_map job_seen result ≡ spec.job_at plan.now board.now number }
+{
+    let place = find_job_place(board.runs.as_slice(), number)?;
+    find_placed(plan, board, place)
+}
+
 /// The leg with a number.
 pub(crate) fn find_leg<'a>(plan: &'a Plan, board: &'a Board, number: usize) -> Option<SeenLeg<'a>>
     ensures { option_map leg_seen result ≡ spec.leg_at plan.now board.now number }
 {
     let place = find_leg_place(board.runs.as_slice(), number)?;
-    let at = find_run(plan, board, place.run)?;
-    let job_plan = at.plan.jobs.as_slice().get(place.job)?;
-    let job = at.run.jobs.as_slice().get(place.job)?;
-    let leg = job.legs.as_slice().get(place.leg)?;
+    let in_run = JobPlace {
+        run: place.run,
+        job: place.job,
+    };
+    let at = find_placed(plan, board, in_run)?;
+    let leg = at.job.legs.as_slice().get(place.leg)?;
     Some(SeenLeg {
         place,
-        run_plan: at.plan,
-        job_plan,
+        run_plan: at.run_plan,
+        job_plan: at.plan,
         run: at.run,
-        job,
+        job: at.job,
         leg,
     })
 }
