@@ -1,2 +1,9 @@
+pub mod Backwards
+pub mod Found
+pub mod Keeps
 pub mod Kept
+pub mod Legal
+pub mod Lists
+pub mod Numbers
 pub mod RunsLemmas
+pub mod Sound

@@ -1,10 +1,12 @@
 -- How an answer of a board stands to the row of the table.
 use Rattle.std.specs.Prelude.{◌≡◌, Result, Ok, Err}
+use Rattle.flow_model.specs.declared.plan.Plan.{Plan}
 use Rattle.flow_model.specs.declared.board.Board.{Board}
+use Rattle.flow_model.specs.declared.event.Entry.{Entry}
 use Rattle.flow_model.specs.declared.reply.Reply.{Reply}
 use Rattle.status_table.specs.declared.fault.EventFault.{EventFault}
 use Rattle.status_table.specs.declared.fault.EventFault.TheVariants as fault
-use Rattle.status_table.specs.Row.{Row}
+use Rattle.status_table.specs.Row.{Row, row}
 
 -- A refusal is the row's; memory may run out besides.
 abbrev pub Refuses : {T : Type 0} → Result T EventFault → EventFault → Type 0
@@ -33,3 +35,7 @@ DecidesAs seen r (Err f) = Refuses r f
 abbrev pub Answers : Row → Board → Result Reply EventFault → Board → Type 0
 Answers r old (Ok reply) new = r ≡ Ok (new, reply)
 Answers r old (Err f) new = Refuses r f × (new ≡ old)
+
+-- An entry is answered as the row of its event.
+abbrev pub AnswersEntry : Plan → Board → Entry → Result Reply EventFault → Board → Type 0
+AnswersEntry p old entry r new = Answers (row p old entry.worker entry.event) old r new

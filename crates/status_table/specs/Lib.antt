@@ -3,8 +3,13 @@ pub mod Answers
 pub mod Change
 pub mod Conditions
 pub mod Derived
+pub mod Ends
+pub mod Fault
+pub mod InPlay
+pub mod Numbered
 pub mod Place
 pub mod Play
 pub mod Row
 pub mod Runs
 pub mod Seen
+pub mod Shape

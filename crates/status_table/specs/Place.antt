@@ -11,6 +11,7 @@ use Rattle.status_table.specs.declared.place.JobPlace.{JobPlace}
 use Rattle.status_table.specs.declared.place.LegPlace.{LegPlace}
 
 infixl 10 ◌>>=◌
+-- a look-up after another
 abbrev pub ◌>>=◌ : {A B : Type 0} → Option A → (A → Option B) → Option B
 None >>= f = None
 (Some x) >>= f = f x
@@ -21,6 +22,7 @@ job_place_from k [] n = None
 job_place_from k (run ∷ runs) n =
     if nat_lt n (length run.jobs) then Some (record { run = k; job = n }) else job_place_from (suc k) runs (n - length run.jobs)
 
+-- the place of the job with this number
 abbrev pub job_place : Board → ℕ → Option JobPlace
 job_place b n = job_place_from 0 b.runs n
 
@@ -40,6 +42,7 @@ abbrev pub leg_place_from : ℕ → List Run → ℕ → Option LegPlace
 leg_place_from k [] n = None
 leg_place_from k (run ∷ runs) n = else_from (leg_in_jobs k 0 run.jobs n) (λ left. leg_place_from (suc k) runs left)
 
+-- the place of the leg with this number
 abbrev pub leg_place : Board → ℕ → Option LegPlace
 leg_place b n = leg_place_from 0 b.runs n
 
@@ -67,25 +70,31 @@ pub record LegAt : Type 0 where
   pub job : Job
   pub leg : Leg
 
+-- the run with a number
 abbrev pub run_at : Plan → Board → ℕ → Option RunAt
 run_at p b n = do
   plan ← slice_get p.runs n
   run ← slice_get b.runs n
   Some (record { plan = plan; run = run })
 
-abbrev pub job_at : Plan → Board → ℕ → Option JobAt
-job_at p b n = do
-  place ← job_place b n
+-- the job at a place
+abbrev pub job_placed : Plan → Board → JobPlace → Option JobAt
+job_placed p b place = do
   run ← run_at p b place.run
   plan ← slice_get run.plan.jobs place.job
   job ← slice_get run.run.jobs place.job
   Some (record { place = place; run_plan = run.plan; plan = plan; run = run.run; job = job })
 
+-- the job with a number
+abbrev pub job_at : Plan → Board → ℕ → Option JobAt
+job_at p b n = do
+  place ← job_place b n
+  job_placed p b place
+
+-- the leg with a number
 abbrev pub leg_at : Plan → Board → ℕ → Option LegAt
 leg_at p b n = do
   place ← leg_place b n
-  run ← run_at p b place.run
-  job_plan ← slice_get run.plan.jobs place.job
-  job ← slice_get run.run.jobs place.job
-  leg ← slice_get job.legs place.leg
-  Some (record { place = place; run_plan = run.plan; job_plan = job_plan; run = run.run; job = job; leg = leg })
+  at ← job_placed p b (record { run = place.run; job = place.job })
+  leg ← slice_get at.job.legs place.leg
+  Some (record { place = place; run_plan = at.run_plan; job_plan = at.plan; run = at.run; job = at.job; leg = leg })

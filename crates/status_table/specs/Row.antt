@@ -79,6 +79,9 @@ abbrev pub open_found : Board → ℕ → Option RunAt → Row
 open_found b r None = Err fault.NoSuch
 open_found b r (Some at) = open_run b r at.run.state at.run.stop
 
+abbrev pub open_row : Plan → Board → ℕ → Row
+open_row p b r = open_found b r (run_at p b r)
+
 -- ---- Judge: a job whose needs have ended is opened where its condition is true, and else shut
 
 -- what a job is shut with where its condition is not true
@@ -121,17 +124,27 @@ abbrev pub judge_found : Board → ℕ → Option JobAt → Row
 judge_found b j None = Err fault.NoSuch
 judge_found b j (Some at) = judge_job b at.place (judgement j at)
 
+abbrev pub judge_row : Plan → Board → ℕ → Row
+judge_row p b j = judge_found b j (job_at p b j)
+
 -- ---- Ask: a leg that is Fresh, of an Open job, asks to be admitted
+
+-- whether a leg may ask: its run is Going, its job Open, and it is Fresh
+abbrev pub may_ask : LegAt → Bool
+may_ask at = is_going at.run.state && is_open at.job.state && is_fresh at.leg.state
 
 abbrev pub ask_leg : Board → ℕ → LegAt → Row
 ask_leg b l at =
-    if not (is_going at.run.state && is_open at.job.state && is_fresh at.leg.state) then Err fault.WrongState
+    if not (may_ask at) then Err fault.WrongState
     else (if is_full at.job_plan at.job then Err fault.SlotsFull
     else (if is_stopping at then Err fault.Stopping else leg_enters b at l))
 
 abbrev pub ask_found : Board → ℕ → Option LegAt → Row
 ask_found b l None = Err fault.NoSuch
 ask_found b l (Some at) = ask_leg b l at
+
+abbrev pub ask_row : Plan → Board → ℕ → Row
+ask_row p b l = ask_found b l (leg_at p b l)
 
 -- ---- Take: a worker takes a leg that is Admitted
 
@@ -147,6 +160,9 @@ take_leg b worker at (leg_state.Ended result tolerated) = Err fault.WrongState
 abbrev pub take_found : Board → ℕ → Option LegAt → Row
 take_found b worker None = Err fault.NoSuch
 take_found b worker (Some at) = take_leg b worker at at.leg.state
+
+abbrev pub take_row : Plan → Board → ℕ → ℕ → Row
+take_row p b worker l = take_found b worker (leg_at p b l)
 
 -- ---- Begin: the worker of an idle leg begins its next step
 
@@ -173,9 +189,13 @@ abbrev pub work_beginning : ℕ → LegAt → StepPlan → Result CallWork Value
 work_beginning l at step (Ok work) = calls (record { leg = l; step = length at.leg.steps; work = work; env = env_value step })
 work_beginning l at step (Err f) = faults f
 
+-- what the texts of a step come to
+abbrev pub call_beginning : ℕ → LegAt → StepPlan → Beginning
+call_beginning l at step = work_beginning l at step (work_value step.work)
+
 -- the condition comes first, and then the texts
 abbrev pub step_beginning : ℕ → LegAt → StepPlan → Result Bool ValueFault → Beginning
-step_beginning l at step (Ok true) = work_beginning l at step (work_value step.work)
+step_beginning l at step (Ok true) = call_beginning l at step
 step_beginning l at step (Ok false) = skips
 step_beginning l at step (Err f) = faults f
 
@@ -208,6 +228,9 @@ begin_leg b worker at (Err f) = Err f
 abbrev pub begin_found : Board → ℕ → ℕ → Option LegAt → Row
 begin_found b worker l None = Err fault.NoSuch
 begin_found b worker l (Some at) = begin_leg b worker at (beginning worker l at)
+
+abbrev pub begin_row : Plan → Board → ℕ → ℕ → Row
+begin_row p b worker l = begin_found b worker l (leg_at p b l)
 
 -- ---- End: the call of a leg is answered
 
@@ -261,6 +284,9 @@ abbrev pub end_found : Board → ℕ → Answer → Option LegAt → Row
 end_found b worker a None = Err fault.NoSuch
 end_found b worker a (Some at) = end_leg b worker at (ending worker at a)
 
+abbrev pub end_row : Plan → Board → ℕ → ℕ → Answer → Row
+end_row p b worker l a = end_found b worker a (leg_at p b l)
+
 -- ---- Finish: a leg whose steps are all done ends with its status
 
 -- a failure is tolerated where the job may fail
@@ -281,10 +307,13 @@ finishing worker at = finishing_by worker at (idle_owner at.leg.state)
 abbrev pub leg_outputs : LegAt → List (List ℕ × List ℕ)
 leg_outputs at = []
 
+-- the leg has a state and its outputs
+abbrev pub leg_set : Board → LegPlace → LegState → List (List ℕ × List ℕ) → Board
+leg_set b place state outputs = with_leg b place (λ leg. record leg { state = state; outputs = outputs })
+
 -- the board with a leg ended, last of all
 abbrev pub leg_ended : Board → LegPlace → ℕ → LegState → List (List ℕ × List ℕ) → Board
-leg_ended b place l state outputs =
-    record (with_leg b place (λ leg. record leg { state = state; outputs = outputs })) { ends = b.ends ++ l ∷ [] }
+leg_ended b place l state outputs = record (leg_set b place state outputs) { ends = b.ends ++ l ∷ [] }
 
 abbrev pub finish_leg : Board → ℕ → LegAt → Result LegState EventFault → Row
 finish_leg b l at (Ok state) = Ok (leg_ended b at.place l state (leg_outputs at), reply what.Moved None)
@@ -293,6 +322,9 @@ finish_leg b l at (Err f) = Err f
 abbrev pub finish_found : Board → ℕ → ℕ → Option LegAt → Row
 finish_found b worker l None = Err fault.NoSuch
 finish_found b worker l (Some at) = finish_leg b l at (finishing worker at)
+
+abbrev pub finish_row : Plan → Board → ℕ → ℕ → Row
+finish_row p b worker l = finish_found b worker l (leg_at p b l)
 
 -- ---- Close: a run whose jobs have all ended, or that was told to stop before it was going, ends
 
@@ -311,17 +343,20 @@ abbrev pub close_found : Board → ℕ → Option RunAt → Row
 close_found b r None = Err fault.NoSuch
 close_found b r (Some at) = close_run b r at.run at.run.state
 
+abbrev pub close_row : Plan → Board → ℕ → Row
+close_row p b r = close_found b r (run_at p b r)
+
 -- ---- the table
 
 abbrev pub event_row : Plan → Board → ℕ → Event → Row
-event_row p b worker (event.Open r) = open_found b r (run_at p b r)
-event_row p b worker (event.Judge j) = judge_found b j (job_at p b j)
-event_row p b worker (event.Ask l) = ask_found b l (leg_at p b l)
-event_row p b worker (event.Take l) = take_found b worker (leg_at p b l)
-event_row p b worker (event.Begin l) = begin_found b worker l (leg_at p b l)
-event_row p b worker (event.End l a) = end_found b worker a (leg_at p b l)
-event_row p b worker (event.Finish l) = finish_found b worker l (leg_at p b l)
-event_row p b worker (event.Close r) = close_found b r (run_at p b r)
+event_row p b worker (event.Open r) = open_row p b r
+event_row p b worker (event.Judge j) = judge_row p b j
+event_row p b worker (event.Ask l) = ask_row p b l
+event_row p b worker (event.Take l) = take_row p b worker l
+event_row p b worker (event.Begin l) = begin_row p b worker l
+event_row p b worker (event.End l a) = end_row p b worker l a
+event_row p b worker (event.Finish l) = finish_row p b worker l
+event_row p b worker (event.Close r) = close_row p b r
 
 -- The row of an event that a worker reports: there are the workers 0 to 15.
 abbrev pub row : Plan → Board → ℕ → Event → Row

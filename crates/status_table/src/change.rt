@@ -1,6 +1,5 @@
 // Changes of a board in place.
 ghost use Rattle.std.specs.Prelude.{◌≡◌, OnOk, OnErr};
-ghost use Rattle.status_table.specs.Change as spec;
 ghost use Rattle.status_table.specs.Row as row;
 
 use crate::place::{JobPlace, LegPlace};
@@ -64,9 +63,9 @@ pub(crate) fn add_step(
     Ok(())
 }
 
-/// Gives a leg its outputs and the state in which it ends.
-fn set_ended(board: &mut Board, place: LegPlace, state: LegState, outputs: Mapping<Text>)
-    ensures { board.new ≡ spec.with_leg board.old place (λ leg. record leg { state = state; outputs = outputs }) }
+/// Puts a leg into a state, and gives it its outputs.
+fn set_leg(board: &mut Board, place: LegPlace, state: LegState, outputs: Mapping<Text>)
+    ensures { board.new ≡ row.leg_set board.old place state outputs }
 {
     if let Some(run) = board.runs.get_mut(place.run) {
         if let Some(job) = run.jobs.get_mut(place.job) {
@@ -78,8 +77,8 @@ fn set_ended(board: &mut Board, place: LegPlace, state: LegState, outputs: Mappi
     }
 }
 
-/// Ends a leg, last of all; where memory runs out, nothing is changed.
-pub(crate) fn end_leg(
+/// Puts a leg into the state in which it ends, last of all; where memory runs out, nothing is changed.
+pub(crate) fn set_ended(
     board: &mut Board,
     place: LegPlace,
     number: u64,
@@ -90,6 +89,6 @@ pub(crate) fn end_leg(
     ensures err { OnErr result (board.new ≡ board.old) }
 {
     board.ends.push(number)?;
-    set_ended(board, place, state, outputs);
+    set_leg(board, place, state, outputs);
     Ok(())
 }

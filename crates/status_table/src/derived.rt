@@ -1,15 +1,13 @@
-// What follows from a board: what has ended, the results of jobs, what is to stop, and the statuses.
-ghost use Rattle.std.specs.Prelude.{◌≡◌, ◌-◌, ◌≤◌, IfOk, Ok, map, length, count_by, nat_le, not};
-ghost use Rattle.std.specs.List.{list_all, list_any};
+// What follows from a board: what has ended, the results of jobs, what is to stop, and the statuses of legs.
+ghost use Rattle.std.specs.Prelude.{◌≡◌, map, count_by};
+ghost use Rattle.std.specs.List.{list_any};
 ghost use Rattle.status_table.specs.Derived as spec;
-ghost use Rattle.status_table.specs.Ancestors.{any_need};
-ghost use Rattle.status_table.specs.Seen.{job_seen, leg_seen};
+ghost use Rattle.status_table.specs.Seen.{leg_seen};
 
 use crate::conditions::condition_holds;
-use crate::place::{SeenJob, SeenLeg};
+use crate::place::SeenLeg;
 use crate::status::Status;
 use flow_model::{DoneStep, Job, JobPlan, JobState, Leg, LegState, Outcome, Run, RunState};
-use std::alloc::{AllocError, Global};
 
 fn is_closed(state: RunState) -> bool
     ensures { result ≡ spec.is_closed state }
@@ -154,7 +152,7 @@ pub(crate) fn job_result(run: &Run, job: &Job) -> Outcome
 }
 
 fn is_any_job_failed(run: &Run) -> bool
-    ensures { result ≡ list_any (λ job. spec.is_failure (spec.job_result run.now job)) run.now.jobs }
+    ensures { result ≡ spec.is_any_job_failed run.now }
 {
     run.jobs
         .as_slice()
@@ -163,7 +161,7 @@ fn is_any_job_failed(run: &Run) -> bool
 }
 
 fn is_any_job_cancelled(run: &Run) -> bool
-    ensures { result ≡ list_any (λ job. spec.is_cancelled (spec.job_result run.now job)) run.now.jobs }
+    ensures { result ≡ spec.is_any_job_cancelled run.now }
 {
     run.jobs
         .as_slice()
@@ -244,105 +242,6 @@ pub(crate) fn is_full(plan: &JobPlan, job: &Job) -> bool
         None => false,
         Some(most) => most <= count_under_way(job.legs.as_slice()) as u64,
     }
-}
-
-/// The truth at a place; beyond the end there is none.
-fn holds_at(tests: &[bool], place: usize) -> bool
-    ensures { result ≡ spec.holds_at tests.now place }
-{
-    match tests.get(place) {
-        Some(holds) => *holds,
-        None => false,
-    }
-}
-
-/// Whether a job that this one needs passes either test.
-fn is_any_need(first: u64, job: &JobPlan, tests: &[bool], marks: &[bool]) -> bool
-    ensures { result ≡ any_need first tests.now marks.now job.now }
-{
-    let needs = job.needs.as_slice();
-    for need in needs {
-        let place = need.saturating_sub(first) as usize;
-        if holds_at(tests, place) || holds_at(marks, place) {
-            return true;
-        }
-    }
-    false
-}
-
-/// One more need of distance: for each job whether one that it needs passes either test.
-fn mark_needs(
-    alloc: Global,
-    first: u64,
-    jobs: &[JobPlan],
-    tests: &[bool],
-    marks: &[bool],
-) -> Result<Vec<bool>, AllocError>
-    ensures { IfOk result (λ next. next.items ≡ map (any_need first tests.now marks.now) jobs.now) }
-{
-    let mut next = Vec::with_capacity(alloc, jobs.len())?;
-    for job in jobs {
-        next.push(is_any_need(first, job, tests, marks))?;
-    }
-    Ok(next)
-}
-
-/// Whether an ancestor of the job at a place passes a test that was made of each job.
-fn is_any_ancestor(
-    alloc: Global,
-    first: u64,
-    jobs: &[JobPlan],
-    tests: &[bool],
-    place: usize,
-) -> Result<bool, AllocError>
-    ensures { IfOk result (λ found. found ≡ spec.some_ancestor first jobs.now tests.now (length jobs.now) place) }
-{
-    let mut marks = Vec::new(alloc);
-    for _round in 0..jobs.len() {
-        marks = mark_needs(alloc, first, jobs, tests, marks.as_slice())?;
-    }
-    Ok(holds_at(marks.as_slice(), place))
-}
-
-fn failed_jobs(alloc: Global, run: &Run) -> Result<Vec<bool>, AllocError>
-    ensures { IfOk result (λ tests. tests.items ≡ map (λ job. spec.is_failure (spec.job_result run.now job)) run.now.jobs) }
-{
-    let jobs = run.jobs.as_slice();
-    let mut tests = Vec::with_capacity(alloc, jobs.len())?;
-    for job in jobs {
-        tests.push(is_failure(job_result(run, job)))?;
-    }
-    Ok(tests)
-}
-
-fn unsuccessful_jobs(alloc: Global, run: &Run) -> Result<Vec<bool>, AllocError>
-    ensures { IfOk result (λ tests. tests.items ≡ map (λ job. not (spec.is_success (spec.job_result run.now job))) run.now.jobs) }
-{
-    let jobs = run.jobs.as_slice();
-    let mut tests = Vec::with_capacity(alloc, jobs.len())?;
-    for job in jobs {
-        tests.push(!is_success(job_result(run, job)))?;
-    }
-    Ok(tests)
-}
-
-/// The status of a job whose run's first job has the number `first`.
-pub(crate) fn job_status(alloc: Global, first: u64, at: &SeenJob) -> Result<Status, AllocError>
-    ensures { IfOk result (λ status. status ≡ spec.job_status first (job_seen at.now)) }
-{
-    if at.run.stop {
-        return Ok(Status::Cancelled);
-    }
-    let jobs = at.run_plan.jobs.as_slice();
-    let failed = failed_jobs(alloc, at.run)?;
-    if is_any_ancestor(alloc, first, jobs, failed.as_slice(), at.place.job)? {
-        return Ok(Status::Failure);
-    }
-    let unsuccessful = unsuccessful_jobs(alloc, at.run)?;
-    if is_any_ancestor(alloc, first, jobs, unsuccessful.as_slice(), at.place.job)? {
-        return Ok(Status::Other);
-    }
-    Ok(Status::Success)
 }
 
 /// Whether the job at a place of a run has ended.

@@ -1,20 +1,20 @@
 // The events of the table, each as a change of a board.
 //
 // Each function looks for a refusal first, makes what room it needs, and only then changes the board.
-ghost use Rattle.std.specs.Prelude.{◌≡◌, ◌&&◌, Some, None, Ok, IfOk, option_map};
+ghost use Rattle.std.specs.Prelude.{◌≡◌, IfOk};
 ghost use Rattle.std.specs.Option.{option_copied};
+ghost use Rattle.status_table.specs.Ancestors.{StandsAfterNeeds};
 ghost use Rattle.status_table.specs.Answers.{Answers, Decides, DecidesAs};
-ghost use Rattle.status_table.specs.Conditions.{work_value as work_value_of};
-ghost use Rattle.status_table.specs.Derived.{is_going, is_open, is_fresh};
-ghost use Rattle.status_table.specs.Place.{run_at, job_at, leg_at};
+ghost use Rattle.status_table.specs.InPlay.{InPlay};
 ghost use Rattle.status_table.specs.Row as spec;
-ghost use Rattle.status_table.specs.Seen.{beginning_seen, ended_step, job_seen, leg_seen};
+ghost use Rattle.status_table.specs.Seen.{beginning_seen, DecidesEnding, job_seen, leg_seen};
 
-use crate::change::{add_step, end_leg, set_job_state, set_leg_state, set_run_state};
+use crate::ancestors::job_status;
+use crate::change::{add_step, set_ended, set_job_state, set_leg_state, set_run_state};
 use crate::conditions::{condition_holds, is_set, work_value};
 use crate::derived::{
-    is_failure, is_full, is_stopping, job_status, jobs_have_ended, leg_result, leg_status,
-    needs_have_ended, run_result,
+    is_failure, is_full, is_stopping, jobs_have_ended, leg_result, leg_status, needs_have_ended,
+    run_result,
 };
 use crate::fault::EventFault;
 use crate::place::{SeenJob, SeenLeg, SeenRun, find_job, find_leg, find_run};
@@ -36,8 +36,9 @@ fn reply(what: What, admitted: Option<Member>) -> Reply
     }
 }
 
+/// Starts a run that is new.
 pub(crate) fn open(plan: &Plan, board: &mut Board, number: u64) -> Result<Reply, EventFault>
-    ensures { Answers (spec.open_found board.old number (run_at plan.now board.old number)) board.old result board.new }
+    ensures { Answers (spec.open_row plan.now board.old number) board.old result board.new }
 {
     let Some(at) = find_run(plan, board, number as usize) else {
         return Err(EventFault::NoSuch);
@@ -68,6 +69,7 @@ fn judged_state(stop: bool, holds: bool) -> JobState
 
 /// The state into which a job is judged, or why it is not.
 fn judgement(alloc: Global, number: u64, at: &SeenJob) -> Result<JobState, EventFault>
+    requires { StandsAfterNeeds (spec.first_of number (job_seen at.now)) (job_seen at.now) }
     ensures { Decides (spec.judgement number (job_seen at.now)) result }
 {
     match (at.run.state, at.job.state) {
@@ -86,13 +88,15 @@ fn judgement(alloc: Global, number: u64, at: &SeenJob) -> Result<JobState, Event
     Ok(judged_state(at.run.stop, condition_holds(status)))
 }
 
+/// Opens or shuts a job whose needs have ended.
 pub(crate) fn judge(
     alloc: Global,
     plan: &Plan,
     board: &mut Board,
     number: u64,
 ) -> Result<Reply, EventFault>
-    ensures { Answers (spec.judge_found board.old number (job_at plan.now board.old number)) board.old result board.new }
+    requires { InPlay plan.now board.old }
+    ensures { Answers (spec.judge_row plan.now board.old number) board.old result board.new }
 {
     let Some(at) = find_job(plan, board, number as usize) else {
         return Err(EventFault::NoSuch);
@@ -103,21 +107,23 @@ pub(crate) fn judge(
     Ok(reply(What::Moved, None))
 }
 
-fn is_waiting_to_ask(at: &SeenLeg) -> bool
-    ensures { result ≡ (is_going at.now.run.now.state && is_open at.now.job.now.state && is_fresh at.now.leg.now.state) }
+/// Whether a leg may ask to be admitted.
+fn may_ask(at: &SeenLeg) -> bool
+    ensures { result ≡ spec.may_ask (leg_seen at.now) }
 {
     matches!(at.run.state, RunState::Going)
         && matches!(at.job.state, JobState::Open)
         && matches!(at.leg.state, LegState::Fresh)
 }
 
+/// Admits a leg that asks.
 pub(crate) fn ask(plan: &Plan, board: &mut Board, number: u64) -> Result<Reply, EventFault>
-    ensures { Answers (spec.ask_found board.old number (leg_at plan.now board.old number)) board.old result board.new }
+    ensures { Answers (spec.ask_row plan.now board.old number) board.old result board.new }
 {
     let Some(at) = find_leg(plan, board, number as usize) else {
         return Err(EventFault::NoSuch);
     };
-    if !is_waiting_to_ask(&at) {
+    if !may_ask(&at) {
         return Err(EventFault::WrongState);
     }
     if is_full(at.job_plan, at.job) {
@@ -131,13 +137,14 @@ pub(crate) fn ask(plan: &Plan, board: &mut Board, number: u64) -> Result<Reply, 
     Ok(reply(What::Moved, Some(Member::Leg(number))))
 }
 
+/// Gives a leg that is admitted to a worker.
 pub(crate) fn take(
     plan: &Plan,
     board: &mut Board,
     worker: u8,
     number: u64,
 ) -> Result<Reply, EventFault>
-    ensures { Answers (spec.take_found board.old worker (leg_at plan.now board.old number)) board.old result board.new }
+    ensures { Answers (spec.take_row plan.now board.old worker number) board.old result board.new }
 {
     let Some(at) = find_leg(plan, board, number as usize) else {
         return Err(EventFault::NoSuch);
@@ -164,8 +171,9 @@ pub(crate) fn take(
     Ok(reply(What::Moved, None))
 }
 
+/// Ends a run whose jobs have ended, or that never went.
 pub(crate) fn close(plan: &Plan, board: &mut Board, number: u64) -> Result<Reply, EventFault>
-    ensures { Answers (spec.close_found board.old number (run_at plan.now board.old number)) board.old result board.new }
+    ensures { Answers (spec.close_row plan.now board.old number) board.old result board.new }
 {
     let Some(at) = find_run(plan, board, number as usize) else {
         return Err(EventFault::NoSuch);
@@ -243,7 +251,7 @@ fn step_call(
     at: &SeenLeg,
     step: &StepPlan,
 ) -> Result<StepCall, AllocError>
-    ensures { IfOk result (λ call. spec.work_beginning number (leg_seen at.now) step.now (work_value_of step.now.work) ≡ spec.calls call) }
+    ensures { IfOk result (λ call. spec.call_beginning number (leg_seen at.now) step.now ≡ spec.calls call) }
 {
     let work = work_value(alloc, &step.work)?;
     let env = Mapping::empty(alloc);
@@ -291,6 +299,7 @@ fn skipped_step(alloc: Global) -> DoneStep
     }
 }
 
+/// Begins the next step of a leg: its call, or that it is skipped.
 pub(crate) fn begin(
     alloc: Global,
     plan: &Plan,
@@ -298,7 +307,7 @@ pub(crate) fn begin(
     worker: u8,
     number: u64,
 ) -> Result<Reply, EventFault>
-    ensures { Answers (spec.begin_found board.old worker number (leg_at plan.now board.old number)) board.old result board.new }
+    ensures { Answers (spec.begin_row plan.now board.old worker number) board.old result board.new }
 {
     let Some(at) = find_leg(plan, board, number as usize) else {
         return Err(EventFault::NoSuch);
@@ -323,6 +332,7 @@ pub(crate) fn begin(
     }
 }
 
+/// The outcome of a step: success exactly for an exit with code 0.
 fn outcome_of(answer: &Answer) -> Outcome
     ensures { result ≡ spec.outcome_of answer.now }
 {
@@ -337,6 +347,7 @@ fn outcome_of(answer: &Answer) -> Outcome
     }
 }
 
+/// The outputs of a step: those of its exit.
 fn outputs_of(alloc: Global, answer: Answer) -> Mapping<Text>
     ensures { result ≡ spec.outputs_of answer }
 {
@@ -375,7 +386,7 @@ fn conclusion_of(at: &SeenLeg, outcome: Outcome) -> Outcome
 
 /// The outcome and conclusion of the step that an answer ends, or why it does not.
 fn ending(worker: u8, at: &SeenLeg, answer: &Answer) -> Result<(Outcome, Outcome), EventFault>
-    ensures { DecidesAs (λ x. ended_step x answer.now) (spec.ending worker (leg_seen at.now) answer.now) result }
+    ensures { DecidesEnding worker (leg_seen at.now) answer.now result }
 {
     let Some(owner) = calling_owner(at.leg.state) else {
         return Err(EventFault::WrongState);
@@ -390,6 +401,7 @@ fn ending(worker: u8, at: &SeenLeg, answer: &Answer) -> Result<(Outcome, Outcome
     Ok((outcome, conclusion_of(at, outcome)))
 }
 
+/// Ends the step of a leg that is in a call.
 pub(crate) fn end(
     alloc: Global,
     plan: &Plan,
@@ -398,7 +410,7 @@ pub(crate) fn end(
     number: u64,
     answer: Answer,
 ) -> Result<Reply, EventFault>
-    ensures { Answers (spec.end_found board.old worker answer (leg_at plan.now board.old number)) board.old result board.new }
+    ensures { Answers (spec.end_row plan.now board.old worker number answer) board.old result board.new }
 {
     let Some(at) = find_leg(plan, board, number as usize) else {
         return Err(EventFault::NoSuch);
@@ -440,6 +452,7 @@ fn finishing(worker: u8, at: &SeenLeg) -> Result<LegState, EventFault>
     })
 }
 
+/// Ends a leg whose steps are done.
 pub(crate) fn finish(
     alloc: Global,
     plan: &Plan,
@@ -447,13 +460,13 @@ pub(crate) fn finish(
     worker: u8,
     number: u64,
 ) -> Result<Reply, EventFault>
-    ensures { Answers (spec.finish_found board.old worker number (leg_at plan.now board.old number)) board.old result board.new }
+    ensures { Answers (spec.finish_row plan.now board.old worker number) board.old result board.new }
 {
     let Some(at) = find_leg(plan, board, number as usize) else {
         return Err(EventFault::NoSuch);
     };
     let place = at.place;
     let state = finishing(worker, &at)?;
-    end_leg(board, place, number, state, Mapping::empty(alloc))?;
+    set_ended(board, place, number, state, Mapping::empty(alloc))?;
     Ok(reply(What::Moved, None))
 }

@@ -1,40 +1,66 @@
 // Why an event is refused.
+ghost use Rattle.std.specs.Prelude.{◌≡◌};
+ghost use Rattle.status_table.specs.Fault.{event_fault_name};
+
 use std::alloc::{AllocError, AllocFailed};
+use std::fmt;
+use std::fmt::Display;
 use thiserror::Error;
 
 /// A refusal of the table. The first that applies, in this order, is answered; `Memory` is the last.
 #[derive(Clone, Copy, Debug, PartialEq, Eq, Error)]
 pub enum EventFault {
     /// There is no run, job or leg of that number, or no such worker.
-    #[error("NoSuch")]
     NoSuch,
     /// The run, job or leg is in another state.
-    #[error("WrongState")]
     WrongState,
     /// Another worker has the leg.
-    #[error("OtherWorker")]
     OtherWorker,
     /// What it needs has not ended.
-    #[error("NeedsOpen")]
     NeedsOpen,
     /// As many legs of the job are under way as may be at once.
-    #[error("SlotsFull")]
     SlotsFull,
     /// It is to stop.
-    #[error("Stopping")]
     Stopping,
     /// It is not to stop.
-    #[error("NotStopping")]
     NotStopping,
     /// A step of the leg is left.
-    #[error("StepsLeft")]
     StepsLeft,
     /// The answer is not well-formed.
-    #[error("BadAnswer")]
     BadAnswer,
     /// There is no memory.
-    #[error("Memory")]
     Memory,
+}
+
+impl EventFault {
+    /// Its name, as it is printed.
+    pub fn name(self) -> &'static str
+        ensures { result.now ≡ event_fault_name self }
+    {
+        match self {
+            EventFault::NoSuch => "NoSuch",
+            EventFault::WrongState => "WrongState",
+            EventFault::OtherWorker => "OtherWorker",
+            EventFault::NeedsOpen => "NeedsOpen",
+            EventFault::SlotsFull => "SlotsFull",
+            EventFault::Stopping => "Stopping",
+            EventFault::NotStopping => "NotStopping",
+            EventFault::StepsLeft => "StepsLeft",
+            EventFault::BadAnswer => "BadAnswer",
+            EventFault::Memory => "Memory",
+        }
+    }
+}
+
+impl Display for EventFault {
+    ghost use Rattle.std.specs.Prelude.{Some};
+    ghost use Rattle.status_table.specs.Fault.{event_fault_name};
+
+    ghost output = { λ fault. Some (event_fault_name fault) };
+
+    fn fmt<W: fmt::Write>(&self, f: &mut fmt::Formatter<W>) -> fmt::Result {
+        f.write_str(self.name())
+    }
 }
 
 impl From<AllocError> for EventFault {

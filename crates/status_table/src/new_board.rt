@@ -8,6 +8,7 @@ use flow_model::{
 };
 use std::alloc::{AllocError, Global};
 
+/// A leg that has not asked.
 fn new_leg(alloc: Global, combo: &Combo) -> Leg
     ensures { result ≡ spec.new_leg combo.now }
 {
@@ -23,6 +24,7 @@ fn new_leg(alloc: Global, combo: &Combo) -> Leg
     }
 }
 
+/// A job that was not judged.
 fn new_job(alloc: Global, plan: &JobPlan) -> Result<Job, AllocError>
     ensures { IfOk result (λ job. job ≡ spec.new_job plan.now) }
 {
@@ -37,6 +39,7 @@ fn new_job(alloc: Global, plan: &JobPlan) -> Result<Job, AllocError>
     })
 }
 
+/// A run that was not opened.
 fn new_run(alloc: Global, plan: &RunPlan) -> Result<Run, AllocError>
     ensures { IfOk result (λ run. run ≡ spec.new_run plan.now) }
 {

@@ -6,14 +6,14 @@ ghost use Rattle.status_table.specs.Seen.{run_seen, job_seen, leg_seen};
 use flow_model::{Board, Job, JobPlan, Leg, Plan, Run, RunPlan};
 
 /// A job by its run's place and its own in the run.
-#[derive(Clone, Copy, Debug, PartialEq, Eq)]
+#[derive(Clone, Copy)]
 pub struct JobPlace {
     pub run: usize,
     pub job: usize,
 }
 
 /// A leg by its run's place, its job's in the run, and its own in the job.
-#[derive(Clone, Copy, Debug, PartialEq, Eq)]
+#[derive(Clone, Copy)]
 pub struct LegPlace {
     pub run: usize,
     pub job: usize,
@@ -48,6 +48,7 @@ pub(crate) struct SeenLeg<'a> {
     pub leg: &'a Leg,
 }
 
+/// The place of the job with a number.
 fn find_job_place(runs: &[Run], number: usize) -> Option<JobPlace>
     ensures { result ≡ spec.job_place_from 0 runs.now number }
 {
@@ -65,6 +66,7 @@ fn find_job_place(runs: &[Run], number: usize) -> Option<JobPlace>
     None
 }
 
+/// The place of the leg with a number in a run's jobs; else what is left of the number.
 fn find_leg_in_jobs(run: usize, jobs: &[Job], number: usize) -> Result<LegPlace, usize>
     ensures { result ≡ spec.leg_in_jobs run 0 jobs.now number }
 {
@@ -83,6 +85,7 @@ fn find_leg_in_jobs(run: usize, jobs: &[Job], number: usize) -> Result<LegPlace,
     Err(left)
 }
 
+/// The place of the leg with a number.
 fn find_leg_place(runs: &[Run], number: usize) -> Option<LegPlace>
     ensures { result ≡ spec.leg_place_from 0 runs.now number }
 {
@@ -105,11 +108,10 @@ pub(crate) fn find_run<'a>(plan: &'a Plan, board: &'a Board, number: usize) -> O
     Some(SeenRun { plan, run })
 }
 
-/// The job with a number.
-pub(crate) fn find_job<'a>(plan: &'a Plan, board: &'a Board, number: usize) -> Option<SeenJob<'a>>
-    ensures { option_map job_seen result ≡ spec.job_at plan.now board.now number }
+/// The job at a place.
+fn find_placed<'a>(plan: &'a Plan, board: &'a Board, place: JobPlace) -> Option<SeenJob<'a>>
+    ensures { option_map job_seen result ≡ spec.job_placed plan.now board.now place }
 {
-    let place = find_job_place(board.runs.as_slice(), number)?;
     let at = find_run(plan, board, place.run)?;
     let plan = at.plan.jobs.as_slice().get(place.job)?;
     let job = at.run.jobs.as_slice().get(place.job)?;
@@ -122,21 +124,31 @@ pub(crate) fn find_job<'a>(plan: &'a Plan, board: &'a Board, number: usize) -> O
     })
 }
 
+/// The job with a number.
+pub(crate) fn find_job<'a>(plan: &'a Plan, board: &'a Board, number: usize) -> Option<SeenJob<'a>>
+    ensures { option_map job_seen result ≡ spec.job_at plan.now board.now number }
+{
+    let place = find_job_place(board.runs.as_slice(), number)?;
+    find_placed(plan, board, place)
+}
+
 /// The leg with a number.
 pub(crate) fn find_leg<'a>(plan: &'a Plan, board: &'a Board, number: usize) -> Option<SeenLeg<'a>>
     ensures { option_map leg_seen result ≡ spec.leg_at plan.now board.now number }
 {
     let place = find_leg_place(board.runs.as_slice(), number)?;
-    let at = find_run(plan, board, place.run)?;
-    let job_plan = at.plan.jobs.as_slice().get(place.job)?;
-    let job = at.run.jobs.as_slice().get(place.job)?;
-    let leg = job.legs.as_slice().get(place.leg)?;
+    let in_run = JobPlace {
+        run: place.run,
+        job: place.job,
+    };
+    let at = find_placed(plan, board, in_run)?;
+    let leg = at.job.legs.as_slice().get(place.leg)?;
     Some(SeenLeg {
         place,
-        run_plan: at.plan,
-        job_plan,
+        run_plan: at.run_plan,
+        job_plan: at.plan,
         run: at.run,
-        job,
+        job: at.job,
         leg,
     })
 }

@@ -2,9 +2,9 @@
 ghost use Rattle.std.specs.Prelude.{◌≡◌, IfOk};
 ghost use Rattle.flow_model.specs.declared.board.Board.{Board};
 ghost use Rattle.status_table.specs.Answers.{Answers};
-ghost use Rattle.status_table.specs.Play.{Play};
+ghost use Rattle.status_table.specs.InPlay.{InPlay};
 ghost use Rattle.status_table.specs.Row.{event_row};
-ghost use Rattle.status_table.specs.Runs.{new_board};
+ghost use Rattle.status_table.specs.Runs.{new_play};
 
 use crate::events::{ask, begin, close, end, finish, judge, open, take};
 use crate::fault::EventFault;
@@ -32,16 +32,34 @@ impl Model for PlainBoard {
     ghost coded = { Prim.hlevel (codes, coded_plain) };
 
     ghost view = { λ p. record { plan = p.plan; board = p.board } };
+
+    ghost use Rattle.status_table.specs.InPlay.{InPlay};
+
+    ghost invariant = { λ p. InPlay p.plan p.board };
 }
 
 impl PlainBoard {
-    /// The plan with its board on which all is new. It keeps the allocator.
+    /// A copy of the plan with its board on which all is new. It keeps the allocator.
     pub fn new(alloc: Global, plan: &CheckedPlan) -> Result<PlainBoard, AllocError>
-        ensures { IfOk result (λ made. made ≡ record { plan = plan.now; board = new_board plan.now }) }
+        ensures { IfOk result (λ made. made ≡ new_play plan.now) }
+    {
+        PlainBoard::from_plan(alloc, plan.copy(alloc)?)
+    }
+
+    /// The plan, without a copy, with its board on which all is new. It keeps the allocator.
+    pub fn from_plan(alloc: Global, plan: CheckedPlan) -> Result<PlainBoard, AllocError>
+        ensures { IfOk result (λ made. made ≡ new_play plan) }
     {
         let board = make_board(alloc, plan.plan())?;
-        let plan = plan.copy(alloc)?;
         Ok(PlainBoard { plan, board, alloc })
+    }
+
+    /// The board, without a copy.
+    pub fn board(&self) -> &Board
+        ensures board { result.now ≡ self.now.board }
+        ensures in_play { InPlay self.now.plan self.now.board }
+    {
+        &self.board
     }
 }
 
@@ -53,6 +71,7 @@ fn apply_event(
     worker: u8,
     event: Event,
 ) -> Result<Reply, EventFault>
+    requires { InPlay plan.now board.old }
     ensures { Answers (event_row plan.now board.old worker event) board.old result board.new }
 {
     match event {
@@ -73,16 +92,11 @@ impl Table for PlainBoard {
     ghost board = { λ p. p.board };
 
     fn apply(&mut self, entry: Entry) -> Result<Reply, EventFault> {
+        let plan = self.plan.plan();
         if entry.worker > 15 {
             return Err(EventFault::NoSuch);
         }
-        apply_event(
-            self.alloc,
-            self.plan.plan(),
-            &mut self.board,
-            entry.worker,
-            entry.event,
-        )
+        apply_event(self.alloc, plan, &mut self.board, entry.worker, entry.event)
     }
 
     fn view(&self) -> Result<Board, AllocError> {

@@ -2,8 +2,8 @@
 ghost use Rattle.std.specs.Prelude.{◌≡◌, IfOk};
 ghost use Rattle.flow_model.specs.declared.plan.Plan.{Plan};
 ghost use Rattle.flow_model.specs.declared.board.Board.{Board};
-ghost use Rattle.status_table.specs.Answers.{Answers};
-ghost use Rattle.status_table.specs.Row.{row};
+ghost use Rattle.status_table.specs.Answers.{AnswersEntry};
+ghost use Rattle.status_table.specs.InPlay.{InPlay};
 
 use crate::fault::EventFault;
 use flow_model::{Board, Entry, Reply};
@@ -24,9 +24,11 @@ pub trait Table {
     /// The row's refusal, or `EventFault::Memory`. Nothing is changed then.
     fn apply(&mut self, entry: Entry) -> Result<Reply, EventFault>
         ensures plan_stays { plan self.new ≡ plan self.old }
-        ensures answers { Answers (row (plan self.old) (board self.old) entry.worker entry.event) (board self.old) result (board self.new) };
+        ensures answers { AnswersEntry (plan self.old) (board self.old) entry result (board self.new) }
+        ensures in_play { InPlay (plan self.new) (board self.new) };
 
     /// A copy of the board.
     fn view(&self) -> Result<Board, AllocError>
-        ensures { IfOk result (λ b. b ≡ board self.now) };
+        ensures copy { IfOk result (λ b. b ≡ board self.now) }
+        ensures in_play { InPlay (plan self.now) (board self.now) };
 }

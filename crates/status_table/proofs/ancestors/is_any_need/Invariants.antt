@@ -1,7 +1,7 @@
 use Rattle.std.proofs.Common.{◌≡◌, ◌-◌, ◌||◌, drop, map}
 use Rattle.std.specs.List.{list_any}
 use Rattle.status_table.specs.Derived.{holds_at}
-use Rattle.status_table.proofs.derived.is_any_need.Given as goal
+use Rattle.status_table.proofs.ancestors.is_any_need.Given as goal
 
 abbrev pub invariant-loop-need : goal.invariant-loop-need
 invariant-loop-need l =

@@ -1,0 +1,357 @@
+-- Each row keeps the shape of a board, and its ends.
+use Rattle.std.proofs.Common.{◌≡◌, ◌≢◌, ℕ, zero, suc, pos, negsuc, ◌+◌, ◌<◌, ◌≤◌, ◌==◌, ◌++◌, ◌&&◌, Bool, true, false, not, List, [], ◌∷◌, Option, Some, None, Result, Ok, Err, length, slice_get, count_by, cond, nat_le, nat_lt, if◌then◌else◌, inl, inr, ap, subst, sym, refl, ◌∙◌, arith}
+use Rattle.std.specs.List.{flat_map, list_all}
+use Rattle.std.proofs.lemmas.Bool.{cases_eq, le-leb, leb-true}
+use Rattle.std.proofs.lemmas.Bool.Decides.{nat_tests}
+use Rattle.std.proofs.lemmas.List.{length-append}
+use Rattle.std.proofs.lemmas.List.Sums.{sum_by-append}
+use Rattle.std.proofs.lemmas.Option.{slice_get_within}
+use Rattle.flow_model.specs.Numbers.{board_legs}
+use Rattle.flow_model.specs.declared.plan.Plan.{Plan}
+use Rattle.flow_model.specs.declared.plan.RunPlan.{RunPlan}
+use Rattle.flow_model.specs.declared.plan.JobPlan.{JobPlan}
+use Rattle.flow_model.specs.declared.plan.StepPlan.{StepPlan}
+use Rattle.flow_model.specs.declared.board.Board.{Board}
+use Rattle.flow_model.specs.declared.board.Run.{Run}
+use Rattle.flow_model.specs.declared.board.RunState.{RunState}
+use Rattle.flow_model.specs.declared.board.RunState.TheVariants as run_state
+use Rattle.flow_model.specs.declared.board.Job.{Job}
+use Rattle.flow_model.specs.declared.board.JobState.{JobState}
+use Rattle.flow_model.specs.declared.board.JobState.TheVariants as job_state
+use Rattle.flow_model.specs.declared.board.Leg.{Leg}
+use Rattle.flow_model.specs.declared.board.LegState.{LegState}
+use Rattle.flow_model.specs.declared.board.LegState.TheVariants as leg_state
+use Rattle.flow_model.specs.declared.board.DoneStep.{DoneStep}
+use Rattle.flow_model.specs.declared.event.Answer.{Answer}
+use Rattle.flow_model.specs.declared.event.Event.{Event}
+use Rattle.flow_model.specs.declared.event.Event.TheVariants as event
+use Rattle.flow_model.specs.declared.event.Outcome.{Outcome}
+use Rattle.flow_model.specs.declared.event.Outcome.TheVariants as outcome
+use Rattle.flow_model.specs.declared.reply.What.TheVariants as what
+use Rattle.flow_model.specs.Answer.{is_well_formed}
+use Rattle.status_table.specs.declared.fault.EventFault.{EventFault}
+use Rattle.status_table.specs.declared.fault.EventFault.TheVariants as fault
+use Rattle.status_table.specs.declared.place.JobPlace.{JobPlace}
+use Rattle.status_table.specs.declared.place.LegPlace.{LegPlace}
+use Rattle.status_table.specs.Change.{changed, with_run, with_job, with_leg}
+use Rattle.status_table.specs.Derived.{is_ended, is_going, is_open, is_fresh, is_full, is_stopping, jobs_have_ended, run_result, leg_result}
+use Rattle.status_table.specs.Ends.{times_ended, EndOnce}
+use Rattle.status_table.specs.Place.{RunAt, JobAt, LegAt, run_at, job_at, leg_at}
+use Rattle.status_table.specs.Row.{Row, Beginning, calls, skips, faults, row, event_row, reply, run_state_set, job_state_set, leg_state_set, step_done, leg_ended, open_run, open_found, judge_job, judge_found, judgement, ask_leg, ask_found, leg_enters, take_leg, take_found, idle_owner, calling_owner, next_step, skipped_step, failed_step, begin_leg, begin_found, beginning_by, beginning, step_beginning, end_leg, end_found, ending, ending_by, answered_step, finish_leg, finish_found, finishing, finishing_by, ended_state, leg_outputs, close_run, close_found, close_waiting}
+use Rattle.status_table.specs.Shape.{open_calls, steps_begun, has_room, JobShape, RunShape, HasShape}
+use Rattle.status_table.proofs.Found.{LegStands, leg_stands, leg_item}
+use Rattle.status_table.proofs.Lists.{same_some, no_some, and-right, changed-there, changed-elsewhere, length-changed, flat_map-kept, flat_map-twice, zip-changed, zip-get, all-changed, all-get}
+use Rattle.status_table.proofs.Numbers.{board_legs-changed}
+
+-- a board that has its plan's shape, and whose ends are the legs that are Ended
+pub record Fits (p : Plan) (b : Board) : Type 0 where
+  pub shape : HasShape p b
+  pub ends : EndOnce b
+
+-- a row that is accepted keeps that
+abbrev pub Keeps : Plan → Board → Row → Type 0
+Keeps p b (Ok x) = Fits p b → Fits p x.0
+Keeps p b (Err f) = Unit {0}
+
+keeps_if : (p : Plan) (b : Board) (c : Bool) (r s : Row) → (c ≡ true → Keeps p b r) → (c ≡ false → Keeps p b s) → Keeps p b (if c then r else s)
+keeps_if p b true r s first second = first refl
+keeps_if p b false r s first second = second refl
+
+-- ---- changes that leave the legs
+
+-- where the legs are the same, so is how often each ended
+same_legs : (b c : Board) → board_legs c ≡ board_legs b → c.ends ≡ b.ends → EndOnce b → EndOnce c
+same_legs b c legs ends h l = ap (count_by (λ end. end == l)) ends ∙ h l ∙ ap (λ xs. times_ended (slice_get xs l)) (sym legs)
+
+run_kept : (p : Plan) (b : Board) (r : ℕ) (state : RunState) → Fits p b → Fits p (run_state_set b r state)
+run_kept p b r state h = record {
+  shape = zip-changed RunShape p.runs b.runs r (λ run. record run { state = state }) (λ q run _ _ fit. fit) h.shape;
+  ends = same_legs b (run_state_set b r state) (ap (flat_map (λ job. job.legs)) (flat_map-kept (λ run. run.jobs) b.runs r (λ run. record run { state = state }) (λ run. refl))) refl h.ends;
+}
+
+abbrev in_run : ℕ → (Job → Job) → Run → Run
+in_run j f run = record run { jobs = changed run.jobs j f }
+
+job_kept : (p : Plan) (b : Board) (at : JobPlace) (state : JobState) → Fits p b → Fits p (job_state_set b at state)
+job_kept p b at state h = record {
+  shape = zip-changed RunShape p.runs b.runs at.run (in_run at.job f) (λ q run _ _ fit. zip-changed JobShape q.jobs run.jobs at.job f (λ plan job _ _ here. record { legs = here.legs; steps = here.steps }) fit) h.shape;
+  ends = same_legs b (job_state_set b at state)
+      (flat_map-twice (λ run. run.jobs) (λ job. job.legs) (changed b.runs at.run (in_run at.job f))
+      ∙ flat_map-kept (λ run. flat_map (λ job. job.legs) run.jobs) b.runs at.run (in_run at.job f) (λ run. flat_map-kept (λ job. job.legs) run.jobs at.job f (λ job. refl))
+      ∙ sym (flat_map-twice (λ run. run.jobs) (λ job. job.legs) b.runs))
+      refl h.ends;
+}
+  where
+    f : Job → Job
+    f job = record job { state = state }
+
+-- ---- a change of a leg that has not ended
+
+abbrev in_job : ℕ → (Leg → Leg) → Job → Job
+in_job k f job = record job { legs = changed job.legs k f }
+
+leg_shape : (p : Plan) (b : Board) (l : ℕ) (at : LegAt) (f : Leg → Leg) → LegStands p b l at
+    → (has_room at.job_plan at.leg ≡ true → has_room at.job_plan (f at.leg) ≡ true) → HasShape p b → HasShape p (with_leg b at.place f)
+leg_shape p b l at f stands room shape =
+    zip-changed RunShape p.runs b.runs at.place.run (in_run at.place.job (in_job at.place.leg f)) (λ q run q_there run_there fit.
+    zip-changed JobShape q.jobs run.jobs at.place.job (in_job at.place.leg f) (λ plan job plan_there job_there here.
+    let q_is : q ≡ at.run_plan = same_some q at.run_plan (sym q_there ∙ stands.in_plan) in
+    let plan_is : plan ≡ at.job_plan = same_some plan at.job_plan (sym plan_there ∙ ap (λ x. slice_get x.jobs at.place.job) q_is ∙ stands.job_plan) in
+    let run_is : run ≡ at.run = same_some run at.run (sym run_there ∙ stands.in_board) in
+    let job_is : job ≡ at.job = same_some job at.job (sym job_there ∙ ap (λ x. slice_get x.jobs at.place.job) run_is ∙ stands.job) in
+    let leg_there : slice_get job.legs at.place.leg ≡ Some at.leg = ap (λ x. slice_get x.legs at.place.leg) job_is ∙ stands.leg in
+    let had : has_room plan at.leg ≡ true = all-get (has_room plan) job.legs at.place.leg at.leg leg_there here.steps in
+    let has : has_room plan (f at.leg) ≡ true = subst (λ x. has_room x (f at.leg) ≡ true) (sym plan_is) (room (subst (λ x. has_room x at.leg ≡ true) plan_is had)) in
+    record {
+      legs = length-changed job.legs at.place.leg f ∙ here.legs;
+      steps = all-changed (has_room plan) job.legs at.place.leg f at.leg leg_there has here.steps;
+    }) fit) shape
+
+times_unended : (leg : Leg) → is_ended leg.state ≡ false → times_ended (Some leg) ≡ 0
+times_unended leg h = ap (λ c. if c then 1 else 0) h
+
+-- a leg that had not ended, and has not
+leg_kept : (p : Plan) (b : Board) (l : ℕ) (at : LegAt) (f : Leg → Leg) → LegStands p b l at → is_ended at.leg.state ≡ false → is_ended (f at.leg).state ≡ false
+    → (has_room at.job_plan at.leg ≡ true → has_room at.job_plan (f at.leg) ≡ true) → Fits p b → Fits p (with_leg b at.place f)
+leg_kept p b l at f stands before now room h = record {
+  shape = leg_shape p b l at f stands room h.shape;
+  ends = λ k. h.ends k ∙ sym (ap (λ xs. times_ended (slice_get xs k)) (board_legs-changed b l at.place f stands.place) ∙ same k);
+}
+  where
+    item : slice_get (board_legs b) l ≡ Some at.leg
+    item = leg_item p b l at stands
+
+    same : (k : ℕ) → times_ended (slice_get (changed (board_legs b) l f) k) ≡ times_ended (slice_get (board_legs b) k)
+    same k = elim (cases_eq k l) as (λ _. times_ended (slice_get (changed (board_legs b) l f) k) ≡ times_ended (slice_get (board_legs b) k)) [
+      | inl e ↦
+          ap (λ i. times_ended (slice_get (changed (board_legs b) l f) i)) e
+          ∙ ap times_ended (changed-there (board_legs b) l f at.leg item)
+          ∙ times_unended (f at.leg) now
+          ∙ sym (ap (λ i. times_ended (slice_get (board_legs b) i)) e ∙ ap times_ended item ∙ times_unended at.leg before)
+      | inr n ↦ ap times_ended (changed-elsewhere (board_legs b) l f k n)
+    ]
+
+count-push : (xs : List ℕ) (l k : ℕ) → count_by (λ end. end == k) (xs ++ l ∷ []) ≡ count_by (λ end. end == k) xs + cond (l == k) 1 0
+count-push xs l k = let e = sum_by-append (λ x. cond (x == k) 1 0) xs (l ∷ []) in omega (arith, e)
+
+room_kept : (plan : JobPlan) (leg new : Leg) → steps_begun new ≤ steps_begun leg → has_room plan leg ≡ true → has_room plan new ≡ true
+room_kept plan leg new less had = grind (arith, nat_tests, less, had)
+
+-- a leg that had not ended, and has now, last of all
+leg_done : (p : Plan) (b : Board) (l : ℕ) (at : LegAt) (state : LegState) (outputs : List (List ℕ × List ℕ)) → LegStands p b l at → is_ended at.leg.state ≡ false
+    → is_ended state ≡ true → open_calls state ≡ 0 → Fits p b → Fits p (leg_ended b at.place l state outputs)
+leg_done p b l at state outputs stands before now quiet h = record {
+  shape = leg_shape p b l at f stands (room_kept at.job_plan at.leg (f at.leg) (omega (arith, quiet))) h.shape;
+  ends = λ k.
+      let pushed = count-push b.ends l k in
+      let had = h.ends k in
+      let legs = ap (λ xs. times_ended (slice_get xs k)) (board_legs-changed b l at.place f stands.place) in
+      let more = once k in
+      omega (arith, pushed, had, legs, more);
+}
+  where
+    f : Leg → Leg
+    f leg = record leg { state = state; outputs = outputs }
+
+    item : slice_get (board_legs b) l ≡ Some at.leg
+    item = leg_item p b l at stands
+
+    once : (k : ℕ) → times_ended (slice_get (changed (board_legs b) l f) k) ≡ times_ended (slice_get (board_legs b) k) + cond (l == k) 1 0
+    once k = elim (cases_eq k l) as (λ _. times_ended (slice_get (changed (board_legs b) l f) k) ≡ times_ended (slice_get (board_legs b) k) + cond (l == k) 1 0) [
+      | inl e ↦
+          let new : times_ended (slice_get (changed (board_legs b) l f) k) ≡ 1 =
+          ap (λ i. times_ended (slice_get (changed (board_legs b) l f) i)) e
+          ∙ ap times_ended (changed-there (board_legs b) l f at.leg item)
+          ∙ ap (λ c. if c then 1 else 0) now in
+          let old : times_ended (slice_get (board_legs b) k) ≡ 0 =
+          ap (λ i. times_ended (slice_get (board_legs b) i)) e ∙ ap times_ended item ∙ times_unended at.leg before in
+          let one : ◌≡◌ {A = ℕ} (cond (l == k) 1 0) 1 = grind (arith, nat_tests, e) in
+          omega (arith, new, old, one)
+      | inr n ↦
+          let same = ap times_ended (changed-elsewhere (board_legs b) l f k n) in
+          let none : ◌≡◌ {A = ℕ} (cond (l == k) 1 0) 0 = grind (arith, nat_tests, n) in
+          omega (arith, same, none)
+    ]
+
+-- ---- the events of runs and jobs
+
+open_keeps : (p : Plan) (b : Board) (r : ℕ) (at : Option RunAt) → Keeps p b (open_found b r at)
+open_keeps p b r None = tt
+open_keeps p b r (Some at) = by_state at.run.state at.run.stop
+  where
+    by_state : (state : RunState) (stop : Bool) → Keeps p b (open_run b r state stop)
+    by_state run_state.New false = run_kept p b r run_state.Going
+    by_state run_state.New true = tt
+    by_state run_state.Waiting stop = tt
+    by_state run_state.Going stop = tt
+    by_state (run_state.Closed result) stop = tt
+
+judge_keeps : (p : Plan) (b : Board) (j : ℕ) (at : Option JobAt) → Keeps p b (judge_found b j at)
+judge_keeps p b j None = tt
+judge_keeps p b j (Some at) = by_judgement (judgement j at)
+  where
+    by_judgement : (x : Result JobState EventFault) → Keeps p b (judge_job b at.place x)
+    by_judgement (Ok state) = job_kept p b at.place state
+    by_judgement (Err f) = tt
+
+close_keeps : (p : Plan) (b : Board) (r : ℕ) (at : Option RunAt) → Keeps p b (close_found b r at)
+close_keeps p b r None = tt
+close_keeps p b r (Some at) = by_state at.run.state at.run.stop
+  where
+    waiting : (stop : Bool) → Keeps p b (close_waiting b r stop)
+    waiting true = run_kept p b r (run_state.Closed outcome.Cancelled)
+    waiting false = tt
+
+    by_state : (state : RunState) (stop : Bool) → Keeps p b (close_run b r at.run state)
+    by_state run_state.New stop = waiting at.run.stop
+    by_state run_state.Waiting stop = waiting at.run.stop
+    by_state run_state.Going stop =
+        keeps_if p b (jobs_have_ended at.run) (Ok (run_state_set b r (run_state.Closed (run_result at.run)), reply what.Moved None)) (Err fault.NeedsOpen)
+        (λ _. run_kept p b r (run_state.Closed (run_result at.run))) (λ _. tt)
+    by_state (run_state.Closed result) stop = tt
+
+-- ---- the events of legs
+
+-- a leg that is put into a state in which it has neither ended nor a call open
+quiet_kept : (p : Plan) (b : Board) (l : ℕ) (at : LegAt) (state : LegState) → LegStands p b l at → is_ended at.leg.state ≡ false → is_ended state ≡ false
+    → open_calls state ≡ 0 → Fits p b → Fits p (leg_state_set b at.place state)
+quiet_kept p b l at state stands before now quiet =
+    leg_kept p b l at (λ leg. record leg { state = state }) stands before now (room_kept at.job_plan at.leg (record at.leg { state = state }) (omega (arith, quiet)))
+
+fresh_unended : (s : LegState) → is_fresh s ≡ true → is_ended s ≡ false
+fresh_unended leg_state.Fresh h = refl
+fresh_unended leg_state.Waiting h = refl
+fresh_unended leg_state.Admitted h = refl
+fresh_unended (leg_state.Running worker in_call) h = refl
+fresh_unended (leg_state.Ended result tolerated) h = sym h
+
+not_not : (c : Bool) → not c ≡ false → c ≡ true
+not_not true h = refl
+not_not false h = sym h
+
+ask_keeps : (p : Plan) (b : Board) (l : ℕ) (at : Option LegAt) → leg_at p b l ≡ at → Keeps p b (ask_found b l at)
+ask_keeps p b l None is = tt
+ask_keeps p b l (Some at) is =
+    keeps_if p b (not (is_going at.run.state && is_open at.job.state && is_fresh at.leg.state)) (Err fault.WrongState) unstarted (λ _. tt) (λ ready.
+    let fresh = and-right (is_going at.run.state && is_open at.job.state) (is_fresh at.leg.state)
+    (not_not (is_going at.run.state && is_open at.job.state && is_fresh at.leg.state) ready) in
+    keeps_if p b (is_full at.job_plan at.job) (Err fault.SlotsFull) unstopped (λ _. tt) (λ _.
+    keeps_if p b (is_stopping at) (Err fault.Stopping) (leg_enters b at l) (λ _. tt) (λ _.
+    quiet_kept p b l at leg_state.Admitted (leg_stands p b l at is) (fresh_unended at.leg.state fresh) refl refl)))
+  where
+    unstopped : Row
+    unstopped = if is_stopping at then Err fault.Stopping else leg_enters b at l
+
+    unstarted : Row
+    unstarted = if is_full at.job_plan at.job then Err fault.SlotsFull else unstopped
+
+take_keeps : (p : Plan) (b : Board) (worker l : ℕ) (at : Option LegAt) → leg_at p b l ≡ at → Keeps p b (take_found b worker at)
+take_keeps p b worker l None is = tt
+take_keeps p b worker l (Some at) is = by_state at.leg.state refl
+  where
+    by_state : (state : LegState) → at.leg.state ≡ state → Keeps p b (take_leg b worker at state)
+    by_state leg_state.Fresh was = tt
+    by_state leg_state.Waiting was = tt
+    by_state leg_state.Admitted was =
+        keeps_if p b (is_stopping at) (Err fault.Stopping) (Ok (leg_state_set b at.place (leg_state.Running worker false), reply what.Moved None)) (λ _. tt)
+        (λ _. quiet_kept p b l at (leg_state.Running worker false) (leg_stands p b l at is) (ap is_ended was) refl refl)
+    by_state (leg_state.Running other in_call) was = tt
+    by_state (leg_state.Ended result tolerated) was = tt
+
+idle_unended : (s : LegState) (owner : ℕ) → idle_owner s ≡ Some owner → is_ended s ≡ false
+idle_unended leg_state.Fresh owner h = refl
+idle_unended leg_state.Waiting owner h = refl
+idle_unended leg_state.Admitted owner h = refl
+idle_unended (leg_state.Running worker in_call) owner h = refl
+idle_unended (leg_state.Ended result tolerated) owner h = absurd (no_some owner h)
+
+-- a leg with one more step done, where one was left
+step_kept : (p : Plan) (b : Board) (worker l : ℕ) (at : LegAt) (done : DoneStep) → LegStands p b l at → is_ended at.leg.state ≡ false
+    → (has_room at.job_plan at.leg ≡ true → length at.leg.steps < length at.job_plan.steps) → Fits p b → Fits p (step_done b at.place worker done)
+step_kept p b worker l at done stands before left =
+    leg_kept p b l at (λ leg. record leg { state = leg_state.Running worker false; steps = leg.steps ++ done ∷ [] }) stands before refl (λ had. room (left had))
+  where
+    room : length at.leg.steps < length at.job_plan.steps → nat_le (length (at.leg.steps ++ done ∷ []) + 0) (length at.job_plan.steps) ≡ true
+    room less = let more = length-append at.leg.steps (done ∷ []) in le-leb (length (at.leg.steps ++ done ∷ []) + 0) (length at.job_plan.steps) (omega (arith, less, more))
+
+begin_keeps : (p : Plan) (b : Board) (worker l : ℕ) (at : Option LegAt) → leg_at p b l ≡ at → Keeps p b (begin_found b worker l at)
+begin_keeps p b worker l None is = tt
+begin_keeps p b worker l (Some at) is = by_owner (idle_owner at.leg.state) refl (next_step at) refl
+  where
+    stands : LegStands p b l at
+    stands = leg_stands p b l at is
+
+    begun : (x : Beginning) → is_ended at.leg.state ≡ false → length at.leg.steps < length at.job_plan.steps → Keeps p b (begin_leg b worker at (Ok x))
+    begun (calls call) before left =
+        leg_kept p b l at (λ leg. record leg { state = leg_state.Running worker true }) stands before refl
+        (λ _. le-leb (length at.leg.steps + 1) (length at.job_plan.steps) (omega (arith, left)))
+    begun skips before left = step_kept p b worker l at skipped_step stands before (λ _. left)
+    begun (faults f) before left = step_kept p b worker l at (failed_step at) stands before (λ _. left)
+
+    by_beginning : (x : Result Beginning EventFault) → is_ended at.leg.state ≡ false → length at.leg.steps < length at.job_plan.steps → Keeps p b (begin_leg b worker at x)
+    by_beginning (Ok x) before left = begun x before left
+    by_beginning (Err f) before left = tt
+
+    by_owner : (owner : Option ℕ) → idle_owner at.leg.state ≡ owner → (step : Option StepPlan) → next_step at ≡ step
+        → Keeps p b (begin_leg b worker at (beginning_by worker l at owner step))
+    by_owner None was step next = tt
+    by_owner (Some owner) was None next = tt
+    by_owner (Some owner) was (Some step) next =
+        by_beginning (beginning_by worker l at (Some owner) (Some step)) (idle_unended at.leg.state owner was) (slice_get_within at.job_plan.steps (length at.leg.steps) step next)
+
+calling_state : (s : LegState) (owner : ℕ) → calling_owner s ≡ Some owner → (is_ended s ≡ false) × (open_calls s ≡ 1)
+calling_state leg_state.Fresh owner h = absurd (no_some owner h)
+calling_state leg_state.Waiting owner h = absurd (no_some owner h)
+calling_state leg_state.Admitted owner h = absurd (no_some owner h)
+calling_state (leg_state.Running worker true) owner h = (refl, refl)
+calling_state (leg_state.Running worker false) owner h = absurd (no_some owner h)
+calling_state (leg_state.Ended result tolerated) owner h = absurd (no_some owner h)
+
+end_keeps : (p : Plan) (b : Board) (worker l : ℕ) (a : Answer) (at : Option LegAt) → leg_at p b l ≡ at → Keeps p b (end_found b worker a at)
+end_keeps p b worker l a None is = tt
+end_keeps p b worker l a (Some at) is = by_owner (calling_owner at.leg.state) refl
+  where
+    left : (steps called most : ℕ) → called ≡ 1 → nat_le (steps + called) most ≡ true → steps < most
+    left steps called most one had = let within = leb-true (steps + called) most had in omega (arith, one, within)
+
+    by_ending : (x : Result DoneStep EventFault) → (is_ended at.leg.state ≡ false) × (open_calls at.leg.state ≡ 1) → Keeps p b (end_leg b worker at x)
+    by_ending (Ok done) was =
+        step_kept p b worker l at done (leg_stands p b l at is) was.0 (left (length at.leg.steps) (open_calls at.leg.state) (length at.job_plan.steps) was.1)
+    by_ending (Err f) was = tt
+
+    by_owner : (owner : Option ℕ) → calling_owner at.leg.state ≡ owner → Keeps p b (end_leg b worker at (ending_by worker at a owner))
+    by_owner None was = tt
+    by_owner (Some owner) was = by_ending (ending_by worker at a (Some owner)) (calling_state at.leg.state owner was)
+
+finish_keeps : (p : Plan) (b : Board) (worker l : ℕ) (at : Option LegAt) → leg_at p b l ≡ at → Keeps p b (finish_found b worker l at)
+finish_keeps p b worker l None is = tt
+finish_keeps p b worker l (Some at) is = by_owner (idle_owner at.leg.state) refl
+  where
+    ends : (owner : ℕ) → idle_owner at.leg.state ≡ Some owner → Keeps p b (finish_leg b l at (Ok (ended_state at (leg_result at))))
+    ends owner was = leg_done p b l at (ended_state at (leg_result at)) (leg_outputs at) (leg_stands p b l at is) (idle_unended at.leg.state owner was) refl refl
+
+    by_owner : (owner : Option ℕ) → idle_owner at.leg.state ≡ owner → Keeps p b (finish_leg b l at (finishing_by worker at owner))
+    by_owner None was = tt
+    by_owner (Some owner) was = by_test (not (worker == owner)) (nat_lt (length at.leg.steps) (length at.job_plan.steps))
+      where
+        by_test : (other more : Bool) → Keeps p b (finish_leg b l at (if other then Err fault.OtherWorker else (if more then Err fault.StepsLeft else Ok (ended_state at (leg_result at)))))
+        by_test true more = tt
+        by_test false true = tt
+        by_test false false = ends owner was
+
+-- ---- the table
+
+-- each event that is accepted keeps the shape and the ends
+pub event_keeps : (p : Plan) (b : Board) (worker : ℕ) (e : Event) → Keeps p b (event_row p b worker e)
+event_keeps p b worker (event.Open r) = open_keeps p b r (run_at p b r)
+event_keeps p b worker (event.Judge j) = judge_keeps p b j (job_at p b j)
+event_keeps p b worker (event.Ask l) = ask_keeps p b l (leg_at p b l) refl
+event_keeps p b worker (event.Take l) = take_keeps p b worker l (leg_at p b l) refl
+event_keeps p b worker (event.Begin l) = begin_keeps p b worker l (leg_at p b l) refl
+event_keeps p b worker (event.End l a) = end_keeps p b worker l a (leg_at p b l) refl
+event_keeps p b worker (event.Finish l) = finish_keeps p b worker l (leg_at p b l) refl
+event_keeps p b worker (event.Close r) = close_keeps p b r (run_at p b r)
+
+-- the same for each row
+pub row_keeps : (p : Plan) (b : Board) (worker : ℕ) (e : Event) → Keeps p b (row p b worker e)
+row_keeps p b worker e = keeps_if p b (nat_le worker 15) (event_row p b worker e) (Err fault.NoSuch) (λ _. event_keeps p b worker e) (λ _. tt)

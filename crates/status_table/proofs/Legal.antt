@@ -1,0 +1,75 @@
+-- What each legal list of entries leads to.
+use Rattle.std.proofs.Common.{◌≡◌, ℕ, List, [], ◌∷◌, ◌++◌, Option, Some, None, Result, Ok, Err, map, option_map, length, slice_get, ap, subst, sym, refl, ◌∙◌, arith}
+use Rattle.std.specs.List.{flat_map}
+use Rattle.std.proofs.lemmas.Bool.{le-leb}
+use Rattle.std.proofs.lemmas.Option.{slice_get-map}
+use Rattle.std.proofs.lemmas.List.{length-map}
+use Rattle.flow_model.specs.Numbers.{board_legs, plan_jobs, plan_legs}
+use Rattle.flow_model.specs.Plain.{Plain}
+use Rattle.flow_model.specs.declared.plan.Plan.{Plan}
+use Rattle.flow_model.specs.declared.board.Board.{Board}
+use Rattle.flow_model.specs.declared.event.Entry.{Entry}
+use Rattle.flow_model.specs.declared.event.Event.{Event}
+use Rattle.flow_model.specs.declared.reply.Reply.{Reply}
+use Rattle.status_table.specs.declared.fault.EventFault.{EventFault}
+use Rattle.status_table.specs.Answers.{Refuses, Answers}
+use Rattle.flow_model.specs.Offered.{IsOffered}
+use Rattle.status_table.specs.Ends.{times_ended, EndOnce}
+use Rattle.status_table.specs.InPlay.{InPlay}
+use Rattle.status_table.specs.Row.{Row, row, event_row}
+use Rattle.status_table.specs.Runs.{new_leg, new_job, new_run, new_board, then_after, after_from, after}
+use Rattle.status_table.specs.Shape.{has_room, JobShape, RunShape, HasShape}
+use Rattle.status_table.proofs.Keeps.{Fits, Keeps, event_keeps, row_keeps}
+use Rattle.status_table.proofs.Lists.{same_some, no_some, flat_map-map, zip-map, all-map}
+
+-- ---- the board on which all is new
+
+new_legs : (p : Plan) → board_legs (new_board p) ≡ map new_leg (plan_legs p)
+new_legs p =
+    ap (flat_map (λ job. job.legs)) (flat_map-map new_run (λ run. run.jobs) new_job (λ run. run.jobs) p.runs (λ run. refl))
+    ∙ flat_map-map new_job (λ job. job.legs) new_leg (λ job. job.legs) (plan_jobs p) (λ job. refl)
+
+new_unended : (leg : Option (List (List ℕ × Plain))) → times_ended (option_map new_leg leg) ≡ 0
+new_unended None = refl
+new_unended (Some combo) = refl
+
+pub new_fits : (p : Plan) → Fits p (new_board p)
+new_fits p = record {
+  shape = zip-map RunShape new_run p.runs (λ run. zip-map JobShape new_job run.jobs (λ job. record {
+    legs = length-map job.legs new_leg;
+    steps = all-map (has_room job) new_leg job.legs (λ combo. le-leb 0 (length job.steps) (omega arith));
+  }));
+  ends = λ l. sym (ap (λ legs. times_ended (slice_get legs l)) (new_legs p) ∙ ap times_ended (slice_get-map new_leg (plan_legs p) l) ∙ new_unended (slice_get (plan_legs p) l));
+}
+
+-- ---- an answer, and a list of entries
+
+answer_fits : (p : Plan) (b c : Board) (r : Row) (result : Result Reply EventFault) → Keeps p b r → Fits p b → Answers r b result c → Fits p c
+answer_fits p b c r (Ok reply) keeps fits h = subst (Keeps p b) h keeps fits
+answer_fits p b c r (Err f) keeps fits h = subst (Fits p) (sym h.1) fits
+
+pub after_from_fits : (p : Plan) (b c : Board) (es : List Entry) → Fits p b → after_from p b es ≡ Some c → Fits p c
+after_from_fits p b c [] fits h = subst (Fits p) (same_some b c h) fits
+after_from_fits p b c (e ∷ es) fits h = step (λ d fit k. after_from_fits p d c es fit k) (row p b e.worker e.event) (row_keeps p b e.worker e.event) h
+  where
+    step : ((d : Board) → Fits p d → after_from p d es ≡ Some c → Fits p c) → (r : Row) → Keeps p b r → then_after r (λ next. after_from p next es) ≡ Some c → Fits p c
+    step later (Ok x) keeps k = later x.0 (keeps fits) k
+    step later (Err f) keeps k = absurd (no_some c k)
+
+pub after_fits : (p : Plan) (es : List Entry) (b : Board) → after p es ≡ Some b → Fits p b
+after_fits p es b h = after_from_fits p (new_board p) b es (new_fits p) h
+
+-- ---- plans in play
+
+pub new_in_play : (p q : Plan) (b : Board) → q ≡ p → IsOffered q → b ≡ new_board q → InPlay p b
+new_in_play p q b same offered is =
+    let fits = subst (Fits q) (sym is) (new_fits q) in
+    let sound : InPlay q b = record { offered = offered; shape = fits.shape; ends = fits.ends } in
+    subst (λ (x : Plan). InPlay x b) same sound
+
+pub answer_in_play : (p q : Plan) (b c : Board) (worker : ℕ) (e : Event) (result : Result Reply EventFault) → q ≡ p → InPlay p b
+    → Answers (event_row q b worker e) b result c → InPlay p c
+answer_in_play p q b c worker e result same h answers =
+    let here = subst (λ (x : Plan). Answers (event_row x b worker e) b result c) same answers in
+    let fits = answer_fits p b c (event_row p b worker e) result (event_keeps p b worker e) (record { shape = h.shape; ends = h.ends }) here in
+    record { offered = h.offered; shape = fits.shape; ends = fits.ends }

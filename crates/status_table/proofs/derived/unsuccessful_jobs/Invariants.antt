@@ -1,6 +1,0 @@
-use Rattle.std.proofs.Common.{◌≡◌, take, map, not}
-use Rattle.status_table.specs.Derived.{is_success, job_result}
-use Rattle.status_table.proofs.derived.unsuccessful_jobs.Given as goal
-
-abbrev pub invariant-loop-job : goal.invariant-loop-job
-invariant-loop-job l = l.tests.items ≡ map (λ job. not (is_success (job_result l.run job))) (take l.job-index l.jobs)

@@ -1,0 +1,42 @@
+-- The shape that a plan gives its boards.
+use Rattle.std.specs.Prelude.{◌≡◌, ℕ, ◌+◌, Bool, true, false, length, nat_le}
+use Rattle.std.specs.List.{list_all, AllZip}
+use Rattle.flow_model.specs.declared.plan.Plan.{Plan}
+use Rattle.flow_model.specs.declared.plan.RunPlan.{RunPlan}
+use Rattle.flow_model.specs.declared.plan.JobPlan.{JobPlan}
+use Rattle.flow_model.specs.declared.board.Board.{Board}
+use Rattle.flow_model.specs.declared.board.Run.{Run}
+use Rattle.flow_model.specs.declared.board.Job.{Job}
+use Rattle.flow_model.specs.declared.board.Leg.{Leg}
+use Rattle.flow_model.specs.declared.board.LegState.{LegState}
+use Rattle.flow_model.specs.declared.board.LegState.TheVariants as leg_state
+
+-- how many calls of a leg are open: one where it is in a call
+abbrev pub open_calls : LegState → ℕ
+open_calls leg_state.Fresh = 0
+open_calls leg_state.Waiting = 0
+open_calls leg_state.Admitted = 0
+open_calls (leg_state.Running worker true) = 1
+open_calls (leg_state.Running worker false) = 0
+open_calls (leg_state.Ended result tolerated) = 0
+
+-- how many steps of a leg are done or in their call
+abbrev pub steps_begun : Leg → ℕ
+steps_begun leg = length leg.steps + open_calls leg.state
+
+-- whether a leg has begun no more steps than its job has
+abbrev pub has_room : JobPlan → Leg → Bool
+has_room plan leg = nat_le (steps_begun leg) (length plan.steps)
+
+-- a job has as many legs as its plan, and none of them has begun more steps than there are
+pub record JobShape (plan : JobPlan) (job : Job) : Type 0 where
+  pub legs : length job.legs ≡ length plan.legs
+  pub steps : list_all (has_room plan) job.legs ≡ true
+
+-- a run has as many jobs as its plan, each of its shape
+abbrev pub RunShape : RunPlan → Run → Type 0
+RunShape plan run = AllZip JobShape plan.jobs run.jobs
+
+-- a board has as many runs as its plan, each of its shape
+abbrev pub HasShape : Plan → Board → Type 0
+HasShape p b = AllZip RunShape p.runs b.runs

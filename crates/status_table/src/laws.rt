@@ -1,0 +1,35 @@
+// Laws of the table, each the contract of a function that does nothing.
+ghost use Rattle.std.specs.Prelude.{◌≡◌, ℕ, List, Some};
+ghost use Rattle.flow_model.specs.declared.board.Board.{Board};
+ghost use Rattle.flow_model.specs.declared.event.Entry.{Entry};
+ghost use Rattle.flow_model.specs.declared.plan.Plan.{Plan};
+ghost use Rattle.status_table.specs.Ancestors.{SaysOf};
+ghost use Rattle.status_table.specs.Derived.{job_status};
+ghost use Rattle.status_table.specs.Ends.{EndOnce};
+ghost use Rattle.status_table.specs.InPlay.{InPlay};
+ghost use Rattle.status_table.specs.Numbered.{IsNumberedIn, JobsAreNumbered, LegsAreNumbered};
+ghost use Rattle.status_table.specs.Place.{JobAt, job_at};
+ghost use Rattle.status_table.specs.Row.{first_of};
+ghost use Rattle.status_table.specs.Runs.{after};
+ghost use Rattle.status_table.specs.Shape.{HasShape};
+
+/// Jobs and legs stand where their numbers say: number n is that of item n of all of them, and a job's plan has it too.
+pub fn numbers_are_places()
+    ensures jobs { (b : Board) → JobsAreNumbered b }
+    ensures legs { (b : Board) → LegsAreNumbered b }
+    ensures planned { (p : Plan) (b : Board) (j : ℕ) (at : JobAt) → InPlay p b → job_at p b j ≡ Some at
+        → IsNumberedIn p j at }
+{}
+
+/// A legal list of entries leaves a board of its plan's shape, on which each leg that ended stands once among the
+/// ends.
+pub fn legal_lists_keep_order()
+    ensures shape { (p : Plan) (es : List Entry) (b : Board) → after p es ≡ Some b → HasShape p b }
+    ensures ends { (p : Plan) (es : List Entry) (b : Board) → after p es ≡ Some b → EndOnce b }
+{}
+
+/// The status by which a job is judged says how its ancestors ended: the jobs that it needs, and their ancestors.
+pub fn statuses_tell_of_ancestors()
+    ensures { (p : Plan) (b : Board) (j : ℕ) (at : JobAt) → InPlay p b → job_at p b j ≡ Some at
+        → SaysOf (first_of j at) at (job_status (first_of j at) at) }
+{}
