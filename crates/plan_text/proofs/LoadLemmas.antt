@@ -66,7 +66,7 @@ by_version : (other : Bool) (r : Result Plan LoadFault) (q : Plan) → cond othe
 by_version true r q e = absurd (cc)
 by_version false r q e = e
 
-from_loaded : (o : Option Data) (q : Plan) → loaded o ≡ Ok q → (o ≡ Some (document q)) × IsOffered q
+pub from_loaded : (o : Option Data) (q : Plan) → loaded o ≡ Ok q → (o ≡ Some (document q)) × IsOffered q
 from_loaded None q e = absurd (cc)
 from_loaded (Some d) q e =
     let r = from_checked (plan_of d) q (by_version (has_other_version d) (checked (plan_of d)) q e) in
@@ -91,13 +91,13 @@ from_result_ok : {A E : Type 0} (r : Result A E) (a : A) → result_ok r ≡ Som
 from_result_ok (Ok b) a e = cc
 from_result_ok (Err fault) a e = absurd (cc)
 
-from_entry_in : (o : Option Data) (e : Entry) → entry_in o ≡ Some e → (o ≡ Some (entry_document e)) × IsTrue (is_entry e)
+pub from_entry_in : (o : Option Data) (e : Entry) → entry_in o ≡ Some e → (o ≡ Some (entry_document e)) × IsTrue (is_entry e)
 from_entry_in None e is = absurd (cc)
 from_entry_in (Some d) e is =
     let read = from_result_ok (entry_of d) e is in
     (ap Some (entry_reads.only d e read), entry_fits d e read)
 
-from_on_line : (number : ℕ) (o : Option Entry) (e : Entry) → on_line number o ≡ Ok e → o ≡ Some e
+pub from_on_line : (number : ℕ) (o : Option Entry) (e : Entry) → on_line number o ≡ Ok e → o ≡ Some e
 from_on_line number None e is = absurd (cc)
 from_on_line number (Some f) e is = cc
 

@@ -1,7 +1,8 @@
 -- The text of a board: for each run its line, then for each of its jobs the job's line, then for each leg its
 -- line, its done steps and its outputs; last the line of the ends.
-use Rattle.std.specs.Prelude.{ℕ, suc, ◌+◌, ◌++◌, codes, decimal, List, [], ◌∷◌, length, Bool, true, false, Option, Some, None}
+use Rattle.std.specs.Prelude.{◌≡◌, String, string_bytes, ℕ, suc, ◌+◌, ◌++◌, codes, decimal, List, [], ◌∷◌, length, Bool, true, false, Option, Some, None}
 use Rattle.std.specs.List.{flat_map}
+use Rattle.std.specs.declared.alloc.Global.{Global}
 use Rattle.serde_json.specs.Data.{string}
 use Rattle.serde_json.specs.Written.{compact_text}
 use Rattle.plan_text.specs.Parts.{map_data}
@@ -131,3 +132,7 @@ runs_text r j l (run ∷ runs) =
 -- the text of a board
 abbrev pub board_text : Board → List ℕ
 board_text b = runs_text 0 0 0 b.runs ++ ends_line b.ends
+
+-- these words were added to a text
+abbrev pub Adds : String Global → String Global → List ℕ → Type 0
+Adds old new words = string_bytes new ≡ string_bytes old ++ words

@@ -26,7 +26,8 @@ pub(crate) trait Fields {
     ) -> Result<Self, Unread>
     where
         Self: Sized,
-        ensures { GivesIt result (reading (map (λ key. key.now) keys.now) (members_view members.old)) };
+        ensures { GivesIt result
+            (reading (map (λ key. key.now) keys.now) (members_view members.old)) };
 }
 
 impl Fields for () {

@@ -36,7 +36,8 @@ pub fn print_plan(alloc: Global, plan: &CheckedPlan) -> Result<String, AllocErro
 ///
 /// - `NotJson` where the bytes are no JSON text (RFC 8259), nested to 127;
 /// - `Version` where they are an object whose `version` is missing or not 1;
-/// - `NotPlan` where they are no plan's document, or the plan breaks a rule, or not all of it is offered so far;
+/// - `NotPlan` where they are no plan's document, or the plan breaks a rule, or not all of it is
+///   offered so far, with the path of the first part at fault;
 /// - `Memory` where there is no memory.
 pub fn load_plan(alloc: Global, bytes: &[u8]) -> Result<CheckedPlan, LoadFault>
     ensures found { IfOk result (λ p. json_read bytes.now ≡ Some (document p)) }

@@ -159,8 +159,8 @@ pub(crate) trait Members {
     ) -> Result<(), AllocError>
     where
         Self: Sized,
-        ensures { OnOk result (members_view members.new.entries
-            ≡ put_each (documents (map (λ key. key.now) keys.now) self) (members_view members.old.entries)) };
+        ensures { OnOk result (members_view members.new.entries ≡ put_each
+            (documents (map (λ key. key.now) keys.now) self) (members_view members.old.entries)) };
 }
 
 impl Members for () {
