@@ -1,6 +1,8 @@
 -- What a step of a reader gives: a value, or what is wrong with the text.
-use Rattle.std.specs.Prelude.{◌≡◌, Result, Ok, Err}
+use Rattle.std.specs.Prelude.{◌≡◌, ◌⊎◌, ℕ, ◌≤◌, Result, Ok, Err}
+use Rattle.expr_reader.specs.Sizes.{greatest_depth}
 use Rattle.expr_reader.specs.declared.fault.Fault.{Fault}
+use Rattle.expr_reader.specs.declared.fault.Fault.TheVariants.{TooDeep}
 use Rattle.expr_reader.specs.declared.fault.Refusal.{Refusal}
 use Rattle.expr_reader.specs.declared.fault.Refusal.TheVariants as refusal
 
@@ -19,3 +21,7 @@ Fails (refusal.Fault f) step = step ≡ Err f
 abbrev pub Gives : {X A : Type 0} → (X → A) → Result X Refusal → Result A Fault → Type 0
 Gives view (Ok x) step = step ≡ Ok (view x)
 Gives view (Err e) step = Fails e step
+
+-- A node over parts that are so deep is refused: it is too deep, or there is no memory.
+abbrev pub IsRefused : ℕ → Refusal → Type 0
+IsRefused parts e = (e ≡ refusal.Memory) ⊎ ((e ≡ refusal.Fault TooDeep) × (greatest_depth ≤ parts))

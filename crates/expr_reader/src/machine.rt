@@ -197,8 +197,8 @@ fn lengthened(operand: Operand, mut frames: Vec<Frame>) -> Result<Machine, Refus
     match pop(&mut frames) {
         Some(Frame::Both(trees)) => opened(frames, Frame::Both(trees.push(operand)?)),
         Some(Frame::Either(trees)) => opened(frames, Frame::Either(trees.push(operand)?)),
-        Some(other) => refuse(other),
-        None => Err(unexpected()),
+        Some(other) => refuse((other, operand, frames)),
+        None => refuse((operand, frames)),
     }
 }
 
@@ -302,8 +302,8 @@ fn end_round(alloc: Global, operand: Operand, mut frames: Vec<Frame>) -> Result<
     match pop(&mut frames) {
         Some(Frame::Group) => grouped(alloc, operand, frames),
         Some(Frame::Call(function, trees)) => called_last(function, trees, operand, frames),
-        Some(other) => refuse(other),
-        None => Err(unexpected()),
+        Some(other) => refuse((other, operand, frames)),
+        None => refuse((operand, frames)),
     }
 }
 
@@ -313,8 +313,8 @@ fn end_index(alloc: Global, operand: Operand, mut frames: Vec<Frame>) -> Result<
 {
     match pop(&mut frames) {
         Some(Frame::Index(base)) => indexed(alloc, base, operand, frames),
-        Some(other) => refuse(other),
-        None => Err(unexpected()),
+        Some(other) => refuse((other, operand, frames)),
+        None => refuse((operand, frames)),
     }
 }
 
@@ -337,8 +337,8 @@ fn end_argument(operand: Operand, mut frames: Vec<Frame>) -> Result<Machine, Ref
 {
     match pop(&mut frames) {
         Some(Frame::Call(function, trees)) => next_argument(function, trees, operand, frames),
-        Some(other) => refuse(other),
-        None => Err(unexpected()),
+        Some(other) => refuse((other, operand, frames)),
+        None => refuse((operand, frames)),
     }
 }
 
@@ -355,7 +355,7 @@ fn called_empty(
     if arguments.is_empty() {
         called(function, arguments, frames)
     } else {
-        refuse(arguments)
+        refuse((arguments, frames))
     }
 }
 
@@ -365,8 +365,8 @@ fn end_empty(mut frames: Vec<Frame>) -> Result<Machine, Refusal>
 {
     match pop(&mut frames) {
         Some(Frame::Call(function, trees)) => called_empty(function, trees, frames),
-        Some(other) => refuse(other),
-        None => Err(unexpected()),
+        Some(other) => refuse((other, frames)),
+        None => refuse(frames),
     }
 }
 
@@ -379,8 +379,8 @@ fn star_index(mut frames: Vec<Frame>) -> Result<Machine, Refusal>
             mode: Mode::Starred(base),
             frames,
         }),
-        Some(other) => refuse(other),
-        None => Err(unexpected()),
+        Some(other) => refuse((other, frames)),
+        None => refuse(frames),
     }
 }
 
@@ -393,7 +393,7 @@ fn want_mark(frames: Vec<Frame>, mark: Mark) -> Result<Machine, Refusal>
         Mark::Star => star_index(frames),
         Mark::Not => opened(frames, Frame::Not),
         Mark::OpenIndex | Mark::CloseIndex | Mark::Dot | Mark::Comma | Mark::Both | Mark::Either =>
-            Err(unexpected()),
+            refuse(frames),
     }
 }
 
@@ -457,7 +457,7 @@ fn have_mark(
         Mark::Comma => at_comma(alloc, operand, frames),
         Mark::Both => at_both(alloc, operand, frames),
         Mark::Either => at_either(alloc, operand, frames),
-        Mark::Open | Mark::Star | Mark::Not => Err(unexpected()),
+        Mark::Open | Mark::Star | Mark::Not => refuse((operand, frames)),
     }
 }
 
@@ -472,7 +472,7 @@ fn want_token(frames: Vec<Frame>, token: Token) -> Result<Machine, Refusal>
             frames,
         }),
         Token::Mark(mark) => want_mark(frames, mark),
-        other => refuse(other),
+        other => refuse((other, frames)),
     }
 }
 
@@ -515,7 +515,7 @@ fn have_token(
         Token::Relational(relation) => at_relation(alloc, relation, operand, frames),
         Token::Equational(equality) => at_equality(alloc, equality, operand, frames),
         Token::Mark(mark) => have_mark(alloc, operand, frames, mark),
-        other => refuse(other),
+        other => refuse((other, operand, frames)),
     }
 }
 
@@ -531,7 +531,7 @@ fn dotted_token(
     match token {
         Token::Name(name) => property(alloc, base, name, frames),
         Token::Mark(Mark::Star) => wildcard(alloc, Wildcard::Dotted, base, frames),
-        other => refuse(other),
+        other => refuse((other, base, frames)),
     }
 }
 
@@ -545,7 +545,7 @@ fn called_token(
 {
     match token {
         Token::Mark(Mark::Open) => opened(frames, Frame::Call(function, Trees::new(alloc))),
-        other => refuse(other),
+        other => refuse((other, frames)),
     }
 }
 
@@ -560,7 +560,7 @@ fn starred_token(
 {
     match token {
         Token::Mark(Mark::CloseIndex) => wildcard(alloc, Wildcard::Bracketed, base, frames),
-        other => refuse(other),
+        other => refuse((other, base, frames)),
     }
 }
 
@@ -622,7 +622,7 @@ fn end_text(operand: Operand, mut frames: Vec<Frame>) -> Result<Tree, Refusal>
     ensures { Gives view result (machine.end_text (tree_of operand) (parts frames)) }
 {
     match pop(&mut frames) {
-        Some(frame) => refuse(frame),
+        Some(frame) => refuse((frame, operand, frames)),
         None => Ok(operand.into_tree()),
     }
 }

@@ -1,10 +1,10 @@
 //! Trees on their way, with their depths.
 
-ghost use Rattle.std.specs.Prelude.{◌≡◌, ◌≤◌, suc, ◌≢◌, ◌∷◌, ◌++◌, [], IfOk, IfErr, MatchBool, string_bytes};
+ghost use Rattle.std.specs.Prelude.{◌≡◌, ◌≤◌, suc, max, ◌≢◌, ◌∷◌, ◌++◌, [], IfOk, IfErr, MatchBool, string_bytes};
 ghost use Rattle.expr_reader.specs.Expr.{depth as depth_of, deepest as deepest_of, exprs_of, literal as literal_of, context as context_of, call as call_of, group as group_of, property as property_of, index as index_of, wildcard as wildcard_of, opposite, relation as relation_of, equality as equality_of, both as both_of, either as either_of};
 ghost use Rattle.expr_reader.specs.Grammar.{takes as takes_of};
 ghost use Rattle.expr_reader.specs.Machine.{limits, node, called_with};
-ghost use Rattle.expr_reader.specs.Outcome.{Gives};
+ghost use Rattle.expr_reader.specs.Outcome.{Gives, IsRefused};
 ghost use Rattle.expr_reader.specs.View.{view, views, constant_of};
 
 use crate::fault::{Fault, Refusal};
@@ -41,6 +41,25 @@ fn height_above(parts: usize) -> Result<usize, Refusal>
         return Err(Refusal::Fault(Fault::TooDeep));
     }
     Ok(parts + 1)
+}
+
+/// A part of a node, on the heap, with the depth of the node.
+#[derive(Drop)]
+struct Part {
+    tree: Box<Tree>,
+    height: usize,
+    ghost measured: { height ≡ suc (depth_of (view tree.value)) },
+    ghost shallow: { height ≤ 50 },
+}
+
+/// Two parts of a node, with the depth of the node.
+#[derive(Drop)]
+struct Parts {
+    left: Box<Tree>,
+    right: Box<Tree>,
+    height: usize,
+    ghost measured: { height ≡ suc (max (depth_of (view left.value)) (depth_of (view right.value))) },
+    ghost shallow: { height ≤ 50 },
 }
 
 impl Trees {
@@ -104,14 +123,41 @@ impl Operand {
         }
     }
 
+    // The operand as the part of a node.
+    fn into_part(self, alloc: Global) -> Result<Part, Refusal>
+        ensures ok { IfOk result (λ part. view part.tree.value ≡ tree_of self) }
+        ensures err { IfErr result (IsRefused (depth_of (tree_of self))) }
+    {
+        let Operand { tree, height } = self;
+        let height = height_above(height)?;
+        let tree = Box::new(alloc, tree)?;
+        Ok(Part { tree, height })
+    }
+
+    // The operand and another as the parts of a node.
+    fn into_parts(self, alloc: Global, right: Operand) -> Result<Parts, Refusal>
+        ensures ok { IfOk result (λ parts. (view parts.left.value ≡ tree_of self)
+            × (view parts.right.value ≡ tree_of right)) }
+        ensures err { IfErr result
+            (IsRefused (max (depth_of (tree_of self)) (depth_of (tree_of right)))) }
+    {
+        let height = height_above(self.height.max(right.height))?;
+        let left = Box::new(alloc, self.tree)?;
+        let right = Box::new(alloc, right.tree)?;
+        Ok(Parts {
+            left,
+            right,
+            height,
+        })
+    }
+
     pub(crate) fn group(alloc: Global, inner: Operand) -> Result<Operand, Refusal>
         ensures { Gives tree_of result (node limits (group_of (tree_of inner))) }
     {
-        let height = height_above(inner.height)?;
-        let inner = Box::new(alloc, inner.tree)?;
+        let inner = inner.into_part(alloc)?;
         Ok(Operand {
-            tree: Tree::Group(inner),
-            height,
+            tree: Tree::Group(inner.tree),
+            height: inner.height,
         })
     }
 
@@ -119,23 +165,20 @@ impl Operand {
         ensures { Gives tree_of result
             (node limits (property_of (tree_of base) (string_bytes name))) }
     {
-        let height = height_above(base.height)?;
-        let base = Box::new(alloc, base.tree)?;
+        let base = base.into_part(alloc)?;
         Ok(Operand {
-            tree: Tree::Property(base, name),
-            height,
+            tree: Tree::Property(base.tree, name),
+            height: base.height,
         })
     }
 
     pub(crate) fn index(alloc: Global, base: Operand, index: Operand) -> Result<Operand, Refusal>
         ensures { Gives tree_of result (node limits (index_of (tree_of base) (tree_of index))) }
     {
-        let height = height_above(base.height.max(index.height))?;
-        let base = Box::new(alloc, base.tree)?;
-        let index = Box::new(alloc, index.tree)?;
+        let parts = base.into_parts(alloc, index)?;
         Ok(Operand {
-            tree: Tree::Index(base, index),
-            height,
+            tree: Tree::Index(parts.left, parts.right),
+            height: parts.height,
         })
     }
 
@@ -146,22 +189,20 @@ impl Operand {
     ) -> Result<Operand, Refusal>
         ensures { Gives tree_of result (node limits (wildcard_of wildcard (tree_of base))) }
     {
-        let height = height_above(base.height)?;
-        let base = Box::new(alloc, base.tree)?;
+        let base = base.into_part(alloc)?;
         Ok(Operand {
-            tree: Tree::Wildcard(wildcard, base),
-            height,
+            tree: Tree::Wildcard(wildcard, base.tree),
+            height: base.height,
         })
     }
 
     pub(crate) fn not(alloc: Global, operand: Operand) -> Result<Operand, Refusal>
         ensures { Gives tree_of result (node limits (opposite (tree_of operand))) }
     {
-        let height = height_above(operand.height)?;
-        let operand = Box::new(alloc, operand.tree)?;
+        let operand = operand.into_part(alloc)?;
         Ok(Operand {
-            tree: Tree::Not(operand),
-            height,
+            tree: Tree::Not(operand.tree),
+            height: operand.height,
         })
     }
 
@@ -174,12 +215,10 @@ impl Operand {
         ensures { Gives tree_of result
             (node limits (relation_of relation (tree_of left) (tree_of right))) }
     {
-        let height = height_above(left.height.max(right.height))?;
-        let left = Box::new(alloc, left.tree)?;
-        let right = Box::new(alloc, right.tree)?;
+        let parts = left.into_parts(alloc, right)?;
         Ok(Operand {
-            tree: Tree::Relation(relation, left, right),
-            height,
+            tree: Tree::Relation(relation, parts.left, parts.right),
+            height: parts.height,
         })
     }
 
@@ -192,12 +231,10 @@ impl Operand {
         ensures { Gives tree_of result
             (node limits (equality_of equality (tree_of left) (tree_of right))) }
     {
-        let height = height_above(left.height.max(right.height))?;
-        let left = Box::new(alloc, left.tree)?;
-        let right = Box::new(alloc, right.tree)?;
+        let parts = left.into_parts(alloc, right)?;
         Ok(Operand {
-            tree: Tree::Equality(equality, left, right),
-            height,
+            tree: Tree::Equality(equality, parts.left, parts.right),
+            height: parts.height,
         })
     }
 
