@@ -1,3 +1,4 @@
+-- What a loop has found before what is left of a list.
 use Rattle.std.proofs.Common.{◌≡◌, List, [], ◌++◌, Result, Ok, Err, refl, ap, append_assoc}
 use Rattle.flow_model.specs.declared.reply.ValueFault.{ValueFault}
 

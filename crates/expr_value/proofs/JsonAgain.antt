@@ -26,12 +26,13 @@ use Rattle.serde_json.specs.Read.{number_of, of_json, of_items, of_members, read
 use Rattle.serde_json.specs.Written.{number_text, outline, items_outline, members_outline}
 use Rattle.expr_reader.specs.Expr.{Expr, call, more, none}
 use Rattle.expr_reader.specs.declared.tree.Function.TheVariants.{FromJson, ToJson}
+use Rattle.expr_value.proofs.OrderedValues.{value_is_ordered}
 use Rattle.expr_value.specs.Context.{Contexts}
 use Rattle.expr_value.specs.Evaluate.{Answer, ended, begun, call_value, all_values, value}
 use Rattle.expr_value.specs.FunctionLaws.{IsPrintable}
 use Rattle.expr_value.specs.Functions.{pretty_text, from_json, value_read, whole_value}
 use Rattle.expr_value.specs.Limit.{most_bytes}
-use Rattle.expr_value.specs.Ordered.{keys, HasOrderedKeys, ItemsHaveOrderedKeys, MembersHaveOrderedKeys}
+use Rattle.expr_value.specs.Ordered.{AreOrdered, keys, HasOrderedKeys, ItemsHaveOrderedKeys, MembersHaveOrderedKeys}
 use Rattle.expr_value.specs.declared.status.Status.{Status}
 use Rattle.flow_model.proofs.Conversions.{value_again}
 use Rattle.flow_model.specs.Json.{is_in_range, items_in_range, members_in_range, json_of, json_items, json_members}
@@ -211,16 +212,16 @@ mutual
 abbrev whole_text : Option (json.Json × List Token) → Option Data
 whole_text o = option_and_then of_json (option_and_then (λ p. json.if_last p.0 p.1) o)
 
-read_again : (v : Plain) → IsPrintable v → read (pretty_text (json_of v)) ≡ Some (json_of v)
-read_again v h =
+read_again : (v : Plain) → HasOrderedKeys v → IsPrintable v → read (pretty_text (json_of v)) ≡ Some (json_of v)
+read_again v ordered h =
     let j = outline (json_of v) in
     let shallow : tree.depth j ≤ 127 = subst (λ (n : ℕ). n ≤ 127) (sym (outline_depth (json_of v))) h.shallow in
     ap (λ (ts : List Token). whole_text (json.value 127 ts)) (tokens_again (json_tokens j) (ArePrintable-json_tokens j (has_numbers v h.in_range)) ∙ sym (append-nil (json_tokens j)))
     ∙ ap whole_text (value-json_tokens j 127 [] shallow)
-    ∙ json_again v h.in_range h.ordered
+    ∙ json_again v h.in_range ordered
 
-text_again : (v : Plain) → IsPrintable v → from_json (text (pretty_text (json_of v))) ≡ Ok v
-text_again v h = ap value_read (read_again v h) ∙ ap whole_value (value_again v h.in_range)
+text_again : (v : Plain) → HasOrderedKeys v → IsPrintable v → from_json (text (pretty_text (json_of v))) ≡ Ok v
+text_again v ordered h = ap value_read (read_again v ordered h) ∙ ap whole_value (value_again v h.in_range)
 
 -- fromJSON(toJSON(..)) of an answer.
 abbrev there_and_back : Status → Answer → Answer
@@ -229,10 +230,10 @@ there_and_back s a = ended (begun (call_value FromJson s (all_values (ended (beg
 back_from : Status → Answer → Answer
 back_from s a = ended (begun (call_value FromJson s (all_values (ended (begun a) ∷ []))))
 
-pub from_json_of_to_json : (c : Contexts) (s : Status) (e : Expr) (v : Plain) → value c s e ≡ Ok v → IsPrintable v
+pub from_json_of_to_json : (c : Contexts) (s : Status) (e : Expr) (v : Plain) → AreOrdered c → value c s e ≡ Ok v → IsPrintable v
     → value c s (call FromJson (more (call ToJson (more e none)) none)) ≡ Ok v
-from_json_of_to_json c s e v is h =
+from_json_of_to_json c s e v ordered is h =
     let fits : nat_le (length (pretty_text (json_of v))) most_bytes ≡ true = let short = h.short in grind (arith, nat_tests) in
     ap (there_and_back s) is
     ∙ ap (λ (a : Answer). ended (begun (call_value FromJson s (all_values (ended (begun a) ∷ []))))) (cond-true (nat_le (length (pretty_text (json_of v))) most_bytes) _ _ fits)
-    ∙ ap (λ (a : Answer). ended (begun a)) (text_again v h)
+    ∙ ap (λ (a : Answer). ended (begun a)) (text_again v (value_is_ordered c s e v ordered is) h)

@@ -10,6 +10,7 @@ mod JsonNumbers
 pub mod JsonTexts
 mod Lists
 mod Mirror
+mod OrderedValues
 mod Runs
 mod Searches
 mod JoinedTexts

@@ -7,7 +7,6 @@ use Rattle.expr_value.specs.Formatting.{is_plain}
 use Rattle.expr_value.specs.Functions.{pretty_text}
 use Rattle.expr_value.specs.JsonNumber.{IsDigits}
 use Rattle.expr_value.specs.Limit.{most_bytes}
-use Rattle.expr_value.specs.Ordered.{HasOrderedKeys}
 use Rattle.flow_model.specs.Json.{is_in_range, json_of}
 use Rattle.flow_model.specs.Plain.{Plain}
 use Rattle.serde_json.specs.Data.{depth}
@@ -67,10 +66,9 @@ with_place before n after =
 
 -- ---- toJSON, fromJSON
 
--- A value whose JSON is a text that reads back: its numbers are in range, it nests at most 127 deep, its maps have
--- their keys in order, and the text is within the limit.
+-- A value whose JSON is a text that reads back: its numbers are in range, it nests at most 127 deep, and the text
+-- is within the limit.
 pub record IsPrintable (v : Plain) : Type 0 where
   pub in_range : IsTrue (is_in_range v)
   pub shallow : depth (json_of v) ≤ 127
-  pub ordered : HasOrderedKeys v
   pub short : length (pretty_text (json_of v)) ≤ most_bytes

@@ -9,6 +9,7 @@ ghost use Rattle.expr_value.specs.Context.{Contexts};
 ghost use Rattle.expr_value.specs.Evaluate.{value};
 ghost use Rattle.expr_value.specs.Functions.{is_success};
 ghost use Rattle.expr_value.specs.Named.{AgreeOn, expr_names_context, pieces_name_context};
+ghost use Rattle.expr_value.specs.Ordered.{AreOrdered, HasOrderedKeys};
 ghost use Rattle.expr_value.specs.Template.{template_value};
 ghost use Rattle.expr_value.specs.declared.status.Status.{Status};
 ghost use Rattle.flow_model.specs.Plain as plain;
@@ -57,4 +58,10 @@ pub fn condition_by_its_contexts()
     ensures { (c d : Contexts) (s : Status) (condition : List Piece)
         → AgreeOn (λ x. pieces_name_context x condition) c d
         → condition_holds c s condition ≡ condition_holds d s condition }
+{}
+
+/// Where each map in the contexts has its keys in order, so has each map in the value of an expression.
+pub fn values_have_ordered_keys()
+    ensures { (c : Contexts) (s : Status) (expression : Expr) (v : plain.Plain)
+        → AreOrdered c → value c s expression ≡ Ok v → HasOrderedKeys v }
 {}

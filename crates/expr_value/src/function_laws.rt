@@ -10,6 +10,7 @@ ghost use Rattle.expr_value.specs.Format.{formatted};
 ghost use Rattle.expr_value.specs.FunctionLaws.{HasDigits, HasNoBrace, IsPrintable, Slot, filled_text, slot_text, with_doubled_braces, with_place};
 ghost use Rattle.expr_value.specs.Functions.{format, text_of_value};
 ghost use Rattle.expr_value.specs.Limit.{limited};
+ghost use Rattle.expr_value.specs.Ordered.{AreOrdered};
 ghost use Rattle.expr_value.specs.declared.status.Status.{Status};
 ghost use Rattle.flow_model.specs.Plain.{Plain, text};
 ghost use Rattle.flow_model.specs.declared.reply.ValueFault.TheVariants.{BadFormat};
@@ -45,9 +46,10 @@ pub fn format_with_one_place()
         → format (text (with_place before n after)) arguments ≡ Err BadFormat }
 {}
 
-/// `fromJSON(toJSON(e))` has the value of e, where that is printable.
+/// `fromJSON(toJSON(e))` has the value of e, where that is printable and each map in the contexts has its keys in
+/// order, as the maps of a program have.
 pub fn from_json_of_to_json()
-    ensures { (c : Contexts) (s : Status) (e : Expr) (v : Plain) → value c s e
-        ≡ Ok v → IsPrintable v
+    ensures { (c : Contexts) (s : Status) (e : Expr) (v : Plain)
+        → AreOrdered c → value c s e ≡ Ok v → IsPrintable v
         → value c s (call FromJson (more (call ToJson (more e none)) none)) ≡ Ok v }
 {}

@@ -20,6 +20,6 @@ pub fn inequality_is_opposite()
 
 /// `a < b` is `b > a`, `a <= b` is `b >= a`, and both fault alike.
 pub fn relations_mirror()
-    ensures { (relation : Relation) (a b : Kind) → related relation a b
-        ≡ related (mirror relation) b a }
+    ensures { (relation : Relation) (a b : Kind)
+        → related relation a b ≡ related (mirror relation) b a }
 {}

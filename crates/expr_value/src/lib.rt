@@ -37,7 +37,7 @@ pub use context::Context;
 pub use evaluation_laws::{
     always_is_true, condition_by_its_contexts, condition_waits_for_success,
     expression_by_its_contexts, expression_without_status, template_by_its_contexts,
-    template_without_status,
+    template_without_status, values_have_ordered_keys,
 };
 pub use function_laws::{
     format_with_doubled_braces, format_with_one_place, format_with_places, format_without_braces,
