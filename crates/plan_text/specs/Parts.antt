@@ -1,5 +1,5 @@
 -- How the parts of a document are written as JSON, and how they are read from it.
-use Rattle.std.specs.Prelude.{ℕ, ℤ, suc, List, [], ◌∷◌, ◌++◌, map, decimal, Bool, false, bytes_eq, ◌==◌, if◌then◌else◌, Option, Some, None, option_map, option_and_then, unwrap_or, Result, Ok, Err, ⊤}
+use Rattle.std.specs.Prelude.{ℕ, ℤ, suc, List, [], ◌∷◌, ◌++◌, map, codes, decimal, Bool, false, bytes_eq, ◌==◌, if◌then◌else◌, Option, Some, None, option_map, option_and_then, unwrap_or, Result, Ok, Err, ⊤}
 use Rattle.std.specs.Ordering.{nat_cmp, match_ordering}
 use Rattle.std.specs.Cmp.Lexicographic.{slice_cmp}
 use Rattle.serde_json.specs.Data.{Num, unsigned, negative, float, Data, null, boolean, number, string, array, object, Items, no_items, item, Members, no_members, member}
@@ -56,7 +56,7 @@ map_read f (Err path) = Err path
 -- the path of what stands at the key or place, and there at the path
 abbrev pub joined : List ℕ → List ℕ → List ℕ
 joined key [] = key
-joined key (c ∷ path) = key ++ 46 ∷ c ∷ path
+joined key (c ∷ path) = key ++ (codes "." ++ (c ∷ path))
 
 -- the part that stands at the key or place
 abbrev pub within : {A : Type 0} → List ℕ → Reading A → Reading A

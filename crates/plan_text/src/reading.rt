@@ -1,5 +1,4 @@
-// How a part of a document is read from JSON. An object is read in one pass over its members, in the
-// order of their keys.
+// How a part of a document is read from JSON.
 ghost use Rattle.std.specs.Prelude.{◌≡◌, ◌∷◌, ◌++◌, length, decimal, IfOk, Ok, Err, string_bytes, codes, ⊤};
 ghost use Rattle.serde_json.specs.View.{view, items_view, members_view};
 ghost use Rattle.plan_text.specs.Answer.{Gives, GivesIt, IsRefusal, IsWithin};
@@ -14,8 +13,8 @@ use std::collections::btree_map::Iter;
 use std::fmt::Write;
 
 /// Why a part could not be read.
-#[derive(Debug, Drop)]
-pub enum Unread {
+#[derive(Drop)]
+pub(crate) enum Unread {
     /// It is not as it should be, at this path within it: keys and places, joined by dots.
     Refused(Text),
     /// There is no memory.
