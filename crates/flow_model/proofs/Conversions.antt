@@ -1,5 +1,5 @@
 -- Values and their JSON: each is found again from the other.
-use Rattle.std.proofs.Common.{◌≡◌, ◌≤◌, ◌-◌, arith, ℕ, ◌+◌, ℤ, pos, negsuc, List, [], ◌∷◌, ◌++◌, map, Bool, true, false, IsTrue, ◌&&◌, nat_lt, cond, String, Global, string_bytes, Option, Some, None, option_map, refl, sym, subst, ap, ◌∙◌, ◌<◌, suc, length, get_or, drop, add-one, drop-cons}
+use Rattle.std.proofs.Common.{◌≡◌, ◌≤◌, ◌-◌, arith, ℕ, ◌+◌, ℤ, pos, negsuc, List, [], ◌∷◌, ◌++◌, map, Bool, true, false, IsTrue, nat_lt, cond, String, Global, string_bytes, Option, Some, None, option_map, refl, sym, subst, ap, ◌∙◌, ◌<◌, suc, length, get_or, drop, add-one, drop-cons}
 use Rattle.std.proofs.lemmas.Bool.Decides.{nat_tests}
 use Rattle.std.specs.Option.{option_and_then}
 use Rattle.serde_json.specs.Data.{Num, unsigned, negative, float, Data, null, boolean, number, string, array, object, Items, no_items, item, Members, no_members, member, depth, items_depth, members_depth}

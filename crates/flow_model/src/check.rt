@@ -216,7 +216,7 @@ impl CheckedPlan {
     ghost use Rattle.flow_model.specs.Offered.{IsOffered};
     ghost use Rattle.flow_model.specs.Sound.{SoundPlan};
 
-    /// The plan that was accepted.
+    /// The plan that was accepted. All of it is offered (`sound`), and each rule holds in its own words (`rules`).
     pub fn plan(&self) -> &Plan
         ensures same { result.now ≡ self.now }
         ensures sound { IsOffered result.now }
