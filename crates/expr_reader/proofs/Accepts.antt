@@ -1,7 +1,7 @@
 -- What a text spells as a template or a condition, as functions.
 use Rattle.std.proofs.Common.{◌≡◌, ℕ, ◌≤◌, Bool, true, false, cond, is_some, nat_le, Result, Ok, Err, Option, Some, None, IfOk, IfSome, List, length, refl, sym, ap, subst, ◌∙◌, arith}
 use Rattle.std.specs.Prelude.{option_and_then}
-use Rattle.std.proofs.lemmas.Bool.{cond-true, cond-false}
+use Rattle.std.proofs.lemmas.Bool.{cond-false}
 use Rattle.std.proofs.lemmas.Bool.Decides.{nat_tests}
 use Rattle.expr_reader.specs.Faults.{fault_at}
 use Rattle.expr_reader.specs.Reading.{Failure}

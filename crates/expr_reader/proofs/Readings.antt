@@ -5,7 +5,7 @@ use Rattle.std.specs.List.{prefix_len}
 use Rattle.std.specs.Prelude.{codes}
 use Rattle.expr_reader.specs.Bytes.{is_white, skip_white, IsRun, Stops, IsWord, IsNumeral}
 use Rattle.expr_reader.specs.Expr.{null, truth, whole, quoted, Expr, group, property, index, wildcard, exprs_of, depth}
-use Rattle.expr_reader.specs.Grammar.{Token, constant, root, callee, name, relational, equational, mark, tokens, Shaped, Formed}
+use Rattle.expr_reader.specs.Grammar.{Token, constant, root, callee, name, relational, equational, mark, tokens, Shaped}
 use Rattle.expr_reader.specs.Lexer.{Lexed, next_at, next}
 use Rattle.expr_reader.specs.Wrong.{Wrong}
 use Rattle.expr_reader.specs.Machine.{Part, equality_of, relation_of, group_of, index_of, call_of, State, want, have, dotted, called, starred, is_dotted, both_more, either_more, have_made, end_argument, star_index, Limits, limits, no_limits, node, called_with, close_relation, close_equality, close_both, close_either, end_round, end_index, end_empty, have_mark, have_step, step, run, finish, parse}

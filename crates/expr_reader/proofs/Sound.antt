@@ -2,7 +2,7 @@
 use Rattle.std.proofs.Common.{◌≡◌, ℕ, suc, ◌+◌, ◌<◌, ◌≤◌, Bool, true, false, cond, nat_lt, nat_le, Result, Ok, Err, List, [], ◌∷◌, ◌++◌, refl, sym, ap, subst, ◌∙◌, append_assoc, append-nil, arith}
 use Rattle.std.proofs.lemmas.Bool.{ltb-true, ltb-false}
 use Rattle.std.proofs.lemmas.Bool.Decides.{nat_tests}
-use Rattle.expr_reader.specs.Expr.{Expr, Exprs, call, group, property, index, wildcard, opposite, relation, equality, both, either, none, exprs_of, count, depth}
+use Rattle.expr_reader.specs.Expr.{Expr, Exprs, call, group, property, index, wildcard, none, exprs_of, count, depth}
 use Rattle.expr_reader.specs.Grammar.{Token, constant, root, callee, name, relational, equational, mark, tokens, chained, preceded, level, takes, IsChain, Shaped, AllShaped}
 use Rattle.expr_reader.specs.Machine.{Part, either_of, both_of, equality_of, relation_of, not_of, group_of, index_of, call_of, State, want, have, dotted, called, starred, Held, binding, completed, both_more, either_more, have_made, end_argument, end_text, star_index, called_step, limits, node, called_with, close, close_relation, close_equality, close_both, close_either, end_round, end_index, end_empty, want_mark, have_mark, want_step, have_step, dotted_step, starred_step, step, finish}
 use Rattle.expr_reader.specs.Outcome.{◌>>=◌}

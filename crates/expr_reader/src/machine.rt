@@ -190,13 +190,29 @@ fn opened(mut frames: Vec<Frame>, frame: Frame) -> Result<Machine, Refusal>
     Ok(want(frames))
 }
 
+// A chain of `&&` with one part more.
+fn both_with(trees: Trees, last: Operand, frames: Vec<Frame>) -> Result<Machine, Refusal>
+    ensures { Gives state_of result (Ok (machine.want
+        (machine.both_of (trees_of trees ++ tree_of last ∷ []) ∷ parts frames))) }
+{
+    opened(frames, Frame::Both(trees.push(last)?))
+}
+
+// A chain of `||` with one part more.
+fn either_with(trees: Trees, last: Operand, frames: Vec<Frame>) -> Result<Machine, Refusal>
+    ensures { Gives state_of result (Ok (machine.want
+        (machine.either_of (trees_of trees ++ tree_of last ∷ []) ∷ parts frames))) }
+{
+    opened(frames, Frame::Either(trees.push(last)?))
+}
+
 // The innermost chain goes on with the operand.
 fn lengthened(operand: Operand, mut frames: Vec<Frame>) -> Result<Machine, Refusal>
     ensures { Gives state_of result (machine.lengthened (tree_of operand) (parts frames)) }
 {
     match pop(&mut frames) {
-        Some(Frame::Both(trees)) => opened(frames, Frame::Both(trees.push(operand)?)),
-        Some(Frame::Either(trees)) => opened(frames, Frame::Either(trees.push(operand)?)),
+        Some(Frame::Both(trees)) => both_with(trees, operand, frames),
+        Some(Frame::Either(trees)) => either_with(trees, operand, frames),
         Some(other) => refuse((other, operand, frames)),
         None => refuse((operand, frames)),
     }
@@ -209,9 +225,10 @@ fn both_more(alloc: Global, operand: Operand, frames: Vec<Frame>) -> Result<Mach
         (Ok (machine.want (machine.both_more (tree_of operand) (parts frames)))) }
 {
     if top_binding(frames.as_slice()) == BOTH {
-        return lengthened(operand, frames);
+        lengthened(operand, frames)
+    } else {
+        both_with(Trees::new(alloc), operand, frames)
     }
-    opened(frames, Frame::Both(Trees::new(alloc).push(operand)?))
 }
 
 // A chain of `||` begins with the operand, or goes on with it.
@@ -221,9 +238,10 @@ fn either_more(alloc: Global, operand: Operand, frames: Vec<Frame>) -> Result<Ma
         (Ok (machine.want (machine.either_more (tree_of operand) (parts frames)))) }
 {
     if top_binding(frames.as_slice()) == EITHER {
-        return lengthened(operand, frames);
+        lengthened(operand, frames)
+    } else {
+        either_with(Trees::new(alloc), operand, frames)
     }
-    opened(frames, Frame::Either(Trees::new(alloc).push(operand)?))
 }
 
 // The group is whole.
