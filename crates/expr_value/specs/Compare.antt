@@ -30,6 +30,7 @@ order_of_numbers (Ok m) (Ok n) = Ok (number_order m n)
 order_of_numbers (Ok m) (Err fault) = Err fault
 order_of_numbers (Err fault) n = Err fault
 
+-- The order of two values by their numbers.
 abbrev pub order_by_number : Kind → Kind → Result (Option Ordering) ValueFault
 order_by_number a b = order_of_numbers (number_of a) (number_of b)
 

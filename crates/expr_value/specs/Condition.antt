@@ -9,6 +9,7 @@ use Rattle.expr_value.specs.Template.{template_value}
 use Rattle.expr_value.specs.declared.status.Status.{Status}
 use Rattle.flow_model.specs.declared.reply.ValueFault.{ValueFault}
 
+-- The truth of a value, or the fault.
 abbrev pub truth_value : Answer → Result Bool ValueFault
 truth_value (Ok v) = Ok (is_truthy v)
 truth_value (Err fault) = Err fault

@@ -5,6 +5,7 @@ use Rattle.expr_reader.specs.declared.tree.Context.{Context}
 use Rattle.flow_model.specs.Mapping.{value_at}
 use Rattle.flow_model.specs.Plain.{Plain, map, no_members}
 
+-- Contexts by their names in small letters.
 abbrev pub Contexts : Type 0
 Contexts = List (List ℕ × Plain)
 

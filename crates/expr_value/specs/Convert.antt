@@ -7,6 +7,7 @@ use Rattle.expr_value.specs.Kind.{Kind, null, truth, whole, text, list, map}
 use Rattle.expr_value.specs.Number.{number_of_text}
 use Rattle.flow_model.specs.declared.reply.ValueFault.{ValueFault}
 
+-- Nothing of null, true or false, a number in decimal, a text itself, Array of a list and Object of a map.
 abbrev pub text_of : Kind → List ℕ
 text_of null = []
 text_of (truth b) = if b then codes "true" else codes "false"
@@ -24,6 +25,7 @@ number_of (text bytes) = number_of_text bytes
 number_of list = Ok None
 number_of map = Ok None
 
+-- All is true but null, false, 0 and the empty text.
 abbrev pub truth_of : Kind → Bool
 truth_of null = false
 truth_of (truth b) = b

@@ -21,10 +21,11 @@ abbrev pub outside : Found → plain.Plain
 outside (one v) = v
 outside (filtered vs) = plain.list (plain.items_of vs)
 
--- Two texts are the same; the same ignoring case.
+-- Two texts are the same.
 abbrev pub is_same : List ℕ → List ℕ → Bool
 is_same a b = is_eq (slice_cmp nat_cmp a b)
 
+-- Two texts are the same ignoring case.
 abbrev pub is_alike : List ℕ → List ℕ → Bool
 is_alike a b = is_same (fold a) (fold b)
 
@@ -52,6 +53,7 @@ item_at None vs = None
 item_at (Some (pos n)) vs = slice_get vs n
 item_at (Some (negsuc n)) vs = None
 
+-- The item at a number that may be a fault.
 abbrev pub item_found : Result (Option ℤ) ValueFault → List plain.Plain → Result (Option plain.Plain) ValueFault
 item_found (Ok number) vs = Ok (item_at number vs)
 item_found (Err fault) vs = Err fault
@@ -82,10 +84,12 @@ abbrev pub or_null : Option plain.Plain → plain.Plain
 or_null None = plain.null
 or_null (Some v) = v
 
+-- .name of one value, or of each item that has the property.
 abbrev pub property_found : List ℕ → Found → Found
 property_found name (one v) = one (or_null (property_of name v))
 property_found name (filtered vs) = filtered (filter_map (property_of name) vs)
 
+-- One value that stands somewhere, or null.
 abbrev pub one_or_null : Result (Option plain.Plain) ValueFault → Result Found ValueFault
 one_or_null (Ok v) = Ok (one (or_null v))
 one_or_null (Err fault) = Err fault
@@ -97,18 +101,22 @@ with_found (Ok v) (Ok vs) = Ok (cons_option v vs)
 with_found (Ok v) (Err fault) = Err fault
 with_found (Err fault) vs = Err fault
 
+-- What stands at an index in each item that has it.
 abbrev pub index_each : Kind → List plain.Plain → Result (List plain.Plain) ValueFault
 index_each index [] = Ok []
 index_each index (v ∷ vs) = with_found (index_of index v) (index_each index vs)
 
+-- Those as a filtered list.
 abbrev pub filtered_of : Result (List plain.Plain) ValueFault → Result Found ValueFault
 filtered_of (Ok vs) = Ok (filtered vs)
 filtered_of (Err fault) = Err fault
 
+-- [index] of one value, or of each item that has it.
 abbrev pub index_found : Kind → Found → Result Found ValueFault
 index_found index (one v) = one_or_null (index_of index v)
 index_found index (filtered vs) = filtered_of (index_each index vs)
 
+-- .* of one value, or of each item, one after the other.
 abbrev pub all_found : Found → Found
 all_found (one v) = filtered (contents v)
 all_found (filtered vs) = filtered (flat_map contents vs)

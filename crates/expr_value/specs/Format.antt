@@ -5,10 +5,11 @@ use Rattle.std.specs.List.{slice_get}
 use Rattle.std.specs.Option.{option_map, option_and_then}
 use Rattle.expr_reader.specs.Bytes.{is_digit}
 
--- { and }
+-- {
 abbrev pub opening : ℕ
 opening = 123
 
+-- }
 abbrev pub closing : ℕ
 closing = 125
 
@@ -23,6 +24,7 @@ after_argument argument rest = option_and_then (λ front. option_map (λ bytes. 
 -- A format text from the left, with the texts of the arguments: {{ is {, }} is }, {digits} is the text of that
 -- argument, from 0; any other brace, and an argument that is not there, makes it no format.
 abbrev mutual
+  -- From the start of a piece.
   pub formatted : List (List ℕ) → List ℕ → Option (List ℕ)
   formatted arguments [] = Some []
   formatted arguments (b ∷ bs) =

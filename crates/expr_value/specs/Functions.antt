@@ -34,6 +34,7 @@ stands_in part (b ∷ bs) = starts_with nat_eq (b ∷ bs) part || stands_in part
 abbrev pub folds_pass : (List ℕ → List ℕ → Bool) → Kind → Kind → Bool
 folds_pass test a b = not (is_collection a || is_collection b) && test (fold (text_of a)) (fold (text_of b))
 
+-- It is known to be true.
 abbrev pub is_true : Result Bool ValueFault → Bool
 is_true (Ok b) = b
 is_true (Err fault) = false
@@ -51,9 +52,11 @@ contains (text bytes) x = folds_pass (λ s part. stands_in part s) (kind_of (tex
 contains (list vs) x = list_any (is_match (kind_of x)) (items vs)
 contains (plain.map ms) x = false
 
+-- A text begins with the text of x, ignoring case.
 abbrev pub begins_with : Plain → Plain → Bool
 begins_with s x = folds_pass (starts_with nat_eq) (kind_of s) (kind_of x)
 
+-- A text ends with the text of x, ignoring case.
 abbrev pub finishes_with : Plain → Plain → Bool
 finishes_with s x = folds_pass (ends_with nat_eq) (kind_of s) (kind_of x)
 
@@ -63,6 +66,7 @@ finishes_with s x = folds_pass (ends_with nat_eq) (kind_of s) (kind_of x)
 abbrev pub text_of_value : Plain → List ℕ
 text_of_value v = text_of (kind_of v)
 
+-- The text of a format as a value; BadFormat where it is none.
 abbrev pub formatted_value : Option (List ℕ) → Result Plain ValueFault
 formatted_value None = Err BadFormat
 formatted_value (Some bytes) = limited bytes
@@ -80,6 +84,7 @@ joined separator (text bytes) = text_of_value (text bytes)
 joined separator (list vs) = join_by text_of_value separator (items vs)
 joined separator (plain.map ms) = text_of_value (plain.map ms)
 
+-- join as a value.
 abbrev pub join : Plain → List ℕ → Result Plain ValueFault
 join v separator = limited (joined separator v)
 
@@ -89,34 +94,41 @@ join v separator = limited (joined separator v)
 abbrev pub pretty_text : Data → List ℕ
 pretty_text d = pretty (json_tokens (outline d))
 
+-- toJSON: the JSON on lines, as a value.
 abbrev pub to_json : Plain → Result Plain ValueFault
 to_json v = limited (pretty_text (json_of v))
 
+-- A value, or NotWhole where a number is none that is whole and in range.
 abbrev pub whole_value : Option Plain → Result Plain ValueFault
 whole_value None = Err NotWhole
 whole_value (Some v) = Ok v
 
+-- The value of what was read, or BadJson.
 abbrev pub value_read : Option Data → Result Plain ValueFault
 value_read None = Err BadJson
 value_read (Some d) = whole_value (value_of d)
 
+-- fromJSON: the value that a value's text reads as.
 abbrev pub from_json : Plain → Result Plain ValueFault
 from_json v = value_read (read (text_of_value v))
 
 -- ---- the status functions
 
+-- success() is true.
 abbrev pub is_success : Status → Bool
 is_success status.Success = true
 is_success status.Failure = false
 is_success status.Cancelled = false
 is_success status.Other = false
 
+-- failure() is true.
 abbrev pub is_failure : Status → Bool
 is_failure status.Success = false
 is_failure status.Failure = true
 is_failure status.Cancelled = false
 is_failure status.Other = false
 
+-- cancelled() is true.
 abbrev pub is_cancelled : Status → Bool
 is_cancelled status.Success = false
 is_cancelled status.Failure = false
@@ -132,22 +144,26 @@ with_one function [] = Ok null
 with_one function (a ∷ []) = function a
 with_one function (a ∷ b ∷ more) = Ok null
 
+-- A call of a test of two arguments.
 abbrev pub with_two : (Plain → Plain → Bool) → List Plain → Result Plain ValueFault
 with_two test [] = Ok null
 with_two test (a ∷ []) = Ok null
 with_two test (a ∷ b ∷ []) = Ok (truth (test a b))
 with_two test (a ∷ b ∷ c ∷ more) = Ok null
 
+-- A call of format.
 abbrev pub format_of : List Plain → Result Plain ValueFault
 format_of [] = Ok null
 format_of (f ∷ arguments) = format f arguments
 
+-- A call of join: without a separator it is a comma.
 abbrev pub join_of : List Plain → Result Plain ValueFault
 join_of [] = Ok null
 join_of (v ∷ []) = join v (codes ",")
 join_of (v ∷ separator ∷ []) = join v (text_of_value separator)
 join_of (v ∷ separator ∷ c ∷ more) = Ok null
 
+-- A call of a status function.
 abbrev pub status_of : Bool → List Plain → Result Plain ValueFault
 status_of b [] = Ok (truth b)
 status_of b (a ∷ more) = Ok null

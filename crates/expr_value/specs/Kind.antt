@@ -11,6 +11,7 @@ pub data Kind : Type 0 where
   list : Kind
   map : Kind
 
+-- The kind of a value.
 abbrev pub kind_of : plain.Plain → Kind
 kind_of plain.null = null
 kind_of (plain.truth b) = truth b

@@ -4,6 +4,7 @@ use Rattle.flow_model.specs.Plain as plain
 use Rattle.flow_model.specs.declared.reply.ValueFault.{ValueFault}
 use Rattle.flow_model.specs.declared.reply.ValueFault.TheVariants.{TooLarge}
 
+-- 1 MiB
 abbrev pub most_bytes : ℕ
 most_bytes = 1048576
 

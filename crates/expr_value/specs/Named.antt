@@ -29,10 +29,12 @@ abbrev mutual
   expr_names_context x (both es) = any_names_context x es
   expr_names_context x (either es) = any_names_context x es
 
+  -- One of several expressions does.
   pub any_names_context : Context → Exprs → Bool
   any_names_context x none = false
   any_names_context x (more e es) = expr_names_context x e || any_names_context x es
 
+-- A piece of a template does.
 abbrev pub piece_names_context : Context → Piece → Bool
 piece_names_context x (plain bytes) = false
 piece_names_context x (marked e) = expr_names_context x e

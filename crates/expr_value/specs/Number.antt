@@ -8,22 +8,27 @@ use Rattle.expr_reader.specs.Number.{greatest, digits_value, negative}
 use Rattle.flow_model.specs.declared.reply.ValueFault.{ValueFault}
 use Rattle.flow_model.specs.declared.reply.ValueFault.TheVariants.{NotWhole}
 
--- 0, the signs, the point, e and E
+-- 0
 abbrev pub zero_digit : ℕ
 zero_digit = 48
 
+-- +
 abbrev pub plus : ℕ
 plus = 43
 
+-- -
 abbrev pub minus : ℕ
 minus = 45
 
+-- .
 abbrev pub point : ℕ
 point = 46
 
+-- e
 abbrev pub small_e : ℕ
 small_e = 101
 
+-- E
 abbrev pub large_e : ℕ
 large_e = 69
 
@@ -74,6 +79,7 @@ number_of_parts digits (b ∷ bs) = if is_integer digits && is_tail (b ∷ bs) t
 abbrev pub unsigned_number : List ℕ → Result (Option ℕ) ValueFault
 unsigned_number bs = number_of_parts (take (prefix_len is_digit bs) bs) (drop (prefix_len is_digit bs) bs)
 
+-- A number under its sign.
 abbrev pub with_sign : (ℕ → ℤ) → Result (Option ℕ) ValueFault → Result (Option ℤ) ValueFault
 with_sign sign (Ok n) = Ok (option_map sign n)
 with_sign sign (Err fault) = Err fault

@@ -23,6 +23,7 @@ use Rattle.flow_model.specs.Mapping.{pairs_of}
 use Rattle.flow_model.specs.Value.{view, viewed}
 use Rattle.flow_model.specs.declared.value.Node.{Node}
 
+-- A kind, its text as bytes.
 abbrev pub kind_seen : lent.Kind → Kind
 kind_seen variant.Null = null
 kind_seen (variant.Truth b) = truth b
@@ -31,21 +32,25 @@ kind_seen (variant.Text bytes) = text bytes.now
 kind_seen variant.List = list
 kind_seen variant.Map = plain_kind.map
 
+-- The value that an item stands for.
 abbrev pub item_seen : item.Item → plain.Plain
 item_seen (Lent node) = view node.now
 item_seen (Made node) = view node
 
+-- The values that items stand for.
 abbrev pub items_seen : List item.Item → List plain.Plain
 items_seen vs = map item_seen vs
 
+-- What a chain has come to, as values.
 abbrev pub found_seen : found.Found → chain.Found
 found_seen (found_variant.One v) = chain.one (item_seen v)
 found_seen (found_variant.Filtered vs) = chain.filtered (items_seen vs.items)
 
--- A node or an item that may be there.
+-- A node that may be there.
 abbrev pub node_seen : Option (Bor Node) → Option plain.Plain
 node_seen node = option_map view (option_copied node)
 
+-- An item that may be there.
 abbrev pub maybe_seen : Option item.Item → Option plain.Plain
 maybe_seen v = option_map item_seen v
 

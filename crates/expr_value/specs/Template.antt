@@ -8,6 +8,7 @@ use Rattle.expr_value.specs.Limit.{limited}
 use Rattle.expr_value.specs.declared.status.Status.{Status}
 use Rattle.flow_model.specs.declared.reply.ValueFault.{ValueFault}
 
+-- The text of a value, or the fault.
 abbrev pub text_answer : Answer → Result (List ℕ) ValueFault
 text_answer (Ok v) = Ok (text_of_value v)
 text_answer (Err fault) = Err fault
@@ -17,6 +18,7 @@ abbrev pub piece_text : Contexts → Status → Piece → Result (List ℕ) Valu
 piece_text c s (plain bytes) = Ok bytes
 piece_text c s (marked e) = text_answer (value c s e)
 
+-- A text before the others, or the first fault.
 abbrev pub with_text : Result (List ℕ) ValueFault → Result (List ℕ) ValueFault → Result (List ℕ) ValueFault
 with_text (Ok front) (Ok bytes) = Ok (front ++ bytes)
 with_text (Ok front) (Err fault) = Err fault
@@ -27,6 +29,7 @@ abbrev pub pieces_text : Contexts → Status → List Piece → Result (List ℕ
 pieces_text c s [] = Ok []
 pieces_text c s (p ∷ ps) = with_text (piece_text c s p) (pieces_text c s ps)
 
+-- The text as a value, or the fault.
 abbrev pub limited_text : Result (List ℕ) ValueFault → Answer
 limited_text (Ok bytes) = limited bytes
 limited_text (Err fault) = Err fault
