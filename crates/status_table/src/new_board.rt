@@ -8,65 +8,75 @@ use flow_model::{
 };
 use std::alloc::{AllocError, Global};
 
-/// A leg that has not asked.
-fn new_leg(alloc: Global, combo: &Combo) -> Leg
-    ensures { result ≡ spec.new_leg combo.now }
-{
-    let _combo = combo;
-    let steps = Sequence::empty(alloc);
-    let outputs = Mapping::empty(alloc);
-    Leg {
-        state: LegState::Fresh,
-        stop: false,
-        group: None,
-        steps,
-        outputs,
-    }
+/// What is played of a part of a plan.
+trait Played<P> {
+    /// How it starts.
+    ghost started: { P → Self };
+
+    fn start(alloc: Global, plan: &P) -> Result<Self, AllocError>
+    where
+        Self: Sized,
+        ensures { IfOk result (λ made. made ≡ started plan.now) };
 }
 
-/// A job that was not judged.
-fn new_job(alloc: Global, plan: &JobPlan) -> Result<Job, AllocError>
-    ensures { IfOk result (λ job. job ≡ spec.new_job plan.now) }
+/// What is played of each of some parts, as it starts.
+fn start_each<P, T: Played<P> + Drop>(alloc: Global, plans: &[P]) -> Result<Sequence<T>, AllocError>
+    ensures { IfOk result (λ made. made ≡ map T.started plans.now) }
 {
-    let combos = plan.legs.as_slice();
-    let mut legs = Vec::with_capacity(alloc, combos.len())?;
-    for combo in combos {
-        legs.push(new_leg(alloc, combo))?;
-    }
-    Ok(Job {
-        state: JobState::Unjudged,
-        legs: Sequence::new(legs),
-    })
-}
-
-/// A run that was not opened.
-fn new_run(alloc: Global, plan: &RunPlan) -> Result<Run, AllocError>
-    ensures { IfOk result (λ run. run ≡ spec.new_run plan.now) }
-{
-    let plans = plan.jobs.as_slice();
-    let mut jobs = Vec::with_capacity(alloc, plans.len())?;
+    let mut made = Vec::with_capacity(alloc, plans.len())?;
     for plan in plans {
-        jobs.push(new_job(alloc, plan)?)?;
+        made.push(T::start(alloc, plan)?)?;
     }
-    Ok(Run {
-        state: RunState::New,
-        stop: false,
-        group: None,
-        jobs: Sequence::new(jobs),
-    })
+    Ok(Sequence::new(made))
+}
+
+impl Played<Combo> for Leg {
+    ghost started = { spec.new_leg };
+
+    fn start(alloc: Global, _: &Combo) -> Result<Leg, AllocError> {
+        let steps = Sequence::empty(alloc);
+        let outputs = Mapping::empty(alloc);
+        Ok(Leg {
+            state: LegState::Fresh,
+            stop: false,
+            group: None,
+            steps,
+            outputs,
+        })
+    }
+}
+
+impl Played<JobPlan> for Job {
+    ghost started = { spec.new_job };
+
+    fn start(alloc: Global, plan: &JobPlan) -> Result<Job, AllocError> {
+        let legs = start_each(alloc, plan.legs.as_slice())?;
+        Ok(Job {
+            state: JobState::Unjudged,
+            legs,
+        })
+    }
+}
+
+impl Played<RunPlan> for Run {
+    ghost started = { spec.new_run };
+
+    fn start(alloc: Global, plan: &RunPlan) -> Result<Run, AllocError> {
+        let jobs = start_each(alloc, plan.jobs.as_slice())?;
+        Ok(Run {
+            state: RunState::New,
+            stop: false,
+            group: None,
+            jobs,
+        })
+    }
 }
 
 /// A board of a plan on which all is new.
 pub(crate) fn make_board(alloc: Global, plan: &Plan) -> Result<Board, AllocError>
     ensures { IfOk result (λ board. board ≡ spec.new_board plan.now) }
 {
-    let plans = plan.runs.as_slice();
-    let mut runs = Vec::with_capacity(alloc, plans.len())?;
-    for plan in plans {
-        runs.push(new_run(alloc, plan)?)?;
-    }
-    Ok(Board {
-        runs: Sequence::new(runs),
-        ends: Sequence::empty(alloc),
-    })
+    let runs = start_each(alloc, plan.runs.as_slice())?;
+    let ends = Sequence::empty(alloc);
+    Ok(Board { runs, ends })
 }
