@@ -167,10 +167,7 @@ impl<A: FromOutline + Drop, R: OutlineFields> OutlineFields for (A, R) {
         members: &[(&str, json::Value<'_>)],
         keys: &[&str],
     ) -> Result<(A, R), Unread> {
-        let [member, members @ ..] = members else {
-            return Err(refused(alloc, ""));
-        };
-        let [key, keys @ ..] = keys else {
+        let ([member, members @ ..], [key, keys @ ..]) = (members, keys) else {
             return Err(refused(alloc, ""));
         };
         if member.0 != *key {
