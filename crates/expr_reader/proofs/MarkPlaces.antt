@@ -8,7 +8,7 @@ use Rattle.std.proofs.lemmas.Str.{IsCharBoundary-end, IsCharBoundary-before_asci
 use Rattle.std.specs.Option.{option_map}
 use Rattle.std.specs.Str.{IsUtf8, IsCharBoundary}
 use Rattle.std.specs.Prelude.{codes}
-use Rattle.expr_reader.specs.Template.{begins_mark, has_marker, begins_end, open_after, end_place, EndsPlain}
+use Rattle.expr_reader.specs.Template.{begins_mark, has_marker, HoldsMarker, begins_end, open_after, end_place, EndsPlain}
 use Rattle.expr_reader.specs.TemplateReading.{mark_place}
 use Rattle.expr_reader.proofs.Runs.{if_holds}
 
@@ -39,6 +39,28 @@ mark_front (a ∷ b ∷ c ∷ bs) h =
     let y : 123 ≡ b = eqb-true 123 b (and_left (nat_eq 123 b) (nat_eq 123 c && true) tail) in
     let z : 123 ≡ c = eqb-true 123 c (and_left (nat_eq 123 c) true (and_right (nat_eq 123 b) (nat_eq 123 c && true) tail)) in
     cc
+
+-- The test finds a mark.
+marker_at : (b : ℕ) (bs : List ℕ) (t : Bool) → begins_mark (b ∷ bs) ≡ t → (t || has_marker bs) ≡ true → (has_marker bs ≡ true → HoldsMarker bs) → HoldsMarker (b ∷ bs)
+marker_at b bs true here h later = record { before = []; after = drop 3 (b ∷ bs); same = mark_front (b ∷ bs) here }
+marker_at b bs false here h later = let found = later h in record { before = b ∷ found.before; after = found.after; same = ap (λ (z : List ℕ). b ∷ z) found.same }
+
+pub marker_found : (text : List ℕ) → has_marker text ≡ true → HoldsMarker text
+marker_found [] h = cc
+marker_found (b ∷ bs) h = marker_at b bs (begins_mark (b ∷ bs)) refl h (marker_found bs)
+
+or_true : (t : Bool) → (t || true) ≡ true
+or_true true = refl
+or_true false = refl
+
+marker_there : (before after : List ℕ) → has_marker (before ++ (codes "${{" ++ after)) ≡ true
+marker_there [] after = refl
+marker_there (b ∷ before) after =
+    let text : List ℕ = before ++ (codes "${{" ++ after) in
+    ap (λ (t : Bool). begins_mark (b ∷ text) || t) (marker_there before after) ∙ or_true (begins_mark (b ∷ text))
+
+pub marker_held : (text : List ℕ) → HoldsMarker text → has_marker text ≡ true
+marker_held text h = ap has_marker h.same ∙ marker_there h.before h.after
 
 -- No mark begins across the end of plain text.
 pub no_mark_over : (b : ℕ) (p rest : List ℕ) → begins_mark (b ∷ p) ≡ false → EndsPlain rest → begins_mark ((b ∷ p) ++ rest) ≡ false

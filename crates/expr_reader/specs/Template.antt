@@ -24,6 +24,12 @@ abbrev pub has_marker : List ℕ → Bool
 has_marker [] = false
 has_marker (b ∷ bs) = begins_mark (b ∷ bs) || has_marker bs
 
+-- What stands before a ${{ of the text, and what follows it.
+pub record HoldsMarker (text : List ℕ) : Type 0 where
+  pub before : List ℕ
+  pub after : List ℕ
+  pub same : text ≡ before ++ (codes "${{" ++ after)
+
 -- }} stands at the front.
 abbrev pub begins_end : List ℕ → Bool
 begins_end bs = starts_with nat_eq bs (codes "}}")

@@ -1,10 +1,13 @@
 //! Reads the expression language of GitHub Actions: single expressions, templates and conditions.
 //!
-//! `read_expr` answers a tree exactly where the text spells one within the limits, and no text spells two;
-//! `read_template` and `read_condition` do the same for texts with expressions in them. A fault that is
-//! answered stands in the text. `fold` and `same_text` say what "ignoring case" means, `names_status`
-//! whether a template calls a status function. What a text spells is defined in `specs/Spells.antt` and
-//! `specs/Template.antt`, over `specs/Grammar.antt` and `specs/Spelling.antt`. The crate stands on no other.
+//! `read_expr` answers a tree exactly where the text spells one within the limits, and no text spells
+//! two; `read_template` and `read_condition` do the same for texts with expressions in them. A fault that
+//! is answered stands in the text; one of the grammar stands only where even without limits no tree
+//! begins so. `fold` and `same_text` say what "ignoring case" means, `names_status` whether a template
+//! calls a status function, `has_marker` whether a text holds `${{`, `is_blank` whether it is all white
+//! space. What a text spells is defined in `specs/Spells.antt` and `specs/Template.antt`, over
+//! `specs/Grammar.antt` and `specs/Spelling.antt`, and as functions in `specs/Accepts.antt`. The crate
+//! stands on no other.
 #![tactic(auto)]
 
 mod bytes;
@@ -32,7 +35,7 @@ pub use reader::{one_reading, read_expr};
 pub use status::names_status;
 pub use template::{Piece, Template};
 pub use templates::{
-    condition_reading, condition_test, one_condition, one_template, read_condition, read_template,
-    template_reading, template_test,
+    condition_reading, condition_test, marker_test, one_condition, one_template, read_condition,
+    read_template, template_reading, template_test,
 };
 pub use tree::{Context, Equality, Function, Literal, Relation, Tree, Wildcard};

@@ -1,7 +1,7 @@
 //! Reads templates and conditions.
 
 ghost use Rattle.std.specs.Prelude.{◌≡◌, ℕ, ◌+◌, ◌^◌, ◌<◌, ◌↔◌, IsTrue, List, length, IfOk, IfErr};
-ghost use Rattle.expr_reader.specs.Template.{Piece as PieceOf, SpellsTemplate, IsTemplate, SpellsCondition, IsCondition};
+ghost use Rattle.expr_reader.specs.Template.{Piece as PieceOf, SpellsTemplate, IsTemplate, SpellsCondition, IsCondition, has_marker as has_marker_of, HoldsMarker};
 ghost use Rattle.expr_reader.specs.Accepts.{is_template, is_condition, template_read, condition_read, TemplatesAreRead, ConditionsAreRead, ReadsAs};
 ghost use Rattle.expr_reader.specs.Faults.{Answers};
 ghost use Rattle.expr_reader.specs.TemplateReading.{read_trimmed};
@@ -114,6 +114,11 @@ pub fn template_reading()
 /// What `condition_read` gives for a text is what the text spells as a condition.
 pub fn condition_reading()
     ensures { ConditionsAreRead }
+{}
+
+/// The test `has_marker` tells the texts in which `${{` stands.
+pub fn marker_test()
+    ensures { (text : List ℕ) → IsTrue (has_marker_of text) ↔ HoldsMarker text }
 {}
 
 /// The test `is_template` tells the templates.
