@@ -18,7 +18,7 @@ use Rattle.expr_reader.specs.Names.{context_name}
 use Rattle.expr_reader.specs.declared.tree.Function.{Function}
 use Rattle.expr_reader.specs.declared.tree.Function.TheVariants.{Contains, StartsWith, EndsWith, Format, Join, ToJson, FromJson, Success, Failure, Cancelled, Always}
 use Rattle.expr_value.proofs.Runs.{if_holds}
-use Rattle.expr_value.specs.Context.{Contexts, or_empty, context_value}
+use Rattle.expr_value.specs.Context.{Contexts, or_empty}
 use Rattle.expr_value.specs.Dereference.{Found, one, filtered, outside, first_at, is_same, is_alike, property_in, property_of, item_at, item_found, index_of, contents, or_null, property_found, one_or_null, with_found, index_each, filtered_of, index_found, all_found}
 use Rattle.expr_value.specs.Evaluate.{Answer, Chain, constant_value, ended, begun, then_value, all_values, call_value, is_truthy, conjunction, disjunction, truth_answer, opposite_value, relation_value, equality_value, of_two, property_chain, index_chain, all_chain, chain, answers, value}
 use Rattle.expr_value.specs.Convert.{text_of, number_of as number_of_kind}
