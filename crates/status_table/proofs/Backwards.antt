@@ -2,15 +2,14 @@
 use Rattle.std.proofs.Common.{◌≡◌, ℕ, zero, suc, ◌+◌, ◌-◌, ◌<◌, ◌≤◌, ◌&&◌, ◌||◌, Bool, true, false, not, List, [], ◌∷◌, ◌++◌, Option, Some, None, length, map, option_map, slice_get, get_or, nat_le, nat_lt, if◌then◌else◌, ◌⊎◌, inl, inr, ap, subst, sym, refl, ◌∙◌, arith}
 use Rattle.std.specs.List.{list_all, list_any, Contains}
 use Rattle.std.proofs.lemmas.Bool.{true≢false, cases_lt, leb-true, le-leb}
-use Rattle.std.proofs.lemmas.Bool.Decides.{nat_tests}
-use Rattle.std.proofs.lemmas.Option.{slice_get-map, slice_get_within}
+use Rattle.std.proofs.lemmas.Option.{slice_get-map}
 use Rattle.flow_model.specs.declared.plan.JobPlan.{JobPlan}
 use Rattle.flow_model.specs.declared.event.Outcome.{Outcome}
-use Rattle.status_table.specs.Ancestors.{IsAncestor, need, of_need, SomeAncestor, EachAncestor, SaysOf, NeedsPointBack, StandsAfterNeeds, any_need}
+use Rattle.status_table.specs.Ancestors.{IsAncestor, need, of_need, SomeAncestor, SaysOf, NeedsPointBack, StandsAfterNeeds, any_need}
 use Rattle.status_table.specs.Derived.{holds, holds_at, places_needed, needs_at, some_ancestor, is_success, is_failure, job_results, status_by, ancestors_status, job_status}
 use Rattle.status_table.specs.Place.{JobAt}
 use Rattle.status_table.specs.declared.status.Status.TheVariants as status
-use Rattle.status_table.proofs.Lists.{and-left, and-right, and-both, get-left, no_some}
+use Rattle.status_table.proofs.Lists.{and-left, and-right, and-both, get-left}
 
 -- ---- tests of lists
 

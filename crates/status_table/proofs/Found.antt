@@ -1,11 +1,9 @@
 -- What stands where a job or a leg is found.
-use Rattle.std.proofs.Common.{◌≡◌, ℕ, Option, Some, slice_get, refl, ap, subst, sym, ◌∙◌}
+use Rattle.std.proofs.Common.{◌≡◌, ℕ, Some, slice_get, refl, ap, subst, sym, ◌∙◌}
 use Rattle.flow_model.specs.Numbers.{board_legs}
 use Rattle.flow_model.specs.declared.plan.Plan.{Plan}
-use Rattle.flow_model.specs.declared.plan.RunPlan.{RunPlan}
 use Rattle.flow_model.specs.declared.plan.JobPlan.{JobPlan}
 use Rattle.flow_model.specs.declared.board.Board.{Board}
-use Rattle.flow_model.specs.declared.board.Run.{Run}
 use Rattle.flow_model.specs.declared.board.Job.{Job}
 use Rattle.flow_model.specs.declared.board.Leg.{Leg}
 use Rattle.status_table.specs.Numbered.{leg_there}

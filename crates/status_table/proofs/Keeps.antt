@@ -1,6 +1,6 @@
 -- Each row keeps the shape of a board, and its ends.
-use Rattle.std.proofs.Common.{◌≡◌, ◌≢◌, ℕ, zero, suc, pos, negsuc, ◌+◌, ◌<◌, ◌≤◌, ◌==◌, ◌++◌, ◌&&◌, Bool, true, false, not, List, [], ◌∷◌, Option, Some, None, Result, Ok, Err, length, slice_get, count_by, cond, nat_le, nat_lt, if◌then◌else◌, inl, inr, ap, subst, sym, refl, ◌∙◌, arith}
-use Rattle.std.specs.List.{flat_map, list_all}
+use Rattle.std.proofs.Common.{◌≡◌, ℕ, ◌+◌, ◌<◌, ◌≤◌, ◌==◌, ◌++◌, ◌&&◌, Bool, true, false, not, List, [], ◌∷◌, Option, Some, None, Result, Ok, Err, length, slice_get, count_by, cond, nat_le, nat_lt, if◌then◌else◌, inl, inr, ap, subst, sym, refl, ◌∙◌, arith}
+use Rattle.std.specs.List.{flat_map}
 use Rattle.std.proofs.lemmas.Bool.{cases_eq, le-leb, leb-true}
 use Rattle.std.proofs.lemmas.Bool.Decides.{nat_tests}
 use Rattle.std.proofs.lemmas.List.{length-append}
@@ -8,7 +8,6 @@ use Rattle.std.proofs.lemmas.List.Sums.{sum_by-append}
 use Rattle.std.proofs.lemmas.Option.{slice_get_within}
 use Rattle.flow_model.specs.Numbers.{board_legs}
 use Rattle.flow_model.specs.declared.plan.Plan.{Plan}
-use Rattle.flow_model.specs.declared.plan.RunPlan.{RunPlan}
 use Rattle.flow_model.specs.declared.plan.JobPlan.{JobPlan}
 use Rattle.flow_model.specs.declared.plan.StepPlan.{StepPlan}
 use Rattle.flow_model.specs.declared.board.Board.{Board}
@@ -17,7 +16,6 @@ use Rattle.flow_model.specs.declared.board.RunState.{RunState}
 use Rattle.flow_model.specs.declared.board.RunState.TheVariants as run_state
 use Rattle.flow_model.specs.declared.board.Job.{Job}
 use Rattle.flow_model.specs.declared.board.JobState.{JobState}
-use Rattle.flow_model.specs.declared.board.JobState.TheVariants as job_state
 use Rattle.flow_model.specs.declared.board.Leg.{Leg}
 use Rattle.flow_model.specs.declared.board.LegState.{LegState}
 use Rattle.flow_model.specs.declared.board.LegState.TheVariants as leg_state
@@ -25,22 +23,19 @@ use Rattle.flow_model.specs.declared.board.DoneStep.{DoneStep}
 use Rattle.flow_model.specs.declared.event.Answer.{Answer}
 use Rattle.flow_model.specs.declared.event.Event.{Event}
 use Rattle.flow_model.specs.declared.event.Event.TheVariants as event
-use Rattle.flow_model.specs.declared.event.Outcome.{Outcome}
 use Rattle.flow_model.specs.declared.event.Outcome.TheVariants as outcome
 use Rattle.flow_model.specs.declared.reply.What.TheVariants as what
-use Rattle.flow_model.specs.Answer.{is_well_formed}
 use Rattle.status_table.specs.declared.fault.EventFault.{EventFault}
 use Rattle.status_table.specs.declared.fault.EventFault.TheVariants as fault
 use Rattle.status_table.specs.declared.place.JobPlace.{JobPlace}
-use Rattle.status_table.specs.declared.place.LegPlace.{LegPlace}
-use Rattle.status_table.specs.Change.{changed, with_run, with_job, with_leg}
+use Rattle.status_table.specs.Change.{changed, with_leg}
 use Rattle.status_table.specs.Derived.{is_ended, is_going, is_open, is_fresh, is_full, is_stopping, jobs_have_ended, run_result, leg_result}
 use Rattle.status_table.specs.Ends.{times_ended, EndOnce}
 use Rattle.status_table.specs.Place.{RunAt, JobAt, LegAt, run_at, job_at, leg_at}
-use Rattle.status_table.specs.Row.{Row, Beginning, calls, skips, faults, row, event_row, reply, run_state_set, job_state_set, leg_state_set, step_done, leg_ended, open_run, open_found, judge_job, judge_found, judgement, ask_leg, ask_found, leg_enters, take_leg, take_found, idle_owner, calling_owner, next_step, skipped_step, failed_step, begin_leg, begin_found, beginning_by, beginning, step_beginning, end_leg, end_found, ending, ending_by, answered_step, finish_leg, finish_found, finishing, finishing_by, ended_state, leg_outputs, close_run, close_found, close_waiting}
+use Rattle.status_table.specs.Row.{Row, Beginning, calls, skips, faults, row, event_row, reply, run_state_set, job_state_set, leg_state_set, step_done, leg_ended, open_run, open_found, judge_job, judge_found, judgement, ask_found, leg_enters, take_leg, take_found, idle_owner, calling_owner, next_step, skipped_step, failed_step, begin_leg, begin_found, beginning_by, end_leg, end_found, ending_by, finish_leg, finish_found, finishing_by, ended_state, leg_outputs, close_run, close_found, close_waiting}
 use Rattle.status_table.specs.Shape.{open_calls, steps_begun, has_room, JobShape, RunShape, HasShape}
 use Rattle.status_table.proofs.Found.{LegStands, leg_stands, leg_item}
-use Rattle.status_table.proofs.Lists.{same_some, no_some, and-right, changed-there, changed-elsewhere, length-changed, flat_map-kept, flat_map-twice, zip-changed, zip-get, all-changed, all-get}
+use Rattle.status_table.proofs.Lists.{same_some, no_some, and-right, changed-there, changed-elsewhere, length-changed, flat_map-kept, flat_map-twice, zip-changed, all-changed, all-get}
 use Rattle.status_table.proofs.Numbers.{board_legs-changed}
 
 -- a board that has its plan's shape, and whose ends are the legs that are Ended

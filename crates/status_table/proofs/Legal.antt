@@ -1,5 +1,5 @@
 -- What each legal list of entries leads to.
-use Rattle.std.proofs.Common.{◌≡◌, ℕ, List, [], ◌∷◌, ◌++◌, Option, Some, None, Result, Ok, Err, map, option_map, length, slice_get, ap, subst, sym, refl, ◌∙◌, arith}
+use Rattle.std.proofs.Common.{◌≡◌, ℕ, List, [], ◌∷◌, Option, Some, None, Result, Ok, Err, map, option_map, length, slice_get, ap, subst, sym, refl, ◌∙◌, arith}
 use Rattle.std.specs.List.{flat_map}
 use Rattle.std.proofs.lemmas.Bool.{le-leb}
 use Rattle.std.proofs.lemmas.Option.{slice_get-map}
@@ -12,13 +12,13 @@ use Rattle.flow_model.specs.declared.event.Entry.{Entry}
 use Rattle.flow_model.specs.declared.event.Event.{Event}
 use Rattle.flow_model.specs.declared.reply.Reply.{Reply}
 use Rattle.status_table.specs.declared.fault.EventFault.{EventFault}
-use Rattle.status_table.specs.Answers.{Refuses, Answers}
+use Rattle.status_table.specs.Answers.{Answers}
 use Rattle.flow_model.specs.Offered.{IsOffered}
-use Rattle.status_table.specs.Ends.{times_ended, EndOnce}
+use Rattle.status_table.specs.Ends.{times_ended}
 use Rattle.status_table.specs.InPlay.{InPlay}
 use Rattle.status_table.specs.Row.{Row, row, event_row}
 use Rattle.status_table.specs.Runs.{new_leg, new_job, new_run, new_board, then_after, after_from, after}
-use Rattle.status_table.specs.Shape.{has_room, JobShape, RunShape, HasShape}
+use Rattle.status_table.specs.Shape.{has_room, JobShape, RunShape}
 use Rattle.status_table.proofs.Keeps.{Fits, Keeps, event_keeps, row_keeps}
 use Rattle.status_table.proofs.Lists.{same_some, no_some, flat_map-map, zip-map, all-map}
 

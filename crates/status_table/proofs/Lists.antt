@@ -1,7 +1,7 @@
 -- A list with one item changed, and lists made of others.
-use Rattle.std.proofs.Common.{◌≡◌, ◌≢◌, ℕ, zero, suc, ◌+◌, ◌-◌, ◌<◌, ◌≤◌, Bool, true, false, ◌&&◌, List, [], ◌∷◌, ◌++◌, Option, Some, None, length, slice_get, map, option_map, ap, subst, sym, refl, ◌∙◌, arith}
+use Rattle.std.proofs.Common.{◌≡◌, ◌≢◌, ℕ, zero, suc, ◌-◌, ◌<◌, ◌≤◌, Bool, true, false, ◌&&◌, List, [], ◌∷◌, ◌++◌, Option, Some, None, length, slice_get, map, ap, subst, sym, refl, ◌∙◌, arith}
 use Rattle.std.specs.List.{flat_map, list_all, AllZip}
-use Rattle.std.proofs.lemmas.List.{append_assoc, length-append, map-append}
+use Rattle.std.proofs.lemmas.List.{map-append}
 use Rattle.std.proofs.lemmas.List.Concat.{flat_map-append}
 use Rattle.std.proofs.lemmas.Bool.{true≢false}
 use Rattle.status_table.specs.Change.{put, changed}
@@ -106,6 +106,18 @@ zip-get R (p ∷ ps) [] i q x there at h = absurd h
 zip-get {A} {B} R (p ∷ ps) (y ∷ ys) zero q x there at h =
     subst (λ (z : B). R q z) (same_some y x at) (subst (λ (z : A). R z y) (same_some p q there) h.0)
 zip-get R (p ∷ ps) (y ∷ ys) (suc i) q x there at h = zip-get R ps ys i q x there at h.1
+
+pub zip-length : {A B : Type 0} (R : A → B → Type 0) (ps : List A) (xs : List B) → AllZip R ps xs → length ps ≡ length xs
+zip-length R [] [] h = refl
+zip-length R [] (x ∷ xs) h = absurd h
+zip-length R (q ∷ ps) [] h = absurd h
+zip-length R (q ∷ ps) (x ∷ xs) h = ap suc (zip-length R ps xs h.1)
+
+pub zip-append : {A B : Type 0} (R : A → B → Type 0) (ps qs : List A) (xs ys : List B) → AllZip R ps xs → AllZip R qs ys → AllZip R (ps ++ qs) (xs ++ ys)
+zip-append R [] qs [] ys h k = k
+zip-append R [] qs (x ∷ xs) ys h k = absurd h
+zip-append R (p ∷ ps) qs [] ys h k = absurd h
+zip-append R (p ∷ ps) qs (x ∷ xs) ys h k = (h.0, zip-append R ps qs xs ys h.1 k)
 
 pub zip-map : {A B : Type 0} (R : A → B → Type 0) (f : A → B) (xs : List A) → ((x : A) → R x (f x)) → AllZip R xs (map f xs)
 zip-map R f [] h = tt

@@ -2,26 +2,28 @@
 use Rattle.std.proofs.Common.{◌≡◌, ℕ, zero, suc, ◌+◌, ◌-◌, ◌<◌, ◌≤◌, ◌==◌, ◌&&◌, Bool, true, false, List, [], ◌∷◌, ◌++◌, Option, Some, None, length, slice_get, nat_le, nat_lt, codes, decimal, ap, subst, sym, refl, ◌∙◌, arith}
 use Rattle.std.specs.List.{flat_map, list_all, AllZip}
 use Rattle.std.proofs.lemmas.Bool.Decides.{nat_tests}
-use Rattle.flow_model.specs.Numbers.{plan_jobs}
-use Rattle.status_table.specs.Numbered.{IsNumberedIn}
+use Rattle.flow_model.specs.Numbers.{plan_jobs, board_jobs}
+use Rattle.status_table.specs.Numbered.{HasAsMany, IsNumberedIn}
 use Rattle.std.proofs.lemmas.Bool.{leb-true, le-leb}
+use Rattle.std.proofs.lemmas.List.{length-append}
 use Rattle.std.proofs.lemmas.Option.{slice_get_within}
 use Rattle.flow_model.specs.Found.{Path, rule, or_else, under, each_pair, if_there}
 use Rattle.flow_model.specs.Name.{is_id}
-use Rattle.flow_model.specs.Offered.{IsOffered, plan_offer, refusal}
+use Rattle.flow_model.specs.Offered.{IsOffered, plan_offer}
 use Rattle.flow_model.specs.Rules.{all_there, is_condition, is_variable, group_rules, legs_rules, is_job_output, steps_rules, is_flag, are_distinct, job_ids, roots_rules, legs_of_runs, ascend_between, job_rules, jobs_rules, run_rules, runs_rules, plan_rules}
 use Rattle.flow_model.specs.declared.plan.Plan.{Plan}
 use Rattle.flow_model.specs.declared.plan.RunPlan.{RunPlan}
 use Rattle.flow_model.specs.declared.plan.JobPlan.{JobPlan}
 use Rattle.flow_model.specs.declared.board.Board.{Board}
 use Rattle.flow_model.specs.declared.board.Run.{Run}
+use Rattle.flow_model.specs.declared.board.Job.{Job}
 use Rattle.status_table.specs.Ancestors.{NeedsPointBack, StandsAfterNeeds}
 use Rattle.status_table.specs.InPlay.{InPlay}
 use Rattle.status_table.specs.Place.{JobAt, job_at}
 use Rattle.status_table.specs.Row.{first_of}
 use Rattle.status_table.specs.Shape.{JobShape, RunShape, HasShape}
 use Rattle.status_table.proofs.Found.{job_stands}
-use Rattle.status_table.proofs.Lists.{same_some, no_some, get-left, get-right, and-left, and-right, and-both}
+use Rattle.status_table.proofs.Lists.{same_some, no_some, get-left, get-right, zip-length, zip-append, and-left, and-right, and-both}
 use Rattle.status_table.proofs.Numbers.{jobs_before, number_of_job}
 
 -- ---- a search that finds nothing
@@ -115,12 +117,6 @@ each_run first k (r ∷ rs) h (suc i) run is =
 
 -- ---- the same by the places of a board
 
-zip-length : {A B : Type 0} (R : A → B → Type 0) (ps : List A) (xs : List B) → AllZip R ps xs → length ps ≡ length xs
-zip-length R [] [] h = refl
-zip-length R [] (x ∷ xs) h = absurd h
-zip-length R (q ∷ ps) [] h = absurd h
-zip-length R (q ∷ ps) (x ∷ xs) h = ap suc (zip-length R ps xs h.1)
-
 planned-jobs_before : (i : ℕ) (plans : List RunPlan) (runs : List Run) → AllZip RunShape plans runs → planned_before i plans ≡ jobs_before i runs
 planned-jobs_before zero plans runs h = refl
 planned-jobs_before (suc i) [] [] h = refl
@@ -202,3 +198,27 @@ is_numbered_in p b j at in_play is =
       number = number_rule (planned_before at.place.run p.runs) (planned_before at.place.run p.runs + at.place.job) at.plan
           (rules_beside p b j at in_play.offered is at.place.job at.plan stands.plan) ∙ sym number;
     }
+
+jobs_beside : (plans : List RunPlan) (runs : List Run) → AllZip RunShape plans runs
+    → AllZip JobShape (flat_map (λ (x : RunPlan). x.jobs) plans) (flat_map (λ (x : Run). x.jobs) runs)
+jobs_beside [] [] h = tt
+jobs_beside [] (x ∷ xs) h = absurd h
+jobs_beside (q ∷ ps) [] h = absurd h
+jobs_beside (q ∷ ps) (x ∷ xs) h =
+    zip-append JobShape q.jobs (flat_map (λ (y : RunPlan). y.jobs) ps) x.jobs (flat_map (λ (y : Run). y.jobs) xs) h.0 (jobs_beside ps xs h.1)
+
+as_many_legs : (plans : List JobPlan) (jobs : List Job) → AllZip JobShape plans jobs
+    → length (flat_map (λ (x : Job). x.legs) jobs) ≡ length (flat_map (λ (x : JobPlan). x.legs) plans)
+as_many_legs [] [] h = refl
+as_many_legs [] (x ∷ xs) h = absurd h
+as_many_legs (q ∷ ps) [] h = absurd h
+as_many_legs (q ∷ ps) (x ∷ xs) h =
+    let here = h.0.legs in let later = as_many_legs ps xs h.1 in
+    let made = length-append x.legs (flat_map (λ (y : Job). y.legs) xs) in
+    let planned = length-append q.legs (flat_map (λ (y : JobPlan). y.legs) ps) in
+    omega (arith, here, later, made, planned)
+
+pub has_as_many : (p : Plan) (b : Board) → HasShape p b → HasAsMany p b
+has_as_many p b shape =
+    let beside = jobs_beside p.runs b.runs shape in
+    record { jobs = sym (zip-length JobShape (plan_jobs p) (board_jobs b) beside); legs = as_many_legs (plan_jobs p) (board_jobs b) beside }

@@ -1,6 +1,6 @@
 -- The places of the jobs and legs of a board agree with the order in which they are numbered.
 use Rattle.std.specs.Prelude.{◌≡◌, ℕ, Option, Some, length, nat_lt, slice_get, is_some}
-use Rattle.flow_model.specs.Numbers.{plan_jobs, board_jobs, board_legs}
+use Rattle.flow_model.specs.Numbers.{plan_jobs, plan_legs, board_jobs, board_legs}
 use Rattle.flow_model.specs.declared.plan.Plan.{Plan}
 use Rattle.flow_model.specs.declared.board.Board.{Board}
 use Rattle.flow_model.specs.declared.board.Job.{Job}
@@ -31,3 +31,8 @@ pub record LegsAreNumbered (b : Board) : Type 0 where
 pub record IsNumberedIn (p : Plan) (n : ℕ) (at : JobAt) : Type 0 where
   pub item : slice_get (plan_jobs p) n ≡ Some at.plan
   pub number : at.plan.number ≡ n
+
+-- A board has as many jobs and legs as its plan.
+pub record HasAsMany (p : Plan) (b : Board) : Type 0 where
+  pub jobs : length (board_jobs b) ≡ length (plan_jobs p)
+  pub legs : length (board_legs b) ≡ length (plan_legs p)

@@ -251,7 +251,8 @@ fn step_call(
     at: &SeenLeg,
     step: &StepPlan,
 ) -> Result<StepCall, AllocError>
-    ensures { IfOk result (λ call. spec.call_beginning number (leg_seen at.now) step.now ≡ spec.calls call) }
+    ensures { IfOk result
+        (λ call. spec.call_beginning number (leg_seen at.now) step.now ≡ spec.calls call) }
 {
     let work = work_value(alloc, &step.work)?;
     let env = Mapping::empty(alloc);
@@ -410,7 +411,8 @@ pub(crate) fn end(
     number: u64,
     answer: Answer,
 ) -> Result<Reply, EventFault>
-    ensures { Answers (spec.end_row plan.now board.old worker number answer) board.old result board.new }
+    ensures { Answers (spec.end_row plan.now board.old worker number answer)
+        board.old result board.new }
 {
     let Some(at) = find_leg(plan, board, number as usize) else {
         return Err(EventFault::NoSuch);
@@ -460,7 +462,8 @@ pub(crate) fn finish(
     worker: u8,
     number: u64,
 ) -> Result<Reply, EventFault>
-    ensures { Answers (spec.finish_row plan.now board.old worker number) board.old result board.new }
+    ensures { Answers (spec.finish_row plan.now board.old worker number)
+        board.old result board.new }
 {
     let Some(at) = find_leg(plan, board, number as usize) else {
         return Err(EventFault::NoSuch);

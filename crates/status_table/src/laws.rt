@@ -7,7 +7,7 @@ ghost use Rattle.status_table.specs.Ancestors.{SaysOf};
 ghost use Rattle.status_table.specs.Derived.{job_status};
 ghost use Rattle.status_table.specs.Ends.{EndOnce};
 ghost use Rattle.status_table.specs.InPlay.{InPlay};
-ghost use Rattle.status_table.specs.Numbered.{IsNumberedIn, JobsAreNumbered, LegsAreNumbered};
+ghost use Rattle.status_table.specs.Numbered.{HasAsMany, IsNumberedIn, JobsAreNumbered, LegsAreNumbered};
 ghost use Rattle.status_table.specs.Place.{JobAt, job_at};
 ghost use Rattle.status_table.specs.Row.{first_of};
 ghost use Rattle.status_table.specs.Runs.{after};
@@ -17,8 +17,9 @@ ghost use Rattle.status_table.specs.Shape.{HasShape};
 pub fn numbers_are_places()
     ensures jobs { (b : Board) → JobsAreNumbered b }
     ensures legs { (b : Board) → LegsAreNumbered b }
-    ensures planned { (p : Plan) (b : Board) (j : ℕ) (at : JobAt) → InPlay p b → job_at p b j ≡ Some at
-        → IsNumberedIn p j at }
+    ensures planned { (p : Plan) (b : Board) (j : ℕ) (at : JobAt)
+        → InPlay p b → job_at p b j ≡ Some at → IsNumberedIn p j at }
+    ensures as_many { (p : Plan) (b : Board) → HasShape p b → HasAsMany p b }
 {}
 
 /// A legal list of entries leaves a board of its plan's shape, on which each leg that ended stands once among the
@@ -30,6 +31,6 @@ pub fn legal_lists_keep_order()
 
 /// The status by which a job is judged says how its ancestors ended: the jobs that it needs, and their ancestors.
 pub fn statuses_tell_of_ancestors()
-    ensures { (p : Plan) (b : Board) (j : ℕ) (at : JobAt) → InPlay p b → job_at p b j ≡ Some at
-        → SaysOf (first_of j at) at (job_status (first_of j at) at) }
+    ensures { (p : Plan) (b : Board) (j : ℕ) (at : JobAt)
+        → InPlay p b → job_at p b j ≡ Some at → SaysOf (first_of j at) at (job_status (first_of j at) at) }
 {}

@@ -24,7 +24,8 @@ pub trait Table {
     /// The row's refusal, or `EventFault::Memory`. Nothing is changed then.
     fn apply(&mut self, entry: Entry) -> Result<Reply, EventFault>
         ensures plan_stays { plan self.new ≡ plan self.old }
-        ensures answers { AnswersEntry (plan self.old) (board self.old) entry result (board self.new) }
+        ensures answers { AnswersEntry (plan self.old) (board self.old)
+            entry result (board self.new) }
         ensures in_play { InPlay (plan self.new) (board self.new) };
 
     /// A copy of the board.

@@ -1,4 +1,3 @@
-use Rattle.std.proofs.Common.{◌≡◌}
 use Rattle.status_table.proofs.Legal.{answer_in_play}
 use Rattle.status_table.proofs.plain_board.PlainBoardTable.apply.Goals as goal
 
