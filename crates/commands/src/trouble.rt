@@ -68,7 +68,13 @@ fn say_placed<S: Sink>(err: &mut S, name: &str, place: usize) -> bool
     ensures { Puts (S.seen err.old) (S.seen err.new) (spec.placed_line name.now place) result }
 {
     let mut digits = Buffer::new();
-    let parts = ["actrun: expr ", name, " at ", digits.format(place as u64), "\n"];
+    let parts = [
+        "actrun: expr ",
+        name,
+        " at ",
+        digits.format(place as u64),
+        "\n",
+    ];
     put_parts(err, &parts)
 }
 
