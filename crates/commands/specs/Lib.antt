@@ -1,6 +1,5 @@
 pub mod Contexts
 pub mod Eval
-pub mod Names
 pub mod Play
 pub mod Stream
 pub mod Table

@@ -1,7 +1,10 @@
 -- The troubles of all commands: the line of each, and its exit status.
 use Rattle.std.specs.Prelude.{ℕ, ◌++◌, codes, decimal, List}
+use Rattle.expr_reader.specs.Faults.{fault_name, fault_place}
+use Rattle.flow_model.specs.Faults.{value_fault_name}
+use Rattle.plan_text.specs.Fault.{load_fault_name}
+use Rattle.status_table.specs.Fault.{event_fault_name}
 use Rattle.commands.specs.Contexts.{flow_fault_name}
-use Rattle.commands.specs.Names.{fault_name, fault_place, value_fault_name, load_fault_name, event_fault_name}
 use Rattle.commands.specs.declared.stream.SourceFault.{SourceFault}
 use Rattle.commands.specs.declared.stream.SourceFault.TheVariants as source_fault
 use Rattle.commands.specs.declared.trouble.Trouble.{Trouble}

@@ -9,7 +9,6 @@
 
 pub mod contexts;
 pub mod eval;
-mod names;
 mod play;
 pub mod stream;
 pub mod table;

@@ -44,5 +44,4 @@ pub fn table<I: Source, O: Sink, E: Sink>(
 pub fn one_board_answer()
     ensures some { SomeBoardAnswer }
     ensures one { OneBoardAnswer }
-{
-}
+{}

@@ -27,7 +27,11 @@ pub(crate) fn refuse_source<E: Sink>(err: &mut E, fault: SourceFault) -> u8
 }
 
 /// Writes the text of an answer to `out`, or the line of its trouble to `err`, and gives the exit status.
-pub(crate) fn tell<O: Sink, E: Sink>(answer: Result<String, Trouble>, out: &mut O, err: &mut E) -> u8
+pub(crate) fn tell<O: Sink, E: Sink>(
+    answer: Result<String, Trouble>,
+    out: &mut O,
+    err: &mut E,
+) -> u8
     ensures { Tells (answer_seen answer)
         (O.seen out.old) (O.seen out.new) (E.seen err.old) (E.seen err.new) result }
 {

@@ -4,7 +4,6 @@ ghost use Rattle.commands.specs.Stream.{Puts};
 ghost use Rattle.commands.specs.Trouble as spec;
 
 use crate::contexts::FlowFault;
-use crate::names::{event_name, expr_name, expr_place, load_name, value_name};
 use crate::stream::{Sink, put_parts};
 use expr_reader::ExprFault;
 use flow_model::{Text, ValueFault};
@@ -68,7 +67,13 @@ fn say_placed<S: Sink>(err: &mut S, name: &str, place: usize) -> bool
     ensures { Puts (S.seen err.old) (S.seen err.new) (spec.placed_line name.now place) result }
 {
     let mut digits = Buffer::new();
-    let parts = ["actrun: expr ", name, " at ", digits.format(place as u64), "\n"];
+    let parts = [
+        "actrun: expr ",
+        name,
+        " at ",
+        digits.format(place as u64),
+        "\n",
+    ];
     put_parts(err, &parts)
 }
 
@@ -102,12 +107,12 @@ pub(crate) fn say<S: Sink>(err: &mut S, trouble: &Trouble) -> bool
     ensures { Puts (S.seen err.old) (S.seen err.new) (spec.line trouble.now) result }
 {
     match trouble {
-        Trouble::NoExpression(fault) => say_placed(err, expr_name(*fault), expr_place(*fault)),
-        Trouble::NoValue(fault) => say_name(err, "value", value_name(*fault)),
+        Trouble::NoExpression(fault) => say_placed(err, fault.name(), fault.place()),
+        Trouble::NoValue(fault) => say_name(err, "value", fault.name()),
         Trouble::NoContexts(file, fault) => say_file(err, file.as_str(), fault.name()),
-        Trouble::NoPlan(fault) => say_name(err, "load", load_name(fault)),
+        Trouble::NoPlan(fault) => say_name(err, "load", fault.name()),
         Trouble::NoEntry(number) => say_numbered(err, *number, "NotEntry"),
-        Trouble::Refused(number, fault) => say_numbered(err, *number, event_name(*fault)),
+        Trouble::Refused(number, fault) => say_numbered(err, *number, fault.name()),
         Trouble::Words => err.put(b"actrun: words\n"),
         Trouble::Io => err.put(b"actrun: io\n"),
         Trouble::Memory => err.put(b"actrun: memory\n"),

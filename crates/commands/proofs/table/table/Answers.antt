@@ -10,7 +10,7 @@ returns-in-Ok g c =
     let found = answer_seen c.shown_board.result in
     read_told IsBoardAnswer _ _ _ _ _ _ c.in-Ok.text.items found _ c.in-Ok.ensures
     (subst (λ (text : List ℕ). OrMemory found (IsBoardAnswer text found)) c.as_slice.ensures.value
-      (shown_answer c.as_slice.result.now c.shown_board.result c.shown_board.ensures))
+    (shown_answer c.as_slice.result.now c.shown_board.result c.shown_board.ensures))
     c.tell.ensures
 
 pub returns-in-Err : goal.returns-in-Err
