@@ -129,15 +129,20 @@ fn keep(texts: &mut Texts, alloc: Global, line: &[u8]) -> Result<(), AllocError>
     Ok(())
 }
 
+/// Adds a word.
+fn add_word(words: &mut Vec<Vec<u8>>, alloc: Global, word: &[u8]) -> Result<(), AllocError> {
+    let word = Vec::from_slice(alloc, word)?;
+    Ok(words.push(word)?)
+}
+
 /// Adds the words of a line: the first line is parted at its spaces, a further one is one word.
 fn add_words(words: &mut Vec<Vec<u8>>, alloc: Global, line: &[u8]) -> Result<(), AllocError> {
     if !words.is_empty() {
-        words.push(Vec::from_slice(alloc, line)?)?;
-        return Ok(());
+        return add_word(words, alloc, line);
     }
     for word in line.split(|byte| *byte == b' ') {
         if !word.is_empty() {
-            words.push(Vec::from_slice(alloc, word)?)?;
+            add_word(words, alloc, word)?;
         }
     }
     Ok(())
@@ -187,32 +192,39 @@ impl Case {
 
     /// Takes the text of the line that was read.
     fn finish(&mut self, alloc: Global) -> Result<(), AllocError> {
-        let mut text = mem::replace(&mut self.text, Vec::new(alloc));
-        text.extend_from_slice(self.behind.as_slice())?;
+        self.text.extend_from_slice(self.behind.as_slice())?;
         self.behind.clear();
+        self.take_text(alloc)?;
+        self.text.clear();
+        Ok(())
+    }
+
+    /// Takes the text for what it is.
+    fn take_text(&mut self, alloc: Global) -> Result<(), AllocError> {
+        let text = self.text.as_slice();
         match self.kind {
             Kind::Prose => Ok(()),
             Kind::Name => {
-                self.name = text;
-                Ok(())
+                self.name.clear();
+                self.name.extend_from_slice(text)
             },
-            Kind::Word => add_words(&mut self.words, alloc, text.as_slice()),
+            Kind::Word => add_words(&mut self.words, alloc, text),
             Kind::Verb => {
                 self.is_verb = true;
-                add_words(&mut self.words, alloc, text.as_slice())
+                add_words(&mut self.words, alloc, text)
             },
             Kind::File => {
                 if self.is_file_old {
                     self.file.clear();
                 }
                 self.is_file_old = false;
-                add_line(&mut self.file, text.as_slice(), self.is_ended)
+                add_line(&mut self.file, text, self.is_ended)
             },
-            Kind::Input => add_line(&mut self.input, text.as_slice(), self.is_ended),
-            Kind::Out => add_line(&mut self.out, text.as_slice(), self.is_ended),
-            Kind::Err => add_line(&mut self.err, text.as_slice(), self.is_ended),
-            Kind::Status => add_line(&mut self.status, text.as_slice(), false),
-            Kind::Named => keep(&mut self.texts, alloc, text.as_slice()),
+            Kind::Input => add_line(&mut self.input, text, self.is_ended),
+            Kind::Out => add_line(&mut self.out, text, self.is_ended),
+            Kind::Err => add_line(&mut self.err, text, self.is_ended),
+            Kind::Status => add_line(&mut self.status, text, false),
+            Kind::Named => keep(&mut self.texts, alloc, text),
         }
     }
 
@@ -293,14 +305,19 @@ impl Case {
             limits: self.limits,
         };
         let found = perform(alloc, &asked)?;
-        let status = format!(in alloc; "{}", found.status)?;
-        if self.agrees(&found, status.as_str()) {
+        self.compare(alloc, &found, told)
+    }
+
+    /// Tells where what was found differs from what is wanted.
+    fn compare<O: Write>(&self, alloc: Global, found: &Found, told: &mut O) -> io::Result<Told> {
+        let status = found.status.to_string(alloc)?;
+        if self.agrees(found, status.as_str()) {
             return Ok(Told {
                 agree: 1,
                 differ: 0,
             });
         }
-        self.tell(told, &found, status.as_str())?;
+        self.tell(told, found, status.as_str())?;
         Ok(Told {
             agree: 0,
             differ: 1,

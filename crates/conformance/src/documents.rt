@@ -36,8 +36,8 @@ pub fn told(
         ["apply"] => apply_told(alloc, input, ""),
         ["apply", worker] => apply_told(alloc, input, worker),
         ["run"] => run_told(alloc, input),
-        ["sample", "board"] => board_told(alloc, &samples::board(alloc)?),
-        ["sample", "reply"] => reply_text(alloc, &samples::reply(alloc)?),
+        ["sample", "board"] => sample_board(alloc),
+        ["sample", "reply"] => sample_reply(alloc),
         _ => expressions::told(alloc, words, file, input),
     }
 }
@@ -107,6 +107,16 @@ fn apply_told(alloc: Global, input: &[u8], worker: &str) -> Result<String, Alloc
 fn board_told(alloc: Global, board: &Board) -> Result<String, AllocError> {
     let twin = board.copy(alloc)?;
     board_text(alloc, &twin)
+}
+
+fn sample_board(alloc: Global) -> Result<String, AllocError> {
+    let board = samples::board(alloc)?;
+    board_told(alloc, &board)
+}
+
+fn sample_reply(alloc: Global) -> Result<String, AllocError> {
+    let reply = samples::reply(alloc)?;
+    reply_text(alloc, &reply)
 }
 
 /// The text of the board of a table.

@@ -1,8 +1,8 @@
 // The verbs of expressions and values, over the contexts of the file.
 //
 //   tree TEXT          the expression that the text is, written out (`tree_text`), or its fault
-//   pieces TEXT        the pieces of the template, one a line, or its fault
-//   condition TEXT     the pieces of the condition, and last whether it names a status function; or its fault
+//   pieces TEXT        the pieces of the template, one a line, and whether it names a status function; or its fault
+//   condition TEXT     the same of the condition
 //   read KIND TEXT     `read` or the fault, of an `expression`, `template` or `condition`
 //   template TEXT      the value of the template as JSON, or its fault
 //   holds STATUS TEXT  whether the condition holds under `success`, `failure`, `cancelled` or `other`, or its fault
@@ -29,7 +29,7 @@ pub fn told(
     match words {
         ["tree", text] => tree_told(alloc, text),
         ["pieces", text] => pieces_told(alloc, read_template(alloc, text)),
-        ["condition", text] => condition_told(alloc, text),
+        ["condition", text] => pieces_told(alloc, read_condition(alloc, text)),
         ["read", kind, text] => fault_told(alloc, fault_of(alloc, kind, text)),
         ["template", text] => template_told(alloc, text, file),
         ["holds", status, text] => holds_told(alloc, status, text, file),
@@ -69,21 +69,9 @@ pub fn tree_told(alloc: Global, text: &str) -> Result<String, AllocError> {
     }
 }
 
-/// The pieces of a template.
+/// The pieces of a template or condition, and whether it names a status function.
 fn pieces_told(alloc: Global, read: Result<Template, ExprFault>) -> Result<String, AllocError> {
     match read {
-        Ok(template) => {
-            let mut told = String::new(alloc);
-            write_pieces(&mut told, &template)?;
-            Ok(told)
-        },
-        Err(fault) => format!(in alloc; "{fault}"),
-    }
-}
-
-/// The pieces of a condition.
-fn condition_told(alloc: Global, text: &str) -> Result<String, AllocError> {
-    match read_condition(alloc, text) {
         Ok(template) => {
             let mut told = String::new(alloc);
             write_pieces(&mut told, &template)?;
