@@ -1,40 +1,35 @@
-// actrun: the program. `main` gathers words, input and writers, and `run` hands them to a command of `commands`.
+// actrun: the program. `main` hands words, files and streams to `commands`, and gives the exit status back.
 #![tactic(auto)]
 
-#[cfg(test)]
-mod tests;
-mod words;
-
-use std::io::{ErrorKind, Write};
+use commands::stream::{Input, Output};
+use commands::words::{Folder, run_line};
+use std::fs::{File, Files};
 use std::process::ExitCode;
 use std::{env, io};
 
-fn main(rt: HostRuntime) -> io::Result<ExitCode> {
-    let mut err = rt.stderr();
-    match status(&rt, &mut err) {
-        Ok(status) => Ok(ExitCode::from(status)),
-        Err(error) => {
-            let name = if error.kind() == ErrorKind::OutOfMemory {
-                "memory"
-            } else {
-                "io"
-            };
-            // Where this line cannot be written either, the status tells.
-            let _ = writeln!(err, "actrun: {name}");
-            Ok(ExitCode::from(3))
-        },
+/// The files of the machine.
+#[derive(Drop)]
+struct Disk<'a, F> {
+    files: &'a F,
+}
+
+impl<F: Files> Folder for Disk<'_, F> {
+    type File = Input<F::File>;
+
+    fn open(&self, name: &str) -> Option<Input<F::File>> {
+        match File::open(self.files, name) {
+            Ok(file) => Some(Input::new(file)),
+            Err(_) => None,
+        }
     }
 }
 
-/// Runs the command that the words of the command line ask for. Words that are not UTF-8 ask for none.
-fn status<E: Write>(rt: &HostRuntime, err: &mut E) -> io::Result<u8> {
-    let alloc = rt.alloc();
-    let words: Vec<String> = match env::args(rt) {
-        Ok(words) => words.collect(alloc)?,
-        Err(error) if error.kind() == ErrorKind::InvalidData => return words::refuse_words(err),
-        Err(error) => return Err(error),
-    };
-    let mut input = rt.reader();
-    let mut out = io::writer(rt);
-    words::run(rt, alloc, words.as_slice(), &mut input, &mut out, err)
+fn main(rt: HostRuntime) -> ExitCode {
+    let disk = Disk { files: &rt };
+    let mut input = Input::new(rt.reader());
+    let mut out = Output::new(io::writer(&rt));
+    let mut err = Output::new(rt.stderr());
+    let line = env::args(&rt);
+    let status = run_line(rt.alloc(), line, &disk, &mut input, &mut out, &mut err);
+    ExitCode::from(status)
 }

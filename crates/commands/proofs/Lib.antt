@@ -1,4 +1,5 @@
-pub mod Answered
+pub mod BoardAnswers
 pub mod Expressions
+pub mod Known
 pub mod Lines
-pub mod Tells
+pub mod Told

@@ -1,6 +1,6 @@
 -- The contexts that a file gives: a JSON object whose members named exactly as a context are maps. Its other members
 -- are passed over.
-use Rattle.std.specs.Prelude.{◌≡◌, ℕ, Bool, if◌then◌else◌, Option, Some, None, Result, Ok, Err, List, [], ◌∷◌}
+use Rattle.std.specs.Prelude.{◌≡◌, ℕ, Bool, if◌then◌else◌, Option, Some, None, Result, Ok, Err, List, [], ◌∷◌, codes}
 use Rattle.std.specs.List.{list_any}
 use Rattle.std.specs.Str.{bytes_eq}
 use Rattle.serde_json.specs.Data.{Data, null, boolean, number, string, array, object, Members, no_members, member}
@@ -17,6 +17,12 @@ use Rattle.commands.specs.declared.contexts.FlowFault.{FlowFault}
 use Rattle.commands.specs.declared.contexts.FlowFault.TheVariants.{NotJson, NotWhole, WrongShape}
 use Rattle.commands.specs.declared.contexts.Unread.{Unread}
 use Rattle.commands.specs.declared.contexts.Unread.TheVariants.{Fault, Memory}
+
+-- The name of a fault of a file of contexts, as the program prints it.
+abbrev pub flow_fault_name : FlowFault → List ℕ
+flow_fault_name NotJson = codes "NotJson"
+flow_fault_name NotWhole = codes "NotWhole"
+flow_fault_name WrongShape = codes "WrongShape"
 
 -- Every context.
 abbrev pub every_context : List Context

@@ -1,6 +1,5 @@
 -- What `actrun eval` tells: the value of an expression over the contexts of a file, or why there is none.
-use Rattle.std.specs.Prelude.{◌≡◌, ℕ, ◌++◌, codes, decimal, List, String, string_bytes, Option, Some, Result, Ok, Err}
-use Rattle.std.specs.Io.KnownBytes.{Appends, Keeps}
+use Rattle.std.specs.Prelude.{◌≡◌, ℕ, ◌++◌, codes, List, String, Some, Result, Ok, Err}
 use Rattle.std.specs.declared.alloc.Global.{Global}
 use Rattle.serde_json.specs.Written.{compact_text}
 use Rattle.expr_reader.specs.Expr.{Expr}
@@ -19,81 +18,11 @@ use Rattle.flow_model.specs.Plain.{Plain}
 use Rattle.flow_model.specs.declared.reply.ValueFault.{ValueFault}
 use Rattle.flow_model.specs.declared.reply.ValueFault.TheVariants as value_fault
 use Rattle.commands.specs.Contexts.{file_contexts}
+use Rattle.commands.specs.Stream.{Stream}
+use Rattle.commands.specs.Tell.{Answer, OrMemory, TellsOf, answer_seen}
 use Rattle.commands.specs.declared.contexts.FlowFault.{FlowFault}
-use Rattle.commands.specs.declared.contexts.FlowFault.TheVariants as flow_fault
-use Rattle.commands.specs.declared.eval.EvalTrouble.{EvalTrouble}
-use Rattle.commands.specs.declared.eval.EvalTrouble.TheVariants.{BadContexts, NoExpression, NoValue, Memory}
-
--- ---- the line that tells of a trouble
-
-abbrev pub flow_name : FlowFault → List ℕ
-flow_name flow_fault.NotJson = codes "NotJson"
-flow_name flow_fault.NotWhole = codes "NotWhole"
-flow_name flow_fault.WrongShape = codes "WrongShape"
-
--- The name of a fault of an expression.
-abbrev pub expr_name : ExprFault → List ℕ
-expr_name (expr_fault.UnclosedText n) = codes "UnclosedText"
-expr_name (expr_fault.BadNumber n) = codes "BadNumber"
-expr_name (expr_fault.BadChar n) = codes "BadChar"
-expr_name (expr_fault.Unexpected n) = codes "Unexpected"
-expr_name (expr_fault.UnknownName n) = codes "UnknownName"
-expr_name (expr_fault.UnknownFunction n) = codes "UnknownFunction"
-expr_name (expr_fault.ArgumentCount n) = codes "ArgumentCount"
-expr_name (expr_fault.TooDeep n) = codes "TooDeep"
-expr_name (expr_fault.TooLong n) = codes "TooLong"
-expr_name (expr_fault.UnclosedTemplate n) = codes "UnclosedTemplate"
-expr_name (expr_fault.StatusHere n) = codes "StatusHere"
-expr_name (expr_fault.Memory n) = codes "Memory"
-
--- Its place, in bytes from the start.
-abbrev pub expr_place : ExprFault → ℕ
-expr_place (expr_fault.UnclosedText n) = n
-expr_place (expr_fault.BadNumber n) = n
-expr_place (expr_fault.BadChar n) = n
-expr_place (expr_fault.Unexpected n) = n
-expr_place (expr_fault.UnknownName n) = n
-expr_place (expr_fault.UnknownFunction n) = n
-expr_place (expr_fault.ArgumentCount n) = n
-expr_place (expr_fault.TooDeep n) = n
-expr_place (expr_fault.TooLong n) = n
-expr_place (expr_fault.UnclosedTemplate n) = n
-expr_place (expr_fault.StatusHere n) = n
-expr_place (expr_fault.Memory n) = n
-
-abbrev pub value_name : ValueFault → List ℕ
-value_name value_fault.NotWhole = codes "NotWhole"
-value_name value_fault.NoIdentity = codes "NoIdentity"
-value_name value_fault.BadFormat = codes "BadFormat"
-value_name value_fault.BadJson = codes "BadJson"
-value_name value_fault.TooLarge = codes "TooLarge"
-value_name value_fault.Memory = codes "Memory"
-
--- The line that tells of a file of that name which gives no contexts.
-abbrev pub contexts_line : List ℕ → FlowFault → List ℕ
-contexts_line file fault = codes "actrun: flow " ++ (file ++ (codes " " ++ (flow_name fault ++ codes "\n")))
-
-abbrev pub expression_line : ExprFault → List ℕ
-expression_line fault = codes "actrun: expr " ++ (expr_name fault ++ (codes " at " ++ (decimal (expr_place fault) ++ codes "\n")))
-
-abbrev pub evaluation_line : ValueFault → List ℕ
-evaluation_line fault = codes "actrun: value " ++ (value_name fault ++ codes "\n")
-
--- The one line that tells of a trouble.
-abbrev pub trouble_line : List ℕ → EvalTrouble → List ℕ
-trouble_line file (BadContexts fault) = contexts_line file fault
-trouble_line file (NoExpression fault) = expression_line fault
-trouble_line file (NoValue fault) = evaluation_line fault
-trouble_line file Memory = codes "actrun: memory\n"
-
--- The exit status of a trouble: a text is refused, or there is no memory.
-abbrev pub trouble_status : EvalTrouble → ℕ
-trouble_status (BadContexts fault) = 2
-trouble_status (NoExpression fault) = 2
-trouble_status (NoValue fault) = 2
-trouble_status Memory = 3
-
--- ---- what may be answered
+use Rattle.commands.specs.declared.trouble.Trouble.{Trouble}
+use Rattle.commands.specs.declared.trouble.Trouble.TheVariants.{NoExpression, NoValue, NoContexts, NoPlan, NoEntry, Refused, Words, Io, Memory}
 
 -- The text is an expression, whose evaluation where the status is success answers this.
 pub record Evaluates (contexts : Contexts) (expression : List ℕ) (answer : Result Plain ValueFault) : Type 0 where
@@ -117,24 +46,120 @@ IsNamed value_fault.BadJson = Unit {0}
 IsNamed value_fault.TooLarge = Unit {0}
 IsNamed value_fault.Memory = ⊥
 
--- What may be answered for an expression over contexts; want of memory may always be.
-abbrev pub IsValue : Contexts → List ℕ → Result Plain EvalTrouble → Type 0
-IsValue contexts expression (Ok v) = Evaluates contexts expression (Ok v)
-IsValue contexts expression (Err (BadContexts fault)) = ⊥
-IsValue contexts expression (Err (NoExpression fault)) = IsNoExpression expression fault
-IsValue contexts expression (Err (NoValue fault)) = Evaluates contexts expression (Err fault) × IsNamed fault
-IsValue contexts expression (Err Memory) = Unit {0}
+-- The compact JSON of a value, and a newline.
+abbrev pub value_line : Plain → List ℕ
+value_line v = compact_text (json_of v) ++ codes "\n"
 
--- The tree that an expression's text spells, or why there is none; want of memory may always be answered.
-abbrev pub IsTree : List ℕ → Result Tree EvalTrouble → Type 0
+-- The file gives contexts, over which the expression has a value, of which this is the line.
+pub record HasValue (bytes expression text : List ℕ) : Type 0 where
+  pub contexts : Contexts
+  pub value : Plain
+  pub gives : file_contexts bytes ≡ Ok contexts
+  pub has : Evaluates contexts expression (Ok value)
+  pub shows : text ≡ value_line value
+
+-- The file gives contexts, and the text is no expression.
+pub record HasNoTree (bytes expression : List ℕ) (fault : ExprFault) : Type 0 where
+  pub contexts : Contexts
+  pub gives : file_contexts bytes ≡ Ok contexts
+  pub none : IsNoExpression expression fault
+
+-- The file gives contexts, over which the expression has no value, for that fault.
+pub record HasNoValue (bytes expression : List ℕ) (fault : ValueFault) : Type 0 where
+  pub contexts : Contexts
+  pub gives : file_contexts bytes ≡ Ok contexts
+  pub has : Evaluates contexts expression (Err fault)
+  pub named : IsNamed fault
+
+-- An answer to the bytes of a file of that name and an expression: the line of the value, or why there is none. The
+-- contexts are read first.
+abbrev pub IsEvalAnswer : List ℕ → List ℕ → List ℕ → Answer → Type 0
+IsEvalAnswer file expression bytes (Ok text) = HasValue bytes expression text
+IsEvalAnswer file expression bytes (Err (NoContexts name fault)) = (name ≡ file) × (file_contexts bytes ≡ Err fault)
+IsEvalAnswer file expression bytes (Err (NoExpression fault)) = HasNoTree bytes expression fault
+IsEvalAnswer file expression bytes (Err (NoValue fault)) = HasNoValue bytes expression fault
+IsEvalAnswer file expression bytes (Err (NoPlan fault)) = ⊥
+IsEvalAnswer file expression bytes (Err (NoEntry n)) = ⊥
+IsEvalAnswer file expression bytes (Err (Refused n fault)) = ⊥
+IsEvalAnswer file expression bytes (Err Words) = ⊥
+IsEvalAnswer file expression bytes (Err Io) = ⊥
+IsEvalAnswer file expression bytes (Err Memory) = ⊥
+
+-- What `eval` leaves: it reads the file of contexts to its end, and tells an answer to it and the expression.
+abbrev pub EvalTells : List ℕ → List ℕ → Stream → Stream → Stream → Stream → Stream → Stream → ℕ → Type 0
+EvalTells file expression input input' out out' err err' status = TellsOf (IsEvalAnswer file expression) input input' out out' err err' status
+
+-- ---- what the code answers on the way; want of memory may always be answered
+
+-- A text is no expression.
+abbrev pub ExpressionTrouble : List ℕ → Trouble → Type 0
+ExpressionTrouble expression (NoExpression fault) = IsNoExpression expression fault
+ExpressionTrouble expression (NoValue fault) = ⊥
+ExpressionTrouble expression (NoContexts name fault) = ⊥
+ExpressionTrouble expression (NoPlan fault) = ⊥
+ExpressionTrouble expression (NoEntry n) = ⊥
+ExpressionTrouble expression (Refused n fault) = ⊥
+ExpressionTrouble expression Words = ⊥
+ExpressionTrouble expression Io = ⊥
+ExpressionTrouble expression Memory = Unit {0}
+
+-- The tree that an expression's text spells, or why there is none.
+abbrev pub IsTree : List ℕ → Result Tree Trouble → Type 0
 IsTree expression (Ok tree) = Spells (view tree) expression
-IsTree expression (Err (BadContexts fault)) = ⊥
-IsTree expression (Err (NoExpression fault)) = IsNoExpression expression fault
-IsTree expression (Err (NoValue fault)) = ⊥
-IsTree expression (Err Memory) = Unit {0}
+IsTree expression (Err trouble) = ExpressionTrouble expression trouble
+
+-- A tree has no value.
+abbrev pub ValueTrouble : Contexts → Expr → Trouble → Type 0
+ValueTrouble contexts tree (NoExpression fault) = ⊥
+ValueTrouble contexts tree (NoValue fault) = (evaluated contexts Success tree ≡ Err fault) × IsNamed fault
+ValueTrouble contexts tree (NoContexts name fault) = ⊥
+ValueTrouble contexts tree (NoPlan fault) = ⊥
+ValueTrouble contexts tree (NoEntry n) = ⊥
+ValueTrouble contexts tree (Refused n fault) = ⊥
+ValueTrouble contexts tree Words = ⊥
+ValueTrouble contexts tree Io = ⊥
+ValueTrouble contexts tree Memory = Unit {0}
+
+-- The value of a tree, or why there is none.
+abbrev pub IsValue : Contexts → Expr → Result Plain Trouble → Type 0
+IsValue contexts tree (Ok v) = evaluated contexts Success tree ≡ Ok v
+IsValue contexts tree (Err trouble) = ValueTrouble contexts tree trouble
+
+-- A file gives no contexts.
+abbrev pub ContextsTrouble : List ℕ → List ℕ → Trouble → Type 0
+ContextsTrouble file bytes (NoContexts name fault) = (name ≡ file) × (file_contexts bytes ≡ Err fault)
+ContextsTrouble file bytes (NoExpression fault) = ⊥
+ContextsTrouble file bytes (NoValue fault) = ⊥
+ContextsTrouble file bytes (NoPlan fault) = ⊥
+ContextsTrouble file bytes (NoEntry n) = ⊥
+ContextsTrouble file bytes (Refused n fault) = ⊥
+ContextsTrouble file bytes Words = ⊥
+ContextsTrouble file bytes Io = ⊥
+ContextsTrouble file bytes Memory = Unit {0}
+
+-- That trouble with a file of that name, unless memory runs out.
+abbrev pub IsContextsTrouble : List ℕ → FlowFault → Trouble → Type 0
+IsContextsTrouble file fault (NoContexts name named) = (name ≡ file) × (named ≡ fault)
+IsContextsTrouble file fault (NoExpression other) = ⊥
+IsContextsTrouble file fault (NoValue other) = ⊥
+IsContextsTrouble file fault (NoPlan other) = ⊥
+IsContextsTrouble file fault (NoEntry n) = ⊥
+IsContextsTrouble file fault (Refused n other) = ⊥
+IsContextsTrouble file fault Words = ⊥
+IsContextsTrouble file fault Io = ⊥
+IsContextsTrouble file fault Memory = Unit {0}
+
+-- The contexts of a file, or why there are none.
+abbrev pub HasContexts : List ℕ → List ℕ → Result Contexts Trouble → Type 0
+HasContexts file bytes (Ok contexts) = file_contexts bytes ≡ Ok contexts
+HasContexts file bytes (Err trouble) = ContextsTrouble file bytes trouble
+
+-- The line of a value, or why there is none.
+abbrev pub Gives : List ℕ → List ℕ → List ℕ → Result (String Global) Trouble → Type 0
+Gives file expression bytes result = OrMemory (answer_seen result) (IsEvalAnswer file expression bytes (answer_seen result))
 
 -- A fault of an expression's text, or want of memory.
-abbrev pub expression_trouble : ExprFault → EvalTrouble
+abbrev pub expression_trouble : ExprFault → Trouble
 expression_trouble (expr_fault.UnclosedText n) = NoExpression (expr_fault.UnclosedText n)
 expression_trouble (expr_fault.BadNumber n) = NoExpression (expr_fault.BadNumber n)
 expression_trouble (expr_fault.BadChar n) = NoExpression (expr_fault.BadChar n)
@@ -147,47 +172,3 @@ expression_trouble (expr_fault.TooLong n) = NoExpression (expr_fault.TooLong n)
 expression_trouble (expr_fault.UnclosedTemplate n) = NoExpression (expr_fault.UnclosedTemplate n)
 expression_trouble (expr_fault.StatusHere n) = NoExpression (expr_fault.StatusHere n)
 expression_trouble (expr_fault.Memory n) = Memory
-
--- The contexts of a file, or why there are none.
-abbrev pub HasContexts : List ℕ → Result Contexts EvalTrouble → Type 0
-HasContexts file (Ok contexts) = file_contexts file ≡ Ok contexts
-HasContexts file (Err (BadContexts fault)) = file_contexts file ≡ Err fault
-HasContexts file (Err (NoExpression fault)) = ⊥
-HasContexts file (Err (NoValue fault)) = ⊥
-HasContexts file (Err Memory) = Unit {0}
-
--- The compact JSON of a value, and a newline.
-abbrev pub value_line : Plain → List ℕ
-value_line v = compact_text (json_of v) ++ codes "\n"
-
--- A trouble with an expression over the contexts of a file.
-abbrev pub IsTroubled : List ℕ → List ℕ → EvalTrouble → Type 0
-IsTroubled file expression trouble = (contexts : Contexts) × (file_contexts file ≡ Ok contexts) × IsValue contexts expression (Err trouble)
-
--- What may be answered for the bytes of a file of contexts and an expression: the line of a value, or a trouble. The
--- contexts are read first.
-abbrev pub IsAnswer : List ℕ → List ℕ → Result (List ℕ) EvalTrouble → Type 0
-IsAnswer file expression (Ok text) = (contexts : Contexts) × (v : Plain) × (file_contexts file ≡ Ok contexts) × IsValue contexts expression (Ok v) × (text ≡ value_line v)
-IsAnswer file expression (Err (BadContexts fault)) = file_contexts file ≡ Err fault
-IsAnswer file expression (Err (NoExpression fault)) = IsTroubled file expression (NoExpression fault)
-IsAnswer file expression (Err (NoValue fault)) = IsTroubled file expression (NoValue fault)
-IsAnswer file expression (Err Memory) = Unit {0}
-
--- The same of what the code answers.
-abbrev pub text_seen : Result (String Global) EvalTrouble → Result (List ℕ) EvalTrouble
-text_seen (Ok text) = Ok (string_bytes text)
-text_seen (Err trouble) = Err trouble
-
--- ---- what is told
-
--- Where there is a text, it is written to out and nothing to err, with status 0; else nothing to out and one line to
--- err, with the trouble's status.
-abbrev pub Tells : List ℕ → Result (List ℕ) EvalTrouble → Option (List ℕ) → Option (List ℕ) → Option (List ℕ) → Option (List ℕ) → ℕ → Type 0
-Tells file (Ok text) out out' err err' status = Appends out out' text × Keeps err err' × (status ≡ 0)
-Tells file (Err trouble) out out' err err' status = Keeps out out' × Appends err err' (trouble_line file trouble) × (status ≡ trouble_status trouble)
-
--- What is written is an answer for the bytes of the file of that name and the expression.
-pub record TellsAnswer (file bytes expression : List ℕ) (out out' err err' : Option (List ℕ)) (status : ℕ) : Type 0 where
-  pub answer : Result (List ℕ) EvalTrouble
-  pub is : IsAnswer bytes expression answer
-  pub told : Tells file answer out out' err err' status

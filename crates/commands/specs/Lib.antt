@@ -1,3 +1,9 @@
 pub mod Contexts
 pub mod Eval
+pub mod Names
+pub mod Play
+pub mod Stream
 pub mod Table
+pub mod Tell
+pub mod Trouble
+pub mod Words

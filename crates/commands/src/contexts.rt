@@ -15,20 +15,31 @@ use thiserror::Error;
 
 /// Why a file gives no contexts.
 #[derive(Clone, Copy, Debug, PartialEq, Eq, Error)]
+#[error("{}", self.name())]
 pub enum FlowFault {
     /// It is no JSON.
-    #[error("NotJson")]
     NotJson,
     /// A number in a context is no whole number, or out of range.
-    #[error("NotWhole")]
     NotWhole,
     /// It is no object, or a context in it is none, or a property of one nests more than 100 deep.
-    #[error("WrongShape")]
     WrongShape,
 }
 
+impl FlowFault {
+    /// The fault's name, as it is printed.
+    pub fn name(self) -> &'static str
+        ensures { result.now ≡ spec.flow_fault_name self }
+    {
+        match self {
+            FlowFault::NotJson => "NotJson",
+            FlowFault::NotWhole => "NotWhole",
+            FlowFault::WrongShape => "WrongShape",
+        }
+    }
+}
+
 /// Why no contexts were read: a fault of the file, or want of memory.
-#[derive(Clone, Copy, Debug, PartialEq, Eq)]
+#[derive(Clone, Copy)]
 pub(crate) enum Unread {
     Fault(FlowFault),
     Memory,

@@ -1,15 +1,14 @@
 // `actrun table`: the board after a record.
-ghost use Rattle.std.specs.Prelude.{◌≡◌, IfOk, IfSome, OnOk};
-ghost use Rattle.std.specs.Io.KnownBytes.{Appends};
-ghost use Rattle.commands.specs.Table as spec;
+ghost use Rattle.std.specs.Prelude.{◌≡◌};
+ghost use Rattle.commands.specs.Play as spec;
+ghost use Rattle.commands.specs.Table.{OneBoardAnswer, SomeBoardAnswer, TableTells};
 
 use crate::play::board_of;
-use crate::trouble::{Trouble, say};
-use flow_model::Board;
+use crate::stream::{Sink, Source};
+use crate::tell::{refuse_source, tell};
+use crate::trouble::Trouble;
 use plan_text::board_text;
 use std::alloc::Global;
-use std::io;
-use std::io::{ErrorKind, Read, Write};
 
 /// The text of the board after a record.
 fn shown_board(alloc: Global, text: &[u8]) -> Result<String, Trouble>
@@ -24,56 +23,26 @@ fn shown_board(alloc: Global, text: &[u8]) -> Result<String, Trouble>
     }
 }
 
-/// Says why there is no board, and gives the exit status.
-fn refuse<E: Write>(err: &mut E, trouble: &Trouble) -> io::Result<u8>
-    ensures line { OnOk result (Appends (E.contents err.old) (E.contents err.new) (spec.trouble_line trouble.now)) }
-    ensures status { IfOk result (λ status. status ≡ spec.trouble_status trouble.now) }
-{
-    say(err, trouble)?;
-    match trouble {
-        Trouble::NoPlan(_) => Ok(2),
-        Trouble::NoEntry(_) => Ok(2),
-        Trouble::Refused(_, _) => Ok(2),
-        Trouble::Memory => Ok(3),
-    }
-}
-
-/// Writes the text of the board after a record to `out`, or why there is none to `err`.
-fn tell<O: Write, E: Write>(alloc: Global, text: &[u8], out: &mut O, err: &mut E) -> io::Result<u8>
-    ensures { IfOk result (λ status.
-        spec.TellsOrMemory (spec.table_text text.now) (O.contents out.old) (O.contents out.new) (E.contents err.old) (E.contents err.new) status) }
-{
-    match shown_board(alloc, text) {
-        Ok(shown) => {
-            out.write_all(shown.as_bytes())?;
-            Ok(0)
-        },
-        Err(trouble) => refuse(err, &trouble),
-    }
-}
-
-/// Reads a record to its end and writes the text of the board after it to `out`; or writes why there is
-/// none to `err`, in one line. The answer is the exit status: 0, or 2 where the record is refused, or 3
-/// where there is no memory.
-///
-/// # Errors
-///
-/// A read or a write that fails.
-pub fn table<R: Read, O: Write, E: Write>(
+/// Reads a record to its end and writes the text of the board after it to `out`; or writes why there is none to `err`,
+/// in one line. The answer is the exit status.
+pub fn table<I: Source, O: Sink, E: Sink>(
     alloc: Global,
-    reader: &mut R,
+    input: &mut I,
     out: &mut O,
     err: &mut E,
-) -> io::Result<u8>
-    ensures { IfOk result (λ status. IfSome (R.remaining reader.old) (λ input.
-        spec.TellsOrMemory (spec.table_text input) (O.contents out.old) (O.contents out.new) (E.contents err.old) (E.contents err.new) status)) }
+) -> u8
+    ensures { TableTells (I.seen input.old) (I.seen input.new)
+        (O.seen out.old) (O.seen out.new) (E.seen err.old) (E.seen err.new) result }
 {
-    let mut text = Vec::new(alloc);
-    if let Err(error) = reader.read_to_end(&mut text) {
-        if error.kind() == ErrorKind::OutOfMemory {
-            return refuse(err, &Trouble::Memory);
-        }
-        return Err(error);
+    match input.read_all(alloc) {
+        Ok(text) => tell(shown_board(alloc, text.as_slice()), out, err),
+        Err(fault) => refuse_source(err, fault),
     }
-    tell(alloc, text.as_slice(), out, err)
+}
+
+/// To each text of a record there is an answer, and no other.
+pub fn one_board_answer()
+    ensures some { SomeBoardAnswer }
+    ensures one { OneBoardAnswer }
+{
 }

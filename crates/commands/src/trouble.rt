@@ -1,69 +1,115 @@
-// Why a command has nothing to tell, and the line that says so.
-ghost use Rattle.std.specs.Prelude.{◌≡◌, OnOk};
-ghost use Rattle.std.specs.Io.KnownBytes.{Appends};
-ghost use Rattle.commands.specs.Table as spec;
+// Why a command has nothing to tell: the troubles of all commands, the line of each and its exit status.
+ghost use Rattle.std.specs.Prelude.{◌≡◌};
+ghost use Rattle.commands.specs.Stream.{Puts};
+ghost use Rattle.commands.specs.Trouble as spec;
 
+use crate::contexts::FlowFault;
+use crate::names::{event_name, expr_name, expr_place, load_name, value_name};
+use crate::stream::{Sink, put_parts};
+use expr_reader::ExprFault;
+use flow_model::{Text, ValueFault};
+use itoa::Buffer;
 use plan_text::LoadFault;
 use status_table::EventFault;
-use std::io;
-use std::io::Write;
 
-/// Why there is no board.
-#[derive(Debug, Drop)]
+/// The exit status of a command that did its work.
+pub const DONE: u8 = 0;
+
+/// The exit status where the words or a text are refused.
+pub const REFUSED: u8 = 2;
+
+/// The exit status where memory, a file or a stream fails.
+pub const FAILED: u8 = 3;
+
+/// Why a command has nothing to tell.
+#[derive(Drop)]
 pub enum Trouble {
-    /// The first line is no plan.
+    /// A text is no expression.
+    NoExpression(ExprFault),
+    /// An evaluation has a fault.
+    NoValue(ValueFault),
+    /// The file of that name gives no contexts.
+    NoContexts(Text, FlowFault),
+    /// The first line of a record is no plan's.
     NoPlan(LoadFault),
-    /// The line with this number is no entry.
+    /// The line with this number, from 1, is no entry.
     NoEntry(u64),
     /// The entry of the line with this number is refused.
     Refused(u64, EventFault),
+    /// The words ask for no command.
+    Words,
+    /// A file cannot be opened, or a read or a write failed.
+    Io,
     /// There is no memory.
     Memory,
 }
 
-/// The name of a fault of a plan's text.
-fn load_name(fault: &LoadFault) -> &'static str
-    ensures { result.now ≡ spec.load_name fault.now }
-{
-    match fault {
-        LoadFault::NotJson => "NotJson",
-        LoadFault::Version => "Version",
-        LoadFault::NotPlan(_) => "NotPlan",
-        LoadFault::NotEntry(_) => "NotEntry",
-        LoadFault::Memory => "Memory",
+impl Trouble {
+    /// The exit status.
+    pub fn status(&self) -> u8
+        ensures { result ≡ spec.trouble_status self.now }
+    {
+        match self {
+            Trouble::NoExpression(_) => REFUSED,
+            Trouble::NoValue(_) => REFUSED,
+            Trouble::NoContexts(_, _) => REFUSED,
+            Trouble::NoPlan(_) => REFUSED,
+            Trouble::NoEntry(_) => REFUSED,
+            Trouble::Refused(_, _) => REFUSED,
+            Trouble::Words => REFUSED,
+            Trouble::Io => FAILED,
+            Trouble::Memory => FAILED,
+        }
     }
 }
 
-/// The name of a refusal of the table.
-fn event_name(fault: EventFault) -> &'static str
-    ensures { result.now ≡ spec.event_name fault }
+/// Says that a text is no expression, and where.
+fn say_placed<S: Sink>(err: &mut S, name: &str, place: usize) -> bool
+    ensures { Puts (S.seen err.old) (S.seen err.new) (spec.placed_line name.now place) result }
 {
-    match fault {
-        EventFault::NoSuch => "NoSuch",
-        EventFault::WrongState => "WrongState",
-        EventFault::OtherWorker => "OtherWorker",
-        EventFault::NeedsOpen => "NeedsOpen",
-        EventFault::SlotsFull => "SlotsFull",
-        EventFault::Stopping => "Stopping",
-        EventFault::NotStopping => "NotStopping",
-        EventFault::StepsLeft => "StepsLeft",
-        EventFault::BadAnswer => "BadAnswer",
-        EventFault::Memory => "Memory",
-    }
+    let mut digits = Buffer::new();
+    let parts = ["actrun: expr ", name, " at ", digits.format(place as u64), "\n"];
+    put_parts(err, &parts)
 }
 
-/// Says why there is no board, in one line.
-pub(crate) fn say<W: Write>(err: &mut W, trouble: &Trouble) -> io::Result<()>
-    ensures { OnOk result (Appends (W.contents err.old) (W.contents err.new) (spec.trouble_line trouble.now)) }
+/// Says that a file gives no contexts.
+fn say_file<S: Sink>(err: &mut S, file: &str, name: &str) -> bool
+    ensures { Puts (S.seen err.old) (S.seen err.new) (spec.file_line file.now name.now) result }
+{
+    let parts = ["actrun: flow ", file, " ", name, "\n"];
+    put_parts(err, &parts)
+}
+
+/// Says a name of a kind.
+fn say_name<S: Sink>(err: &mut S, kind: &str, name: &str) -> bool
+    ensures { Puts (S.seen err.old) (S.seen err.new) (spec.name_line kind.now name.now) result }
+{
+    let parts = ["actrun: ", kind, " ", name, "\n"];
+    put_parts(err, &parts)
+}
+
+/// Says what is wrong with the line of that number.
+fn say_numbered<S: Sink>(err: &mut S, number: u64, name: &str) -> bool
+    ensures { Puts (S.seen err.old) (S.seen err.new) (spec.numbered_line number name.now) result }
+{
+    let mut digits = Buffer::new();
+    let parts = ["actrun: line ", digits.format(number), " ", name, "\n"];
+    put_parts(err, &parts)
+}
+
+/// Says a trouble in one line, and answers whether it was written whole.
+pub(crate) fn say<S: Sink>(err: &mut S, trouble: &Trouble) -> bool
+    ensures { Puts (S.seen err.old) (S.seen err.new) (spec.line trouble.now) result }
 {
     match trouble {
-        Trouble::NoPlan(fault) => writeln!(err, "actrun: load {}", load_name(fault)),
-        Trouble::NoEntry(number) => writeln!(err, "actrun: line {number} NotEntry"),
-        Trouble::Refused(number, fault) => writeln!(
-            err,
-            "actrun: line {number} {}",
-            event_name(*fault)
-        ),
-        Trouble::Memory => writeln!(err, "actrun: memory"),
+        Trouble::NoExpression(fault) => say_placed(err, expr_name(*fault), expr_place(*fault)),
+        Trouble::NoValue(fault) => say_name(err, "value", value_name(*fault)),
+        Trouble::NoContexts(file, fault) => say_file(err, file.as_str(), fault.name()),
+        Trouble::NoPlan(fault) => say_name(err, "load", load_name(fault)),
+        Trouble::NoEntry(number) => say_numbered(err, *number, "NotEntry"),
+        Trouble::Refused(number, fault) => say_numbered(err, *number, event_name(*fault)),
+        Trouble::Words => err.put(b"actrun: words\n"),
+        Trouble::Io => err.put(b"actrun: io\n"),
+        Trouble::Memory => err.put(b"actrun: memory\n"),
     }
 }

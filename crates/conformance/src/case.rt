@@ -261,6 +261,7 @@ impl Case {
         let (what, number) = text.split_once(' ').unwrap_or((text, ""));
         let number = number.parse::<usize>().unwrap_or(usize::MAX);
         match what {
+            "words" => self.limits.words_fail = true,
             "in" => self.limits.read_fails = true,
             "out" => self.limits.out = number,
             "err" => self.limits.err = number,

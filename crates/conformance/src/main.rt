@@ -13,8 +13,8 @@
 //   ! TEXT      a line that is wanted on `err`
 //   = STATUS    the exit status that is wanted; without it 0
 //   : NAME TEXT a text with a name, which stays for the cases after this one
-//   % LIMIT     `in`: the reader fails at the end; `out N`, `err N`: that writer fails after N bytes;
-//               `step N`: readers and writers take N bytes a call
+//   % LIMIT     `words`: the words are no UTF-8; `in`: the reader fails at the end; `out N`, `err N`: that writer fails
+//               after N bytes; `step N`: readers and writers take N bytes a call
 //
 // These go on with the text of the line before them:
 //

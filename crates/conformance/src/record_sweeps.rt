@@ -41,7 +41,7 @@ fn table_told(alloc: Global, record: &[u8]) -> Result<String, AllocError> {
         input: record,
         limits: Limits::none(),
     };
-    let found = verbs::run(alloc, &asked);
+    let found = verbs::run(alloc, &asked)?;
     let mut told = format!(in alloc; "{}", found.status)?;
     add_lines(&mut told, ">", found.out.text())?;
     add_lines(&mut told, "!", found.err.text())?;

@@ -8,6 +8,8 @@ use std::io::{ErrorKind, Read, Write};
 pub struct Limits {
     /// The most bytes that a call reads or writes, from 1.
     pub step: usize,
+    /// Whether the words cannot be read.
+    pub words_fail: bool,
     /// Whether the reader fails at its end.
     pub read_fails: bool,
     /// The bytes that `out` takes before it fails.
@@ -21,6 +23,7 @@ impl Limits {
     pub fn none() -> Limits {
         Limits {
             step: usize::MAX,
+            words_fail: false,
             read_fails: false,
             out: usize::MAX,
             err: usize::MAX,

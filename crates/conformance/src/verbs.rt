@@ -1,11 +1,12 @@
-// What the words of a case ask for: a command, or a verb of this program's own.
+// What a case asks for: a command, by the words of the command line, or a verb of this program's own.
 use crate::documents;
 use crate::streams::{Feed, Limits, Page};
-use commands::eval::eval;
-use commands::table::table;
+use commands::stream::{Input, Output};
+use commands::words;
+use commands::words::Folder;
 use std::alloc::{AllocError, Global};
 use std::io;
-use std::io::{Read, Write};
+use std::io::ErrorKind;
 
 /// What a case asks for.
 #[derive(Clone, Copy)]
@@ -27,10 +28,29 @@ pub struct Found {
     pub status: u8,
 }
 
+/// The folder of a case, which has one file.
+#[derive(Drop)]
+struct Shelf<'a> {
+    file: &'a [u8],
+    limits: Limits,
+}
+
+impl<'a> Folder for Shelf<'a> {
+    type File = Input<Feed<'a>>;
+
+    fn open(&self, name: &str) -> Option<Input<Feed<'a>>> {
+        if name == "contexts.json" {
+            Some(Input::new(Feed::new(self.file, self.limits)))
+        } else {
+            None
+        }
+    }
+}
+
 /// Does what is asked. A verb writes its answer to `out`, faults too; its status is 0.
 pub fn perform(alloc: Global, asked: &Asked<'_>) -> Result<Found, AllocError> {
     if !asked.is_verb {
-        return Ok(run(alloc, asked));
+        return run(alloc, asked);
     }
     let text = documents::told(alloc, asked.words, asked.file, asked.input)?;
     let mut out = Page::new(alloc, usize::MAX, usize::MAX);
@@ -40,71 +60,43 @@ pub fn perform(alloc: Global, asked: &Asked<'_>) -> Result<Found, AllocError> {
     Ok(Found { out, err, status })
 }
 
-/// Runs a command.
-pub fn run(alloc: Global, asked: &Asked<'_>) -> Found {
-    let mut out = Page::new(alloc, asked.limits.step, asked.limits.out);
-    let mut err = Page::new(alloc, asked.limits.step, asked.limits.err);
-    let status = run_command(alloc, asked, &mut out, &mut err);
-    Found { out, err, status }
-}
-
-/// Runs the command that the words ask for, and gives its status.
-fn run_command<O: Write, E: Write>(
-    alloc: Global,
-    asked: &Asked<'_>,
-    out: &mut O,
-    err: &mut E,
-) -> u8 {
-    match asked.words {
-        ["table"] => {
-            let mut reader = Feed::new(asked.input, asked.limits);
-            run_table(alloc, &mut reader, out, err)
-        },
-        ["eval", expression] | ["eval", "--", expression] => {
-            let mut reader = "{}".as_bytes();
-            run_eval(alloc, &mut reader, expression, out, err)
-        },
-        ["eval", "--contexts", "contexts.json", expression]
-        | ["eval", "--contexts", "contexts.json", "--", expression] => {
-            let mut reader = Feed::new(asked.file, asked.limits);
-            run_eval(alloc, &mut reader, expression, out, err)
-        },
-        _ => {
-            let _ = writeln!(err, "actrun: words");
-            2
-        },
+/// The words of a command line, of which the first names the program.
+fn command_line(alloc: Global, words: &[&str]) -> Result<Vec<String>, AllocError> {
+    let mut line = Vec::new(alloc);
+    line.push(String::from_str(alloc, "actrun")?)?;
+    for word in words {
+        line.push(String::from_str(alloc, *word)?)?;
     }
+    Ok(line)
 }
 
-/// Runs the command `table`, and gives its status.
-fn run_table<R: Read, O: Write, E: Write>(
-    alloc: Global,
-    reader: &mut R,
-    out: &mut O,
-    err: &mut E,
-) -> u8 {
-    status_of(table(alloc, reader, out, err), err)
+/// Runs the command that the words ask for.
+pub fn run(alloc: Global, asked: &Asked<'_>) -> Result<Found, AllocError> {
+    let line = command_line(alloc, asked.words)?;
+    Ok(run_words(alloc, line.as_slice(), asked))
 }
 
-/// Runs the command `eval` over a file of contexts of that name, and gives its status.
-fn run_eval<R: Read, O: Write, E: Write>(
-    alloc: Global,
-    reader: &mut R,
-    expression: &str,
-    out: &mut O,
-    err: &mut E,
-) -> u8 {
-    let file = "contexts.json";
-    status_of(eval(alloc, file, reader, expression, out, err), err)
-}
-
-/// The status of a command that may fail to read or write.
-fn status_of<E: Write>(answer: io::Result<u8>, err: &mut E) -> u8 {
-    match answer {
-        Ok(status) => status,
-        Err(_) => {
-            let _ = writeln!(err, "actrun: io");
-            3
-        },
+/// Runs the command that these words ask for, or none where they are no UTF-8.
+fn run_words(alloc: Global, line: &[String], asked: &Asked<'_>) -> Found {
+    let Asked {
+        file,
+        input,
+        limits,
+        ..
+    } = *asked;
+    let folder = Shelf { file, limits };
+    let mut input = Input::new(Feed::new(input, limits));
+    let mut out = Output::new(Page::new(alloc, limits.step, limits.out));
+    let mut err = Output::new(Page::new(alloc, limits.step, limits.err));
+    let status = if limits.words_fail {
+        let line = Err(io::Error::from(ErrorKind::InvalidData));
+        words::run_line(alloc, line, &folder, &mut input, &mut out, &mut err)
+    } else {
+        words::run(alloc, line, &folder, &mut input, &mut out, &mut err)
+    };
+    Found {
+        out: out.into_writer(),
+        err: err.into_writer(),
+        status,
     }
 }

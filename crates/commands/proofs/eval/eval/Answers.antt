@@ -1,6 +1,18 @@
-use Rattle.commands.proofs.Answered.{memory_told}
+use Rattle.std.proofs.Common.{ℕ, List, subst}
+use Rattle.commands.proofs.Told.{read_told, unread_told}
+use Rattle.commands.specs.Eval.{IsEvalAnswer}
+use Rattle.commands.specs.Tell.{OrMemory, answer_seen}
 use Rattle.commands.proofs.eval.eval.Goals as goal
 
-pub returns-then-eq : goal.returns-then-eq
-returns-then-eq g c =
-    memory_told c.refuse.result (g.R.Read.remaining c.args.reader.now) c.args.file.now c.args.expression.now (g.O.Write.contents c.args.out.now) (g.E.Write.contents c.args.err.now) (g.E.Write.contents c.refuse.new.err) c.refuse.ensures.line c.refuse.ensures.status
+pub returns-in-Ok : goal.returns-in-Ok
+returns-in-Ok g c =
+    let found = answer_seen c.answer.result in
+    let Is = IsEvalAnswer c.args.file.now c.args.expression.now in
+    read_told Is _ _ _ _ _ _ c.in-Ok.bytes.items found _ c.in-Ok.ensures
+    (subst (λ (bytes : List ℕ). OrMemory found (Is bytes found)) c.as_slice.ensures.value c.answer.ensures)
+    c.tell.ensures
+
+pub returns-in-Err : goal.returns-in-Err
+returns-in-Err g c =
+    unread_told (IsEvalAnswer c.args.file.now c.args.expression.now) _ _ _ _ _ c.in-Err.fault _ c.in-Err.ensures c.refuse_source.ensures.line
+    c.refuse_source.ensures.status

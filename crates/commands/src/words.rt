@@ -1,0 +1,165 @@
+// The command line: which command its words ask for, and what it leaves.
+ghost use Rattle.std.specs.Prelude.{◌≡◌, IfErr};
+ghost use Rattle.std.specs.IoError.{error_kind};
+ghost use Rattle.commands.specs.Words as spec;
+ghost use Rattle.commands.specs.Words.{RunTells};
+
+use crate::eval::eval;
+use crate::stream::{Input, Sink, Source};
+use crate::table::table;
+use crate::tell::refuse;
+use crate::trouble::Trouble;
+use clap::{Arg, ArgMatches, Command, Error};
+use std::alloc::{AllocError, Global};
+use std::env::Args;
+use std::io;
+use std::io::ErrorKind;
+
+/// Where the files are that words name.
+pub trait Folder {
+    /// A file that is read.
+    type File: Source + Drop;
+
+    /// Opens the file of that name, where that can be done.
+    fn open(&self, name: &str) -> Option<Self::File>;
+}
+
+/// The commands, one level deep.
+fn known_commands<'a>(alloc: Global) -> Result<Command<'a>, AllocError> {
+    let table = Command::new(alloc, "table");
+    let eval = Command::new(alloc, "eval")
+        .arg(Arg::new(alloc, "contexts").long("contexts"))?
+        .arg(Arg::new(alloc, "expression").required(true))?;
+    Command::new(alloc, "actrun")
+        .subcommand_required(true)
+        .subcommand(table)?
+        .subcommand(eval)
+}
+
+/// Runs `eval` over a file of contexts.
+fn run_eval_over<F: Folder, O: Sink, E: Sink>(
+    alloc: Global,
+    folder: &F,
+    file: &str,
+    expression: &str,
+    out: &mut O,
+    err: &mut E,
+) -> u8
+    ensures { spec.RunsEval (O.seen out.old) (O.seen out.new)
+        (E.seen err.old) (E.seen err.new) result }
+{
+    match folder.open(file) {
+        Some(mut contexts) => eval(alloc, file, &mut contexts, expression, out, err),
+        None => refuse(err, &Trouble::Io),
+    }
+}
+
+/// Runs `eval` with its words. Without `--contexts` it is as with a file of no contexts.
+fn run_eval<F: Folder, O: Sink, E: Sink>(
+    alloc: Global,
+    words: &ArgMatches,
+    folder: &F,
+    out: &mut O,
+    err: &mut E,
+) -> u8
+    ensures { spec.RunsEval (O.seen out.old) (O.seen out.new)
+        (E.seen err.old) (E.seen err.new) result }
+{
+    let expression = words.get_str("expression").unwrap_or("");
+    match words.get_str("contexts") {
+        Some(file) => run_eval_over(alloc, folder, file, expression, out, err),
+        None => {
+            let mut none = Input::new("{}".as_bytes());
+            eval(alloc, "", &mut none, expression, out, err)
+        },
+    }
+}
+
+/// Runs the command that was found in the words.
+fn perform<F: Folder, I: Source, O: Sink, E: Sink>(
+    alloc: Global,
+    words: &ArgMatches,
+    folder: &F,
+    input: &mut I,
+    out: &mut O,
+    err: &mut E,
+) -> u8
+    ensures { RunTells (I.seen input.old) (I.seen input.new)
+        (O.seen out.old) (O.seen out.new) (E.seen err.old) (E.seen err.new) result }
+{
+    match words.subcommand() {
+        Some(("table", _)) => table(alloc, input, out, err),
+        Some(("eval", inner)) => run_eval(alloc, inner, folder, out, err),
+        _ => refuse(err, &Trouble::Words),
+    }
+}
+
+/// Whether the words were refused for want of memory alone.
+fn is_memory(error: &Error) -> bool {
+    matches!(error.kind(), clap::error::ErrorKind::OutOfMemory)
+}
+
+/// Runs the command that the words ask for, of which the first names the program; `folder` has the files that they may
+/// name. The answer is the exit status.
+pub fn run<F: Folder, I: Source, O: Sink, E: Sink>(
+    alloc: Global,
+    words: &[String],
+    folder: &F,
+    input: &mut I,
+    out: &mut O,
+    err: &mut E,
+) -> u8
+    ensures { RunTells (I.seen input.old) (I.seen input.new)
+        (O.seen out.old) (O.seen out.new) (E.seen err.old) (E.seen err.new) result }
+{
+    let Ok(known) = known_commands(alloc) else {
+        return refuse(err, &Trouble::Memory);
+    };
+    match known.try_get_matches_from(words) {
+        Ok(matches) => perform(alloc, &matches, folder, input, out, err),
+        Err(error) => {
+            if is_memory(&error) {
+                return refuse(err, &Trouble::Memory);
+            }
+            refuse(err, &Trouble::Words)
+        },
+    }
+}
+
+/// Why the words of a command line cannot be had: they are no UTF-8, or there is no memory.
+fn refuse_line<E: Sink>(err: &mut E, error: io::Error) -> u8
+    ensures { spec.SaysLine (error_kind error) (E.seen err.old) (E.seen err.new) result }
+{
+    match error.kind() {
+        ErrorKind::InvalidData => refuse(err, &Trouble::Words),
+        ErrorKind::OutOfMemory => refuse(err, &Trouble::Memory),
+        _ => refuse(err, &Trouble::Io),
+    }
+}
+
+/// Runs the command that a command line asks for, as it was read. One that is no UTF-8 asks for none. The answer is the
+/// exit status.
+pub fn run_line<F: Folder, I: Source, O: Sink, E: Sink>(
+    alloc: Global,
+    line: io::Result<Args>,
+    folder: &F,
+    input: &mut I,
+    out: &mut O,
+    err: &mut E,
+) -> u8
+    ensures tells { RunTells (I.seen input.old) (I.seen input.new)
+        (O.seen out.old) (O.seen out.new) (E.seen err.old) (E.seen err.new) result }
+    ensures unread { IfErr line (λ e. spec.TellsLine (error_kind e)
+        (O.seen out.old) (O.seen out.new) (E.seen err.old) (E.seen err.new) result) }
+{
+    match line {
+        Ok(words) => {
+            let words: Vec<String> = match words.collect(alloc) {
+                Ok(words) => words,
+                Err(_) => return refuse(err, &Trouble::Memory),
+            };
+            run(alloc, words.as_slice(), folder, input, out, err)
+        },
+        Err(error) => refuse_line(err, error),
+    }
+}
