@@ -1,9 +1,6 @@
 // actrun: the program. `main` hands words, files and streams to `commands`, and gives the exit status back.
 #![tactic(auto)]
 
-#[cfg(test)]
-mod tests;
-
 use commands::stream::{Input, Output};
 use commands::words::{Folder, run_line};
 use std::fs::{File, Files};

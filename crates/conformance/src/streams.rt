@@ -1,0 +1,110 @@
+// A reader and a writer over memory that may take few bytes a call, or fail.
+use std::alloc::{AllocError, Global};
+use std::io;
+use std::io::{ErrorKind, Read, Write};
+
+/// How readers and writers behave.
+#[derive(Clone, Copy)]
+pub struct Limits {
+    /// The most bytes that a call reads or writes, from 1.
+    pub step: usize,
+    /// Whether the words cannot be read.
+    pub words_fail: bool,
+    /// Whether the reader fails at its end.
+    pub read_fails: bool,
+    /// The bytes that `out` takes before it fails.
+    pub out: usize,
+    /// The bytes that `err` takes before it fails.
+    pub err: usize,
+}
+
+impl Limits {
+    /// No limits.
+    pub fn none() -> Limits {
+        Limits {
+            step: usize::MAX,
+            words_fail: false,
+            read_fails: false,
+            out: usize::MAX,
+            err: usize::MAX,
+        }
+    }
+}
+
+/// A reader of bytes.
+#[derive(Drop)]
+pub struct Feed<'a> {
+    rest: &'a [u8],
+    step: usize,
+    fails: bool,
+}
+
+impl<'a> Feed<'a> {
+    /// A reader of these bytes within limits.
+    pub fn new(bytes: &'a [u8], limits: Limits) -> Feed<'a> {
+        Feed {
+            rest: bytes,
+            step: limits.step,
+            fails: limits.read_fails,
+        }
+    }
+}
+
+impl Read for Feed<'_> {
+    fn read(&mut self, buf: &mut [u8]) -> io::Result<usize> {
+        if self.rest.is_empty() && self.fails {
+            return Err(io::Error::from(ErrorKind::Other));
+        }
+        let count = buf.len().min(self.step).min(self.rest.len());
+        let (front, back) = self.rest.split_at(count);
+        buf[..count].copy_from_slice(front);
+        self.rest = back;
+        Ok(count)
+    }
+}
+
+/// A writer that keeps what it takes.
+#[derive(Drop)]
+pub struct Page {
+    text: Vec<u8>,
+    step: usize,
+    room: usize,
+}
+
+impl Page {
+    /// A writer that fails after so many bytes.
+    pub fn new(alloc: Global, step: usize, room: usize) -> Page {
+        let text = Vec::new(alloc);
+        Page { text, step, room }
+    }
+
+    /// Takes a text that ends with a newline, which is added where there is none.
+    pub fn put_line(&mut self, text: &str) -> Result<(), AllocError> {
+        self.text.extend_from_slice(text.as_bytes())?;
+        if !text.ends_with('\n') {
+            self.text.push(b'\n')?;
+        }
+        Ok(())
+    }
+
+    /// What was written.
+    pub fn text(&self) -> &[u8] {
+        self.text.as_slice()
+    }
+}
+
+impl Write for Page {
+    fn write(&mut self, buf: &[u8]) -> io::Result<usize> {
+        if self.room == 0 {
+            return Err(io::Error::from(ErrorKind::Other));
+        }
+        let count = buf.len().min(self.step).min(self.room);
+        self.text.extend_from_slice(&buf[..count])?;
+        self.room -= count;
+        Ok(count)
+    }
+
+    fn flush(&mut self) -> io::Result<()> {
+        Ok(())
+    }
+}
