@@ -1,4 +1,5 @@
-// actrun: the program. `main` hands words, files and streams to `commands`, and gives the exit status back.
+//! actrun: the program. `main` hands words, files and streams to `commands`, and gives the exit status back.
+
 #![tactic(auto)]
 
 use commands::stream::{Input, Output};

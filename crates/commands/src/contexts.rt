@@ -1,4 +1,5 @@
-// The contexts that a file gives to an expression.
+//! The contexts that a file gives to an expression.
+
 ghost use Rattle.std.specs.Prelude.{◌≡◌, [], Some};
 ghost use Rattle.flow_model.specs.Json.{value_of};
 ghost use Rattle.serde_json.specs.View.{view as json_view, members_view};

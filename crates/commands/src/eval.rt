@@ -1,4 +1,5 @@
-// `actrun eval`: the value of an expression.
+//! `actrun eval`: the value of an expression.
+
 ghost use Rattle.std.specs.Prelude.{◌≡◌, IfOk, string_bytes};
 ghost use Rattle.serde_json.specs.Written.{compact_text};
 ghost use Rattle.expr_reader.specs.View.{view as tree_view};

@@ -1,4 +1,5 @@
-// Streams of bytes that know whether a call on them has failed.
+//! Streams of bytes that know whether a call on them has failed.
+
 ghost use Rattle.std.specs.Prelude.{◌≡◌, ℕ, List, Option, map, flat_map};
 ghost use Rattle.commands.specs.Stream.{Stream, Puts, ReadsAll};
 ghost use Rattle.commands.specs.Stream as spec;

@@ -1,4 +1,5 @@
-// `actrun table`: the board after a record.
+//! `actrun table`: the board after a record.
+
 ghost use Rattle.std.specs.Prelude.{◌≡◌};
 ghost use Rattle.commands.specs.Play as spec;
 ghost use Rattle.commands.specs.Table.{OneBoardAnswer, SomeBoardAnswer, TableTells};

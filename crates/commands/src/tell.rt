@@ -1,4 +1,5 @@
-// What a command leaves of its answer: a text on `out`, or one line on `err`, and an exit status.
+//! What a command leaves of its answer: a text on `out`, or one line on `err`, and an exit status.
+
 ghost use Rattle.std.specs.Prelude.{◌≡◌};
 ghost use Rattle.commands.specs.Tell.{Says, Tells, answer_seen};
 ghost use Rattle.commands.specs.Trouble.{line, source_trouble, trouble_status};

@@ -1,4 +1,5 @@
-// Why a command has nothing to tell: the troubles of all commands, the line of each and its exit status.
+//! Why a command has nothing to tell: the troubles of all commands, the line of each and its exit status.
+
 ghost use Rattle.std.specs.Prelude.{◌≡◌};
 ghost use Rattle.commands.specs.Stream.{Puts};
 ghost use Rattle.commands.specs.Trouble as spec;

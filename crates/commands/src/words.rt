@@ -1,4 +1,5 @@
-// The command line: which command its words ask for, and what it leaves.
+//! The command line: which command its words ask for, and what it leaves.
+
 ghost use Rattle.std.specs.Prelude.{◌≡◌, IfErr};
 ghost use Rattle.std.specs.IoError.{error_kind};
 ghost use Rattle.commands.specs.Words as spec;

@@ -1,4 +1,5 @@
-// The cases of a file: their marks are read, each is played, and what differs is told.
+//! The cases of a file: their marks are read, each is played, and what differs is told.
+
 use crate::streams::Limits;
 use crate::verbs::{Asked, Found, perform};
 use std::alloc::{AllocError, Global};

@@ -1,15 +1,16 @@
-// The verbs of plans, entries, records and boards, which read the input.
-//
-//   plan            the text of the plan that the input is, printed
-//   entry           the text of the entry that it is, printed
-//   record          the text of the record that it is, printed
-//   copy            the same of copies, whose plan was checked anew
-//   apply [WORKER]  the reply to each entry of the record, reported by that worker, and the board after them
-//   run             how far the record can be played, and a copy of the board after it
-//   sample board    a copy of a board that no record can give so far
-//   sample reply    a copy of a reply that no record can give so far
-//
-// What is refused is told by its fault, with its path or line.
+//! The verbs of plans, entries, records and boards, which read the input.
+//!
+//!   plan            the text of the plan that the input is, printed
+//!   entry           the text of the entry that it is, printed
+//!   record          the text of the record that it is, printed
+//!   copy            the same of copies, whose plan was checked anew
+//!   apply [WORKER]  the reply to each entry of the record, reported by that worker, and the board after them
+//!   run             how far the record can be played, and a copy of the board after it
+//!   sample board    a copy of a board that no record can give so far
+//!   sample reply    a copy of a reply that no record can give so far
+//!
+//! What is refused is told by its fault, with its path or line.
+
 use crate::{expressions, samples};
 use flow_model::{
     Board, Broken, CallWork, CheckedPlan, Duplicate, Entry, Reply, Sequence, StepCall, What,

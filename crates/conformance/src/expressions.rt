@@ -1,14 +1,15 @@
-// The verbs of expressions and values, over the contexts of the file.
-//
-//   tree TEXT          the expression that the text is, written out (`tree_text`), or its fault
-//   pieces TEXT        the pieces of the template, one a line, and whether it names a status function; or its fault
-//   condition TEXT     the same of the condition
-//   read KIND TEXT     `read` or the fault, of an `expression`, `template` or `condition`
-//   template TEXT      the value of the template as JSON, or its fault
-//   holds STATUS TEXT  whether the condition holds under `success`, `failure`, `cancelled` or `other`, or its fault
-//   value JSON         a copy of the value as JSON, then as a text, then as a truth value
-//   equal JSON JSON    whether the values are equal, or the fault
-//   fold TEXT TEXT     the first folded, and whether the two are the same ignoring case
+//! The verbs of expressions and values, over the contexts of the file.
+//!
+//!   tree TEXT          the expression that the text is, written out (`tree_text`), or its fault
+//!   pieces TEXT        the pieces of the template, one a line, and whether it names a status function; or its fault
+//!   condition TEXT     the same of the condition
+//!   read KIND TEXT     `read` or the fault, of an `expression`, `template` or `condition`
+//!   template TEXT      the value of the template as JSON, or its fault
+//!   holds STATUS TEXT  whether the condition holds under `success`, `failure`, `cancelled` or `other`, or its fault
+//!   value JSON         a copy of the value as JSON, then as a text, then as a truth value
+//!   equal JSON JSON    whether the values are equal, or the fault
+//!   fold TEXT TEXT     the first folded, and whether the two are the same ignoring case
+
 use crate::pattern_sweeps;
 use crate::tree_text::{write_pieces, write_tree};
 use expr_reader::{

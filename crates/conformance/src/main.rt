@@ -1,33 +1,34 @@
-// conformance: a program that plays the cases of its files and says how many agree, or where one differs.
-//
-// A file of cases is text. A line that begins with a mark and a space (or is the mark alone) says something, and every
-// other line is for the reader. A case is what stands between two empty lines.
-//
-//   # NAME      the name of the cases from here on
-//   $ WORDS     the words of the command line, parted by spaces; a further such line is one word
-//   ? WORDS     likewise those of a verb of this program
-//   | TEXT      a line of the file that the command reads, which stays for the cases after this one
-//   < TEXT      a line of the input
-//   ~ NAMES     the named texts, each as a line of the input
-//   > TEXT      a line that is wanted on `out`
-//   ! TEXT      a line that is wanted on `err`
-//   = STATUS    the exit status that is wanted; without it 0
-//   : NAME TEXT a text with a name, which stays for the cases after this one
-//   % LIMIT     `words`: the words are no UTF-8; `in`: the reader fails at the end; `out N`, `err N`: that writer fails
-//               after N bytes; `step N`: readers and writers take N bytes a call
-//
-// These go on with the text of the line before them:
-//
-//   + TEXT      TEXT follows
-//   & NAME      the named text follows
-//   * N TEXT    TEXT follows N times
-//   @ HEX HEX   these bytes follow; HEX*N is a byte N times
-//   - TEXT      the first such part is taken out, and what follows stands in its place
-//   \           the line has no newline
-//
-// There are no escapes: a text goes to the end of its line. The verbs stand at the heads of `documents`, `expressions`,
-// `pattern_sweeps` and `record_sweeps`. The program stands on `commands` and the libraries below it, and proves
-// nothing of its own; what it wants stands in `data/`.
+//! conformance: a program that plays the cases of its files and says how many agree, or where one differs.
+//!
+//! A file of cases is text. A line that begins with a mark and a space (or is the mark alone) says something, and every
+//! other line is for the reader. A case is what stands between two empty lines.
+//!
+//!   # NAME      the name of the cases from here on
+//!   $ WORDS     the words of the command line, parted by spaces; a further such line is one word
+//!   ? WORDS     likewise those of a verb of this program
+//!   | TEXT      a line of the file that the command reads, which stays for the cases after this one
+//!   < TEXT      a line of the input
+//!   ~ NAMES     the named texts, each as a line of the input
+//!   > TEXT      a line that is wanted on `out`
+//!   ! TEXT      a line that is wanted on `err`
+//!   = STATUS    the exit status that is wanted; without it 0
+//!   : NAME TEXT a text with a name, which stays for the cases after this one
+//!   % LIMIT     `words`: the words are no UTF-8; `in`: the reader fails at the end; `out N`, `err N`: that writer fails
+//!               after N bytes; `step N`: readers and writers take N bytes a call
+//!
+//! These go on with the text of the line before them:
+//!
+//!   + TEXT      TEXT follows
+//!   & NAME      the named text follows
+//!   * N TEXT    TEXT follows N times
+//!   @ HEX HEX   these bytes follow; HEX*N is a byte N times
+//!   - TEXT      the first such part is taken out, and what follows stands in its place
+//!   \           the line has no newline
+//!
+//! There are no escapes: a text goes to the end of its line. The verbs stand at the heads of `documents`, `expressions`,
+//! `pattern_sweeps` and `record_sweeps`. The program stands on `commands` and the libraries below it, and proves
+//! nothing of its own; what it wants stands in `data/`.
+
 #![tactic(auto)]
 
 mod case;

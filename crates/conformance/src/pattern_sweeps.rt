@@ -1,12 +1,13 @@
-// The sweeps over expressions: what many texts of one pattern are read as. A `?` in a pattern is where something stands.
-//
-//   faults PATTERN      `read` or the fault, where each line of the file stands in turn
-//   pairs PATTERN       the trees of what is read, where each line of the file stands first and each second; last the
-//                       number of the others, each of which has a fault with a place in the text
-//   bytes               the same as `faults` for each text of one byte below 128
-//   nest PATTERN TEXT   how often the pattern can stand round the text, and the fault where it stands once more
-//   slices              how many pieces of the file's lines, from the first byte or to the last, as expressions, templates
-//                       and conditions, are read or have a fault with a place in them; those that have none are told
+//! The sweeps over expressions: what many texts of one pattern are read as. A `?` in a pattern is where something stands.
+//!
+//!   faults PATTERN      `read` or the fault, where each line of the file stands in turn
+//!   pairs PATTERN       the trees of what is read, where each line of the file stands first and each second; last the
+//!                       number of the others, each of which has a fault with a place in the text
+//!   bytes               the same as `faults` for each text of one byte below 128
+//!   nest PATTERN TEXT   how often the pattern can stand round the text, and the fault where it stands once more
+//!   slices              how many pieces of the file's lines, from the first byte or to the last, as expressions, templates
+//!                       and conditions, are read or have a fault with a place in them; those that have none are told
+
 use crate::expressions::{fault_of, fault_told, tree_told};
 use crate::record_sweeps;
 use crate::sweep::Sweep;

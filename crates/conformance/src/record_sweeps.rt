@@ -1,11 +1,12 @@
-// The sweeps over the record that is the input: what `table` tells of it after each change of one kind.
-//
-//   cut            its first 0 bytes, 1, and so on
-//   garbled BYTE   each byte in turn made that byte, in hexadecimal
-//   lines CHANGE   each line in turn `doubled`, `dropped`, or `swapped` with the next
-//   raised         each digit behind a colon in turn one greater: 0 becomes 1, another 2
-//
-// What is told is one line: the status, then the lines of `out`, each behind `>`, and those of `err`, each behind `!`.
+//! The sweeps over the record that is the input: what `table` tells of it after each change of one kind.
+//!
+//!   cut            its first 0 bytes, 1, and so on
+//!   garbled BYTE   each byte in turn made that byte, in hexadecimal
+//!   lines CHANGE   each line in turn `doubled`, `dropped`, or `swapped` with the next
+//!   raised         each digit behind a colon in turn one greater: 0 becomes 1, another 2
+//!
+//! What is told is one line: the status, then the lines of `out`, each behind `>`, and those of `err`, each behind `!`.
+
 use crate::streams::Limits;
 use crate::sweep::Sweep;
 use crate::verbs;

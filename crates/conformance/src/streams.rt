@@ -1,4 +1,5 @@
-// A reader and a writer over memory that may take few bytes a call, or fail.
+//! A reader and a writer over memory that may take few bytes a call, or fail.
+
 use std::alloc::{AllocError, Global};
 use std::io;
 use std::io::{ErrorKind, Read, Write};

@@ -1,4 +1,5 @@
-// The answers of a sweep: one line for as many places in a row as have the same answer.
+//! The answers of a sweep: one line for as many places in a row as have the same answer.
+
 use std::alloc::{AllocError, Global};
 
 /// Answers of places in a row.

@@ -1,6 +1,7 @@
-// Expressions, templates and conditions written out: each node in parentheses, its name first.
-//
-// `1 || 2 && !x.y` is `(|| 1 (&& 2 (! (. x "y"))))`; parentheses of the text are `(group ..)`, an index is `([] ..)`.
+//! Expressions, templates and conditions written out: each node in parentheses, its name first.
+//!
+//! `1 || 2 && !x.y` is `(|| 1 (&& 2 (! (. x "y"))))`; parentheses of the text are `(group ..)`, an index is `([] ..)`.
+
 use expr_reader::{Equality, Function, Literal, Piece, Relation, Template, Tree, Wildcard};
 use std::alloc::AllocError;
 

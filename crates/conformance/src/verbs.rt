@@ -1,4 +1,5 @@
-// What a case asks for: a command, by the words of the command line, or a verb of this program's own.
+//! What a case asks for: a command, by the words of the command line, or a verb of this program's own.
+
 use crate::documents;
 use crate::streams::{Feed, Limits, Page};
 use commands::stream::{Input, Output};

@@ -8,6 +8,7 @@
 //! space. What a text spells is defined in `specs/Spells.antt` and `specs/Template.antt`, over
 //! `specs/Grammar.antt` and `specs/Spelling.antt`, and as functions in `specs/Accepts.antt`. The crate
 //! stands on no other.
+
 #![tactic(auto)]
 
 mod bytes;

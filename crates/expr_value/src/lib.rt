@@ -5,6 +5,7 @@
 //! `loose_eq` are the conversions and the equality that they use. All are defined in `specs/`: `Convert`, `Compare`,
 //! `Functions`, `Dereference`, `Evaluate`, `Template` and `Condition`. The crate stands on `flow_model` (values) and
 //! `expr_reader` (trees).
+
 #![tactic(auto)]
 
 mod bounded;

@@ -1,4 +1,5 @@
-// The board: how far each run, job, leg and step of a plan is.
+//! The board: how far each run, job, leg and step of a plan is.
+
 use crate::duplicate::Duplicate;
 use crate::event::Outcome;
 use crate::mapping::Mapping;

@@ -1,7 +1,8 @@
-// The check of a plan's rules, and what it lets through.
-//
-// Each function here answers the path of the first broken rule of a part, as that rule's definition
-// finds it.
+//! The check of a plan's rules, and what it lets through.
+//!
+//! Each function here answers the path of the first broken rule of a part, as that rule's definition
+//! finds it.
+
 ghost use Rattle.std.specs.Prelude.{◌≡◌, is_ok, ◌+◌, ◌≤◌, ℕ, Bool, List, Option, IfOk, OnOk, None, length, decimal};
 ghost use Rattle.std.specs.List.{list_any};
 ghost use Rattle.std.specs.Str.{bytes_eq};

@@ -1,4 +1,5 @@
-// Copies that are equal to what they were made from.
+//! Copies that are equal to what they were made from.
+
 ghost use Rattle.std.specs.Prelude.{◌≡◌, IfOk, OnOk, option_map, Some, None};
 
 use std::alloc::{AllocError, Global};

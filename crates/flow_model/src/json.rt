@@ -1,4 +1,5 @@
-// A value to JSON and back, for all that reads or prints values.
+//! A value to JSON and back, for all that reads or prints values.
+
 ghost use Rattle.std.specs.Prelude.{◌≡◌, IfOk, IsTrue, Some, map};
 ghost use Rattle.serde_json.specs.View.{view as json_view, items_view, members_view, number_view};
 ghost use Rattle.flow_model.specs.Json.{json_items, json_members, json_of, value_of, whole_of, value_items, value_members, is_in_range, ReadsAs};

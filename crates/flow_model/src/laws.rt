@@ -1,4 +1,5 @@
-// Laws of the definitions, as contracts of functions that do nothing.
+//! Laws of the definitions, as contracts of functions that do nothing.
+
 ghost use Rattle.flow_model.specs.Laws.{DepthIsNesting, RulesHold, JobsFollowRuns, NeedsPointBack};
 
 /// A value passes the test of its depth exactly where it nests no deeper, with all numbers in range.

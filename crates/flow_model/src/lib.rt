@@ -1,15 +1,16 @@
-// flow_model: the data of the product, as every other crate sees it.
-//
-// It has the values of a workflow, the plan with its rules, the board of a plan in play, the events
-// that change it and the replies to them, and three small containers that contracts see as plain
-// lists: a text, a sequence and a mapping.
-//
-// It promises that `Plan::check` accepts exactly the plans whose rules all hold and of which all is offered
-// so far, that a `CheckedPlan` is made there or copied from one, that every `copy` is equal to what it was
-// made from, and that JSON becomes a value, and a value JSON, exactly. What follows from its definitions alone
-// stands in `laws`: the rules of a plan in their own words, how deep values nest, and the numbers of jobs.
-//
-// It stands on `serde_json` alone, and `thiserror` for its errors.
+//! flow_model: the data of the product, as every other crate sees it.
+//!
+//! It has the values of a workflow, the plan with its rules, the board of a plan in play, the events
+//! that change it and the replies to them, and three small containers that contracts see as plain
+//! lists: a text, a sequence and a mapping.
+//!
+//! It promises that `Plan::check` accepts exactly the plans whose rules all hold and of which all is offered
+//! so far, that a `CheckedPlan` is made there or copied from one, that every `copy` is equal to what it was
+//! made from, and that JSON becomes a value, and a value JSON, exactly. What follows from its definitions alone
+//! stands in `laws`: the rules of a plan in their own words, how deep values nest, and the numbers of jobs.
+//!
+//! It stands on `serde_json` alone, and `thiserror` for its errors.
+
 #![tactic(auto)]
 
 pub mod board;

@@ -1,4 +1,5 @@
-// A mapping from texts, which contracts see as the list of its pairs in the order of their keys.
+//! A mapping from texts, which contracts see as the list of its pairs in the order of their keys.
+
 ghost use Rattle.std.specs.Prelude.{◌≡◌, ◌==◌, [], OnOk, OnErr, IfOk, length, string_bytes};
 ghost use Rattle.std.specs.Option.{option_copied};
 ghost use Rattle.flow_model.specs.Mapping.{pairs_of, value_at, with_pair, Ascends};

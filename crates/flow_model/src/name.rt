@@ -1,4 +1,5 @@
-// The names of jobs, steps and outputs.
+//! The names of jobs, steps and outputs.
+
 ghost use Rattle.std.specs.Prelude.{◌≡◌};
 ghost use Rattle.flow_model.specs.Name as spec;
 

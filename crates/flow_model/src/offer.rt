@@ -1,4 +1,5 @@
-// The parts of a plan that are not offered yet.
+//! The parts of a plan that are not offered yet.
+
 ghost use Rattle.std.specs.Prelude.{◌≡◌};
 ghost use Rattle.flow_model.specs.Found.{Checks};
 ghost use Rattle.flow_model.specs.Offered as spec;

@@ -1,7 +1,8 @@
-// A plan: the runs that a choice of workflows comes to, with all that playing them needs.
-//
-// The fields are the keys of the plan document. GitHub Docs, workflow syntax, says what each key of a
-// workflow means.
+//! A plan: the runs that a choice of workflows comes to, with all that playing them needs.
+//!
+//! The fields are the keys of the plan document. GitHub Docs, workflow syntax, says what each key of a
+//! workflow means.
+
 use crate::duplicate::{Copies, Duplicate};
 use crate::mapping::Mapping;
 use crate::sequence::Sequence;

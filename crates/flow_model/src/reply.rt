@@ -1,4 +1,5 @@
-// What the board answers to an event that it accepts.
+//! What the board answers to an event that it accepts.
+
 ghost use Rattle.std.specs.Prelude.{◌≡◌};
 ghost use Rattle.flow_model.specs.Faults.{value_fault_name};
 

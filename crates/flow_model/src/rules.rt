@@ -1,4 +1,5 @@
-// The rules of each part of a plan.
+//! The rules of each part of a plan.
+
 ghost use Rattle.std.specs.Prelude.{◌≡◌, ◌+◌, ◌<◌, ◌≤◌, ◌^◌, MatchOption, OnOk, List, ℕ, codes, decimal, length, nat_le};
 ghost use Rattle.std.specs.List.{list_any};
 ghost use Rattle.std.specs.Str.{bytes_eq};

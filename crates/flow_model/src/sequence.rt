@@ -1,4 +1,5 @@
-// A sequence, which contracts see as the list of its items.
+//! A sequence, which contracts see as the list of its items.
+
 ghost use Rattle.std.specs.Prelude.{◌≡◌, ◌==◌, [], ◌∷◌, ◌++◌, OnOk, OnErr, length, slice_get, slice_set};
 ghost use Rattle.std.specs.Option.{option_copied_mut};
 

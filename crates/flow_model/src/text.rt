@@ -1,4 +1,5 @@
-// A text, which contracts see as the list of its bytes.
+//! A text, which contracts see as the list of its bytes.
+
 ghost use Rattle.std.specs.Prelude.{◌≡◌, ◌==◌, IfOk, string_bytes, length};
 
 use crate::duplicate::Duplicate;

@@ -1,4 +1,5 @@
-// The rules of texts that are evaluated.
+//! The rules of texts that are evaluated.
+
 ghost use Rattle.std.specs.Prelude.{◌≡◌, ◌≤◌, codes, drop, length, nat_eq};
 ghost use Rattle.std.specs.List.{starts_with};
 ghost use Rattle.flow_model.specs.Rules as spec;

@@ -1,4 +1,5 @@
-// The values of contexts, matrix combinations and environments.
+//! The values of contexts, matrix combinations and environments.
+
 ghost use Rattle.std.specs.Prelude.{◌≡◌, ◌++◌, IfOk};
 ghost use Rattle.flow_model.specs.Mapping.{pairs_of};
 ghost use Rattle.flow_model.specs.Value.{view, views, viewed};

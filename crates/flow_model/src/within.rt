@@ -1,4 +1,5 @@
-// The rules of values: how deep they nest, and the range of their numbers.
+//! The rules of values: how deep they nest, and the range of their numbers.
+
 ghost use Rattle.std.specs.Prelude.{◌≡◌};
 ghost use Rattle.std.specs.List.{list_all};
 ghost use Rattle.flow_model.specs.Mapping.{pairs_of};

@@ -1,4 +1,5 @@
-// Why a text is refused.
+//! Why a text is refused.
+
 ghost use Rattle.std.specs.Prelude.{◌≡◌};
 ghost use Rattle.plan_text.specs.Fault.{load_fault_name};
 

@@ -1,4 +1,5 @@
-// The members of an object, read one after the other in the order of their keys.
+//! The members of an object, read one after the other in the order of their keys.
+
 ghost use Rattle.std.specs.Prelude.{map};
 ghost use Rattle.serde_json.specs.View.{view};
 ghost use Rattle.plan_text.specs.Answer.{GivesIt};

@@ -1,4 +1,5 @@
-// A job from its document: the longest of the objects.
+//! A job from its document: the longest of the objects.
+
 use crate::fields::read_object;
 use crate::reading::{FromJson, Unread};
 use flow_model::JobPlan;

@@ -1,4 +1,5 @@
-// JSON text (RFC 8259), as `serde_json` reads it.
+//! JSON text (RFC 8259), as `serde_json` reads it.
+
 ghost use Rattle.std.specs.Prelude.{◌≡◌, IfOk, option_map};
 ghost use Rattle.serde_json.specs.View.{view};
 ghost use Rattle.plan_text.specs.Load.{json_read};

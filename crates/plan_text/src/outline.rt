@@ -1,9 +1,10 @@
-// A plan from the text that is printed of it, job by job.
-//
-// An outline of the text is kept, whose texts lie in the text itself, and a tree is made of one job
-// at a time. The outline takes some five times the text, and a tree of the whole would take fifteen
-// times the text. What is spelled in another order is refused here: it is for the reading of whole
-// trees.
+//! A plan from the text that is printed of it, job by job.
+//!
+//! An outline of the text is kept, whose texts lie in the text itself, and a tree is made of one job
+//! at a time. The outline takes some five times the text, and a tree of the whole would take fifteen
+//! times the text. What is spelled in another order is refused here: it is for the reading of whole
+//! trees.
+
 ghost use Rattle.std.specs.Prelude.{◌≡◌, IfOk, Ok};
 ghost use Rattle.json.specs.Value.{value_view};
 ghost use Rattle.serde_json.specs.View.{view};

@@ -1,4 +1,5 @@
-// Plan documents: what is printed of a plan, and the plan that a text loads as.
+//! Plan documents: what is printed of a plan, and the plan that a text loads as.
+
 ghost use Rattle.std.specs.Prelude.{◌≡◌, IfOk, Some, Ok, string_bytes};
 ghost use Rattle.serde_json.specs.View.{view};
 ghost use Rattle.serde_json.specs.Written.{compact_text};

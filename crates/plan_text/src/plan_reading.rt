@@ -1,4 +1,5 @@
-// A plan from its document, object by object.
+//! A plan from its document, object by object.
+
 ghost use Rattle.serde_json.specs.View.{view};
 ghost use Rattle.plan_text.specs.Answer.{GivesIt};
 ghost use Rattle.plan_text.specs.Reading.{script_of, action_of};

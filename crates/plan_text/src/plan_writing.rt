@@ -1,4 +1,5 @@
-// The document of a plan and of each of its parts, object by object.
+//! The document of a plan and of each of its parts, object by object.
+
 use crate::writing::{ToJson, Word, object};
 use flow_model::{Flag, Group, JobPlan, Plan, Roots, RunPlan, Shell, StepPlan, Work};
 use serde_json::Value;

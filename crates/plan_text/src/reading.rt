@@ -1,4 +1,5 @@
-// How a part of a document is read from JSON.
+//! How a part of a document is read from JSON.
+
 ghost use Rattle.std.specs.Prelude.{◌≡◌, ◌∷◌, ◌++◌, length, decimal, IfOk, Ok, Err, string_bytes, codes, ⊤};
 ghost use Rattle.serde_json.specs.View.{view, items_view, members_view};
 ghost use Rattle.plan_text.specs.Answer.{Gives, GivesIt, IsRefusal, IsWithin};

@@ -1,4 +1,5 @@
-// How a part of a document is written as JSON.
+//! How a part of a document is written as JSON.
+
 ghost use Rattle.std.specs.Prelude.{◌≡◌, IfOk, OnOk, map};
 ghost use Rattle.serde_json.specs.Data.{object, no_members, put as with_member};
 ghost use Rattle.serde_json.specs.View.{view, members_view};

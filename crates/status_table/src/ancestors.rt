@@ -1,6 +1,7 @@
-// The status of a job, by the results of its ancestors.
-//
-// Needs point backwards, so one pass from the front finds which jobs have an ancestor that is looked for.
+//! The status of a job, by the results of its ancestors.
+//!
+//! Needs point backwards, so one pass from the front finds which jobs have an ancestor that is looked for.
+
 ghost use Rattle.std.specs.Prelude.{◌≡◌, ◌<◌, IfOk, map, length};
 ghost use Rattle.status_table.specs.Ancestors as spec;
 ghost use Rattle.status_table.specs.Derived as derived;

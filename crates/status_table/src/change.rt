@@ -1,4 +1,5 @@
-// Changes of a board in place.
+//! Changes of a board in place.
+
 ghost use Rattle.std.specs.Prelude.{◌≡◌, OnOk, OnErr};
 ghost use Rattle.status_table.specs.Row as row;
 

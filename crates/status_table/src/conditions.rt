@@ -1,7 +1,8 @@
-// What decides: conditions, flags and the texts of a call.
-//
-// Expressions are not offered yet, so a condition is always `success()`, a flag is spelled out, and a text is
-// itself.
+//! What decides: conditions, flags and the texts of a call.
+//!
+//! Expressions are not offered yet, so a condition is always `success()`, a flag is spelled out, and a text is
+//! itself.
+
 ghost use Rattle.std.specs.Prelude.{◌≡◌, IfOk, Ok};
 ghost use Rattle.status_table.specs.Conditions as spec;
 

@@ -1,4 +1,5 @@
-// What follows from a board: what has ended, the results of jobs, what is to stop, and the statuses of legs.
+//! What follows from a board: what has ended, the results of jobs, what is to stop, and the statuses of legs.
+
 ghost use Rattle.std.specs.Prelude.{◌≡◌, map, count_by};
 ghost use Rattle.std.specs.List.{list_any};
 ghost use Rattle.status_table.specs.Derived as spec;

@@ -1,6 +1,7 @@
-// The events of the table, each as a change of a board.
-//
-// Each function looks for a refusal first, makes what room it needs, and only then changes the board.
+//! The events of the table, each as a change of a board.
+//!
+//! Each function looks for a refusal first, makes what room it needs, and only then changes the board.
+
 ghost use Rattle.std.specs.Prelude.{◌≡◌, IfOk};
 ghost use Rattle.std.specs.Option.{option_copied};
 ghost use Rattle.status_table.specs.Ancestors.{StandsAfterNeeds};

@@ -1,4 +1,5 @@
-// Why an event is refused.
+//! Why an event is refused.
+
 ghost use Rattle.std.specs.Prelude.{◌≡◌};
 ghost use Rattle.status_table.specs.Fault.{event_fault_name};
 

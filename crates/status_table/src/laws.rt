@@ -1,4 +1,5 @@
-// Laws of the table, each the contract of a function that does nothing.
+//! Laws of the table, each the contract of a function that does nothing.
+
 ghost use Rattle.std.specs.Prelude.{◌≡◌, ℕ, List, Some};
 ghost use Rattle.flow_model.specs.declared.board.Board.{Board};
 ghost use Rattle.flow_model.specs.declared.event.Entry.{Entry};

@@ -1,4 +1,5 @@
-// The board on which all is new.
+//! The board on which all is new.
+
 ghost use Rattle.std.specs.Prelude.{◌≡◌, IfOk, map};
 ghost use Rattle.status_table.specs.Runs as spec;
 

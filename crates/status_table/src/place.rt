@@ -1,4 +1,5 @@
-// Where runs, jobs and legs stand, and what stands there.
+//! Where runs, jobs and legs stand, and what stands there.
+
 ghost use Rattle.std.specs.Prelude.{◌≡◌, option_map};
 ghost use Rattle.status_table.specs.Place as spec;
 ghost use Rattle.status_table.specs.Seen.{run_seen, job_seen, leg_seen};

@@ -1,4 +1,5 @@
-// The plain body of the table: the board itself, changed in place.
+//! The plain body of the table: the board itself, changed in place.
+
 ghost use Rattle.std.specs.Prelude.{◌≡◌, IfOk};
 ghost use Rattle.flow_model.specs.declared.board.Board.{Board};
 ghost use Rattle.status_table.specs.Answers.{Answers};

@@ -1,4 +1,4 @@
-// The status that a condition sees.
+//! The status that a condition sees.
 
 /// A status (GitHub Docs, expressions: status check functions).
 #[derive(Clone, Copy, Debug, PartialEq, Eq)]

@@ -1,4 +1,5 @@
-// What every board of the table promises.
+//! What every board of the table promises.
+
 ghost use Rattle.std.specs.Prelude.{◌≡◌, IfOk};
 ghost use Rattle.flow_model.specs.declared.plan.Plan.{Plan};
 ghost use Rattle.flow_model.specs.declared.board.Board.{Board};
