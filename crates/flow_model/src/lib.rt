@@ -37,7 +37,7 @@ pub use duplicate::Duplicate;
 pub use event::{Answer, Entry, Event, Member, Outcome};
 pub use json::{JsonFault, json_of, json_of_node, value_of, whole_of};
 pub use mapping::Mapping;
-pub use plan::{Combo, Flag, Group, JobPlan, Plan, Roots, RunPlan, Shell, StepPlan, Work};
+pub use plan::{Combo, Flag, Group, JobPlan, Matrix, Plan, Roots, RunPlan, Shell, StepPlan, Work};
 pub use reply::{CallWork, Reply, StepCall, ValueFault, What};
 pub use sequence::Sequence;
 pub use text::Text;

@@ -61,6 +61,17 @@ pub struct Roots {
 /// One combination of a matrix: its variables' values.
 pub type Combo = Mapping<Value>;
 
+/// A job's matrix (workflow syntax: `strategy.matrix`).
+#[derive(Drop)]
+pub struct Matrix {
+    /// The variables with the values that they take, in order.
+    pub variables: Mapping<Sequence<Value>>,
+    /// The combinations that are taken out: each in which all these values stand.
+    pub exclude: Sequence<Combo>,
+    /// The values that are added to combinations, or that make one of their own.
+    pub include: Sequence<Combo>,
+}
+
 /// One job of a run, with a leg for each combination of its matrix.
 #[derive(Drop)]
 pub struct JobPlan {
@@ -127,6 +138,19 @@ pub enum Shell {
     Default,
     Sh,
     Bash,
+}
+
+impl Duplicate for Matrix {
+    fn copy(&self, alloc: Global) -> Result<Matrix, AllocError> {
+        let variables = self.variables.copy(alloc)?;
+        let exclude = self.exclude.copy(alloc)?;
+        let include = self.include.copy(alloc)?;
+        Ok(Matrix {
+            variables,
+            exclude,
+            include,
+        })
+    }
 }
 
 impl Duplicate for Plan {
