@@ -4,7 +4,7 @@ ghost use Rattle.std.specs.Prelude.{◌≡◌};
 ghost use Rattle.commands.specs.Play as spec;
 ghost use Rattle.commands.specs.Table.{OneBoardAnswer, SomeBoardAnswer, TableTells};
 
-use crate::play::board_of;
+use crate::play::record_played;
 use crate::stream::{Sink, Source};
 use crate::tell::{refuse_source, tell};
 use crate::trouble::Trouble;
@@ -15,8 +15,8 @@ use std::alloc::Global;
 fn shown_board(alloc: Global, text: &[u8]) -> Result<String, Trouble>
     ensures { spec.Shows (spec.table_text text.now) result }
 {
-    match board_of(alloc, text) {
-        Ok(board) => match board_text(alloc, &board) {
+    match record_played(alloc, text) {
+        Ok(played) => match board_text(alloc, played.board()) {
             Ok(shown) => Ok(shown),
             Err(_) => Err(Trouble::Memory),
         },
