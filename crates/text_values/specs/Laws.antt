@@ -1,0 +1,58 @@
+-- Laws of the values, each the contract of a function that does nothing.
+use Rattle.std.specs.Prelude.{◌≡◌, ℕ, Bool, true, false, Option, Some, None, Result, Ok, Err, List, [], ◌∷◌, ◌++◌}
+use Rattle.expr_reader.specs.Accepts.{condition_read}
+use Rattle.expr_reader.specs.Expr.{call, none}
+use Rattle.expr_reader.specs.Template.{Piece, marked, names_status, SpellsCondition}
+use Rattle.expr_reader.specs.declared.tree.Function.TheVariants.{Always}
+use Rattle.expr_value.specs.Context.{Contexts}
+use Rattle.expr_value.specs.Functions.{is_success}
+use Rattle.expr_value.specs.declared.status.Status.{Status}
+use Rattle.flow_model.specs.Mapping.{value_at, keys_of, Ascends}
+use Rattle.flow_model.specs.Plain.{Plain}
+use Rattle.flow_model.specs.declared.plan.Flag.TheVariants.{Truth}
+use Rattle.flow_model.specs.declared.reply.ValueFault.{ValueFault}
+use Rattle.text_values.specs.Env.{env_value, laid_over, or_below}
+use Rattle.text_values.specs.Outputs.{outputs_value}
+use Rattle.text_values.specs.Texts.{text_text, condition_value, flag_value}
+use Rattle.text_values.specs.Values.{Env}
+
+-- Of three levels the most specific one that has a name gives its value.
+abbrev pub MostSpecificWins : Type 0
+MostSpecificWins =
+    (workflow job step : Env) (name : List ℕ) → Ascends job → Ascends step
+    → value_at name (laid_over step (laid_over job workflow)) ≡ or_below (value_at name step) (or_below (value_at name job) (value_at name workflow))
+
+-- An `env` gives exactly the variables that it names, in the order of their names and each once.
+abbrev pub EnvHasItsNames : Type 0
+EnvHasItsNames =
+    (c : Contexts) (pairs : List (List ℕ × Plain)) (env : Env) → Ascends pairs → env_value c pairs ≡ Ok env
+    → (keys_of env ≡ keys_of pairs) × Ascends env
+
+-- An output that faults takes out itself alone.
+abbrev pub FaultTakesOutItsOutput : Type 0
+FaultTakesOutItsOutput =
+    (c : Contexts) (before after : Env) (name text : List ℕ) (fault : ValueFault) → text_text c text ≡ Err fault
+    → outputs_value c (before ++ (name, text) ∷ after) ≡ outputs_value c (before ++ after)
+
+-- An output with a value stands between those before it and those after it.
+abbrev pub OutputStandsInItsPlace : Type 0
+OutputStandsInItsPlace =
+    (c : Contexts) (before after : Env) (name text bytes : List ℕ) → text_text c text ≡ Ok bytes
+    → outputs_value c (before ++ (name, text) ∷ after) ≡ outputs_value c before ++ (name, bytes) ∷ outputs_value c after
+
+-- The condition `always()` holds, whatever the status.
+abbrev pub AlwaysHolds : Type 0
+AlwaysHolds =
+    (c : Contexts) (s : Status) (text : List ℕ) → SpellsCondition (marked (call Always none) ∷ []) text
+    → condition_value c s (Some text) ≡ Ok true
+
+-- A condition that names no status function does not hold where the status is not success, and neither does none.
+abbrev pub WaitsForSuccess : Type 0
+WaitsForSuccess =
+    (c : Contexts) (s : Status) → is_success s ≡ false
+    → ((text : List ℕ) (ps : List Piece) → condition_read text ≡ Some ps → names_status ps ≡ false → condition_value c s (Some text) ≡ Ok false)
+    × (condition_value c s None ≡ Ok false)
+
+-- A flag that is a truth value is that.
+abbrev pub TruthIsItself : Type 0
+TruthIsItself = (c : Contexts) (b : Bool) → flag_value c (Truth b) ≡ b
