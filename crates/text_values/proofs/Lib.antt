@@ -5,3 +5,4 @@ mod Sighting
 mod OwnTexts
 mod Looking
 mod Onto
+mod Lawful

@@ -1,10 +1,9 @@
 -- A text in which no expression stands is its own value.
-use Rattle.std.proofs.Common.{◌≡◌, ℕ, ◌≤◌, Bool, true, false, cond, nat_le, Result, Ok, Err, Option, Some, None, List, [], ◌∷◌, ◌++◌, length, refl, sym, ap, ◌∙◌, arith, append-nil}
+use Rattle.std.proofs.Common.{◌≡◌, ℕ, ◌≤◌, true, false, nat_le, Ok, List, [], ◌∷◌, length, refl, sym, ap, ◌∙◌, arith, append-nil}
 use Rattle.std.proofs.lemmas.Bool.Decides.{nat_tests}
-use Rattle.expr_reader.specs.Accepts.{template_read, TemplatesAreRead}
-use Rattle.expr_reader.specs.Template.{Piece, plain, has_marker, Pieces, SpellsTemplate}
+use Rattle.expr_reader.specs.Accepts.{TemplatesAreRead}
+use Rattle.expr_reader.specs.Template.{plain, has_marker, SpellsTemplate}
 use Rattle.expr_value.specs.Context.{Contexts}
-use Rattle.expr_value.specs.Evaluate.{Answer}
 use Rattle.expr_value.specs.Limit.{limited}
 use Rattle.flow_model.specs.Plain.{text}
 use Rattle.text_values.specs.Texts.{read_value, text_value}

@@ -1,17 +1,15 @@
 -- What a place sees of what was made agrees, on what a template names, with all that the place sees.
-use Rattle.std.proofs.Common.{◌≡◌, ℕ, Bool, true, false, cond, ◌||◌, Option, Some, None, IfSome, List, [], ◌∷◌, map, refl, sym, ap, subst, ◌∙◌}
+use Rattle.std.proofs.Common.{◌≡◌, Bool, true, false, cond, ◌||◌, Option, Some, None, List, [], ◌∷◌, map, refl, sym, ap, ◌∙◌}
 use Rattle.std.specs.List.{list_any}
-use Rattle.std.specs.Cmp.Lexicographic.{slice_cmp}
-use Rattle.std.specs.Ordering.{nat_cmp, is_eq}
 use Rattle.expr_reader.specs.Names.{context_name}
 use Rattle.expr_reader.specs.declared.tree.Context.{Context}
-use Rattle.expr_value.specs.Context.{Contexts, context_value, or_empty}
+use Rattle.expr_value.specs.Context.{Contexts, or_empty}
 use Rattle.expr_value.specs.Named.{is_same_context, AgreeOn}
 use Rattle.flow_model.specs.Mapping.{value_at}
 use Rattle.flow_model.specs.Plain.{Plain}
-use Rattle.text_values.specs.Known.{value_made, made_all, with_context, contexts_by, contexts_made, IsKnownOf}
+use Rattle.text_values.specs.Known.{value_made, made_all, with_context, contexts_by, contexts_made}
 use Rattle.text_values.specs.Places.{seen_at}
-use Rattle.text_values.specs.Values.{Values, with_env, contexts_at}
+use Rattle.text_values.specs.Values.{Values, contexts_at}
 use Rattle.text_values.specs.declared.known.Known.{Known}
 use Rattle.text_values.specs.declared.place.Place.{Place}
 use Rattle.text_values.proofs.Names.{same_is}

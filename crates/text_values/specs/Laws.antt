@@ -1,19 +1,20 @@
 -- Laws of the values, each the contract of a function that does nothing.
-use Rattle.std.specs.Prelude.{◌≡◌, ℕ, Bool, true, false, Option, Some, None, Result, Ok, Err, List, [], ◌∷◌, ◌++◌}
+use Rattle.std.specs.Prelude.{◌≡◌, ◌≤◌, ℕ, Bool, true, false, Some, None, Ok, Err, List, [], ◌∷◌, ◌++◌, length}
 use Rattle.expr_reader.specs.Accepts.{condition_read}
 use Rattle.expr_reader.specs.Expr.{call, none}
-use Rattle.expr_reader.specs.Template.{Piece, marked, names_status, SpellsCondition}
+use Rattle.expr_reader.specs.Sizes.{longest_template}
+use Rattle.expr_reader.specs.Template.{Piece, marked, has_marker, names_status, SpellsCondition}
 use Rattle.expr_reader.specs.declared.tree.Function.TheVariants.{Always}
 use Rattle.expr_value.specs.Context.{Contexts}
 use Rattle.expr_value.specs.Functions.{is_success}
 use Rattle.expr_value.specs.declared.status.Status.{Status}
 use Rattle.flow_model.specs.Mapping.{value_at, keys_of, Ascends}
-use Rattle.flow_model.specs.Plain.{Plain}
+use Rattle.flow_model.specs.Plain.{Plain, text}
 use Rattle.flow_model.specs.declared.plan.Flag.TheVariants.{Truth}
 use Rattle.flow_model.specs.declared.reply.ValueFault.{ValueFault}
 use Rattle.text_values.specs.Env.{env_value, laid_over, or_below}
 use Rattle.text_values.specs.Outputs.{outputs_value}
-use Rattle.text_values.specs.Texts.{text_text, condition_value, flag_value}
+use Rattle.text_values.specs.Texts.{text_text, text_value, condition_value, flag_value}
 use Rattle.text_values.specs.Values.{Env}
 
 -- Of three levels the most specific one that has a name gives its value.
@@ -21,6 +22,10 @@ abbrev pub MostSpecificWins : Type 0
 MostSpecificWins =
     (workflow job step : Env) (name : List ℕ) → Ascends job → Ascends step
     → value_at name (laid_over step (laid_over job workflow)) ≡ or_below (value_at name step) (or_below (value_at name job) (value_at name workflow))
+
+-- Levels that are laid over one another have their names in order, each once.
+abbrev pub LevelsStayInOrder : Type 0
+LevelsStayInOrder = (below above : Env) → Ascends below → Ascends (laid_over above below)
 
 -- An `env` gives exactly the variables that it names, in the order of their names and each once.
 abbrev pub EnvHasItsNames : Type 0
@@ -31,26 +36,32 @@ EnvHasItsNames =
 -- An output that faults takes out itself alone.
 abbrev pub FaultTakesOutItsOutput : Type 0
 FaultTakesOutItsOutput =
-    (c : Contexts) (before after : Env) (name text : List ℕ) (fault : ValueFault) → text_text c text ≡ Err fault
-    → outputs_value c (before ++ (name, text) ∷ after) ≡ outputs_value c (before ++ after)
+    (c : Contexts) (before after : Env) (name bytes : List ℕ) (fault : ValueFault) → text_text c bytes ≡ Err fault
+    → outputs_value c (before ++ (name, bytes) ∷ after) ≡ outputs_value c (before ++ after)
 
 -- An output with a value stands between those before it and those after it.
 abbrev pub OutputStandsInItsPlace : Type 0
 OutputStandsInItsPlace =
-    (c : Contexts) (before after : Env) (name text bytes : List ℕ) → text_text c text ≡ Ok bytes
-    → outputs_value c (before ++ (name, text) ∷ after) ≡ outputs_value c before ++ (name, bytes) ∷ outputs_value c after
+    (c : Contexts) (before after : Env) (name from bytes : List ℕ) → text_text c from ≡ Ok bytes
+    → outputs_value c (before ++ (name, from) ∷ after) ≡ outputs_value c before ++ (name, bytes) ∷ outputs_value c after
+
+-- A text within the limit in which no expression stands is its own value.
+abbrev pub TextIsItself : Type 0
+TextIsItself =
+    (c : Contexts) (bytes : List ℕ) → has_marker bytes ≡ false → length bytes ≤ longest_template
+    → text_value c bytes ≡ Ok (text bytes)
 
 -- The condition `always()` holds, whatever the status.
 abbrev pub AlwaysHolds : Type 0
 AlwaysHolds =
-    (c : Contexts) (s : Status) (text : List ℕ) → SpellsCondition (marked (call Always none) ∷ []) text
-    → condition_value c s (Some text) ≡ Ok true
+    (c : Contexts) (s : Status) (bytes : List ℕ) → SpellsCondition (marked (call Always none) ∷ []) bytes
+    → condition_value c s (Some bytes) ≡ Ok true
 
 -- A condition that names no status function does not hold where the status is not success, and neither does none.
 abbrev pub WaitsForSuccess : Type 0
 WaitsForSuccess =
     (c : Contexts) (s : Status) → is_success s ≡ false
-    → ((text : List ℕ) (ps : List Piece) → condition_read text ≡ Some ps → names_status ps ≡ false → condition_value c s (Some text) ≡ Ok false)
+    → ((bytes : List ℕ) (ps : List Piece) → condition_read bytes ≡ Some ps → names_status ps ≡ false → condition_value c s (Some bytes) ≡ Ok false)
     × (condition_value c s None ≡ Ok false)
 
 -- A flag that is a truth value is that.

@@ -1,5 +1,5 @@
 -- The values of a plan's texts over contexts.
-use Rattle.std.specs.Prelude.{ℕ, Bool, true, false, Option, Some, None, Result, Ok, Err, List, [], codes}
+use Rattle.std.specs.Prelude.{ℕ, Bool, false, Option, Some, None, Result, Ok, Err, List, [], codes}
 use Rattle.std.specs.Str.{bytes_eq}
 use Rattle.expr_reader.specs.Accepts.{template_read, condition_read}
 use Rattle.expr_reader.specs.Fold.{fold}

@@ -1,8 +1,8 @@
-//! Environments where they stand, and levels of names laid over one another.
+//! Environments where they stand.
 
-ghost use Rattle.std.specs.Prelude.{◌≡◌, IfOk};
+ghost use Rattle.std.specs.Prelude.{◌≡◌};
 ghost use Rattle.expr_value.specs.Answer.{Gives};
-ghost use Rattle.text_values.specs.Env.{env_text, env_value, laid_over};
+ghost use Rattle.text_values.specs.Env.{env_text, env_value};
 ghost use Rattle.text_values.specs.Known.{IsKnownOf, known_env};
 ghost use Rattle.text_values.specs.Values.{contexts_at, with_env};
 
@@ -11,8 +11,8 @@ use crate::place::Place;
 use crate::scene::Scene;
 use crate::texts::text_at;
 use expr_value::to_text;
-use flow_model::{Duplicate, Mapping, Node, Text, Value, ValueFault};
-use std::alloc::{AllocError, Global};
+use flow_model::{Mapping, Node, Text, Value, ValueFault};
+use std::alloc::Global;
 
 // The text of one value: a text is evaluated, any other value is turned to text.
 #[tactic(auto, unfolding(crate::specs::Env::env_text))]
@@ -63,23 +63,6 @@ pub fn env_at<S: Scene>(
     for (name, value) in env.iter() {
         let text = env_text_at(alloc, scene, known, place, value)?;
         made.set(alloc, name.as_str(), text)?;
-    }
-    Ok(made)
-}
-
-/// The pairs of one level over those below it: of two values of one name the upper level's stands. Memory apart, it
-/// has no error.
-#[tactic(auto, unfolding(crate::specs::Env::laid_over))]
-pub fn lay_over<V: Duplicate + Drop>(
-    alloc: Global,
-    below: Mapping<V>,
-    above: &Mapping<V>,
-) -> Result<Mapping<V>, AllocError>
-    ensures { IfOk result (λ made. made ≡ laid_over above.now below) }
-{
-    let mut made = below;
-    for (name, value) in above.iter() {
-        made.set(alloc, name.as_str(), value.copy(alloc)?)?;
     }
     Ok(made)
 }

@@ -2,12 +2,15 @@
 
 ghost use Rattle.std.specs.Prelude.{◌≡◌, [], OnOk, OnErr};
 ghost use Rattle.std.specs.Option.{option_copied};
+ghost use Rattle.text_values.specs.Env.{laid_over};
 ghost use Rattle.text_values.specs.Known.{IsKnownOf, known_env, value_made as value_made_of, with_value};
 ghost use Rattle.text_values.specs.Values.{Values, is_env as is_env_of};
 
+use crate::levels::lay_over;
 use expr_reader::Context;
 use flow_model::{Mapping, Text, Value};
 use std::alloc::{AllocError, Global};
+use std::mem;
 
 /// The variables that texts see as `env`, and the values of the contexts that were made of one scene.
 #[derive(Drop)]
@@ -49,6 +52,19 @@ impl Known {
     {
         self.env = env;
         self.env_value = None;
+    }
+
+    /// A level laid over the variables from now on; where memory runs out, there are none.
+    #[tactic(auto, using(crate::proofs::Making::other_known))]
+    pub fn lay_env(&mut self, alloc: Global, above: &Mapping<Text>) -> Result<(), AllocError>
+        ensures ok { OnOk result (known_env self.new ≡ laid_over above.now (known_env self.old)) }
+        ensures err { OnErr result (known_env self.new ≡ []) }
+        ensures known { (values : Values) → IsKnownOf values self.old → IsKnownOf values self.new }
+    {
+        let below = mem::replace(&mut self.env, Mapping::empty(alloc));
+        self.env_value = None;
+        self.env = lay_over(alloc, below, above)?;
+        Ok(())
     }
 
     /// Gives the variables back.

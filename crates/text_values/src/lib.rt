@@ -13,6 +13,8 @@ mod env;
 mod evaluate;
 mod flag;
 mod known;
+mod laws;
+mod levels;
 mod make;
 mod outputs;
 mod place;
@@ -20,9 +22,15 @@ mod scene;
 mod sight;
 mod texts;
 
-pub use env::{env_at, lay_over};
+pub use env::env_at;
 pub use flag::flag_at;
 pub use known::Known;
+pub use laws::{
+    always_holds, env_has_its_names, fault_takes_out_its_output, levels_stay_in_order,
+    most_specific_wins, output_stands_in_its_place, text_is_itself, truth_is_itself,
+    waits_for_success,
+};
+pub use levels::lay_over;
 pub use outputs::outputs_at;
 pub use place::Place;
 pub use scene::Scene;

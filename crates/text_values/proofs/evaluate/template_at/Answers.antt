@@ -1,4 +1,4 @@
-use Rattle.std.proofs.Common.{◌≡◌, Bool, Result, subst}
+use Rattle.std.proofs.Common.{◌≡◌, Bool, subst}
 use Rattle.expr_reader.specs.TemplateView.{template_of}
 use Rattle.expr_reader.specs.declared.tree.Context.{Context}
 use Rattle.expr_value.specs.Answer.{Gives}

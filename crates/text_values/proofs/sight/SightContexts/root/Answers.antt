@@ -1,4 +1,4 @@
-use Rattle.std.proofs.Common.{◌≡◌, ◌+◌, ℕ, Option, Some, None, List, ◌∷◌, get_or, drop, IsSome, is_some, ap, sym, ◌∙◌, true, rules, arith}
+use Rattle.std.proofs.Common.{◌≡◌, ◌+◌, Option, None, List, ◌∷◌, get_or, drop, is_some, ap, sym, ◌∙◌, true, rules, arith}
 use Rattle.std.specs.Option.{option_copied}
 use Rattle.expr_reader.specs.declared.tree.Context.{Context}
 use Rattle.expr_reader.specs.declared.tree.Context.TheVariants.{Github}
