@@ -7,7 +7,9 @@ use Rattle.expr_value.specs.Context.{Contexts, or_empty}
 use Rattle.expr_value.specs.Named.{is_same_context, AgreeOn}
 use Rattle.flow_model.specs.Mapping.{value_at}
 use Rattle.flow_model.specs.Plain.{Plain}
+use Rattle.flow_model.specs.Plain as plain
 use Rattle.text_values.specs.Known.{value_made, made_all, with_context, contexts_by, contexts_made}
+use Rattle.text_values.specs.Laws.{PlaceGivesWhatItSees}
 use Rattle.text_values.specs.Places.{seen_at}
 use Rattle.text_values.specs.Values.{Values, contexts_at}
 use Rattle.text_values.specs.declared.known.Known.{Known}
@@ -41,6 +43,14 @@ there_at values place x = ap (value_at (context_name x)) (mapped values (seen_at
 there_made : (place : Place) (k : Known) (x : Context) → value_at (context_name x) (contexts_made place k) ≡ cond (list_any (is_same_context x) (seen_at place)) (value_made k x) None
 unfolding contexts_made
 there_made place k x = there (value_made k) x (seen_at place)
+
+seen_by : (v : Plain) (b : Bool) → or_empty (cond b (Some v) None) ≡ cond b v (plain.map plain.no_members)
+seen_by v true = refl
+seen_by v false = refl
+
+-- A place gives a context its value where it sees it.
+pub seen_value : PlaceGivesWhatItSees
+seen_value place values x = ap or_empty (there_at values place x) ∙ seen_by (values x) (list_any (is_same_context x) (seen_at place))
 
 alike_by : (a : Option Plain) (b : Option Plain) (c : Bool) → (c ≡ true → a ≡ b) → or_empty (cond c a None) ≡ or_empty (cond c b None)
 alike_by a b true h = ap or_empty (h refl)

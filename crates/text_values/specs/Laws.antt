@@ -1,21 +1,30 @@
 -- Laws of the values, each the contract of a function that does nothing.
-use Rattle.std.specs.Prelude.{◌≡◌, ◌≤◌, ℕ, Bool, true, false, Some, None, Ok, Err, List, [], ◌∷◌, ◌++◌, length}
+use Rattle.std.specs.Prelude.{◌≡◌, ◌≤◌, ℕ, Bool, true, false, if◌then◌else◌, Some, None, Ok, Err, List, [], ◌∷◌, ◌++◌, length}
 use Rattle.expr_reader.specs.Accepts.{condition_read}
 use Rattle.expr_reader.specs.Expr.{call, none}
 use Rattle.expr_reader.specs.Sizes.{longest_template}
 use Rattle.expr_reader.specs.Template.{Piece, marked, has_marker, names_status, SpellsCondition}
 use Rattle.expr_reader.specs.declared.tree.Function.TheVariants.{Always}
-use Rattle.expr_value.specs.Context.{Contexts}
+use Rattle.expr_reader.specs.declared.tree.Context.{Context}
+use Rattle.expr_value.specs.Context.{Contexts, context_value}
 use Rattle.expr_value.specs.Functions.{is_success}
 use Rattle.expr_value.specs.declared.status.Status.{Status}
 use Rattle.flow_model.specs.Mapping.{value_at, keys_of, Ascends}
-use Rattle.flow_model.specs.Plain.{Plain, text}
+use Rattle.flow_model.specs.Plain.{Plain, text, map, no_members}
 use Rattle.flow_model.specs.declared.plan.Flag.TheVariants.{Truth}
 use Rattle.flow_model.specs.declared.reply.ValueFault.{ValueFault}
 use Rattle.text_values.specs.Env.{env_value, laid_over, or_below}
 use Rattle.text_values.specs.Outputs.{outputs_value}
 use Rattle.text_values.specs.Texts.{text_text, text_value, condition_value, flag_value}
-use Rattle.text_values.specs.Values.{Env}
+use Rattle.text_values.specs.Places.{sees}
+use Rattle.text_values.specs.Values.{Values, Env, contexts_at}
+use Rattle.text_values.specs.declared.place.Place.{Place}
+
+-- A place gives a context its value where it sees it, and an empty map where it does not.
+abbrev pub PlaceGivesWhatItSees : Type 0
+PlaceGivesWhatItSees =
+    (place : Place) (values : Values) (x : Context)
+    → context_value (contexts_at place values) x ≡ (if sees place x then values x else map no_members)
 
 -- Of three levels the most specific one that has a name gives its value.
 abbrev pub MostSpecificWins : Type 0

@@ -48,7 +48,8 @@ impl Known {
     #[tactic(auto, using(crate::proofs::Making::other_known))]
     pub fn set_env(&mut self, env: Mapping<Text>)
         ensures env { known_env self.new ≡ env }
-        ensures known { (values : Values) → IsKnownOf values self.old → IsKnownOf values self.new }
+        ensures known { (values : Values)
+            → IsKnownOf values self.old → IsKnownOf values self.new }
     {
         self.env = env;
         self.env_value = None;
@@ -59,7 +60,8 @@ impl Known {
     pub fn lay_env(&mut self, alloc: Global, above: &Mapping<Text>) -> Result<(), AllocError>
         ensures ok { OnOk result (known_env self.new ≡ laid_over above.now (known_env self.old)) }
         ensures err { OnErr result (known_env self.new ≡ []) }
-        ensures known { (values : Values) → IsKnownOf values self.old → IsKnownOf values self.new }
+        ensures known { (values : Values)
+            → IsKnownOf values self.old → IsKnownOf values self.new }
     {
         let below = mem::replace(&mut self.env, Mapping::empty(alloc));
         self.env_value = None;

@@ -1,8 +1,16 @@
 //! Laws of the values, each the contract of a function that does nothing.
 
-ghost use Rattle.text_values.specs.Laws.{AlwaysHolds, EnvHasItsNames, FaultTakesOutItsOutput, LevelsStayInOrder, MostSpecificWins, OutputStandsInItsPlace, TextIsItself, TruthIsItself, WaitsForSuccess};
+ghost use Rattle.text_values.specs.Laws.{AlwaysHolds, TextIsItself, TruthIsItself, WaitsForSuccess};
+ghost use Rattle.text_values.specs.Laws.{EnvHasItsNames, LevelsStayInOrder, MostSpecificWins};
+ghost use Rattle.text_values.specs.Laws.{FaultTakesOutItsOutput, OutputStandsInItsPlace};
+ghost use Rattle.text_values.specs.Laws.{PlaceGivesWhatItSees};
 
 use expr_reader::{condition_reading, template_reading};
+
+/// A place gives a context its value where it sees it, and an empty map where it does not.
+pub fn place_gives_what_it_sees()
+    ensures { PlaceGivesWhatItSees }
+{}
 
 /// A text within the limit in which no expression stands is its own value.
 pub fn text_is_itself()

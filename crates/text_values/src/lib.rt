@@ -27,8 +27,8 @@ pub use flag::flag_at;
 pub use known::Known;
 pub use laws::{
     always_holds, env_has_its_names, fault_takes_out_its_output, levels_stay_in_order,
-    most_specific_wins, output_stands_in_its_place, text_is_itself, truth_is_itself,
-    waits_for_success,
+    most_specific_wins, output_stands_in_its_place, place_gives_what_it_sees, text_is_itself,
+    truth_is_itself, waits_for_success,
 };
 pub use levels::lay_over;
 pub use outputs::outputs_at;

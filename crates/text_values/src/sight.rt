@@ -5,7 +5,8 @@ ghost use Rattle.std.specs.Cmp.Lexicographic.{slice_cmp};
 ghost use Rattle.std.specs.Option.{option_copied};
 ghost use Rattle.std.specs.Ordering.{is_eq, nat_cmp};
 ghost use Rattle.expr_reader.specs.Names.{context_name};
-ghost use Rattle.text_values.specs.Known.{value_made};
+ghost use Rattle.flow_model.specs.Mapping.{value_at};
+ghost use Rattle.text_values.specs.Known.{contexts_by, value_made};
 
 use crate::known::Known;
 use crate::place::Place;
@@ -31,6 +32,20 @@ fn value_named<'a>(known: &'a Known, context: Context, name: &str) -> Option<&'a
     None
 }
 
+// The value under that name of one of some contexts that were made.
+fn value_among<'a>(known: &'a Known, contexts: &[Context], name: &str) -> Option<&'a Value>
+    ensures { option_copied result
+        ≡ value_at name.now (contexts_by (value_made known.now) contexts.now) }
+{
+    for context in contexts {
+        let value = value_named(known, *context, name);
+        if value.is_some() {
+            return value;
+        }
+    }
+    None
+}
+
 impl<'a> Contexts for Sight<'a> {
     ghost use Rattle.text_values.specs.Sight.{sight_contexts};
 
@@ -38,13 +53,6 @@ impl<'a> Contexts for Sight<'a> {
 
     #[tactic(auto, unfolding(crate::specs::Known::contexts_made))]
     fn root(&self, name: &str) -> Option<&Value> {
-        let contexts = self.place.contexts();
-        for context in contexts {
-            let value = value_named(self.known, *context, name);
-            if value.is_some() {
-                return value;
-            }
-        }
-        None
+        value_among(self.known, self.place.contexts(), name)
     }
 }
