@@ -5,6 +5,7 @@ ghost use Rattle.expr_reader.specs.Template.{names_status as names_status_of};
 ghost use Rattle.expr_reader.specs.TemplateView.{template_of};
 ghost use Rattle.expr_value.specs.Answer.{Gives};
 ghost use Rattle.expr_value.specs.Condition.{condition_holds};
+ghost use Rattle.expr_value.specs.Functions.{is_success as is_success_of};
 ghost use Rattle.expr_value.specs.Template.{template_value};
 ghost use Rattle.expr_value.specs.declared.status.Status.TheVariants.{Success};
 ghost use Rattle.text_values.specs.Known.{IsKnownOf, known_env};
@@ -15,7 +16,7 @@ use crate::make::make_named;
 use crate::place::Place;
 use crate::scene::Scene;
 use crate::sight::Sight;
-use expr_reader::Template;
+use expr_reader::{Template, names_status};
 use expr_value::{
     Status, condition_by_its_contexts, eval_condition, eval_text, template_by_its_contexts,
 };
@@ -47,7 +48,17 @@ pub(crate) fn template_at<S: Scene>(
     eval_text(alloc, template, &sight)
 }
 
-/// Whether a condition that was read holds at a place.
+/// Whether a status is success.
+pub(crate) fn is_success(status: Status) -> bool
+    ensures { result ≡ is_success_of status }
+{
+    match status {
+        Status::Success => true,
+        Status::Failure | Status::Cancelled | Status::Other => false,
+    }
+}
+
+/// Whether a condition that was read holds at a place. For one that is not evaluated nothing is made.
 pub(crate) fn condition_read_at<S: Scene>(
     alloc: Global,
     scene: &S,
@@ -63,6 +74,9 @@ pub(crate) fn condition_read_at<S: Scene>(
     ensures env { known_env known.new ≡ known_env known.old }
     ensures known { IsKnownOf (S.values scene.now) known.new }
 {
+    if !names_status(template) && !is_success(status) {
+        return Ok(false);
+    }
     make_named(alloc, scene, known, place, template)?;
     condition_by_its_contexts();
     let sight = Sight {

@@ -5,14 +5,13 @@ ghost use Rattle.expr_reader.specs.Faults.{fault_at};
 ghost use Rattle.expr_reader.specs.Template.{Piece, has_marker as has_marker_of};
 ghost use Rattle.expr_value.specs.Answer.{Gives};
 ghost use Rattle.expr_value.specs.Context.{Contexts};
-ghost use Rattle.expr_value.specs.Functions.{is_success as is_success_of};
 ghost use Rattle.expr_value.specs.declared.status.Status.{Status as StatusOf};
 ghost use Rattle.flow_model.specs.Plain.{text as plain_text};
 ghost use Rattle.text_values.specs.Known.{IsKnownOf, known_env};
 ghost use Rattle.text_values.specs.Texts.{condition_value, read_holds, read_value, text_text, text_value};
 ghost use Rattle.text_values.specs.Values.{contexts_at, with_env};
 
-use crate::evaluate::{condition_read_at, template_at};
+use crate::evaluate::{condition_read_at, is_success, template_at};
 use crate::known::Known;
 use crate::place::Place;
 use crate::scene::Scene;
@@ -158,16 +157,6 @@ pub fn text_at<S: Scene>(
 {
     let value = value_at(alloc, scene, known, place, text)?;
     Ok(to_text(alloc, &value)?)
-}
-
-// Whether a status is success.
-fn is_success(status: Status) -> bool
-    ensures { result ≡ is_success_of status }
-{
-    match status {
-        Status::Success => true,
-        Status::Failure | Status::Cancelled | Status::Other => false,
-    }
 }
 
 // Whether a condition's text holds at a place.
