@@ -1,0 +1,211 @@
+//! Texts and conditions where they stand.
+
+ghost use Rattle.std.specs.Prelude.{◌≡◌, IsTrue, IfOk, IfSome, List, Option, false, is_none, length, ◌≤◌};
+ghost use Rattle.expr_reader.specs.Faults.{fault_at};
+ghost use Rattle.expr_reader.specs.Template.{Piece, has_marker as has_marker_of};
+ghost use Rattle.expr_value.specs.Answer.{Gives};
+ghost use Rattle.expr_value.specs.Context.{Contexts};
+ghost use Rattle.expr_value.specs.declared.status.Status.{Status as StatusOf};
+ghost use Rattle.flow_model.specs.Plain.{text as plain_text};
+ghost use Rattle.text_values.specs.Known.{IsKnownOf, known_env};
+ghost use Rattle.text_values.specs.Texts.{condition_value, read_holds, read_value, text_text, text_value};
+ghost use Rattle.text_values.specs.Values.{contexts_at, with_env};
+
+use crate::evaluate::{condition_read_at, is_success, template_at};
+use crate::known::Known;
+use crate::place::Place;
+use crate::scene::Scene;
+use expr_reader::{ExprFault, has_marker, read_condition, read_template, template_reading};
+use expr_value::{Status, to_text};
+use flow_model::{Node, Text, Value, ValueFault};
+use std::alloc::{AllocError, Global};
+
+/// The most bytes of a template.
+const LONGEST: usize = 1_048_576;
+
+// A text as a value.
+fn value_of(alloc: Global, text: &str) -> Result<Value, AllocError>
+    ensures { IfOk result (λ value. value ≡ plain_text text.now) }
+{
+    Ok(Value::new(Node::Text(Text::from_str(alloc, text)?)))
+}
+
+// Whether a text is its own value: no expression stands in it.
+fn is_its_own(text: &str) -> bool
+    ensures { IsTrue result → (has_marker_of text.now ≡ false) × (length text.now ≤ LONGEST) }
+{
+    text.len() <= LONGEST && !has_marker(text)
+}
+
+// The value of a text that is its own.
+#[tactic(auto, using(crate::proofs::OwnTexts::own_value))]
+fn own_value(alloc: Global, text: &str) -> Result<Value, AllocError>
+    requires marker { has_marker_of text.now ≡ false }
+    requires short { length text.now ≤ LONGEST }
+    ensures { (c : Contexts) → IfOk result (λ value. text_value c text.now ≡ Ok value) }
+{
+    template_reading();
+    value_of(alloc, text)
+}
+
+// Whether a text was not read for want of memory.
+fn is_memory(fault: ExprFault) -> bool
+    ensures { result ≡ is_none (fault_at fault) }
+{
+    match fault {
+        ExprFault::Memory(_) => true,
+        ExprFault::UnclosedText(_)
+        | ExprFault::BadNumber(_)
+        | ExprFault::BadChar(_)
+        | ExprFault::Unexpected(_)
+        | ExprFault::UnknownName(_)
+        | ExprFault::UnknownFunction(_)
+        | ExprFault::ArgumentCount(_)
+        | ExprFault::TooDeep(_)
+        | ExprFault::TooLong(_)
+        | ExprFault::UnclosedTemplate(_)
+        | ExprFault::StatusHere(_) => false,
+    }
+}
+
+// The value of what is no template.
+fn unread_value(alloc: Global, fault: ExprFault) -> Result<Value, ValueFault>
+    ensures { (c : Contexts) (pieces : Option (List Piece))
+        → IfSome (fault_at fault) (λ x. pieces ≡ None)
+        → Gives (λ value. value) result (read_value c pieces) }
+{
+    if is_memory(fault) {
+        return Err(ValueFault::Memory);
+    }
+    Ok(value_of(alloc, "")?)
+}
+
+// Whether what is no condition holds.
+fn unread_holds(fault: ExprFault) -> Result<bool, ValueFault>
+    ensures { (c : Contexts) (s : StatusOf) (pieces : Option (List Piece))
+        → IfSome (fault_at fault) (λ x. pieces ≡ None)
+        → Gives (λ holds. holds) result (read_holds c s pieces) }
+{
+    if is_memory(fault) {
+        return Err(ValueFault::Memory);
+    }
+    Ok(false)
+}
+
+// The value at a place of a text that is read.
+#[tactic(auto, unfolding(crate::specs::Texts::text_value))]
+fn read_at<S: Scene>(
+    alloc: Global,
+    scene: &S,
+    known: &mut Known,
+    place: Place,
+    text: &str,
+) -> Result<Value, ValueFault>
+    requires { IsKnownOf (S.values scene.now) known.old }
+    ensures value { Gives (λ value. value) result
+        (text_value (contexts_at place (with_env (known_env known.old) (S.values scene.now)))
+        text.now) }
+    ensures env { known_env known.new ≡ known_env known.old }
+    ensures known { IsKnownOf (S.values scene.now) known.new }
+{
+    match read_template(alloc, text) {
+        Ok(template) => template_at(alloc, scene, known, place, &template),
+        Err(fault) => unread_value(alloc, fault),
+    }
+}
+
+/// The value of a text at a place.
+pub(crate) fn value_at<S: Scene>(
+    alloc: Global,
+    scene: &S,
+    known: &mut Known,
+    place: Place,
+    text: &str,
+) -> Result<Value, ValueFault>
+    requires { IsKnownOf (S.values scene.now) known.old }
+    ensures value { Gives (λ value. value) result
+        (text_value (contexts_at place (with_env (known_env known.old) (S.values scene.now)))
+        text.now) }
+    ensures env { known_env known.new ≡ known_env known.old }
+    ensures known { IsKnownOf (S.values scene.now) known.new }
+{
+    if is_its_own(text) {
+        return Ok(own_value(alloc, text)?);
+    }
+    read_at(alloc, scene, known, place, text)
+}
+
+/// The value of a text at a place, turned to text: `run`, a working directory, a group's name.
+///
+/// # Errors
+///
+/// The first fault of its expressions, from the left (`eval_text`), or `Memory`.
+#[tactic(auto, unfolding(crate::specs::Texts::text_text))]
+pub fn text_at<S: Scene>(
+    alloc: Global,
+    scene: &S,
+    known: &mut Known,
+    place: Place,
+    text: &str,
+) -> Result<Text, ValueFault>
+    requires { IsKnownOf (S.values scene.now) known.old }
+    ensures value { Gives (λ text. text) result
+        (text_text (contexts_at place (with_env (known_env known.old) (S.values scene.now)))
+        text.now) }
+    ensures env { known_env known.new ≡ known_env known.old }
+    ensures known { IsKnownOf (S.values scene.now) known.new }
+{
+    let value = value_at(alloc, scene, known, place, text)?;
+    Ok(to_text(alloc, &value)?)
+}
+
+// Whether a condition's text holds at a place.
+#[tactic(auto, unfolding(crate::specs::Texts::condition_value))]
+fn condition_text_at<S: Scene>(
+    alloc: Global,
+    scene: &S,
+    known: &mut Known,
+    place: Place,
+    text: &str,
+    status: Status,
+) -> Result<bool, ValueFault>
+    requires { IsKnownOf (S.values scene.now) known.old }
+    ensures value { Gives (λ holds. holds) result
+        (condition_value (contexts_at place (with_env (known_env known.old) (S.values scene.now)))
+        status (Some text.now)) }
+    ensures env { known_env known.new ≡ known_env known.old }
+    ensures known { IsKnownOf (S.values scene.now) known.new }
+{
+    match read_condition(alloc, text) {
+        Ok(template) => condition_read_at(alloc, scene, known, place, &template, status),
+        Err(fault) => unread_holds(fault),
+    }
+}
+
+/// Whether a condition holds at a place under a status; no condition is `success()` (GitHub Docs, workflow syntax:
+/// `if`).
+///
+/// # Errors
+///
+/// The first fault of its expressions, from the left (`eval_condition`), or `Memory`.
+#[tactic(auto, unfolding(crate::specs::Texts::condition_value))]
+pub fn condition_at<S: Scene>(
+    alloc: Global,
+    scene: &S,
+    known: &mut Known,
+    place: Place,
+    condition: &Option<Text>,
+    status: Status,
+) -> Result<bool, ValueFault>
+    requires { IsKnownOf (S.values scene.now) known.old }
+    ensures value { Gives (λ holds. holds) result
+        (condition_value (contexts_at place (with_env (known_env known.old) (S.values scene.now)))
+        status condition.now) }
+    ensures env { known_env known.new ≡ known_env known.old }
+    ensures known { IsKnownOf (S.values scene.now) known.new }
+{
+    match condition {
+        Some(text) => condition_text_at(alloc, scene, known, place, text.as_str(), status),
+        None => Ok(is_success(status)),
+    }
+}
