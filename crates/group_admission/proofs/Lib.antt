@@ -1,0 +1,4 @@
+pub mod Changed
+pub mod Kept
+pub mod Search
+pub mod Written
