@@ -7,6 +7,7 @@ use Rattle.std.specs.FinMap.{nat_cmp-IsAntisymmetric, slice_cmp-IsAntisymmetric}
 use Rattle.std.specs.List.Sorted.{IsStrictlySortedBy}
 use Rattle.std.specs.Ordering.{match_ordering, ordering_reverse, is_gt}
 use Rattle.flow_model.specs.Mapping.{with_pair}
+use Rattle.group_admission.proofs.Lookups.{one_name}
 use Rattle.group_admission.proofs.Kept.{IsBelowAll, below_more, same_below}
 use Rattle.group_admission.specs.Cells.{Ascend, count_below, held_in, is_of, set_here, set_there, with_cell}
 use Rattle.group_admission.specs.Content.{Content, with_held}
@@ -46,10 +47,6 @@ insert_cell name held (x ∷ xs) h = go (slice_cmp nat_cmp name x.name) refl h (
     go Less is h ih = refl
     go Equal is h ih = absurd (true≢false (rw is at h))
     go Greater is h ih = ap (λ (ys : List Cell). x ∷ ys) (ih h)
-
--- two names between which there is no order are one
-one_name : (a b : List ℕ) → slice_cmp nat_cmp a b ≡ Equal → a ≡ b
-one_name a b e = slice_cmp-IsAntisymmetric nat_cmp-IsAntisymmetric a b e
 
 -- a name that is below all cells that are held goes first
 with_pair-first : (name : List ℕ) (held : Held) (cells : List Cell) → IsBelowAll name cells → with_pair name held (held_in cells) ≡ (name, held) ∷ held_in cells

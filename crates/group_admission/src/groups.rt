@@ -1,7 +1,7 @@
 // The groups of a board in play: who holds each name, and who waits for it.
 ghost use Rattle.std.specs.Prelude.{◌≡◌, [], false, IfOk, OnOk, OnErr};
 ghost use Rattle.expr_reader.specs.Fold.{fold};
-ghost use Rattle.flow_model.specs.Mapping.{value_at, with_pair};
+ghost use Rattle.flow_model.specs.Mapping.{value_at, with_pair, Ascends};
 ghost use Rattle.group_admission.specs.Content as spec;
 
 use crate::cell::Cell;
@@ -49,7 +49,8 @@ impl Groups {
 
     /// The member that holds a name, if there is one. It takes no memory, and looks at few names.
     pub fn holder(&self, name: &str) -> Option<Member>
-        ensures { result ≡ spec.holder_of (fold name.now) self.now }
+        ensures member { result ≡ spec.holder_of (fold name.now) self.now }
+        ensures ordered { Ascends self.now }
     {
         match held_at(self.cells.as_slice(), name) {
             Some(held) => Some(held.holder),

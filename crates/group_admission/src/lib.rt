@@ -12,6 +12,7 @@ mod cells;
 pub mod entered;
 pub mod groups;
 pub mod held;
+pub mod laws;
 pub mod member;
 
 pub use entered::Entered;

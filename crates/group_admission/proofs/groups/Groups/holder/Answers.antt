@@ -1,0 +1,10 @@
+use Rattle.std.proofs.Common.{subst}
+use Rattle.flow_model.specs.Mapping.{Ascends}
+use Rattle.group_admission.proofs.Lookups.{Ascends-held_in}
+use Rattle.group_admission.proofs.groups.Groups.holder.Goals as goal
+
+pub returns-in-Some-clause-ordered : goal.returns-in-Some-clause-ordered
+returns-in-Some-clause-ordered c = rw (← c.self.view_is) (Ascends-held_in c.self.inside.cells.items c.self.invariant)
+
+pub returns-in-None-clause-ordered : goal.returns-in-None-clause-ordered
+returns-in-None-clause-ordered c = rw (← c.self.view_is) (Ascends-held_in c.self.inside.cells.items c.self.invariant)
