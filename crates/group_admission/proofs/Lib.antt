@@ -4,5 +4,6 @@ pub mod Kept
 pub mod Leaving
 pub mod Lookups
 pub mod Members
+pub mod Once
 pub mod Search
 pub mod Written

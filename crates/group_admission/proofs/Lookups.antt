@@ -60,7 +60,7 @@ abbrev pub IsBelowKeys : {V : Type 0} → List ℕ → List (List ℕ × V) → 
 IsBelowKeys name ps = AllByRecursion (λ y. slice_cmp nat_cmp name y ≡ Less) (keys_of ps)
 
 -- a name that is below those of all pairs is not found
-none_below : {V : Type 0} (name : List ℕ) (ps : List (List ℕ × V)) → IsBelowKeys name ps → value_at name ps ≡ None
+pub none_below : {V : Type 0} (name : List ℕ) (ps : List (List ℕ × V)) → IsBelowKeys name ps → value_at name ps ≡ None
 none_below name [] h = refl
 none_below name (p ∷ ps) h = rw h.0 (none_below name ps h.1)
 
@@ -68,7 +68,7 @@ same_below : {V : Type 0} (name first : List ℕ) (ps : List (List ℕ × V)) �
 same_below name first [] same h = tt
 same_below name first (p ∷ ps) same h = (nat_list_cmp_total.congr name first p.0 same ∙ h.0, same_below name first ps same h.1)
 
-below_more : {V : Type 0} (name first : List ℕ) (ps : List (List ℕ × V)) → slice_cmp nat_cmp name first ≡ Less → IsBelowKeys first ps → IsBelowKeys name ps
+pub below_more : {V : Type 0} (name first : List ℕ) (ps : List (List ℕ × V)) → slice_cmp nat_cmp name first ≡ Less → IsBelowKeys first ps → IsBelowKeys name ps
 below_more name first [] less h = tt
 below_more name first (p ∷ ps) less h = (nat_list_cmp_total.trans name first p.0 less h.0, below_more name first ps less h.1)
 

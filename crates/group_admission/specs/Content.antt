@@ -1,5 +1,5 @@
 -- Concurrency groups: the finite map from folded names to who holds them and who waits for them.
-use Rattle.std.specs.Prelude.{ℕ, Bool, true, false, ◌==◌, ◌||◌, List, [], ◌∷◌, Option, Some, None, option_map, option_and_then, find, if◌then◌else◌}
+use Rattle.std.specs.Prelude.{ℕ, ◌+◌, ◌≤◌, Bool, true, false, ◌==◌, ◌||◌, List, [], ◌∷◌, Option, Some, None, option_map, option_and_then, find, if◌then◌else◌}
 use Rattle.std.specs.List.{list_any}
 use Rattle.flow_model.specs.Mapping.{value_at, with_pair}
 use Rattle.flow_model.specs.declared.event.Member.{Member}
@@ -47,9 +47,27 @@ holds m (name, held) = same_member m held.holder
 abbrev pub waits : Member → List ℕ × Held → Bool
 waits m (name, held) = is_member m held.waiter
 
+-- Whether a member is the holder or the waiter of a name.
+abbrev pub stands_in : Member → List ℕ × Held → Bool
+stands_in m pair = holds m pair || waits m pair
+
 -- Whether a member holds a name or waits for one.
 abbrev pub is_in_group : Member → Content → Bool
-is_in_group m groups = list_any (holds m) groups || list_any (waits m) groups
+is_in_group m groups = list_any (stands_in m) groups
+
+-- 1 for what is so.
+abbrev pub one : Bool → ℕ
+one false = 0
+one true = 1
+
+-- In how many places a member stands, as a holder or as a waiter.
+abbrev pub places_of : Member → Content → ℕ
+places_of m [] = 0
+places_of m (pair ∷ pairs) = (one (holds m pair) + one (waits m pair)) + places_of m pairs
+
+-- No member stands in two places.
+abbrev pub EachOnce : Content → Type 0
+EachOnce groups = (m : Member) → places_of m groups ≤ 1
 
 -- ---- entering
 

@@ -3,7 +3,7 @@ use Rattle.std.specs.Prelude.{◌≡◌, ◌≢◌, ℕ, Bool, true, false, List
 use Rattle.expr_reader.specs.Fold.{fold, SameText}
 use Rattle.flow_model.specs.Mapping.{value_at, Ascends}
 use Rattle.flow_model.specs.declared.event.Member.{Member}
-use Rattle.group_admission.specs.Content.{Content, after_enter, after_release, after_withdraw, answer_to, holder_of, is_own, stopped_by, waiter_of}
+use Rattle.group_admission.specs.Content.{Content, EachOnce, after_enter, after_release, after_withdraw, answer_to, holder_of, is_in_group, is_own, next_after, stopped_by, waiter_of}
 use Rattle.group_admission.specs.declared.entered.Entered.TheVariants as answer
 use Rattle.group_admission.specs.declared.held.Held.{Held}
 
@@ -63,3 +63,15 @@ pub record OrderStays (groups : Content) (name : List ℕ) (m : Member) (own : O
   pub entered : Ascends (after_enter name m own groups)
   pub released : Ascends (after_release m groups)
   pub withdrawn : Ascends (after_withdraw m groups)
+
+-- No member stands in two places after another that stood nowhere entered, and after one left.
+pub record OnceStays (groups : Content) (name : List ℕ) (m : Member) (own : Option ℕ) : Type 0 where
+  pub entered : is_in_group m groups ≡ false → EachOnce (after_enter name m own groups)
+  pub released : EachOnce (after_release m groups)
+  pub withdrawn : EachOnce (after_withdraw m groups)
+
+-- The member that is told at a release is the waiter of the name that was held.
+abbrev pub WaiterIsTold : Type 0
+WaiterIsTold =
+    (groups : Content) (m : Member) (name : List ℕ) → EachOnce groups → holder_of name groups ≡ Some m
+    → next_after m groups ≡ waiter_of name groups

@@ -2,8 +2,8 @@
 ghost use Rattle.std.specs.Prelude.{ℕ, List, Option};
 ghost use Rattle.flow_model.specs.Mapping.{Ascends};
 ghost use Rattle.flow_model.specs.declared.event.Member.{Member};
-ghost use Rattle.group_admission.specs.Content.{Content};
-ghost use Rattle.group_admission.specs.Laws.{CaseIsIgnored, FirstHolds, NextDisplaces, OrderStays, OwnRunChangesNothing, ReleasePassesOn, WaitersHaveHolders, WithdrawLeavesHolder};
+ghost use Rattle.group_admission.specs.Content.{Content, EachOnce};
+ghost use Rattle.group_admission.specs.Laws.{CaseIsIgnored, FirstHolds, NextDisplaces, OnceStays, OrderStays, OwnRunChangesNothing, ReleasePassesOn, WaiterIsTold, WaitersHaveHolders, WithdrawLeavesHolder};
 
 /// A name has a waiter only where it has a holder, and names that are the same ignoring case are one group.
 pub fn names_are_held()
@@ -32,4 +32,12 @@ pub fn withdrawing_leaves_the_holder()
 /// Entering, releasing and leaving a wait keep the names in order.
 pub fn order_stays()
     ensures { (groups : Content) (name : List ℕ) (m : Member) (own : Option ℕ) → Ascends groups → OrderStays groups name m own }
+{}
+
+/// Where no member stands in two places, entering, releasing and leaving a wait keep it so, and a release tells the
+/// waiter of the name that was held.
+pub fn members_stand_once()
+    ensures stays { (groups : Content) (name : List ℕ) (m : Member) (own : Option ℕ)
+        → Ascends groups → EachOnce groups → OnceStays groups name m own }
+    ensures told { WaiterIsTold }
 {}

@@ -1,0 +1,5 @@
+use Rattle.group_admission.proofs.Once.{once_stays, waiter_is_told}
+use Rattle.group_admission.proofs.laws.members_stand_once.Goals as goal
+
+pub returns : goal.returns
+returns c = record { stays = once_stays; told = waiter_is_told }
