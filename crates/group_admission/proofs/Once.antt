@@ -14,7 +14,7 @@ use Rattle.group_admission.specs.Laws.{OnceStays, WaiterIsTold}
 use Rattle.group_admission.specs.declared.held.Held.{Held}
 
 -- in how many places of one name a member stands
-abbrev weight : Member → Held → ℕ
+abbrev pub weight : Member → Held → ℕ
 weight x held = one (same_member x held.holder) + one (is_member x held.waiter)
 
 none_some : (old : Held) → None ≡ Some old → ⊥
@@ -64,31 +64,39 @@ module _ (m : Member) (groups : Content) (once : EachOnce groups) (free : is_in_
   room x true is = let e : places_of x groups ≡ 0 = ap (λ (y : Member). places_of y groups) (one_member x m is) ∙ nowhere m groups free in omega (arith, e)
   room x false is = let e = once x in omega (arith, e)
 
-  once_at : (k : List ℕ) (own : Option ℕ) → Ascends groups → (o : Option Held) → value_at k groups ≡ o → EachOnce (after_at k m own o groups)
-  once_at k own sorted None is = λ x.
+  -- no member stands in two places after one that stood nowhere came to hold a name
+  pub once_first : (k : List ℕ) → value_at k groups ≡ None → EachOnce (with_pair k (record { holder = m; waiter = None }) groups)
+  once_first k is = λ x.
       let e = added x k (record { holder = m; waiter = None }) groups is in
       let r = room x (same_member x m) refl in
       omega (arith, e, r)
+
+  -- no member stands in two places after one that stood nowhere came to wait for a name
+  pub once_further : (k : List ℕ) (held : Held) → Ascends groups → value_at k groups ≡ Some held → EachOnce (with_pair k (record { holder = held.holder; waiter = Some m }) groups)
+  once_further k held sorted is = λ x.
+      let e = replaced x k (record { holder = held.holder; waiter = Some m }) held groups sorted is in
+      let r = room x (same_member x m) refl in
+      omega (arith, e, r)
+
+  once_at : (k : List ℕ) (own : Option ℕ) → Ascends groups → (o : Option Held) → value_at k groups ≡ o → EachOnce (after_at k m own o groups)
+  once_at k own sorted None is = once_first k is
   once_at k own sorted (Some held) is = either (is_own own held.holder)
     where
       either : (own_run : Bool) → EachOnce (if own_run then groups else with_pair k (record { holder = held.holder; waiter = Some m }) groups)
       either true = once
-      either false = λ x.
-          let e = replaced x k (record { holder = held.holder; waiter = Some m }) held groups sorted is in
-          let r = room x (same_member x m) refl in
-          omega (arith, e, r)
+      either false = once_further k held sorted is
 
   once_entered : (name : List ℕ) (own : Option ℕ) → Ascends groups → EachOnce (after_enter name m own groups)
   once_entered [] own sorted = once
   once_entered (c ∷ name) own sorted = once_at (c ∷ name) own sorted (value_at (c ∷ name) groups) refl
 
 -- in how many places of a name, if somebody holds it, a member stands
-abbrev weight_of : Member → Option Held → ℕ
+abbrev pub weight_of : Member → Option Held → ℕ
 weight_of x None = 0
 weight_of x (Some held) = weight x held
 
 -- what is left of each name has no more places
-fewer : (x : Member) (f : Held → Option Held) → ((held : Held) → weight_of x (f held) ≤ weight x held) → (groups : Content) → places_of x (each_held f groups) ≤ places_of x groups
+pub fewer : (x : Member) (f : Held → Option Held) → ((held : Held) → weight_of x (f held) ≤ weight x held) → (groups : Content) → places_of x (each_held f groups) ≤ places_of x groups
 fewer x f less [] = omega arith
 fewer x f less (p ∷ ps) = go (f p.1) (less p.1) (fewer x f less ps)
   where
@@ -96,7 +104,8 @@ fewer x f less (p ∷ ps) = go (f p.1) (less p.1) (fewer x f less ps)
     go None h ih = omega (arith, ih)
     go (Some held) h ih = omega (arith, h, ih)
 
-released_fewer : (x m : Member) (held : Held) → weight_of x (released m held) ≤ weight x held
+-- a release adds no place
+pub released_fewer : (x m : Member) (held : Held) → weight_of x (released m held) ≤ weight x held
 released_fewer x m held = go (same_member m held.holder)
   where
     passed : (a : ℕ) (w : Option Member) → weight_of x (passed_on w) ≤ a + one (is_member x w)
@@ -106,7 +115,8 @@ released_fewer x m held = go (same_member m held.holder)
     go true = passed (one (same_member x held.holder)) held.waiter
     go false = omega arith
 
-withdrawn_fewer : (x m : Member) (held : Held) → weight_of x (withdrawn m held) ≤ weight x held
+-- leaving a wait adds no place
+pub withdrawn_fewer : (x m : Member) (held : Held) → weight_of x (withdrawn m held) ≤ weight x held
 withdrawn_fewer x m held = go (is_member m held.waiter)
   where
     go : (b : Bool) → weight_of x (if b then Some (record { holder = held.holder; waiter = None }) else Some held) ≤ weight x held

@@ -3,7 +3,7 @@ use Rattle.std.specs.Prelude.{ℕ, suc, Bool, false, List, [], ◌∷◌, map, s
 use Rattle.std.specs.Ordering.{nat_cmp, match_ordering, is_eq, is_gt}
 use Rattle.std.specs.Cmp.Lexicographic.{slice_cmp}
 use Rattle.std.specs.List.Sorted.{IsStrictlySortedBy}
-use Rattle.group_admission.specs.Content.{Content, with_held}
+use Rattle.group_admission.specs.Content.{Content, EachOnce, with_held}
 use Rattle.group_admission.specs.declared.cell.Cell.{Cell}
 use Rattle.group_admission.specs.declared.held.Held.{Held}
 
@@ -15,6 +15,11 @@ held_in (cell ∷ cells) = with_held cell.name cell.held (held_in cells)
 -- Each name is above those before it.
 abbrev pub Ascend : List Cell → Type 0
 Ascend cells = IsStrictlySortedBy (slice_cmp nat_cmp) (map (λ cell. cell.name) cells)
+
+-- What each list of cells keeps: the names ascend, and no member stands in two places.
+pub record IsSound (cells : List Cell) : Type 0 where
+  pub ordered : Ascend cells
+  pub once : EachOnce (held_in cells)
 
 -- Whether a name is above that of the cell that may be there.
 abbrev pub is_above : List ℕ → Option Cell → Bool

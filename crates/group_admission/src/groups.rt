@@ -28,14 +28,14 @@ pub struct Groups {
 
 impl Model for Groups {
     ghost use Rattle.std.specs.Prelude.{List, ℕ};
-    ghost use Rattle.group_admission.specs.Cells.{Ascend, held_in};
+    ghost use Rattle.group_admission.specs.Cells.{held_in, IsSound};
     ghost use Rattle.group_admission.specs.declared.held.Held.{Held};
 
     ghost Value = { List (List ℕ × Held) };
 
     ghost view = { λ groups. held_in groups.cells.items };
 
-    ghost invariant = { λ groups. Ascend groups.cells.items };
+    ghost invariant = { λ groups. IsSound groups.cells.items };
 }
 
 impl Groups {
@@ -51,6 +51,7 @@ impl Groups {
     pub fn holder(&self, name: &str) -> Option<Member>
         ensures member { result ≡ spec.holder_of (fold name.now) self.now }
         ensures ordered { Ascends self.now }
+        ensures once { spec.EachOnce self.now }
     {
         match held_at(self.cells.as_slice(), name) {
             Some(held) => Some(held.holder),
@@ -119,6 +120,7 @@ impl Groups {
         own_run: Option<u64>,
         cancel: bool,
     ) -> Result<Entered, AllocError>
+        requires { spec.is_in_group member self.old ≡ false }
         ensures answer { IfOk result (λ entered. entered ≡ spec.answer_at own_run cancel (value_at (fold name.now) self.old)) }
         ensures ok { OnOk result (self.new ≡ spec.after_at (fold name.now) member own_run (value_at (fold name.now) self.old) self.old) }
         ensures err { OnErr result (self.new ≡ self.old) }
@@ -138,10 +140,12 @@ impl Groups {
 
     /// Sets who holds a name and who waits for it; where memory runs out, nothing is changed.
     fn hold(&mut self, name: &str, holder: Member, waiter: Option<Member>) -> Result<(), AllocError>
+        requires { spec.EachOnce (with_pair (fold name.now) (record { holder = holder; waiter = waiter }) self.old) }
         ensures ok { OnOk result (self.new ≡ with_pair (fold name.now) (record { holder = holder; waiter = waiter }) self.old) }
         ensures err { OnErr result (self.new ≡ self.old) }
     {
-        set_held(&mut self.cells, self.alloc, name, Held { holder, waiter })
+        set_held(&mut self.cells, self.alloc, name, Held { holder, waiter })?;
+        Ok(())
     }
 }
 
