@@ -104,7 +104,8 @@ fn write_held(
     held: Held,
 ) -> Result<(), AllocError>
     requires { Ascend cells.old.items }
-    ensures ok { OnOk result (cells.new.items ≡ spec.with_cell (fold name.now) held cells.old.items) }
+    ensures ok { OnOk result
+        (cells.new.items ≡ spec.with_cell (fold name.now) held cells.old.items) }
     ensures err { OnErr result (cells.new.items ≡ cells.old.items) }
 {
     let place = place_of(cells, name);
@@ -127,7 +128,8 @@ pub(crate) fn set_held(
     held: Held,
 ) -> Result<(), AllocError>
     requires { Ascend cells.old.items }
-    ensures ok { OnOk result (held_in cells.new.items ≡ with_pair (fold name.now) held (held_in cells.old.items)) }
+    ensures ok { OnOk result
+        (held_in cells.new.items ≡ with_pair (fold name.now) held (held_in cells.old.items)) }
     ensures err { OnErr result (held_in cells.new.items ≡ held_in cells.old.items) }
     ensures ordered { Ascend cells.new.items }
 {
@@ -179,6 +181,20 @@ pub(crate) fn next_after(cells: &[Cell], member: Member) -> Option<Member>
         }
     }
     None
+}
+
+/// Whether a member holds a name or waits for one.
+pub(crate) fn is_in_group(cells: &[Cell], member: Member) -> bool
+    ensures { result ≡ content.is_in_group member (held_in cells.now) }
+{
+    for cell in cells {
+        if let Some(held) = cell.held {
+            if same_member(member, held.holder) || is_member(member, held.waiter) {
+                return true;
+            }
+        }
+    }
+    false
 }
 
 /// Whether a member waits.

@@ -6,10 +6,10 @@ ghost use Rattle.group_admission.specs.Content as spec;
 
 use crate::cell::Cell;
 use crate::cells::{
-    copy_cells, held_at, is_waiting, next_after, release_all, set_held, withdraw_all,
+    copy_cells, held_at, is_in_group, is_waiting, next_after, release_all, set_held, withdraw_all,
 };
 use crate::entered::Entered;
-use crate::held::Held;
+use crate::held::{Held, first, joined};
 use crate::member::is_own;
 use flow_model::{Duplicate, Member};
 use std::alloc::{AllocError, Global};
@@ -59,6 +59,13 @@ impl Groups {
         }
     }
 
+    /// Whether a member holds a name or waits for one. It takes no memory, and goes over all names that were entered.
+    pub fn is_in_group(&self, member: Member) -> bool
+        ensures { result ≡ spec.is_in_group member self.now }
+    {
+        is_in_group(self.cells.as_slice(), member)
+    }
+
     /// The member that waits for a name, if there is one. It takes no memory, and looks at few names.
     pub fn waiting(&self, name: &str) -> Option<Member>
         ensures { result ≡ spec.waiter_of (fold name.now) self.now }
@@ -102,7 +109,8 @@ impl Groups {
         cancel: bool,
     ) -> Result<Entered, AllocError>
         requires { spec.is_in_group member self.old ≡ false }
-        ensures answer { IfOk result (λ entered. entered ≡ spec.answer_to (fold name.now) own_run cancel self.old) }
+        ensures answer { IfOk result
+            (λ entered. entered ≡ spec.answer_to (fold name.now) own_run cancel self.old) }
         ensures ok { OnOk result (self.new ≡ spec.after_enter (fold name.now) member own_run self.old) }
         ensures err { OnErr result (self.new ≡ self.old) }
     {
@@ -121,30 +129,32 @@ impl Groups {
         cancel: bool,
     ) -> Result<Entered, AllocError>
         requires { spec.is_in_group member self.old ≡ false }
-        ensures answer { IfOk result (λ entered. entered ≡ spec.answer_at own_run cancel (value_at (fold name.now) self.old)) }
-        ensures ok { OnOk result (self.new ≡ spec.after_at (fold name.now) member own_run (value_at (fold name.now) self.old) self.old) }
+        ensures answer { let held = value_at (fold name.now) self.old in
+            IfOk result (λ entered. entered ≡ spec.answer_at own_run cancel held) }
+        ensures ok { let held = value_at (fold name.now) self.old in
+            OnOk result (self.new ≡ spec.after_at (fold name.now) member own_run held self.old) }
         ensures err { OnErr result (self.new ≡ self.old) }
     {
         match held_at(self.cells.as_slice(), name) {
             None => {
-                self.hold(name, member, None)?;
+                self.hold(name, first(member))?;
                 Ok(Entered::Admitted)
             },
             Some(held) if is_own(own_run, held.holder) => Ok(Entered::OwnRun),
             Some(held) => {
-                self.hold(name, held.holder, Some(member))?;
+                self.hold(name, joined(held, member))?;
                 Ok(waiting_for(held, cancel))
             },
         }
     }
 
     /// Sets who holds a name and who waits for it; where memory runs out, nothing is changed.
-    fn hold(&mut self, name: &str, holder: Member, waiter: Option<Member>) -> Result<(), AllocError>
-        requires { spec.EachOnce (with_pair (fold name.now) (record { holder = holder; waiter = waiter }) self.old) }
-        ensures ok { OnOk result (self.new ≡ with_pair (fold name.now) (record { holder = holder; waiter = waiter }) self.old) }
+    fn hold(&mut self, name: &str, held: Held) -> Result<(), AllocError>
+        requires { spec.EachOnce (with_pair (fold name.now) held self.old) }
+        ensures ok { OnOk result (self.new ≡ with_pair (fold name.now) held self.old) }
         ensures err { OnErr result (self.new ≡ self.old) }
     {
-        set_held(&mut self.cells, self.alloc, name, Held { holder, waiter })?;
+        set_held(&mut self.cells, self.alloc, name, held)?;
         Ok(())
     }
 }

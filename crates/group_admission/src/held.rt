@@ -1,5 +1,5 @@
 // Who holds a name and who waits for it.
-ghost use Rattle.std.specs.Prelude.{◌≡◌, option_and_then};
+ghost use Rattle.std.specs.Prelude.{◌≡◌, Some, None, option_and_then};
 ghost use Rattle.group_admission.specs.Content as spec;
 
 use crate::member::{is_member, same_member};
@@ -10,6 +10,26 @@ use flow_model::Member;
 pub struct Held {
     pub holder: Member,
     pub waiter: Option<Member>,
+}
+
+/// A name that nobody held, once a member came.
+pub(crate) fn first(member: Member) -> Held
+    ensures { result ≡ record { holder = member; waiter = None } }
+{
+    Held {
+        holder: member,
+        waiter: None,
+    }
+}
+
+/// A name that is held, once a further member came: it waits, in the place of who waited.
+pub(crate) fn joined(held: Held, member: Member) -> Held
+    ensures { result ≡ record { holder = held.holder; waiter = Some member } }
+{
+    Held {
+        holder: held.holder,
+        waiter: Some(member),
+    }
 }
 
 /// What is left of a name after a member released it: the waiter holds it, if there is one.
