@@ -1,5 +1,5 @@
 -- What entering a name leaves.
-use Rattle.std.proofs.Common.{◌≡◌, ◌≢◌, ℕ, Bool, true, false, List, [], ◌∷◌, Option, Some, None, option_map, option_and_then, if◌then◌else◌, refl, sym, ap, ◌∙◌}
+use Rattle.std.proofs.Common.{◌≡◌, ℕ, Bool, true, false, List, [], ◌∷◌, Option, Some, None, option_map, option_and_then, if◌then◌else◌, refl, ap, ◌∙◌}
 use Rattle.flow_model.specs.Mapping.{value_at, with_pair, Ascends}
 use Rattle.flow_model.specs.declared.event.Member.{Member}
 use Rattle.group_admission.proofs.Lookups.{found_same, found_other, Ascends-with_pair}
@@ -39,9 +39,10 @@ next_displaces (c ∷ name) m h own cancel groups named is not_own = go (value_a
     go (Some held) is =
         let same : held.holder ≡ h = same_some held.holder h is in
         let other : is_own own held.holder ≡ false = ap (is_own own) same ∙ not_own in
-        let new = set_becomes (c ∷ name) (record { holder = held.holder; waiter = Some m }) groups in
-        (rw other (ap (λ (x : Member). answer.Waiting held.waiter (stopped_by cancel x)) same),
-        rw other (record { holder = new.holder ∙ is; waiter = new.waiter; others = new.others }))
+        let new = set_becomes (c ∷ name) (record { holder = held.holder; waiter = Some m }) groups in (
+          rw other (ap (λ (x : Member). answer.Waiting held.waiter (stopped_by cancel x)) same),
+          rw other (record { holder = new.holder ∙ is; waiter = new.waiter; others = new.others }),
+        )
 
 pub own_run_changes_nothing : OwnRunChangesNothing
 own_run_changes_nothing [] m h own cancel groups named is own_run = absurd (named refl)
@@ -61,6 +62,7 @@ Ascends-after_enter (c ∷ name) m own groups sorted = go (value_at (c ∷ name)
     either : (own_run : Bool) (held : Held) → Ascends (if own_run then groups else with_pair (c ∷ name) (record { holder = held.holder; waiter = Some m }) groups)
     either true held = sorted
     either false held = Ascends-with_pair (c ∷ name) (record { holder = held.holder; waiter = Some m }) groups sorted
+
     go : (o : Option Held) → Ascends (after_at (c ∷ name) m own o groups)
     go None = Ascends-with_pair (c ∷ name) (record { holder = m; waiter = None }) groups sorted
     go (Some held) = either (is_own own held.holder) held

@@ -1,15 +1,15 @@
 -- In how many places a member stands, after the groups changed.
-use Rattle.std.proofs.Common.{◌≡◌, ◌≢◌, ℕ, ◌+◌, ◌≤◌, Bool, true, false, ◌||◌, List, [], ◌∷◌, if◌then◌else◌, Option, Some, None, option_map, option_and_then, find, cond, Ordering, Less, Equal, Greater, nat_cmp, is_eq, refl, sym, ap, subst, ◌∙◌, arith}
-use Rattle.std.proofs.lemmas.Bool.{false≢true, true≢false}
+use Rattle.std.proofs.Common.{◌≡◌, ℕ, ◌+◌, ◌≤◌, Bool, true, false, ◌||◌, List, [], ◌∷◌, if◌then◌else◌, Option, Some, None, option_map, option_and_then, find, cond, Ordering, Less, Equal, Greater, nat_cmp, is_eq, refl, sym, ap, ◌∙◌, arith}
+use Rattle.std.proofs.lemmas.Bool.{true≢false}
 use Rattle.std.specs.Cmp.Lexicographic.{slice_cmp}
 use Rattle.std.specs.List.{list_any}
 use Rattle.std.specs.List.Sorted.{IsStrictlySortedBy}
 use Rattle.std.specs.Ordering.{match_ordering}
 use Rattle.flow_model.specs.Mapping.{value_at, with_pair, Ascends}
 use Rattle.flow_model.specs.declared.event.Member.{Member}
-use Rattle.group_admission.proofs.Lookups.{IsBelowKeys, below_more, none_below}
+use Rattle.group_admission.proofs.Lookups.{below_more, none_below}
 use Rattle.group_admission.proofs.Members.{one_member, there}
-use Rattle.group_admission.specs.Content.{Content, EachOnce, after_at, after_enter, after_release, after_withdraw, each_held, holds, is_in_group, is_member, is_own, next_after, one, passed_on, places_of, released, same_member, stands_in, waits, with_held, withdrawn}
+use Rattle.group_admission.specs.Content.{Content, EachOnce, after_at, after_enter, each_held, holds, is_in_group, is_member, is_own, next_after, one, passed_on, places_of, released, same_member, stands_in, waits, with_held, withdrawn}
 use Rattle.group_admission.specs.Laws.{OnceStays, WaiterIsTold}
 use Rattle.group_admission.specs.declared.held.Held.{Held}
 
@@ -111,6 +111,7 @@ released_fewer x m held = go (same_member m held.holder)
     passed : (a : ℕ) (w : Option Member) → weight_of x (passed_on w) ≤ a + one (is_member x w)
     passed a None = omega arith
     passed a (Some w) = omega arith
+
     go : (b : Bool) → weight_of x (if b then passed_on held.waiter else Some held) ≤ weight x held
     go true = passed (one (same_member x held.holder)) held.waiter
     go false = omega arith
@@ -123,9 +124,9 @@ withdrawn_fewer x m held = go (is_member m held.waiter)
     go true = omega arith
     go false = omega arith
 
-pub once_stays : (groups : Content) (name : List ℕ) (m : Member) (own : Option ℕ) → Ascends groups → EachOnce groups → OnceStays groups name m own
-once_stays groups name m own sorted once = record {
-  entered = λ free. once_entered m groups once free name own sorted;
+pub once_stays : OnceStays
+once_stays groups m sorted once = record {
+  entered = λ name own free. once_entered m groups once free name own sorted;
   released = λ x. let a = fewer x (released m) (released_fewer x m) groups in let b = once x in omega (arith, a, b);
   withdrawn = λ x. let a = fewer x (withdrawn m) (withdrawn_fewer x m) groups in let b = once x in omega (arith, a, b);
 }

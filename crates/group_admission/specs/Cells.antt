@@ -55,7 +55,9 @@ set_here cells place held = set_there cells place held (slice_get cells place)
 abbrev pub with_cell : List ℕ → Held → List Cell → List Cell
 with_cell name held [] = record { name = name; held = Some held } ∷ []
 with_cell name held (cell ∷ cells) =
-    match_ordering (slice_cmp nat_cmp name cell.name) (record { name = name; held = Some held } ∷ cell ∷ cells) (record cell { held = Some held } ∷ cells)
+    match_ordering (slice_cmp nat_cmp name cell.name)
+    (record { name = name; held = Some held } ∷ cell ∷ cells)
+    (record cell { held = Some held } ∷ cells)
     (cell ∷ with_cell name held cells)
 
 -- The cell, held as said of who held it.

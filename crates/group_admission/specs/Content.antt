@@ -80,19 +80,21 @@ stopped_by true holder = Some holder
 abbrev pub answer_at : Option ℕ → Bool → Option Held → Entered
 answer_at own cancel None = answer.Admitted
 answer_at own cancel (Some held) =
-    if is_own own held.holder then answer.OwnRun else answer.Waiting held.waiter (stopped_by cancel held.holder)
+    if is_own own held.holder then answer.OwnRun
+    else answer.Waiting held.waiter (stopped_by cancel held.holder)
 
 -- What a member is answered that enters: an empty name is no group.
 abbrev pub answer_to : List ℕ → Option ℕ → Bool → Content → Entered
 answer_to [] own cancel groups = answer.Admitted
 answer_to (c ∷ name) own cancel groups = answer_at own cancel (value_at (c ∷ name) groups)
 
--- The groups after a member came to a name: one to a name that is held takes the waiter's place, unless its own run
--- holds it.
+-- The groups after a member came to a name: one to a name that is held takes the waiter's place,
+-- unless its own run holds it.
 abbrev pub after_at : List ℕ → Member → Option ℕ → Option Held → Content → Content
 after_at name m own None groups = with_pair name (record { holder = m; waiter = None }) groups
 after_at name m own (Some held) groups =
-    if is_own own held.holder then groups else with_pair name (record { holder = held.holder; waiter = Some m }) groups
+    if is_own own held.holder then groups
+    else with_pair name (record { holder = held.holder; waiter = Some m }) groups
 
 -- The groups after a member entered.
 abbrev pub after_enter : List ℕ → Member → Option ℕ → Content → Content
@@ -122,7 +124,9 @@ released m held = if same_member m held.holder then passed_on held.waiter else S
 
 -- What is left of a name after a member left its wait.
 abbrev pub withdrawn : Member → Held → Option Held
-withdrawn m held = if is_member m held.waiter then Some (record { holder = held.holder; waiter = None }) else Some held
+withdrawn m held =
+    if is_member m held.waiter then Some (record { holder = held.holder; waiter = None })
+    else Some held
 
 -- The groups after a member released.
 abbrev pub after_release : Member → Content → Content

@@ -95,7 +95,8 @@ fn set_here(cells: &mut Vec<Cell>, place: usize, held: Held)
     }
 }
 
-/// Writes who holds a name into its cell, or into a new one; where memory runs out, nothing is changed.
+/// Writes who holds a name into its cell, or into a new one; where memory runs out, nothing is
+/// changed.
 #[tactic(auto, using(crate::proofs::Written::set_cell))]
 fn write_held(
     cells: &mut Vec<Cell>,

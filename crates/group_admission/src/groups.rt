@@ -15,11 +15,11 @@ use flow_model::{Duplicate, Member};
 use std::alloc::{AllocError, Global};
 use std::marker::Model;
 
-/// The concurrency groups (GitHub Docs, workflow syntax: `concurrency`): a map from names, which are the same ignoring
-/// case, to the member that holds the name and the one that waits for it.
+/// The concurrency groups (GitHub Docs, workflow syntax: `concurrency`): a map from names, which are
+/// the same ignoring case, to the member that holds the name and the one that waits for it.
 ///
-/// A name that was entered keeps its cell, so leaving takes no memory. A name is found by halves; what a member holds
-/// or waits for is found by a pass over the cells.
+/// A name that was entered keeps its cell, so leaving takes no memory. A name is found by halves;
+/// what a member holds or waits for is found by a pass over all names that were entered.
 #[derive(Drop)]
 pub struct Groups {
     alloc: Global,
@@ -47,7 +47,8 @@ impl Groups {
         Groups { alloc, cells }
     }
 
-    /// The member that holds a name, if there is one. It takes no memory, and looks at few names.
+    /// The member that holds a name, if there is one. It takes no memory, and finds the name by
+    /// halves.
     pub fn holder(&self, name: &str) -> Option<Member>
         ensures member { result ≡ spec.holder_of (fold name.now) self.now }
         ensures ordered { Ascends self.now }
@@ -59,14 +60,16 @@ impl Groups {
         }
     }
 
-    /// Whether a member holds a name or waits for one. It takes no memory, and goes over all names that were entered.
+    /// Whether a member holds a name or waits for one. It takes no memory, and goes over all names
+    /// that were entered.
     pub fn is_in_group(&self, member: Member) -> bool
         ensures { result ≡ spec.is_in_group member self.now }
     {
         is_in_group(self.cells.as_slice(), member)
     }
 
-    /// The member that waits for a name, if there is one. It takes no memory, and looks at few names.
+    /// The member that waits for a name, if there is one. It takes no memory, and finds the name by
+    /// halves.
     pub fn waiting(&self, name: &str) -> Option<Member>
         ensures { result ≡ spec.waiter_of (fold name.now) self.now }
     {
@@ -76,8 +79,8 @@ impl Groups {
         }
     }
 
-    /// A member leaves what it holds: its waiter, if there is one, holds it from now on, and is told. It takes no memory,
-    /// and goes over all names that were entered.
+    /// A member leaves what it holds: its waiter, if there is one, holds it from now on, and is told.
+    /// It takes no memory, and goes over all names that were entered.
     pub fn release(&mut self, member: Member) -> Option<Member>
         ensures next { result ≡ spec.next_after member self.old }
         ensures groups { self.new ≡ spec.after_release member self.old }
@@ -87,8 +90,8 @@ impl Groups {
         next
     }
 
-    /// A member leaves its wait, and whether it waited is told. It takes no memory, and goes over all names that were
-    /// entered.
+    /// A member leaves its wait, and whether it waited is told. It takes no memory, and goes over all
+    /// names that were entered.
     pub fn withdraw(&mut self, member: Member) -> bool
         ensures waited { result ≡ spec.is_waiting member self.old }
         ensures groups { self.new ≡ spec.after_withdraw member self.old }
@@ -98,9 +101,13 @@ impl Groups {
         waited
     }
 
-    /// A member enters a name, as a leg of `own_run` if that is said. It is admitted where nobody holds the name, or
-    /// the name is empty; else it waits, in the place of who waited, and with `cancel` the holder is told as one to stop.
-    /// A leg doesn't wait for its own run. Where memory runs out, nothing is changed.
+    /// A member enters a name, as a leg of `own_run` if that is said. It is admitted where nobody
+    /// holds the name, or the name is empty; else it waits, in the place of who waited, and with
+    /// `cancel` the holder is told as one to stop. A leg doesn't wait for its own run.
+    ///
+    /// # Errors
+    ///
+    /// No memory was left for a new name; nothing is changed then.
     pub fn enter(
         &mut self,
         name: &str,
@@ -111,7 +118,8 @@ impl Groups {
         requires { spec.is_in_group member self.old ≡ false }
         ensures answer { IfOk result
             (λ entered. entered ≡ spec.answer_to (fold name.now) own_run cancel self.old) }
-        ensures ok { OnOk result (self.new ≡ spec.after_enter (fold name.now) member own_run self.old) }
+        ensures ok { OnOk result
+            (self.new ≡ spec.after_enter (fold name.now) member own_run self.old) }
         ensures err { OnErr result (self.new ≡ self.old) }
     {
         if name.is_empty() {

@@ -13,7 +13,7 @@ hold-requires c =
     let groups = c.args.self.now in
     let once : EachOnce groups = rw (← c.self.view_is) c.self.invariant.once in
     let found : value_at name groups ≡ None =
-        sym (c.held_at.ensures ∙ ap (λ cells. value_at name (held_in cells)) c.as_slice.ensures.value ∙ ap (value_at name) c.self.view_is) ∙ c.in-None.is in
+    sym (c.held_at.ensures ∙ ap (λ cells. value_at name (held_in cells)) c.as_slice.ensures.value ∙ ap (value_at name) c.self.view_is) ∙ c.in-None.is in
     rw c.first.ensures (once_first c.args.member groups once c.requires name found)
 
 pub hold-requires-in-Some-2 : goal.hold-requires-in-Some-2
@@ -23,5 +23,5 @@ hold-requires-in-Some-2 c =
     let once : EachOnce groups = rw (← c.self.view_is) c.self.invariant.once in
     let sorted : Ascends groups = rw (← c.self.view_is) (Ascends-held_in c.self.inside.cells.items c.self.invariant.ordered) in
     let found : value_at name groups ≡ Some c.in-Some.held =
-        sym (c.held_at.ensures ∙ ap (λ cells. value_at name (held_in cells)) c.as_slice.ensures.value ∙ ap (value_at name) c.self.view_is) ∙ c.in-Some.is in
+    sym (c.held_at.ensures ∙ ap (λ cells. value_at name (held_in cells)) c.as_slice.ensures.value ∙ ap (value_at name) c.self.view_is) ∙ c.in-Some.is in
     rw c.joined.ensures (once_further c.args.member groups once c.requires name c.in-Some.held sorted found)

@@ -1,5 +1,3 @@
-use Rattle.std.proofs.Common.{subst}
-use Rattle.flow_model.specs.Mapping.{Ascends}
 use Rattle.group_admission.proofs.Lookups.{Ascends-held_in}
 use Rattle.group_admission.proofs.groups.Groups.holder.Goals as goal
 
