@@ -18,8 +18,9 @@ use std::marker::Model;
 /// The concurrency groups (GitHub Docs, workflow syntax: `concurrency`): a map from names, which are
 /// the same ignoring case, to the member that holds the name and the one that waits for it.
 ///
-/// A name that was entered keeps its cell, so leaving takes no memory. A name is found by halves;
-/// what a member holds or waits for is found by a pass over all names that were entered.
+/// A name that was entered keeps its cell, so leaving takes no memory. A name is found by halves, and
+/// a new one moves the cells behind its place; what a member holds or waits for is found by a pass over
+/// all names that were entered.
 #[derive(Drop)]
 pub struct Groups {
     alloc: Global,
