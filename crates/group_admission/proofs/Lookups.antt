@@ -64,7 +64,7 @@ pub none_below : {V : Type 0} (name : List ℕ) (ps : List (List ℕ × V)) → 
 none_below name [] h = refl
 none_below name (p ∷ ps) h = rw h.0 (none_below name ps h.1)
 
-same_below : {V : Type 0} (name first : List ℕ) (ps : List (List ℕ × V)) → slice_cmp nat_cmp name first ≡ Equal → IsBelowKeys first ps → IsBelowKeys name ps
+pub same_below : {V : Type 0} (name first : List ℕ) (ps : List (List ℕ × V)) → slice_cmp nat_cmp name first ≡ Equal → IsBelowKeys first ps → IsBelowKeys name ps
 same_below name first [] same h = tt
 same_below name first (p ∷ ps) same h = (nat_list_cmp_total.congr name first p.0 same ∙ h.0, same_below name first ps same h.1)
 

@@ -101,3 +101,10 @@ abbrev pub WaiterIsTold : Type 0
 WaiterIsTold =
     (groups : Content) (m : Member) (name : List ℕ)
     → EachOnce groups → holder_of name groups ≡ Some m → next_after m groups ≡ waiter_of name groups
+
+-- A member that holds no name and waits for none is in no group.
+abbrev pub NowhereIsNoGroup : Type 0
+NowhereIsNoGroup =
+    (groups : Content) (m : Member) → Ascends groups
+    → ((name : List ℕ) → holder_of name groups ≢ Some m)
+    → ((name : List ℕ) → waiter_of name groups ≢ Some m) → is_in_group m groups ≡ false

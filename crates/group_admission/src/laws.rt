@@ -1,5 +1,5 @@
 // Laws of the definitions, as contracts of functions that do nothing.
-ghost use Rattle.group_admission.specs.Laws.{CaseIsIgnored, FirstHolds, NextDisplaces, OnceStays, OrderStays, OwnRunChangesNothing, ReleasesPassOn, WaiterIsTold, WaitersHaveHolders, WithdrawsLeaveHolders};
+ghost use Rattle.group_admission.specs.Laws.{CaseIsIgnored, FirstHolds, NextDisplaces, NowhereIsNoGroup, OnceStays, OrderStays, OwnRunChangesNothing, ReleasesPassOn, WaiterIsTold, WaitersHaveHolders, WithdrawsLeaveHolders};
 
 /// A name has a waiter only where it has a holder, and names that are the same ignoring case are one
 /// group.
@@ -32,8 +32,10 @@ pub fn order_stays()
 {}
 
 /// Where no member stands in two places, entering, releasing and leaving a wait keep it so, and a
-/// release tells the waiter of the name that was held.
+/// release tells the waiter of the name that was held. A member that neither holds a name nor waits
+/// for one is in no group.
 pub fn members_stand_once()
     ensures stays { OnceStays }
     ensures told { WaiterIsTold }
+    ensures nowhere { NowhereIsNoGroup }
 {}
