@@ -1,0 +1,10 @@
+pub mod Changed
+pub mod Entering
+pub mod Kept
+pub mod Leaving
+pub mod Lookups
+pub mod Members
+pub mod Nowhere
+pub mod Once
+pub mod Search
+pub mod Written
