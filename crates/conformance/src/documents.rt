@@ -9,9 +9,9 @@
 //!   sample board    a copy of a board that no record can give so far
 //!   sample reply    a copy of a reply that no record can give so far
 //!
-//! What is refused is told by its fault, with its path or line.
+//! What is refused is told by its fault, with its path or line. `groups` stands in `group_calls`.
 
-use crate::{expressions, samples};
+use crate::{expressions, group_calls, samples};
 use flow_model::{
     Board, Broken, CallWork, CheckedPlan, Duplicate, Entry, Reply, Sequence, StepCall, What,
 };
@@ -39,6 +39,7 @@ pub fn told(
         ["run"] => run_told(alloc, input),
         ["sample", "board"] => sample_board(alloc),
         ["sample", "reply"] => sample_reply(alloc),
+        ["groups"] => group_calls::told(alloc, input),
         _ => expressions::told(alloc, words, file, input),
     }
 }

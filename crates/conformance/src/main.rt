@@ -34,6 +34,7 @@
 mod case;
 mod documents;
 mod expressions;
+mod group_calls;
 mod pattern_sweeps;
 mod record_sweeps;
 mod samples;

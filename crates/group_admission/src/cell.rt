@@ -1,4 +1,5 @@
-// One cell: a name, and who holds it.
+//! One cell: a name, and who holds it.
+
 ghost use Rattle.std.specs.Prelude.{◌≡◌};
 ghost use Rattle.std.specs.Ordering.{nat_cmp};
 ghost use Rattle.std.specs.Cmp.Lexicographic.{slice_cmp};

@@ -1,4 +1,5 @@
-// The cells of all names, in their order: a name's cell is found by halves, and none is taken away.
+//! The cells of all names, in their order: a name's cell is found by halves, and none is taken away.
+
 ghost use Rattle.std.specs.Prelude.{◌≡◌, IfOk, OnOk, OnErr, map, slice_get};
 ghost use Rattle.expr_reader.specs.Fold.{fold};
 ghost use Rattle.flow_model.specs.Mapping.{value_at, with_pair};

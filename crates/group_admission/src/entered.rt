@@ -1,4 +1,5 @@
-// What entering a group answers.
+//! What entering a group answers.
+
 use flow_model::Member;
 
 /// What became of a member that entered a group.

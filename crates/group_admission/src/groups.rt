@@ -1,4 +1,5 @@
-// The groups of a board in play: who holds each name, and who waits for it.
+//! The groups of a board in play: who holds each name, and who waits for it.
+
 ghost use Rattle.std.specs.Prelude.{◌≡◌, [], false, IfOk, OnOk, OnErr};
 ghost use Rattle.expr_reader.specs.Fold.{fold};
 ghost use Rattle.flow_model.specs.Mapping.{value_at, with_pair, Ascends};

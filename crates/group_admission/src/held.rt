@@ -1,4 +1,5 @@
-// Who holds a name and who waits for it.
+//! Who holds a name and who waits for it.
+
 ghost use Rattle.std.specs.Prelude.{◌≡◌, Some, None, option_and_then};
 ghost use Rattle.group_admission.specs.Content as spec;
 

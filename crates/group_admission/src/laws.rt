@@ -1,4 +1,5 @@
-// Laws of the definitions, as contracts of functions that do nothing.
+//! Laws of the definitions, as contracts of functions that do nothing.
+
 ghost use Rattle.group_admission.specs.Laws.{CaseIsIgnored, FirstHolds, NextDisplaces, NowhereIsNoGroup, OnceStays, OrderStays, OwnRunChangesNothing, ReleasesPassOn, WaiterIsTold, WaitersHaveHolders, WithdrawsLeaveHolders};
 
 /// A name has a waiter only where it has a holder, and names that are the same ignoring case are one

@@ -1,11 +1,12 @@
-// group_admission: the concurrency groups of a plan in play (GitHub Docs, workflow syntax:
-// `concurrency`): who holds a group's name, and who waits for it.
-//
-// `Groups` is a map from names, which are the same ignoring case, to one holder and at most one waiter. It
-// promises exactly what entering a name, releasing it and leaving a wait answer and change, that no other
-// name changes, that no member stands in two places, and that leaving and looking take no memory. The words
-// of its contracts stand in `specs/Content.antt`, laws above them in `specs/Laws.antt`. It stands on
-// `flow_model` for members and texts, and on `expr_reader` for folding.
+//! group_admission: the concurrency groups of a plan in play (GitHub Docs, workflow syntax:
+//! `concurrency`): who holds a group's name, and who waits for it.
+//!
+//! `Groups` is a map from names, which are the same ignoring case, to one holder and at most one waiter. It
+//! promises exactly what entering a name, releasing it and leaving a wait answer and change, that no other
+//! name changes, that no member stands in two places, and that leaving and looking take no memory. The words
+//! of its contracts stand in `specs/Content.antt`, laws above them in `specs/Laws.antt`. It stands on
+//! `flow_model` for members and texts, and on `expr_reader` for folding.
+
 #![tactic(auto)]
 
 mod cell;

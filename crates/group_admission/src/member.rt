@@ -1,4 +1,5 @@
-// Members that are compared.
+//! Members that are compared.
+
 ghost use Rattle.std.specs.Prelude.{◌≡◌};
 ghost use Rattle.group_admission.specs.Content as spec;
 

@@ -7,6 +7,7 @@
 //! over the whole finite map of the contexts that the place sees; `lay_over` lays one level of names over another.
 //! All are defined in `specs/`: `Places`, `Values`, `Texts`, `Env` and `Outputs`. The crate stands on `expr_reader`,
 //! `expr_value` and `flow_model`.
+
 #![tactic(auto)]
 
 mod env;
