@@ -1,0 +1,4 @@
+pub mod Chosen
+pub mod Filters
+pub mod Numbers
+pub mod Products

@@ -1,0 +1,1 @@
+//! Laws of the definitions, as contracts of functions that do nothing.
