@@ -1,4 +1,7 @@
 pub mod Chosen
+pub mod Entries
 pub mod Filters
 pub mod Numbers
+pub mod Overlays
 pub mod Products
+pub mod SameValues

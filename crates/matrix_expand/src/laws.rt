@@ -1,1 +1,28 @@
 //! Laws of the definitions, as contracts of functions that do nothing.
+
+ghost use Rattle.matrix_expand.specs.Laws.{SameIsEqual, ExcludesAreOut, OriginalsStay, IncludesAlone, EmptyEntriesPass};
+
+/// Two values are the same exactly where they are equal.
+pub fn same_is_equal()
+    ensures { SameIsEqual }
+{}
+
+/// No original that an exclude names is left.
+pub fn excludes_are_out()
+    ensures { ExcludesAreOut }
+{}
+
+/// No include overwrites a value of an original.
+pub fn originals_stay()
+    ensures { OriginalsStay }
+{}
+
+/// Without variables, and where every original is taken out, each include stands alone.
+pub fn includes_alone()
+    ensures { IncludesAlone }
+{}
+
+/// Entries without pairs are passed over.
+pub fn empty_entries_pass()
+    ensures { EmptyEntriesPass }
+{}
