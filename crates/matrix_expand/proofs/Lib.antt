@@ -5,3 +5,4 @@ pub mod Numbers
 pub mod Overlays
 pub mod Products
 pub mod SameValues
+pub mod Values

@@ -1,7 +1,7 @@
 -- Laws of the definitions, each the contract of a function of the module `laws`.
 use Rattle.std.specs.Prelude.{◌≡◌, ◌↔◌, ◌⊎◌, ℕ, Bool, true, false, List, [], ◌∷◌, Some, IsTrue}
 use Rattle.std.specs.List.{filter, AllByRecursion}
-use Rattle.flow_model.specs.Mapping.{value_at}
+use Rattle.flow_model.specs.Mapping.{value_at, Ascends}
 use Rattle.flow_model.specs.Plain.{Plain}
 use Rattle.flow_model.specs.declared.plan.Matrix.{Matrix}
 use Rattle.matrix_expand.specs.Combos.{Pairs, is_there, stands_in, originals, overlaid, combos}
@@ -11,6 +11,14 @@ use Rattle.matrix_expand.specs.Same.{is_same}
 abbrev pub IsOneOf : {X : Type 0} → X → List X → Type 0
 IsOneOf x [] = ⊥
 IsOneOf x (y ∷ ys) = (x ≡ y) ⊎ IsOneOf x ys
+
+-- a combination gives a variable one of its values
+abbrev pub GivesOne : Pairs → List ℕ × List Plain → Type 0
+GivesOne c v = (x : Plain) × ((value_at v.0 c ≡ Some x) × IsOneOf x v.1)
+
+-- Each combination gives every variable one of its values, or is an include as it stands; variables ascend by name.
+abbrev pub ValuesOfVariables : Type 0
+ValuesOfVariables = (m : Matrix) → Ascends m.variables → AllByRecursion (λ c. AllByRecursion (GivesOne c) m.variables ⊎ IsOneOf c m.include) (combos m)
 
 -- Two values are the same exactly where they are equal.
 abbrev pub SameIsEqual : Type 0

@@ -1,6 +1,11 @@
 //! Laws of the definitions, as contracts of functions that do nothing.
 
-ghost use Rattle.matrix_expand.specs.Laws.{SameIsEqual, ExcludesAreOut, OriginalsStay, IncludesAlone, EmptyEntriesPass};
+ghost use Rattle.matrix_expand.specs.Laws.{ValuesOfVariables, SameIsEqual, ExcludesAreOut, OriginalsStay, IncludesAlone, EmptyEntriesPass};
+
+/// Each combination gives every variable one of its values, or is an include as it stands.
+pub fn values_of_variables()
+    ensures { ValuesOfVariables }
+{}
 
 /// Two values are the same exactly where they are equal.
 pub fn same_is_equal()

@@ -48,7 +48,8 @@ fn overlaid(alloc: Global, entries: &Sequence<Combo>, original: &Combo) -> Resul
     let from = entries.as_slice();
     let mut combo = original.copy(alloc)?;
     for entry in from {
-        if !contradicts(original, entry) {
+        let fits = !contradicts(original, entry);
+        if fits {
             lay_over(alloc, entry, &mut combo)?;
         }
     }
