@@ -46,9 +46,9 @@ size_over v vs total all h e =
     (le-mul_of_pos_right (total * length v.1) (size_positive vs (have_first v vs h).1))
 
 -- the place that a number has in the first variable's list
-pub place_in : (v : List ℕ × List Plain) (vs all : Variables) (block rest n : ℕ) (items : List Plain) → all ≡ v ∷ vs → have_values all ≡ true → block ≡ size all → rest < block
-    → n ≡ length v.1 → items ≡ v.1 → rest / (block / n) < length items
-place_in v vs all block rest n items e h s w l i =
+pub place_in : (v : List ℕ × List Plain) (vs all : Variables) (block rest n : ℕ) → all ≡ v ∷ vs → have_values all ≡ true → block ≡ size all → rest < block
+    → n ≡ length v.1 → rest / (block / n) < length v.1
+place_in v vs all block rest n e h s w l =
     let whole : have_values (v ∷ vs) ≡ true = ap have_values (sym e) ∙ h in
     let sized : block ≡ size (v ∷ vs) = s ∙ ap size e in
-    rw (l, i, block_after v vs block whole sized) (place_within v vs block rest whole sized w)
+    rw (l, block_after v vs block whole sized) (place_within v vs block rest whole sized w)

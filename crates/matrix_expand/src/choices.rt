@@ -1,9 +1,10 @@
 //! A choice of one value of each variable, by its number.
 
-ghost use Rattle.std.specs.Prelude.{◌≡◌, ◌<◌, true, IfOk};
+ghost use Rattle.std.specs.Prelude.{◌≡◌, ◌<◌, ◌/◌, true, length, get_or, IfOk};
 ghost use Rattle.std.specs.Option.{option_copied};
 ghost use Rattle.std.specs.List.{list_any};
 ghost use Rattle.flow_model.specs.Mapping.{value_at};
+ghost use Rattle.flow_model.specs.Plain.{null};
 ghost use Rattle.matrix_expand.specs.Choices as spec;
 ghost use Rattle.matrix_expand.specs.Combos.{is_value, stands_in, takes_out};
 ghost use Rattle.matrix_expand.specs.Expands.{have_values, size as size_of};
@@ -11,6 +12,17 @@ ghost use Rattle.matrix_expand.specs.Expands.{have_values, size as size_of};
 use crate::same::is_same;
 use flow_model::{Combo, Duplicate, Mapping, Sequence, Value};
 use std::alloc::{AllocError, Global};
+
+/// The value of a variable, each of which stands for a block of choices.
+#[tactic(auto, using(crate::proofs::Chosen::read_at))]
+fn chosen_item(values: &Sequence<Value>, block: usize, rest: usize) -> &Value
+    requires block { 0 < block }
+    requires within { rest / block < length values.now }
+    ensures { result.now ≡ get_or values.now (rest / block) null }
+{
+    let items = values.as_slice();
+    &items[rest / block]
+}
 
 /// The value that a choice gives to a name, if the name is a variable.
 fn chosen<'a>(
@@ -29,8 +41,7 @@ fn chosen<'a>(
     for (key, values) in variables.iter() {
         block = block / values.len();
         if name == key.as_str() {
-            let items = values.as_slice();
-            return Some(&items[rest / block]);
+            return Some(chosen_item(values, block, rest));
         }
         rest = rest % block;
     }
@@ -122,8 +133,8 @@ pub(crate) fn choice(
     let mut rest = number;
     for (key, values) in from {
         block = block / values.len();
-        let items = values.as_slice();
-        combo.set(alloc, key.as_str(), items[rest / block].copy(alloc)?)?;
+        let item = chosen_item(values, block, rest);
+        combo.set(alloc, key.as_str(), item.copy(alloc)?)?;
         rest = rest % block;
     }
     Ok(combo)

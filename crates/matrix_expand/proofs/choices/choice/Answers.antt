@@ -25,9 +25,8 @@ loop-key-preserved c =
     let gives : c.loop-key.combo ++ choice ((k, v) ∷ vs) c.loop-key.rest ≡ choice all c.args.number =
     ap (λ es. c.loop-key.combo ++ choice (pairs_of es) c.loop-key.rest) (sym steps) ∙ c.loop-key.invariant.gives in
     let place : c.loop-key.rest / (c.loop-key.block / c.len.result) ≡ c.loop-key.rest / size vs = ap (λ n. c.loop-key.rest / n) block in
-    let within : c.loop-key.rest / size vs < length v = place_within (k, v) vs c.loop-key.block c.loop-key.rest whole sized c.loop-key.invariant.within in
     let value : c.in_ok-copy.field-0 ≡ get_or v (c.loop-key.rest / size vs) null =
-    c.in_ok-copy.ensures ∙ read_at c.as_slice-items.result.now v _ _ c.index-items-rest.result c.as_slice-items.ensures place within c.index-items-rest.is in
+    c.in_ok-copy.ensures ∙ c.chosen_item-item.ensures ∙ ap (λ n. get_or v n null) place in
     let ascends = c.iter-from.ensures.ascends in
     record {
       sized = block;

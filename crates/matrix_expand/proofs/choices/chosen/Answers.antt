@@ -20,11 +20,9 @@ returns-then-eq c =
     let block : c.loop-key.block / c.len-block.result ≡ size vs =
     ap (λ n. c.loop-key.block / n) c.len-block.ensures ∙ block_after (k, v) vs c.loop-key.block whole sized in
     let place : c.loop-key.rest / (c.loop-key.block / c.len-block.result) ≡ c.loop-key.rest / size vs = ap (λ n. c.loop-key.rest / n) block in
-    let within : c.loop-key.rest / size vs < length v = place_within (k, v) vs c.loop-key.block c.loop-key.rest whole sized c.loop-key.invariant.within in
     let same : bytes_eq c.args.name.now k ≡ true = search rules in
-    let x : Plain = c.index-items-rest.result in
-    let value : x ≡ get_or v (c.loop-key.rest / size vs) null = read_at c.as_slice-items.result.now v _ _ x c.as_slice-items.ensures place within c.index-items-rest.is in
-    found_here c.args.name.now k v vs c.loop-key.rest x same value
+    let value : c.chosen_item.result.now ≡ get_or v (c.loop-key.rest / size vs) null = c.chosen_item.ensures ∙ ap (λ n. get_or v n null) place in
+    found_here c.args.name.now k v vs c.loop-key.rest c.chosen_item.result.now same value
     ∙ ap (λ es. value_at c.args.name.now (choice (pairs_of es) c.loop-key.rest)) (sym steps) ∙ c.loop-key.invariant.gives
 
 pub loop-key-preserved : goal.loop-key-preserved
@@ -46,16 +44,7 @@ loop-key-preserved c =
           ∙ ap (λ es. value_at c.args.name.now (choice (pairs_of es) c.loop-key.rest)) (sym steps) ∙ c.loop-key.invariant.gives;
     }
 
-pub bounds-items-rest : goal.bounds-items-rest
-bounds-items-rest c =
+pub chosen_item-requires-clause-within : goal.chosen_item-requires-clause-within
+chosen_item-requires-clause-within c =
     place_in (string_bytes c.in-Some.key.now, c.in-Some.values.now) (pairs_of c.next.new.self) (pairs_of c.loop-key.key-iterator) c.loop-key.block c.loop-key.rest
-    c.len-block.result c.as_slice-items.result.now (ap pairs_of c.in-Some.ensures.steps) c.loop-key.invariant.full c.loop-key.invariant.sized c.loop-key.invariant.within
-    c.len-block.ensures c.as_slice-items.ensures
-
-pub offset_bounds-items-rest : goal.offset_bounds-items-rest
-offset_bounds-items-rest c =
-    let within : c.loop-key.rest / (c.loop-key.block / c.len-block.result) < length c.as_slice-items.result.now =
-    place_in (string_bytes c.in-Some.key.now, c.in-Some.values.now) (pairs_of c.next.new.self) (pairs_of c.loop-key.key-iterator) c.loop-key.block c.loop-key.rest
-    c.len-block.result c.as_slice-items.result.now (ap pairs_of c.in-Some.ensures.steps) c.loop-key.invariant.full c.loop-key.invariant.sized c.loop-key.invariant.within
-    c.len-block.ensures c.as_slice-items.ensures in
-    search rules
+    c.len-block.result (ap pairs_of c.in-Some.ensures.steps) c.loop-key.invariant.full c.loop-key.invariant.sized c.loop-key.invariant.within c.len-block.ensures
