@@ -1,6 +1,6 @@
 -- The choices of the product stand in the order of their numbers.
-use Rattle.std.proofs.Common.{◌≡◌, ◌∙◌, ◌<◌, ◌≤◌, ◌*◌, true, ◌/◌, ◌%◌, ◌+◌, ◌++◌, ℕ, zero, suc, List, [], ◌∷◌, map, length, get_or, refl, ap, sym, arith, subst}
-use Rattle.std.proofs.Math.Nat.{mod-lt, zero-mul, suc-mul, add_comm}
+use Rattle.std.proofs.Common.{◌≡◌, ◌∙◌, ◌<◌, ◌*◌, true, ◌/◌, ◌%◌, ◌+◌, ◌++◌, ℕ, zero, suc, List, [], ◌∷◌, map, length, get_or, refl, ap, sym, arith, subst}
+use Rattle.std.proofs.Math.Nat.{zero-mul, suc-mul, add_comm}
 use Rattle.std.proofs.lemmas.Nat.{div-add-mod'}
 use Rattle.std.proofs.lemmas.List.{get_or_append_left, get_or-append-add, get_or-map, length-map, length-append}
 use Rattle.std.specs.List.{flat_map}

@@ -1,5 +1,5 @@
 -- A choice by its number in the product.
-use Rattle.std.specs.Prelude.{◌≡◌, ◌/◌, ◌%◌, ℕ, List, [], ◌∷◌, get_or}
+use Rattle.std.specs.Prelude.{◌/◌, ◌%◌, ℕ, [], ◌∷◌, get_or}
 use Rattle.flow_model.specs.Plain.{null}
 use Rattle.matrix_expand.specs.Combos.{Pairs, Variables}
 use Rattle.matrix_expand.specs.Expands.{size}

@@ -1,5 +1,5 @@
 -- Laws of the definitions, each the contract of a function of the module `laws`.
-use Rattle.std.specs.Prelude.{◌≡◌, ◌↔◌, ◌⊎◌, ℕ, Bool, true, false, List, [], ◌∷◌, Some, IsTrue}
+use Rattle.std.specs.Prelude.{◌≡◌, ◌↔◌, ◌⊎◌, ℕ, true, false, List, [], ◌∷◌, Some}
 use Rattle.std.specs.List.{filter, AllByRecursion}
 use Rattle.flow_model.specs.Mapping.{value_at, Ascends}
 use Rattle.flow_model.specs.Plain.{Plain}

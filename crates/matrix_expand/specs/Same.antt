@@ -1,5 +1,5 @@
 -- Equality of values, all the way down and by kind: a truth value is no number, and texts are equal byte by byte.
-use Rattle.std.specs.Prelude.{ℕ, Bool, true, false, not, ◌&&◌, List}
+use Rattle.std.specs.Prelude.{Bool, true, false, not, ◌&&◌}
 use Rattle.std.specs.Ordering.{int_eq}
 use Rattle.std.specs.Str.{bytes_eq}
 use Rattle.flow_model.specs.Plain as plain

@@ -1,12 +1,12 @@
-use Rattle.std.proofs.Common.{◌≡◌, ◌∙◌, ◌<◌, ◌/◌, ◌%◌, ◌∷◌, ◌++◌, ap, sym, subst, string_bytes, true, length, get_or, rules, ℕ, List}
+use Rattle.std.proofs.Common.{◌≡◌, ◌∙◌, ◌/◌, ◌%◌, ◌∷◌, ◌++◌, ap, sym, string_bytes, true, get_or}
 use Rattle.flow_model.specs.Mapping.{pairs_of, keys_of}
-use Rattle.flow_model.specs.Plain.{Plain, null}
+use Rattle.flow_model.specs.Plain.{null}
 use Rattle.flow_model.proofs.LastPair.{with_pair-above, keys_of-next}
 use Rattle.matrix_expand.specs.Choices.{choice}
-use Rattle.matrix_expand.specs.Combos.{Pairs, Variables}
+use Rattle.matrix_expand.specs.Combos.{Variables}
 use Rattle.matrix_expand.specs.Expands.{have_values, size}
-use Rattle.matrix_expand.proofs.Chosen.{chosen_next, read_at}
-use Rattle.matrix_expand.proofs.Numbers.{have_first, block_after, place_within, rest_within}
+use Rattle.matrix_expand.proofs.Chosen.{chosen_next}
+use Rattle.matrix_expand.proofs.Numbers.{have_first, block_after, rest_within}
 use Rattle.matrix_expand.proofs.choices.choice.Goals as goal
 
 pub loop-key-preserved : goal.loop-key-preserved

@@ -1,12 +1,12 @@
-use Rattle.std.proofs.Common.{◌≡◌, ◌∙◌, ◌<◌, ◌/◌, ◌%◌, ◌∷◌, ap, sym, subst, string_bytes, true, false, length, get_or, rules, ℕ, List}
+use Rattle.std.proofs.Common.{◌≡◌, ◌∙◌, ◌/◌, ◌%◌, ◌∷◌, ap, sym, string_bytes, true, false, get_or, rules}
 use Rattle.std.specs.Str.{bytes_eq}
 use Rattle.flow_model.specs.Mapping.{pairs_of, value_at}
-use Rattle.flow_model.specs.Plain.{Plain, null}
+use Rattle.flow_model.specs.Plain.{null}
 use Rattle.matrix_expand.specs.Choices.{choice}
 use Rattle.matrix_expand.specs.Combos.{Variables}
 use Rattle.matrix_expand.specs.Expands.{have_values, size}
-use Rattle.matrix_expand.proofs.Chosen.{found_here, passed_here, read_at}
-use Rattle.matrix_expand.proofs.Numbers.{have_first, block_after, place_in, place_within, rest_within}
+use Rattle.matrix_expand.proofs.Chosen.{found_here, passed_here}
+use Rattle.matrix_expand.proofs.Numbers.{have_first, block_after, place_in, rest_within}
 use Rattle.matrix_expand.proofs.choices.chosen.Goals as goal
 
 pub returns-then-eq : goal.returns-then-eq

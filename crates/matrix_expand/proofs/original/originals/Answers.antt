@@ -1,4 +1,4 @@
-use Rattle.std.proofs.Common.{◌≡◌, ◌∙◌, ◌<◌, ◌≤◌, ap, sym, subst, arith, length, get_or, true, false, [], ◌∷◌, ◌++◌, ℕ, rules}
+use Rattle.std.proofs.Common.{◌≡◌, ◌∙◌, ◌<◌, ◌≤◌, ap, sym, subst, arith, length, true, false, [], ◌∷◌, ◌++◌, rules}
 use Rattle.std.proofs.lemmas.List.{length-append}
 use Rattle.matrix_expand.specs.Choices.{choice}
 use Rattle.matrix_expand.specs.Combos.{Pairs, is_original, originals, product}

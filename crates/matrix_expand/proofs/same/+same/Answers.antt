@@ -1,7 +1,4 @@
-use Rattle.std.proofs.Common.{◌≡◌, ◌∙◌, ap, sym}
-use Rattle.flow_model.specs.Value.{view}
 use Rattle.flow_model.proofs.Nodes.{view-Map}
-use Rattle.matrix_expand.specs.Same.{is_same}
 use Rattle.matrix_expand.proofs.same.+same.Goals as goal
 
 pub is_same-returns-in-Map-Map : goal.is_same-returns-in-Map-Map

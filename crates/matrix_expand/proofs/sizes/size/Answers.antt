@@ -1,4 +1,4 @@
-use Rattle.std.proofs.Common.{◌≡◌, ◌∙◌, ◌<◌, ◌≤◌, ◌*◌, ◌∷◌, ap, sym, subst, string_bytes, true, length, arith, rules, ℕ, List}
+use Rattle.std.proofs.Common.{◌≡◌, ◌∙◌, ◌<◌, ◌≤◌, ◌*◌, ◌∷◌, ap, sym, string_bytes, true, length, arith, rules, ℕ, List}
 use Rattle.flow_model.specs.Plain.{Plain}
 use Rattle.flow_model.specs.Mapping.{pairs_of}
 use Rattle.matrix_expand.specs.Combos.{Variables}

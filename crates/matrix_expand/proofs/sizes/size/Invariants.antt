@@ -1,4 +1,4 @@
-use Rattle.std.proofs.Common.{◌≡◌, ◌≤◌, ◌<◌, ◌*◌, true}
+use Rattle.std.proofs.Common.{◌≡◌, ◌≤◌, ◌*◌, true}
 use Rattle.flow_model.specs.Mapping.{pairs_of}
 use Rattle.matrix_expand.specs.Expands.{have_values, size}
 use Rattle.matrix_expand.proofs.sizes.size.Given as goal
