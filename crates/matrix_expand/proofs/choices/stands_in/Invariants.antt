@@ -1,0 +1,9 @@
+use Rattle.std.proofs.Common.{◌≡◌}
+use Rattle.flow_model.specs.Mapping.{pairs_of}
+use Rattle.matrix_expand.specs.Choices.{choice}
+use Rattle.matrix_expand.specs.Combos.{stands_in}
+use Rattle.matrix_expand.proofs.choices.stands_in.Given as goal
+
+abbrev pub invariant-loop-name : goal.invariant-loop-name
+invariant-loop-name l =
+    stands_in (pairs_of l.name-iterator) (choice l.variables l.number) ≡ stands_in l.entry (choice l.variables l.number)

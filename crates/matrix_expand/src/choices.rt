@@ -1,0 +1,141 @@
+//! A choice of one value of each variable, by its number.
+
+ghost use Rattle.std.specs.Prelude.{◌≡◌, ◌<◌, ◌/◌, true, length, get_or, IfOk};
+ghost use Rattle.std.specs.Option.{option_copied};
+ghost use Rattle.std.specs.List.{list_any};
+ghost use Rattle.flow_model.specs.Mapping.{value_at};
+ghost use Rattle.flow_model.specs.Plain.{null};
+ghost use Rattle.matrix_expand.specs.Choices as spec;
+ghost use Rattle.matrix_expand.specs.Combos.{is_value, stands_in, takes_out};
+ghost use Rattle.matrix_expand.specs.Expands.{have_values, size as size_of};
+
+use crate::same::is_same;
+use flow_model::{Combo, Duplicate, Mapping, Sequence, Value};
+use std::alloc::{AllocError, Global};
+
+/// The value of a variable, each of which stands for a block of choices.
+#[tactic(auto, using(crate::proofs::Chosen::read_at))]
+fn chosen_item(values: &Sequence<Value>, block: usize, rest: usize) -> &Value
+    requires block { 0 < block }
+    requires within { rest / block < length values.now }
+    ensures { result.now ≡ get_or values.now (rest / block) null }
+{
+    let items = values.as_slice();
+    &items[rest / block]
+}
+
+/// The value that a choice gives to a name, if the name is a variable.
+fn chosen<'a>(
+    variables: &'a Mapping<Sequence<Value>>,
+    size: usize,
+    number: usize,
+    name: &str,
+) -> Option<&'a Value>
+    requires full { have_values variables.now ≡ true }
+    requires sized { size ≡ size_of variables.now }
+    requires within { number < size }
+    ensures { option_copied result ≡ value_at name.now (spec.choice variables.now number) }
+{
+    let mut block = size;
+    let mut rest = number;
+    for (key, values) in variables.iter() {
+        block = block / values.len();
+        if name == key.as_str() {
+            return Some(chosen_item(values, block, rest));
+        }
+        rest = rest % block;
+    }
+    None
+}
+
+/// Whether this is the value that is there.
+fn is_value(value: &Value, found: Option<&Value>) -> bool
+    ensures { result ≡ is_value value.now (option_copied found.entry) }
+{
+    match found {
+        Some(other) => is_same(value.node(), other.node()),
+        None => false,
+    }
+}
+
+/// Whether all of an entry's pairs stand in a choice.
+fn stands_in(
+    entry: &Combo,
+    variables: &Mapping<Sequence<Value>>,
+    size: usize,
+    number: usize,
+) -> bool
+    requires full { have_values variables.now ≡ true }
+    requires sized { size ≡ size_of variables.now }
+    requires within { number < size }
+    ensures { result ≡ stands_in entry.now (spec.choice variables.now number) }
+{
+    for (name, value) in entry.iter() {
+        if !is_value(value, chosen(variables, size, number, name.as_str())) {
+            return false;
+        }
+    }
+    true
+}
+
+/// Whether an exclude takes a choice out.
+#[tactic(auto, unfolding(crate::specs::Combos::takes_out))]
+fn takes_out(
+    entry: &Combo,
+    variables: &Mapping<Sequence<Value>>,
+    size: usize,
+    number: usize,
+) -> bool
+    requires full { have_values variables.now ≡ true }
+    requires sized { size ≡ size_of variables.now }
+    requires within { number < size }
+    ensures { result ≡ takes_out (spec.choice variables.now number) entry.now }
+{
+    !entry.is_empty() && stands_in(entry, variables, size, number)
+}
+
+/// Whether one of the excludes takes a choice out.
+pub(crate) fn is_taken_out(
+    excludes: &Sequence<Combo>,
+    variables: &Mapping<Sequence<Value>>,
+    size: usize,
+    number: usize,
+) -> bool
+    requires full { have_values variables.now ≡ true }
+    requires sized { size ≡ size_of variables.now }
+    requires within { number < size }
+    ensures { result ≡ list_any (takes_out (spec.choice variables.now number)) excludes.now }
+{
+    let from = excludes.as_slice();
+    for entry in from {
+        if takes_out(entry, variables, size, number) {
+            return true;
+        }
+    }
+    false
+}
+
+/// The combination of a choice.
+pub(crate) fn choice(
+    alloc: Global,
+    variables: &Mapping<Sequence<Value>>,
+    size: usize,
+    number: usize,
+) -> Result<Combo, AllocError>
+    requires full { have_values variables.now ≡ true }
+    requires sized { size ≡ size_of variables.now }
+    requires within { number < size }
+    ensures { IfOk result (λ combo. combo ≡ spec.choice variables.now number) }
+{
+    let from = variables.iter();
+    let mut combo = Mapping::empty(alloc);
+    let mut block = size;
+    let mut rest = number;
+    for (key, values) in from {
+        block = block / values.len();
+        let item = chosen_item(values, block, rest);
+        combo.set(alloc, key.as_str(), item.copy(alloc)?)?;
+        rest = rest % block;
+    }
+    Ok(combo)
+}
