@@ -121,7 +121,8 @@ fn contexts_of(
     alloc: Global,
     members: &BTreeMap<String, serde_json::Value>,
 ) -> Result<Mapping<Value>, Unread>
-    ensures { Gives (λ contexts. contexts) result (spec.contexts_with [] (members_view members.now.entries)) }
+    ensures { Gives (λ contexts. contexts) result
+        (spec.contexts_with [] (members_view members.now.entries)) }
 {
     let mut contexts = Mapping::empty(alloc);
     for (key, json) in members.iter() {

@@ -22,7 +22,8 @@ pub fn integer_has_its_value()
 
 /// A text is not-a-number exactly where it is not empty and is no number of JSON.
 pub fn other_text_is_no_number()
-    ensures { (text : List ℕ) → (number_of_text text ≡ Ok None) ↔ ((text ≢ []) × ¬ IsNumber text) }
+    ensures { (text : List ℕ)
+        → (number_of_text text ≡ Ok None) ↔ ((text ≢ []) × ¬ IsNumber text) }
 {}
 
 /// A text is `NotWhole` exactly where it is a number of JSON that has a fraction or an exponent, or is out of range.
