@@ -1,9 +1,10 @@
 -- The rules of steps, groups, jobs and contexts: none is broken exactly where each holds in its own words.
 use Rattle.std.proofs.Common.{◌≡◌, ◌<◌, ◌≤◌, ◌&&◌, nat_lt, ℕ, suc, Bool, IsTrue, nat_le, codes, List, [], ◌∷◌, length, None, IfSome, refl, ap, sym, subst, arith}
+use Rattle.expr_reader.specs.Accepts.{is_template, is_condition}
 use Rattle.flow_model.specs.Found.{Path, under, each, each_pair}
 use Rattle.flow_model.specs.Name.{is_id}
 use Rattle.flow_model.specs.Plain.{Plain}
-use Rattle.flow_model.specs.Rules.{is_condition, is_evaluable, is_property, is_variable, is_input, are_distinct, with_id, ascend_between, is_limit, greatest, work_rules, step_rules, group_rules, leg_rules, step_ids, steps_rules, legs_rules, roots_rules}
+use Rattle.flow_model.specs.Rules.{is_property, is_variable, is_input, are_distinct, with_id, ascend_between, is_limit, greatest, work_rules, step_rules, group_rules, leg_rules, step_ids, steps_rules, legs_rules, roots_rules}
 use Rattle.flow_model.specs.Sound.{Each, HaveDistinctNames, AscendStrictly, IsProperty, SoundWork, SoundStep, SoundGroup}
 use Rattle.flow_model.specs.declared.plan.Group.{Group}
 use Rattle.flow_model.specs.declared.plan.JobPlan.{JobPlan}
@@ -35,12 +36,12 @@ no_properties ps h = none_each_pair is_property IsProperty (λ p k. nests-is_wit
 work_sound : (w : Work) → work_rules w ≡ None → SoundWork w
 work_sound (Run dir run shell) e =
     let r = or_else_none _ _ e in
-    (from_all_there is_evaluable (λ t. IsTrue (is_evaluable t)) (λ t h. h) dir (rule_none _ _ r.0), rule_none _ _ r.1)
+    (from_all_there is_template (λ t. IsTrue (is_template t)) (λ t h. h) dir (rule_none _ _ r.0), rule_none _ _ r.1)
 work_sound (Uses uses given) e = pass is_input (codes "with") given e
 
 sound_work : (w : Work) → SoundWork w → work_rules w ≡ None
 sound_work (Run dir run shell) h =
-    none_or_else _ _ (none_rule _ _ (to_all_there is_evaluable (λ t. IsTrue (is_evaluable t)) (λ t k. k) dir h.0)) (none_rule _ _ h.1)
+    none_or_else _ _ (none_rule _ _ (to_all_there is_template (λ t. IsTrue (is_template t)) (λ t k. k) dir h.0)) (none_rule _ _ h.1)
 sound_work (Uses uses given) h = passed is_input (codes "with") given h
 
 step_sound : (s : StepPlan) → step_rules s ≡ None → SoundStep s

@@ -4,8 +4,9 @@ use Rattle.std.specs.List.{flat_map}
 use Rattle.std.proofs.lemmas.List.Concat.{length-flat_map, flat_map-append}
 use Rattle.std.proofs.lemmas.List.Sums.{sum_by-cons}
 use Rattle.std.proofs.lemmas.Option.{slice_get_within}
+use Rattle.expr_reader.specs.Accepts.{is_condition}
 use Rattle.flow_model.specs.Found.{under, if_there}
-use Rattle.flow_model.specs.Rules.{is_condition, is_variable, is_job_output, are_distinct, group_rules, steps_rules, legs_rules, job_rules, jobs_rules, job_ids, roots_rules, run_rules, runs_rules, legs_of_jobs, legs_of_runs, IsPlan}
+use Rattle.flow_model.specs.Rules.{is_variable, is_job_output, are_distinct, group_rules, steps_rules, legs_rules, job_rules, jobs_rules, job_ids, roots_rules, run_rules, runs_rules, legs_of_jobs, legs_of_runs, IsPlan}
 use Rattle.flow_model.specs.Sound.{Each, SoundGroup, SoundJob, NeedEarlierJobs, SoundRun, SoundPlan}
 use Rattle.flow_model.specs.declared.plan.JobPlan.{JobPlan}
 use Rattle.flow_model.specs.declared.plan.Plan.{Plan}

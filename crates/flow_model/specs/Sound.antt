@@ -1,10 +1,11 @@
 -- The rules of a plan, each in its own words: what holds of all runs, jobs, legs and steps of a plan that breaks none.
 use Rattle.std.specs.Prelude.{◌≡◌, ℕ, suc, ◌<◌, ◌≤◌, max, IsTrue, IfSome, List, length, slice_get, Option, Some}
+use Rattle.expr_reader.specs.Accepts.{is_template, is_condition}
 use Rattle.flow_model.specs.Json.{is_in_range}
 use Rattle.flow_model.specs.Name.{is_id}
 use Rattle.flow_model.specs.Numbers.{plan_jobs, plan_legs}
 use Rattle.flow_model.specs.Plain.{Plain, null, truth, whole, text, list, map as map_value, Items, no_items, item, Members, no_members, member}
-use Rattle.flow_model.specs.Rules.{is_condition, is_flag, is_input, is_job_output, is_evaluable, is_variable, greatest}
+use Rattle.flow_model.specs.Rules.{is_flag, is_input, is_job_output, is_variable, greatest}
 use Rattle.flow_model.specs.declared.plan.Plan.{Plan}
 use Rattle.flow_model.specs.declared.plan.RunPlan.{RunPlan}
 use Rattle.flow_model.specs.declared.plan.Group.{Group}
@@ -62,7 +63,7 @@ IsProperty p = IsWithin 100 p.1
 
 -- the texts of a script can be evaluated, and so can the inputs of an action
 abbrev pub SoundWork : Work → Type 0
-SoundWork (Run dir run shell) = IfSome dir (λ t. IsTrue (is_evaluable t)) × IsTrue (is_evaluable run)
+SoundWork (Run dir run shell) = IfSome dir (λ t. IsTrue (is_template t)) × IsTrue (is_template run)
 SoundWork (Uses uses given) = Each (λ p. IsTrue (is_input p)) given
 
 -- the rules of a step
@@ -76,7 +77,7 @@ pub record SoundStep (s : StepPlan) : Type 0 where
 -- the rules of a concurrency group
 pub record SoundGroup (g : Group) : Type 0 where
   pub cancel : IsTrue (is_flag g.cancel)
-  pub name : IsTrue (is_evaluable g.name)
+  pub name : IsTrue (is_template g.name)
 
 -- the rules of a job by itself
 pub record SoundJob (j : JobPlan) : Type 0 where

@@ -55,8 +55,8 @@ pub(crate) trait Rules<T> {
 pub(crate) trait PairTest<V> {
     ghost test: { List ℕ × V → Bool };
 
-    fn passes(key: &str, value: &V) -> bool
-        ensures { result ≡ test (key.now, value.now) };
+    fn passes(alloc: Global, key: &str, value: &V) -> Result<bool, AllocError>
+        ensures { IfOk result (λ passed. passed ≡ test (key.now, value.now)) };
 }
 
 /// A rule, broken at its path where it does not hold.
@@ -148,7 +148,8 @@ pub(crate) fn check_pairs<V, T: PairTest<V>>(
     ensures { Checks (found.each_pair T.test pairs.now) result }
 {
     for (key, value) in pairs.iter() {
-        rule(alloc, key.as_str(), T::passes(key.as_str(), value))?;
+        let passed = T::passes(alloc, key.as_str(), value)?;
+        rule(alloc, key.as_str(), passed)?;
     }
     Ok(())
 }
@@ -202,7 +203,7 @@ impl Plan {
     /// # Errors
     ///
     /// `Broken::Rule` with the path of the first rule that is broken, and `Broken::Memory` where there
-    /// is no memory for that path.
+    /// is no memory to read the texts that are evaluated, or for that path.
     pub fn check(self, alloc: Global) -> Result<CheckedPlan, Broken>
         ensures accepted { IfOk result (λ checked. checked ≡ self) }
         ensures exact { ChecksPlan self result }
