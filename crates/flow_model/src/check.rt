@@ -16,6 +16,7 @@ use crate::offer::check_offer;
 use crate::plan::Plan;
 use crate::rules::check_plan;
 use crate::text::Text;
+use crate::texts::tests_tell;
 use std::alloc::{AllocError, Global};
 use std::marker::Model;
 use thiserror::Error;
@@ -209,6 +210,7 @@ impl Plan {
         ensures exact { ChecksPlan self result }
         ensures rules { AcceptsSound self result }
     {
+        tests_tell();
         check_whole(alloc, &self)?;
         Ok(CheckedPlan { plan: self })
     }
@@ -224,6 +226,7 @@ impl CheckedPlan {
         ensures sound { IsOffered result.now }
         ensures rules { SoundPlan result.now }
     {
+        tests_tell();
         &self.plan
     }
 }

@@ -7,11 +7,15 @@ ghost use Rattle.expr_reader.specs.Template.{Piece};
 ghost use Rattle.flow_model.specs.Found as found;
 ghost use Rattle.flow_model.specs.Found.{Checks};
 ghost use Rattle.flow_model.specs.Rules as spec;
+ghost use Rattle.flow_model.specs.Sound.{TestsTell};
 
 use crate::check::{Broken, rule};
 use crate::plan::Flag;
 use crate::text::Text;
-use expr_reader::{ExprFault, has_marker, read_condition, read_template, template_reading};
+use expr_reader::{
+    ExprFault, condition_test, has_marker, read_condition, read_template, template_reading,
+    template_test,
+};
 use std::alloc::{AllocError, Global};
 
 /// The most bytes of a template.
@@ -68,6 +72,14 @@ fn is_condition(alloc: Global, text: &str) -> Result<bool, AllocError>
         Ok(_) => Ok(true),
         Err(fault) => not_read(fault),
     }
+}
+
+/// The tests of texts tell the templates and the conditions.
+pub(crate) fn tests_tell()
+    ensures { TestsTell }
+{
+    template_test();
+    condition_test();
 }
 
 /// Checks that a text is a template.
