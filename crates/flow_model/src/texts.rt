@@ -1,9 +1,9 @@
 //! The rules of texts that are evaluated: each is read, as a condition or as a template.
 
-ghost use Rattle.std.specs.Prelude.{◌≡◌, IsTrue, IfOk, IfSome, List, Option, codes, is_some};
+ghost use Rattle.std.specs.Prelude.{◌≡◌, ◌&&◌, not, nat_le, length, IsTrue, IfOk, IfSome, List, Option, codes, is_some};
 ghost use Rattle.expr_reader.specs.Accepts.{is_template, is_condition};
 ghost use Rattle.expr_reader.specs.Faults.{fault_at};
-ghost use Rattle.expr_reader.specs.Template.{Piece};
+ghost use Rattle.expr_reader.specs.Template.{Piece, has_marker};
 ghost use Rattle.flow_model.specs.Found as found;
 ghost use Rattle.flow_model.specs.Found.{Checks};
 ghost use Rattle.flow_model.specs.Rules as spec;
@@ -24,7 +24,8 @@ const LONGEST: usize = 1_048_576;
 /// Whether a text is a template that need not be read: it has no more bytes than one, and no expression stands in it.
 #[tactic(auto, using(crate::proofs::PlainTexts::plain_template))]
 fn is_plain(text: &str) -> bool
-    ensures { IsTrue result → IsTrue (is_template text.now) }
+    ensures exact { result ≡ (nat_le (length text.now) LONGEST && not (has_marker text.now)) }
+    ensures read { IsTrue result → IsTrue (is_template text.now) }
 {
     template_reading();
     text.len() <= LONGEST && !has_marker(text)
