@@ -9,8 +9,8 @@ use Rattle.flow_model.specs.declared.plan.Work.TheVariants as work
 use Rattle.flow_model.specs.declared.reply.CallWork.{CallWork}
 use Rattle.flow_model.specs.declared.reply.CallWork.TheVariants as call_work
 use Rattle.flow_model.specs.declared.reply.ValueFault.{ValueFault}
-use Rattle.status_table.specs.declared.status.Status.{Status}
-use Rattle.status_table.specs.declared.status.Status.TheVariants as status
+use Rattle.expr_value.specs.declared.status.Status.{Status}
+use Rattle.expr_value.specs.declared.status.Status.TheVariants as status
 
 -- the function success()
 abbrev pub is_success : Status → Bool

@@ -13,8 +13,8 @@ use Rattle.flow_model.specs.declared.board.LegState.{LegState}
 use Rattle.flow_model.specs.declared.board.LegState.TheVariants as leg_state
 use Rattle.flow_model.specs.declared.event.Outcome.{Outcome}
 use Rattle.flow_model.specs.declared.event.Outcome.TheVariants as outcome
-use Rattle.status_table.specs.declared.status.Status.{Status}
-use Rattle.status_table.specs.declared.status.Status.TheVariants as status
+use Rattle.expr_value.specs.declared.status.Status.{Status}
+use Rattle.expr_value.specs.declared.status.Status.TheVariants as status
 use Rattle.status_table.specs.Conditions.{condition_value, is_true}
 use Rattle.status_table.specs.Place.{JobAt, LegAt}
 

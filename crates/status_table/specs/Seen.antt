@@ -14,15 +14,15 @@ use Rattle.status_table.specs.declared.place.SeenLeg.{SeenLeg}
 
 -- a run with its plan
 abbrev pub run_seen : SeenRun → RunAt
-run_seen x = record { plan = x.plan.now; run = x.run.now }
+run_seen x = record { board = x.board.now; plan = x.plan.now; run = x.run.now }
 
 -- a job with its plan and run
 abbrev pub job_seen : SeenJob → JobAt
-job_seen x = record { place = x.place; run_plan = x.run_plan.now; plan = x.plan.now; run = x.run.now; job = x.job.now }
+job_seen x = record { board = x.board.now; place = x.place; run_plan = x.run_plan.now; plan = x.plan.now; run = x.run.now; job = x.job.now }
 
 -- a leg with its job and run
 abbrev pub leg_seen : SeenLeg → LegAt
-leg_seen x = record { place = x.place; run_plan = x.run_plan.now; job_plan = x.job_plan.now; run = x.run.now; job = x.job.now; leg = x.leg.now }
+leg_seen x = record { board = x.board.now; place = x.place; run_plan = x.run_plan.now; job_plan = x.job_plan.now; run = x.run.now; job = x.job.now; leg = x.leg.now }
 
 -- a call, or none where the step is skipped
 abbrev pub beginning_seen : Option StepCall → Beginning

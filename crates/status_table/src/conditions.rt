@@ -6,7 +6,7 @@
 ghost use Rattle.std.specs.Prelude.{◌≡◌, IfOk, Ok};
 ghost use Rattle.status_table.specs.Conditions as spec;
 
-use crate::status::Status;
+use expr_value::Status;
 use flow_model::{CallWork, Duplicate, Flag, Mapping, Work};
 use std::alloc::{AllocError, Global};
 

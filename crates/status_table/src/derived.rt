@@ -7,7 +7,7 @@ ghost use Rattle.status_table.specs.Seen.{leg_seen};
 
 use crate::conditions::condition_holds;
 use crate::place::SeenLeg;
-use crate::status::Status;
+use expr_value::Status;
 use flow_model::{DoneStep, Job, JobPlan, JobState, Leg, LegState, Outcome, Run, RunState};
 
 fn is_closed(state: RunState) -> bool

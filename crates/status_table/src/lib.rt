@@ -19,11 +19,9 @@ mod new_board;
 pub mod place;
 pub mod plain_board;
 pub mod runs;
-pub mod status;
 pub mod table;
 
 pub use fault::EventFault;
 pub use plain_board::PlainBoard;
 pub use runs::run_entries;
-pub use status::Status;
 pub use table::Table;
