@@ -11,6 +11,7 @@
 mod ancestors;
 mod change;
 mod conditions;
+mod contexts;
 mod derived;
 mod events;
 pub mod fault;

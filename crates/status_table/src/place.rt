@@ -90,7 +90,7 @@ fn find_leg_in_jobs(run: usize, jobs: &[Job], number: usize) -> Result<LegPlace,
 }
 
 /// The place of the leg with a number.
-fn find_leg_place(runs: &[Run], number: usize) -> Option<LegPlace>
+pub(crate) fn find_leg_place(runs: &[Run], number: usize) -> Option<LegPlace>
     ensures { result ≡ spec.leg_place_from 0 runs.now number }
 {
     let mut left = number;
