@@ -1,7 +1,6 @@
 pub mod Ancestors
 pub mod Answers
 pub mod Change
-pub mod Conditions
 pub mod Contexts
 pub mod Decisions
 pub mod Derived
