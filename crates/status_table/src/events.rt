@@ -61,14 +61,14 @@ pub(crate) fn open(plan: &Plan, board: &mut Board, number: u64) -> Result<Reply,
 }
 
 /// The state into which a job is judged by its condition.
-fn judged_state(stop: bool, holds: Result<bool, ValueFault>) -> Result<JobState, EventFault>
+fn judged_state(stop: bool, holds: Result<bool, ValueFault>) -> Result<JobState, AllocError>
     ensures { (value : Result Bool ValueFaultOf) → Gives (λ holds. holds) holds value
-        → Decides (Ok (spec.judged_state stop value)) result }
+        → IfOk result (λ state. state ≡ spec.judged_state stop value) }
 {
     match holds {
         Ok(true) => Ok(JobState::Open),
         Ok(false) => Ok(JobState::Shut(shut_result(stop))),
-        Err(ValueFault::Memory) => Err(EventFault::Memory),
+        Err(ValueFault::Memory) => Err(AllocError),
         Err(
             ValueFault::NotWhole
             | ValueFault::NoIdentity
@@ -108,7 +108,7 @@ fn judgement(alloc: Global, number: u64, at: &SeenJob) -> Result<JobState, Event
         return Err(EventFault::NeedsOpen);
     }
     let status = job_status(alloc, first, at)?;
-    judged_state(at.run.stop, job_condition(alloc, at, status))
+    Ok(judged_state(at.run.stop, job_condition(alloc, at, status))?)
 }
 
 /// Opens or shuts a job whose needs have ended.
