@@ -4,6 +4,8 @@ pub mod Keeps
 pub mod Kept
 pub mod Legal
 pub mod Lists
+pub mod Maps
 pub mod Numbers
+pub mod Overlays
 pub mod RunsLemmas
 pub mod Sound

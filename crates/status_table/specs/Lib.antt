@@ -1,7 +1,8 @@
 pub mod Ancestors
 pub mod Answers
 pub mod Change
-pub mod Conditions
+pub mod Contexts
+pub mod Decisions
 pub mod Derived
 pub mod Ends
 pub mod Fault
