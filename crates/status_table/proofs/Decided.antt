@@ -128,9 +128,9 @@ end_concludes b worker at a (Some owner) = by (not (worker == owner)) (not (is_w
 pub only_failures_are_passed_over : OnlyFailuresArePassedOver
 only_failures_are_passed_over p b worker l at is = (
   by_test (Concludes b worker at) (nat_le worker 15) _ (Err fault.NoSuch)
-  (subst (λ (o : Option LegAt). Concludes b worker at (begin_found b worker l o)) (sym is) (begin_concludes b worker l at (idle_owner at.leg.state) (next_step at)))
-  tt,
+      (subst (λ (o : Option LegAt). Concludes b worker at (begin_found b worker l o)) (sym is) (begin_concludes b worker l at (idle_owner at.leg.state) (next_step at)))
+      tt,
   λ a. by_test (Concludes b worker at) (nat_le worker 15) _ (Err fault.NoSuch)
-  (subst (λ (o : Option LegAt). Concludes b worker at (end_found b worker a o)) (sym is) (end_concludes b worker at a (calling_owner at.leg.state)))
-  tt,
+      (subst (λ (o : Option LegAt). Concludes b worker at (end_found b worker a o)) (sym is) (end_concludes b worker at a (calling_owner at.leg.state)))
+      tt,
 )
