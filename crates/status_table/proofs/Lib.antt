@@ -1,4 +1,5 @@
 pub mod Backwards
+pub mod Decided
 pub mod Found
 pub mod Keeps
 pub mod Kept

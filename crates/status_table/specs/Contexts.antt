@@ -138,11 +138,11 @@ most_at_once plan = most plan.max_parallel
 unfoldable pub strategy_value : LegAt → Plain
 strategy_value at =
     object (
-      (codes "fail-fast", truth at.job_plan.fail_fast)
-      ∷ (codes "job-index", count at.place.leg)
-      ∷ (codes "job-total", count (length at.job_plan.legs))
-      ∷ (codes "max-parallel", count (most_at_once at.job_plan))
-      ∷ []
+    (codes "fail-fast", truth at.job_plan.fail_fast)
+    ∷ (codes "job-index", count at.place.leg)
+    ∷ (codes "job-total", count (length at.job_plan.legs))
+    ∷ (codes "max-parallel", count (most_at_once at.job_plan))
+    ∷ []
     )
 
 -- The pairs of a combination, where there is one.
@@ -162,10 +162,10 @@ job_value result = object ((codes "status", text (result_name result)) ∷ [])
 abbrev pub done_value : DoneStep → Plain
 done_value done =
     object (
-      (codes "conclusion", text (result_name done.conclusion))
-      ∷ (codes "outcome", text (result_name done.outcome))
-      ∷ (codes "outputs", env_context done.outputs)
-      ∷ []
+    (codes "conclusion", text (result_name done.conclusion))
+    ∷ (codes "outcome", text (result_name done.outcome))
+    ∷ (codes "outputs", env_context done.outputs)
+    ∷ []
     )
 
 -- The same at the step's id, where it has one.

@@ -7,6 +7,7 @@ pub mod Derived
 pub mod Ends
 pub mod Fault
 pub mod InPlay
+pub mod Laws
 pub mod Numbered
 pub mod Place
 pub mod Play

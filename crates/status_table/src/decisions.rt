@@ -22,16 +22,19 @@ use text_values::{Known, Place, condition_at, env_at, flag_at, lay_over, outputs
 
 /// Whether a job's condition holds under a status.
 #[tactic(auto, unfolding(crate::specs::Decisions::job_condition))]
-pub(crate) fn job_condition(
-    alloc: Global,
-    at: &SeenJob,
-    status: Status,
-) -> Result<bool, ValueFault>
+pub(crate) fn job_condition(alloc: Global, at: &SeenJob, status: Status) -> Result<bool, ValueFault>
     ensures { Gives (λ holds. holds) result (spec.job_condition (job_seen at.now) status) }
 {
     let mut known = Known::empty(alloc);
     let condition = &at.plan.condition;
-    condition_at(alloc, at, &mut known, Place::JobCondition, condition, status)
+    condition_at(
+        alloc,
+        at,
+        &mut known,
+        Place::JobCondition,
+        condition,
+        status,
+    )
 }
 
 /// Whether a job's condition does not give true as that of a cancelled one; a fault does not.
@@ -125,11 +128,7 @@ fn know_step_env(
 }
 
 /// Lets texts see the variables of the workflow and the job, or none where there is a fault.
-fn know_job_env_or_none(
-    alloc: Global,
-    at: &SeenLeg,
-    known: &mut Known,
-) -> Result<(), AllocError>
+fn know_job_env_or_none(alloc: Global, at: &SeenLeg, known: &mut Known) -> Result<(), AllocError>
     requires { IsKnownOf (leg_scene at.now) known.old }
     ensures ok { OnOk result
         (known_env known.new ≡ spec.or_none (spec.job_env (leg_seen at.now))) }
@@ -272,7 +271,14 @@ fn step_condition(
     ensures known { IsKnownOf (leg_scene at.now) known.new }
 {
     let status = status_of(leg_result(alloc, at)?);
-    condition_at(alloc, at, known, Place::StepCondition, &step.condition, status)
+    condition_at(
+        alloc,
+        at,
+        known,
+        Place::StepCondition,
+        &step.condition,
+        status,
+    )
 }
 
 /// The call of a step, or none where it is skipped: its variables first, then its condition, then the texts of the

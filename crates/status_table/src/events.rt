@@ -337,11 +337,7 @@ fn skipped_step(alloc: Global) -> DoneStep
 }
 
 /// A step that failed before its call.
-fn failed_step(
-    alloc: Global,
-    at: &SeenLeg,
-    known: &mut Known,
-) -> Result<DoneStep, AllocError>
+fn failed_step(alloc: Global, at: &SeenLeg, known: &mut Known) -> Result<DoneStep, AllocError>
     requires { IsKnownOf (leg_scene at.now) known.old }
     ensures { IfOk result (λ done. done ≡ spec.failed_step (leg_seen at.now)) }
 {
