@@ -16,7 +16,6 @@ use crate::offer::check_offer;
 use crate::plan::Plan;
 use crate::rules::check_plan;
 use crate::text::Text;
-use crate::texts::tests_tell;
 use std::alloc::{AllocError, Global};
 use std::marker::Model;
 use thiserror::Error;
@@ -56,8 +55,8 @@ pub(crate) trait Rules<T> {
 pub(crate) trait PairTest<V> {
     ghost test: { List ℕ × V → Bool };
 
-    fn passes(alloc: Global, key: &str, value: &V) -> Result<bool, AllocError>
-        ensures { IfOk result (λ passed. passed ≡ test (key.now, value.now)) };
+    fn passes(key: &str, value: &V) -> bool
+        ensures { result ≡ test (key.now, value.now) };
 }
 
 /// A rule, broken at its path where it does not hold.
@@ -149,8 +148,7 @@ pub(crate) fn check_pairs<V, T: PairTest<V>>(
     ensures { Checks (found.each_pair T.test pairs.now) result }
 {
     for (key, value) in pairs.iter() {
-        let passed = T::passes(alloc, key.as_str(), value)?;
-        rule(alloc, key.as_str(), passed)?;
+        rule(alloc, key.as_str(), T::passes(key.as_str(), value))?;
     }
     Ok(())
 }
@@ -204,13 +202,12 @@ impl Plan {
     /// # Errors
     ///
     /// `Broken::Rule` with the path of the first rule that is broken, and `Broken::Memory` where there
-    /// is no memory to read the texts that are evaluated, or for that path.
+    /// is no memory for that path.
     pub fn check(self, alloc: Global) -> Result<CheckedPlan, Broken>
         ensures accepted { IfOk result (λ checked. checked ≡ self) }
         ensures exact { ChecksPlan self result }
         ensures rules { AcceptsSound self result }
     {
-        tests_tell();
         check_whole(alloc, &self)?;
         Ok(CheckedPlan { plan: self })
     }
@@ -226,7 +223,6 @@ impl CheckedPlan {
         ensures sound { IsOffered result.now }
         ensures rules { SoundPlan result.now }
     {
-        tests_tell();
         &self.plan
     }
 }

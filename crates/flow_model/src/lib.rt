@@ -4,14 +4,12 @@
 //! that change it and the replies to them, and three small containers that contracts see as plain
 //! lists: a text, a sequence and a mapping.
 //!
-//! It promises that `Plan::check` accepts exactly the plans whose rules all hold, with each condition read as a
-//! condition and each other text that is evaluated as a template, and of which all is offered so far, that a
-//! `CheckedPlan` is made there or copied from one, that every `copy` is equal to what it was made from, and that
-//! JSON becomes a value, and a value JSON, exactly. What follows from its definitions alone stands in `laws`: the
-//! rules of a plan in their own words, how deep values nest, and the numbers of jobs.
+//! It promises that `Plan::check` accepts exactly the plans whose rules all hold and of which all is offered
+//! so far, that a `CheckedPlan` is made there or copied from one, that every `copy` is equal to what it was
+//! made from, and that JSON becomes a value, and a value JSON, exactly. What follows from its definitions alone
+//! stands in `laws`: the rules of a plan in their own words, how deep values nest, and the numbers of jobs.
 //!
-//! It stands on `expr_reader`, which reads the texts that are evaluated, on `serde_json`, and on `thiserror` for
-//! its errors.
+//! It stands on `serde_json` alone, and `thiserror` for its errors.
 
 #![tactic(auto)]
 

@@ -9,10 +9,10 @@ use Rattle.serde_json.specs.Written.{has_float, compact_text}
 use Rattle.flow_model.specs.Offered.{IsOffered, refusal}
 use Rattle.flow_model.specs.declared.plan.Plan.{Plan}
 use Rattle.flow_model.specs.declared.event.Entry.{Entry}
-use Rattle.plan_text.specs.Document.{document, IsPlanDocument}
-use Rattle.plan_text.specs.EntryDocument.{entry_document, IsEntryDocument, entry_of, is_entry}
+use Rattle.plan_text.specs.Document.{document}
+use Rattle.plan_text.specs.EntryDocument.{entry_document, entry_of, is_entry}
 use Rattle.plan_text.specs.Record.{entry_in, line_entry, on_line}
-use Rattle.plan_text.specs.Load.{json_read, IsTextOf, has_other_version, accepted, checked, loaded, load, Answers}
+use Rattle.plan_text.specs.Load.{json_read, has_other_version, accepted, checked, loaded, load, Answers}
 use Rattle.plan_text.specs.Parts.{Reading}
 use Rattle.plan_text.specs.Reading.{plan_of}
 use Rattle.plan_text.specs.declared.fault.LoadFault.{LoadFault}
@@ -42,14 +42,6 @@ compact_of s d e h is exact = h (ap has_float is ∙ exact) ∙ ap compact_text 
 pub reads_of : (s : String Global) (d e : Data) → (depth d ≤ 127 → read (string_bytes s) ≡ Some d) → d ≡ e → depth e ≤ 127 → json_read (string_bytes s) ≡ Some e
 reads_of s d e h is low =
     json_read-some (string_bytes s) e (IsUtf8-string_bytes s) (h (subst (λ x. depth x ≤ 127) (sym is) low) ∙ ap Some is)
-
--- what reads as the one document of something is a text of it
-pub is_text : {A : Type 0} (document_of : A → Data) (bytes : List ℕ) (a : A) → json_read bytes ≡ Some (document_of a) → IsTextOf (λ x d. d ≡ document_of x) bytes a
-is_text document_of bytes a h = (document_of a, h, refl)
-
--- and a text of it reads as that document
-pub text_is : {A : Type 0} (document_of : A → Data) (bytes : List ℕ) (a : A) → IsTextOf (λ x d. d ≡ document_of x) bytes a → json_read bytes ≡ Some (document_of a)
-text_is document_of bytes a h = h.1 ∙ ap Some h.2
 
 -- ---- plans
 
@@ -81,8 +73,8 @@ from_loaded (Some d) q e =
     (ap Some (plan_reads.only d q r.0), r.1)
 
 -- what is loaded has that document
-pub load_found : (r : Result Plan LoadFault) (bytes : List ℕ) → Answers r (load bytes) → IfOk r (λ p. IsTextOf IsPlanDocument bytes p)
-load_found (Ok p) bytes h = is_text document bytes p (from_loaded (json_read bytes) p h).0
+pub load_found : (r : Result Plan LoadFault) (bytes : List ℕ) → Answers r (load bytes) → IfOk r (λ p. json_read bytes ≡ Some (document p))
+load_found (Ok p) bytes h = (from_loaded (json_read bytes) p h).0
 load_found (Err fault) bytes h = tt
 
 -- no two plans have one document
@@ -110,8 +102,8 @@ from_on_line number None e is = absurd (cc)
 from_on_line number (Some f) e is = cc
 
 -- what is read has that document
-pub entry_found : (r : Result Entry LoadFault) (line : List ℕ) → Answers r (on_line 1 (line_entry line)) → IfOk r (λ e. IsTextOf IsEntryDocument line e)
-entry_found (Ok e) line h = is_text entry_document line e (from_entry_in (json_read line) e (from_on_line 1 (line_entry line) e h)).0
+pub entry_found : (r : Result Entry LoadFault) (line : List ℕ) → Answers r (on_line 1 (line_entry line)) → IfOk r (λ e. json_read line ≡ Some (entry_document e))
+entry_found (Ok e) line h = (from_entry_in (json_read line) e (from_on_line 1 (line_entry line) e h)).0
 entry_found (Err fault) line h = tt
 
 -- and is in the ranges

@@ -15,10 +15,6 @@ use Rattle.plan_text.specs.declared.fault.LoadFault.TheVariants.{NotJson, Versio
 abbrev pub json_read : List ℕ → Option Data
 json_read bytes = if is_utf8 bytes then read bytes else None
 
--- the bytes read as JSON that is a document of this
-abbrev pub IsTextOf : {A : Type 0} → (A → Data → Type 0) → List ℕ → A → Type 0
-IsTextOf IsDocument bytes x = (d : Data) × (json_read bytes ≡ Some d) × IsDocument x d
-
 -- whether the object's `version` is 1
 abbrev pub is_version_one : Data → Bool
 is_version_one d = unwrap_or (option_map (λ n. n == 1) (option_and_then as_u64 (option_and_then as_number (get (codes "version") d)))) false

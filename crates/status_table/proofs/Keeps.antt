@@ -29,11 +29,10 @@ use Rattle.status_table.specs.declared.fault.EventFault.{EventFault}
 use Rattle.status_table.specs.declared.fault.EventFault.TheVariants as fault
 use Rattle.status_table.specs.declared.place.JobPlace.{JobPlace}
 use Rattle.status_table.specs.Change.{changed, with_leg}
-use Rattle.status_table.specs.Derived.{is_ended, is_going, is_open, is_fresh, is_full, jobs_have_ended, run_result}
-use Rattle.status_table.specs.Decisions.{is_stopping, leg_result, leg_outputs}
+use Rattle.status_table.specs.Derived.{is_ended, is_going, is_open, is_fresh, is_full, is_stopping, jobs_have_ended, run_result, leg_result}
 use Rattle.status_table.specs.Ends.{times_ended, EndOnce}
 use Rattle.status_table.specs.Place.{RunAt, JobAt, LegAt, run_at, job_at, leg_at}
-use Rattle.status_table.specs.Row.{Row, Beginning, calls, skips, faults, row, event_row, reply, run_state_set, job_state_set, leg_state_set, step_done, leg_ended, open_run, open_found, judge_job, judge_found, judgement, ask_found, leg_enters, take_leg, take_found, idle_owner, calling_owner, next_step, skipped_step, failed_step, begin_leg, begin_found, beginning_by, end_leg, end_found, ending_by, finish_leg, finish_found, finishing_by, ended_state, close_run, close_found, close_waiting}
+use Rattle.status_table.specs.Row.{Row, Beginning, calls, skips, faults, row, event_row, reply, run_state_set, job_state_set, leg_state_set, step_done, leg_ended, open_run, open_found, judge_job, judge_found, judgement, ask_found, leg_enters, take_leg, take_found, idle_owner, calling_owner, next_step, skipped_step, failed_step, begin_leg, begin_found, beginning_by, end_leg, end_found, ending_by, finish_leg, finish_found, finishing_by, ended_state, leg_outputs, close_run, close_found, close_waiting}
 use Rattle.status_table.specs.Shape.{open_calls, steps_begun, has_room, JobShape, RunShape, HasShape}
 use Rattle.status_table.proofs.Found.{LegStands, leg_stands, leg_item}
 use Rattle.status_table.proofs.Lists.{same_some, no_some, and-right, changed-there, changed-elsewhere, length-changed, flat_map-kept, flat_map-twice, zip-changed, all-changed, all-get}

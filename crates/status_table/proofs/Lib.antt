@@ -1,12 +1,9 @@
 pub mod Backwards
-pub mod Decided
 pub mod Found
 pub mod Keeps
 pub mod Kept
 pub mod Legal
 pub mod Lists
-pub mod Maps
 pub mod Numbers
-pub mod Overlays
 pub mod RunsLemmas
 pub mod Sound

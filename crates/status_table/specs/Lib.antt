@@ -1,13 +1,11 @@
 pub mod Ancestors
 pub mod Answers
 pub mod Change
-pub mod Contexts
-pub mod Decisions
+pub mod Conditions
 pub mod Derived
 pub mod Ends
 pub mod Fault
 pub mod InPlay
-pub mod Laws
 pub mod Numbered
 pub mod Place
 pub mod Play

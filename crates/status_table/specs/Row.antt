@@ -20,6 +20,7 @@ use Rattle.flow_model.specs.declared.event.Member.{Member}
 use Rattle.flow_model.specs.declared.event.Member.TheVariants as member
 use Rattle.flow_model.specs.declared.event.Outcome.{Outcome}
 use Rattle.flow_model.specs.declared.event.Outcome.TheVariants as outcome
+use Rattle.flow_model.specs.declared.reply.CallWork.{CallWork}
 use Rattle.flow_model.specs.declared.reply.Reply.{Reply}
 use Rattle.flow_model.specs.declared.reply.StepCall.{StepCall}
 use Rattle.flow_model.specs.declared.reply.ValueFault.{ValueFault}
@@ -30,8 +31,8 @@ use Rattle.status_table.specs.declared.fault.EventFault.TheVariants as fault
 use Rattle.status_table.specs.declared.place.JobPlace.{JobPlace}
 use Rattle.status_table.specs.declared.place.LegPlace.{LegPlace}
 use Rattle.status_table.specs.Change.{with_run, with_job, with_leg}
-use Rattle.status_table.specs.Decisions.{job_condition, is_stopping, leg_result, step_decision, step_tolerates, job_tolerates, leg_outputs}
-use Rattle.status_table.specs.Derived.{is_going, is_open, is_fresh, job_status, is_full, needs_have_ended, jobs_have_ended, run_result, is_failure}
+use Rattle.status_table.specs.Conditions.{condition_value, is_set, work_value, env_value}
+use Rattle.status_table.specs.Derived.{is_going, is_open, is_fresh, is_stopping, leg_result, leg_status, job_status, is_full, needs_have_ended, jobs_have_ended, run_result, is_failure}
 use Rattle.status_table.specs.Place.{RunAt, JobAt, LegAt, run_at, job_at, leg_at}
 
 -- a row of the table: the board after the event and the reply to it, or its refusal
@@ -110,7 +111,7 @@ first_of j at = j - at.place.job
 abbrev pub judgement_ready : ℕ → JobAt → Result JobState EventFault
 judgement_ready j at =
     if needs_have_ended (first_of j at) at.run at.plan
-    then Ok (judged_state at.run.stop (job_condition at (job_status (first_of j at) at)))
+    then Ok (judged_state at.run.stop (condition_value (job_status (first_of j at) at)))
     else Err fault.NeedsOpen
 
 -- the same, where the run is Going and the job is Unjudged
@@ -204,27 +205,36 @@ pub data Beginning : Type 0 where
   skips : Beginning
   faults : ValueFault → Beginning
 
--- what is decided of a step
-abbrev pub decided : Result (Option StepCall) ValueFault → Beginning
-decided (Ok None) = skips
-decided (Ok (Some call)) = calls call
-decided (Err f) = faults f
+-- a call where what it asks for has a value
+abbrev pub work_beginning : ℕ → LegAt → StepPlan → Result CallWork ValueFault → Beginning
+work_beginning l at step (Ok work) = calls (record { leg = l; step = length at.leg.steps; work = work; env = env_value step })
+work_beginning l at step (Err f) = faults f
+
+-- what the texts of a step come to
+abbrev pub call_beginning : ℕ → LegAt → StepPlan → Beginning
+call_beginning l at step = work_beginning l at step (work_value step.work)
+
+-- the condition comes first, and then the texts
+abbrev pub step_beginning : ℕ → LegAt → StepPlan → Result Bool ValueFault → Beginning
+step_beginning l at step (Ok true) = call_beginning l at step
+step_beginning l at step (Ok false) = skips
+step_beginning l at step (Err f) = faults f
 
 -- what beginning a step comes to, or why it is not begun, by the worker of the leg and the step
 abbrev pub beginning_by : ℕ → ℕ → LegAt → Option ℕ → Option StepPlan → Result Beginning EventFault
 beginning_by worker l at None step = Err fault.WrongState
 beginning_by worker l at (Some owner) None = Err fault.WrongState
 beginning_by worker l at (Some owner) (Some step) =
-    if worker == owner then Ok (decided (step_decision l at step)) else Err fault.OtherWorker
+    if worker == owner then Ok (step_beginning l at step (condition_value (leg_status at))) else Err fault.OtherWorker
 
 -- the same for the next step of a leg
 abbrev pub beginning : ℕ → ℕ → LegAt → Result Beginning EventFault
 beginning worker l at = beginning_by worker l at (idle_owner at.leg.state) (next_step at)
 
 -- how a failure counts for a step: one that may be passed over counts as a success
-abbrev pub failure_of : LegAt → Option StepPlan → Outcome
-failure_of at None = outcome.Failure
-failure_of at (Some step) = if step_tolerates at step then outcome.Success else outcome.Failure
+abbrev pub failure_of : Option StepPlan → Outcome
+failure_of None = outcome.Failure
+failure_of (Some step) = if is_set step.tolerate then outcome.Success else outcome.Failure
 
 -- a step that was skipped
 abbrev pub skipped_step : DoneStep
@@ -232,7 +242,7 @@ skipped_step = record { outcome = outcome.Skipped; conclusion = outcome.Skipped;
 
 -- a step that failed before its call
 abbrev pub failed_step : LegAt → DoneStep
-failed_step at = record { outcome = outcome.Failure; conclusion = failure_of at (next_step at); outputs = [] }
+failed_step at = record { outcome = outcome.Failure; conclusion = failure_of (next_step at); outputs = [] }
 
 -- the leg is in a call, or has one more step done
 abbrev pub begin_leg : Board → ℕ → LegAt → Result Beginning EventFault → Row
@@ -276,15 +286,15 @@ outputs_of answer.NotStarted = []
 outputs_of answer.BadOutput = []
 
 -- how an outcome counts for a step
-abbrev pub conclusion_of : LegAt → Outcome → Outcome
-conclusion_of at outcome.Success = outcome.Success
-conclusion_of at outcome.Failure = failure_of at (next_step at)
-conclusion_of at outcome.Cancelled = outcome.Cancelled
-conclusion_of at outcome.Skipped = outcome.Skipped
+abbrev pub conclusion_of : Option StepPlan → Outcome → Outcome
+conclusion_of step outcome.Success = outcome.Success
+conclusion_of step outcome.Failure = failure_of step
+conclusion_of step outcome.Cancelled = outcome.Cancelled
+conclusion_of step outcome.Skipped = outcome.Skipped
 
 -- the step that an answer ends
 abbrev pub answered_step : LegAt → Answer → DoneStep
-answered_step at a = record { outcome = outcome_of a; conclusion = conclusion_of at (outcome_of a); outputs = outputs_of a }
+answered_step at a = record { outcome = outcome_of a; conclusion = conclusion_of (next_step at) (outcome_of a); outputs = outputs_of a }
 
 -- the step that is done by an answer, or why it is not, by the worker whose call is open
 abbrev pub ending_by : ℕ → LegAt → Answer → Option ℕ → Result DoneStep EventFault
@@ -315,7 +325,7 @@ end_row p b worker l a = end_found b worker a (leg_at p b l)
 
 -- a failure is tolerated where the job may fail
 abbrev pub ended_state : LegAt → Outcome → LegState
-ended_state at result = leg_state.Ended result (is_failure result && job_tolerates at)
+ended_state at result = leg_state.Ended result (is_failure result && is_set at.job_plan.tolerate)
 
 -- the state in which a leg ends, or why it does not, by the worker that has it idle
 abbrev pub finishing_by : ℕ → LegAt → Option ℕ → Result LegState EventFault
@@ -327,6 +337,10 @@ finishing_by worker at (Some owner) =
 -- the state in which a leg ends, or why it does not
 abbrev pub finishing : ℕ → LegAt → Result LegState EventFault
 finishing worker at = finishing_by worker at (idle_owner at.leg.state)
+
+-- the outputs that a leg gives its job; none can be written yet
+abbrev pub leg_outputs : LegAt → List (List ℕ × List ℕ)
+leg_outputs at = []
 
 -- the leg has a state and its outputs
 abbrev pub leg_set : Board → LegPlace → LegState → List (List ℕ × List ℕ) → Board

@@ -2,33 +2,28 @@
 //!
 //! Each function looks for a refusal first, makes what room it needs, and only then changes the board.
 
-ghost use Rattle.std.specs.Prelude.{◌≡◌, [], Bool, Option, Result, Ok, IfOk};
+ghost use Rattle.std.specs.Prelude.{◌≡◌, IfOk};
 ghost use Rattle.std.specs.Option.{option_copied};
 ghost use Rattle.status_table.specs.Ancestors.{StandsAfterNeeds};
 ghost use Rattle.status_table.specs.Answers.{Answers, Decides, DecidesAs};
 ghost use Rattle.status_table.specs.InPlay.{InPlay};
 ghost use Rattle.status_table.specs.Row as spec;
-ghost use Rattle.expr_value.specs.Answer.{Gives};
-ghost use Rattle.flow_model.specs.declared.reply.StepCall.{StepCall as StepCallOf};
-ghost use Rattle.flow_model.specs.declared.reply.ValueFault.{ValueFault as ValueFaultOf};
-ghost use Rattle.status_table.specs.Seen.{begun_seen, DecidesEnding, job_seen, leg_scene, leg_seen};
-ghost use Rattle.text_values.specs.Known.{IsKnownOf, known_env};
+ghost use Rattle.status_table.specs.Seen.{beginning_seen, DecidesEnding, job_seen, leg_seen};
 
 use crate::ancestors::job_status;
 use crate::change::{add_step, set_ended, set_job_state, set_leg_state, set_run_state};
-use crate::decisions::{
-    is_stopping, job_condition, job_tolerates, leg_outputs, leg_result, step_decision,
-    step_tolerates,
+use crate::conditions::{condition_holds, is_set, work_value};
+use crate::derived::{
+    is_failure, is_full, is_stopping, jobs_have_ended, leg_result, leg_status, needs_have_ended,
+    run_result,
 };
-use crate::derived::{is_failure, is_full, jobs_have_ended, needs_have_ended, run_result};
 use crate::fault::EventFault;
 use crate::place::{SeenJob, SeenLeg, SeenRun, find_job, find_leg, find_run};
 use flow_model::{
     Answer, Board, DoneStep, JobState, LegState, Mapping, Member, Outcome, Plan, Reply, RunState,
-    StepCall, StepPlan, Text, ValueFault, What,
+    StepCall, StepPlan, Text, What,
 };
 use std::alloc::{AllocError, Global};
-use text_values::Known;
 
 /// A reply that tells of nothing but what happened and who was admitted.
 fn reply(what: What, admitted: Option<Member>) -> Reply
@@ -60,33 +55,16 @@ pub(crate) fn open(plan: &Plan, board: &mut Board, number: u64) -> Result<Reply,
     Ok(reply(What::Moved, Some(Member::Run(number))))
 }
 
-/// The state into which a job is judged by its condition.
-fn judged_state(stop: bool, holds: Result<bool, ValueFault>) -> Result<JobState, AllocError>
-    ensures { (value : Result Bool ValueFaultOf) → Gives (λ holds. holds) holds value
-        → IfOk result (λ state. state ≡ spec.judged_state stop value) }
+/// The state into which a job is judged.
+fn judged_state(stop: bool, holds: bool) -> JobState
+    ensures { result ≡ spec.judged_state stop (Ok holds) }
 {
-    match holds {
-        Ok(true) => Ok(JobState::Open),
-        Ok(false) => Ok(JobState::Shut(shut_result(stop))),
-        Err(ValueFault::Memory) => Err(AllocError),
-        Err(
-            ValueFault::NotWhole
-            | ValueFault::NoIdentity
-            | ValueFault::BadFormat
-            | ValueFault::BadJson
-            | ValueFault::TooLarge,
-        ) => Ok(JobState::Shut(Outcome::Failure)),
-    }
-}
-
-/// What a job is shut with where its condition is not true.
-fn shut_result(stop: bool) -> Outcome
-    ensures { result ≡ spec.shut_result stop }
-{
-    if stop {
-        Outcome::Cancelled
+    if holds {
+        JobState::Open
+    } else if stop {
+        JobState::Shut(Outcome::Cancelled)
     } else {
-        Outcome::Skipped
+        JobState::Shut(Outcome::Skipped)
     }
 }
 
@@ -108,7 +86,7 @@ fn judgement(alloc: Global, number: u64, at: &SeenJob) -> Result<JobState, Event
         return Err(EventFault::NeedsOpen);
     }
     let status = job_status(alloc, first, at)?;
-    Ok(judged_state(at.run.stop, job_condition(alloc, at, status))?)
+    Ok(judged_state(at.run.stop, condition_holds(status)))
 }
 
 /// Opens or shuts a job whose needs have ended.
@@ -140,12 +118,7 @@ fn may_ask(at: &SeenLeg) -> bool
 }
 
 /// Admits a leg that asks.
-pub(crate) fn ask(
-    alloc: Global,
-    plan: &Plan,
-    board: &mut Board,
-    number: u64,
-) -> Result<Reply, EventFault>
+pub(crate) fn ask(plan: &Plan, board: &mut Board, number: u64) -> Result<Reply, EventFault>
     ensures { Answers (spec.ask_row plan.now board.old number) board.old result board.new }
 {
     let Some(at) = find_leg(plan, board, number as usize) else {
@@ -157,7 +130,7 @@ pub(crate) fn ask(
     if is_full(at.job_plan, at.job) {
         return Err(EventFault::SlotsFull);
     }
-    if is_stopping(alloc, &at)? {
+    if is_stopping(&at) {
         return Err(EventFault::Stopping);
     }
     let place = at.place;
@@ -167,7 +140,6 @@ pub(crate) fn ask(
 
 /// Gives a leg that is admitted to a worker.
 pub(crate) fn take(
-    alloc: Global,
     plan: &Plan,
     board: &mut Board,
     worker: u8,
@@ -185,7 +157,7 @@ pub(crate) fn take(
         LegState::Running { .. } => return Err(EventFault::WrongState),
         LegState::Ended { .. } => return Err(EventFault::WrongState),
     }
-    if is_stopping(alloc, &at)? {
+    if is_stopping(&at) {
         return Err(EventFault::Stopping);
     }
     let place = at.place;
@@ -273,44 +245,34 @@ fn next_step<'a>(at: &SeenLeg<'a>) -> Option<&'a StepPlan>
     at.job_plan.steps.as_slice().get(at.leg.steps.len())
 }
 
-/// What beginning a step comes to.
-#[derive(Drop)]
-pub(crate) enum Begun {
-    Call(StepCall),
-    Skips,
-    Faults(ValueFault),
-}
-
-/// What is decided of a step; want of memory is apart.
-fn told_begun(decision: Result<Option<StepCall>, ValueFault>) -> Result<Begun, EventFault>
-    ensures { (value : Result (Option StepCallOf) ValueFaultOf)
-        → Gives (λ call. call) decision value
-        → DecidesAs begun_seen (Ok (spec.decided value)) result }
+/// What a step that is called comes to.
+fn step_call(
+    alloc: Global,
+    number: u64,
+    at: &SeenLeg,
+    step: &StepPlan,
+) -> Result<StepCall, AllocError>
+    ensures { IfOk result
+        (λ call. spec.call_beginning number (leg_seen at.now) step.now ≡ spec.calls call) }
 {
-    match decision {
-        Ok(Some(call)) => Ok(Begun::Call(call)),
-        Ok(None) => Ok(Begun::Skips),
-        Err(ValueFault::Memory) => Err(EventFault::Memory),
-        Err(ValueFault::NotWhole) => Ok(Begun::Faults(ValueFault::NotWhole)),
-        Err(ValueFault::NoIdentity) => Ok(Begun::Faults(ValueFault::NoIdentity)),
-        Err(ValueFault::BadFormat) => Ok(Begun::Faults(ValueFault::BadFormat)),
-        Err(ValueFault::BadJson) => Ok(Begun::Faults(ValueFault::BadJson)),
-        Err(ValueFault::TooLarge) => Ok(Begun::Faults(ValueFault::TooLarge)),
-    }
+    let work = work_value(alloc, &step.work)?;
+    let env = Mapping::empty(alloc);
+    Ok(StepCall {
+        leg: number,
+        step: at.leg.steps.len() as u64,
+        work,
+        env,
+    })
 }
 
-/// What beginning the next step of a leg comes to, or why it is not begun.
+/// What beginning the next step of a leg comes to: its call, or none where it is skipped.
 fn beginning(
     alloc: Global,
     worker: u8,
     number: u64,
     at: &SeenLeg,
-    known: &mut Known,
-) -> Result<Begun, EventFault>
-    requires known { IsKnownOf (leg_scene at.now) known.old }
-    requires env { known_env known.old ≡ [] }
-    ensures value { DecidesAs begun_seen (spec.beginning worker number (leg_seen at.now)) result }
-    ensures known { IsKnownOf (leg_scene at.now) known.new }
+) -> Result<Option<StepCall>, EventFault>
+    ensures { DecidesAs beginning_seen (spec.beginning worker number (leg_seen at.now)) result }
 {
     let Some(owner) = idle_owner(at.leg.state) else {
         return Err(EventFault::WrongState);
@@ -321,7 +283,10 @@ fn beginning(
     if worker != owner {
         return Err(EventFault::OtherWorker);
     }
-    told_begun(step_decision(alloc, number, at, known, step))
+    if !condition_holds(leg_status(at)) {
+        return Ok(None);
+    }
+    Ok(Some(step_call(alloc, number, at, step)?))
 }
 
 /// A step that was skipped.
@@ -336,21 +301,7 @@ fn skipped_step(alloc: Global) -> DoneStep
     }
 }
 
-/// A step that failed before its call.
-fn failed_step(alloc: Global, at: &SeenLeg, known: &mut Known) -> Result<DoneStep, AllocError>
-    requires { IsKnownOf (leg_scene at.now) known.old }
-    ensures { IfOk result (λ done. done ≡ spec.failed_step (leg_seen at.now)) }
-{
-    let conclusion = failure_of(alloc, at, known)?;
-    let outputs = Mapping::empty(alloc);
-    Ok(DoneStep {
-        outcome: Outcome::Failure,
-        conclusion,
-        outputs,
-    })
-}
-
-/// Begins the next step of a leg: its call, that it is skipped, or that it failed.
+/// Begins the next step of a leg: its call, or that it is skipped.
 pub(crate) fn begin(
     alloc: Global,
     plan: &Plan,
@@ -364,9 +315,8 @@ pub(crate) fn begin(
         return Err(EventFault::NoSuch);
     };
     let place = at.place;
-    let mut known = Known::empty(alloc);
-    match beginning(alloc, worker, number, &at, &mut known)? {
-        Begun::Call(call) => {
+    match beginning(alloc, worker, number, &at)? {
+        Some(call) => {
             set_leg_state(
                 board,
                 place,
@@ -377,14 +327,9 @@ pub(crate) fn begin(
             );
             Ok(reply(What::Call(call), None))
         },
-        Begun::Skips => {
+        None => {
             add_step(board, place, worker, skipped_step(alloc))?;
             Ok(reply(What::Skipped, None))
-        },
-        Begun::Faults(fault) => {
-            let done = failed_step(alloc, &at, &mut known)?;
-            add_step(board, place, worker, done)?;
-            Ok(reply(What::Faulted(fault), None))
         },
     }
 }
@@ -415,41 +360,34 @@ fn outputs_of(alloc: Global, answer: Answer) -> Mapping<Text>
     }
 }
 
-/// How a failure counts for the next step of a leg: one that may be passed over counts as a success.
-fn failure_of(alloc: Global, at: &SeenLeg, known: &mut Known) -> Result<Outcome, AllocError>
-    requires { IsKnownOf (leg_scene at.now) known.old }
-    ensures { IfOk result (λ how. how
-        ≡ spec.failure_of (leg_seen at.now) (spec.next_step (leg_seen at.now))) }
+/// How a failure counts for a step: one that may be passed over counts as a success.
+fn failure_of(step: Option<&StepPlan>) -> Outcome
+    ensures { result ≡ spec.failure_of (option_copied step.entry) }
 {
-    let Some(step) = next_step(at) else {
-        return Ok(Outcome::Failure);
-    };
-    if step_tolerates(alloc, at, known, step)? {
-        Ok(Outcome::Success)
-    } else {
-        Ok(Outcome::Failure)
+    match step {
+        Some(step) => if is_set(&step.tolerate) {
+            Outcome::Success
+        } else {
+            Outcome::Failure
+        },
+        None => Outcome::Failure,
     }
 }
 
 /// How an outcome counts for the next step of a leg.
-fn conclusion_of(alloc: Global, at: &SeenLeg, outcome: Outcome) -> Result<Outcome, AllocError>
-    ensures { IfOk result (λ how. how ≡ spec.conclusion_of (leg_seen at.now) outcome) }
+fn conclusion_of(at: &SeenLeg, outcome: Outcome) -> Outcome
+    ensures { result ≡ spec.conclusion_of (spec.next_step (leg_seen at.now)) outcome }
 {
     match outcome {
-        Outcome::Success => Ok(Outcome::Success),
-        Outcome::Failure => failure_of(alloc, at, &mut Known::empty(alloc)),
-        Outcome::Cancelled => Ok(Outcome::Cancelled),
-        Outcome::Skipped => Ok(Outcome::Skipped),
+        Outcome::Success => Outcome::Success,
+        Outcome::Failure => failure_of(next_step(at)),
+        Outcome::Cancelled => Outcome::Cancelled,
+        Outcome::Skipped => Outcome::Skipped,
     }
 }
 
 /// The outcome and conclusion of the step that an answer ends, or why it does not.
-fn ending(
-    alloc: Global,
-    worker: u8,
-    at: &SeenLeg,
-    answer: &Answer,
-) -> Result<(Outcome, Outcome), EventFault>
+fn ending(worker: u8, at: &SeenLeg, answer: &Answer) -> Result<(Outcome, Outcome), EventFault>
     ensures { DecidesEnding worker (leg_seen at.now) answer.now result }
 {
     let Some(owner) = calling_owner(at.leg.state) else {
@@ -462,8 +400,7 @@ fn ending(
         return Err(EventFault::BadAnswer);
     }
     let outcome = outcome_of(answer);
-    let conclusion = conclusion_of(alloc, at, outcome)?;
-    Ok((outcome, conclusion))
+    Ok((outcome, conclusion_of(at, outcome)))
 }
 
 /// Ends the step of a leg that is in a call.
@@ -482,7 +419,7 @@ pub(crate) fn end(
         return Err(EventFault::NoSuch);
     };
     let place = at.place;
-    let (outcome, conclusion) = ending(alloc, worker, &at, &answer)?;
+    let (outcome, conclusion) = ending(worker, &at, &answer)?;
     let outputs = outputs_of(alloc, answer);
     add_step(
         board,
@@ -498,15 +435,8 @@ pub(crate) fn end(
 }
 
 /// The state in which a leg ends, or why it does not.
-fn finishing(
-    alloc: Global,
-    worker: u8,
-    at: &SeenLeg,
-    known: &mut Known,
-) -> Result<LegState, EventFault>
-    requires { IsKnownOf (leg_scene at.now) known.old }
-    ensures value { Decides (spec.finishing worker (leg_seen at.now)) result }
-    ensures known { IsKnownOf (leg_scene at.now) known.new }
+fn finishing(worker: u8, at: &SeenLeg) -> Result<LegState, EventFault>
+    ensures { Decides (spec.finishing worker (leg_seen at.now)) result }
 {
     let Some(owner) = idle_owner(at.leg.state) else {
         return Err(EventFault::WrongState);
@@ -517,8 +447,8 @@ fn finishing(
     if at.leg.steps.len() < at.job_plan.steps.len() {
         return Err(EventFault::StepsLeft);
     }
-    let how = leg_result(alloc, at)?;
-    let tolerated = is_failure(how) && job_tolerates(alloc, at, known)?;
+    let how = leg_result(at);
+    let tolerated = is_failure(how) && is_set(&at.job_plan.tolerate);
     Ok(LegState::Ended {
         result: how,
         tolerated,
@@ -540,9 +470,7 @@ pub(crate) fn finish(
         return Err(EventFault::NoSuch);
     };
     let place = at.place;
-    let mut known = Known::empty(alloc);
-    let state = finishing(alloc, worker, &at, &mut known)?;
-    let outputs = leg_outputs(alloc, &at, &mut known)?;
-    set_ended(board, place, number, state, outputs)?;
+    let state = finishing(worker, &at)?;
+    set_ended(board, place, number, state, Mapping::empty(alloc))?;
     Ok(reply(What::Moved, None))
 }

@@ -4,15 +4,13 @@
 //! what is replied, and when it is refused. The trait `Table` promises that a board answers each event by its row, that
 //! a refusal changes nothing, and that the plan was accepted and the board has its shape; `PlainBoard` is the plain
 //! body of it, and `run_entries` plays a list of entries on any table, up to the first that is refused. `laws` has what
-//! holds of every legal list. What a text of the plan sees and decides is in `specs/Contexts.antt` and
-//! `specs/Decisions.antt`, over `text_values`.
+//! holds of every legal list. It stands on `flow_model` alone.
 
 #![tactic(auto)]
 
 mod ancestors;
 mod change;
-mod contexts;
-mod decisions;
+mod conditions;
 mod derived;
 mod events;
 pub mod fault;
@@ -21,10 +19,11 @@ mod new_board;
 pub mod place;
 pub mod plain_board;
 pub mod runs;
-mod scene;
+pub mod status;
 pub mod table;
 
 pub use fault::EventFault;
 pub use plain_board::PlainBoard;
 pub use runs::run_entries;
+pub use status::Status;
 pub use table::Table;

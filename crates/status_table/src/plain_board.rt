@@ -78,8 +78,8 @@ fn apply_event(
     match event {
         Event::Open { run } => open(plan, board, run),
         Event::Judge { job } => judge(alloc, plan, board, job),
-        Event::Ask { leg } => ask(alloc, plan, board, leg),
-        Event::Take { leg } => take(alloc, plan, board, worker, leg),
+        Event::Ask { leg } => ask(plan, board, leg),
+        Event::Take { leg } => take(plan, board, worker, leg),
         Event::Begin { leg } => begin(alloc, plan, board, worker, leg),
         Event::End { leg, answer } => end(alloc, plan, board, worker, leg, answer),
         Event::Finish { leg } => finish(alloc, plan, board, worker, leg),

@@ -1,4 +1,4 @@
-use Rattle.std.proofs.Common.{◌≡◌, ◌≤◌, string_bytes, ap, sym, subst, ◌∙◌, arith}
+use Rattle.std.proofs.Common.{◌≡◌, ◌≤◌, string_bytes, ap, subst, ◌∙◌, arith}
 use Rattle.std.proofs.lemmas.Result.{IfOk-weaker}
 use Rattle.serde_json.specs.Data.{depth}
 use Rattle.serde_json.specs.View.{view}
@@ -18,11 +18,11 @@ low p h = omega (arith, plan_reads.low p (offered_sound p h))
 
 pub returns-in_err-json-clause-alone : goal.returns-in_err-json-clause-alone
 returns-in_err-json-clause-alone c other h e =
-    plan_alone other c.args.plan.now h (offered c.plan.result.now c.args.plan.now c.plan.ensures.same c.plan.ensures.sound) (sym e)
+    plan_alone other c.args.plan.now h (offered c.plan.result.now c.args.plan.now c.plan.ensures.same c.plan.ensures.sound) e
 
 pub returns-clause-alone : goal.returns-clause-alone
 returns-clause-alone c other h e =
-    plan_alone other c.args.plan.now h (offered c.plan.result.now c.args.plan.now c.plan.ensures.same c.plan.ensures.sound) (sym e)
+    plan_alone other c.args.plan.now h (offered c.plan.result.now c.args.plan.now c.plan.ensures.same c.plan.ensures.sound) e
 
 pub returns-clause-text : goal.returns-clause-text
 returns-clause-text c =
