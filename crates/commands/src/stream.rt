@@ -87,8 +87,12 @@ pub struct Output<W> {
 }
 
 impl<W> Output<W> {
+    ghost use Rattle.std.specs.Prelude.{false};
+
     /// A writer, of which no write has failed.
-    pub fn new(writer: W) -> Output<W> {
+    pub fn new(writer: W) -> Output<W>
+        ensures { result ≡ record { writer = writer; failed = false } }
+    {
         Output {
             writer,
             failed: false,
@@ -96,7 +100,9 @@ impl<W> Output<W> {
     }
 
     /// The writer.
-    pub fn into_writer(self) -> W {
+    pub fn into_writer(self) -> W
+        ensures { result ≡ self.writer }
+    {
         self.writer
     }
 }

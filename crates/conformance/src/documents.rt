@@ -5,16 +5,17 @@
 //!   record          the text of the record that it is, printed
 //!   copy            the same of copies, whose plan was checked anew
 //!   apply [WORKER]  the reply to each entry of the record, reported by that worker, and the board after them
+//!   insist          the same, where an entry that is refused for want of memory is played again
 //!   run             how far the record can be played, and a copy of the board after it
-//!   sample board    a copy of a board that no record can give so far
-//!   sample reply    a copy of a reply that no record can give so far
+//!   sample board    a copy of a board with all that its lines can tell
+//!   sample reply    a copy of a reply that calls an action
 //!
-//! What is refused is told by its fault, with its path or line. `groups` stands in `group_calls`.
+//! What is refused is told by its fault, with its path or line. `groups` stands in `group_calls`, `replies` and `moves`
+//! in `members`.
 
-use crate::{expressions, group_calls, samples};
-use flow_model::{
-    Board, Broken, CallWork, CheckedPlan, Duplicate, Entry, Reply, Sequence, StepCall, What,
-};
+use crate::replies::reply_text;
+use crate::{expressions, group_calls, members, samples};
+use flow_model::{Board, Broken, CheckedPlan, Duplicate, Entry, Sequence};
 use plan_text::{
     LoadFault, board_text, load_plan, load_record, print_entry, print_plan, print_record,
     read_entry,
@@ -36,16 +37,19 @@ pub fn told(
         ["copy"] => copy_told(alloc, input),
         ["apply"] => apply_told(alloc, input, ""),
         ["apply", worker] => apply_told(alloc, input, worker),
+        ["insist"] => insist_told(alloc, input),
         ["run"] => run_told(alloc, input),
         ["sample", "board"] => sample_board(alloc),
         ["sample", "reply"] => sample_reply(alloc),
         ["groups"] => group_calls::told(alloc, input),
+        ["replies"] => members::replies_told(alloc, input),
+        ["moves"] => members::moves_told(alloc, input),
         _ => expressions::told(alloc, words, file, input),
     }
 }
 
 /// A fault of a text, with its path or line.
-fn fault_text(alloc: Global, fault: &LoadFault) -> Result<String, AllocError> {
+pub fn fault_text(alloc: Global, fault: &LoadFault) -> Result<String, AllocError> {
     match fault {
         LoadFault::NotPlan(path) => format!(in alloc; "NotPlan {}", path.as_str()),
         LoadFault::NotEntry(line) => format!(in alloc; "NotEntry {line}"),
@@ -122,7 +126,7 @@ fn sample_reply(alloc: Global) -> Result<String, AllocError> {
 }
 
 /// The text of the board of a table.
-fn shown(alloc: Global, board: &PlainBoard) -> Result<String, AllocError> {
+pub fn shown(alloc: Global, board: &PlainBoard) -> Result<String, AllocError> {
     let view = board.view()?;
     board_told(alloc, &view)
 }
@@ -143,24 +147,46 @@ fn replies(
     Ok(told)
 }
 
+fn insist_told(alloc: Global, input: &[u8]) -> Result<String, AllocError> {
+    match load_record(alloc, input) {
+        Ok((plan, entries)) => insisted(alloc, &plan, entries.as_slice()),
+        Err(fault) => fault_text(alloc, &fault),
+    }
+}
+
+/// The replies to entries, each played again where there was no memory, and the board after them.
+fn insisted(alloc: Global, plan: &CheckedPlan, entries: &[Entry]) -> Result<String, AllocError> {
+    let mut board = PlainBoard::new(alloc, plan)?;
+    let mut told = String::new(alloc);
+    for entry in entries {
+        let is_answered = add_reply(alloc, &mut board, entry, "", &mut told)?;
+        if !is_answered {
+            add_reply(alloc, &mut board, entry, "", &mut told)?;
+        }
+    }
+    add_board(alloc, &board, &mut told)?;
+    Ok(told)
+}
+
 /// Adds the board of a table.
-fn add_board(alloc: Global, board: &PlainBoard, told: &mut String) -> Result<(), AllocError> {
+pub fn add_board(alloc: Global, board: &PlainBoard, told: &mut String) -> Result<(), AllocError> {
     let shown = shown(alloc, board)?;
     told.push_str(shown.as_str())
 }
 
-/// Plays a copy of the entry, reported by that worker, and adds the reply.
+/// Plays a copy of the entry, reported by that worker, and adds the reply. It answers whether there was memory.
 fn add_reply(
     alloc: Global,
     board: &mut PlainBoard,
     entry: &Entry,
     worker: &str,
     told: &mut String,
-) -> Result<(), AllocError> {
+) -> Result<bool, AllocError> {
     let worker = worker.parse::<u8>().unwrap_or(entry.worker);
     let event = entry.event.copy(alloc)?;
     let reply = applied(alloc, board, Entry { worker, event })?;
-    writeln!(told, "{reply}")
+    writeln!(told, "{reply}")?;
+    Ok(reply.as_str() != "refused Memory")
 }
 
 /// Plays an entry. A refusal that changes the board is told as such.
@@ -176,32 +202,12 @@ fn applied(alloc: Global, board: &mut PlainBoard, entry: Entry) -> Result<String
 }
 
 /// A refusal.
-fn refusal_text(alloc: Global, fault: EventFault, is_same: bool) -> Result<String, AllocError> {
+pub fn refusal_text(alloc: Global, fault: EventFault, is_same: bool) -> Result<String, AllocError> {
     if is_same {
         format!(in alloc; "refused {fault}")
     } else {
         format!(in alloc; "refused {fault}, and the board is changed")
     }
-}
-
-/// A reply, by its copy.
-fn reply_text(alloc: Global, reply: &Reply) -> Result<String, AllocError> {
-    let reply = reply.copy(alloc)?;
-    match &reply.what {
-        What::Moved => String::from_str(alloc, "moved"),
-        What::Skipped => String::from_str(alloc, "skipped"),
-        What::Faulted(fault) => format!(in alloc; "faulted {fault}"),
-        What::Call(call) => call_text(alloc, call),
-    }
-}
-
-/// A call.
-fn call_text(alloc: Global, call: &StepCall) -> Result<String, AllocError> {
-    let text = match &call.work {
-        CallWork::Script { text, .. } => text.as_str(),
-        CallWork::Uses { uses, .. } => uses.as_str(),
-    };
-    format!(in alloc; "leg {} step {} calls {text}", call.leg, call.step)
 }
 
 fn run_told(alloc: Global, input: &[u8]) -> Result<String, AllocError> {

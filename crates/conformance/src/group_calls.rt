@@ -114,7 +114,7 @@ fn copied(alloc: Global, groups: &mut Groups) -> Result<String, AllocError> {
 }
 
 /// A member, or that there is none.
-fn member_text(alloc: Global, member: Option<Member>) -> Result<String, AllocError> {
+pub fn member_text(alloc: Global, member: Option<Member>) -> Result<String, AllocError> {
     match member {
         Some(Member::Run(number)) => format!(in alloc; "run {number}"),
         Some(Member::Leg(number)) => format!(in alloc; "leg {number}"),

@@ -26,7 +26,7 @@
 //!   \           the line has no newline
 //!
 //! There are no escapes: a text goes to the end of its line. The verbs stand at the heads of `documents`, `expressions`,
-//! `pattern_sweeps` and `record_sweeps`. The program stands on `commands` and the libraries below it, and proves
+//! `members`, `pattern_sweeps` and `record_sweeps`. The program stands on `commands` and the libraries below it, and proves
 //! nothing of its own; what it wants stands in `data/`.
 
 #![tactic(auto)]
@@ -35,8 +35,10 @@ mod case;
 mod documents;
 mod expressions;
 mod group_calls;
+mod members;
 mod pattern_sweeps;
 mod record_sweeps;
+mod replies;
 mod samples;
 mod streams;
 mod sweep;

@@ -1,4 +1,4 @@
-//! What no record can give so far: a board with all that its lines can tell, and the reply that calls an action.
+//! A board with all that its lines can tell, and the reply that calls an action.
 
 use flow_model::{
     Board, CallWork, Job, JobState, Leg, LegState, Mapping, Member, Outcome, Reply, Run, RunState,

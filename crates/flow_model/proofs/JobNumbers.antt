@@ -3,7 +3,7 @@ use Rattle.std.proofs.Common.{◌≡◌, ◌+◌, ◌<◌, ◌≤◌, ℕ, zero,
 use Rattle.std.specs.List.{flat_map}
 use Rattle.flow_model.specs.Numbers.{first_job}
 use Rattle.flow_model.specs.Rules.{IsPlan}
-use Rattle.flow_model.specs.Sound.{Each}
+use Rattle.flow_model.specs.Sound.{TestsTell, Each}
 use Rattle.flow_model.specs.declared.plan.JobPlan.{JobPlan}
 use Rattle.flow_model.specs.declared.plan.Plan.{Plan}
 use Rattle.flow_model.specs.declared.plan.RunPlan.{RunPlan}
@@ -25,10 +25,10 @@ jobs_follow (x ∷ rs) (suc r) i run job er ej =
     let place : length (x.jobs ++ before) + i ≡ length x.jobs + (length before + i) = omega (arith, split) in
     ap (slice_get (x.jobs ++ rest)) place ∙ slice_get-append_right x.jobs rest (length before + i) ∙ jobs_follow rs r i run job er ej
 
-pub needs_back : (p : Plan) → IsPlan p → (r i : ℕ) (run : RunPlan) (job : JobPlan) → slice_get p.runs r ≡ Some run → slice_get run.jobs i ≡ Some job
+pub needs_back : TestsTell → (p : Plan) → IsPlan p → (r i : ℕ) (run : RunPlan) (job : JobPlan) → slice_get p.runs r ≡ Some run → slice_get run.jobs i ≡ Some job
     → (job.number ≡ first_job p r + i) × Each (λ need. (first_job p r ≤ need) × (need < first_job p r + i)) job.needs
-needs_back p h r i run job er ej =
-    let s = plan_sound p h in
+needs_back tests p h r i run job er ej =
+    let s = plan_sound tests p h in
     let numbered : (k : ℕ) (other : JobPlan) → slice_get run.jobs k ≡ Some other → other.number ≡ first_job p r + k =
     λ k other e. s.numbers (first_job p r + k) other (jobs_follow p.runs r k run other er e) in (
       numbered i job ej,

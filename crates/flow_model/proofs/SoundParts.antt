@@ -1,10 +1,12 @@
 -- The rules of steps, groups, jobs and contexts: none is broken exactly where each holds in its own words.
 use Rattle.std.proofs.Common.{◌≡◌, ◌<◌, ◌≤◌, ◌&&◌, nat_lt, ℕ, suc, Bool, IsTrue, nat_le, codes, List, [], ◌∷◌, length, None, IfSome, refl, ap, sym, subst, arith}
+use Rattle.expr_reader.specs.Accepts.{is_template, is_condition}
+use Rattle.expr_reader.specs.Template.{IsTemplate, IsCondition}
 use Rattle.flow_model.specs.Found.{Path, under, each, each_pair}
 use Rattle.flow_model.specs.Name.{is_id}
 use Rattle.flow_model.specs.Plain.{Plain}
-use Rattle.flow_model.specs.Rules.{is_condition, is_evaluable, is_property, is_variable, is_input, are_distinct, with_id, ascend_between, is_limit, greatest, work_rules, step_rules, group_rules, leg_rules, step_ids, steps_rules, legs_rules, roots_rules}
-use Rattle.flow_model.specs.Sound.{Each, HaveDistinctNames, AscendStrictly, IsProperty, SoundWork, SoundStep, SoundGroup}
+use Rattle.flow_model.specs.Rules.{is_property, is_variable, is_input, are_distinct, with_id, ascend_between, is_limit, greatest, work_rules, step_rules, group_rules, leg_rules, step_ids, steps_rules, legs_rules, roots_rules}
+use Rattle.flow_model.specs.Sound.{TestsTell, Each, HaveDistinctNames, AscendStrictly, IsVariable, IsInput, IsProperty, SoundWork, SoundStep, SoundGroup}
 use Rattle.flow_model.specs.declared.plan.Group.{Group}
 use Rattle.flow_model.specs.declared.plan.JobPlan.{JobPlan}
 use Rattle.flow_model.specs.declared.plan.Roots.{Roots}
@@ -15,14 +17,17 @@ use Rattle.flow_model.proofs.FoundNothing.{or_else_none, none_or_else, under_non
 use Rattle.flow_model.proofs.Nesting.{is_within-nests, nests-is_within}
 use Rattle.flow_model.proofs.Places.{Each-nil, Each-cons, Each-head, Each-tail, Each-weaker, names_by, distinct_names, names_distinct, ascend-nil, ascend-cons, ascend-head, ascend-tail}
 use Rattle.flow_model.proofs.Tests.{both, pair, from_le, to_le, from_lt, to_lt, from_all_there, to_all_there}
+use Rattle.flow_model.proofs.TextTests.{flag_sound, sound_flag, variable_sound, sound_variable, input_sound, sound_input}
 
 -- ---- maps
 
-pub pass : {V : Type 0} (test : List ℕ × V → Bool) (key : Path) (ps : List (List ℕ × V)) → under key (each_pair test ps) ≡ None → Each (λ p. IsTrue (test p)) ps
-pass test key ps e = each_pair_none test (λ p. IsTrue (test p)) (λ p h. h) ps (under_none key (each_pair test ps) e)
+pub pass : {V : Type 0} (test : List ℕ × V → Bool) (P : List ℕ × V → Type 0) → ((p : List ℕ × V) → IsTrue (test p) → P p)
+    → (key : Path) (ps : List (List ℕ × V)) → under key (each_pair test ps) ≡ None → Each P ps
+pass test P tells key ps e = each_pair_none test P tells ps (under_none key (each_pair test ps) e)
 
-pub passed : {V : Type 0} (test : List ℕ × V → Bool) (key : Path) (ps : List (List ℕ × V)) → Each (λ p. IsTrue (test p)) ps → under key (each_pair test ps) ≡ None
-passed test key ps h = none_under key (each_pair test ps) (none_each_pair test (λ p. IsTrue (test p)) (λ p k. k) ps h)
+pub passed : {V : Type 0} (test : List ℕ × V → Bool) (P : List ℕ × V → Type 0) → ((p : List ℕ × V) → P p → IsTrue (test p))
+    → (key : Path) (ps : List (List ℕ × V)) → Each P ps → under key (each_pair test ps) ≡ None
+passed test P tells key ps h = none_under key (each_pair test ps) (none_each_pair test P tells ps h)
 
 pub properties : (ps : List (List ℕ × Plain)) → each_pair is_property ps ≡ None → Each IsProperty ps
 properties ps e = each_pair_none is_property IsProperty (λ p h. is_within-nests 100 p.1 h) ps e
@@ -32,68 +37,68 @@ no_properties ps h = none_each_pair is_property IsProperty (λ p k. nests-is_wit
 
 -- ---- steps
 
-work_sound : (w : Work) → work_rules w ≡ None → SoundWork w
-work_sound (Run dir run shell) e =
+work_sound : TestsTell → (w : Work) → work_rules w ≡ None → SoundWork w
+work_sound tests (Run dir run shell) e =
     let r = or_else_none _ _ e in
-    (from_all_there is_evaluable (λ t. IsTrue (is_evaluable t)) (λ t h. h) dir (rule_none _ _ r.0), rule_none _ _ r.1)
-work_sound (Uses uses given) e = pass is_input (codes "with") given e
+    (from_all_there is_template IsTemplate (λ t. (tests.template t).0) dir (rule_none _ _ r.0), (tests.template run).0 (rule_none _ _ r.1))
+work_sound tests (Uses uses given) e = pass is_input IsInput (input_sound tests) (codes "with") given e
 
-sound_work : (w : Work) → SoundWork w → work_rules w ≡ None
-sound_work (Run dir run shell) h =
-    none_or_else _ _ (none_rule _ _ (to_all_there is_evaluable (λ t. IsTrue (is_evaluable t)) (λ t k. k) dir h.0)) (none_rule _ _ h.1)
-sound_work (Uses uses given) h = passed is_input (codes "with") given h
+sound_work : TestsTell → (w : Work) → SoundWork w → work_rules w ≡ None
+sound_work tests (Run dir run shell) h =
+    none_or_else _ _ (none_rule _ _ (to_all_there is_template IsTemplate (λ t. (tests.template t).1) dir h.0)) (none_rule _ _ ((tests.template run).1 h.1))
+sound_work tests (Uses uses given) h = passed is_input IsInput (sound_input tests) (codes "with") given h
 
-step_sound : (s : StepPlan) → step_rules s ≡ None → SoundStep s
-step_sound s e =
+step_sound : TestsTell → (s : StepPlan) → step_rules s ≡ None → SoundStep s
+step_sound tests s e =
     let a = or_else_none _ _ e in
     let b = or_else_none _ _ a.1 in
     let c = or_else_none _ _ b.1 in
     let d = or_else_none _ _ c.1 in
     record {
-      condition = from_all_there is_condition (λ t. IsTrue (is_condition t)) (λ t h. h) s.condition (rule_none _ _ a.0);
-      env = pass is_variable (codes "env") s.env b.0;
+      condition = from_all_there is_condition IsCondition (λ t. (tests.condition t).0) s.condition (rule_none _ _ a.0);
+      env = pass is_variable IsVariable (variable_sound tests) (codes "env") s.env b.0;
       id = from_all_there is_id (λ t. IsTrue (is_id t)) (λ t h. h) s.id (rule_none _ _ c.0);
-      tolerate = rule_none _ _ d.0;
-      work = work_sound s.work (under_none (codes "work") (work_rules s.work) d.1);
+      tolerate = flag_sound tests s.tolerate (rule_none _ _ d.0);
+      work = work_sound tests s.work (under_none (codes "work") (work_rules s.work) d.1);
     }
 
-sound_step : (s : StepPlan) → SoundStep s → step_rules s ≡ None
-sound_step s h =
-    none_or_else _ _ (none_rule _ _ (to_all_there is_condition (λ t. IsTrue (is_condition t)) (λ t k. k) s.condition h.condition))
-    (none_or_else _ _ (passed is_variable (codes "env") s.env h.env)
+sound_step : TestsTell → (s : StepPlan) → SoundStep s → step_rules s ≡ None
+sound_step tests s h =
+    none_or_else _ _ (none_rule _ _ (to_all_there is_condition IsCondition (λ t. (tests.condition t).1) s.condition h.condition))
+    (none_or_else _ _ (passed is_variable IsVariable (sound_variable tests) (codes "env") s.env h.env)
     (none_or_else _ _ (none_rule _ _ (to_all_there is_id (λ t. IsTrue (is_id t)) (λ t k. k) s.id h.id))
-    (none_or_else _ _ (none_rule _ _ h.tolerate)
-    (none_under (codes "work") (work_rules s.work) (sound_work s.work h.work)))))
+    (none_or_else _ _ (none_rule _ _ (sound_flag tests s.tolerate h.tolerate))
+    (none_under (codes "work") (work_rules s.work) (sound_work tests s.work h.work)))))
 
 -- the ids of the steps that have one
 step_ids-names_by : (ss : List StepPlan) → step_ids ss ≡ names_by (λ s. s.id) ss
 step_ids-names_by [] = refl
 step_ids-names_by (s ∷ ss) = ap (with_id s.id) (step_ids-names_by ss)
 
-pub steps_sound : (ss : List StepPlan) → steps_rules ss ≡ None → (length ss ≤ 256) × HaveDistinctNames (λ s. s.id) ss × Each SoundStep ss
-steps_sound ss e =
+pub steps_sound : TestsTell → (ss : List StepPlan) → steps_rules ss ≡ None → (length ss ≤ 256) × HaveDistinctNames (λ s. s.id) ss × Each SoundStep ss
+steps_sound tests ss e =
     let a = or_else_none _ _ e in
     let b = or_else_none _ _ a.1 in (
       from_le (length ss) 256 (rule_none _ _ a.0),
       distinct_names (λ s. s.id) ss (subst (λ ids. IsTrue (are_distinct ids)) (step_ids-names_by ss) (rule_none _ _ b.0)),
-      each_none step_rules SoundStep step_sound 0 ss (under_none (codes "steps") (each step_rules 0 ss) b.1),
+      each_none step_rules SoundStep (step_sound tests) 0 ss (under_none (codes "steps") (each step_rules 0 ss) b.1),
     )
 
-pub sound_steps : (ss : List StepPlan) → length ss ≤ 256 → HaveDistinctNames (λ s. s.id) ss → Each SoundStep ss → steps_rules ss ≡ None
-sound_steps ss few ids hs =
+pub sound_steps : TestsTell → (ss : List StepPlan) → length ss ≤ 256 → HaveDistinctNames (λ s. s.id) ss → Each SoundStep ss → steps_rules ss ≡ None
+sound_steps tests ss few ids hs =
     none_or_else _ _ (none_rule _ _ (to_le (length ss) 256 few))
     (none_or_else _ _ (none_rule _ _ (subst (λ names. IsTrue (are_distinct names)) (sym (step_ids-names_by ss)) (names_distinct (λ s. s.id) ss ids)))
-    (none_under (codes "steps") (each step_rules 0 ss) (none_each step_rules SoundStep sound_step 0 ss hs)))
+    (none_under (codes "steps") (each step_rules 0 ss) (none_each step_rules SoundStep (sound_step tests) 0 ss hs)))
 
 -- ---- groups
 
-pub group_sound : (g : Group) → group_rules g ≡ None → SoundGroup g
-group_sound g e =
+pub group_sound : TestsTell → (g : Group) → group_rules g ≡ None → SoundGroup g
+group_sound tests g e =
     let a = or_else_none _ _ e in
-    record { cancel = rule_none _ _ a.0; name = rule_none _ _ a.1 }
+    record { cancel = flag_sound tests g.cancel (rule_none _ _ a.0); name = (tests.template g.name).0 (rule_none _ _ a.1) }
 
-pub sound_group : (g : Group) → SoundGroup g → group_rules g ≡ None
-sound_group g h = none_or_else _ _ (none_rule _ _ h.cancel) (none_rule _ _ h.name)
+pub sound_group : TestsTell → (g : Group) → SoundGroup g → group_rules g ≡ None
+sound_group tests g h = none_or_else _ _ (none_rule _ _ (sound_flag tests g.cancel h.cancel)) (none_rule _ _ ((tests.template g.name).1 h.name))
 
 -- ---- legs
 

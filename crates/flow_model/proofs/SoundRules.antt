@@ -4,9 +4,11 @@ use Rattle.std.specs.List.{flat_map}
 use Rattle.std.proofs.lemmas.List.Concat.{length-flat_map, flat_map-append}
 use Rattle.std.proofs.lemmas.List.Sums.{sum_by-cons}
 use Rattle.std.proofs.lemmas.Option.{slice_get_within}
+use Rattle.expr_reader.specs.Accepts.{is_condition}
+use Rattle.expr_reader.specs.Template.{IsCondition}
 use Rattle.flow_model.specs.Found.{under, if_there}
-use Rattle.flow_model.specs.Rules.{is_condition, is_variable, is_job_output, are_distinct, group_rules, steps_rules, legs_rules, job_rules, jobs_rules, job_ids, roots_rules, run_rules, runs_rules, legs_of_jobs, legs_of_runs, IsPlan}
-use Rattle.flow_model.specs.Sound.{Each, SoundGroup, SoundJob, NeedEarlierJobs, SoundRun, SoundPlan}
+use Rattle.flow_model.specs.Rules.{is_variable, is_job_output, are_distinct, group_rules, steps_rules, legs_rules, job_rules, jobs_rules, job_ids, roots_rules, run_rules, runs_rules, legs_of_jobs, legs_of_runs, IsPlan}
+use Rattle.flow_model.specs.Sound.{TestsTell, Each, IsVariable, IsJobOutput, SoundGroup, SoundJob, NeedEarlierJobs, SoundRun, SoundPlan}
 use Rattle.flow_model.specs.declared.plan.JobPlan.{JobPlan}
 use Rattle.flow_model.specs.declared.plan.Plan.{Plan}
 use Rattle.flow_model.specs.declared.plan.RunPlan.{RunPlan}
@@ -14,6 +16,7 @@ use Rattle.flow_model.proofs.FoundNothing.{or_else_none, none_or_else, under_non
 use Rattle.flow_model.proofs.Places.{Each-nil, Each-cons, Each-head, Each-tail, slice_get_there, slice_get-append, slice_get-append_left, slice_get-append_right, names_by, distinct_names, names_distinct, same_Some}
 use Rattle.flow_model.proofs.SoundParts.{pass, passed, steps_sound, sound_steps, group_sound, sound_group, SoundLegs, legs_sound, sound_legs, IsBetween, needs_sound, sound_needs, SoundRoots, roots_sound, sound_roots}
 use Rattle.flow_model.proofs.Tests.{both, pair, from_le, to_le, from_same, to_same, from_all_there, to_all_there}
+use Rattle.flow_model.proofs.TextTests.{flag_sound, sound_flag, variable_sound, sound_variable, output_sound, sound_output}
 
 -- ---- a job
 
@@ -23,8 +26,8 @@ record JobHere (first n : ℕ) (j : JobPlan) : Type 0 where
   pub number : j.number ≡ n
   pub needs : Each (IsBetween first n) j.needs
 
-job_here : (first n : ℕ) (j : JobPlan) → job_rules first n j ≡ None → JobHere first n j
-job_here first n j e =
+job_here : TestsTell → (first n : ℕ) (j : JobPlan) → job_rules first n j ≡ None → JobHere first n j
+job_here tests first n j e =
     let condition = or_else_none _ _ e in
     let env = or_else_none _ _ condition.1 in
     let group = or_else_none _ _ env.1 in
@@ -36,42 +39,42 @@ job_here first n j e =
     let steps = or_else_none (steps_rules j.steps) _ outputs.1 in
     let of_legs = legs_sound j legs.0 in
     let of_needs = needs_sound first n j.needs (rule_none _ _ needs.0) in
-    let of_steps = steps_sound j.steps steps.0 in
+    let of_steps = steps_sound tests j.steps steps.0 in
     record {
       sound = record {
-        condition = from_all_there is_condition (λ t. IsTrue (is_condition t)) (λ t h. h) j.condition (rule_none _ _ condition.0);
-        env = pass is_variable (codes "env") j.env env.0;
-        group = if_there_none group_rules SoundGroup group_sound j.group (under_none (codes "group") (if_there group_rules j.group) group.0);
+        condition = from_all_there is_condition IsCondition (λ t. (tests.condition t).0) j.condition (rule_none _ _ condition.0);
+        env = pass is_variable IsVariable (variable_sound tests) (codes "env") j.env env.0;
+        group = if_there_none group_rules SoundGroup (group_sound tests) j.group (under_none (codes "group") (if_there group_rules j.group) group.0);
         id = rule_none _ _ id.0;
         some_leg = of_legs.some_leg;
         few_legs = of_legs.few_legs;
         legs = of_legs.legs;
         max_parallel = of_legs.max_parallel;
         needs_ascend = of_needs.1;
-        outputs = pass is_job_output (codes "outputs") j.outputs outputs.0;
+        outputs = pass is_job_output IsJobOutput (output_sound tests) (codes "outputs") j.outputs outputs.0;
         few_steps = of_steps.0;
         step_ids = of_steps.1;
         steps = of_steps.2;
-        tolerate = rule_none _ _ steps.1;
+        tolerate = flag_sound tests j.tolerate (rule_none _ _ steps.1);
       };
       number = from_same j.number n (rule_none _ _ number.0);
       needs = of_needs.0;
     }
 
-here_job : (first n : ℕ) (j : JobPlan) → JobHere first n j → job_rules first n j ≡ None
-here_job first n j h =
+here_job : TestsTell → (first n : ℕ) (j : JobPlan) → JobHere first n j → job_rules first n j ≡ None
+here_job tests first n j h =
     let s = h.sound in
     let legs : SoundLegs j = record { some_leg = s.some_leg; few_legs = s.few_legs; legs = s.legs; max_parallel = s.max_parallel } in
-    none_or_else _ _ (none_rule _ _ (to_all_there is_condition (λ t. IsTrue (is_condition t)) (λ t k. k) j.condition s.condition))
-    (none_or_else _ _ (passed is_variable (codes "env") j.env s.env)
-    (none_or_else _ _ (none_under (codes "group") (if_there group_rules j.group) (none_if_there group_rules SoundGroup sound_group j.group s.group))
+    none_or_else _ _ (none_rule _ _ (to_all_there is_condition IsCondition (λ t. (tests.condition t).1) j.condition s.condition))
+    (none_or_else _ _ (passed is_variable IsVariable (sound_variable tests) (codes "env") j.env s.env)
+    (none_or_else _ _ (none_under (codes "group") (if_there group_rules j.group) (none_if_there group_rules SoundGroup (sound_group tests) j.group s.group))
     (none_or_else _ _ (none_rule _ _ s.id)
     (none_or_else (legs_rules j) _ (sound_legs j legs)
     (none_or_else _ _ (none_rule _ _ (sound_needs first n j.needs h.needs s.needs_ascend))
     (none_or_else _ _ (none_rule _ _ (to_same j.number n h.number))
-    (none_or_else _ _ (passed is_job_output (codes "outputs") j.outputs s.outputs)
-    (none_or_else (steps_rules j.steps) _ (sound_steps j.steps s.few_steps s.step_ids s.steps)
-    (none_rule _ _ s.tolerate)))))))))
+    (none_or_else _ _ (passed is_job_output IsJobOutput (sound_output tests) (codes "outputs") j.outputs s.outputs)
+    (none_or_else (steps_rules j.steps) _ (sound_steps tests j.steps s.few_steps s.step_ids s.steps)
+    (none_rule _ _ (sound_flag tests j.tolerate s.tolerate))))))))))
 
 -- ---- the jobs of a run
 
@@ -84,21 +87,21 @@ jobs_at first k j js here later zero x e =
     subst (λ (y : JobPlan). JobHere first (first + (k + 0)) y) (same_Some e) (moved first (first + k) (first + (k + 0)) j (omega arith) here)
 jobs_at first k j js here later (suc i) x e = moved first (first + (suc k + i)) (first + (k + suc i)) x (omega arith) (later i x e)
 
-jobs_here : (first k : ℕ) (js : List JobPlan) → jobs_rules first k js ≡ None → (i : ℕ) (j : JobPlan) → slice_get js i ≡ Some j → JobHere first (first + (k + i)) j
-jobs_here first k [] e = λ i j h. absurd (cc)
-jobs_here first k (j ∷ js) e =
+jobs_here : TestsTell → (first k : ℕ) (js : List JobPlan) → jobs_rules first k js ≡ None → (i : ℕ) (j : JobPlan) → slice_get js i ≡ Some j → JobHere first (first + (k + i)) j
+jobs_here tests first k [] e = λ i j h. absurd (cc)
+jobs_here tests first k (j ∷ js) e =
     let r = or_else_none (under (decimal k) (job_rules first (first + k) j)) (jobs_rules first (suc k) js) e in
-    let later = jobs_here first (suc k) js r.1 in
-    let here = job_here first (first + k) j (under_none (decimal k) (job_rules first (first + k) j) r.0) in
+    let later = jobs_here tests first (suc k) js r.1 in
+    let here = job_here tests first (first + k) j (under_none (decimal k) (job_rules first (first + k) j) r.0) in
     jobs_at first k j js here later
 
-here_jobs : (first k : ℕ) (js : List JobPlan) → ((i : ℕ) (j : JobPlan) → slice_get js i ≡ Some j → JobHere first (first + (k + i)) j) → jobs_rules first k js ≡ None
-here_jobs first k [] h = refl
-here_jobs first k (j ∷ js) h =
+here_jobs : TestsTell → (first k : ℕ) (js : List JobPlan) → ((i : ℕ) (j : JobPlan) → slice_get js i ≡ Some j → JobHere first (first + (k + i)) j) → jobs_rules first k js ≡ None
+here_jobs tests first k [] h = refl
+here_jobs tests first k (j ∷ js) h =
     let here = moved first (first + (k + 0)) (first + k) j (omega arith) (h 0 j refl) in
     none_or_else (under (decimal k) (job_rules first (first + k) j)) (jobs_rules first (suc k) js)
-    (none_under (decimal k) (job_rules first (first + k) j) (here_job first (first + k) j here))
-    (here_jobs first (suc k) js (λ i x e. moved first (first + (k + suc i)) (first + (suc k + i)) x (omega arith) (h (suc i) x e)))
+    (none_under (decimal k) (job_rules first (first + k) j) (here_job tests first (first + k) j here))
+    (here_jobs tests first (suc k) js (λ i x e. moved first (first + (k + suc i)) (first + (suc k + i)) x (omega arith) (h (suc i) x e)))
 
 -- the ids of jobs
 job_ids-names_by : (js : List JobPlan) → job_ids js ≡ names_by (λ j. Some j.id) js
@@ -123,22 +126,22 @@ earlier_jobs first js here i j e k need en =
 from_first : (first i : ℕ) → first + (0 + i) ≡ first + i
 from_first first i = omega arith
 
-run_here : (first : ℕ) (r : RunPlan) → run_rules first r ≡ None → RunHere first r
-run_here first r e =
+run_here : TestsTell → (first : ℕ) (r : RunPlan) → run_rules first r ≡ None → RunHere first r
+run_here tests first r e =
     let env = or_else_none _ _ e in
     let group = or_else_none _ _ env.1 in
     let count = or_else_none _ _ group.1 in
     let ids = or_else_none _ _ count.1 in
     let jobs = or_else_none (under (codes "jobs") (jobs_rules first 0 r.jobs)) (under (codes "roots") (roots_rules r.roots)) ids.1 in
     let counts = both (nat_le 1 (length r.jobs)) (nat_le (length r.jobs) 256) (rule_none _ _ count.0) in
-    let from_zero = jobs_here first 0 r.jobs (under_none (codes "jobs") (jobs_rules first 0 r.jobs) jobs.0) in
+    let from_zero = jobs_here tests first 0 r.jobs (under_none (codes "jobs") (jobs_rules first 0 r.jobs) jobs.0) in
     let here : (i : ℕ) (j : JobPlan) → slice_get r.jobs i ≡ Some j → JobHere first (first + i) j =
     λ i j h. moved first (first + (0 + i)) (first + i) j (from_first first i) (from_zero i j h) in
     let roots = roots_sound r.roots (under_none (codes "roots") (roots_rules r.roots) jobs.1) in
     record {
       sound = record {
-        env = pass is_variable (codes "env") r.env env.0;
-        group = if_there_none group_rules SoundGroup group_sound r.group (under_none (codes "group") (if_there group_rules r.group) group.0);
+        env = pass is_variable IsVariable (variable_sound tests) (codes "env") r.env env.0;
+        group = if_there_none group_rules SoundGroup (group_sound tests) r.group (under_none (codes "group") (if_there group_rules r.group) group.0);
         some_job = from_le 1 (length r.jobs) counts.0;
         few_jobs = from_le (length r.jobs) 256 counts.1;
         job_ids = distinct_names (λ j. Some j.id) r.jobs (subst (λ names. IsTrue (are_distinct names)) (job_ids-names_by r.jobs) (rule_none _ _ ids.0));
@@ -152,8 +155,8 @@ run_here first r e =
       numbers = λ i j h. (here i j h).number;
     }
 
-here_run : (first : ℕ) (r : RunPlan) → RunHere first r → run_rules first r ≡ None
-here_run first r h =
+here_run : TestsTell → (first : ℕ) (r : RunPlan) → RunHere first r → run_rules first r ≡ None
+here_run tests first r h =
     let s = h.sound in
     let roots : SoundRoots r.roots = record { github = s.github; inputs = s.inputs; secrets = s.secrets; vars = s.vars } in
     let at : (i : ℕ) (j : JobPlan) → slice_get r.jobs i ≡ Some j → JobHere first (first + (0 + i)) j =
@@ -165,12 +168,12 @@ here_run first r h =
           let number = h.numbers earlier.0 earlier.1 earlier.3 in
           (omega (arith, number, earlier.4), omega (arith, number, earlier.4, earlier.2));
     } in
-    none_or_else _ _ (passed is_variable (codes "env") r.env s.env)
-    (none_or_else _ _ (none_under (codes "group") (if_there group_rules r.group) (none_if_there group_rules SoundGroup sound_group r.group s.group))
+    none_or_else _ _ (passed is_variable IsVariable (sound_variable tests) (codes "env") r.env s.env)
+    (none_or_else _ _ (none_under (codes "group") (if_there group_rules r.group) (none_if_there group_rules SoundGroup (sound_group tests) r.group s.group))
     (none_or_else _ _ (none_rule _ _ (pair (nat_le 1 (length r.jobs)) (nat_le (length r.jobs) 256) (to_le 1 (length r.jobs) s.some_job) (to_le (length r.jobs) 256 s.few_jobs)))
     (none_or_else _ _ (none_rule _ _ (subst (λ names. IsTrue (are_distinct names)) (sym (job_ids-names_by r.jobs)) (names_distinct (λ j. Some j.id) r.jobs s.job_ids)))
     (none_or_else (under (codes "jobs") (jobs_rules first 0 r.jobs)) (under (codes "roots") (roots_rules r.roots))
-    (none_under (codes "jobs") (jobs_rules first 0 r.jobs) (here_jobs first 0 r.jobs at))
+    (none_under (codes "jobs") (jobs_rules first 0 r.jobs) (here_jobs tests first 0 r.jobs at))
     (none_under (codes "roots") (roots_rules r.roots) (sound_roots r.roots roots))))))
 
 -- ---- all runs
@@ -179,12 +182,12 @@ here_run first r h =
 abbrev Numbered : ℕ → List RunPlan → Type 0
 Numbered first rs = (n : ℕ) (j : JobPlan) → slice_get (flat_map (λ run. run.jobs) rs) n ≡ Some j → j.number ≡ first + n
 
-runs_here : (first k : ℕ) (rs : List RunPlan) → runs_rules first k rs ≡ None → Each SoundRun rs × Numbered first rs
-runs_here first k [] e = (Each-nil SoundRun, λ n j h. absurd (cc))
-runs_here first k (r ∷ rs) e =
+runs_here : TestsTell → (first k : ℕ) (rs : List RunPlan) → runs_rules first k rs ≡ None → Each SoundRun rs × Numbered first rs
+runs_here tests first k [] e = (Each-nil SoundRun, λ n j h. absurd (cc))
+runs_here tests first k (r ∷ rs) e =
     let parts = or_else_none (under (decimal k) (run_rules first r)) (runs_rules (first + length r.jobs) (suc k) rs) e in
-    let here = run_here first r (under_none (decimal k) (run_rules first r) parts.0) in
-    let later = runs_here (first + length r.jobs) (suc k) rs parts.1 in (
+    let here = run_here tests first r (under_none (decimal k) (run_rules first r) parts.0) in
+    let later = runs_here tests (first + length r.jobs) (suc k) rs parts.1 in (
       Each-cons SoundRun r rs here.sound later.0,
       λ n j h. elim (slice_get-append r.jobs (flat_map (λ run. run.jobs) rs) n j h) [
         | inl own ↦ here.numbers n j own
@@ -192,9 +195,9 @@ runs_here first k (r ∷ rs) e =
       ],
     )
 
-here_runs : (first k : ℕ) (rs : List RunPlan) → Each SoundRun rs → Numbered first rs → runs_rules first k rs ≡ None
-here_runs first k [] h numbers = refl
-here_runs first k (r ∷ rs) h numbers =
+here_runs : TestsTell → (first k : ℕ) (rs : List RunPlan) → Each SoundRun rs → Numbered first rs → runs_rules first k rs ≡ None
+here_runs tests first k [] h numbers = refl
+here_runs tests first k (r ∷ rs) h numbers =
     let rest = flat_map (λ run. run.jobs) rs in
     let here : RunHere first r = record {
       sound = Each-head SoundRun r rs h;
@@ -203,8 +206,8 @@ here_runs first k (r ∷ rs) h numbers =
     let later : Numbered (first + length r.jobs) rs =
     λ n j e. omega (arith, numbers (length r.jobs + n) j (slice_get-append_right r.jobs rest n ∙ e)) in
     none_or_else (under (decimal k) (run_rules first r)) (runs_rules (first + length r.jobs) (suc k) rs)
-    (none_under (decimal k) (run_rules first r) (here_run first r here))
-    (here_runs (first + length r.jobs) (suc k) rs (Each-tail SoundRun r rs h) later)
+    (none_under (decimal k) (run_rules first r) (here_run tests first r here))
+    (here_runs tests (first + length r.jobs) (suc k) rs (Each-tail SoundRun r rs h) later)
 
 -- how many legs there are, counted run by run, is how many there are in all
 legs_count : (rs : List RunPlan) → legs_of_runs rs ≡ length (flat_map (λ job. job.legs) (flat_map (λ run. run.jobs) rs))
@@ -218,12 +221,12 @@ legs_count (r ∷ rs) =
 
 -- ---- a plan
 
-pub plan_sound : (p : Plan) → IsPlan p → SoundPlan p
-plan_sound p e =
+pub plan_sound : TestsTell → (p : Plan) → IsPlan p → SoundPlan p
+plan_sound tests p e =
     let count = or_else_none _ _ e in
     let runs = or_else_none (under (codes "runs") (runs_rules 0 0 p.runs)) _ count.1 in
     let counts = both (nat_le 1 (length p.runs)) (nat_le (length p.runs) 64) (rule_none _ _ count.0) in
-    let here = runs_here 0 0 p.runs (under_none (codes "runs") (runs_rules 0 0 p.runs) runs.0) in
+    let here = runs_here tests 0 0 p.runs (under_none (codes "runs") (runs_rules 0 0 p.runs) runs.0) in
     let legs = from_le (legs_of_runs p.runs) 4096 (rule_none (codes "runs") _ runs.1) in
     record {
       some_run = from_le 1 (length p.runs) counts.0;
@@ -233,9 +236,9 @@ plan_sound p e =
       runs = here.0;
     }
 
-pub sound_plan : (p : Plan) → SoundPlan p → IsPlan p
-sound_plan p h =
+pub sound_plan : TestsTell → (p : Plan) → SoundPlan p → IsPlan p
+sound_plan tests p h =
     none_or_else _ _ (none_rule _ _ (pair (nat_le 1 (length p.runs)) (nat_le (length p.runs) 64) (to_le 1 (length p.runs) h.some_run) (to_le (length p.runs) 64 h.few_runs)))
     (none_or_else (under (codes "runs") (runs_rules 0 0 p.runs)) _
-    (none_under (codes "runs") (runs_rules 0 0 p.runs) (here_runs 0 0 p.runs h.runs (λ n j e. omega (arith, h.numbers n j e))))
+    (none_under (codes "runs") (runs_rules 0 0 p.runs) (here_runs tests 0 0 p.runs h.runs (λ n j e. omega (arith, h.numbers n j e))))
     (none_rule (codes "runs") _ (to_le (legs_of_runs p.runs) 4096 (omega (arith, h.few_legs, legs_count p.runs)))))

@@ -1,12 +1,13 @@
 pub mod Answer
+pub mod Checked
 pub mod Faults
+pub mod Flow
 pub mod Found
 pub mod Json
 pub mod Laws
 pub mod Mapping
 pub mod Name
 pub mod Numbers
-pub mod Offered
 pub mod Plain
 pub mod Rules
 pub mod Sound

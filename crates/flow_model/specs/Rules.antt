@@ -1,7 +1,9 @@
--- The rules of a plan: of its document, and the limits. A plan is one where none of them is broken.
-use Rattle.std.specs.Prelude.{◌≡◌, ℕ, ℤ, pos, negsuc, suc, ◌+◌, ◌-◌, ◌==◌, ◌&&◌, ◌||◌, Bool, true, false, not, nat_le, nat_lt, nat_eq, List, [], ◌∷◌, length, map, sum_by, codes, Option, Some, None, decimal}
-use Rattle.std.specs.List.{list_all, list_any, starts_with}
+-- The rules of a plan: of its document, and the limits. A plan is one where none of them is broken. Every condition in it is
+-- read as a condition, and every other text that is evaluated as a template.
+use Rattle.std.specs.Prelude.{◌≡◌, ℕ, ℤ, pos, negsuc, suc, ◌+◌, ◌-◌, ◌==◌, ◌&&◌, Bool, true, false, not, nat_le, nat_lt, List, [], ◌∷◌, length, map, sum_by, codes, Option, Some, None, decimal}
+use Rattle.std.specs.List.{list_all, list_any}
 use Rattle.std.specs.Str.{bytes_eq}
+pub use Rattle.expr_reader.specs.Accepts.{is_template, is_condition}
 use Rattle.flow_model.specs.Plain.{Plain, null, truth, whole, text, list, map as map_value, Items, no_items, item, Members, no_members, member}
 use Rattle.flow_model.specs.Name.{is_id, is_one_of}
 use Rattle.flow_model.specs.Found.{Path, rule, or_else, under, each, each_pair, if_there}
@@ -18,23 +20,10 @@ use Rattle.flow_model.specs.declared.plan.Work.TheVariants.{Run, Uses}
 
 -- ---- texts that are evaluated
 
--- whether `${{` stands in a text
-abbrev pub has_marker : List ℕ → Bool
-has_marker [] = false
-has_marker (b ∷ bs) = starts_with nat_eq (b ∷ bs) (codes "${{") || has_marker bs
-
--- A text that is evaluated has at most 1,048,576 bytes. Marked expressions are not read yet, so it has none.
-abbrev pub is_evaluable : List ℕ → Bool
-is_evaluable t = nat_le (length t) 1048576 && not (has_marker t)
-
--- Expressions are not read yet, so no text is a condition.
-abbrev pub is_condition : List ℕ → Bool
-is_condition t = false
-
--- a flag that is spelled out, or a text that is evaluated
+-- a truth value that is spelled out, or a template
 abbrev pub is_flag : Flag → Bool
 is_flag (Truth b) = true
-is_flag (Text t) = is_evaluable t
+is_flag (Text t) = is_template t
 
 -- a test of what may be missing
 abbrev pub all_there : {T : Type 0} → (T → Bool) → Option T → Bool
@@ -77,12 +66,12 @@ abbrev mutual
 abbrev pub is_property : List ℕ × Plain → Bool
 is_property p = is_within 100 p.1
 
--- a text to be evaluated, a number, a truth value or null
+-- a template, a number, a truth value or null
 abbrev pub is_scalar : Plain → Bool
 is_scalar null = true
 is_scalar (truth b) = true
 is_scalar (whole z) = is_whole z
-is_scalar (text t) = is_evaluable t
+is_scalar (text t) = is_template t
 is_scalar (list vs) = false
 is_scalar (map_value ms) = false
 
@@ -102,9 +91,9 @@ is_variable p = is_variable_name p.0 && is_scalar p.1
 abbrev pub is_input : List ℕ × Plain → Bool
 is_input p = is_scalar p.1
 
--- an output of a job: a name like an id, and a text that is evaluated
+-- an output of a job: a name like an id, and a template
 abbrev pub is_job_output : List ℕ × List ℕ → Bool
-is_job_output p = is_id p.0 && is_evaluable p.1
+is_job_output p = is_id p.0 && is_template p.1
 
 -- ---- the parts of a plan
 
@@ -120,7 +109,7 @@ ascend_between low high (n ∷ ns) = nat_le low n && nat_lt n high && ascend_bet
 
 -- the rules of a script and its directory
 abbrev pub script_rules : Option (List ℕ) → List ℕ → Option Path
-script_rules dir run = or_else (rule (codes "dir") (all_there is_evaluable dir)) (rule (codes "run") (is_evaluable run))
+script_rules dir run = or_else (rule (codes "dir") (all_there is_template dir)) (rule (codes "run") (is_template run))
 
 -- the rules of what a step does
 abbrev pub work_rules : Work → Option Path
@@ -138,7 +127,7 @@ step_rules s =
 
 -- the rules of a concurrency group
 abbrev pub group_rules : Group → Option Path
-group_rules g = or_else (rule (codes "cancel") (is_flag g.cancel)) (rule (codes "name") (is_evaluable g.name))
+group_rules g = or_else (rule (codes "cancel") (is_flag g.cancel)) (rule (codes "name") (is_template g.name))
 
 -- the rules of a combination
 abbrev pub leg_rules : List (List ℕ × Plain) → Option Path

@@ -1,12 +1,16 @@
 -- The rules of a plan, each in its own words: what holds of all runs, jobs, legs and steps of a plan that breaks none.
-use Rattle.std.specs.Prelude.{◌≡◌, ℕ, suc, ◌<◌, ◌≤◌, max, IsTrue, IfSome, List, length, slice_get, Option, Some}
+use Rattle.std.specs.Prelude.{◌≡◌, ◌↔◌, ℕ, suc, ◌<◌, ◌≤◌, max, IsTrue, IfSome, List, length, slice_get, Option, Some}
+use Rattle.expr_reader.specs.Accepts.{is_template, is_condition}
+use Rattle.expr_reader.specs.Template.{IsTemplate, IsCondition}
 use Rattle.flow_model.specs.Json.{is_in_range}
 use Rattle.flow_model.specs.Name.{is_id}
 use Rattle.flow_model.specs.Numbers.{plan_jobs, plan_legs}
 use Rattle.flow_model.specs.Plain.{Plain, null, truth, whole, text, list, map as map_value, Items, no_items, item, Members, no_members, member}
-use Rattle.flow_model.specs.Rules.{is_condition, is_flag, is_input, is_job_output, is_evaluable, is_variable, greatest}
+use Rattle.flow_model.specs.Rules.{is_variable_name, is_whole, greatest}
 use Rattle.flow_model.specs.declared.plan.Plan.{Plan}
 use Rattle.flow_model.specs.declared.plan.RunPlan.{RunPlan}
+use Rattle.flow_model.specs.declared.plan.Flag.{Flag}
+use Rattle.flow_model.specs.declared.plan.Flag.TheVariants.{Truth, Text}
 use Rattle.flow_model.specs.declared.plan.Group.{Group}
 use Rattle.flow_model.specs.declared.plan.JobPlan.{JobPlan}
 use Rattle.flow_model.specs.declared.plan.StepPlan.{StepPlan}
@@ -58,30 +62,63 @@ IsWithin n v = (nesting v ≤ n) × IsTrue (is_in_range v)
 abbrev pub IsProperty : List ℕ × Plain → Type 0
 IsProperty p = IsWithin 100 p.1
 
+-- ---- texts that are evaluated
+
+-- The tests of texts tell the templates and the conditions.
+pub record TestsTell : Type 0 where
+  pub template : (t : List ℕ) → IsTrue (is_template t) ↔ IsTemplate t
+  pub condition : (t : List ℕ) → IsTrue (is_condition t) ↔ IsCondition t
+
+-- a truth value that is spelled out, or a template
+abbrev pub IsFlag : Flag → Type 0
+IsFlag (Truth b) = Unit {0}
+IsFlag (Text t) = IsTemplate t
+
+-- a template, a number in range, a truth value or null
+abbrev pub IsScalar : Plain → Type 0
+IsScalar null = Unit {0}
+IsScalar (truth b) = Unit {0}
+IsScalar (whole z) = IsTrue (is_whole z)
+IsScalar (text t) = IsTemplate t
+IsScalar (list vs) = ⊥
+IsScalar (map_value ms) = ⊥
+
+-- a variable of an environment
+abbrev pub IsVariable : List ℕ × Plain → Type 0
+IsVariable p = IsTrue (is_variable_name p.0) × IsScalar p.1
+
+-- an input of an action, whose name is free
+abbrev pub IsInput : List ℕ × Plain → Type 0
+IsInput p = IsScalar p.1
+
+-- an output of a job: a name like an id, and a template
+abbrev pub IsJobOutput : List ℕ × List ℕ → Type 0
+IsJobOutput p = IsTrue (is_id p.0) × IsTemplate p.1
+
 -- ---- the parts of a plan
 
--- the texts of a script can be evaluated, and so can the inputs of an action
+-- the texts of a script are templates, and the inputs of an action are scalars
 abbrev pub SoundWork : Work → Type 0
-SoundWork (Run dir run shell) = IfSome dir (λ t. IsTrue (is_evaluable t)) × IsTrue (is_evaluable run)
-SoundWork (Uses uses given) = Each (λ p. IsTrue (is_input p)) given
+SoundWork (Run dir run shell) = IfSome dir IsTemplate × IsTemplate run
+SoundWork (Uses uses given) = Each IsInput given
 
 -- the rules of a step
 pub record SoundStep (s : StepPlan) : Type 0 where
-  pub condition : IfSome s.condition (λ t. IsTrue (is_condition t))
-  pub env : Each (λ p. IsTrue (is_variable p)) s.env
+  pub condition : IfSome s.condition IsCondition
+  pub env : Each IsVariable s.env
   pub id : IfSome s.id (λ t. IsTrue (is_id t))
-  pub tolerate : IsTrue (is_flag s.tolerate)
+  pub tolerate : IsFlag s.tolerate
   pub work : SoundWork s.work
 
 -- the rules of a concurrency group
 pub record SoundGroup (g : Group) : Type 0 where
-  pub cancel : IsTrue (is_flag g.cancel)
-  pub name : IsTrue (is_evaluable g.name)
+  pub cancel : IsFlag g.cancel
+  pub name : IsTemplate g.name
 
 -- the rules of a job by itself
 pub record SoundJob (j : JobPlan) : Type 0 where
-  pub condition : IfSome j.condition (λ t. IsTrue (is_condition t))
-  pub env : Each (λ p. IsTrue (is_variable p)) j.env
+  pub condition : IfSome j.condition IsCondition
+  pub env : Each IsVariable j.env
   pub group : IfSome j.group SoundGroup
   pub id : IsTrue (is_id j.id)
   pub some_leg : 1 ≤ length j.legs
@@ -89,11 +126,11 @@ pub record SoundJob (j : JobPlan) : Type 0 where
   pub legs : Each (λ combo. Each IsProperty combo) j.legs
   pub max_parallel : IfSome j.max_parallel (λ n. (1 ≤ n) × (n ≤ greatest))
   pub needs_ascend : AscendStrictly j.needs
-  pub outputs : Each (λ p. IsTrue (is_job_output p)) j.outputs
+  pub outputs : Each IsJobOutput j.outputs
   pub few_steps : length j.steps ≤ 256
   pub step_ids : HaveDistinctNames (λ s. s.id) j.steps
   pub steps : Each SoundStep j.steps
-  pub tolerate : IsTrue (is_flag j.tolerate)
+  pub tolerate : IsFlag j.tolerate
 
 -- each need of a job is the number of a job that stands before it
 abbrev pub NeedEarlierJobs : List JobPlan → Type 0
@@ -103,7 +140,7 @@ NeedEarlierJobs jobs =
 
 -- the rules of a run
 pub record SoundRun (r : RunPlan) : Type 0 where
-  pub env : Each (λ p. IsTrue (is_variable p)) r.env
+  pub env : Each IsVariable r.env
   pub group : IfSome r.group SoundGroup
   pub some_job : 1 ≤ length r.jobs
   pub few_jobs : length r.jobs ≤ 256

@@ -21,7 +21,7 @@ pub struct Run {
     pub state: RunState,
     /// Whether it was told to stop.
     pub stop: bool,
-    /// The name, in small letters, of the group that it waited for or entered.
+    /// The name, with A to Z as a to z, of the group that it waited for or held.
     pub group: Option<Text>,
     pub jobs: Sequence<Job>,
 }
@@ -56,7 +56,7 @@ pub struct Leg {
     pub state: LegState,
     /// Whether it was told to stop.
     pub stop: bool,
-    /// The name, in small letters, of the group that it waited for or entered.
+    /// The name, with A to Z as a to z, of the group that it waited for or held.
     pub group: Option<Text>,
     /// The steps that are done, in order.
     pub steps: Sequence<DoneStep>,

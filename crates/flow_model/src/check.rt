@@ -8,14 +8,13 @@ ghost use Rattle.std.specs.List.{list_any};
 ghost use Rattle.std.specs.Str.{bytes_eq};
 ghost use Rattle.flow_model.specs.Found as found;
 ghost use Rattle.flow_model.specs.Found.{Checks, ChecksUnder};
-ghost use Rattle.flow_model.specs.Offered.{refusal};
 
 use crate::duplicate::Duplicate;
 use crate::mapping::Mapping;
-use crate::offer::check_offer;
 use crate::plan::Plan;
 use crate::rules::check_plan;
 use crate::text::Text;
+use crate::texts::tests_tell;
 use std::alloc::{AllocError, Global};
 use std::marker::Model;
 use thiserror::Error;
@@ -55,8 +54,8 @@ pub(crate) trait Rules<T> {
 pub(crate) trait PairTest<V> {
     ghost test: { List ℕ × V → Bool };
 
-    fn passes(key: &str, value: &V) -> bool
-        ensures { result ≡ test (key.now, value.now) };
+    fn passes(alloc: Global, key: &str, value: &V) -> Result<bool, AllocError>
+        ensures { IfOk result (λ passed. passed ≡ test (key.now, value.now)) };
 }
 
 /// A rule, broken at its path where it does not hold.
@@ -148,7 +147,8 @@ pub(crate) fn check_pairs<V, T: PairTest<V>>(
     ensures { Checks (found.each_pair T.test pairs.now) result }
 {
     for (key, value) in pairs.iter() {
-        rule(alloc, key.as_str(), T::passes(key.as_str(), value))?;
+        let passed = T::passes(alloc, key.as_str(), value)?;
+        rule(alloc, key.as_str(), passed)?;
     }
     Ok(())
 }
@@ -164,15 +164,7 @@ pub(crate) fn check_map<V, T: PairTest<V>>(
     under(alloc, key, check_pairs::<V, T>(alloc, pairs))
 }
 
-/// Checks the rules of a plan, and then that all of it is offered so far.
-fn check_whole(alloc: Global, plan: &Plan) -> Result<(), Broken>
-    ensures { Checks (refusal plan.now) result }
-{
-    check_plan(alloc, plan)?;
-    check_offer(alloc, plan)
-}
-
-/// A plan whose rules all hold, and of which all is offered so far. It is made by `Plan::check`, or copied.
+/// A plan whose rules all hold. It is made by `Plan::check`, or copied.
 #[derive(Drop)]
 pub struct CheckedPlan {
     plan: Plan,
@@ -189,40 +181,42 @@ impl Model for CheckedPlan {
 
     ghost view = { λ c. c.plan };
 
-    ghost use Rattle.flow_model.specs.Offered.{IsOffered};
+    ghost use Rattle.flow_model.specs.Rules.{IsPlan};
 
-    ghost invariant = { λ c. IsOffered c.plan };
+    ghost invariant = { λ c. IsPlan c.plan };
 }
 
 impl Plan {
-    ghost use Rattle.flow_model.specs.Offered.{AcceptsSound, ChecksPlan};
+    ghost use Rattle.flow_model.specs.Checked.{AcceptsSound, ChecksPlan};
 
-    /// Accepts the plan where each of its rules holds and all of it is offered so far.
+    /// Accepts the plan where each of its rules holds.
     ///
     /// # Errors
     ///
     /// `Broken::Rule` with the path of the first rule that is broken, and `Broken::Memory` where there
-    /// is no memory for that path.
+    /// is no memory to read the texts that are evaluated, or for that path.
     pub fn check(self, alloc: Global) -> Result<CheckedPlan, Broken>
         ensures accepted { IfOk result (λ checked. checked ≡ self) }
         ensures exact { ChecksPlan self result }
         ensures rules { AcceptsSound self result }
     {
-        check_whole(alloc, &self)?;
+        tests_tell();
+        check_plan(alloc, &self)?;
         Ok(CheckedPlan { plan: self })
     }
 }
 
 impl CheckedPlan {
-    ghost use Rattle.flow_model.specs.Offered.{IsOffered};
+    ghost use Rattle.flow_model.specs.Rules.{IsPlan};
     ghost use Rattle.flow_model.specs.Sound.{SoundPlan};
 
-    /// The plan that was accepted. All of it is offered (`sound`), and each rule holds in its own words (`rules`).
+    /// The plan that was accepted. No rule is broken (`sound`), so each holds in its own words (`rules`).
     pub fn plan(&self) -> &Plan
         ensures same { result.now ≡ self.now }
-        ensures sound { IsOffered result.now }
+        ensures sound { IsPlan result.now }
         ensures rules { SoundPlan result.now }
     {
+        tests_tell();
         &self.plan
     }
 }

@@ -4,12 +4,14 @@
 //! that change it and the replies to them, and three small containers that contracts see as plain
 //! lists: a text, a sequence and a mapping.
 //!
-//! It promises that `Plan::check` accepts exactly the plans whose rules all hold and of which all is offered
-//! so far, that a `CheckedPlan` is made there or copied from one, that every `copy` is equal to what it was
-//! made from, and that JSON becomes a value, and a value JSON, exactly. What follows from its definitions alone
-//! stands in `laws`: the rules of a plan in their own words, how deep values nest, and the numbers of jobs.
+//! It promises that `Plan::check` accepts exactly the plans whose rules all hold, with each condition read as a
+//! condition and each other text that is evaluated as a template, that a `CheckedPlan` is made there or copied from
+//! one, that every `copy` is equal to what it was made from, and that JSON becomes a value, and a value JSON,
+//! exactly. What follows from its definitions alone stands in `laws`: the rules of a plan in their own words, how
+//! deep values nest, and the numbers of jobs.
 //!
-//! It stands on `serde_json` alone, and `thiserror` for its errors.
+//! It stands on `expr_reader`, which reads the texts that are evaluated, on `serde_json`, and on `thiserror` for
+//! its errors.
 
 #![tactic(auto)]
 
@@ -17,11 +19,11 @@ pub mod board;
 pub mod check;
 pub mod duplicate;
 pub mod event;
+pub mod flow;
 pub mod json;
 pub mod laws;
 pub mod mapping;
 mod name;
-mod offer;
 pub mod plan;
 pub mod reply;
 mod rules;
@@ -35,10 +37,13 @@ pub use board::{Board, DoneStep, Job, JobState, Leg, LegState, Run, RunState};
 pub use check::{Broken, CheckedPlan};
 pub use duplicate::Duplicate;
 pub use event::{Answer, Entry, Event, Member, Outcome};
+pub use flow::{Flow, FlowJob, Workflow};
 pub use json::{JsonFault, json_of, json_of_node, value_of, whole_of};
 pub use mapping::Mapping;
+pub use name::is_id;
 pub use plan::{Combo, Flag, Group, JobPlan, Matrix, Plan, Roots, RunPlan, Shell, StepPlan, Work};
 pub use reply::{CallWork, Reply, StepCall, ValueFault, What};
 pub use sequence::Sequence;
 pub use text::Text;
 pub use value::{Node, Value, copy_node};
+pub use within::{is_variable_name, is_within};

@@ -14,7 +14,7 @@ use crate::check::{
 use crate::name::is_id;
 use crate::plan::{Combo, Group, JobPlan, Plan, Roots, RunPlan, StepPlan, Work};
 use crate::text::Text;
-use crate::texts::{is_evaluable, is_flag, is_optional_condition, is_optional_text};
+use crate::texts::{check_condition, check_flag, check_optional_template, check_template};
 use crate::value::Value;
 use crate::within::{GREATEST, Input, JobOutput, Property, Variable};
 use std::alloc::Global;
@@ -26,8 +26,8 @@ pub(crate) struct Document;
 fn check_script(alloc: Global, dir: &Option<Text>, run: &Text) -> Result<(), Broken>
     ensures { Checks (spec.script_rules dir.now run.now) result }
 {
-    rule(alloc, "dir", is_optional_text(dir))?;
-    rule(alloc, "run", is_evaluable(run.as_str()))
+    check_optional_template(alloc, "dir", dir)?;
+    check_template(alloc, "run", run.as_str())
 }
 
 impl Rules<Work> for Document {
@@ -55,10 +55,10 @@ impl Rules<StepPlan> for Document {
     ghost rules = { spec.step_rules };
 
     fn check(alloc: Global, step: &StepPlan) -> Result<(), Broken> {
-        rule(alloc, "condition", is_optional_condition(&step.condition))?;
+        check_condition(alloc, &step.condition)?;
         check_map::<Value, Variable>(alloc, "env", &step.env)?;
         rule(alloc, "id", is_optional_id(&step.id))?;
-        rule(alloc, "tolerate", is_flag(&step.tolerate))?;
+        check_flag(alloc, "tolerate", &step.tolerate)?;
         check_under::<Work, Document>(alloc, "work", &step.work)
     }
 }
@@ -67,8 +67,8 @@ impl Rules<StepPlan> for Document {
 fn check_group(alloc: Global, group: &Group) -> Result<(), Broken>
     ensures { Checks (spec.group_rules group.now) result }
 {
-    rule(alloc, "cancel", is_flag(&group.cancel))?;
-    rule(alloc, "name", is_evaluable(group.name.as_str()))
+    check_flag(alloc, "cancel", &group.cancel)?;
+    check_template(alloc, "name", group.name.as_str())
 }
 
 impl Rules<Option<Group>> for Document {
@@ -165,7 +165,7 @@ fn ascend_between(low: u64, high: u64, numbers: &[u64]) -> bool
 fn check_job(alloc: Global, first: u64, number: u64, job: &JobPlan) -> Result<(), Broken>
     ensures { Checks (spec.job_rules first number job.now) result }
 {
-    rule(alloc, "condition", is_optional_condition(&job.condition))?;
+    check_condition(alloc, &job.condition)?;
     check_map::<Value, Variable>(alloc, "env", &job.env)?;
     check_under::<Option<Group>, Document>(alloc, "group", &job.group)?;
     rule(alloc, "id", is_id(job.id.as_str()))?;
@@ -178,7 +178,7 @@ fn check_job(alloc: Global, first: u64, number: u64, job: &JobPlan) -> Result<()
     rule(alloc, "number", job.number == number)?;
     check_map::<Text, JobOutput>(alloc, "outputs", &job.outputs)?;
     check_steps(alloc, job.steps.as_slice())?;
-    rule(alloc, "tolerate", is_flag(&job.tolerate))
+    check_flag(alloc, "tolerate", &job.tolerate)
 }
 
 /// Checks the job at a place of its run, seen from the run's jobs.

@@ -1,68 +1,129 @@
-//! The rules of texts that are evaluated.
+//! The rules of texts that are evaluated: each is read, as a condition or as a template.
 
-ghost use Rattle.std.specs.Prelude.{◌≡◌, ◌≤◌, codes, drop, length, nat_eq};
-ghost use Rattle.std.specs.List.{starts_with};
+ghost use Rattle.std.specs.Prelude.{◌≡◌, ◌&&◌, not, nat_le, length, IsTrue, IfOk, IfSome, List, Option, codes, is_some};
+ghost use Rattle.expr_reader.specs.Accepts.{is_template, is_condition};
+ghost use Rattle.expr_reader.specs.Faults.{fault_at};
+ghost use Rattle.expr_reader.specs.Template.{Piece, has_marker};
+ghost use Rattle.flow_model.specs.Found as found;
+ghost use Rattle.flow_model.specs.Found.{Checks};
 ghost use Rattle.flow_model.specs.Rules as spec;
+ghost use Rattle.flow_model.specs.Sound.{TestsTell};
 
+use crate::check::{Broken, rule};
 use crate::plan::Flag;
 use crate::text::Text;
+use expr_reader::{
+    ExprFault, condition_test, has_marker, read_condition, read_template, template_reading,
+    template_test,
+};
+use std::alloc::{AllocError, Global};
 
-/// Whether `${{` stands at a place.
-fn is_marker_at(bytes: &[u8], place: usize) -> bool
-    requires { place ≤ length bytes.now }
-    ensures { result ≡ starts_with nat_eq (drop place bytes.now) (codes "${{") }
+/// The most bytes of a template.
+const LONGEST: usize = 1_048_576;
+
+/// Whether a text is a template that need not be read: it has no more bytes than one, and no expression stands in it.
+#[tactic(auto, using(crate::proofs::PlainTexts::plain_template))]
+fn is_plain(text: &str) -> bool
+    ensures exact { result ≡ (nat_le (length text.now) LONGEST && not (has_marker text.now)) }
+    ensures read { IsTrue result → IsTrue (is_template text.now) }
 {
-    let (_, rest) = bytes.split_at(place);
-    rest.starts_with(b"${{")
+    template_reading();
+    text.len() <= LONGEST && !has_marker(text)
 }
 
-/// Whether `${{` stands in a text.
-fn has_marker(text: &str) -> bool
-    ensures { result ≡ spec.has_marker text.now }
+/// A text that has a fault is not what it was read as, unless it is want of memory.
+fn not_read(fault: ExprFault) -> Result<bool, AllocError>
+    ensures { (pieces : Option (List Piece)) → IfSome (fault_at fault) (λ x. pieces ≡ None)
+        → IfOk result (λ holds. holds ≡ is_some pieces) }
 {
-    let bytes = text.as_bytes();
-    for start in 0..bytes.len() {
-        if is_marker_at(bytes, start) {
-            return true;
-        }
+    match fault {
+        ExprFault::Memory(_) => Err(AllocError),
+        ExprFault::UnclosedText(_)
+        | ExprFault::BadNumber(_)
+        | ExprFault::BadChar(_)
+        | ExprFault::Unexpected(_)
+        | ExprFault::UnknownName(_)
+        | ExprFault::UnknownFunction(_)
+        | ExprFault::ArgumentCount(_)
+        | ExprFault::TooDeep(_)
+        | ExprFault::TooLong(_)
+        | ExprFault::UnclosedTemplate(_)
+        | ExprFault::StatusHere(_) => Ok(false),
     }
-    false
 }
 
-/// Whether a text can be evaluated.
-pub(crate) fn is_evaluable(text: &str) -> bool
-    ensures { result ≡ spec.is_evaluable text.now }
+/// Whether a text is a template.
+pub(crate) fn is_template(alloc: Global, text: &str) -> Result<bool, AllocError>
+    ensures { IfOk result (λ holds. holds ≡ is_template text.now) }
 {
-    text.len() <= 1_048_576 && !has_marker(text)
+    if is_plain(text) {
+        return Ok(true);
+    }
+    match read_template(alloc, text) {
+        Ok(_) => Ok(true),
+        Err(fault) => not_read(fault),
+    }
 }
 
-/// Whether a text, if there is one, can be evaluated.
-pub(crate) fn is_optional_text(text: &Option<Text>) -> bool
-    ensures { result ≡ spec.all_there spec.is_evaluable text.now }
+/// Whether a text is a condition.
+fn is_condition(alloc: Global, text: &str) -> Result<bool, AllocError>
+    ensures { IfOk result (λ holds. holds ≡ is_condition text.now) }
+{
+    match read_condition(alloc, text) {
+        Ok(_) => Ok(true),
+        Err(fault) => not_read(fault),
+    }
+}
+
+/// The tests of texts tell the templates and the conditions.
+pub(crate) fn tests_tell()
+    ensures { TestsTell }
+{
+    template_test();
+    condition_test();
+}
+
+/// Checks that a text is a template.
+pub(crate) fn check_template(alloc: Global, path: &str, text: &str) -> Result<(), Broken>
+    ensures { Checks (found.rule path.now (is_template text.now)) result }
+{
+    let holds = is_template(alloc, text)?;
+    rule(alloc, path, holds)
+}
+
+/// Checks that a text, if there is one, is a template.
+pub(crate) fn check_optional_template(
+    alloc: Global,
+    path: &str,
+    text: &Option<Text>,
+) -> Result<(), Broken>
+    ensures { Checks (found.rule path.now (spec.all_there is_template text.now)) result }
 {
     match text {
-        Some(text) => is_evaluable(text.as_str()),
-        None => true,
+        Some(text) => check_template(alloc, path, text.as_str()),
+        None => Ok(()),
     }
 }
 
-/// Whether a condition, if there is one, can be evaluated.
-pub(crate) fn is_optional_condition(text: &Option<Text>) -> bool
-    ensures { result ≡ spec.all_there spec.is_condition text.now }
+/// Checks that the condition of a job or step, if there is one, is a condition.
+pub(crate) fn check_condition(alloc: Global, text: &Option<Text>) -> Result<(), Broken>
+    ensures { Checks (found.rule (codes "condition") (spec.all_there is_condition text.now)) result }
 {
     match text {
-        // Expressions are not read yet.
-        Some(_) => false,
-        None => true,
+        Some(text) => {
+            let holds = is_condition(alloc, text.as_str())?;
+            rule(alloc, "condition", holds)
+        },
+        None => Ok(()),
     }
 }
 
-/// Whether a flag is spelled out or can be evaluated.
-pub(crate) fn is_flag(flag: &Flag) -> bool
-    ensures { result ≡ spec.is_flag flag.now }
+/// Checks that a flag is a truth value or a template.
+pub(crate) fn check_flag(alloc: Global, path: &str, flag: &Flag) -> Result<(), Broken>
+    ensures { Checks (found.rule path.now (spec.is_flag flag.now)) result }
 {
     match flag {
-        Flag::Truth(_) => true,
-        Flag::Text(text) => is_evaluable(text.as_str()),
+        Flag::Truth(_) => Ok(()),
+        Flag::Text(text) => check_template(alloc, path, text.as_str()),
     }
 }

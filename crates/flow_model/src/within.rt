@@ -1,6 +1,6 @@
 //! The rules of values: how deep they nest, and the range of their numbers.
 
-ghost use Rattle.std.specs.Prelude.{◌≡◌};
+ghost use Rattle.std.specs.Prelude.{◌≡◌, IfOk};
 ghost use Rattle.std.specs.List.{list_all};
 ghost use Rattle.flow_model.specs.Mapping.{pairs_of};
 ghost use Rattle.flow_model.specs.Plain as plain;
@@ -10,8 +10,9 @@ ghost use Rattle.flow_model.specs.Value.{view, views, viewed};
 use crate::check::PairTest;
 use crate::name::is_id;
 use crate::text::Text;
-use crate::texts::is_evaluable;
+use crate::texts::is_template;
 use crate::value::{Node, Value};
+use std::alloc::{AllocError, Global};
 use std::collections::BTreeMap;
 
 /// The greatest whole number; the least is its opposite.
@@ -66,17 +67,17 @@ fn are_members_within(members: &BTreeMap<String, Node>, room: u64) -> bool
     true
 }
 
-/// Whether a value is a text that can be evaluated, a number in range, a truth value or null.
-fn is_scalar(value: &Value) -> bool
-    ensures { result ≡ spec.is_scalar value.now }
+/// Whether a value is a template, a number in range, a truth value or null.
+fn is_scalar(alloc: Global, value: &Value) -> Result<bool, AllocError>
+    ensures { IfOk result (λ passed. passed ≡ spec.is_scalar value.now) }
 {
     match value.node() {
-        Node::Null => true,
-        Node::Truth(_) => true,
-        Node::Whole(number) => is_whole(*number),
-        Node::Text(text) => is_evaluable(text.as_str()),
-        Node::List(_) => false,
-        Node::Map(_) => false,
+        Node::Null => Ok(true),
+        Node::Truth(_) => Ok(true),
+        Node::Whole(number) => Ok(is_whole(*number)),
+        Node::Text(text) => is_template(alloc, text.as_str()),
+        Node::List(_) => Ok(false),
+        Node::Map(_) => Ok(false),
     }
 }
 
@@ -87,8 +88,8 @@ fn are_variable_bytes(bytes: &[u8]) -> bool
     bytes.iter().all(|byte| *byte != b'=' && *byte != 0)
 }
 
-/// Whether a text may name a variable of an environment.
-fn is_variable_name(name: &str) -> bool
+/// Whether a text may name a variable of an environment: it is not empty, and has no `=` and no zero byte.
+pub fn is_variable_name(name: &str) -> bool
     ensures { result ≡ spec.is_variable_name name.now }
 {
     0 < name.len() && are_variable_bytes(name.as_bytes())
@@ -100,8 +101,12 @@ pub(crate) struct Variable;
 impl PairTest<Value> for Variable {
     ghost test = { spec.is_variable };
 
-    fn passes(key: &str, value: &Value) -> bool {
-        is_variable_name(key) && is_scalar(value)
+    fn passes(alloc: Global, key: &str, value: &Value) -> Result<bool, AllocError> {
+        if is_variable_name(key) {
+            is_scalar(alloc, value)
+        } else {
+            Ok(false)
+        }
     }
 }
 
@@ -111,8 +116,8 @@ pub(crate) struct Input;
 impl PairTest<Value> for Input {
     ghost test = { spec.is_input };
 
-    fn passes(_key: &str, value: &Value) -> bool {
-        is_scalar(value)
+    fn passes(alloc: Global, _key: &str, value: &Value) -> Result<bool, AllocError> {
+        is_scalar(alloc, value)
     }
 }
 
@@ -122,8 +127,8 @@ pub(crate) struct Property;
 impl PairTest<Value> for Property {
     ghost test = { spec.is_property };
 
-    fn passes(_key: &str, value: &Value) -> bool {
-        is_within(value.node(), 100)
+    fn passes(_alloc: Global, _key: &str, value: &Value) -> Result<bool, AllocError> {
+        Ok(is_within(value.node(), 100))
     }
 }
 
@@ -133,7 +138,11 @@ pub(crate) struct JobOutput;
 impl PairTest<Text> for JobOutput {
     ghost test = { spec.is_job_output };
 
-    fn passes(key: &str, value: &Text) -> bool {
-        is_id(key) && is_evaluable(value.as_str())
+    fn passes(alloc: Global, key: &str, value: &Text) -> Result<bool, AllocError> {
+        if is_id(key) {
+            is_template(alloc, value.as_str())
+        } else {
+            Ok(false)
+        }
     }
 }

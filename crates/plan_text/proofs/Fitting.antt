@@ -4,7 +4,7 @@ use Rattle.std.specs.List.{list_all}
 use Rattle.flow_model.specs.Found.{Path, rule, or_else, under, each, each_pair, if_there}
 use Rattle.flow_model.specs.Name.{is_id}
 use Rattle.flow_model.specs.Plain.{Plain, null, truth, whole, text, list, map as map_value}
-use Rattle.flow_model.specs.Rules.{all_there, is_condition, is_flag, is_within, is_property, is_scalar, is_variable_name, is_variable, is_input, is_job_output, are_distinct, ascend_between, is_limit, work_rules, step_rules, group_rules, leg_rules, step_ids, steps_rules, legs_rules, job_rules, jobs_rules, job_ids, roots_rules, run_rules, runs_rules, legs_of_runs, plan_rules, IsPlan}
+use Rattle.flow_model.specs.Rules.{all_there, is_condition, is_flag, is_within, is_property, is_scalar, is_variable_name, is_variable, is_input, is_job_output, are_distinct, ascend_between, is_limit, work_rules, step_rules, group_rules, leg_rules, step_ids, steps_rules, legs_rules, job_rules, jobs_rules, job_ids, roots_rules, run_rules, runs_rules, legs_of_runs, IsPlan}
 use Rattle.flow_model.specs.declared.plan.JobPlan.{JobPlan}
 use Rattle.flow_model.specs.declared.plan.Plan.{Plan}
 use Rattle.flow_model.specs.declared.plan.Roots.{Roots}
@@ -12,7 +12,6 @@ use Rattle.flow_model.specs.declared.plan.RunPlan.{RunPlan}
 use Rattle.flow_model.specs.declared.plan.StepPlan.{StepPlan}
 use Rattle.flow_model.specs.declared.plan.Work.{Work}
 use Rattle.flow_model.specs.declared.plan.Work.TheVariants.{Run, Uses}
-use Rattle.flow_model.specs.Offered.{plan_offer, IsOffered}
 use Rattle.plan_text.specs.Reading.{Values}
 use Rattle.plan_text.proofs.Laws.{both, and_true}
 use Rattle.plan_text.proofs.PlanLaws.{values_fit, work_fits, step_fits, job_fits, roots_fit, run_fits, plan_fits}
@@ -177,6 +176,3 @@ plan_sound p e =
     let legs = rule (codes "runs") (nat_le (legs_of_runs p.runs) 4096) in
     let at_runs = or_else_none runs legs (or_else_none count (or_else runs legs) e).1 in
     and_true (list_all run_fits p.runs) true (runs_sound 0 0 p.runs (under_none (codes "runs") (runs_rules 0 0 p.runs) at_runs.0)) refl
-
-pub offered_sound : (p : Plan) → IsOffered p → IsTrue (plan_fits p)
-offered_sound p e = plan_sound p (or_else_none (plan_rules p) (plan_offer p) e).0

@@ -6,19 +6,19 @@ use Rattle.std.specs.Str.{IsUtf8, is_utf8}
 use Rattle.serde_json.specs.Data.{Data, depth}
 use Rattle.serde_json.specs.Read.{read}
 use Rattle.serde_json.specs.Written.{has_float, compact_text}
-use Rattle.flow_model.specs.Offered.{IsOffered, refusal}
+use Rattle.flow_model.specs.Rules.{IsPlan, plan_rules}
 use Rattle.flow_model.specs.declared.plan.Plan.{Plan}
 use Rattle.flow_model.specs.declared.event.Entry.{Entry}
-use Rattle.plan_text.specs.Document.{document}
-use Rattle.plan_text.specs.EntryDocument.{entry_document, entry_of, is_entry}
+use Rattle.plan_text.specs.Document.{document, IsPlanDocument}
+use Rattle.plan_text.specs.EntryDocument.{entry_document, IsEntryDocument, entry_of, is_entry}
 use Rattle.plan_text.specs.Record.{entry_in, line_entry, on_line}
-use Rattle.plan_text.specs.Load.{json_read, has_other_version, accepted, checked, loaded, load, Answers}
+use Rattle.plan_text.specs.Load.{json_read, IsTextOf, has_other_version, accepted, checked, loaded, load, Answers}
 use Rattle.plan_text.specs.Parts.{Reading}
 use Rattle.plan_text.specs.Reading.{plan_of}
 use Rattle.plan_text.specs.declared.fault.LoadFault.{LoadFault}
 use Rattle.plan_text.specs.declared.fault.LoadFault.TheVariants.{Version}
 use Rattle.plan_text.proofs.EntryLaws.{entry_reads, entry_fits}
-use Rattle.plan_text.proofs.Fitting.{offered_sound}
+use Rattle.plan_text.proofs.Fitting.{plan_sound}
 use Rattle.plan_text.proofs.Laws.{Ok-inj}
 use Rattle.plan_text.proofs.PlanLaws.{plan_reads}
 
@@ -43,43 +43,51 @@ pub reads_of : (s : String Global) (d e : Data) → (depth d ≤ 127 → read (s
 reads_of s d e h is low =
     json_read-some (string_bytes s) e (IsUtf8-string_bytes s) (h (subst (λ x. depth x ≤ 127) (sym is) low) ∙ ap Some is)
 
+-- what reads as the one document of something is a text of it
+pub is_text : {A : Type 0} (document_of : A → Data) (bytes : List ℕ) (a : A) → json_read bytes ≡ Some (document_of a) → IsTextOf (λ x d. d ≡ document_of x) bytes a
+is_text document_of bytes a h = (document_of a, h, refl)
+
+-- and a text of it reads as that document
+pub text_is : {A : Type 0} (document_of : A → Data) (bytes : List ℕ) (a : A) → IsTextOf (λ x d. d ≡ document_of x) bytes a → json_read bytes ≡ Some (document_of a)
+text_is document_of bytes a h = h.1 ∙ ap Some h.2
+
 -- ---- plans
 
-loaded-document : (p : Plan) → IsOffered p → loaded (Some (document p)) ≡ Ok p
-loaded-document p h = ap checked (plan_reads.again p (offered_sound p h)) ∙ ap (accepted p) h
+loaded-document : (p : Plan) → IsPlan p → loaded (Some (document p)) ≡ Ok p
+loaded-document p h = ap checked (plan_reads.again p (plan_sound p h)) ∙ ap (accepted p) h
 
 -- the document of a plan is loaded as the plan
-pub load_again : (bytes : List ℕ) (p : Plan) → IsOffered p → json_read bytes ≡ Some (document p) → load bytes ≡ Ok p
+pub load_again : (bytes : List ℕ) (p : Plan) → IsPlan p → json_read bytes ≡ Some (document p) → load bytes ≡ Ok p
 load_again bytes p h e = ap loaded e ∙ loaded-document p h
 
 from_accepted : (p : Plan) (found : Option (List ℕ)) (q : Plan) → accepted p found ≡ Ok q → (found ≡ None) × (p ≡ q)
 from_accepted p None q e = (refl, cc)
 from_accepted p (Some path) q e = absurd (cc)
 
-from_checked : (r : Reading Plan) (q : Plan) → checked r ≡ Ok q → (r ≡ Ok q) × (refusal q ≡ None)
+from_checked : (r : Reading Plan) (q : Plan) → checked r ≡ Ok q → (r ≡ Ok q) × (plan_rules q ≡ None)
 from_checked (Ok p) q e =
-    let r = from_accepted p (refusal p) q e in
-    (ap Ok r.1, ap refusal (sym r.1) ∙ r.0)
+    let r = from_accepted p (plan_rules p) q e in
+    (ap Ok r.1, ap plan_rules (sym r.1) ∙ r.0)
 from_checked (Err path) q e = absurd (cc)
 
 by_version : (other : Bool) (r : Result Plan LoadFault) (q : Plan) → cond other (Err Version) r ≡ Ok q → r ≡ Ok q
 by_version true r q e = absurd (cc)
 by_version false r q e = e
 
-pub from_loaded : (o : Option Data) (q : Plan) → loaded o ≡ Ok q → (o ≡ Some (document q)) × IsOffered q
+pub from_loaded : (o : Option Data) (q : Plan) → loaded o ≡ Ok q → (o ≡ Some (document q)) × IsPlan q
 from_loaded None q e = absurd (cc)
 from_loaded (Some d) q e =
     let r = from_checked (plan_of d) q (by_version (has_other_version d) (checked (plan_of d)) q e) in
     (ap Some (plan_reads.only d q r.0), r.1)
 
 -- what is loaded has that document
-pub load_found : (r : Result Plan LoadFault) (bytes : List ℕ) → Answers r (load bytes) → IfOk r (λ p. json_read bytes ≡ Some (document p))
-load_found (Ok p) bytes h = (from_loaded (json_read bytes) p h).0
+pub load_found : (r : Result Plan LoadFault) (bytes : List ℕ) → Answers r (load bytes) → IfOk r (λ p. IsTextOf IsPlanDocument bytes p)
+load_found (Ok p) bytes h = is_text document bytes p (from_loaded (json_read bytes) p h).0
 load_found (Err fault) bytes h = tt
 
 -- no two plans have one document
-pub plan_alone : (p q : Plan) → IsOffered p → IsOffered q → document p ≡ document q → p ≡ q
-plan_alone p q hp hq e = Ok-inj p q (sym (plan_reads.again p (offered_sound p hp)) ∙ ap plan_of e ∙ plan_reads.again q (offered_sound q hq))
+pub plan_alone : (p q : Plan) → IsPlan p → IsPlan q → document p ≡ document q → p ≡ q
+plan_alone p q hp hq e = Ok-inj p q (sym (plan_reads.again p (plan_sound p hp)) ∙ ap plan_of e ∙ plan_reads.again q (plan_sound q hq))
 
 -- ---- entries
 
@@ -102,8 +110,8 @@ from_on_line number None e is = absurd (cc)
 from_on_line number (Some f) e is = cc
 
 -- what is read has that document
-pub entry_found : (r : Result Entry LoadFault) (line : List ℕ) → Answers r (on_line 1 (line_entry line)) → IfOk r (λ e. json_read line ≡ Some (entry_document e))
-entry_found (Ok e) line h = (from_entry_in (json_read line) e (from_on_line 1 (line_entry line) e h)).0
+pub entry_found : (r : Result Entry LoadFault) (line : List ℕ) → Answers r (on_line 1 (line_entry line)) → IfOk r (λ e. IsTextOf IsEntryDocument line e)
+entry_found (Ok e) line h = is_text entry_document line e (from_entry_in (json_read line) e (from_on_line 1 (line_entry line) e h)).0
 entry_found (Err fault) line h = tt
 
 -- and is in the ranges

@@ -15,7 +15,7 @@ use Rattle.serde_json.specs.Read.{of_json, of_items, read}
 use Rattle.serde_json.specs.View.{items_of}
 use Rattle.flow_model.specs.declared.plan.Plan.{Plan}
 use Rattle.plan_text.specs.Document.{document}
-use Rattle.flow_model.specs.Offered.{IsOffered}
+use Rattle.flow_model.specs.Rules.{IsPlan}
 use Rattle.plan_text.specs.Load.{json_read, load}
 use Rattle.plan_text.specs.Outline.{IsOutline, StandsFor, IsReadOf}
 use Rattle.plan_text.specs.Parts.{Reading}
@@ -72,7 +72,7 @@ one_more xs d j js e = ap (λ o. option_map (before xs) (option_and_then (λ x. 
 
 -- a text whose outline stands for the document of a sound plan loads as the plan
 pub outline_loads : (bytes text : List ℕ) (r : List Token) (j : Json) (p q : Plan) → text ≡ bytes → IsUtf8 bytes → value 127 (tokens text) ≡ Some (j, r) → r ≡ []
-    → StandsFor j (document p) → q ≡ p → IsOffered q → load bytes ≡ Ok q
+    → StandsFor j (document p) → q ≡ p → IsPlan q → load bytes ≡ Ok q
 outline_loads bytes text r j p q same utf8 outlined ended stands checked sound =
     let whole : value 127 (tokens bytes) ≡ Some (j, []) = ap (λ t. value 127 (tokens t)) (sym same) ∙ outlined ∙ ap (λ ts. Some (j, ts)) ended in
     let found : read bytes ≡ Some (document p) = ap (λ o. option_and_then of_json (option_and_then (λ x. if_last x.0 x.1) o)) whole ∙ stands in

@@ -1,5 +1,5 @@
 -- The document of a plan (version 1): its objects, with their keys in byte order.
-use Rattle.std.specs.Prelude.{codes}
+use Rattle.std.specs.Prelude.{◌≡◌, codes}
 use Rattle.serde_json.specs.Data.{Data, boolean, string, object, no_members, member}
 use Rattle.flow_model.specs.Json.{json_of}
 use Rattle.flow_model.specs.declared.plan.Flag.{Flag}
@@ -70,6 +70,10 @@ run_data r =
     (member (codes "flow") (string r.flow) (member (codes "group") (optional_data group_data r.group)
     (member (codes "jobs") (list_data job_data r.jobs) (member (codes "roots") (roots_data r.roots) no_members))))))
 
--- the document of a plan
+-- the document that is printed of a plan
 abbrev pub document : Plan → Data
 document p = object (member (codes "runs") (list_data run_data p.runs) (member (codes "version") (number_data 1) no_members))
+
+-- this JSON is a document of the plan
+abbrev pub IsPlanDocument : Plan → Data → Type 0
+IsPlanDocument p d = d ≡ document p

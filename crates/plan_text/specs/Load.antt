@@ -4,7 +4,7 @@ use Rattle.std.specs.Str.{is_utf8}
 use Rattle.serde_json.specs.Data.{Data}
 use Rattle.serde_json.specs.Find.{get, as_object, as_number, as_u64}
 use Rattle.serde_json.specs.Read.{read}
-use Rattle.flow_model.specs.Offered.{refusal}
+use Rattle.flow_model.specs.Rules.{plan_rules}
 use Rattle.flow_model.specs.declared.plan.Plan.{Plan}
 use Rattle.plan_text.specs.Parts.{Reading}
 use Rattle.plan_text.specs.Reading.{plan_of}
@@ -14,6 +14,10 @@ use Rattle.plan_text.specs.declared.fault.LoadFault.TheVariants.{NotJson, Versio
 -- the JSON that bytes read as (RFC 8259): they are UTF-8, and nest to 127
 abbrev pub json_read : List ℕ → Option Data
 json_read bytes = if is_utf8 bytes then read bytes else None
+
+-- the bytes read as JSON that is a document of this
+abbrev pub IsTextOf : {A : Type 0} → (A → Data → Type 0) → List ℕ → A → Type 0
+IsTextOf IsDocument bytes x = (d : Data) × (json_read bytes ≡ Some d) × IsDocument x d
 
 -- whether the object's `version` is 1
 abbrev pub is_version_one : Data → Bool
@@ -30,7 +34,7 @@ accepted p (Some path) = Err (NotPlan path)
 
 -- a document that is no plan's is refused at its path
 abbrev pub checked : Reading Plan → Result Plan LoadFault
-checked (Ok p) = accepted p (refusal p)
+checked (Ok p) = accepted p (plan_rules p)
 checked (Err path) = Err (NotPlan path)
 
 -- the version is looked at before everything else

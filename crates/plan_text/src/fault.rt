@@ -16,8 +16,8 @@ pub enum LoadFault {
     /// It is an object whose `version` is missing or not 1.
     #[error("{}", self.name())]
     Version,
-    /// It is no plan's document, or the plan breaks a rule, or not all of it is offered so far: the
-    /// path from the root, keys and places joined by dots.
+    /// It is no plan's document, or the plan breaks a rule: the path from the root, keys and places
+    /// joined by dots.
     #[error("{name}({0:?})", name = self.name())]
     NotPlan(Text),
     /// This line, from 1, is no entry.

@@ -3,10 +3,10 @@
 ghost use Rattle.std.specs.Prelude.{◌≡◌, IfOk, Some, Ok, string_bytes};
 ghost use Rattle.serde_json.specs.View.{view};
 ghost use Rattle.serde_json.specs.Written.{compact_text};
-ghost use Rattle.flow_model.specs.Offered.{IsOffered, refusal};
+ghost use Rattle.flow_model.specs.Rules.{IsPlan, plan_rules};
 ghost use Rattle.flow_model.specs.declared.plan.Plan.{Plan};
-ghost use Rattle.plan_text.specs.Document.{document};
-ghost use Rattle.plan_text.specs.Load.{json_read, is_version_one, has_other_version, loaded, load, accepted, Answers};
+ghost use Rattle.plan_text.specs.Document.{document, IsPlanDocument};
+ghost use Rattle.plan_text.specs.Load.{json_read, IsTextOf, is_version_one, has_other_version, loaded, load, accepted, Answers};
 
 use crate::fault::LoadFault;
 use crate::json_text::read_json;
@@ -24,26 +24,26 @@ pub fn print_plan(alloc: Global, plan: &CheckedPlan) -> Result<String, AllocErro
     // Loading it gives the same plan.
     ensures loads { IfOk result (λ s. load (string_bytes s) ≡ Ok plan.now) }
     // No other plan has this document.
-    ensures alone { (other : Plan) → IsOffered other → document other ≡ document plan.now
+    ensures alone { (other : Plan) → IsPlan other → IsPlanDocument other (document plan.now)
         → other ≡ plan.now }
 {
     let json = plan.plan().to_json(alloc)?;
     json.to_string(alloc)
 }
 
-/// The plan that a text stands for: the text reads as the plan's document, in any layout.
+/// The plan that a text stands for: the text reads as a document of the plan, in any layout.
 ///
 /// # Errors
 ///
 /// - `NotJson` where the bytes are no JSON text (RFC 8259), nested to 127;
 /// - `Version` where they are an object whose `version` is missing or not 1;
-/// - `NotPlan` where they are no plan's document, or the plan breaks a rule, or not all of it is
-///   offered so far, with the path of the first part at fault;
+/// - `NotPlan` where they are no plan's document, or the plan breaks a rule, with the path of the first
+///   part at fault;
 /// - `Memory` where there is no memory.
 pub fn load_plan(alloc: Global, bytes: &[u8]) -> Result<CheckedPlan, LoadFault>
-    ensures found { IfOk result (λ p. json_read bytes.now ≡ Some (document p)) }
-    ensures sound { IfOk result (λ p. IsOffered p) }
-    ensures only { (p : Plan) → IsOffered p → json_read bytes.now ≡ Some (document p)
+    ensures found { IfOk result (λ p. IsTextOf IsPlanDocument bytes.now p) }
+    ensures sound { IfOk result (λ p. IsPlan p) }
+    ensures only { (p : Plan) → IsPlan p → IsTextOf IsPlanDocument bytes.now p
         → Answers result (Ok p) }
     ensures exact { Answers result (load bytes.now) }
 {
@@ -84,7 +84,7 @@ fn load_json(alloc: Global, json: &Value) -> Result<CheckedPlan, LoadFault>
 }
 
 fn check(alloc: Global, plan: Plan) -> Result<CheckedPlan, LoadFault>
-    ensures { Answers result (accepted plan (refusal plan)) }
+    ensures { Answers result (accepted plan (plan_rules plan)) }
 {
     match plan.check(alloc) {
         Ok(checked) => Ok(checked),

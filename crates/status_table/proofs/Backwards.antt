@@ -8,7 +8,7 @@ use Rattle.flow_model.specs.declared.event.Outcome.{Outcome}
 use Rattle.status_table.specs.Ancestors.{IsAncestor, need, of_need, SomeAncestor, SaysOf, NeedsPointBack, StandsAfterNeeds, any_need}
 use Rattle.status_table.specs.Derived.{holds, holds_at, places_needed, needs_at, some_ancestor, is_success, is_failure, job_results, status_by, ancestors_status, job_status}
 use Rattle.status_table.specs.Place.{JobAt}
-use Rattle.status_table.specs.declared.status.Status.TheVariants as status
+use Rattle.expr_value.specs.declared.status.Status.TheVariants as status
 use Rattle.status_table.proofs.Lists.{and-left, and-right, and-both, get-left}
 
 -- ---- tests of lists

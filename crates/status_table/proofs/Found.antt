@@ -19,9 +19,9 @@ pub record RunStands (p : Plan) (b : Board) (n : ℕ) (at : RunAt) : Type 0 wher
 
 pub run_stands : (p : Plan) (b : Board) (n : ℕ) (at : RunAt) → run_at p b n ≡ Some at → RunStands p b n at
 run_stands p b n at h =
-    let plan = bind-some (slice_get p.runs n) (λ plan. slice_get b.runs n >>= λ run. Some (record { plan = plan; run = run })) at h in
-    let run = bind-some (slice_get b.runs n) (λ run. Some (record { plan = plan.0; run = run })) at plan.2 in
-    let same : record { plan = plan.0; run = run.0 } ≡ at = same_some (record { plan = plan.0; run = run.0 }) at run.2 in
+    let plan = bind-some (slice_get p.runs n) (λ plan. slice_get b.runs n >>= λ run. Some (record { board = b; plan = plan; run = run })) at h in
+    let run = bind-some (slice_get b.runs n) (λ run. Some (record { board = b; plan = plan.0; run = run })) at plan.2 in
+    let same : record { board = b; plan = plan.0; run = run.0 } ≡ at = same_some (record { board = b; plan = plan.0; run = run.0 }) at run.2 in
     record { plan = plan.1 ∙ ap (λ (x : RunAt). Some x.plan) same; run = run.1 ∙ ap (λ (x : RunAt). Some x.run) same }
 
 pub record JobStands (p : Plan) (b : Board) (n : ℕ) (at : JobAt) : Type 0 where
@@ -31,8 +31,8 @@ pub record JobStands (p : Plan) (b : Board) (n : ℕ) (at : JobAt) : Type 0 wher
   pub plan : slice_get at.run_plan.jobs at.place.job ≡ Some at.plan
   pub job : slice_get at.run.jobs at.place.job ≡ Some at.job
 
-abbrev job_seen : JobPlace → RunAt → JobPlan → Job → JobAt
-job_seen place run plan job = record { place = place; run_plan = run.plan; plan = plan; run = run.run; job = job }
+abbrev job_seen : Board → JobPlace → RunAt → JobPlan → Job → JobAt
+job_seen b place run plan job = record { board = b; place = place; run_plan = run.plan; plan = plan; run = run.run; job = job }
 
 record JobPlaced (p : Plan) (b : Board) (place : JobPlace) (at : JobAt) : Type 0 where
   place_is : place ≡ at.place
@@ -44,12 +44,12 @@ record JobPlaced (p : Plan) (b : Board) (place : JobPlace) (at : JobAt) : Type 0
 placed : (p : Plan) (b : Board) (place : JobPlace) (at : JobAt) → job_placed p b place ≡ Some at → JobPlaced p b place at
 placed p b place at h =
     let run = bind-some (run_at p b place.run)
-    (λ run. slice_get run.plan.jobs place.job >>= λ plan. slice_get run.run.jobs place.job >>= λ job. Some (job_seen place run plan job)) at h in
-    let plan = bind-some (slice_get run.0.plan.jobs place.job) (λ plan. slice_get run.0.run.jobs place.job >>= λ job. Some (job_seen place run.0 plan job)) at run.2 in
-    let job = bind-some (slice_get run.0.run.jobs place.job) (λ job. Some (job_seen place run.0 plan.0 job)) at plan.2 in
-    let same : job_seen place run.0 plan.0 job.0 ≡ at = same_some (job_seen place run.0 plan.0 job.0) at job.2 in
+    (λ run. slice_get run.plan.jobs place.job >>= λ plan. slice_get run.run.jobs place.job >>= λ job. Some (job_seen b place run plan job)) at h in
+    let plan = bind-some (slice_get run.0.plan.jobs place.job) (λ plan. slice_get run.0.run.jobs place.job >>= λ job. Some (job_seen b place run.0 plan job)) at run.2 in
+    let job = bind-some (slice_get run.0.run.jobs place.job) (λ job. Some (job_seen b place run.0 plan.0 job)) at plan.2 in
+    let same : job_seen b place run.0 plan.0 job.0 ≡ at = same_some (job_seen b place run.0 plan.0 job.0) at job.2 in
     let stands = run_stands p b place.run run.0 run.1 in
-    turned (job_seen place run.0 plan.0 job.0) same (record { place_is = refl; in_plan = stands.plan; in_board = stands.run; plan = plan.1; job = job.1 })
+    turned (job_seen b place run.0 plan.0 job.0) same (record { place_is = refl; in_plan = stands.plan; in_board = stands.run; plan = plan.1; job = job.1 })
   where
     turned : (x : JobAt) → x ≡ at → JobPlaced p b place x → JobPlaced p b place at
     turned x e = subst (JobPlaced p b place) e
@@ -74,20 +74,20 @@ pub record LegStands (p : Plan) (b : Board) (n : ℕ) (at : LegAt) : Type 0 wher
   pub job : slice_get at.run.jobs at.place.job ≡ Some at.job
   pub leg : slice_get at.job.legs at.place.leg ≡ Some at.leg
 
-abbrev leg_seen : LegPlace → JobAt → Leg → LegAt
-leg_seen place at leg = record { place = place; run_plan = at.run_plan; job_plan = at.plan; run = at.run; job = at.job; leg = leg }
+abbrev leg_seen : Board → LegPlace → JobAt → Leg → LegAt
+leg_seen b place at leg = record { board = b; place = place; run_plan = at.run_plan; job_plan = at.plan; run = at.run; job = at.job; leg = leg }
 
 abbrev job_of : LegPlace → JobPlace
 job_of place = record { run = place.run; job = place.job }
 
 pub leg_stands : (p : Plan) (b : Board) (n : ℕ) (at : LegAt) → leg_at p b n ≡ Some at → LegStands p b n at
 leg_stands p b n at h =
-    let place = bind-some (leg_place b n) (λ place. job_placed p b (job_of place) >>= λ job. slice_get job.job.legs place.leg >>= λ leg. Some (leg_seen place job leg)) at h in
-    let job = bind-some (job_placed p b (job_of place.0)) (λ job. slice_get job.job.legs place.0.leg >>= λ leg. Some (leg_seen place.0 job leg)) at place.2 in
-    let leg = bind-some (slice_get job.0.job.legs place.0.leg) (λ leg. Some (leg_seen place.0 job.0 leg)) at job.2 in
-    let same : leg_seen place.0 job.0 leg.0 ≡ at = same_some (leg_seen place.0 job.0 leg.0) at leg.2 in
+    let place = bind-some (leg_place b n) (λ place. job_placed p b (job_of place) >>= λ job. slice_get job.job.legs place.leg >>= λ leg. Some (leg_seen b place job leg)) at h in
+    let job = bind-some (job_placed p b (job_of place.0)) (λ job. slice_get job.job.legs place.0.leg >>= λ leg. Some (leg_seen b place.0 job leg)) at place.2 in
+    let leg = bind-some (slice_get job.0.job.legs place.0.leg) (λ leg. Some (leg_seen b place.0 job.0 leg)) at job.2 in
+    let same : leg_seen b place.0 job.0 leg.0 ≡ at = same_some (leg_seen b place.0 job.0 leg.0) at leg.2 in
     let there = placed p b (job_of place.0) job.0 job.1 in
-    turned (leg_seen place.0 job.0 leg.0) same
+    turned (leg_seen b place.0 job.0 leg.0) same
     (record { place = place.1; in_plan = there.in_plan; in_board = there.in_board; job_plan = there.plan; job = there.job; leg = leg.1 })
   where
     turned : (x : LegAt) → x ≡ at → LegStands p b n x → LegStands p b n at

@@ -1,10 +1,9 @@
 -- Each row keeps the shape of a board, and its ends.
-use Rattle.std.proofs.Common.{◌≡◌, ℕ, ◌+◌, ◌<◌, ◌≤◌, ◌==◌, ◌++◌, ◌&&◌, Bool, true, false, not, List, [], ◌∷◌, Option, Some, None, Result, Ok, Err, length, slice_get, count_by, cond, nat_le, nat_lt, if◌then◌else◌, inl, inr, ap, subst, sym, refl, ◌∙◌, arith}
+use Rattle.std.proofs.Common.{◌≡◌, ℕ, ◌+◌, ◌<◌, ◌≤◌, ◌==◌, ◌++◌, ◌&&◌, ◌||◌, Bool, true, false, not, List, [], ◌∷◌, Option, Some, None, Result, Ok, Err, length, slice_get, nat_le, nat_lt, if◌then◌else◌, inl, inr, ap, subst, sym, refl, ◌∙◌, arith}
 use Rattle.std.specs.List.{flat_map}
 use Rattle.std.proofs.lemmas.Bool.{cases_eq, le-leb, leb-true}
 use Rattle.std.proofs.lemmas.Bool.Decides.{nat_tests}
 use Rattle.std.proofs.lemmas.List.{length-append}
-use Rattle.std.proofs.lemmas.List.Sums.{sum_by-append}
 use Rattle.std.proofs.lemmas.Option.{slice_get_within}
 use Rattle.flow_model.specs.Numbers.{board_legs}
 use Rattle.flow_model.specs.declared.plan.Plan.{Plan}
@@ -23,25 +22,27 @@ use Rattle.flow_model.specs.declared.board.DoneStep.{DoneStep}
 use Rattle.flow_model.specs.declared.event.Answer.{Answer}
 use Rattle.flow_model.specs.declared.event.Event.{Event}
 use Rattle.flow_model.specs.declared.event.Event.TheVariants as event
+use Rattle.flow_model.specs.declared.event.Member.TheVariants as member
+use Rattle.flow_model.specs.declared.event.Outcome.{Outcome}
 use Rattle.flow_model.specs.declared.event.Outcome.TheVariants as outcome
-use Rattle.flow_model.specs.declared.reply.What.TheVariants as what
+use Rattle.flow_model.specs.declared.reply.ValueFault.{ValueFault}
+use Rattle.status_table.specs.declared.entrance.Entrance.{Entrance}
 use Rattle.status_table.specs.declared.fault.EventFault.{EventFault}
 use Rattle.status_table.specs.declared.fault.EventFault.TheVariants as fault
 use Rattle.status_table.specs.declared.place.JobPlace.{JobPlace}
 use Rattle.status_table.specs.Change.{changed, with_leg}
-use Rattle.status_table.specs.Derived.{is_ended, is_going, is_open, is_fresh, is_full, is_stopping, jobs_have_ended, run_result, leg_result}
-use Rattle.status_table.specs.Ends.{times_ended, EndOnce}
+use Rattle.status_table.specs.Derived.{is_ended, is_going, is_closed, is_open, is_fresh, is_untaken, is_full, jobs_have_ended, run_result}
+use Rattle.status_table.specs.Decisions.{is_stopping, leg_result, leg_outputs, run_entrance, leg_entrance}
+use Rattle.status_table.specs.Ends.{times_ended}
+use Rattle.status_table.specs.Groups.{leg_standing, dropped, stopped, moved, leaves}
 use Rattle.status_table.specs.Place.{RunAt, JobAt, LegAt, run_at, job_at, leg_at}
-use Rattle.status_table.specs.Row.{Row, Beginning, calls, skips, faults, row, event_row, reply, run_state_set, job_state_set, leg_state_set, step_done, leg_ended, open_run, open_found, judge_job, judge_found, judgement, ask_found, leg_enters, take_leg, take_found, idle_owner, calling_owner, next_step, skipped_step, failed_step, begin_leg, begin_found, beginning_by, end_leg, end_found, ending_by, finish_leg, finish_found, finishing_by, ended_state, leg_outputs, close_run, close_found, close_waiting}
+use Rattle.status_table.specs.Row.{Row, Beginning, calls, skips, faults, row, event_row, job_state_set, leg_state_set, step_done, leg_ended, run_enters, open_run, open_found, judge_job, judge_found, judgement, may_ask, ask_found, leg_enters, may_drop, drop_found, take_leg, take_found, idle_owner, calling_owner, next_step, skipped_step, failed_step, begin_leg, begin_found, beginning_by, end_leg, end_found, ending_by, finish_leg, finish_found, finishing_by, ended_state, run_closes, close_run, close_found, close_waiting, cancel_found}
 use Rattle.status_table.specs.Shape.{open_calls, steps_begun, has_room, JobShape, RunShape, HasShape}
 use Rattle.status_table.proofs.Found.{LegStands, leg_stands, leg_item}
 use Rattle.status_table.proofs.Lists.{same_some, no_some, and-right, changed-there, changed-elsewhere, length-changed, flat_map-kept, flat_map-twice, zip-changed, all-changed, all-get}
-use Rattle.status_table.proofs.Numbers.{board_legs-changed}
-
--- a board that has its plan's shape, and whose ends are the legs that are Ended
-pub record Fits (p : Plan) (b : Board) : Type 0 where
-  pub shape : HasShape p b
-  pub ends : EndOnce b
+use Rattle.status_table.proofs.Numbers.{board_legs-changed, numbered_leg-changed}
+use Rattle.status_table.proofs.Standings.{Unended}
+use Rattle.status_table.proofs.Turns.{Fits, same_legs, ends_pushed, close_fits, drop_fits, stop_fits, enter_fits, run_leaves, leg_leaves}
 
 -- a row that is accepted keeps that
 abbrev pub Keeps : Plan → Board → Row → Type 0
@@ -53,16 +54,6 @@ keeps_if p b true r s first second = first refl
 keeps_if p b false r s first second = second refl
 
 -- ---- changes that leave the legs
-
--- where the legs are the same, so is how often each ended
-same_legs : (b c : Board) → board_legs c ≡ board_legs b → c.ends ≡ b.ends → EndOnce b → EndOnce c
-same_legs b c legs ends h l = ap (count_by (λ end. end == l)) ends ∙ h l ∙ ap (λ xs. times_ended (slice_get xs l)) (sym legs)
-
-run_kept : (p : Plan) (b : Board) (r : ℕ) (state : RunState) → Fits p b → Fits p (run_state_set b r state)
-run_kept p b r state h = record {
-  shape = zip-changed RunShape p.runs b.runs r (λ run. record run { state = state }) (λ q run _ _ fit. fit) h.shape;
-  ends = same_legs b (run_state_set b r state) (ap (flat_map (λ job. job.legs)) (flat_map-kept (λ run. run.jobs) b.runs r (λ run. record run { state = state }) (λ run. refl))) refl h.ends;
-}
 
 abbrev in_run : ℕ → (Job → Job) → Run → Run
 in_run j f run = record run { jobs = changed run.jobs j f }
@@ -126,24 +117,17 @@ leg_kept p b l at f stands before now room h = record {
       | inr n ↦ ap times_ended (changed-elsewhere (board_legs b) l f k n)
     ]
 
-count-push : (xs : List ℕ) (l k : ℕ) → count_by (λ end. end == k) (xs ++ l ∷ []) ≡ count_by (λ end. end == k) xs + cond (l == k) 1 0
-count-push xs l k = let e = sum_by-append (λ x. cond (x == k) 1 0) xs (l ∷ []) in omega (arith, e)
-
 room_kept : (plan : JobPlan) (leg new : Leg) → steps_begun new ≤ steps_begun leg → has_room plan leg ≡ true → has_room plan new ≡ true
 room_kept plan leg new less had = grind (arith, nat_tests, less, had)
 
 -- a leg that had not ended, and has now, last of all
 leg_done : (p : Plan) (b : Board) (l : ℕ) (at : LegAt) (state : LegState) (outputs : List (List ℕ × List ℕ)) → LegStands p b l at → is_ended at.leg.state ≡ false
-    → is_ended state ≡ true → open_calls state ≡ 0 → Fits p b → Fits p (leg_ended b at.place l state outputs)
-leg_done p b l at state outputs stands before now quiet h = record {
-  shape = leg_shape p b l at f stands (room_kept at.job_plan at.leg (f at.leg) (omega (arith, quiet))) h.shape;
-  ends = λ k.
-      let pushed = count-push b.ends l k in
-      let had = h.ends k in
-      let legs = ap (λ xs. times_ended (slice_get xs k)) (board_legs-changed b l at.place f stands.place) in
-      let more = once k in
-      omega (arith, pushed, had, legs, more);
-}
+    → is_ended state ≡ true → open_calls state ≡ 0 → Fits p b → Fits p (leaves b (leg_standing at.leg) (leg_ended b at.place l state outputs)).0
+leg_done p b l at state outputs stands before now quiet h =
+    leg_leaves p b (leg_ended b at.place l state outputs) l at.leg f item (board_legs-changed b l at.place f stands.place) (record {
+      shape = leg_shape p b l at f stands (room_kept at.job_plan at.leg (f at.leg) (omega (arith, quiet))) h.shape;
+      ends = ends_pushed b (leg_ended b at.place l state outputs) l f at.leg refl (board_legs-changed b l at.place f stands.place) item before now h.ends;
+    })
   where
     f : Leg → Leg
     f leg = record leg { state = state; outputs = outputs }
@@ -151,31 +135,18 @@ leg_done p b l at state outputs stands before now quiet h = record {
     item : slice_get (board_legs b) l ≡ Some at.leg
     item = leg_item p b l at stands
 
-    once : (k : ℕ) → times_ended (slice_get (changed (board_legs b) l f) k) ≡ times_ended (slice_get (board_legs b) k) + cond (l == k) 1 0
-    once k = elim (cases_eq k l) as (λ _. times_ended (slice_get (changed (board_legs b) l f) k) ≡ times_ended (slice_get (board_legs b) k) + cond (l == k) 1 0) [
-      | inl e ↦
-          let new : times_ended (slice_get (changed (board_legs b) l f) k) ≡ 1 =
-          ap (λ i. times_ended (slice_get (changed (board_legs b) l f) i)) e
-          ∙ ap times_ended (changed-there (board_legs b) l f at.leg item)
-          ∙ ap (λ c. if c then 1 else 0) now in
-          let old : times_ended (slice_get (board_legs b) k) ≡ 0 =
-          ap (λ i. times_ended (slice_get (board_legs b) i)) e ∙ ap times_ended item ∙ times_unended at.leg before in
-          let one : ◌≡◌ {A = ℕ} (cond (l == k) 1 0) 1 = grind (arith, nat_tests, e) in
-          omega (arith, new, old, one)
-      | inr n ↦
-          let same = ap times_ended (changed-elsewhere (board_legs b) l f k n) in
-          let none : ◌≡◌ {A = ℕ} (cond (l == k) 1 0) 0 = grind (arith, nat_tests, n) in
-          omega (arith, same, none)
-    ]
-
 -- ---- the events of runs and jobs
 
 open_keeps : (p : Plan) (b : Board) (r : ℕ) (at : Option RunAt) → Keeps p b (open_found b r at)
 open_keeps p b r None = tt
 open_keeps p b r (Some at) = by_state at.run.state at.run.stop
   where
-    by_state : (state : RunState) (stop : Bool) → Keeps p b (open_run b r state stop)
-    by_state run_state.New false = run_kept p b r run_state.Going
+    entered : (group : Result (Option Entrance) ValueFault) → Keeps p b (run_enters b r group)
+    entered (Ok group) = enter_fits p b (member.Run r) None group tt
+    entered (Err f) = close_fits p b r outcome.Failure
+
+    by_state : (state : RunState) (stop : Bool) → Keeps p b (open_run b r at state stop)
+    by_state run_state.New false = entered (run_entrance at)
     by_state run_state.New true = tt
     by_state run_state.Waiting stop = tt
     by_state run_state.Going stop = tt
@@ -191,19 +162,28 @@ judge_keeps p b j (Some at) = by_judgement (judgement j at)
 
 close_keeps : (p : Plan) (b : Board) (r : ℕ) (at : Option RunAt) → Keeps p b (close_found b r at)
 close_keeps p b r None = tt
-close_keeps p b r (Some at) = by_state at.run.state at.run.stop
+close_keeps p b r (Some at) = by_state at.run.state
   where
-    waiting : (stop : Bool) → Keeps p b (close_waiting b r stop)
-    waiting true = run_kept p b r (run_state.Closed outcome.Cancelled)
+    closes : (result : Outcome) → Keeps p b (run_closes b r at.run result)
+    closes result = run_leaves p b r at.run result
+
+    waiting : (stop : Bool) → Keeps p b (close_waiting b r at.run stop)
+    waiting true = closes outcome.Cancelled
     waiting false = tt
 
-    by_state : (state : RunState) (stop : Bool) → Keeps p b (close_run b r at.run state)
-    by_state run_state.New stop = waiting at.run.stop
-    by_state run_state.Waiting stop = waiting at.run.stop
-    by_state run_state.Going stop =
-        keeps_if p b (jobs_have_ended at.run) (Ok (run_state_set b r (run_state.Closed (run_result at.run)), reply what.Moved None)) (Err fault.NeedsOpen)
-        (λ _. run_kept p b r (run_state.Closed (run_result at.run))) (λ _. tt)
-    by_state (run_state.Closed result) stop = tt
+    by_state : (state : RunState) → Keeps p b (close_run b r at.run state)
+    by_state run_state.New = waiting at.run.stop
+    by_state run_state.Waiting = waiting at.run.stop
+    by_state run_state.Going =
+        keeps_if p b (jobs_have_ended at.run) (run_closes b r at.run (run_result at.run)) (Err fault.NeedsOpen)
+        (λ _. closes (run_result at.run)) (λ _. tt)
+    by_state (run_state.Closed result) = tt
+
+cancel_keeps : (p : Plan) (b : Board) (r : ℕ) (at : Option RunAt) → Keeps p b (cancel_found b r at)
+cancel_keeps p b r None = tt
+cancel_keeps p b r (Some at) =
+    keeps_if p b (is_closed at.run.state || at.run.stop) (Err fault.WrongState) (Ok (stopped b true (member.Run r), moved)) (λ _. tt)
+    (λ _. stop_fits p b true (member.Run r))
 
 -- ---- the events of legs
 
@@ -224,21 +204,50 @@ not_not : (c : Bool) → not c ≡ false → c ≡ true
 not_not true h = refl
 not_not false h = sym h
 
+-- a leg that was found, and has not ended
+found_unended : (p : Plan) (b : Board) (l : ℕ) (at : LegAt) → leg_at p b l ≡ Some at → is_ended at.leg.state ≡ false → Unended b (member.Leg l)
+found_unended p b l at is before = (at.leg, leg_item p b l at (leg_stands p b l at is), before)
+
 ask_keeps : (p : Plan) (b : Board) (l : ℕ) (at : Option LegAt) → leg_at p b l ≡ at → Keeps p b (ask_found b l at)
 ask_keeps p b l None is = tt
 ask_keeps p b l (Some at) is =
-    keeps_if p b (not (is_going at.run.state && is_open at.job.state && is_fresh at.leg.state)) (Err fault.WrongState) unstarted (λ _. tt) (λ ready.
-    let fresh = and-right (is_going at.run.state && is_open at.job.state) (is_fresh at.leg.state)
-    (not_not (is_going at.run.state && is_open at.job.state && is_fresh at.leg.state) ready) in
+    keeps_if p b (not (may_ask at)) (Err fault.WrongState) unstarted (λ _. tt) (λ ready.
+    let fresh = and-right (is_going at.run.state && is_open at.job.state) (is_fresh at.leg.state) (not_not (may_ask at) ready) in
     keeps_if p b (is_full at.job_plan at.job) (Err fault.SlotsFull) unstopped (λ _. tt) (λ _.
-    keeps_if p b (is_stopping at) (Err fault.Stopping) (leg_enters b at l) (λ _. tt) (λ _.
-    quiet_kept p b l at leg_state.Admitted (leg_stands p b l at is) (fresh_unended at.leg.state fresh) refl refl)))
+    keeps_if p b (is_stopping at) (Err fault.Stopping) (leg_enters b l at (leg_entrance at)) (λ _. tt) (λ _.
+    entered (leg_entrance at) (found_unended p b l at is (fresh_unended at.leg.state fresh)))))
   where
     unstopped : Row
-    unstopped = if is_stopping at then Err fault.Stopping else leg_enters b at l
+    unstopped = if is_stopping at then Err fault.Stopping else leg_enters b l at (leg_entrance at)
 
     unstarted : Row
     unstarted = if is_full at.job_plan at.job then Err fault.SlotsFull else unstopped
+
+    entered : (group : Result (Option Entrance) ValueFault) → Unended b (member.Leg l) → Keeps p b (leg_enters b l at group)
+    entered (Ok group) before = enter_fits p b (member.Leg l) (Some at.place.run) group before
+    entered (Err f) before = drop_fits p b l outcome.Failure before
+
+untaken_unended : (s : LegState) → is_untaken s ≡ true → is_ended s ≡ false
+untaken_unended leg_state.Fresh h = refl
+untaken_unended leg_state.Waiting h = refl
+untaken_unended leg_state.Admitted h = refl
+untaken_unended (leg_state.Running worker in_call) h = refl
+untaken_unended (leg_state.Ended result tolerated) h = sym h
+
+drop_keeps : (p : Plan) (b : Board) (l : ℕ) (at : Option LegAt) → leg_at p b l ≡ at → Keeps p b (drop_found b l at)
+drop_keeps p b l None is = tt
+drop_keeps p b l (Some at) is =
+    keeps_if p b (not (may_drop at)) (Err fault.WrongState) unstarted (λ _. tt) (λ ready.
+    let untaken = and-right (is_going at.run.state && is_open at.job.state) (is_untaken at.leg.state) (not_not (may_drop at) ready) in
+    let before = found_unended p b l at is (untaken_unended at.leg.state untaken) in
+    keeps_if p b (is_stopping at) (Ok (leaves b (leg_standing at.leg) (dropped b l outcome.Cancelled))) (Err fault.NotStopping) (λ _ h.
+    leg_leaves p b (dropped b l outcome.Cancelled) l at.leg (λ leg. record leg { state = leg_state.Ended outcome.Cancelled false })
+    (leg_item p b l at (leg_stands p b l at is))
+    (numbered_leg-changed b l (λ leg. record leg { state = leg_state.Ended outcome.Cancelled false }))
+    (drop_fits p b l outcome.Cancelled before h)) (λ _. tt))
+  where
+    unstarted : Row
+    unstarted = if is_stopping at then Ok (leaves b (leg_standing at.leg) (dropped b l outcome.Cancelled)) else Err fault.NotStopping
 
 take_keeps : (p : Plan) (b : Board) (worker l : ℕ) (at : Option LegAt) → leg_at p b l ≡ at → Keeps p b (take_found b worker at)
 take_keeps p b worker l None is = tt
@@ -248,7 +257,7 @@ take_keeps p b worker l (Some at) is = by_state at.leg.state refl
     by_state leg_state.Fresh was = tt
     by_state leg_state.Waiting was = tt
     by_state leg_state.Admitted was =
-        keeps_if p b (is_stopping at) (Err fault.Stopping) (Ok (leg_state_set b at.place (leg_state.Running worker false), reply what.Moved None)) (λ _. tt)
+        keeps_if p b (is_stopping at) (Err fault.Stopping) (Ok (leg_state_set b at.place (leg_state.Running worker false), moved)) (λ _. tt)
         (λ _. quiet_kept p b l at (leg_state.Running worker false) (leg_stands p b l at is) (ap is_ended was) refl refl)
     by_state (leg_state.Running other in_call) was = tt
     by_state (leg_state.Ended result tolerated) was = tt
@@ -341,11 +350,13 @@ pub event_keeps : (p : Plan) (b : Board) (worker : ℕ) (e : Event) → Keeps p 
 event_keeps p b worker (event.Open r) = open_keeps p b r (run_at p b r)
 event_keeps p b worker (event.Judge j) = judge_keeps p b j (job_at p b j)
 event_keeps p b worker (event.Ask l) = ask_keeps p b l (leg_at p b l) refl
+event_keeps p b worker (event.Drop l) = drop_keeps p b l (leg_at p b l) refl
 event_keeps p b worker (event.Take l) = take_keeps p b worker l (leg_at p b l) refl
 event_keeps p b worker (event.Begin l) = begin_keeps p b worker l (leg_at p b l) refl
 event_keeps p b worker (event.End l a) = end_keeps p b worker l a (leg_at p b l) refl
 event_keeps p b worker (event.Finish l) = finish_keeps p b worker l (leg_at p b l) refl
 event_keeps p b worker (event.Close r) = close_keeps p b r (run_at p b r)
+event_keeps p b worker (event.Cancel r) = cancel_keeps p b r (run_at p b r)
 
 -- the same for each row
 pub row_keeps : (p : Plan) (b : Board) (worker : ℕ) (e : Event) → Keeps p b (row p b worker e)

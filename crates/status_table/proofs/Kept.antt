@@ -1,11 +1,15 @@
--- Putting an item back where it was changes nothing.
-use Rattle.std.proofs.Common.{◌≡◌, ℕ, List, Some, Result, Ok, Err, OnErr, slice_get, slice_set, ap, sym, ◌∙◌}
+-- Changes that come to the same: an item that is put back, and a leg that is displaced in two steps.
+use Rattle.std.proofs.Common.{◌≡◌, ℕ, List, Option, Some, None, Result, Ok, Err, OnErr, slice_get, slice_set, ap, sym, refl, ◌∙◌}
 use Rattle.std.proofs.lemmas.List.{set-get_or}
 use Rattle.std.proofs.lemmas.Option.{get_or_from_slice_get}
 use Rattle.flow_model.specs.declared.board.Board.{Board}
 use Rattle.flow_model.specs.declared.board.Run.{Run}
 use Rattle.flow_model.specs.declared.board.Job.{Job}
 use Rattle.flow_model.specs.declared.board.Leg.{Leg}
+use Rattle.flow_model.specs.declared.event.Member.{Member}
+use Rattle.flow_model.specs.declared.event.Member.TheVariants as member
+use Rattle.status_table.specs.Groups.{waits, displaced}
+use Rattle.status_table.specs.Seen.{noted, put_out}
 use Rattle.status_table.specs.declared.place.LegPlace.{LegPlace}
 
 pub slice_set-slice_get : {T : Type 0} (xs : List T) (i : ℕ) (x : T) → slice_get xs i ≡ Some x → slice_set xs i x ≡ xs
@@ -25,3 +29,10 @@ leg_kept b at run job leg put in_runs in_jobs in_legs same =
     ap (λ (ls : List Leg). slice_set run.jobs at.job (record job { legs = ls })) legs ∙ slice_set-slice_get run.jobs at.job job in_jobs in
     ap (λ (js : List Job). record b { runs = slice_set b.runs at.run (record run { jobs = js }) }) jobs
     ∙ ap (λ (rs : List Run). record b { runs = rs }) (slice_set-slice_get b.runs at.run run in_runs)
+
+-- To note first that a leg ended, and to put it out after another began to wait, is to displace it.
+pub put_out_noted : (b : Board) (name : List ℕ) (who : Member) (waited : Option Member) → put_out (waits (noted b waited) name who) waited ≡ displaced (waits b name who) waited
+put_out_noted b name who None = refl
+put_out_noted b name who (Some (member.Run r)) = refl
+put_out_noted b name (member.Run s) (Some (member.Leg l)) = refl
+put_out_noted b name (member.Leg k) (Some (member.Leg l)) = refl

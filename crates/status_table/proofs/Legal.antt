@@ -9,17 +9,15 @@ use Rattle.flow_model.specs.Plain.{Plain}
 use Rattle.flow_model.specs.declared.plan.Plan.{Plan}
 use Rattle.flow_model.specs.declared.board.Board.{Board}
 use Rattle.flow_model.specs.declared.event.Entry.{Entry}
-use Rattle.flow_model.specs.declared.event.Event.{Event}
 use Rattle.flow_model.specs.declared.reply.Reply.{Reply}
 use Rattle.status_table.specs.declared.fault.EventFault.{EventFault}
 use Rattle.status_table.specs.Answers.{Answers}
-use Rattle.flow_model.specs.Offered.{IsOffered}
 use Rattle.status_table.specs.Ends.{times_ended}
-use Rattle.status_table.specs.InPlay.{InPlay}
-use Rattle.status_table.specs.Row.{Row, row, event_row}
+use Rattle.status_table.specs.Row.{Row, row}
 use Rattle.status_table.specs.Runs.{new_leg, new_job, new_run, new_board, then_after, after_from, after}
 use Rattle.status_table.specs.Shape.{has_room, JobShape, RunShape}
-use Rattle.status_table.proofs.Keeps.{Fits, Keeps, event_keeps, row_keeps}
+use Rattle.status_table.proofs.Keeps.{Keeps, row_keeps}
+use Rattle.status_table.proofs.Turns.{Fits}
 use Rattle.status_table.proofs.Lists.{same_some, no_some, flat_map-map, zip-map, all-map}
 
 -- ---- the board on which all is new
@@ -44,7 +42,7 @@ new_fits p = record {
 
 -- ---- an answer, and a list of entries
 
-answer_fits : (p : Plan) (b c : Board) (r : Row) (result : Result Reply EventFault) → Keeps p b r → Fits p b → Answers r b result c → Fits p c
+pub answer_fits : (p : Plan) (b c : Board) (r : Row) (result : Result Reply EventFault) → Keeps p b r → Fits p b → Answers r b result c → Fits p c
 answer_fits p b c r (Ok reply) keeps fits h = subst (Keeps p b) h keeps fits
 answer_fits p b c r (Err f) keeps fits h = subst (Fits p) (sym h.1) fits
 
@@ -58,18 +56,3 @@ after_from_fits p b c (e ∷ es) fits h = step (λ d fit k. after_from_fits p d 
 
 pub after_fits : (p : Plan) (es : List Entry) (b : Board) → after p es ≡ Some b → Fits p b
 after_fits p es b h = after_from_fits p (new_board p) b es (new_fits p) h
-
--- ---- plans in play
-
-pub new_in_play : (p q : Plan) (b : Board) → q ≡ p → IsOffered q → b ≡ new_board q → InPlay p b
-new_in_play p q b same offered is =
-    let fits = subst (Fits q) (sym is) (new_fits q) in
-    let sound : InPlay q b = record { offered = offered; shape = fits.shape; ends = fits.ends } in
-    subst (λ (x : Plan). InPlay x b) same sound
-
-pub answer_in_play : (p q : Plan) (b c : Board) (worker : ℕ) (e : Event) (result : Result Reply EventFault) → q ≡ p → InPlay p b
-    → Answers (event_row q b worker e) b result c → InPlay p c
-answer_in_play p q b c worker e result same h answers =
-    let here = subst (λ (x : Plan). Answers (event_row x b worker e) b result c) same answers in
-    let fits = answer_fits p b c (event_row p b worker e) result (event_keeps p b worker e) (record { shape = h.shape; ends = h.ends }) here in
-    record { offered = h.offered; shape = fits.shape; ends = fits.ends }

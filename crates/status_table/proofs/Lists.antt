@@ -68,6 +68,20 @@ get-right (x ∷ xs) ys (suc n) h =
     let e : suc n - suc (length xs) ≡ n - length xs = omega arith in
     rw e (get-right xs ys n (omega (arith, h)))
 
+pub changed-past : {T : Type 0} (xs : List T) (i : ℕ) (f : T → T) → length xs ≤ i → changed xs i f ≡ xs
+changed-past [] i f h = refl
+changed-past (x ∷ xs) zero f h = absurd (omega (arith, h))
+changed-past (x ∷ xs) (suc i) f h = changed-cons x xs i f ∙ ap (λ zs. x ∷ zs) (changed-past xs i f (omega (arith, h)))
+
+-- what is made of an item stays where the change keeps it
+pub changed-same : {T A : Type 0} (w : Option T → A) (xs : List T) (i : ℕ) (f : T → T) → ((x : T) → slice_get xs i ≡ Some x → w (Some (f x)) ≡ w (Some x))
+    → (k : ℕ) → w (slice_get (changed xs i f) k) ≡ w (slice_get xs k)
+changed-same w [] i f step k = refl
+changed-same w (y ∷ ys) zero f step zero = step y refl
+changed-same w (y ∷ ys) zero f step (suc k) = refl
+changed-same w (y ∷ ys) (suc i) f step zero = ap (λ zs. w (slice_get zs 0)) (changed-cons y ys i f)
+changed-same w (y ∷ ys) (suc i) f step (suc k) = ap (λ zs. w (slice_get zs (suc k))) (changed-cons y ys i f) ∙ changed-same w ys i f step k
+
 -- ---- lists made of others
 
 -- a list made of others keeps where an item is changed to one of which the same is made
@@ -144,6 +158,14 @@ all-changed t (y ∷ ys) zero f x at step h =
 all-changed t (y ∷ ys) (suc i) f x at step h =
     ap (list_all t) (changed-cons y ys i f)
     ∙ and-both (t y) (list_all t (changed ys i f)) (and-left (t y) (list_all t ys) h) (all-changed t ys i f x at step (and-right (t y) (list_all t ys) h))
+
+pub all-each : {A : Type 0} (t : A → Bool) (xs : List A) (i : ℕ) (f : A → A) → ((x : A) → t x ≡ true → t (f x) ≡ true) → list_all t xs ≡ true
+    → list_all t (changed xs i f) ≡ true
+all-each t [] i f step h = h
+all-each t (y ∷ ys) zero f step h = and-both (t (f y)) (list_all t ys) (step y (and-left (t y) (list_all t ys) h)) (and-right (t y) (list_all t ys) h)
+all-each t (y ∷ ys) (suc i) f step h =
+    ap (list_all t) (changed-cons y ys i f)
+    ∙ and-both (t y) (list_all t (changed ys i f)) (and-left (t y) (list_all t ys) h) (all-each t ys i f step (and-right (t y) (list_all t ys) h))
 
 pub all-get : {A : Type 0} (t : A → Bool) (xs : List A) (i : ℕ) (x : A) → slice_get xs i ≡ Some x → list_all t xs ≡ true → t x ≡ true
 all-get t [] i x at h = absurd (no_some x at)

@@ -9,12 +9,12 @@ use Rattle.flow_model.specs.declared.board.Board.{Board}
 use Rattle.flow_model.specs.declared.board.Run.{Run}
 use Rattle.flow_model.specs.declared.board.Job.{Job}
 use Rattle.flow_model.specs.declared.board.Leg.{Leg}
-use Rattle.status_table.specs.Change.{changed, with_leg}
+use Rattle.status_table.specs.Change.{changed, with_leg, leg_changed, with_numbered_leg}
 use Rattle.status_table.specs.Numbered.{job_there, leg_there, JobsAreNumbered, LegsAreNumbered}
 use Rattle.status_table.specs.Place.{◌>>=◌, job_place, job_place_from, leg_in_jobs, leg_place, leg_place_from, else_from}
 use Rattle.status_table.specs.declared.place.JobPlace.{JobPlace}
 use Rattle.status_table.specs.declared.place.LegPlace.{LegPlace}
-use Rattle.status_table.proofs.Lists.{changed-cons, changed-left, changed-right, get-left, get-right, flat_map-twice}
+use Rattle.status_table.proofs.Lists.{changed-cons, changed-left, changed-right, changed-past, get-left, get-right, flat_map-twice}
 
 -- ---- jobs
 
@@ -215,3 +215,14 @@ board_legs-changed b l at f is =
     board_legs-by_runs (with_leg b at f)
     ∙ changed_at b l at (subst (LegInRuns 0 b.runs l) is (leg_in_runs 0 b.runs l)) f
     ∙ ap (λ legs. changed legs l f) (sym (board_legs-by_runs b))
+
+-- to change the leg with a number is to change that item of all legs
+pub numbered_leg-changed : (b : Board) (l : ℕ) (f : Leg → Leg) → board_legs (with_numbered_leg b l f) ≡ changed (board_legs b) l f
+numbered_leg-changed b l f = by_place (leg_place b l) refl
+  where
+    by_place : (found : Option LegPlace) → leg_place b l ≡ found → board_legs (record b { runs = leg_changed b.runs found f }) ≡ changed (board_legs b) l f
+    by_place (Some at) is = board_legs-changed b l at f is
+    by_place None is =
+        let none = ap is_some (sym is) ∙ (legs_are_numbered b).placed l in
+        let past : length (board_legs b) ≤ l = grind (arith, nat_tests, none) in
+        sym (changed-past (board_legs b) l f past)

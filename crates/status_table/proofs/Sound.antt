@@ -9,8 +9,7 @@ use Rattle.std.proofs.lemmas.List.{length-append}
 use Rattle.std.proofs.lemmas.Option.{slice_get_within}
 use Rattle.flow_model.specs.Found.{Path, rule, or_else, under, each_pair, if_there}
 use Rattle.flow_model.specs.Name.{is_id}
-use Rattle.flow_model.specs.Offered.{IsOffered, plan_offer}
-use Rattle.flow_model.specs.Rules.{all_there, is_condition, is_variable, group_rules, legs_rules, is_job_output, steps_rules, is_flag, are_distinct, job_ids, roots_rules, legs_of_runs, ascend_between, job_rules, jobs_rules, run_rules, runs_rules, plan_rules}
+use Rattle.flow_model.specs.Rules.{all_there, is_condition, is_variable, group_rules, legs_rules, is_job_output, steps_rules, is_flag, are_distinct, job_ids, roots_rules, legs_of_runs, ascend_between, job_rules, jobs_rules, run_rules, runs_rules, IsPlan}
 use Rattle.flow_model.specs.declared.plan.Plan.{Plan}
 use Rattle.flow_model.specs.declared.plan.RunPlan.{RunPlan}
 use Rattle.flow_model.specs.declared.plan.JobPlan.{JobPlan}
@@ -142,10 +141,9 @@ before_same p b j at shape is =
     omega (arith, before, number)
 
 -- the rules of the jobs beside one
-rules_beside : (p : Plan) (b : Board) (j : ℕ) (at : JobAt) → IsOffered p → job_at p b j ≡ Some at
+rules_beside : (p : Plan) (b : Board) (j : ℕ) (at : JobAt) → IsPlan p → job_at p b j ≡ Some at
     → (k : ℕ) (job : JobPlan) → slice_get at.run_plan.jobs k ≡ Some job → job_rules (planned_before at.place.run p.runs) (planned_before at.place.run p.runs + k) job ≡ None
-rules_beside p b j at offered is k job there =
-    let rules = first-none (plan_rules p) (plan_offer p) offered in
+rules_beside p b j at rules is k job there =
     let some_runs = rule (codes "runs") (nat_le 1 (length p.runs) && nat_le (length p.runs) 64) in
     let few_legs = rule (codes "runs") (nat_le (legs_of_runs p.runs) 4096) in
     let of_runs = under (codes "runs") (runs_rules 0 0 p.runs) in
@@ -158,20 +156,20 @@ rules_beside p b j at offered is k job there =
     (each_job (0 + planned_before at.place.run p.runs) 0 at.run_plan.jobs of_run k job there))
 
 -- in a plan that was accepted, the needs of the jobs beside one point backwards
-needs_point_back : (p : Plan) (b : Board) (j : ℕ) (at : JobAt) → IsOffered p → HasShape p b → job_at p b j ≡ Some at
+needs_point_back : (p : Plan) (b : Board) (j : ℕ) (at : JobAt) → IsPlan p → HasShape p b → job_at p b j ≡ Some at
     → NeedsPointBack (first_of j at) at.run_plan.jobs
-needs_point_back p b j at offered shape is =
+needs_point_back p b j at rules shape is =
     let number = before_same p b j at shape is in
     let same : planned_before at.place.run p.runs ≡ j - at.place.job = omega (arith, number) in
     subst (λ first. NeedsPointBack first at.run_plan.jobs) same (λ k job there.
     between (planned_before at.place.run p.runs) (planned_before at.place.run p.runs) (planned_before at.place.run p.runs + k) job.needs (omega arith)
-    (needs_rule (planned_before at.place.run p.runs) (planned_before at.place.run p.runs + k) job (rules_beside p b j at offered is k job there)))
+    (needs_rule (planned_before at.place.run p.runs) (planned_before at.place.run p.runs + k) job (rules_beside p b j at rules is k job there)))
 
 job_within : (p : Plan) (b : Board) (j : ℕ) (at : JobAt) → job_at p b j ≡ Some at → at.place.job < length at.run_plan.jobs
 job_within p b j at is = slice_get_within at.run_plan.jobs at.place.job at.plan (job_stands p b j at is).plan
 
 pub stands_after_needs : (p : Plan) (b : Board) (j : ℕ) (at : JobAt) → InPlay p b → job_at p b j ≡ Some at → StandsAfterNeeds (first_of j at) at
-stands_after_needs p b j at in_play is = record { back = needs_point_back p b j at in_play.offered in_play.shape is; within = job_within p b j at is }
+stands_after_needs p b j at in_play is = record { back = needs_point_back p b j at in_play.rules in_play.shape is; within = job_within p b j at is }
 
 -- ---- numbers
 
@@ -196,7 +194,7 @@ is_numbered_in p b j at in_play is =
     record {
       item = ap (slice_get (plan_jobs p)) number ∙ planned_item p.runs at.place.run at.run_plan at.place.job stands.in_plan (job_within p b j at is) ∙ stands.plan;
       number = number_rule (planned_before at.place.run p.runs) (planned_before at.place.run p.runs + at.place.job) at.plan
-          (rules_beside p b j at in_play.offered is at.place.job at.plan stands.plan) ∙ sym number;
+          (rules_beside p b j at in_play.rules is at.place.job at.plan stands.plan) ∙ sym number;
     }
 
 jobs_beside : (plans : List RunPlan) (runs : List Run) → AllZip RunShape plans runs

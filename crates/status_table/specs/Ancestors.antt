@@ -5,8 +5,8 @@ use Rattle.flow_model.specs.declared.plan.JobPlan.{JobPlan}
 use Rattle.flow_model.specs.declared.event.Outcome.{Outcome}
 use Rattle.status_table.specs.declared.ancestors.Wanted.{Wanted}
 use Rattle.status_table.specs.declared.ancestors.Wanted.TheVariants as wanted
-use Rattle.status_table.specs.declared.status.Status.{Status}
-use Rattle.status_table.specs.declared.status.Status.TheVariants as status
+use Rattle.expr_value.specs.declared.status.Status.{Status}
+use Rattle.expr_value.specs.declared.status.Status.TheVariants as status
 use Rattle.status_table.specs.Derived.{needs_at, holds_at, any_ancestor, is_success, is_failure, job_results}
 use Rattle.status_table.specs.Place.{JobAt}
 

@@ -1,9 +1,10 @@
--- One change of a board: at a run, at a job of a run, or at a leg of a job.
+-- One change of a board: at a run, at a job of a run, or at a leg of a job, by its place or its number.
 use Rattle.std.specs.Prelude.{ℕ, List, Option, Some, None, slice_get, slice_set}
 use Rattle.flow_model.specs.declared.board.Board.{Board}
 use Rattle.flow_model.specs.declared.board.Run.{Run}
 use Rattle.flow_model.specs.declared.board.Job.{Job}
 use Rattle.flow_model.specs.declared.board.Leg.{Leg}
+use Rattle.status_table.specs.Place.{leg_place}
 use Rattle.status_table.specs.declared.place.JobPlace.{JobPlace}
 use Rattle.status_table.specs.declared.place.LegPlace.{LegPlace}
 
@@ -27,3 +28,13 @@ with_job b at f = with_run b at.run (λ run. record run { jobs = changed run.job
 -- the board with a leg changed
 abbrev pub with_leg : Board → LegPlace → (Leg → Leg) → Board
 with_leg b at f = with_run b at.run (λ run. record run { jobs = changed run.jobs at.job (λ job. record job { legs = changed job.legs at.leg f }) })
+
+-- the runs with the leg at a place changed, where a place was found
+abbrev pub leg_changed : List Run → Option LegPlace → (Leg → Leg) → List Run
+leg_changed runs None f = runs
+leg_changed runs (Some at) f =
+    changed runs at.run (λ run. record run { jobs = changed run.jobs at.job (λ job. record job { legs = changed job.legs at.leg f }) })
+
+-- the board with the leg of a number changed, where there is one
+abbrev pub with_numbered_leg : Board → ℕ → (Leg → Leg) → Board
+with_numbered_leg b l f = record b { runs = leg_changed b.runs (leg_place b l) f }

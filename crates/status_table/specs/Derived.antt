@@ -13,10 +13,9 @@ use Rattle.flow_model.specs.declared.board.LegState.{LegState}
 use Rattle.flow_model.specs.declared.board.LegState.TheVariants as leg_state
 use Rattle.flow_model.specs.declared.event.Outcome.{Outcome}
 use Rattle.flow_model.specs.declared.event.Outcome.TheVariants as outcome
-use Rattle.status_table.specs.declared.status.Status.{Status}
-use Rattle.status_table.specs.declared.status.Status.TheVariants as status
-use Rattle.status_table.specs.Conditions.{condition_value, is_true}
-use Rattle.status_table.specs.Place.{JobAt, LegAt}
+use Rattle.expr_value.specs.declared.status.Status.{Status}
+use Rattle.expr_value.specs.declared.status.Status.TheVariants as status
+use Rattle.status_table.specs.Place.{JobAt}
 
 -- ---- states
 
@@ -54,7 +53,15 @@ is_fresh leg_state.Admitted = false
 is_fresh (leg_state.Running worker in_call) = false
 is_fresh (leg_state.Ended result tolerated) = false
 
--- a leg that ended by itself
+-- a leg that no worker took, and that has not ended
+abbrev pub is_untaken : LegState → Bool
+is_untaken leg_state.Fresh = true
+is_untaken leg_state.Waiting = true
+is_untaken leg_state.Admitted = true
+is_untaken (leg_state.Running worker in_call) = false
+is_untaken (leg_state.Ended result tolerated) = false
+
+-- a leg that is Ended
 abbrev pub is_ended : LegState → Bool
 is_ended leg_state.Fresh = false
 is_ended leg_state.Waiting = false
@@ -62,7 +69,7 @@ is_ended leg_state.Admitted = false
 is_ended (leg_state.Running worker in_call) = false
 is_ended (leg_state.Ended result tolerated) = true
 
--- waiting, admitted or running: it takes one of the places that `max_parallel` gives its job
+-- waiting, admitted or running: it takes one of the slots that `max_parallel` gives its job
 abbrev pub is_under_way : LegState → Bool
 is_under_way leg_state.Fresh = false
 is_under_way leg_state.Waiting = true
@@ -214,30 +221,6 @@ ancestors_status first jobs results k =
 abbrev pub job_status : ℕ → JobAt → Status
 job_status first at =
     if at.run.stop then status.Cancelled else ancestors_status first at.run_plan.jobs (job_results at.run) at.place.job
-
--- A leg is to stop where it was told to; or where its job fails fast and a leg of it has failed; or where its
--- run was told to and the job's condition does not give true as that of a cancelled one.
-abbrev pub is_stopping : LegAt → Bool
-is_stopping at =
-    at.leg.stop || (at.job_plan.fail_fast && list_any (λ leg. has_failed leg.state) at.job.legs)
-    || (at.run.stop && not (is_true (condition_value status.Cancelled)))
-
--- how a leg counts so far: cancelled where it is to stop, else failure where a done step counts as one
-abbrev pub leg_result : LegAt → Outcome
-leg_result at =
-    if is_stopping at then outcome.Cancelled
-    else (if list_any (λ step. is_failure step.conclusion) at.leg.steps then outcome.Failure else outcome.Success)
-
--- a result as a status
-abbrev pub status_of : Outcome → Status
-status_of outcome.Success = status.Success
-status_of outcome.Failure = status.Failure
-status_of outcome.Cancelled = status.Cancelled
-status_of outcome.Skipped = status.Other
-
--- the status of a leg
-abbrev pub leg_status : LegAt → Status
-leg_status at = status_of (leg_result at)
 
 -- whether the job has as many legs under way as it may have at once
 abbrev pub is_full : JobPlan → Job → Bool

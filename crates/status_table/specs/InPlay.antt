@@ -1,12 +1,15 @@
 -- What is true of each plan in play.
-use Rattle.flow_model.specs.Offered.{IsOffered}
+use Rattle.flow_model.specs.Rules.{IsPlan}
 use Rattle.flow_model.specs.declared.plan.Plan.{Plan}
 use Rattle.flow_model.specs.declared.board.Board.{Board}
 use Rattle.status_table.specs.Ends.{EndOnce}
+use Rattle.status_table.specs.Lawful.{Lawful}
 use Rattle.status_table.specs.Shape.{HasShape}
 
--- the plan was accepted, the board has its shape, and its ends are the legs that are Ended, each once
+-- No rule of the plan is broken, the board has its shape, its ends are the legs that are Ended, each once, and it is as
+-- legal lists leave it.
 pub record InPlay (p : Plan) (b : Board) : Type 0 where
-  pub offered : IsOffered p
+  pub rules : IsPlan p
   pub shape : HasShape p b
   pub ends : EndOnce b
+  pub laws : Lawful p b

@@ -48,21 +48,24 @@ leg_place b n = leg_place_from 0 b.runs n
 
 -- ---- what stands there, with what was planned for it
 
--- a run in play
+-- a run in play on a board, with its plan
 pub record RunAt : Type 0 where
+  pub board : Board
   pub plan : RunPlan
   pub run : Run
 
--- a job in play, with its run
+-- a job in play on a board, with its run
 pub record JobAt : Type 0 where
+  pub board : Board
   pub place : JobPlace
   pub run_plan : RunPlan
   pub plan : JobPlan
   pub run : Run
   pub job : Job
 
--- a leg in play, with its job and run
+-- a leg in play on a board, with its job and run
 pub record LegAt : Type 0 where
+  pub board : Board
   pub place : LegPlace
   pub run_plan : RunPlan
   pub job_plan : JobPlan
@@ -75,7 +78,7 @@ abbrev pub run_at : Plan → Board → ℕ → Option RunAt
 run_at p b n = do
   plan ← slice_get p.runs n
   run ← slice_get b.runs n
-  Some (record { plan = plan; run = run })
+  Some (record { board = b; plan = plan; run = run })
 
 -- the job at a place
 abbrev pub job_placed : Plan → Board → JobPlace → Option JobAt
@@ -83,7 +86,7 @@ job_placed p b place = do
   run ← run_at p b place.run
   plan ← slice_get run.plan.jobs place.job
   job ← slice_get run.run.jobs place.job
-  Some (record { place = place; run_plan = run.plan; plan = plan; run = run.run; job = job })
+  Some (record { board = b; place = place; run_plan = run.plan; plan = plan; run = run.run; job = job })
 
 -- the job with a number
 abbrev pub job_at : Plan → Board → ℕ → Option JobAt
@@ -97,4 +100,4 @@ leg_at p b n = do
   place ← leg_place b n
   at ← job_placed p b (record { run = place.run; job = place.job })
   leg ← slice_get at.job.legs place.leg
-  Some (record { place = place; run_plan = at.run_plan; job_plan = at.plan; run = at.run; job = at.job; leg = leg })
+  Some (record { board = b; place = place; run_plan = at.run_plan; job_plan = at.plan; run = at.run; job = at.job; leg = leg })

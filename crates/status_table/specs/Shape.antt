@@ -1,6 +1,7 @@
 -- The shape that a plan gives its boards.
-use Rattle.std.specs.Prelude.{◌≡◌, ℕ, ◌+◌, Bool, true, false, length, nat_le}
+use Rattle.std.specs.Prelude.{◌≡◌, ◌≤◌, ℕ, ◌+◌, Bool, true, false, length, nat_le}
 use Rattle.std.specs.List.{list_all, AllZip}
+use Rattle.flow_model.specs.Numbers.{board_legs}
 use Rattle.flow_model.specs.declared.plan.Plan.{Plan}
 use Rattle.flow_model.specs.declared.plan.RunPlan.{RunPlan}
 use Rattle.flow_model.specs.declared.plan.JobPlan.{JobPlan}
@@ -40,3 +41,7 @@ RunShape plan run = AllZip JobShape plan.jobs run.jobs
 -- a board has as many runs as its plan, each of its shape
 abbrev pub HasShape : Plan → Board → Type 0
 HasShape p b = AllZip RunShape p.runs b.runs
+
+-- a board has no more legs than a plan may have
+abbrev pub HasFewLegs : Board → Type 0
+HasFewLegs b = length (board_legs b) ≤ 4096

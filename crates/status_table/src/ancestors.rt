@@ -10,7 +10,7 @@ ghost use Rattle.status_table.specs.Seen.{job_seen};
 
 use crate::derived::{is_failure, is_success, job_result};
 use crate::place::SeenJob;
-use crate::status::Status;
+use expr_value::Status;
 use flow_model::{JobPlan, Outcome, Run};
 use std::alloc::{AllocError, Global};
 

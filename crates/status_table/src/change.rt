@@ -1,6 +1,7 @@
 //! Changes of a board in place.
 
 ghost use Rattle.std.specs.Prelude.{◌≡◌, OnOk, OnErr};
+ghost use Rattle.status_table.specs.Change.{with_run};
 ghost use Rattle.status_table.specs.Row as row;
 
 use crate::place::{JobPlace, LegPlace};
@@ -9,7 +10,7 @@ use std::alloc::AllocError;
 
 /// Puts a run into a state.
 pub(crate) fn set_run_state(board: &mut Board, place: usize, state: RunState)
-    ensures { board.new ≡ row.run_state_set board.old place state }
+    ensures { board.new ≡ with_run board.old place (λ run. record run { state = state }) }
 {
     if let Some(run) = board.runs.get_mut(place) {
         run.state = state;

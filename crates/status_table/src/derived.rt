@@ -3,14 +3,10 @@
 ghost use Rattle.std.specs.Prelude.{◌≡◌, map, count_by};
 ghost use Rattle.std.specs.List.{list_any};
 ghost use Rattle.status_table.specs.Derived as spec;
-ghost use Rattle.status_table.specs.Seen.{leg_seen};
 
-use crate::conditions::condition_holds;
-use crate::place::SeenLeg;
-use crate::status::Status;
 use flow_model::{DoneStep, Job, JobPlan, JobState, Leg, LegState, Outcome, Run, RunState};
 
-fn is_closed(state: RunState) -> bool
+pub(crate) fn is_closed(state: RunState) -> bool
     ensures { result ≡ spec.is_closed state }
 {
     matches!(state, RunState::Closed(_))
@@ -20,6 +16,16 @@ fn is_shut(state: JobState) -> bool
     ensures { result ≡ spec.is_shut state }
 {
     matches!(state, JobState::Shut(_))
+}
+
+/// Whether no worker took a leg, and it has not ended.
+pub(crate) fn is_untaken(state: LegState) -> bool
+    ensures { result ≡ spec.is_untaken state }
+{
+    matches!(
+        state,
+        LegState::Fresh | LegState::Waiting | LegState::Admitted
+    )
 }
 
 fn is_ended(state: LegState) -> bool
@@ -114,7 +120,7 @@ pub(crate) fn jobs_have_ended(run: &Run) -> bool
         .all(|job| job_has_ended(run, job))
 }
 
-fn is_any_failed(legs: &[Leg]) -> bool
+pub(crate) fn is_any_failed(legs: &[Leg]) -> bool
     ensures { result ≡ list_any (λ leg. spec.has_failed leg.state) legs.now }
 {
     legs.iter().any(|leg| has_failed(leg.state))
@@ -183,44 +189,10 @@ pub(crate) fn run_result(run: &Run) -> Outcome
     }
 }
 
-/// Whether a leg is to stop.
-pub(crate) fn is_stopping(at: &SeenLeg) -> bool
-    ensures { result ≡ spec.is_stopping (leg_seen at.now) }
-{
-    at.leg.stop
-        || (at.job_plan.fail_fast && is_any_failed(at.job.legs.as_slice()))
-        || (at.run.stop && !condition_holds(Status::Cancelled))
-}
-
-fn is_any_step_failed(steps: &[DoneStep]) -> bool
+pub(crate) fn is_any_step_failed(steps: &[DoneStep]) -> bool
     ensures { result ≡ list_any (λ step. spec.is_failure step.conclusion) steps.now }
 {
     steps.iter().any(|step| is_failure(step.conclusion))
-}
-
-/// How a leg counts so far.
-pub(crate) fn leg_result(at: &SeenLeg) -> Outcome
-    ensures { result ≡ spec.leg_result (leg_seen at.now) }
-{
-    if is_stopping(at) {
-        Outcome::Cancelled
-    } else if is_any_step_failed(at.leg.steps.as_slice()) {
-        Outcome::Failure
-    } else {
-        Outcome::Success
-    }
-}
-
-/// The status of a leg.
-pub(crate) fn leg_status(at: &SeenLeg) -> Status
-    ensures { result ≡ spec.leg_status (leg_seen at.now) }
-{
-    match leg_result(at) {
-        Outcome::Success => Status::Success,
-        Outcome::Failure => Status::Failure,
-        Outcome::Cancelled => Status::Cancelled,
-        Outcome::Skipped => Status::Other,
-    }
 }
 
 fn count_under_way(legs: &[Leg]) -> usize

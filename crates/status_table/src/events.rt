@@ -2,43 +2,59 @@
 //!
 //! Each function looks for a refusal first, makes what room it needs, and only then changes the board.
 
-ghost use Rattle.std.specs.Prelude.{◌≡◌, IfOk};
+ghost use Rattle.std.specs.Prelude.{◌≡◌, [], Bool, Option, Result, Ok, IfOk};
 ghost use Rattle.std.specs.Option.{option_copied};
 ghost use Rattle.status_table.specs.Ancestors.{StandsAfterNeeds};
 ghost use Rattle.status_table.specs.Answers.{Answers, Decides, DecidesAs};
 ghost use Rattle.status_table.specs.InPlay.{InPlay};
 ghost use Rattle.status_table.specs.Row as spec;
-ghost use Rattle.status_table.specs.Seen.{beginning_seen, DecidesEnding, job_seen, leg_seen};
+ghost use Rattle.expr_value.specs.Answer.{Gives};
+ghost use Rattle.flow_model.specs.declared.reply.StepCall.{StepCall as StepCallOf};
+ghost use Rattle.flow_model.specs.declared.reply.ValueFault.{ValueFault as ValueFaultOf};
+ghost use Rattle.status_table.specs.Seen.{begun_seen, DecidesEnding, job_seen, leg_scene, leg_seen};
+ghost use Rattle.text_values.specs.Known.{IsKnownOf, known_env};
+ghost use Rattle.status_table.specs.Shape.{HasFewLegs};
 
 use crate::ancestors::job_status;
-use crate::change::{add_step, set_ended, set_job_state, set_leg_state, set_run_state};
-use crate::conditions::{condition_holds, is_set, work_value};
+use crate::change::{add_step, set_ended, set_job_state, set_leg_state};
+use crate::decisions::{
+    is_stopping, job_condition, job_tolerates, leg_entrance, leg_outputs, leg_result, run_entrance,
+    step_decision, step_tolerates,
+};
 use crate::derived::{
-    is_failure, is_full, is_stopping, jobs_have_ended, leg_result, leg_status, needs_have_ended,
-    run_result,
+    is_closed, is_failure, is_full, is_untaken, jobs_have_ended, needs_have_ended, run_result,
 };
 use crate::fault::EventFault;
+use crate::groups::{enter_leg, enter_run, moved, next_after_leg, next_after_run, told};
+use crate::members::{close_run, drop_leg, pass_on, stop_run};
 use crate::place::{SeenJob, SeenLeg, SeenRun, find_job, find_leg, find_run};
 use flow_model::{
     Answer, Board, DoneStep, JobState, LegState, Mapping, Member, Outcome, Plan, Reply, RunState,
-    StepCall, StepPlan, Text, What,
+    StepCall, StepPlan, Text, ValueFault, What,
 };
 use std::alloc::{AllocError, Global};
+use text_values::Known;
 
-/// A reply that tells of nothing but what happened and who was admitted.
-fn reply(what: What, admitted: Option<Member>) -> Reply
-    ensures { result ≡ spec.reply what admitted }
+/// A reply that tells of nothing but what happened.
+fn reply(what: What) -> Reply
+    ensures { result ≡ spec.reply what }
 {
     Reply {
         what,
-        admitted,
+        admitted: None,
         displaced: None,
         stopped: None,
     }
 }
 
 /// Starts a run that is new.
-pub(crate) fn open(plan: &Plan, board: &mut Board, number: u64) -> Result<Reply, EventFault>
+pub(crate) fn open(
+    alloc: Global,
+    plan: &Plan,
+    board: &mut Board,
+    number: u64,
+) -> Result<Reply, EventFault>
+    requires { HasFewLegs board.old }
     ensures { Answers (spec.open_row plan.now board.old number) board.old result board.new }
 {
     let Some(at) = find_run(plan, board, number as usize) else {
@@ -51,20 +67,37 @@ pub(crate) fn open(plan: &Plan, board: &mut Board, number: u64) -> Result<Reply,
         (RunState::Going, _) => return Err(EventFault::WrongState),
         (RunState::Closed(_), _) => return Err(EventFault::WrongState),
     }
-    set_run_state(board, number as usize, RunState::Going);
-    Ok(reply(What::Moved, Some(Member::Run(number))))
+    let group = run_entrance(alloc, &at);
+    enter_run(board, number, group)
 }
 
-/// The state into which a job is judged.
-fn judged_state(stop: bool, holds: bool) -> JobState
-    ensures { result ≡ spec.judged_state stop (Ok holds) }
+/// The state into which a job is judged by its condition.
+fn judged_state(stop: bool, holds: Result<bool, ValueFault>) -> Result<JobState, AllocError>
+    ensures { (value : Result Bool ValueFaultOf) → Gives (λ holds. holds) holds value
+        → IfOk result (λ state. state ≡ spec.judged_state stop value) }
 {
-    if holds {
-        JobState::Open
-    } else if stop {
-        JobState::Shut(Outcome::Cancelled)
+    match holds {
+        Ok(true) => Ok(JobState::Open),
+        Ok(false) => Ok(JobState::Shut(shut_result(stop))),
+        Err(ValueFault::Memory) => Err(AllocError),
+        Err(
+            ValueFault::NotWhole
+            | ValueFault::NoIdentity
+            | ValueFault::BadFormat
+            | ValueFault::BadJson
+            | ValueFault::TooLarge,
+        ) => Ok(JobState::Shut(Outcome::Failure)),
+    }
+}
+
+/// What a job is shut with where its condition is not true.
+fn shut_result(stop: bool) -> Outcome
+    ensures { result ≡ spec.shut_result stop }
+{
+    if stop {
+        Outcome::Cancelled
     } else {
-        JobState::Shut(Outcome::Skipped)
+        Outcome::Skipped
     }
 }
 
@@ -86,7 +119,7 @@ fn judgement(alloc: Global, number: u64, at: &SeenJob) -> Result<JobState, Event
         return Err(EventFault::NeedsOpen);
     }
     let status = job_status(alloc, first, at)?;
-    Ok(judged_state(at.run.stop, condition_holds(status)))
+    Ok(judged_state(at.run.stop, job_condition(alloc, at, status))?)
 }
 
 /// Opens or shuts a job whose needs have ended.
@@ -105,11 +138,11 @@ pub(crate) fn judge(
     let state = judgement(alloc, number, &at)?;
     let place = at.place;
     set_job_state(board, place, state);
-    Ok(reply(What::Moved, None))
+    Ok(moved())
 }
 
 /// Whether a leg may ask to be admitted.
-fn may_ask(at: &SeenLeg) -> bool
+pub(crate) fn may_ask(at: &SeenLeg) -> bool
     ensures { result ≡ spec.may_ask (leg_seen at.now) }
 {
     matches!(at.run.state, RunState::Going)
@@ -117,8 +150,14 @@ fn may_ask(at: &SeenLeg) -> bool
         && matches!(at.leg.state, LegState::Fresh)
 }
 
-/// Admits a leg that asks.
-pub(crate) fn ask(plan: &Plan, board: &mut Board, number: u64) -> Result<Reply, EventFault>
+/// A leg asks to be admitted.
+pub(crate) fn ask(
+    alloc: Global,
+    plan: &Plan,
+    board: &mut Board,
+    number: u64,
+) -> Result<Reply, EventFault>
+    requires { HasFewLegs board.old }
     ensures { Answers (spec.ask_row plan.now board.old number) board.old result board.new }
 {
     let Some(at) = find_leg(plan, board, number as usize) else {
@@ -130,16 +169,52 @@ pub(crate) fn ask(plan: &Plan, board: &mut Board, number: u64) -> Result<Reply, 
     if is_full(at.job_plan, at.job) {
         return Err(EventFault::SlotsFull);
     }
-    if is_stopping(&at) {
+    let mut known = Known::empty(alloc);
+    if is_stopping(alloc, &at, &mut known)? {
         return Err(EventFault::Stopping);
     }
-    let place = at.place;
-    set_leg_state(board, place, LegState::Admitted);
-    Ok(reply(What::Moved, Some(Member::Leg(number))))
+    let own = at.place.run as u64;
+    let group = leg_entrance(alloc, &at, &mut known);
+    enter_leg(board, number, own, group)
+}
+
+/// Whether a leg may be dropped.
+pub(crate) fn may_drop(at: &SeenLeg) -> bool
+    ensures { result ≡ spec.may_drop (leg_seen at.now) }
+{
+    matches!(at.run.state, RunState::Going)
+        && matches!(at.job.state, JobState::Open)
+        && is_untaken(at.leg.state)
+}
+
+/// Drops a leg that is to stop before a worker took it.
+pub(crate) fn discard(
+    alloc: Global,
+    plan: &Plan,
+    board: &mut Board,
+    number: u64,
+) -> Result<Reply, EventFault>
+    requires { HasFewLegs board.old }
+    ensures { Answers (spec.drop_row plan.now board.old number) board.old result board.new }
+{
+    let Some(at) = find_leg(plan, board, number as usize) else {
+        return Err(EventFault::NoSuch);
+    };
+    if !may_drop(&at) {
+        return Err(EventFault::WrongState);
+    }
+    if !is_stopping(alloc, &at, &mut Known::empty(alloc))? {
+        return Err(EventFault::NotStopping);
+    }
+    let next = next_after_leg(board, at.leg);
+    drop_leg(board, number, Outcome::Cancelled)?;
+    pass_on(board, next);
+    Ok(told(next, None, None))
 }
 
 /// Gives a leg that is admitted to a worker.
 pub(crate) fn take(
+    alloc: Global,
     plan: &Plan,
     board: &mut Board,
     worker: u8,
@@ -157,7 +232,7 @@ pub(crate) fn take(
         LegState::Running { .. } => return Err(EventFault::WrongState),
         LegState::Ended { .. } => return Err(EventFault::WrongState),
     }
-    if is_stopping(&at) {
+    if is_stopping(alloc, &at, &mut Known::empty(alloc))? {
         return Err(EventFault::Stopping);
     }
     let place = at.place;
@@ -169,11 +244,12 @@ pub(crate) fn take(
             in_call: false,
         },
     );
-    Ok(reply(What::Moved, None))
+    Ok(moved())
 }
 
 /// Ends a run whose jobs have ended, or that never went.
 pub(crate) fn close(plan: &Plan, board: &mut Board, number: u64) -> Result<Reply, EventFault>
+    requires { HasFewLegs board.old }
     ensures { Answers (spec.close_row plan.now board.old number) board.old result board.new }
 {
     let Some(at) = find_run(plan, board, number as usize) else {
@@ -194,8 +270,24 @@ pub(crate) fn close(plan: &Plan, board: &mut Board, number: u64) -> Result<Reply
         },
         RunState::Closed(_) => return Err(EventFault::WrongState),
     };
-    set_run_state(board, number as usize, RunState::Closed(how));
-    Ok(reply(What::Moved, None))
+    let next = next_after_run(board, at.run);
+    close_run(board, number, how);
+    pass_on(board, next);
+    Ok(told(next, None, None))
+}
+
+/// Tells a run to stop.
+pub(crate) fn cancel(plan: &Plan, board: &mut Board, number: u64) -> Result<Reply, EventFault>
+    ensures { Answers (spec.cancel_row plan.now board.old number) board.old result board.new }
+{
+    let Some(at) = find_run(plan, board, number as usize) else {
+        return Err(EventFault::NoSuch);
+    };
+    if is_closed(at.run.state) || at.run.stop {
+        return Err(EventFault::WrongState);
+    }
+    stop_run(board, number);
+    Ok(moved())
 }
 
 /// The worker of a leg that is running, if it is idle.
@@ -245,34 +337,44 @@ fn next_step<'a>(at: &SeenLeg<'a>) -> Option<&'a StepPlan>
     at.job_plan.steps.as_slice().get(at.leg.steps.len())
 }
 
-/// What a step that is called comes to.
-fn step_call(
-    alloc: Global,
-    number: u64,
-    at: &SeenLeg,
-    step: &StepPlan,
-) -> Result<StepCall, AllocError>
-    ensures { IfOk result
-        (λ call. spec.call_beginning number (leg_seen at.now) step.now ≡ spec.calls call) }
-{
-    let work = work_value(alloc, &step.work)?;
-    let env = Mapping::empty(alloc);
-    Ok(StepCall {
-        leg: number,
-        step: at.leg.steps.len() as u64,
-        work,
-        env,
-    })
+/// What beginning a step comes to.
+#[derive(Drop)]
+pub(crate) enum Begun {
+    Call(StepCall),
+    Skips,
+    Faults(ValueFault),
 }
 
-/// What beginning the next step of a leg comes to: its call, or none where it is skipped.
+/// What is decided of a step; want of memory is apart.
+fn told_begun(decision: Result<Option<StepCall>, ValueFault>) -> Result<Begun, EventFault>
+    ensures { (value : Result (Option StepCallOf) ValueFaultOf)
+        → Gives (λ call. call) decision value
+        → DecidesAs begun_seen (Ok (spec.decided value)) result }
+{
+    match decision {
+        Ok(Some(call)) => Ok(Begun::Call(call)),
+        Ok(None) => Ok(Begun::Skips),
+        Err(ValueFault::Memory) => Err(EventFault::Memory),
+        Err(ValueFault::NotWhole) => Ok(Begun::Faults(ValueFault::NotWhole)),
+        Err(ValueFault::NoIdentity) => Ok(Begun::Faults(ValueFault::NoIdentity)),
+        Err(ValueFault::BadFormat) => Ok(Begun::Faults(ValueFault::BadFormat)),
+        Err(ValueFault::BadJson) => Ok(Begun::Faults(ValueFault::BadJson)),
+        Err(ValueFault::TooLarge) => Ok(Begun::Faults(ValueFault::TooLarge)),
+    }
+}
+
+/// What beginning the next step of a leg comes to, or why it is not begun.
 fn beginning(
     alloc: Global,
     worker: u8,
     number: u64,
     at: &SeenLeg,
-) -> Result<Option<StepCall>, EventFault>
-    ensures { DecidesAs beginning_seen (spec.beginning worker number (leg_seen at.now)) result }
+    known: &mut Known,
+) -> Result<Begun, EventFault>
+    requires known { IsKnownOf (leg_scene at.now) known.old }
+    requires env { known_env known.old ≡ [] }
+    ensures value { DecidesAs begun_seen (spec.beginning worker number (leg_seen at.now)) result }
+    ensures known { IsKnownOf (leg_scene at.now) known.new }
 {
     let Some(owner) = idle_owner(at.leg.state) else {
         return Err(EventFault::WrongState);
@@ -283,10 +385,7 @@ fn beginning(
     if worker != owner {
         return Err(EventFault::OtherWorker);
     }
-    if !condition_holds(leg_status(at)) {
-        return Ok(None);
-    }
-    Ok(Some(step_call(alloc, number, at, step)?))
+    told_begun(step_decision(alloc, number, at, known, step))
 }
 
 /// A step that was skipped.
@@ -301,7 +400,21 @@ fn skipped_step(alloc: Global) -> DoneStep
     }
 }
 
-/// Begins the next step of a leg: its call, or that it is skipped.
+/// A step that failed before its call.
+fn failed_step(alloc: Global, at: &SeenLeg, known: &mut Known) -> Result<DoneStep, AllocError>
+    requires { IsKnownOf (leg_scene at.now) known.old }
+    ensures { IfOk result (λ done. done ≡ spec.failed_step (leg_seen at.now)) }
+{
+    let conclusion = failure_of(alloc, at, known)?;
+    let outputs = Mapping::empty(alloc);
+    Ok(DoneStep {
+        outcome: Outcome::Failure,
+        conclusion,
+        outputs,
+    })
+}
+
+/// Begins the next step of a leg: its call, that it is skipped, or that it failed.
 pub(crate) fn begin(
     alloc: Global,
     plan: &Plan,
@@ -315,8 +428,9 @@ pub(crate) fn begin(
         return Err(EventFault::NoSuch);
     };
     let place = at.place;
-    match beginning(alloc, worker, number, &at)? {
-        Some(call) => {
+    let mut known = Known::empty(alloc);
+    match beginning(alloc, worker, number, &at, &mut known)? {
+        Begun::Call(call) => {
             set_leg_state(
                 board,
                 place,
@@ -325,11 +439,16 @@ pub(crate) fn begin(
                     in_call: true,
                 },
             );
-            Ok(reply(What::Call(call), None))
+            Ok(reply(What::Call(call)))
         },
-        None => {
+        Begun::Skips => {
             add_step(board, place, worker, skipped_step(alloc))?;
-            Ok(reply(What::Skipped, None))
+            Ok(reply(What::Skipped))
+        },
+        Begun::Faults(fault) => {
+            let done = failed_step(alloc, &at, &mut known)?;
+            add_step(board, place, worker, done)?;
+            Ok(reply(What::Faulted(fault)))
         },
     }
 }
@@ -360,34 +479,41 @@ fn outputs_of(alloc: Global, answer: Answer) -> Mapping<Text>
     }
 }
 
-/// How a failure counts for a step: one that may be passed over counts as a success.
-fn failure_of(step: Option<&StepPlan>) -> Outcome
-    ensures { result ≡ spec.failure_of (option_copied step.entry) }
+/// How a failure counts for the next step of a leg: one that may be passed over counts as a success.
+fn failure_of(alloc: Global, at: &SeenLeg, known: &mut Known) -> Result<Outcome, AllocError>
+    requires { IsKnownOf (leg_scene at.now) known.old }
+    ensures { IfOk result (λ how. how
+        ≡ spec.failure_of (leg_seen at.now) (spec.next_step (leg_seen at.now))) }
 {
-    match step {
-        Some(step) => if is_set(&step.tolerate) {
-            Outcome::Success
-        } else {
-            Outcome::Failure
-        },
-        None => Outcome::Failure,
+    let Some(step) = next_step(at) else {
+        return Ok(Outcome::Failure);
+    };
+    if step_tolerates(alloc, at, known, step)? {
+        Ok(Outcome::Success)
+    } else {
+        Ok(Outcome::Failure)
     }
 }
 
 /// How an outcome counts for the next step of a leg.
-fn conclusion_of(at: &SeenLeg, outcome: Outcome) -> Outcome
-    ensures { result ≡ spec.conclusion_of (spec.next_step (leg_seen at.now)) outcome }
+fn conclusion_of(alloc: Global, at: &SeenLeg, outcome: Outcome) -> Result<Outcome, AllocError>
+    ensures { IfOk result (λ how. how ≡ spec.conclusion_of (leg_seen at.now) outcome) }
 {
     match outcome {
-        Outcome::Success => Outcome::Success,
-        Outcome::Failure => failure_of(next_step(at)),
-        Outcome::Cancelled => Outcome::Cancelled,
-        Outcome::Skipped => Outcome::Skipped,
+        Outcome::Success => Ok(Outcome::Success),
+        Outcome::Failure => failure_of(alloc, at, &mut Known::empty(alloc)),
+        Outcome::Cancelled => Ok(Outcome::Cancelled),
+        Outcome::Skipped => Ok(Outcome::Skipped),
     }
 }
 
 /// The outcome and conclusion of the step that an answer ends, or why it does not.
-fn ending(worker: u8, at: &SeenLeg, answer: &Answer) -> Result<(Outcome, Outcome), EventFault>
+fn ending(
+    alloc: Global,
+    worker: u8,
+    at: &SeenLeg,
+    answer: &Answer,
+) -> Result<(Outcome, Outcome), EventFault>
     ensures { DecidesEnding worker (leg_seen at.now) answer.now result }
 {
     let Some(owner) = calling_owner(at.leg.state) else {
@@ -400,7 +526,8 @@ fn ending(worker: u8, at: &SeenLeg, answer: &Answer) -> Result<(Outcome, Outcome
         return Err(EventFault::BadAnswer);
     }
     let outcome = outcome_of(answer);
-    Ok((outcome, conclusion_of(at, outcome)))
+    let conclusion = conclusion_of(alloc, at, outcome)?;
+    Ok((outcome, conclusion))
 }
 
 /// Ends the step of a leg that is in a call.
@@ -419,7 +546,7 @@ pub(crate) fn end(
         return Err(EventFault::NoSuch);
     };
     let place = at.place;
-    let (outcome, conclusion) = ending(worker, &at, &answer)?;
+    let (outcome, conclusion) = ending(alloc, worker, &at, &answer)?;
     let outputs = outputs_of(alloc, answer);
     add_step(
         board,
@@ -431,12 +558,19 @@ pub(crate) fn end(
             outputs,
         },
     )?;
-    Ok(reply(What::Moved, None))
+    Ok(moved())
 }
 
 /// The state in which a leg ends, or why it does not.
-fn finishing(worker: u8, at: &SeenLeg) -> Result<LegState, EventFault>
-    ensures { Decides (spec.finishing worker (leg_seen at.now)) result }
+fn finishing(
+    alloc: Global,
+    worker: u8,
+    at: &SeenLeg,
+    known: &mut Known,
+) -> Result<LegState, EventFault>
+    requires { IsKnownOf (leg_scene at.now) known.old }
+    ensures value { Decides (spec.finishing worker (leg_seen at.now)) result }
+    ensures known { IsKnownOf (leg_scene at.now) known.new }
 {
     let Some(owner) = idle_owner(at.leg.state) else {
         return Err(EventFault::WrongState);
@@ -447,8 +581,8 @@ fn finishing(worker: u8, at: &SeenLeg) -> Result<LegState, EventFault>
     if at.leg.steps.len() < at.job_plan.steps.len() {
         return Err(EventFault::StepsLeft);
     }
-    let how = leg_result(at);
-    let tolerated = is_failure(how) && is_set(&at.job_plan.tolerate);
+    let how = leg_result(alloc, at, known)?;
+    let tolerated = is_failure(how) && job_tolerates(alloc, at, known)?;
     Ok(LegState::Ended {
         result: how,
         tolerated,
@@ -463,6 +597,7 @@ pub(crate) fn finish(
     worker: u8,
     number: u64,
 ) -> Result<Reply, EventFault>
+    requires { HasFewLegs board.old }
     ensures { Answers (spec.finish_row plan.now board.old worker number)
         board.old result board.new }
 {
@@ -470,7 +605,11 @@ pub(crate) fn finish(
         return Err(EventFault::NoSuch);
     };
     let place = at.place;
-    let state = finishing(worker, &at)?;
-    set_ended(board, place, number, state, Mapping::empty(alloc))?;
-    Ok(reply(What::Moved, None))
+    let mut known = Known::empty(alloc);
+    let state = finishing(alloc, worker, &at, &mut known)?;
+    let outputs = leg_outputs(alloc, &at, &mut known)?;
+    let next = next_after_leg(board, at.leg);
+    set_ended(board, place, number, state, outputs)?;
+    pass_on(board, next);
+    Ok(told(next, None, None))
 }

@@ -8,11 +8,14 @@ ghost use Rattle.status_table.specs.Ancestors.{SaysOf};
 ghost use Rattle.status_table.specs.Derived.{job_status};
 ghost use Rattle.status_table.specs.Ends.{EndOnce};
 ghost use Rattle.status_table.specs.InPlay.{InPlay};
+ghost use Rattle.status_table.specs.Laws.{NoCallAfterFailure, OnlyFailuresArePassedOver};
 ghost use Rattle.status_table.specs.Numbered.{HasAsMany, IsNumberedIn, JobsAreNumbered, LegsAreNumbered};
 ghost use Rattle.status_table.specs.Place.{JobAt, job_at};
 ghost use Rattle.status_table.specs.Row.{first_of};
 ghost use Rattle.status_table.specs.Runs.{after};
 ghost use Rattle.status_table.specs.Shape.{HasShape};
+
+use text_values::waits_for_success;
 
 /// Jobs and legs stand where their numbers say: number n is that of item n of all of them, and a job's plan has it too.
 pub fn numbers_are_places()
@@ -34,4 +37,17 @@ pub fn legal_lists_keep_order()
 pub fn statuses_tell_of_ancestors()
     ensures { (p : Plan) (b : Board) (j : ℕ) (at : JobAt)
         → InPlay p b → job_at p b j ≡ Some at → SaysOf (first_of j at) at (job_status (first_of j at) at) }
+{}
+
+/// After a step of a leg that counts as a failure, a step whose condition names no status function is never in a call.
+pub fn no_call_after_failure()
+    ensures { NoCallAfterFailure }
+{
+    waits_for_success();
+}
+
+/// The conclusion of a step that is done differs from its outcome only where the outcome is failure and its
+/// continue-on-error holds.
+pub fn only_failures_are_passed_over()
+    ensures { OnlyFailuresArePassedOver }
 {}

@@ -3,27 +3,39 @@
 //! The table is a definition: `specs/Row.antt` says, event by event and case by case, what an event does to a board,
 //! what is replied, and when it is refused. The trait `Table` promises that a board answers each event by its row, that
 //! a refusal changes nothing, and that the plan was accepted and the board has its shape; `PlainBoard` is the plain
-//! body of it, and `run_entries` plays a list of entries on any table, up to the first that is refused. `laws` has what
-//! holds of every legal list. It stands on `flow_model` alone.
+//! body of it, and `run_entries` plays a list of entries on any table, up to the first that is refused. `laws` and
+//! `board_laws` have what holds of every legal list. What a text of the plan sees and decides is in `specs/Contexts.antt`
+//! and `specs/Decisions.antt`, over `text_values`; who holds a concurrency group, who waits for it, and what comes of
+//! entering and leaving one, in `specs/Groups.antt`; what a clerk may do, in `specs/Moves.antt`; what is true of each board
+//! in play, in `specs/Lawful.antt`.
+//! `call_laws` has what holds of each call that a step makes, and `admission_laws` that a board shows what the map of
+//! `group_admission` keeps.
 
 #![tactic(auto)]
 
+pub mod admission_laws;
 mod ancestors;
+pub mod board_laws;
+pub mod call_laws;
 mod change;
-mod conditions;
+mod contexts;
+mod decisions;
 mod derived;
+pub mod entrance;
 mod events;
 pub mod fault;
+mod groups;
 pub mod laws;
+mod members;
+pub mod moves;
 mod new_board;
 pub mod place;
 pub mod plain_board;
 pub mod runs;
-pub mod status;
+mod scene;
 pub mod table;
 
 pub use fault::EventFault;
 pub use plain_board::PlainBoard;
 pub use runs::run_entries;
-pub use status::Status;
 pub use table::Table;

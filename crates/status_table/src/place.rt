@@ -24,6 +24,7 @@ pub struct LegPlace {
 /// A run in play, with its plan.
 #[derive(Clone, Copy)]
 pub(crate) struct SeenRun<'a> {
+    pub board: &'a Board,
     pub plan: &'a RunPlan,
     pub run: &'a Run,
 }
@@ -31,6 +32,7 @@ pub(crate) struct SeenRun<'a> {
 /// A job in play, with its plan and run.
 #[derive(Clone, Copy)]
 pub(crate) struct SeenJob<'a> {
+    pub board: &'a Board,
     pub place: JobPlace,
     pub run_plan: &'a RunPlan,
     pub plan: &'a JobPlan,
@@ -41,6 +43,7 @@ pub(crate) struct SeenJob<'a> {
 /// A leg in play, with its job and run.
 #[derive(Clone, Copy)]
 pub(crate) struct SeenLeg<'a> {
+    pub board: &'a Board,
     pub place: LegPlace,
     pub run_plan: &'a RunPlan,
     pub job_plan: &'a JobPlan,
@@ -87,7 +90,7 @@ fn find_leg_in_jobs(run: usize, jobs: &[Job], number: usize) -> Result<LegPlace,
 }
 
 /// The place of the leg with a number.
-fn find_leg_place(runs: &[Run], number: usize) -> Option<LegPlace>
+pub(crate) fn find_leg_place(runs: &[Run], number: usize) -> Option<LegPlace>
     ensures { result ≡ spec.leg_place_from 0 runs.now number }
 {
     let mut left = number;
@@ -106,7 +109,7 @@ pub(crate) fn find_run<'a>(plan: &'a Plan, board: &'a Board, number: usize) -> O
 {
     let plan = plan.runs.as_slice().get(number)?;
     let run = board.runs.as_slice().get(number)?;
-    Some(SeenRun { plan, run })
+    Some(SeenRun { board, plan, run })
 }
 
 /// The job at a place.
@@ -117,6 +120,7 @@ fn find_placed<'a>(plan: &'a Plan, board: &'a Board, place: JobPlace) -> Option<
     let plan = at.plan.jobs.as_slice().get(place.job)?;
     let job = at.run.jobs.as_slice().get(place.job)?;
     Some(SeenJob {
+        board,
         place,
         run_plan: at.plan,
         plan,
@@ -145,6 +149,7 @@ pub(crate) fn find_leg<'a>(plan: &'a Plan, board: &'a Board, number: usize) -> O
     let at = find_placed(plan, board, in_run)?;
     let leg = at.job.legs.as_slice().get(place.leg)?;
     Some(SeenLeg {
+        board,
         place,
         run_plan: at.run_plan,
         job_plan: at.plan,

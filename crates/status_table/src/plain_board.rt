@@ -6,12 +6,14 @@ ghost use Rattle.status_table.specs.Answers.{Answers};
 ghost use Rattle.status_table.specs.InPlay.{InPlay};
 ghost use Rattle.status_table.specs.Row.{event_row};
 ghost use Rattle.status_table.specs.Runs.{new_play};
+ghost use Rattle.status_table.specs.Shape.{HasFewLegs};
 
-use crate::events::{ask, begin, close, end, finish, judge, open, take};
+use crate::events::{ask, begin, cancel, close, discard, end, finish, judge, open, take};
 use crate::fault::EventFault;
+use crate::moves::find_moves;
 use crate::new_board::make_board;
 use crate::table::Table;
-use flow_model::{Board, CheckedPlan, Duplicate, Entry, Event, Plan, Reply};
+use flow_model::{Board, CheckedPlan, Duplicate, Entry, Event, Plan, Reply, Sequence};
 use std::alloc::{AllocError, Global};
 use std::marker::Model;
 
@@ -72,18 +74,21 @@ fn apply_event(
     worker: u8,
     event: Event,
 ) -> Result<Reply, EventFault>
-    requires { InPlay plan.now board.old }
+    requires in_play { InPlay plan.now board.old }
+    requires few { HasFewLegs board.old }
     ensures { Answers (event_row plan.now board.old worker event) board.old result board.new }
 {
     match event {
-        Event::Open { run } => open(plan, board, run),
+        Event::Open { run } => open(alloc, plan, board, run),
         Event::Judge { job } => judge(alloc, plan, board, job),
-        Event::Ask { leg } => ask(plan, board, leg),
-        Event::Take { leg } => take(plan, board, worker, leg),
+        Event::Ask { leg } => ask(alloc, plan, board, leg),
+        Event::Drop { leg } => discard(alloc, plan, board, leg),
+        Event::Take { leg } => take(alloc, plan, board, worker, leg),
         Event::Begin { leg } => begin(alloc, plan, board, worker, leg),
         Event::End { leg, answer } => end(alloc, plan, board, worker, leg, answer),
         Event::Finish { leg } => finish(alloc, plan, board, worker, leg),
         Event::Close { run } => close(plan, board, run),
+        Event::Cancel { run } => cancel(plan, board, run),
     }
 }
 
@@ -102,5 +107,10 @@ impl Table for PlainBoard {
 
     fn view(&self) -> Result<Board, AllocError> {
         self.board.copy(self.alloc)
+    }
+
+    fn moves(&self) -> Result<Sequence<Event>, AllocError> {
+        let events = find_moves(self.alloc, self.plan.plan(), &self.board)?;
+        Ok(Sequence::new(events))
     }
 }

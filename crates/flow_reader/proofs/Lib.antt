@@ -1,0 +1,10 @@
+pub mod Answered
+pub mod Faults
+pub mod Jobs
+pub mod Keeping
+pub mod Keys
+pub mod Lists
+pub mod Sound
+pub mod SoundFlow
+pub mod SoundJobs
+pub mod SoundRoots

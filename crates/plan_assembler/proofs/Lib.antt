@@ -1,0 +1,17 @@
+pub mod Answering
+pub mod Counts
+pub mod Cycles
+pub mod FirstJob
+pub mod FlowTexts
+pub mod JobSteps
+pub mod LegValues
+pub mod LegsAlone
+pub mod Marks
+pub mod OnePlan
+pub mod Orders
+pub mod Places
+pub mod PlanBack
+pub mod Readings
+pub mod RunSteps
+pub mod Stagings
+pub mod Standing

@@ -1,0 +1,12 @@
+use Rattle.std.proofs.Common.{rules}
+use Rattle.plan_assembler.proofs.JobSteps.{next_job, job_fails}
+use Rattle.plan_assembler.proofs.jobs.jobs_of.Goals as goal
+
+pub returns-in-Err : goal.returns-in-Err
+returns-in-Err c =
+    rw (← c.as_slice-places.ensures) (job_fails c.args.jobs.now c.as_slice-places.result.now c.args.first c.loop-place.place-index _ c.loop-place.plans.items c.in-Err.fault c.loop-place-test.true (search rules) c.loop-place.invariant c.in-Err.ensures)
+
+pub loop-place-preserved : goal.loop-place-preserved
+loop-place-preserved c =
+    next_job c.args.jobs.now c.as_slice-places.result.now c.args.first c.loop-place.place-index _ c.loop-place.plans.items c.push_job.new.plans.items c.loop-place-test.true (search rules) c.loop-place.invariant
+    (rw (← c.as_slice-places.ensures) at c.in_default.ensures)

@@ -1,0 +1,38 @@
+-- Laws of the definitions, each the contract of a function of the module `laws`.
+use Rattle.std.specs.Prelude.{◌≡◌, ◌<◌, ◌≤◌, ℕ, List, None, get_or, length}
+use Rattle.std.specs.List.{AllByRecursion}
+use Rattle.flow_model.specs.Flow.{IsWorkflow}
+use Rattle.flow_model.specs.Rules.{legs_of_runs, roots_rules, IsPlan}
+use Rattle.flow_model.specs.declared.flow.Workflow.{Workflow}
+use Rattle.flow_model.specs.declared.plan.Plan.{Plan}
+use Rattle.flow_model.specs.declared.plan.Roots.{Roots}
+use Rattle.plan_assembler.specs.Graph.{Graph, NeedsBy, HasCycle}
+use Rattle.plan_assembler.specs.Layout.{taken}
+use Rattle.plan_assembler.specs.Plans.{Assembles}
+use Rattle.plan_assembler.specs.Refusals.{RunsPass}
+use Rattle.plan_assembler.specs.Stages.{AreStages}
+use Rattle.plan_assembler.specs.declared.choice.Choice.{Choice}
+
+-- The stages of jobs are the only ones.
+abbrev pub OneStaging : Type 0
+OneStaging = (g : Graph) (ss us : List ℕ) → AreStages g ss → AreStages g us → ss ≡ us
+
+-- A job that needs another, directly or not, has a greater stage.
+abbrev pub NeedsFall : Type 0
+NeedsFall = (g : Graph) (ss : List ℕ) → AreStages g ss → (j : ℕ) (ms : List ℕ) (k : ℕ) → NeedsBy g j ms k → get_or ss k 0 < get_or ss j 0
+
+-- Where a job needs itself, directly or not, there are no stages.
+abbrev pub NoStagesInCycles : Type 0
+NoStagesInCycles = (g : Graph) (ss : List ℕ) → AreStages g ss → HasCycle g → ⊥
+
+-- The same workflows, contexts and choice come to one plan at most.
+abbrev pub OnePlan : Type 0
+OnePlan = (ws : List Workflow) (roots : Roots) (choice : Choice) (p q : Plan) → Assembles ws roots choice p → Assembles ws roots choice q → p ≡ q
+
+-- Where the workflows that are taken, at least one and at most 64, pass their tests, the plan that they come to breaks no
+-- rule, or it has more than 4,096 legs.
+abbrev pub LegsAloneAreLeft : Type 0
+LegsAloneAreLeft =
+    (ws : List Workflow) (roots : Roots) (choice : Choice) (p : Plan) → AllByRecursion IsWorkflow (taken choice ws) → roots_rules roots ≡ None
+    → 0 < length (taken choice ws) → length (taken choice ws) ≤ 64 → RunsPass choice (taken choice ws)
+    → Assembles ws roots choice p → legs_of_runs p.runs ≤ 4096 → IsPlan p

@@ -1,0 +1,13 @@
+pub mod Chosen
+pub mod Faults
+pub mod Graph
+pub mod Kahn
+pub mod Laws
+pub mod Layout
+pub mod Order
+pub mod Planning
+pub mod Plans
+pub mod Refusals
+pub mod Stages
+pub mod Staging
+pub mod Texts

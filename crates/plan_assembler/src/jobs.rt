@@ -1,0 +1,183 @@
+//! The jobs of a run, each with its legs, its needs and its number.
+
+ghost use Rattle.std.specs.Prelude.{◌≡◌, ◌<◌, ◌+◌, ◌^◌, ℕ, [], ◌∷◌, Err, IfOk, List, Option, length, map, unwrap_or};
+ghost use Rattle.flow_model.specs.declared.plan.Matrix.{Matrix as MatrixOf};
+ghost use Rattle.plan_assembler.specs.Layout as layout;
+ghost use Rattle.plan_assembler.specs.Order as order_spec;
+ghost use Rattle.plan_assembler.specs.Plans as spec;
+ghost use Rattle.plan_assembler.specs.Refusals.{Answered, FindsLegs, MakesJob, MakesJobs, MatrixFails, PushesJob, TestsJob};
+
+use crate::fault::{Place, PlanFault, at_place};
+use crate::layout::{job_at, places_of};
+use crate::order::numbers_of;
+use crate::texts::job_texts;
+use flow_model::{Combo, Duplicate, FlowJob, JobPlan, Mapping, Matrix, Sequence, Text};
+use matrix_expand::{MatrixFault, expand};
+use std::alloc::{AllocError, Global};
+
+/// One leg, without values.
+fn one_leg(alloc: Global) -> Result<Sequence<Combo>, AllocError>
+    ensures { IfOk result (λ legs. legs ≡ [] ∷ []) }
+{
+    let mut legs = Sequence::empty(alloc);
+    legs.push(Mapping::empty(alloc))?;
+    Ok(legs)
+}
+
+/// The legs of a job with this matrix.
+fn legs_of(alloc: Global, matrix: &Option<Matrix>) -> Result<Sequence<Combo>, MatrixFault>
+    ensures { FindsLegs matrix.now result }
+{
+    match matrix {
+        Some(matrix) => expand(alloc, matrix),
+        None => Ok(one_leg(alloc)?),
+    }
+}
+
+/// The fault of the matrix of the job with this number.
+#[tactic(auto, unfolding(crate::specs::Refusals::Answered))]
+fn no_legs(number: u64, fault: MatrixFault) -> PlanFault
+    ensures { (matrix : Option MatrixOf) → FindsLegs matrix (Err fault) → Answered (MatrixFails number matrix) result }
+{
+    match fault {
+        MatrixFault::EmptyVariable | MatrixFault::NoCombination | MatrixFault::TooMany => {
+            PlanFault::Matrix(number, fault)
+        },
+        MatrixFault::Memory => PlanFault::Memory,
+    }
+}
+
+/// The legs of a job with this number, whose texts can be read.
+fn tested_legs(alloc: Global, number: u64, job: &FlowJob) -> Result<Sequence<Combo>, PlanFault>
+    ensures { TestsJob number job.now result }
+{
+    match legs_of(alloc, &job.matrix) {
+        Ok(legs) => match job_texts(alloc, job) {
+            Ok(()) => Ok(legs),
+            Err(fault) => Err(at_place(Place::Job(number), fault)),
+        },
+        Err(fault) => Err(no_legs(number, fault)),
+    }
+}
+
+/// The numbers of what a job needs.
+fn needs_of(
+    alloc: Global,
+    jobs: &Sequence<FlowJob>,
+    order: &Sequence<usize>,
+    first: u64,
+    needs: &Sequence<Text>,
+) -> Result<Sequence<u64>, AllocError>
+    requires { first + length order.now < 2 ^ 64 }
+    ensures { IfOk result (λ numbers. numbers
+        ≡ order_spec.numbers_of first order.now (map (layout.place_of (layout.ids_of jobs.now)) needs.now)) }
+{
+    let places = places_of(alloc, jobs, needs)?;
+    numbers_of(alloc, first, order, &places)
+}
+
+/// A job's name, or its id where it has none.
+fn name_of(alloc: Global, job: &FlowJob) -> Result<Text, AllocError>
+    ensures { IfOk result (λ name. name ≡ unwrap_or job.now.name job.now.id) }
+{
+    match &job.name {
+        Some(name) => name.copy(alloc),
+        None => job.id.copy(alloc),
+    }
+}
+
+/// A job of a plan.
+fn job_with(
+    alloc: Global,
+    job: &FlowJob,
+    legs: Sequence<Combo>,
+    needs: Sequence<u64>,
+    number: u64,
+) -> Result<JobPlan, AllocError>
+    ensures { IfOk result (λ plan. plan ≡ spec.job_with job.now legs needs number) }
+{
+    let name = name_of(alloc, job)?;
+    let copy = job.copy(alloc)?;
+    Ok(JobPlan {
+        condition: copy.condition,
+        env: copy.env,
+        fail_fast: copy.fail_fast,
+        group: copy.group,
+        id: copy.id,
+        legs,
+        max_parallel: copy.max_parallel,
+        name,
+        needs,
+        number,
+        outputs: copy.outputs,
+        steps: copy.steps,
+        tolerate: copy.tolerate,
+    })
+}
+
+/// The job of a plan with this number, which passes its tests.
+#[tactic(auto, using(crate::proofs::Answering::memory_answered))]
+fn tested_job(
+    alloc: Global,
+    jobs: &Sequence<FlowJob>,
+    order: &Sequence<usize>,
+    first: u64,
+    number: u64,
+    job: &FlowJob,
+) -> Result<JobPlan, PlanFault>
+    requires { first + length order.now < 2 ^ 64 }
+    ensures { MakesJob jobs.now order.now first number job.now result }
+{
+    let legs = tested_legs(alloc, number, job)?;
+    let needs = needs_of(alloc, jobs, order, first, &job.needs)?;
+    Ok(job_with(alloc, job, legs, needs, number)?)
+}
+
+/// Adds the job that stands at a place, if one does.
+#[tactic(auto, using(crate::proofs::Answering::memory_answered))]
+fn push_job(
+    alloc: Global,
+    jobs: &Sequence<FlowJob>,
+    order: &Sequence<usize>,
+    first: u64,
+    place: usize,
+    plans: &mut Vec<JobPlan>,
+) -> Result<(), PlanFault>
+    requires fits { first + length order.now < 2 ^ 64 }
+    requires room { first + length plans.old.items < 2 ^ 64 }
+    ensures { PushesJob jobs.now order.now first place plans.old.items plans.new.items result }
+{
+    match job_at(jobs, place) {
+        Some(job) => {
+            let number = first + plans.len() as u64;
+            match tested_job(alloc, jobs, order, first, number, job) {
+                Ok(plan) => {
+                    plans.push(plan)?;
+                    Ok(())
+                },
+                Err(fault) => Err(fault),
+            }
+        },
+        None => Ok(()),
+    }
+}
+
+/// The jobs of a run that stand at these places, of which the first has the number `first`.
+pub(crate) fn jobs_of(
+    alloc: Global,
+    jobs: &Sequence<FlowJob>,
+    order: &Sequence<usize>,
+    first: u64,
+) -> Result<Sequence<JobPlan>, PlanFault>
+    requires { first + length order.now < 2 ^ 64 }
+    ensures { MakesJobs jobs.now order.now first result }
+{
+    let places = order.as_slice();
+    let mut plans = Vec::new(alloc);
+    for place in places {
+        if let Err(fault) = push_job(alloc, jobs, order, first, *place, &mut plans) {
+            return Err(fault);
+        }
+    }
+    Ok(Sequence::new(plans))
+}

@@ -1,0 +1,28 @@
+//! Laws of the definitions, as contracts of functions that do nothing.
+
+ghost use Rattle.plan_assembler.specs.Laws.{OneStaging, NeedsFall, NoStagesInCycles, OnePlan, LegsAloneAreLeft};
+
+/// The stages of jobs are the only ones.
+pub fn one_staging()
+    ensures { OneStaging }
+{}
+
+/// A job has a greater stage than all that it needs, directly or not.
+pub fn needs_fall()
+    ensures { NeedsFall }
+{}
+
+/// Where a job needs itself, directly or not, there are no stages.
+pub fn no_stages_in_cycles()
+    ensures { NoStagesInCycles }
+{}
+
+/// The same workflows, contexts and choice come to one plan at most.
+pub fn one_plan()
+    ensures { OnePlan }
+{}
+
+/// Once the tests before it have passed, only the count of legs can fail.
+pub fn legs_alone_are_left()
+    ensures { LegsAloneAreLeft }
+{}

@@ -1,0 +1,106 @@
+//! The order of a run's jobs, and the numbers of their needs.
+
+ghost use Rattle.std.specs.Prelude.{◌≡◌, ◌<◌, ◌+◌, ◌^◌, ◌++◌, true, false, IfOk, OnOk, length, get_or, nat_eq};
+ghost use Rattle.std.specs.List.{filter, list_any};
+ghost use Rattle.plan_assembler.specs.Order as spec;
+
+use flow_model::Sequence;
+use std::alloc::{AllocError, Global};
+
+/// Adds the places that have this stage.
+fn push_stage(
+    order: &mut Vec<usize>,
+    stages: &Sequence<usize>,
+    stage: usize,
+) -> Result<(), AllocError>
+    ensures { OnOk result (order.new.items ≡ order.old.items ++ spec.places_of stage 0 stages.now) }
+{
+    let stages = stages.as_slice();
+    for (place, found) in stages.iter().enumerate() {
+        if *found == stage {
+            order.push(place)?;
+        }
+    }
+    Ok(())
+}
+
+/// All places, by their stage.
+fn by_stage(alloc: Global, stages: &Sequence<usize>) -> Result<Sequence<usize>, AllocError>
+    ensures { IfOk result (λ order. order ≡ spec.by_stage (length stages.now) 0 stages.now) }
+{
+    let mut order = Vec::with_capacity(alloc, stages.len())?;
+    for stage in 0..stages.len() {
+        push_stage(&mut order, stages, stage)?;
+    }
+    Ok(Sequence::new(order))
+}
+
+/// Whether a job is chosen.
+fn is_chosen(chosen: &Sequence<bool>, job: usize) -> bool
+    ensures { result ≡ get_or chosen.now job false }
+{
+    match chosen.as_slice().get(job) {
+        Some(mark) => *mark,
+        None => false,
+    }
+}
+
+/// The chosen ones of these places.
+fn kept(
+    alloc: Global,
+    places: &Sequence<usize>,
+    chosen: &Sequence<bool>,
+) -> Result<Sequence<usize>, AllocError>
+    ensures kept { IfOk result (λ order. order ≡ filter (λ j. get_or chosen.now j false) places.now) }
+    ensures long { IfOk result (λ order. length order < 2 ^ 63) }
+{
+    let places = places.as_slice();
+    let mut order = Vec::new(alloc);
+    for place in places {
+        if is_chosen(chosen, *place) {
+            order.push(*place)?;
+        }
+    }
+    Ok(Sequence::new(order))
+}
+
+/// The chosen jobs, by their stage and then by their id.
+pub(crate) fn order_of(
+    alloc: Global,
+    stages: &Sequence<usize>,
+    chosen: &Sequence<bool>,
+) -> Result<Sequence<usize>, AllocError>
+    ensures order { IfOk result (λ order. order ≡ spec.order_of stages.now chosen.now) }
+    ensures long { IfOk result (λ order. length order < 2 ^ 63) }
+{
+    let places = by_stage(alloc, stages)?;
+    kept(alloc, &places, chosen)
+}
+
+/// Whether a job is among needs.
+fn is_needed(needs: &Sequence<usize>, job: usize) -> bool
+    ensures { result ≡ list_any (nat_eq job) needs.now }
+{
+    let needs = needs.as_slice();
+    needs.iter().any(|need| job == *need)
+}
+
+/// The numbers of those jobs that are needed, where the first job has the number `first`.
+pub(crate) fn numbers_of(
+    alloc: Global,
+    first: u64,
+    order: &Sequence<usize>,
+    needs: &Sequence<usize>,
+) -> Result<Sequence<u64>, AllocError>
+    requires { first + length order.now < 2 ^ 64 }
+    ensures { IfOk result (λ numbers. numbers ≡ spec.numbers_of first order.now needs.now) }
+{
+    let order = order.as_slice();
+    let mut numbers = Vec::new(alloc);
+    for (place, job) in order.iter().enumerate() {
+        if is_needed(needs, *job) {
+            numbers.push(first + place as u64)?;
+        }
+    }
+    Ok(Sequence::new(numbers))
+}

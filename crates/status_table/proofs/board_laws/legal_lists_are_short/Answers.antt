@@ -1,0 +1,5 @@
+use Rattle.status_table.proofs.Lawfulness.{legal_short}
+use Rattle.status_table.proofs.board_laws.legal_lists_are_short.Goals as goal
+
+pub returns : goal.returns
+returns c = λ p rules es b h. legal_short p ((c.rules_hold.ensures p).0 rules) es b h

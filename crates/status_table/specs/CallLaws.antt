@@ -1,0 +1,98 @@
+-- Laws of the call that a step makes: the variables that it is given, and the inputs of its action.
+use Rattle.std.specs.Prelude.{◌≡◌, ℕ, List, [], Some, Ok, Err}
+use Rattle.flow_model.specs.Mapping.{value_at, Ascends}
+use Rattle.flow_model.specs.Sound.{Each}
+use Rattle.flow_model.specs.declared.board.Board.{Board}
+use Rattle.flow_model.specs.declared.event.Event.TheVariants as event
+use Rattle.flow_model.specs.declared.plan.JobPlan.{JobPlan}
+use Rattle.flow_model.specs.declared.plan.Plan.{Plan}
+use Rattle.flow_model.specs.declared.plan.RunPlan.{RunPlan}
+use Rattle.flow_model.specs.declared.plan.StepPlan.{StepPlan}
+use Rattle.flow_model.specs.declared.plan.Work.{Work}
+use Rattle.flow_model.specs.declared.plan.Work.TheVariants as work
+use Rattle.flow_model.specs.declared.reply.CallWork.{CallWork}
+use Rattle.flow_model.specs.declared.reply.CallWork.TheVariants as call_work
+use Rattle.flow_model.specs.declared.reply.StepCall.{StepCall}
+use Rattle.flow_model.specs.declared.reply.What.{What}
+use Rattle.flow_model.specs.declared.reply.What.TheVariants as what
+use Rattle.status_table.specs.Decisions.{seen_from}
+use Rattle.status_table.specs.Place.{LegAt, leg_at}
+use Rattle.status_table.specs.Row.{Row, row, next_step}
+use Rattle.text_values.specs.Env.{env_value, laid_over, or_below}
+use Rattle.text_values.specs.Values.{Env}
+use Rattle.text_values.specs.declared.place.Place.TheVariants as place
+
+-- ---- plans whose maps name each key once, in the byte order of the keys; a `Mapping` never does otherwise
+
+-- the inputs of an action do
+abbrev pub WorkInOrder : Work → Type 0
+WorkInOrder (work.Run dir run shell) = Unit {0}
+WorkInOrder (work.Uses uses given) = Ascends given
+
+-- the variables and the inputs of a step do
+pub record StepInOrder (step : StepPlan) : Type 0 where
+  pub env : Ascends step.env
+  pub work : WorkInOrder step.work
+
+-- the variables of a job do, and what its steps have
+pub record JobInOrder (job : JobPlan) : Type 0 where
+  pub env : Ascends job.env
+  pub steps : Each StepInOrder job.steps
+
+-- the variables of a workflow do, and what its jobs have
+pub record RunInOrder (run : RunPlan) : Type 0 where
+  pub env : Ascends run.env
+  pub jobs : Each JobInOrder run.jobs
+
+-- those of each run do
+abbrev pub PlanInOrder : Plan → Type 0
+PlanInOrder p = Each RunInOrder p.runs
+
+-- ---- the call that an answer carries
+
+-- If a call is carried, P holds of it.
+abbrev pub IfCall : (StepCall → Type 0) → What → Type 0
+IfCall P what.Moved = Unit {0}
+IfCall P (what.Call call) = P call
+IfCall P what.Skipped = Unit {0}
+IfCall P (what.Faulted fault) = Unit {0}
+
+-- If a row is accepted with a reply that carries a call, P holds of it.
+abbrev pub IfCalled : (StepCall → Type 0) → Row → Type 0
+IfCalled P (Ok x) = IfCall P x.1.what
+IfCalled P (Err refusal) = Unit {0}
+
+-- ---- laws
+
+-- The inputs of an action are named in order, each once.
+abbrev pub AskedInOrder : CallWork → Type 0
+AskedInOrder (call_work.Script text shell dir) = Unit {0}
+AskedInOrder (call_work.Uses uses inputs) = Ascends inputs
+
+-- A call names each variable once, in the byte order of the names, and each input likewise.
+pub record CallInOrder (call : StepCall) : Type 0 where
+  pub env : Ascends call.env
+  pub work : AskedInOrder call.work
+
+-- Each call that a legal Begin makes is one such.
+abbrev pub CallsAreInOrder : Type 0
+CallsAreInOrder =
+    (p : Plan) (b : Board) (worker l : ℕ) → PlanInOrder p → IfCalled CallInOrder (row p b worker (event.Begin l))
+
+-- The variables of a call are those of three levels: of the workflow, which see no variables, of the job, which see none,
+-- and of the step, which see those of the two. The most specific level that has a name gives its value, and a name that
+-- none of them has is not there.
+pub record MostSpecificIsGiven (at : LegAt) (step : StepPlan) (call : StepCall) : Type 0 where
+  pub workflow : Env
+  pub job : Env
+  pub own : Env
+  pub workflow_is : env_value (seen_from at place.WorkflowEnv []) at.run_plan.env ≡ Ok workflow
+  pub job_is : env_value (seen_from at place.JobEnv []) at.job_plan.env ≡ Ok job
+  pub own_is : env_value (seen_from at place.StepEnv (laid_over job workflow)) step.env ≡ Ok own
+  pub given : (name : List ℕ) → value_at name call.env ≡ or_below (value_at name own) (or_below (value_at name job) (value_at name workflow))
+
+-- That is so of each call that a legal Begin makes of the next step of a leg.
+abbrev pub CallsAreMostSpecific : Type 0
+CallsAreMostSpecific =
+    (p : Plan) (b : Board) (worker l : ℕ) (at : LegAt) (step : StepPlan) → PlanInOrder p → leg_at p b l ≡ Some at → next_step at ≡ Some step
+    → IfCalled (MostSpecificIsGiven at step) (row p b worker (event.Begin l))

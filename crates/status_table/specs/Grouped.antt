@@ -1,0 +1,84 @@
+-- The concurrency groups as they are kept by names, after whole lists of entries: each entry asks of them what its event asks
+-- on the board before it.
+use Rattle.std.specs.Prelude.{◌≡◌, ℕ, true, false, List, [], ◌∷◌, Option, Some, None, Ok, Err}
+use Rattle.flow_model.specs.Mapping.{value_at, Ascends}
+use Rattle.flow_model.specs.declared.board.Board.{Board}
+use Rattle.flow_model.specs.declared.event.Entry.{Entry}
+use Rattle.flow_model.specs.declared.event.Event.{Event}
+use Rattle.flow_model.specs.declared.event.Event.TheVariants as event
+use Rattle.flow_model.specs.declared.event.Member.TheVariants as member
+use Rattle.flow_model.specs.declared.plan.Plan.{Plan}
+use Rattle.group_admission.specs.Content.{Content, EachOnce, is_in_group}
+use Rattle.status_table.specs.Admissions.{Shows, opened, asked, left}
+use Rattle.status_table.specs.Decisions.{run_entrance, leg_entrance}
+use Rattle.status_table.specs.Groups.{run_standing, leg_standing}
+use Rattle.status_table.specs.Moves.{is_accepted}
+use Rattle.status_table.specs.Place.{RunAt, LegAt, run_at, leg_at}
+use Rattle.status_table.specs.Row.{Row, row}
+use Rattle.status_table.specs.Runs.{new_board}
+
+-- ---- what the groups keep after an event
+
+-- the run that is opened, where there is one, enters its group
+abbrev pub run_opened : Content → ℕ → Option RunAt → Content
+run_opened groups r None = groups
+run_opened groups r (Some at) = opened groups r (run_entrance at)
+
+-- the leg that asks, where there is one, enters its group
+abbrev pub leg_asked : Content → ℕ → Option LegAt → Content
+leg_asked groups l None = groups
+leg_asked groups l (Some at) = asked groups l at.place.run (leg_entrance at)
+
+-- the run that ends, where there is one, leaves its group
+abbrev pub run_left : Content → ℕ → Option RunAt → Content
+run_left groups r None = groups
+run_left groups r (Some at) = left groups (member.Run r) (run_standing at.run)
+
+-- the leg that ends, where there is one, leaves its group
+abbrev pub leg_left : Content → ℕ → Option LegAt → Content
+leg_left groups l None = groups
+leg_left groups l (Some at) = left groups (member.Leg l) (leg_standing at.leg)
+
+-- The groups after what an event asks of them on a board.
+abbrev pub after_event : Plan → Board → Content → Event → Content
+after_event p b groups (event.Open r) = run_opened groups r (run_at p b r)
+after_event p b groups (event.Judge j) = groups
+after_event p b groups (event.Ask l) = leg_asked groups l (leg_at p b l)
+after_event p b groups (event.Drop l) = leg_left groups l (leg_at p b l)
+after_event p b groups (event.Take l) = groups
+after_event p b groups (event.Begin l) = groups
+after_event p b groups (event.End l a) = groups
+after_event p b groups (event.Finish l) = leg_left groups l (leg_at p b l)
+after_event p b groups (event.Close r) = run_left groups r (run_at p b r)
+after_event p b groups (event.Cancel r) = groups
+
+-- ---- what they keep after a list of entries
+
+-- what follows a row: if it is refused, the groups stay
+abbrev pub then_groups : Row → Content → (Board → Content) → Content
+then_groups (Ok x) groups rest = rest x.0
+then_groups (Err refusal) groups rest = groups
+
+-- The groups after entries on this board, up to the first that is refused.
+abbrev pub groups_from : Plan → Board → Content → List Entry → Content
+groups_from p b groups [] = groups
+groups_from p b groups (e ∷ es) =
+    then_groups (row p b e.worker e.event) groups (λ next. groups_from p next (after_event p b groups e.event) es)
+
+-- The groups after entries on the board on which all is new, where nobody is in a group.
+abbrev pub groups_after : Plan → List Entry → Content
+groups_after p es = groups_from p (new_board p) [] es
+
+-- ---- what is true of them
+
+-- A board shows the groups. Their names are in order, and none is empty; and no member stands in two places.
+pub record KeptAsShown (groups : Content) (b : Board) : Type 0 where
+  pub shown : Shows groups b
+  pub ordered : Ascends groups
+  pub named : value_at [] groups ≡ None
+  pub once : EachOnce groups
+
+-- Whoever may enter a group on a board is in none: a run that may be opened, and a leg that may ask.
+pub record EntersFromOutside (p : Plan) (b : Board) (groups : Content) : Type 0 where
+  pub opener : (worker r : ℕ) → is_accepted (row p b worker (event.Open r)) ≡ true → is_in_group (member.Run r) groups ≡ false
+  pub asker : (worker l : ℕ) → is_accepted (row p b worker (event.Ask l)) ≡ true → is_in_group (member.Leg l) groups ≡ false

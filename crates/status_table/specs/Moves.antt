@@ -1,0 +1,58 @@
+-- What a clerk may do on a board, whether all is done, and whether nothing can go on.
+use Rattle.std.specs.Prelude.{ℕ, zero, suc, ◌&&◌, ◌++◌, Bool, true, false, not, List, [], ◌∷◌, length, map, filter, Ok, Err}
+use Rattle.std.specs.List.{list_all, list_any}
+use Rattle.flow_model.specs.Numbers.{board_jobs, board_legs}
+use Rattle.flow_model.specs.declared.plan.Plan.{Plan}
+use Rattle.flow_model.specs.declared.board.Board.{Board}
+use Rattle.flow_model.specs.declared.board.LegState.{LegState}
+use Rattle.flow_model.specs.declared.board.LegState.TheVariants as leg_state
+use Rattle.flow_model.specs.declared.event.Event.{Event}
+use Rattle.flow_model.specs.declared.event.Event.TheVariants as event
+use Rattle.status_table.specs.Derived.{is_closed}
+use Rattle.status_table.specs.Row.{Row, row}
+
+-- the numbers below n, ascending
+abbrev pub numbers : ℕ → List ℕ
+numbers zero = []
+numbers (suc n) = numbers n ++ n ∷ []
+
+-- The events that a clerk may report: Close, Open, Judge, Drop and Ask, in this order, each of every number.
+abbrev pub clerk_events : Board → List Event
+clerk_events b =
+    map event.Close (numbers (length b.runs)) ++ (map event.Open (numbers (length b.runs))
+    ++ (map event.Judge (numbers (length (board_jobs b)))
+    ++ (map event.Drop (numbers (length (board_legs b))) ++ map event.Ask (numbers (length (board_legs b))))))
+
+-- whether a row is no refusal
+abbrev pub is_accepted : Row → Bool
+is_accepted (Ok done) = true
+is_accepted (Err refusal) = false
+
+-- whether an event is accepted. It is none that asks who the worker is, so worker 0 stands for each.
+abbrev pub accepts : Plan → Board → Event → Bool
+accepts p b e = is_accepted (row p b 0 e)
+
+-- Those of the clerk's events that are accepted.
+abbrev pub moves : Plan → Board → List Event
+moves p b = filter (accepts p b) (clerk_events b)
+
+-- Every run is Closed.
+abbrev pub finished : Board → Bool
+finished b = list_all (λ run. is_closed run.state) b.runs
+
+-- a leg that has a worker, or may be taken by one
+abbrev pub is_active : LegState → Bool
+is_active leg_state.Fresh = false
+is_active leg_state.Waiting = false
+is_active leg_state.Admitted = true
+is_active (leg_state.Running worker in_call) = true
+is_active (leg_state.Ended result tolerated) = false
+
+-- whether there is none
+abbrev pub is_none_left : List Event → Bool
+is_none_left [] = true
+is_none_left (e ∷ es) = false
+
+-- Not all runs are Closed, and yet there is nothing that a clerk may do and no leg for a worker.
+abbrev pub stalled : Plan → Board → Bool
+stalled p b = not (finished b) && (is_none_left (moves p b) && not (list_any (λ leg. is_active leg.state) (board_legs b)))

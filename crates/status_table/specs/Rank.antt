@@ -1,0 +1,51 @@
+-- How many more entries a board may accept at most.
+use Rattle.std.specs.Prelude.{ℕ, ◌+◌, ◌-◌, ◌*◌, Bool, true, false, length, sum_by, cond}
+use Rattle.flow_model.specs.Numbers.{board_jobs, board_legs}
+use Rattle.flow_model.specs.declared.board.Board.{Board}
+use Rattle.flow_model.specs.declared.board.Run.{Run}
+use Rattle.flow_model.specs.declared.board.RunState.{RunState}
+use Rattle.flow_model.specs.declared.board.RunState.TheVariants as run_state
+use Rattle.flow_model.specs.declared.board.Job.{Job}
+use Rattle.flow_model.specs.declared.board.JobState.{JobState}
+use Rattle.flow_model.specs.declared.board.JobState.TheVariants as job_state
+use Rattle.flow_model.specs.declared.board.Leg.{Leg}
+use Rattle.flow_model.specs.declared.board.LegState.{LegState}
+use Rattle.flow_model.specs.declared.board.LegState.TheVariants as leg_state
+
+-- of a run: Open, Close, and Cancel if it was not told to stop
+abbrev pub run_rank : RunState → Bool → ℕ
+run_rank run_state.New stop = 2 + cond stop 0 1
+run_rank run_state.Waiting stop = 1 + cond stop 0 1
+run_rank run_state.Going stop = 1 + cond stop 0 1
+run_rank (run_state.Closed result) stop = 0
+
+-- of a job: Judge
+abbrev pub job_rank : JobState → ℕ
+job_rank job_state.Unjudged = 1
+job_rank job_state.Open = 0
+job_rank (job_state.Shut result) = 0
+
+-- of a leg with so many steps left: Ask, Take, Begin and End of each, and Finish
+abbrev pub leg_rank : LegState → ℕ → ℕ
+leg_rank leg_state.Fresh left = 3 + 2 * left
+leg_rank leg_state.Waiting left = 2 + 2 * left
+leg_rank leg_state.Admitted left = 2 + 2 * left
+leg_rank (leg_state.Running worker true) left = 2 * left
+leg_rank (leg_state.Running worker false) left = 1 + 2 * left
+leg_rank (leg_state.Ended result tolerated) left = 0
+
+-- of a run
+abbrev pub rank_of_run : Run → ℕ
+rank_of_run run = run_rank run.state run.stop
+
+-- of a job, without its legs
+abbrev pub rank_of_job : Job → ℕ
+rank_of_job job = job_rank job.state
+
+-- of a leg, where a job has 256 steps at most
+abbrev pub rank_of_leg : Leg → ℕ
+rank_of_leg leg = leg_rank leg.state (256 - length leg.steps)
+
+-- of a board
+abbrev pub rank : Board → ℕ
+rank b = sum_by rank_of_run b.runs + sum_by rank_of_job (board_jobs b) + sum_by rank_of_leg (board_legs b)

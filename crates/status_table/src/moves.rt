@@ -1,0 +1,217 @@
+//! What a clerk may do on a board: those of its events that the table accepts, found by the tests that the rows make.
+
+ghost use Rattle.std.specs.Prelude.{◌≡◌, ◌≤◌, ◌++◌, IfOk, filter, length, sum_by};
+ghost use Rattle.flow_model.specs.Numbers.{board_jobs, board_legs};
+ghost use Rattle.flow_model.specs.declared.event.Event.TheVariants as event;
+ghost use Rattle.status_table.specs.Kinds as spec;
+ghost use Rattle.status_table.specs.Moves as rule;
+
+use crate::decisions::is_stopping;
+use crate::derived::{is_full, jobs_have_ended, needs_have_ended};
+use crate::events::{may_ask, may_drop};
+use crate::place::{find_job, find_leg, find_run};
+use flow_model::{Board, Event, Job, JobState, Plan, Run, RunState};
+use std::alloc::{AllocError, Global};
+use text_values::Known;
+
+/// The kinds of a clerk's events.
+#[derive(Clone, Copy)]
+pub(crate) enum Kind {
+    Close,
+    Open,
+    Judge,
+    Drop,
+    Ask,
+}
+
+/// The event of a kind with a number.
+fn event_of(kind: Kind, number: u64) -> Event
+    ensures { result ≡ spec.event_of kind number }
+{
+    match kind {
+        Kind::Close => Event::Close { run: number },
+        Kind::Open => Event::Open { run: number },
+        Kind::Judge => Event::Judge { job: number },
+        Kind::Drop => Event::Drop { leg: number },
+        Kind::Ask => Event::Ask { leg: number },
+    }
+}
+
+/// Whether a run may be closed.
+fn closes(plan: &Plan, board: &Board, number: u64) -> bool
+    ensures { result ≡ rule.accepts plan.now board.now (event.Close number) }
+{
+    let Some(at) = find_run(plan, board, number as usize) else {
+        return false;
+    };
+    match at.run.state {
+        RunState::New => at.run.stop,
+        RunState::Waiting => at.run.stop,
+        RunState::Going => jobs_have_ended(at.run),
+        RunState::Closed(_) => false,
+    }
+}
+
+/// Whether a run may be opened.
+#[tactic(auto, using(crate::proofs::Accepting::run_enters_accepted))]
+fn opens(plan: &Plan, board: &Board, number: u64) -> bool
+    ensures { result ≡ rule.accepts plan.now board.now (event.Open number) }
+{
+    let Some(at) = find_run(plan, board, number as usize) else {
+        return false;
+    };
+    match at.run.state {
+        RunState::New => !at.run.stop,
+        RunState::Waiting => false,
+        RunState::Going => false,
+        RunState::Closed(_) => false,
+    }
+}
+
+/// Whether a job may be judged.
+fn judges(plan: &Plan, board: &Board, number: u64) -> bool
+    ensures { result ≡ rule.accepts plan.now board.now (event.Judge number) }
+{
+    let Some(at) = find_job(plan, board, number as usize) else {
+        return false;
+    };
+    match (at.run.state, at.job.state) {
+        (RunState::Going, JobState::Unjudged) => {
+            let first = number.saturating_sub(at.place.job as u64);
+            needs_have_ended(first, at.run, at.plan)
+        },
+        (RunState::Going, JobState::Open) => false,
+        (RunState::Going, JobState::Shut(_)) => false,
+        (RunState::New, _) => false,
+        (RunState::Waiting, _) => false,
+        (RunState::Closed(_), _) => false,
+    }
+}
+
+/// Whether a leg may be dropped.
+fn drops(alloc: Global, plan: &Plan, board: &Board, number: u64) -> Result<bool, AllocError>
+    ensures { IfOk result (λ yes. yes ≡ rule.accepts plan.now board.now (event.Drop number)) }
+{
+    let Some(at) = find_leg(plan, board, number as usize) else {
+        return Ok(false);
+    };
+    if !may_drop(&at) {
+        return Ok(false);
+    }
+    is_stopping(alloc, &at, &mut Known::empty(alloc))
+}
+
+/// Whether a leg may ask.
+#[tactic(auto, using(crate::proofs::Accepting::leg_enters_accepted))]
+fn asks(alloc: Global, plan: &Plan, board: &Board, number: u64) -> Result<bool, AllocError>
+    ensures { IfOk result (λ yes. yes ≡ rule.accepts plan.now board.now (event.Ask number)) }
+{
+    let Some(at) = find_leg(plan, board, number as usize) else {
+        return Ok(false);
+    };
+    if !may_ask(&at) || is_full(at.job_plan, at.job) {
+        return Ok(false);
+    }
+    let stops = is_stopping(alloc, &at, &mut Known::empty(alloc))?;
+    Ok(!stops)
+}
+
+/// Whether the table accepts a clerk's event.
+fn accepts(
+    alloc: Global,
+    plan: &Plan,
+    board: &Board,
+    kind: Kind,
+    number: u64,
+) -> Result<bool, AllocError>
+    ensures { IfOk result (λ yes. yes ≡ rule.accepts plan.now board.now (spec.event_of kind number)) }
+{
+    match kind {
+        Kind::Close => Ok(closes(plan, board, number)),
+        Kind::Open => Ok(opens(plan, board, number)),
+        Kind::Judge => Ok(judges(plan, board, number)),
+        Kind::Drop => drops(alloc, plan, board, number),
+        Kind::Ask => asks(alloc, plan, board, number),
+    }
+}
+
+/// The events of a kind that the table accepts, by ascending number, after others.
+#[tactic(auto, using(crate::proofs::Accepting::one_more, crate::proofs::Accepting::none_more))]
+fn add_moves(
+    alloc: Global,
+    plan: &Plan,
+    board: &Board,
+    kind: Kind,
+    count: usize,
+    events: Vec<Event>,
+) -> Result<Vec<Event>, AllocError>
+    ensures { IfOk result (λ all. all.items
+        ≡ events.items ++ filter (rule.accepts plan.now board.now) (spec.events_of kind count)) }
+{
+    let mut all = events;
+    for number in 0..count {
+        if accepts(alloc, plan, board, kind, number as u64)? {
+            all.push(event_of(kind, number as u64))?;
+        }
+    }
+    Ok(all)
+}
+
+/// How many jobs some runs have.
+#[tactic(auto, using(crate::proofs::Accepting::first_within))]
+fn count_jobs(runs: &[Run]) -> usize
+    requires { sum_by (λ run. length run.jobs) runs.now ≤ 4096 }
+    ensures { result ≡ sum_by (λ run. length run.jobs) runs.now }
+{
+    let mut count = 0;
+    for run in runs {
+        count += run.jobs.len();
+    }
+    count
+}
+
+/// How many legs some jobs have.
+#[tactic(auto, using(crate::proofs::Accepting::first_within))]
+fn count_legs_of(jobs: &[Job]) -> usize
+    requires { sum_by (λ job. length job.legs) jobs.now ≤ 4096 }
+    ensures { result ≡ sum_by (λ job. length job.legs) jobs.now }
+{
+    let mut count = 0;
+    for job in jobs {
+        count += job.legs.len();
+    }
+    count
+}
+
+/// How many legs some runs have.
+#[tactic(auto, using(crate::proofs::Accepting::first_within))]
+fn count_legs(runs: &[Run]) -> usize
+    requires { sum_by (λ run. sum_by (λ job. length job.legs) run.jobs) runs.now ≤ 4096 }
+    ensures { result ≡ sum_by (λ run. sum_by (λ job. length job.legs) run.jobs) runs.now }
+{
+    let mut count = 0;
+    for run in runs {
+        count += count_legs_of(run.jobs.as_slice());
+    }
+    count
+}
+
+/// The clerk's events that the table accepts on a board.
+pub(crate) fn find_moves(
+    alloc: Global,
+    plan: &Plan,
+    board: &Board,
+) -> Result<Vec<Event>, AllocError>
+    requires jobs { length (board_jobs board.now) ≤ 4096 }
+    requires legs { length (board_legs board.now) ≤ 4096 }
+    ensures { IfOk result (λ all. all.items ≡ rule.moves plan.now board.now) }
+{
+    let runs = board.runs.as_slice();
+    let jobs = count_jobs(runs);
+    let legs = count_legs(runs);
+    let closed = add_moves(alloc, plan, board, Kind::Close, runs.len(), Vec::new(alloc))?;
+    let opened = add_moves(alloc, plan, board, Kind::Open, runs.len(), closed)?;
+    let judged = add_moves(alloc, plan, board, Kind::Judge, jobs, opened)?;
+    let dropped = add_moves(alloc, plan, board, Kind::Drop, legs, judged)?;
+    add_moves(alloc, plan, board, Kind::Ask, legs, dropped)
+}
