@@ -124,13 +124,16 @@ pub ended-run : (run : Run) (t : RunState) (plans : List JobPlan) (jobs : List J
 ended-run run t [] [] unclosed ended h = tt
 ended-run run t [] (x ∷ xs) unclosed ended h = absurd h
 ended-run run t (q ∷ qs) [] unclosed ended h = absurd h
-ended-run run t (q ∷ qs) (x ∷ xs) unclosed ended h = (record {
-  legs = both-weaker (leg_stands_right run.state run.group x.state) (leg_has_ended run x) (leg_stands_right t run.group x.state)
-      (λ leg. ended-right run.state t run.group x.state leg unclosed) x.legs h.0.legs (and-left (job_has_ended run x) (list_all (job_has_ended run) xs) ended);
-  slots = h.0.slots;
-  some = h.0.some;
-  steps = h.0.steps;
-}, ended-run run t qs xs unclosed (and-right (job_has_ended run x) (list_all (job_has_ended run) xs) ended) h.1)
+ended-run run t (q ∷ qs) (x ∷ xs) unclosed ended h = (
+  record {
+    legs = both-weaker (leg_stands_right run.state run.group x.state) (leg_has_ended run x) (leg_stands_right t run.group x.state)
+        (λ leg. ended-right run.state t run.group x.state leg unclosed) x.legs h.0.legs (and-left (job_has_ended run x) (list_all (job_has_ended run) xs) ended);
+    slots = h.0.slots;
+    some = h.0.some;
+    steps = h.0.steps;
+  },
+  ended-run run t qs xs unclosed (and-right (job_has_ended run x) (list_all (job_has_ended run) xs) ended) h.1,
+)
 
 -- ---- who stands how
 
