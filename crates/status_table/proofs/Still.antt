@@ -1,5 +1,5 @@
 -- Events that take part in no group: who holds a name and who waits for it is found as before.
-use Rattle.std.proofs.Common.{◌≡◌, ℕ, zero, suc, ◌||◌, Bool, true, false, not, List, [], ◌∷◌, ◌++◌, Option, Some, None, Result, Ok, Err, slice_get, nat_le, if◌then◌else◌, ap, subst, sym, refl, ◌∙◌}
+use Rattle.std.proofs.Common.{◌≡◌, ℕ, zero, suc, ◌||◌, Bool, true, false, List, [], ◌∷◌, ◌++◌, Option, Some, None, Result, Ok, Err, slice_get, nat_le, if◌then◌else◌, ap, subst, sym, refl, ◌∙◌}
 use Rattle.std.specs.List.{flat_map}
 use Rattle.flow_model.specs.Numbers.{board_legs}
 use Rattle.flow_model.specs.declared.plan.Plan.{Plan}

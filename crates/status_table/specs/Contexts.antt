@@ -58,12 +58,12 @@ abbrev pub leg_of_job : Board → JobPlace → LegPlace → Option Leg
 leg_of_job b job place = if (place.run == job.run) && (place.job == job.job) then leg_there b place else None
 
 -- The leg with a number, where it is one of the job.
-abbrev pub numbered_leg : Board → JobPlace → ℕ → Option Leg
-numbered_leg b job l = leg_place b l >>= leg_of_job b job
+abbrev pub job_leg : Board → JobPlace → ℕ → Option Leg
+job_leg b job l = leg_place b l >>= leg_of_job b job
 
 -- The legs of a job that are Ended, in the order in which they became so.
 abbrev pub ended_legs : Board → JobPlace → List Leg
-ended_legs b job = filter_map (numbered_leg b job) b.ends
+ended_legs b job = filter_map (job_leg b job) b.ends
 
 -- Levels of names and texts laid one over another, the last above all.
 abbrev pub overlaid : List Env → Env → Env
