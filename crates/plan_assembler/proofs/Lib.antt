@@ -4,6 +4,7 @@ pub mod Cycles
 pub mod EventNames
 pub mod FirstJob
 pub mod FlowTexts
+pub mod IdPlaces
 pub mod JobSteps
 pub mod LegValues
 pub mod LegsAlone

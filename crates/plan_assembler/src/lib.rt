@@ -8,7 +8,7 @@
 //! found by counts of the needs that have none yet. What follows from the definitions alone stands in `laws`.
 //!
 //! It stands on `expr_reader`, which reads the texts that are evaluated, on `flow_model`, on `matrix_expand` for the legs
-//! of a job, and on `thiserror` for its errors.
+//! of a job, on `indexmap` for the places of ids, and on `thiserror` for its errors.
 
 #![tactic(auto)]
 
@@ -16,6 +16,7 @@ mod choice;
 mod chosen;
 mod events;
 mod fault;
+mod index;
 mod jobs;
 pub mod laws;
 mod layout;
