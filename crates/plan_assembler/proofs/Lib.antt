@@ -1,8 +1,10 @@
 pub mod Answering
 pub mod Counts
 pub mod Cycles
+pub mod EventNames
 pub mod FirstJob
 pub mod FlowTexts
+pub mod IdPlaces
 pub mod JobSteps
 pub mod LegValues
 pub mod LegsAlone

@@ -1,6 +1,8 @@
 pub mod Chosen
+pub mod Events
 pub mod Faults
 pub mod Graph
+pub mod Index
 pub mod Kahn
 pub mod Laws
 pub mod Layout

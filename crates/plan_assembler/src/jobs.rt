@@ -2,6 +2,7 @@
 
 ghost use Rattle.std.specs.Prelude.{◌≡◌, ◌<◌, ◌+◌, ◌^◌, ℕ, [], ◌∷◌, Err, IfOk, List, Option, length, map, unwrap_or};
 ghost use Rattle.flow_model.specs.declared.plan.Matrix.{Matrix as MatrixOf};
+ghost use Rattle.plan_assembler.specs.Index.{Indexes};
 ghost use Rattle.plan_assembler.specs.Layout as layout;
 ghost use Rattle.plan_assembler.specs.Order as order_spec;
 ghost use Rattle.plan_assembler.specs.Plans as spec;
@@ -12,6 +13,7 @@ use crate::layout::{job_at, places_of};
 use crate::order::numbers_of;
 use crate::texts::job_texts;
 use flow_model::{Combo, Duplicate, FlowJob, JobPlan, Mapping, Matrix, Sequence, Text};
+use indexmap::IndexMap;
 use matrix_expand::{MatrixFault, expand};
 use std::alloc::{AllocError, Global};
 
@@ -63,16 +65,18 @@ fn tested_legs(alloc: Global, number: u64, job: &FlowJob) -> Result<Sequence<Com
 /// The numbers of what a job needs.
 fn needs_of(
     alloc: Global,
+    index: &IndexMap<String, usize>,
     jobs: &Sequence<FlowJob>,
     order: &Sequence<usize>,
     first: u64,
     needs: &Sequence<Text>,
 ) -> Result<Sequence<u64>, AllocError>
-    requires { first + length order.now < 2 ^ 64 }
+    requires indexed { Indexes (layout.ids_of jobs.now) index.now }
+    requires fits { first + length order.now < 2 ^ 64 }
     ensures { IfOk result (λ numbers. numbers
         ≡ order_spec.numbers_of first order.now (map (layout.place_of (layout.ids_of jobs.now)) needs.now)) }
 {
-    let places = places_of(alloc, jobs, needs)?;
+    let places = places_of(alloc, index, jobs, needs)?;
     numbers_of(alloc, first, order, &places)
 }
 
@@ -119,17 +123,19 @@ fn job_with(
 #[tactic(auto, using(crate::proofs::Answering::memory_answered))]
 fn tested_job(
     alloc: Global,
+    index: &IndexMap<String, usize>,
     jobs: &Sequence<FlowJob>,
     order: &Sequence<usize>,
     first: u64,
     number: u64,
     job: &FlowJob,
 ) -> Result<JobPlan, PlanFault>
-    requires { first + length order.now < 2 ^ 64 }
+    requires indexed { Indexes (layout.ids_of jobs.now) index.now }
+    requires fits { first + length order.now < 2 ^ 64 }
     ensures { MakesJob jobs.now order.now first number job.now result }
 {
     let legs = tested_legs(alloc, number, job)?;
-    let needs = needs_of(alloc, jobs, order, first, &job.needs)?;
+    let needs = needs_of(alloc, index, jobs, order, first, &job.needs)?;
     Ok(job_with(alloc, job, legs, needs, number)?)
 }
 
@@ -137,12 +143,14 @@ fn tested_job(
 #[tactic(auto, using(crate::proofs::Answering::memory_answered))]
 fn push_job(
     alloc: Global,
+    index: &IndexMap<String, usize>,
     jobs: &Sequence<FlowJob>,
     order: &Sequence<usize>,
     first: u64,
     place: usize,
     plans: &mut Vec<JobPlan>,
 ) -> Result<(), PlanFault>
+    requires indexed { Indexes (layout.ids_of jobs.now) index.now }
     requires fits { first + length order.now < 2 ^ 64 }
     requires room { first + length plans.old.items < 2 ^ 64 }
     ensures { PushesJob jobs.now order.now first place plans.old.items plans.new.items result }
@@ -150,7 +158,7 @@ fn push_job(
     match job_at(jobs, place) {
         Some(job) => {
             let number = first + plans.len() as u64;
-            match tested_job(alloc, jobs, order, first, number, job) {
+            match tested_job(alloc, index, jobs, order, first, number, job) {
                 Ok(plan) => {
                     plans.push(plan)?;
                     Ok(())
@@ -165,17 +173,19 @@ fn push_job(
 /// The jobs of a run that stand at these places, of which the first has the number `first`.
 pub(crate) fn jobs_of(
     alloc: Global,
+    index: &IndexMap<String, usize>,
     jobs: &Sequence<FlowJob>,
     order: &Sequence<usize>,
     first: u64,
 ) -> Result<Sequence<JobPlan>, PlanFault>
-    requires { first + length order.now < 2 ^ 64 }
+    requires indexed { Indexes (layout.ids_of jobs.now) index.now }
+    requires fits { first + length order.now < 2 ^ 64 }
     ensures { MakesJobs jobs.now order.now first result }
 {
     let places = order.as_slice();
     let mut plans = Vec::new(alloc);
     for place in places {
-        if let Err(fault) = push_job(alloc, jobs, order, first, *place, &mut plans) {
+        if let Err(fault) = push_job(alloc, index, jobs, order, first, *place, &mut plans) {
             return Err(fault);
         }
     }

@@ -4,15 +4,18 @@ ghost use Rattle.std.specs.Prelude.{◌≡◌, ◌<◌, ◌^◌, true, false, If
 ghost use Rattle.std.specs.Option.{option_copied};
 ghost use Rattle.std.specs.List.{list_all, list_any};
 ghost use Rattle.plan_assembler.specs.Graph.{IsGraph};
+ghost use Rattle.plan_assembler.specs.Index.{Indexes};
 ghost use Rattle.plan_assembler.specs.Layout as spec;
 ghost use Rattle.plan_assembler.specs.Layout.{AreTaken, IsOrder};
 
 use crate::choice::Choice;
 use crate::chosen::chosen_for;
 use crate::fault::PlanFault;
+use crate::index::{is_id, place_of};
 use crate::order::order_of;
 use crate::stages::find_stages;
 use flow_model::{FlowJob, Sequence, Text, Workflow};
+use indexmap::IndexMap;
 use std::alloc::{AllocError, Global};
 
 /// Whether a text is one of these.
@@ -48,26 +51,18 @@ pub(crate) fn job_at(jobs: &Sequence<FlowJob>, place: usize) -> Option<&FlowJob>
     jobs.as_slice().get(place)
 }
 
-/// The place of the job with this id, which is beyond all of them where none has it.
-fn place_of(jobs: &Sequence<FlowJob>, id: &Text) -> usize
-    ensures { result ≡ spec.place_of (spec.ids_of jobs.now) id.now }
-{
-    let jobs = jobs.as_slice();
-    for (place, job) in jobs.iter().enumerate() {
-        if id.as_str() == job.id.as_str() {
-            return place;
-        }
-    }
-    jobs.len()
-}
-
 /// Whether every need is a job.
-fn is_known(jobs: &Sequence<FlowJob>, needs: &Sequence<Text>) -> bool
+fn is_known(
+    index: &IndexMap<String, usize>,
+    jobs: &Sequence<FlowJob>,
+    needs: &Sequence<Text>,
+) -> bool
+    requires { Indexes (spec.ids_of jobs.now) index.now }
     ensures { result ≡ list_all (spec.is_one_of (spec.ids_of jobs.now)) needs.now }
 {
     let needs = needs.as_slice();
     for need in needs {
-        if !is_job(jobs, need) {
+        if !is_id(index, jobs, need) {
             return false;
         }
     }
@@ -75,12 +70,13 @@ fn is_known(jobs: &Sequence<FlowJob>, needs: &Sequence<Text>) -> bool
 }
 
 /// Whether every need of every job is a job.
-pub(crate) fn are_needs_known(jobs: &Sequence<FlowJob>) -> bool
+pub(crate) fn are_needs_known(index: &IndexMap<String, usize>, jobs: &Sequence<FlowJob>) -> bool
+    requires { Indexes (spec.ids_of jobs.now) index.now }
     ensures { result ≡ spec.are_needs_known jobs.now }
 {
     let from = jobs.as_slice();
     for job in from {
-        if !is_known(jobs, &job.needs) {
+        if !is_known(index, jobs, &job.needs) {
             return false;
         }
     }
@@ -90,15 +86,17 @@ pub(crate) fn are_needs_known(jobs: &Sequence<FlowJob>) -> bool
 /// The places of what a job needs.
 pub(crate) fn places_of(
     alloc: Global,
+    index: &IndexMap<String, usize>,
     jobs: &Sequence<FlowJob>,
     needs: &Sequence<Text>,
 ) -> Result<Sequence<usize>, AllocError>
+    requires { Indexes (spec.ids_of jobs.now) index.now }
     ensures { IfOk result (λ places. places ≡ map (spec.place_of (spec.ids_of jobs.now)) needs.now) }
 {
     let needs = needs.as_slice();
     let mut places = Vec::with_capacity(alloc, needs.len())?;
     for need in needs {
-        places.push(place_of(jobs, need))?;
+        places.push(place_of(index, jobs, need))?;
     }
     Ok(Sequence::new(places))
 }
@@ -106,14 +104,16 @@ pub(crate) fn places_of(
 /// What the jobs need, by their places.
 pub(crate) fn graph_of(
     alloc: Global,
+    index: &IndexMap<String, usize>,
     jobs: &Sequence<FlowJob>,
 ) -> Result<Sequence<Sequence<usize>>, AllocError>
+    requires { Indexes (spec.ids_of jobs.now) index.now }
     ensures { IfOk result (λ graph. graph ≡ spec.graph_of jobs.now) }
 {
     let from = jobs.as_slice();
     let mut graph = Vec::with_capacity(alloc, from.len())?;
     for job in from {
-        graph.push(places_of(alloc, jobs, &job.needs)?)?;
+        graph.push(places_of(alloc, index, jobs, &job.needs)?)?;
     }
     Ok(Sequence::new(graph))
 }
@@ -135,9 +135,11 @@ fn all_taken(alloc: Global, jobs: &Sequence<FlowJob>) -> Result<Sequence<bool>, 
 fn taken_jobs(
     alloc: Global,
     choice: &Choice,
+    index: &IndexMap<String, usize>,
     jobs: &Sequence<FlowJob>,
     graph: &Sequence<Sequence<usize>>,
 ) -> Result<Sequence<bool>, AllocError>
+    requires indexed { Indexes (spec.ids_of jobs.now) index.now }
     requires graph { graph.now ≡ spec.graph_of jobs.now }
     requires known { IsGraph graph.now }
     requires taken { spec.has_target choice.now jobs.now ≡ true }
@@ -145,7 +147,7 @@ fn taken_jobs(
 {
     match choice {
         Choice::Event(_) => all_taken(alloc, jobs),
-        Choice::Job(id) => chosen_for(alloc, graph, place_of(jobs, id)),
+        Choice::Job(id) => chosen_for(alloc, graph, place_of(index, jobs, id)),
         Choice::All => all_taken(alloc, jobs),
     }
 }
@@ -154,9 +156,11 @@ fn taken_jobs(
 pub(crate) fn find_order(
     alloc: Global,
     choice: &Choice,
+    index: &IndexMap<String, usize>,
     jobs: &Sequence<FlowJob>,
     graph: &Sequence<Sequence<usize>>,
 ) -> Result<Option<Sequence<usize>>, AllocError>
+    requires indexed { Indexes (spec.ids_of jobs.now) index.now }
     requires graph { graph.now ≡ spec.graph_of jobs.now }
     requires known { IsGraph graph.now }
     requires taken { spec.has_target choice.now jobs.now ≡ true }
@@ -166,6 +170,6 @@ pub(crate) fn find_order(
     let Some(stages) = find_stages(alloc, graph)? else {
         return Ok(None);
     };
-    let marks = taken_jobs(alloc, choice, jobs, graph)?;
+    let marks = taken_jobs(alloc, choice, index, jobs, graph)?;
     Ok(Some(order_of(alloc, &stages, &marks)?))
 }

@@ -2,16 +2,19 @@
 
 ghost use Rattle.std.specs.Prelude.{◌≡◌, ◌<◌, ◌≤◌, ◌+◌, ◌^◌, true, [], ◌∷◌, IfOk, length};
 ghost use Rattle.std.specs.List.{list_all};
+ghost use Rattle.plan_assembler.specs.Index.{Indexes};
 ghost use Rattle.plan_assembler.specs.Layout as layout;
 ghost use Rattle.plan_assembler.specs.Plans as spec;
 ghost use Rattle.plan_assembler.specs.Refusals.{FindsOrder, MakesRun, MakesRuns, MakesTaken, NeedsPass, PushesRun};
 
 use crate::choice::Choice;
 use crate::fault::{Place, PlanFault, at_place};
+use crate::index::index_of;
 use crate::jobs::jobs_of;
 use crate::layout::{are_needs_known, find_order, graph_of, is_job, is_one_of, job_at};
 use crate::texts::workflow_texts;
 use flow_model::{Duplicate, Flow, FlowJob, JobPlan, Roots, RunPlan, Sequence, Text, Workflow};
+use indexmap::IndexMap;
 use std::alloc::{AllocError, Global};
 
 /// How many jobs stand at a place: one or none.
@@ -72,17 +75,19 @@ fn are_few(jobs: &Sequence<FlowJob>, order: &Sequence<usize>) -> bool
 fn tested_order(
     alloc: Global,
     choice: &Choice,
+    index: &IndexMap<String, usize>,
     jobs: &Sequence<FlowJob>,
 ) -> Result<Sequence<usize>, PlanFault>
-    requires { layout.has_target choice.now jobs.now ≡ true }
+    requires indexed { Indexes (layout.ids_of jobs.now) index.now }
+    requires taken { layout.has_target choice.now jobs.now ≡ true }
     ensures order { FindsOrder choice.now jobs.now result }
     ensures long { IfOk result (λ order. length order < 2 ^ 63) }
 {
-    if !are_needs_known(jobs) {
+    if !are_needs_known(index, jobs) {
         return Err(PlanFault::UnknownNeed);
     }
-    let graph = graph_of(alloc, jobs)?;
-    match find_order(alloc, choice, jobs, &graph)? {
+    let graph = graph_of(alloc, index, jobs)?;
+    match find_order(alloc, choice, index, jobs, &graph)? {
         Some(order) => Ok(order),
         None => Err(PlanFault::Cycle),
     }
@@ -92,18 +97,20 @@ fn tested_order(
 fn tested_jobs(
     alloc: Global,
     workflow: &Workflow,
+    index: &IndexMap<String, usize>,
     order: &Sequence<usize>,
     run: u64,
     first: u64,
 ) -> Result<Sequence<JobPlan>, PlanFault>
-    requires { first + length order.now < 2 ^ 64 }
+    requires indexed { Indexes (layout.ids_of workflow.now.jobs) index.now }
+    requires fits { first + length order.now < 2 ^ 64 }
     ensures { MakesTaken workflow.now order.now run first result }
 {
     if !are_few(&workflow.jobs, order) {
         return Err(PlanFault::TooMany);
     }
     match workflow_texts(alloc, workflow) {
-        Ok(()) => jobs_of(alloc, &workflow.jobs, order, first),
+        Ok(()) => jobs_of(alloc, index, &workflow.jobs, order, first),
         Err(fault) => Err(at_place(Place::Run(run), fault)),
     }
 }
@@ -151,21 +158,24 @@ fn run_in_order(
     choice: &Choice,
     workflow: &Workflow,
     roots: &Roots,
+    index: &IndexMap<String, usize>,
     order: &Sequence<usize>,
     run: u64,
     first: u64,
 ) -> Result<RunPlan, PlanFault>
+    requires indexed { Indexes (layout.ids_of workflow.now.jobs) index.now }
     requires needs { NeedsPass choice.now workflow.now.jobs order.now }
     requires fits { first + length order.now < 2 ^ 64 }
     ensures { MakesRun roots.now choice.now workflow.now run first result }
 {
-    match tested_jobs(alloc, workflow, order, run, first) {
+    match tested_jobs(alloc, workflow, index, order, run, first) {
         Ok(jobs) => Ok(run_with(alloc, choice, workflow, roots, jobs)?),
         Err(fault) => Err(fault),
     }
 }
 
 /// The run of a workflow, whose jobs are numbered from `first` on.
+#[tactic(auto, using(crate::proofs::Answering::memory_answered))]
 fn run_of(
     alloc: Global,
     choice: &Choice,
@@ -178,8 +188,9 @@ fn run_of(
     requires room { first ≤ 16384 }
     ensures { MakesRun roots.now choice.now workflow.now run first result }
 {
-    match tested_order(alloc, choice, &workflow.jobs) {
-        Ok(order) => run_in_order(alloc, choice, workflow, roots, &order, run, first),
+    let index = index_of(alloc, &workflow.jobs)?;
+    match tested_order(alloc, choice, &index, &workflow.jobs) {
+        Ok(order) => run_in_order(alloc, choice, workflow, roots, &index, &order, run, first),
         Err(fault) => Err(fault),
     }
 }

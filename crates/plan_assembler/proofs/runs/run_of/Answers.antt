@@ -3,6 +3,6 @@ use Rattle.plan_assembler.specs.Refusals.{NeedsFail, RunFails}
 use Rattle.plan_assembler.proofs.Answering.{answered_weaker}
 use Rattle.plan_assembler.proofs.runs.run_of.Goals as goal
 
-pub returns-in-Err : goal.returns-in-Err
-returns-in-Err c =
+pub returns : goal.returns
+returns c =
     answered_weaker (NeedsFail c.args.workflow.now.jobs) (RunFails c.args.choice.now c.args.workflow.now c.args.run c.args.first) c.in-Err.fault (λ g x. inl x) c.in-Err.ensures.order
