@@ -3,6 +3,7 @@ pub mod Faults
 pub mod Jobs
 pub mod Keeping
 pub mod Keys
+pub mod Levels
 pub mod Lists
 pub mod Sound
 pub mod SoundFlow

@@ -16,7 +16,7 @@ abbrev pub no_defaults : Defaults
 no_defaults = record { dir = None; shell = Default }
 
 abbrev pub defaults_from : Shell × (Option (List ℕ) × ⊤) → Defaults
-defaults_from x = record { shell = x.0; dir = x.1.0 }
+defaults_from (shell, (dir, _)) = record { shell = shell; dir = dir }
 
 -- the shell and the directory that are named
 unfoldable pub place_of : Data → Checked Defaults

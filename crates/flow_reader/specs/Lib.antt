@@ -1,6 +1,7 @@
 pub mod Checked
 pub mod Defaults
 pub mod Fault
+pub mod Laws
 pub mod Load
 pub mod Parts
 pub mod Step

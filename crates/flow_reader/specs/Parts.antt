@@ -189,7 +189,7 @@ properties_of d = of_members (pairs_checked counts_each property_at) d
 -- ---- groups
 
 abbrev pub group_from : List ℕ × (Flag × ⊤) → Group
-group_from x = record { name = x.0; cancel = x.1.0 }
+group_from (name, (cancel, _)) = record { name = name; cancel = cancel }
 
 -- the text of a group alone, or else an object with `group` and, if it is to be, `cancel-in-progress`
 abbrev pub group_at : Option (List ℕ) → Data → Checked Group
@@ -204,7 +204,7 @@ group_of d = group_at (as_str d) d
 -- ---- the contexts that a run is handed
 
 abbrev pub roots_from : List (List ℕ × plain.Plain) × (List (List ℕ × plain.Plain) × (List (List ℕ × plain.Plain) × (List (List ℕ × plain.Plain) × ⊤))) → Roots
-roots_from x = record { github = x.0; inputs = x.1.0; secrets = x.1.1.0; vars = x.1.1.1.0 }
+roots_from (github, (inputs, (secrets, (vars, _)))) = record { github = github; inputs = inputs; secrets = secrets; vars = vars }
 
 -- the contexts, each a map of values, and empty where it is missing
 unfoldable pub roots_of : Data → Checked Roots

@@ -42,13 +42,13 @@ StepParts = Option (List ℕ) × (Option (List ℕ) × (Option (List ℕ) × (Li
 
 -- the step that has these parts, with the shell and the directory that it names itself
 abbrev pub step_from : StepParts → StepPlan
-step_from x = record {
-  id = x.0;
-  name = x.1.0;
-  condition = x.1.1.0;
-  env = x.1.1.1.0;
-  tolerate = x.1.1.1.1.0;
-  work = filled_work (record { shell = x.1.1.1.1.1.0; dir = x.1.1.1.1.1.1.0 }) x.1.1.1.1.1.1.1.0;
+step_from (id, (name, (condition, (env, (tolerate, (shell, (dir, (work, _)))))))) = record {
+  id = id;
+  name = name;
+  condition = condition;
+  env = env;
+  tolerate = tolerate;
+  work = filled_work (record { shell = shell; dir = dir }) work;
 }
 
 -- a step

@@ -25,7 +25,7 @@ abbrev pub MatrixEntries : Type 0
 MatrixEntries = List (List (List ℕ × Plain))
 
 abbrev pub matrix_from : List (List ℕ × List Plain) × (Option MatrixEntries × (Option MatrixEntries × ⊤)) → Matrix
-matrix_from x = record { variables = x.0; exclude = unwrap_or x.1.0 []; include = unwrap_or x.1.1.0 [] }
+matrix_from (variables, (exclude, (include, _))) = record { variables = variables; exclude = unwrap_or exclude []; include = unwrap_or include [] }
 
 -- a matrix
 unfoldable pub matrix_of : Data → Checked Matrix
@@ -38,7 +38,7 @@ abbrev pub no_strategy : Strategy
 no_strategy = record { fail_fast = true; matrix = None; max_parallel = None }
 
 abbrev pub strategy_from : Option Bool × (Option Matrix × (Option ℕ × ⊤)) → Strategy
-strategy_from x = record { fail_fast = unwrap_or x.0 true; matrix = x.1.0; max_parallel = x.1.1.0 }
+strategy_from (fail_fast, (matrix, (max_parallel, _))) = record { fail_fast = unwrap_or fail_fast true; matrix = matrix; max_parallel = max_parallel }
 
 -- a strategy
 unfoldable pub strategy_of : Data → Checked Strategy

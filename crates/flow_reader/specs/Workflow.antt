@@ -28,19 +28,19 @@ JobParts = Option (List ℕ) × (List (List ℕ) × (Option (List ℕ) × (Strat
 
 -- the job that has these parts: the first three say nothing
 abbrev pub job_from : List ℕ → (⊤ × (⊤ × (⊤ × JobParts))) → FlowJob
-job_from id y = let x : JobParts = y.1.1.1 in record {
+job_from id (_, (_, (_, (name, (needs, (condition, (strategy, (group, (tolerate, (env, (defaults, (outputs, (steps, _))))))))))))) = record {
   id = id;
-  name = x.0;
-  needs = x.1.0;
-  condition = x.1.1.0;
-  fail_fast = x.1.1.1.0.fail_fast;
-  matrix = x.1.1.1.0.matrix;
-  max_parallel = x.1.1.1.0.max_parallel;
-  group = x.1.1.1.1.0;
-  tolerate = x.1.1.1.1.1.0;
-  env = x.1.1.1.1.1.1.0;
-  outputs = x.1.1.1.1.1.1.1.1.0;
-  steps = filled_steps x.1.1.1.1.1.1.1.0 x.1.1.1.1.1.1.1.1.1.0;
+  name = name;
+  needs = needs;
+  condition = condition;
+  fail_fast = strategy.fail_fast;
+  matrix = strategy.matrix;
+  max_parallel = strategy.max_parallel;
+  group = group;
+  tolerate = tolerate;
+  env = env;
+  outputs = outputs;
+  steps = filled_steps defaults steps;
 }
 
 -- the keys of a job: those that are left out, and the others
@@ -96,12 +96,12 @@ WorkflowParts = Option (List ℕ) × (List (List ℕ) × (List (List ℕ × Plai
 
 -- the workflow that has these parts, where the file is this one
 abbrev pub workflow_from : List ℕ → WorkflowParts → Workflow
-workflow_from path x = record {
-  name = unwrap_or x.0 path;
-  events = x.1.0;
-  env = x.1.1.0;
-  group = x.1.1.1.1.0;
-  jobs = filled_jobs x.1.1.1.0 x.1.1.1.1.1.0;
+workflow_from path (name, (events, (env, (defaults, (group, (jobs, _)))))) = record {
+  name = unwrap_or name path;
+  events = events;
+  env = env;
+  group = group;
+  jobs = filled_jobs defaults jobs;
 }
 
 -- the keys of a workflow

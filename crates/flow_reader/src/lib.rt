@@ -2,7 +2,7 @@
 //!
 //! It promises that what is read is the workflow that the text stands for, that a text is refused only where it stands
 //! for none, and that the fault which is named stands in it. The table of keys is `specs/Workflow.antt`, level by level
-//! and key by key (GitHub Docs, workflow syntax).
+//! and key by key (GitHub Docs, workflow syntax). What follows from the definitions alone stands in `laws`.
 //!
 //! It stands on `flow_model`, which has the workflow and its rules, on `expr_reader` for what an expression is, on
 //! `serde_json`, which reads JSON (RFC 8259), and on `thiserror` for its errors.
@@ -13,6 +13,7 @@ mod defaults;
 mod fault;
 mod group;
 mod job;
+pub mod laws;
 mod load;
 mod maps;
 mod members;

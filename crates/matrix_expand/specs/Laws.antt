@@ -1,11 +1,16 @@
 -- Laws of the definitions, each the contract of a function of the module `laws`.
-use Rattle.std.specs.Prelude.{◌≡◌, ◌↔◌, ◌⊎◌, ℕ, true, false, List, [], ◌∷◌, Some}
+use Rattle.std.specs.Prelude.{◌≡◌, ◌↔◌, ◌⊎◌, ℕ, true, false, List, [], ◌∷◌, length, Some}
 use Rattle.std.specs.List.{filter, AllByRecursion}
 use Rattle.flow_model.specs.Mapping.{value_at, Ascends}
 use Rattle.flow_model.specs.Plain.{Plain}
 use Rattle.flow_model.specs.declared.plan.Matrix.{Matrix}
-use Rattle.matrix_expand.specs.Combos.{Pairs, is_there, stands_in, originals, overlaid, combos}
+use Rattle.matrix_expand.specs.Combos.{Pairs, Variables, is_there, stands_in, product, originals, overlaid, combos}
+use Rattle.matrix_expand.specs.Expands.{size}
 use Rattle.matrix_expand.specs.Same.{is_same}
+
+-- The size of the variables, which `expand` limits, counts the choices of their product.
+abbrev pub SizeCounts : Type 0
+SizeCounts = (vs : Variables) → length (product vs) ≡ size vs
 
 -- whether x is one of a list
 abbrev pub IsOneOf : {X : Type 0} → X → List X → Type 0

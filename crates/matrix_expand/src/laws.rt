@@ -1,6 +1,11 @@
 //! Laws of the definitions, as contracts of functions that do nothing.
 
-ghost use Rattle.matrix_expand.specs.Laws.{ValuesOfVariables, SameIsEqual, ExcludesAreOut, OriginalsStay, IncludesAlone, EmptyEntriesPass};
+ghost use Rattle.matrix_expand.specs.Laws.{SizeCounts, ValuesOfVariables, SameIsEqual, ExcludesAreOut, OriginalsStay, IncludesAlone, EmptyEntriesPass};
+
+/// There are as many choices as the size of the variables says.
+pub fn size_counts()
+    ensures { SizeCounts }
+{}
 
 /// Each combination gives every variable one of its values, or is an include as it stands.
 pub fn values_of_variables()
