@@ -1,5 +1,5 @@
 -- Files as the words name them: what their sources show, and what is read of them.
-use Rattle.std.specs.Prelude.{◌≡◌, ℕ, ◌⊎◌, List, [], ◌∷◌, Result, Ok, Err}
+use Rattle.std.specs.Prelude.{◌≡◌, ℕ, ◌⊎◌, List, [], ◌∷◌, ◌++◌, Result, Ok, Err}
 use Rattle.commands.specs.Stream.{Stream, IsRead}
 use Rattle.commands.specs.declared.files.NamedSource.{NamedSource}
 use Rattle.commands.specs.declared.stream.SourceFault.{SourceFault}
@@ -51,6 +51,11 @@ AreRead olds news (Err fault) = IsCutShort olds news fault
 abbrev pub ReadsFile : File → File → Result Content SourceFault → Type 0
 ReadsFile old new (Ok content) = IsContent old new content
 ReadsFile old new (Err fault) = IsRead old.source new.source (Err fault)
+
+-- The same, where what it holds is added to others.
+abbrev pub AddsFile : File → File → List Content → List Content → Result (Unit {0}) SourceFault → Type 0
+AddsFile old new contents contents' (Ok done) = (content : Content) × IsContent old new content × (contents' ≡ contents ++ content ∷ [])
+AddsFile old new contents contents' (Err fault) = IsRead old.source new.source (Err fault)
 
 -- A file is read to its end, and then others.
 abbrev pub ReadsFirst : File → File → List File → List File → Result (Content × List Content) SourceFault → Type 0

@@ -27,14 +27,14 @@ abbrev pub job_line : Plan → ℕ × ℕ → List ℕ
 job_line plan job =
     codes "job " ++ (decimal job.1 ++ (codes " run " ++ (decimal job.0 ++ (codes " " ++ (id_of (slice_get plan.runs job.0) job.1 ++ codes "\n")))))
 
--- The line of a stage.
-abbrev pub stage_line : ℕ → List ℕ
-stage_line stage = codes "stage " ++ (decimal stage ++ codes "\n")
+-- The line of a stage, and those of its jobs.
+abbrev pub stage_lines : Plan → ℕ → List (ℕ × ℕ) → List ℕ
+stage_lines plan stage jobs = (codes "stage " ++ (decimal stage ++ codes "\n")) ++ flat_map (job_line plan) jobs
 
 -- Each stage from this one on, with its jobs after it.
 abbrev pub listing : Plan → ℕ → List (List (ℕ × ℕ)) → List ℕ
 listing plan stage [] = []
-listing plan stage (jobs ∷ stages) = (stage_line stage ++ flat_map (job_line plan) jobs) ++ listing plan (suc stage) stages
+listing plan stage (jobs ∷ stages) = stage_lines plan stage jobs ++ listing plan (suc stage) stages
 
 -- The text lists the jobs of a plan by their stages.
 abbrev pub IsListing : Plan → List ℕ → Type 0

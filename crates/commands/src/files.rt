@@ -74,6 +74,22 @@ fn read_file<S: Source>(alloc: Global, file: &mut NamedSource<S>) -> Result<Cont
     }
 }
 
+/// Reads a file to its end, and adds what it holds.
+fn add_file<S: Source>(
+    alloc: Global,
+    contents: &mut Vec<Content>,
+    file: &mut NamedSource<S>,
+) -> Result<(), SourceFault>
+    ensures { spec.AddsFile (spec.file_seen S.seen file.old) (spec.file_seen S.seen file.new)
+        contents.old.items contents.new.items result }
+{
+    let content = read_file(alloc, file)?;
+    match contents.push(content) {
+        Ok(_) => Ok(()),
+        Err(_) => Err(SourceFault::Memory),
+    }
+}
+
 /// Reads files to their ends, one after the other.
 pub(crate) fn read_files<S: Source>(
     alloc: Global,
@@ -83,9 +99,9 @@ pub(crate) fn read_files<S: Source>(
 {
     let mut contents = Vec::new(alloc);
     for file in files.iter_mut() {
-        let content = read_file(alloc, file)?;
-        if contents.push(content).is_err() {
-            return Err(SourceFault::Memory);
+        match add_file(alloc, &mut contents, file) {
+            Ok(()) => {},
+            Err(fault) => return Err(fault),
         }
     }
     Ok(Sequence::new(contents))

@@ -1,6 +1,7 @@
 //! `actrun list`: the jobs of workflows by their stages.
 
-ghost use Rattle.std.specs.Prelude.{◌≡◌, ◌++◌, IfOk, OnOk, flat_map, map, slice_get, string_bytes};
+ghost use Rattle.std.specs.Prelude.{◌≡◌, IfOk, OnOk, flat_map, map, slice_get, string_bytes};
+ghost use Rattle.plan_text.specs.BoardText.{Adds};
 ghost use Rattle.plan_assembler.specs.declared.choice.Choice.TheVariants.{All};
 ghost use Rattle.commands.specs.Files.{file_seen};
 ghost use Rattle.commands.specs.List as spec;
@@ -13,10 +14,10 @@ use crate::stream::{Sink, Source};
 use crate::tell::{refuse_source, tell};
 use crate::trouble::Trouble;
 use flow_model::{CheckedPlan, JobPlan, Plan, Sequence};
-use itoa::Buffer;
 use plan_assembler::Choice;
 use plan_assembler::staging::stages;
 use std::alloc::{AllocError, Global};
+use std::fmt::Write;
 
 /// The id of the job with this number.
 fn id_in(jobs: &[JobPlan], number: u64) -> &str
@@ -40,52 +41,36 @@ fn id_of(plan: &Plan, run: u64, number: u64) -> &str
     }
 }
 
-/// Adds texts one after the other.
-fn push_parts(text: &mut String, parts: &[&str]) -> Result<(), AllocError>
-    ensures { OnOk result (string_bytes text.new ≡ string_bytes text.old ++ flat_map (λ part. part.now) parts.now) }
-{
-    for part in parts {
-        text.push_str(*part)?;
-    }
-    Ok(())
-}
-
 /// Adds the line of a job, which is its run and its number.
-fn push_job(text: &mut String, plan: &Plan, job: (u64, u64)) -> Result<(), AllocError>
-    ensures { OnOk result (string_bytes text.new ≡ string_bytes text.old ++ spec.job_line plan.now job) }
+fn add_job(text: &mut String, plan: &Plan, job: (u64, u64)) -> Result<(), AllocError>
+    ensures { OnOk result (Adds text.old text.new (spec.job_line plan.now job)) }
 {
     let (run, number) = job;
-    let mut run_digits = Buffer::new();
-    let mut number_digits = Buffer::new();
-    let parts = [
-        "job ",
-        number_digits.format(number),
-        " run ",
-        run_digits.format(run),
-        " ",
-        id_of(plan, run, number),
-        "\n",
-    ];
-    push_parts(text, &parts)
+    let id = id_of(plan, run, number);
+    write!(text, "job {number} run {run} {id}\n")
 }
 
 /// Adds the lines of jobs.
-fn push_jobs(text: &mut String, plan: &Plan, jobs: &[(u64, u64)]) -> Result<(), AllocError>
-    ensures { OnOk result (string_bytes text.new ≡ string_bytes text.old ++ flat_map (spec.job_line plan.now) jobs.now) }
+fn add_jobs(text: &mut String, plan: &Plan, jobs: &[(u64, u64)]) -> Result<(), AllocError>
+    ensures { OnOk result (Adds text.old text.new (flat_map (spec.job_line plan.now) jobs.now)) }
 {
     for job in jobs {
-        push_job(text, plan, *job)?;
+        add_job(text, plan, *job)?;
     }
     Ok(())
 }
 
-/// Adds the line of a stage.
-fn push_stage(text: &mut String, stage: usize) -> Result<(), AllocError>
-    ensures { OnOk result (string_bytes text.new ≡ string_bytes text.old ++ spec.stage_line stage) }
+/// Adds the line of a stage, and those of its jobs.
+fn add_stage(
+    text: &mut String,
+    plan: &Plan,
+    stage: usize,
+    jobs: &[(u64, u64)],
+) -> Result<(), AllocError>
+    ensures { OnOk result (Adds text.old text.new (spec.stage_lines plan.now stage jobs.now)) }
 {
-    let mut digits = Buffer::new();
-    let parts = ["stage ", digits.format(stage as u64), "\n"];
-    push_parts(text, &parts)
+    write!(text, "stage {stage}\n")?;
+    add_jobs(text, plan, jobs)
 }
 
 /// The lines of the stages of a plan, each with the lines of its jobs after it.
@@ -98,8 +83,7 @@ fn lines_of(
 {
     let mut text = String::new(alloc);
     for (stage, jobs) in stages.iter().enumerate() {
-        push_stage(&mut text, stage)?;
-        push_jobs(&mut text, plan, jobs.as_slice())?;
+        add_stage(&mut text, plan, stage, jobs.as_slice())?;
     }
     Ok(text)
 }

@@ -156,28 +156,25 @@ fn open_flows<F: Folder>(
     }
 }
 
-/// Plans a choice of the workflows that the words name, with no contexts.
-fn run_plan_alone<F: Folder, O: Sink, E: Sink>(
+/// Plans a choice of the workflows that the words name, over a file of contexts.
+fn run_plan_on<F: Folder, R: Source, O: Sink, E: Sink>(
     alloc: Global,
     words: &ArgMatches,
     choice: &Choice,
+    contexts: &mut NamedSource<R>,
     folder: &F,
     out: &mut O,
     err: &mut E,
 ) -> u8
     ensures { spec.RunsPlan (O.seen out.old) (O.seen out.new) (E.seen err.old) (E.seen err.new) result }
 {
-    let mut none = NamedSource {
-        name: Text::new(String::new(alloc)),
-        source: Input::new("{}".as_bytes()),
-    };
     match open_flows(alloc, words, folder) {
-        Ok(mut flows) => plan(alloc, choice, &mut none, flows.as_mut_slice(), out, err),
+        Ok(mut flows) => plan(alloc, choice, contexts, flows.as_mut_slice(), out, err),
         Err(trouble) => refuse(err, &trouble),
     }
 }
 
-/// Plans a choice of the workflows that the words name, with the contexts of the file of that name.
+/// The same, over the file of contexts of that name.
 fn run_plan_over<F: Folder, O: Sink, E: Sink>(
     alloc: Global,
     words: &ArgMatches,
@@ -189,14 +186,27 @@ fn run_plan_over<F: Folder, O: Sink, E: Sink>(
 ) -> u8
     ensures { spec.RunsPlan (O.seen out.old) (O.seen out.new) (E.seen err.old) (E.seen err.new) result }
 {
-    let mut contexts = match open_named(alloc, folder, file) {
-        Ok(contexts) => contexts,
-        Err(trouble) => return refuse(err, &trouble),
-    };
-    match open_flows(alloc, words, folder) {
-        Ok(mut flows) => plan(alloc, choice, &mut contexts, flows.as_mut_slice(), out, err),
+    match open_named(alloc, folder, file) {
+        Ok(mut contexts) => run_plan_on(alloc, words, choice, &mut contexts, folder, out, err),
         Err(trouble) => refuse(err, &trouble),
     }
+}
+
+/// The same, over no contexts.
+fn run_plan_alone<F: Folder, O: Sink, E: Sink>(
+    alloc: Global,
+    words: &ArgMatches,
+    choice: &Choice,
+    folder: &F,
+    out: &mut O,
+    err: &mut E,
+) -> u8
+    ensures { spec.RunsPlan (O.seen out.old) (O.seen out.new) (E.seen err.old) (E.seen err.new) result }
+{
+    let name = Text::new(String::new(alloc));
+    let source = Input::new("{}".as_bytes());
+    let mut none = NamedSource { name, source };
+    run_plan_on(alloc, words, choice, &mut none, folder, out, err)
 }
 
 /// Runs `plan` with its words. Without `--contexts` it is as with a file of no contexts.
