@@ -1,8 +1,8 @@
 -- What was said is told, and a source that failed is told.
-use Rattle.std.proofs.Common.{◌≡◌, ℕ, Bool, true, false, List, Option, Some, None, Ok, Err, inl, inr, refl, subst}
+use Rattle.std.proofs.Common.{◌≡◌, ℕ, Bool, true, false, List, Option, Some, None, Result, Ok, Err, inl, inr, refl, subst}
 use Rattle.std.specs.declared.io.ErrorKind.{ErrorKind}
 use Rattle.std.specs.Io.KnownBytes.{Keeps}
-use Rattle.commands.specs.Stream.{Stream, IsKept, IsRead, Puts}
+use Rattle.commands.specs.Stream.{Stream, IsKept, Puts}
 use Rattle.commands.specs.Tell.{Answer, OrMemory, Says, Tells, TellsOf}
 use Rattle.commands.specs.Trouble.{line, source_trouble, trouble_status}
 use Rattle.commands.specs.Words.{Refuses, SaysLine, TellsLine}
@@ -26,24 +26,23 @@ pub IsKept-same : (s : Stream) → IsKept s s
 IsKept-same s = (bytes_kept s.bytes, refl)
 
 -- what was read is answered
-pub read_told : (Is : List ℕ → Answer → Type 0) (input input' out out' err err' : Stream) (bytes : List ℕ) (answer : Answer) (status : ℕ)
-    → IsRead input input' (Ok bytes) → OrMemory answer (Is bytes answer) → Tells answer out out' err err' status
-    → TellsOf Is input input' out out' err err' status
-read_told Is input input' out out' err err' bytes answer status reads answers told =
-    record { read = Ok bytes; reads = reads; answer = answer; answers = answers; told = told }
+pub read_told : {A : Type 0} (Is : A → Answer → Type 0) (Reads : Result A SourceFault → Type 0) (out out' err err' : Stream) (read : A) (answer : Answer) (status : ℕ)
+    → Reads (Ok read) → OrMemory answer (Is read answer) → Tells answer out out' err err' status → TellsOf Is Reads out out' err err' status
+read_told Is Reads out out' err err' read answer status reads answers told =
+    record { read = Ok read; reads = reads; answer = answer; answers = answers; told = told }
 
 -- what was not read is told as its trouble
-pub unread_told : (Is : List ℕ → Answer → Type 0) (input input' out err err' : Stream) (fault : SourceFault) (status : ℕ)
-    → IsRead input input' (Err fault) → Says err err' (line (source_trouble fault)) → status ≡ trouble_status (source_trouble fault)
-    → TellsOf Is input input' out out err err' status
-unread_told Is input input' out err err' source_fault.Failed status reads said is = record {
+pub unread_told : {A : Type 0} (Is : A → Answer → Type 0) (Reads : Result A SourceFault → Type 0) (out err err' : Stream) (fault : SourceFault) (status : ℕ)
+    → Reads (Err fault) → Says err err' (line (source_trouble fault)) → status ≡ trouble_status (source_trouble fault)
+    → TellsOf Is Reads out out err err' status
+unread_told Is Reads out err err' source_fault.Failed status reads said is = record {
   read = Err source_fault.Failed;
   reads = reads;
   answer = Err (source_trouble source_fault.Failed);
   answers = refl;
   told = record { kept = IsKept-same out; said = said; is = is };
 }
-unread_told Is input input' out err err' source_fault.Memory status reads said is = record {
+unread_told Is Reads out err err' source_fault.Memory status reads said is = record {
   read = Err source_fault.Memory;
   reads = reads;
   answer = Err (source_trouble source_fault.Memory);

@@ -18,11 +18,11 @@ use Rattle.flow_model.specs.Plain.{Plain}
 use Rattle.flow_model.specs.declared.reply.ValueFault.{ValueFault}
 use Rattle.flow_model.specs.declared.reply.ValueFault.TheVariants as value_fault
 use Rattle.commands.specs.Contexts.{file_contexts}
-use Rattle.commands.specs.Stream.{Stream}
+use Rattle.commands.specs.Stream.{Stream, IsRead}
 use Rattle.commands.specs.Tell.{Answer, OrMemory, TellsOf, answer_seen}
 use Rattle.commands.specs.declared.contexts.FlowFault.{FlowFault}
 use Rattle.commands.specs.declared.trouble.Trouble.{Trouble}
-use Rattle.commands.specs.declared.trouble.Trouble.TheVariants.{NoExpression, NoValue, NoContexts, NoPlan, NoEntry, Refused, Words, Io, Memory}
+use Rattle.commands.specs.declared.trouble.Trouble.TheVariants.{NoExpression, NoValue, NoContexts, NoFlow, NotPlanned, NoPlan, NoEntry, Refused, Words, Io, Memory}
 
 -- The text is an expression, whose evaluation where the status is success answers this.
 pub record Evaluates (contexts : Contexts) (expression : List ℕ) (answer : Result Plain ValueFault) : Type 0 where
@@ -78,6 +78,8 @@ IsEvalAnswer file expression bytes (Ok text) = HasValue bytes expression text
 IsEvalAnswer file expression bytes (Err (NoContexts name fault)) = (name ≡ file) × (file_contexts bytes ≡ Err fault)
 IsEvalAnswer file expression bytes (Err (NoExpression fault)) = HasNoTree bytes expression fault
 IsEvalAnswer file expression bytes (Err (NoValue fault)) = HasNoValue bytes expression fault
+IsEvalAnswer file expression bytes (Err (NoFlow name fault)) = ⊥
+IsEvalAnswer file expression bytes (Err (NotPlanned fault)) = ⊥
 IsEvalAnswer file expression bytes (Err (NoPlan fault)) = ⊥
 IsEvalAnswer file expression bytes (Err (NoEntry n)) = ⊥
 IsEvalAnswer file expression bytes (Err (Refused n fault)) = ⊥
@@ -87,7 +89,7 @@ IsEvalAnswer file expression bytes (Err Memory) = ⊥
 
 -- What `eval` leaves: it reads the file of contexts to its end, and tells an answer to it and the expression.
 abbrev pub EvalTells : List ℕ → List ℕ → Stream → Stream → Stream → Stream → Stream → Stream → ℕ → Type 0
-EvalTells file expression input input' out out' err err' status = TellsOf (IsEvalAnswer file expression) input input' out out' err err' status
+EvalTells file expression input input' out out' err err' status = TellsOf (IsEvalAnswer file expression) (IsRead input input') out out' err err' status
 
 -- ---- what the code answers on the way; want of memory may always be answered
 
@@ -96,6 +98,8 @@ abbrev pub ExpressionTrouble : List ℕ → Trouble → Type 0
 ExpressionTrouble expression (NoExpression fault) = IsNoExpression expression fault
 ExpressionTrouble expression (NoValue fault) = ⊥
 ExpressionTrouble expression (NoContexts name fault) = ⊥
+ExpressionTrouble expression (NoFlow name fault) = ⊥
+ExpressionTrouble expression (NotPlanned fault) = ⊥
 ExpressionTrouble expression (NoPlan fault) = ⊥
 ExpressionTrouble expression (NoEntry n) = ⊥
 ExpressionTrouble expression (Refused n fault) = ⊥
@@ -113,6 +117,8 @@ abbrev pub ValueTrouble : Contexts → Expr → Trouble → Type 0
 ValueTrouble contexts tree (NoExpression fault) = ⊥
 ValueTrouble contexts tree (NoValue fault) = (evaluated contexts Success tree ≡ Err fault) × IsNamed fault
 ValueTrouble contexts tree (NoContexts name fault) = ⊥
+ValueTrouble contexts tree (NoFlow name fault) = ⊥
+ValueTrouble contexts tree (NotPlanned fault) = ⊥
 ValueTrouble contexts tree (NoPlan fault) = ⊥
 ValueTrouble contexts tree (NoEntry n) = ⊥
 ValueTrouble contexts tree (Refused n fault) = ⊥
@@ -130,6 +136,8 @@ abbrev pub ContextsTrouble : List ℕ → List ℕ → Trouble → Type 0
 ContextsTrouble file bytes (NoContexts name fault) = (name ≡ file) × (file_contexts bytes ≡ Err fault)
 ContextsTrouble file bytes (NoExpression fault) = ⊥
 ContextsTrouble file bytes (NoValue fault) = ⊥
+ContextsTrouble file bytes (NoFlow name fault) = ⊥
+ContextsTrouble file bytes (NotPlanned fault) = ⊥
 ContextsTrouble file bytes (NoPlan fault) = ⊥
 ContextsTrouble file bytes (NoEntry n) = ⊥
 ContextsTrouble file bytes (Refused n fault) = ⊥
@@ -142,6 +150,8 @@ abbrev pub IsContextsTrouble : List ℕ → FlowFault → Trouble → Type 0
 IsContextsTrouble file fault (NoContexts name named) = (name ≡ file) × (named ≡ fault)
 IsContextsTrouble file fault (NoExpression other) = ⊥
 IsContextsTrouble file fault (NoValue other) = ⊥
+IsContextsTrouble file fault (NoFlow name other) = ⊥
+IsContextsTrouble file fault (NotPlanned other) = ⊥
 IsContextsTrouble file fault (NoPlan other) = ⊥
 IsContextsTrouble file fault (NoEntry n) = ⊥
 IsContextsTrouble file fault (Refused n other) = ⊥

@@ -1,5 +1,9 @@
 pub mod Contexts
 pub mod Eval
+pub mod Files
+pub mod List
+pub mod Plan
+pub mod Planning
 pub mod Play
 pub mod Stream
 pub mod Table

@@ -1,7 +1,7 @@
 -- What a command leaves on its two writers, and its exit status.
 use Rattle.std.specs.Prelude.{◌≡◌, ℕ, ◌⊎◌, List, String, string_bytes, Result, Ok, Err}
 use Rattle.std.specs.declared.alloc.Global.{Global}
-use Rattle.commands.specs.Stream.{Stream, IsKept, IsWritten, IsCutOff, IsRead}
+use Rattle.commands.specs.Stream.{Stream, IsKept, IsWritten, IsCutOff}
 use Rattle.commands.specs.Trouble.{line, trouble_status, UnlessMemory}
 use Rattle.commands.specs.declared.stream.SourceFault.{SourceFault}
 use Rattle.commands.specs.declared.stream.SourceFault.TheVariants as source_fault
@@ -53,16 +53,16 @@ abbrev pub OrMemory : Answer → Type 0 → Type 0
 OrMemory (Ok text) fact = fact
 OrMemory (Err trouble) fact = UnlessMemory trouble fact
 
--- An answer to what was read; a text of which only a part was read has none but the trouble.
-abbrev pub AnswersRead : (List ℕ → Answer → Type 0) → Result (List ℕ) SourceFault → Answer → Type 0
-AnswersRead Is (Ok bytes) answer = OrMemory answer (Is bytes answer)
+-- An answer to what was read; where only a part was read there is none but the trouble.
+abbrev pub AnswersRead : {A : Type 0} → (A → Answer → Type 0) → Result A SourceFault → Answer → Type 0
+AnswersRead Is (Ok read) answer = OrMemory answer (Is read answer)
 AnswersRead Is (Err source_fault.Failed) answer = answer ≡ Err Io
 AnswersRead Is (Err source_fault.Memory) answer = answer ≡ Err Memory
 
--- A command reads its input to the end, and tells an answer to it; want of memory may always be answered.
-pub record TellsOf (Is : List ℕ → Answer → Type 0) (input input' out out' err err' : Stream) (status : ℕ) : Type 0 where
-  pub read : Result (List ℕ) SourceFault
-  pub reads : IsRead input input' read
+-- A command reads what it is handed, and tells an answer to it; want of memory may always be answered.
+pub record TellsOf {A : Type 0} (Is : A → Answer → Type 0) (Reads : Result A SourceFault → Type 0) (out out' err err' : Stream) (status : ℕ) : Type 0 where
+  pub read : Result A SourceFault
+  pub reads : Reads read
   pub answer : Answer
   pub answers : AnswersRead Is read answer
   pub told : Tells answer out out' err err' status

@@ -2,7 +2,11 @@
 use Rattle.std.specs.Prelude.{◌≡◌, ℕ, ◌⊎◌, List}
 use Rattle.std.specs.declared.io.ErrorKind.{ErrorKind}
 use Rattle.std.specs.declared.io.ErrorKind.TheVariants.{InvalidData, OutOfMemory}
+use Rattle.plan_assembler.specs.declared.choice.Choice.{Choice}
 use Rattle.commands.specs.Eval.{EvalTells}
+use Rattle.commands.specs.Files.{File}
+use Rattle.commands.specs.List.{ListTells}
+use Rattle.commands.specs.Plan.{PlanTells}
 use Rattle.commands.specs.Stream.{Stream}
 use Rattle.commands.specs.Table.{TableTells}
 use Rattle.commands.specs.Tell.{Says, TellsTrouble}
@@ -20,9 +24,22 @@ RunsEval out out' err err' status =
     ((file expression : List ℕ) × (contexts contexts' : Stream) × EvalTells file expression contexts contexts' out out' err err' status)
     ⊎ Refuses out out' err err' status
 
--- What `table` tells of the input, or what `eval` tells, or a trouble.
+-- What `plan` tells of some choice, some file of contexts and some files of workflows; or a trouble is told.
+abbrev pub RunsPlan : Stream → Stream → Stream → Stream → ℕ → Type 0
+RunsPlan out out' err err' status =
+    ((choice : Choice) × (contexts contexts' : File) × (flows flows' : List File) × PlanTells choice contexts contexts' flows flows' out out' err err' status)
+    ⊎ Refuses out out' err err' status
+
+-- What `list` tells of some files of workflows; or a trouble is told.
+abbrev pub RunsList : Stream → Stream → Stream → Stream → ℕ → Type 0
+RunsList out out' err err' status =
+    ((flows flows' : List File) × ListTells flows flows' out out' err err' status) ⊎ Refuses out out' err err' status
+
+-- What `table` tells of the input, or what `eval`, `plan` or `list` tells, or a trouble.
 abbrev pub RunTells : Stream → Stream → Stream → Stream → Stream → Stream → ℕ → Type 0
-RunTells input input' out out' err err' status = TableTells input input' out out' err err' status ⊎ RunsEval out out' err err' status
+RunTells input input' out out' err err' status =
+    TableTells input input' out out' err err' status
+    ⊎ (RunsEval out out' err err' status ⊎ (RunsPlan out out' err err' status ⊎ RunsList out out' err err' status))
 
 -- A command line that cannot be had is told by its kind: one that is no UTF-8 asks for no command.
 pub record TellsLine (kind : ErrorKind) (out out' err err' : Stream) (status : ℕ) : Type 0 where

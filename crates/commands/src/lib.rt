@@ -10,6 +10,10 @@
 
 pub mod contexts;
 pub mod eval;
+pub mod files;
+pub mod list;
+pub mod plan;
+mod planning;
 mod play;
 pub mod stream;
 pub mod table;

@@ -9,6 +9,7 @@ use crate::stream::{Sink, put_parts};
 use expr_reader::ExprFault;
 use flow_model::{Text, ValueFault};
 use itoa::Buffer;
+use plan_assembler::PlanFault;
 use plan_text::LoadFault;
 use status_table::EventFault;
 
@@ -30,6 +31,10 @@ pub enum Trouble {
     NoValue(ValueFault),
     /// The file of that name gives no contexts.
     NoContexts(Text, FlowFault),
+    /// The file of that name stands for no workflow, or for no contexts of runs.
+    NoFlow(Text, flow_reader::FlowFault),
+    /// The workflows come to no plan.
+    NotPlanned(PlanFault),
     /// The first line of a record is no plan's.
     NoPlan(LoadFault),
     /// The line with this number, from 1, is no entry.
@@ -53,6 +58,8 @@ impl Trouble {
             Trouble::NoExpression(_) => REFUSED,
             Trouble::NoValue(_) => REFUSED,
             Trouble::NoContexts(_, _) => REFUSED,
+            Trouble::NoFlow(_, _) => REFUSED,
+            Trouble::NotPlanned(_) => REFUSED,
             Trouble::NoPlan(_) => REFUSED,
             Trouble::NoEntry(_) => REFUSED,
             Trouble::Refused(_, _) => REFUSED,
@@ -78,7 +85,22 @@ fn say_placed<S: Sink>(err: &mut S, name: &str, place: usize) -> bool
     put_parts(err, &parts)
 }
 
-/// Says that a file gives no contexts.
+/// Says what is wrong with a text of a workflow, and where in it.
+fn say_unread<S: Sink>(err: &mut S, name: &str, place: usize) -> bool
+    ensures { Puts (S.seen err.old) (S.seen err.new) (spec.unread_line name.now place) result }
+{
+    let mut digits = Buffer::new();
+    let parts = [
+        "actrun: plan Expr ",
+        name,
+        " at ",
+        digits.format(place as u64),
+        "\n",
+    ];
+    put_parts(err, &parts)
+}
+
+/// Says that a file gives no contexts, or stands for no workflow.
 fn say_file<S: Sink>(err: &mut S, file: &str, name: &str) -> bool
     ensures { Puts (S.seen err.old) (S.seen err.new) (spec.file_line file.now name.now) result }
 {
@@ -92,6 +114,22 @@ fn say_name<S: Sink>(err: &mut S, kind: &str, name: &str) -> bool
 {
     let parts = ["actrun: ", kind, " ", name, "\n"];
     put_parts(err, &parts)
+}
+
+/// Says that workflows come to no plan; of a text that cannot be read, and of a matrix, it says what is wrong in it.
+fn say_unplanned<S: Sink>(err: &mut S, fault: PlanFault) -> bool
+    ensures { Puts (S.seen err.old) (S.seen err.new) (spec.unplanned_line fault) result }
+{
+    match fault {
+        PlanFault::Expr(_, inner) => say_unread(err, inner.name(), inner.place()),
+        PlanFault::Matrix(_, inner) => say_name(err, "plan Matrix", inner.name()),
+        PlanFault::UnknownNeed => say_name(err, "plan", "UnknownNeed"),
+        PlanFault::Cycle => say_name(err, "plan", "Cycle"),
+        PlanFault::UnknownJob => say_name(err, "plan", "UnknownJob"),
+        PlanFault::NoWorkflow => say_name(err, "plan", "NoWorkflow"),
+        PlanFault::TooMany => say_name(err, "plan", "TooMany"),
+        PlanFault::Memory => say_name(err, "plan", "Memory"),
+    }
 }
 
 /// Says what is wrong with the line of that number.
@@ -111,6 +149,8 @@ pub(crate) fn say<S: Sink>(err: &mut S, trouble: &Trouble) -> bool
         Trouble::NoExpression(fault) => say_placed(err, fault.name(), fault.place()),
         Trouble::NoValue(fault) => say_name(err, "value", fault.name()),
         Trouble::NoContexts(file, fault) => say_file(err, file.as_str(), fault.name()),
+        Trouble::NoFlow(file, fault) => say_file(err, file.as_str(), fault.name()),
+        Trouble::NotPlanned(fault) => say_unplanned(err, *fault),
         Trouble::NoPlan(fault) => say_name(err, "load", fault.name()),
         Trouble::NoEntry(number) => say_numbered(err, *number, "NotEntry"),
         Trouble::Refused(number, fault) => say_numbered(err, *number, fault.name()),

@@ -6,11 +6,16 @@ ghost use Rattle.commands.specs.Words as spec;
 ghost use Rattle.commands.specs.Words.{RunTells};
 
 use crate::eval::eval;
+use crate::files::NamedSource;
+use crate::list::list;
+use crate::plan::plan;
 use crate::stream::{Input, Sink, Source};
 use crate::table::table;
 use crate::tell::refuse;
 use crate::trouble::Trouble;
 use clap::{Arg, ArgMatches, Command, Error};
+use flow_model::Text;
+use plan_assembler::Choice;
 use std::alloc::{AllocError, Global};
 use std::env::Args;
 use std::io;
@@ -25,6 +30,20 @@ pub trait Folder {
     fn open(&self, name: &str) -> Option<Self::File>;
 }
 
+/// The names of workflows' files, at least one.
+fn flow_words<'a>(alloc: Global) -> Arg<'a> {
+    Arg::new(alloc, "flow").required(true).num_args(1..)
+}
+
+/// The command `plan`.
+fn plan_command<'a>(alloc: Global) -> Result<Command<'a>, AllocError> {
+    Command::new(alloc, "plan")
+        .arg(Arg::new(alloc, "event").long("event"))?
+        .arg(Arg::new(alloc, "job").long("job"))?
+        .arg(Arg::new(alloc, "contexts").long("contexts"))?
+        .arg(flow_words(alloc))
+}
+
 /// The commands, one level deep.
 fn known_commands<'a>(alloc: Global) -> Result<Command<'a>, AllocError> {
     let table = Command::new(alloc, "table");
@@ -34,7 +53,9 @@ fn known_commands<'a>(alloc: Global) -> Result<Command<'a>, AllocError> {
     Command::new(alloc, "actrun")
         .subcommand_required(true)
         .subcommand(table)?
-        .subcommand(eval)
+        .subcommand(eval)?
+        .subcommand(plan_command(alloc)?)?
+        .subcommand(Command::new(alloc, "list").arg(flow_words(alloc))?)
 }
 
 /// Runs `eval` over a file of contexts.
@@ -76,6 +97,154 @@ fn run_eval<F: Folder, O: Sink, E: Sink>(
     }
 }
 
+/// The choice that the words make of workflows: those of an event, those with a job, or all, and not both of the first.
+fn choice_of(alloc: Global, words: &ArgMatches) -> Result<Choice, Trouble> {
+    match (words.get_str("event"), words.get_str("job")) {
+        (Some(_), Some(_)) => Err(Trouble::Words),
+        (Some(event), None) => Ok(Choice::Event(text_of(alloc, event)?)),
+        (None, Some(job)) => Ok(Choice::Job(text_of(alloc, job)?)),
+        (None, None) => Ok(Choice::All),
+    }
+}
+
+/// A word as a text.
+fn text_of(alloc: Global, word: &str) -> Result<Text, Trouble> {
+    match Text::from_str(alloc, word) {
+        Ok(text) => Ok(text),
+        Err(_) => Err(Trouble::Memory),
+    }
+}
+
+/// Opens the file of that name.
+fn open_named<F: Folder>(
+    alloc: Global,
+    folder: &F,
+    name: &str,
+) -> Result<NamedSource<F::File>, Trouble> {
+    let text = text_of(alloc, name)?;
+    match folder.open(name) {
+        Some(source) => Ok(NamedSource { name: text, source }),
+        None => Err(Trouble::Io),
+    }
+}
+
+/// Opens the files of these names, one after the other.
+fn open_all<F: Folder>(
+    alloc: Global,
+    folder: &F,
+    names: &[&str],
+) -> Result<Vec<NamedSource<F::File>>, Trouble> {
+    let mut files = Vec::new(alloc);
+    for name in names {
+        let file = open_named(alloc, folder, *name)?;
+        if files.push(file).is_err() {
+            return Err(Trouble::Memory);
+        }
+    }
+    Ok(files)
+}
+
+/// Opens the workflows' files that the words name.
+fn open_flows<F: Folder>(
+    alloc: Global,
+    words: &ArgMatches,
+    folder: &F,
+) -> Result<Vec<NamedSource<F::File>>, Trouble> {
+    match words.get_strs("flow") {
+        Some(names) => open_all(alloc, folder, names),
+        None => Err(Trouble::Words),
+    }
+}
+
+/// Plans a choice of the workflows that the words name, over a file of contexts.
+fn run_plan_on<F: Folder, R: Source, O: Sink, E: Sink>(
+    alloc: Global,
+    words: &ArgMatches,
+    choice: &Choice,
+    contexts: &mut NamedSource<R>,
+    folder: &F,
+    out: &mut O,
+    err: &mut E,
+) -> u8
+    ensures { spec.RunsPlan (O.seen out.old) (O.seen out.new) (E.seen err.old) (E.seen err.new) result }
+{
+    match open_flows(alloc, words, folder) {
+        Ok(mut flows) => plan(alloc, choice, contexts, flows.as_mut_slice(), out, err),
+        Err(trouble) => refuse(err, &trouble),
+    }
+}
+
+/// The same, over the file of contexts of that name.
+fn run_plan_over<F: Folder, O: Sink, E: Sink>(
+    alloc: Global,
+    words: &ArgMatches,
+    choice: &Choice,
+    file: &str,
+    folder: &F,
+    out: &mut O,
+    err: &mut E,
+) -> u8
+    ensures { spec.RunsPlan (O.seen out.old) (O.seen out.new) (E.seen err.old) (E.seen err.new) result }
+{
+    match open_named(alloc, folder, file) {
+        Ok(mut contexts) => run_plan_on(alloc, words, choice, &mut contexts, folder, out, err),
+        Err(trouble) => refuse(err, &trouble),
+    }
+}
+
+/// The same, over no contexts.
+fn run_plan_alone<F: Folder, O: Sink, E: Sink>(
+    alloc: Global,
+    words: &ArgMatches,
+    choice: &Choice,
+    folder: &F,
+    out: &mut O,
+    err: &mut E,
+) -> u8
+    ensures { spec.RunsPlan (O.seen out.old) (O.seen out.new) (E.seen err.old) (E.seen err.new) result }
+{
+    let name = Text::new(String::new(alloc));
+    let source = Input::new("{}".as_bytes());
+    let mut none = NamedSource { name, source };
+    run_plan_on(alloc, words, choice, &mut none, folder, out, err)
+}
+
+/// Runs `plan` with its words. Without `--contexts` it is as with a file of no contexts.
+fn run_plan<F: Folder, O: Sink, E: Sink>(
+    alloc: Global,
+    words: &ArgMatches,
+    folder: &F,
+    out: &mut O,
+    err: &mut E,
+) -> u8
+    ensures { spec.RunsPlan (O.seen out.old) (O.seen out.new) (E.seen err.old) (E.seen err.new) result }
+{
+    let choice = match choice_of(alloc, words) {
+        Ok(choice) => choice,
+        Err(trouble) => return refuse(err, &trouble),
+    };
+    match words.get_str("contexts") {
+        Some(file) => run_plan_over(alloc, words, &choice, file, folder, out, err),
+        None => run_plan_alone(alloc, words, &choice, folder, out, err),
+    }
+}
+
+/// Runs `list` with its words.
+fn run_list<F: Folder, O: Sink, E: Sink>(
+    alloc: Global,
+    words: &ArgMatches,
+    folder: &F,
+    out: &mut O,
+    err: &mut E,
+) -> u8
+    ensures { spec.RunsList (O.seen out.old) (O.seen out.new) (E.seen err.old) (E.seen err.new) result }
+{
+    match open_flows(alloc, words, folder) {
+        Ok(mut flows) => list(alloc, flows.as_mut_slice(), out, err),
+        Err(trouble) => refuse(err, &trouble),
+    }
+}
+
 /// Runs the command that was found in the words.
 fn perform<F: Folder, I: Source, O: Sink, E: Sink>(
     alloc: Global,
@@ -91,6 +260,8 @@ fn perform<F: Folder, I: Source, O: Sink, E: Sink>(
     match words.subcommand() {
         Some(("table", _)) => table(alloc, input, out, err),
         Some(("eval", inner)) => run_eval(alloc, inner, folder, out, err),
+        Some(("plan", inner)) => run_plan(alloc, inner, folder, out, err),
+        Some(("list", inner)) => run_list(alloc, inner, folder, out, err),
         _ => refuse(err, &Trouble::Words),
     }
 }

@@ -10,6 +10,13 @@ pub returns-in-NoContexts : goal.returns-in-NoContexts
 returns-in-NoContexts g c =
     Puts-as _ _ _ _ _ c.say_file.ensures (ap (λ file. file_line file c.name-in-NoContexts.result.now) c.as_str.ensures ∙ ap (file_line c.in-NoContexts.file) c.name-in-NoContexts.ensures ∙ sym (ap line c.in-NoContexts.is))
 
+pub returns-in-NoFlow : goal.returns-in-NoFlow
+returns-in-NoFlow g c =
+    Puts-as _ _ _ _ _ c.say_file-in-NoFlow.ensures (ap (λ file. file_line file c.name-in-NoFlow.result.now) c.as_str-in-NoFlow.ensures ∙ ap (file_line c.in-NoFlow.file) c.name-in-NoFlow.ensures ∙ sym (ap line c.in-NoFlow.is))
+
+pub returns-in-NotPlanned : goal.returns-in-NotPlanned
+returns-in-NotPlanned g c = Puts-as _ _ _ _ _ c.say_unplanned.ensures (sym (ap line c.in-NotPlanned.is))
+
 pub returns-in-NoPlan : goal.returns-in-NoPlan
 returns-in-NoPlan g c = Puts-as _ _ _ _ _ c.say_name-in-NoPlan.ensures (ap (name_line (codes "load")) c.name-in-NoPlan.ensures ∙ sym (ap line c.in-NoPlan.is))
 

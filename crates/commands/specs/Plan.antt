@@ -1,0 +1,38 @@
+-- What `actrun plan` tells: the text of the plan that the workflows' files come to, or why there is none.
+use Rattle.std.specs.Prelude.{◌≡◌, ℕ, ◌++◌, codes, List, [], ◌∷◌, String, Result, Ok, Err}
+use Rattle.std.specs.declared.alloc.Global.{Global}
+use Rattle.serde_json.specs.Written.{compact_text}
+use Rattle.flow_model.specs.declared.plan.Plan.{Plan}
+use Rattle.plan_assembler.specs.declared.choice.Choice.{Choice}
+use Rattle.plan_text.specs.Document.{document}
+use Rattle.commands.specs.Files.{File, Content, AreRead}
+use Rattle.commands.specs.Planning.{ComesTo, ComesToNone}
+use Rattle.commands.specs.Stream.{Stream}
+use Rattle.commands.specs.Tell.{Answer, OrMemory, TellsOf, answer_seen}
+use Rattle.commands.specs.declared.trouble.Trouble.{Trouble}
+
+-- The compact text of a plan's document, and a newline.
+abbrev pub plan_line : Plan → List ℕ
+plan_line plan = compact_text (document plan) ++ codes "\n"
+
+-- An answer to the file of contexts and those of the workflows: the line of the plan that they come to, or why there is
+-- none.
+abbrev pub AnswersPlan : Choice → Content → List Content → Answer → Type 0
+AnswersPlan choice contexts flows (Ok text) = (plan : Plan) × ComesTo choice contexts flows plan × (text ≡ plan_line plan)
+AnswersPlan choice contexts flows (Err trouble) = ComesToNone choice contexts flows trouble
+
+-- The same of all files in their order, of which the file of contexts is the first.
+abbrev pub IsPlanAnswer : Choice → List Content → Answer → Type 0
+IsPlanAnswer choice [] answer = ⊥
+IsPlanAnswer choice (contexts ∷ flows) answer = AnswersPlan choice contexts flows answer
+
+-- What `plan` leaves: it reads the file of contexts and those of the workflows to their ends, and tells an answer to them.
+abbrev pub PlanTells : Choice → File → File → List File → List File → Stream → Stream → Stream → Stream → ℕ → Type 0
+PlanTells choice contexts contexts' flows flows' out out' err err' status =
+    TellsOf (IsPlanAnswer choice) (AreRead (contexts ∷ flows) (contexts' ∷ flows')) out out' err err' status
+
+-- ---- what the code answers on the way; want of memory may always be answered
+
+-- The line of a plan, or why there is none.
+abbrev pub Gives : Choice → Content → List Content → Result (String Global) Trouble → Type 0
+Gives choice contexts flows result = OrMemory (answer_seen result) (AnswersPlan choice contexts flows (answer_seen result))

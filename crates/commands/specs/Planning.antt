@@ -1,0 +1,113 @@
+-- The plan that files come to: contexts and workflows are read of them, and a choice of the workflows is planned.
+use Rattle.std.specs.Prelude.{◌≡◌, ℕ, ◌⊎◌, codes, List, [], ◌∷◌, Option, Some, Result, Ok, Err}
+use Rattle.flow_model.specs.Rules.{IsPlan}
+use Rattle.flow_model.specs.declared.flow.Workflow.{Workflow}
+use Rattle.flow_model.specs.declared.plan.Plan.{Plan}
+use Rattle.flow_model.specs.declared.plan.Roots.{Roots}
+use Rattle.flow_reader.specs.Checked.{Checked}
+use Rattle.flow_reader.specs.Load.{flow_read, roots_read, Tells}
+use Rattle.flow_reader.specs.declared.fault.FlowFault.{FlowFault}
+use Rattle.flow_reader.specs.declared.fault.FlowFault.TheVariants as flow_fault
+use Rattle.plan_assembler.specs.Plans.{Assembles}
+use Rattle.plan_assembler.specs.Refusals.{Refuses}
+use Rattle.plan_assembler.specs.declared.choice.Choice.{Choice}
+use Rattle.plan_assembler.specs.declared.fault.PlanFault.{PlanFault}
+use Rattle.plan_assembler.specs.declared.fault.PlanFault.TheVariants as plan_fault
+use Rattle.commands.specs.Files.{Content}
+use Rattle.commands.specs.Trouble.{UnlessMemory}
+use Rattle.commands.specs.declared.trouble.Trouble.{Trouble}
+use Rattle.commands.specs.declared.trouble.Trouble.TheVariants.{NoFlow, NotPlanned, Memory}
+
+-- ---- what files stand for
+
+-- The contexts that a file gives.
+abbrev pub GivesRoots : Content → Roots → Type 0
+GivesRoots file roots = roots_read file.bytes ≡ Some (Ok roots)
+
+-- The workflow that a file stands for, which has the file's name as its path.
+abbrev pub GivesFlow : Content → Workflow → Type 0
+GivesFlow file flow = flow_read file.name file.bytes ≡ Some (Ok flow)
+
+-- The workflows that files stand for.
+abbrev pub GiveFlows : List Content → List Workflow → Type 0
+GiveFlows [] [] = Unit {0}
+GiveFlows [] (flow ∷ flows) = ⊥
+GiveFlows (file ∷ files) [] = ⊥
+GiveFlows (file ∷ files) (flow ∷ flows) = GivesFlow file flow × GiveFlows files flows
+
+-- The trouble is that the file of this name stands for nothing, by a fault that its text has.
+pub record IsFaulty {A : Type 0} (name : List ℕ) (meaning : Option (Checked A)) (trouble : Trouble) : Type 0 where
+  pub fault : FlowFault
+  pub is : trouble ≡ NoFlow name fault
+  pub named : fault ≡ flow_fault.Memory → ⊥
+  pub stands : Tells {A = A} (Err fault) meaning
+
+-- A file gives no contexts.
+abbrev pub GivesNoRoots : Content → Trouble → Type 0
+GivesNoRoots file trouble = IsFaulty file.name (roots_read file.bytes) trouble
+
+-- A file stands for no workflow.
+abbrev pub GivesNoFlow : Content → Trouble → Type 0
+GivesNoFlow file trouble = IsFaulty file.name (flow_read file.name file.bytes) trouble
+
+-- The first of the files that stands for no workflow.
+abbrev pub GiveNoFlows : List Content → Trouble → Type 0
+GiveNoFlows [] trouble = ⊥
+GiveNoFlows (file ∷ files) trouble = GivesNoFlow file trouble ⊎ ((flow : Workflow) × GivesFlow file flow × GiveNoFlows files trouble)
+
+-- ---- what they come to
+
+-- The choice of the workflows comes to no plan.
+pub record IsUnplanned (flows : List Workflow) (roots : Roots) (choice : Choice) (trouble : Trouble) : Type 0 where
+  pub fault : PlanFault
+  pub is : trouble ≡ NotPlanned fault
+  pub refused : Refuses flows roots choice fault
+
+-- The plan that the workflows' files come to, with the contexts of a file.
+pub record ComesTo (choice : Choice) (contexts : Content) (files : List Content) (plan : Plan) : Type 0 where
+  pub roots : Roots
+  pub flows : List Workflow
+  pub has_roots : GivesRoots contexts roots
+  pub has_flows : GiveFlows files flows
+  pub assembles : Assembles flows roots choice plan
+  pub sound : IsPlan plan
+
+-- Why there is none, where there are contexts: a workflow's file, and then the planning.
+abbrev pub FlowsFail : Choice → Roots → List Content → Trouble → Type 0
+FlowsFail choice roots files trouble =
+    GiveNoFlows files trouble ⊎ ((flows : List Workflow) × GiveFlows files flows × IsUnplanned flows roots choice trouble)
+
+-- Why there is none: the file of contexts, then the workflows' files, and then the planning.
+abbrev pub ComesToNone : Choice → Content → List Content → Trouble → Type 0
+ComesToNone choice contexts files trouble =
+    GivesNoRoots contexts trouble ⊎ ((roots : Roots) × GivesRoots contexts roots × FlowsFail choice roots files trouble)
+
+-- What is handed over where no file of contexts is named: an empty object.
+abbrev pub no_contexts : Content
+no_contexts = record { name = []; bytes = codes "{}" }
+
+-- ---- what the code answers
+
+-- Something that is so, or the trouble why it is not; want of memory may always be answered.
+abbrev pub Finds : {A : Type 0} → (A → Type 0) → (Trouble → Type 0) → Result A Trouble → Type 0
+Finds Is Fails (Ok found) = Is found
+Finds Is Fails (Err trouble) = UnlessMemory trouble (Fails trouble)
+
+-- The plan that a choice of workflows comes to, which breaks no rule.
+abbrev pub IsPlanned : List Workflow → Roots → Choice → Plan → Type 0
+IsPlanned flows roots choice plan = Assembles flows roots choice plan × IsPlan plan
+
+-- The trouble of a fault of planning.
+abbrev pub plan_trouble : PlanFault → Trouble
+plan_trouble plan_fault.UnknownNeed = NotPlanned plan_fault.UnknownNeed
+plan_trouble plan_fault.Cycle = NotPlanned plan_fault.Cycle
+plan_trouble plan_fault.UnknownJob = NotPlanned plan_fault.UnknownJob
+plan_trouble plan_fault.NoWorkflow = NotPlanned plan_fault.NoWorkflow
+plan_trouble plan_fault.TooMany = NotPlanned plan_fault.TooMany
+plan_trouble (plan_fault.Expr place fault) = NotPlanned (plan_fault.Expr place fault)
+plan_trouble (plan_fault.Matrix number fault) = NotPlanned (plan_fault.Matrix number fault)
+plan_trouble plan_fault.Memory = Memory
+
+-- The trouble of a fault in the file of that name.
+abbrev pub TellsFault : List ℕ → FlowFault → Trouble → Type 0
+TellsFault name fault trouble = UnlessMemory trouble ((fault ≡ flow_fault.Memory → ⊥) × (trouble ≡ NoFlow name fault))
