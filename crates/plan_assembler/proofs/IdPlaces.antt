@@ -1,9 +1,11 @@
 -- Places of ids that are looked up.
-use Rattle.std.proofs.Common.{◌≡◌, ◌||◌, ◌+◌, ◌<◌, ◌≤◌, ℕ, suc, Bool, true, false, cond, nat_lt, List, [], ◌∷◌, length, drop, get_or, Option, Some, None, is_some, unwrap_or, refl, ap, sym, ◌∙◌, arith}
+use Rattle.std.proofs.Common.{◌≡◌, ◌||◌, ◌+◌, ◌<◌, ◌≤◌, ℕ, suc, Bool, true, false, cond, nat_lt, List, [], ◌∷◌, map, length, drop, get_or, slice_index_or, Option, Some, None, is_some, unwrap_or, refl, ap, sym, ◌∙◌, arith}
 use Rattle.std.proofs.lemmas.Bool.{ltb_from_iff}
 use Rattle.std.proofs.lemmas.List.{drop_all, length-map}
+use Rattle.std.proofs.lemmas.List.Elements.{All-map}
 use Rattle.std.proofs.lemmas.Slice.Eq.{bytes_eq-Decides}
 use Rattle.std.proofs.Math.Seq.{drop-cons}
+use Rattle.std.specs.List.{All}
 use Rattle.std.specs.Map.{update}
 use Rattle.std.specs.Option.{option_or}
 use Rattle.std.specs.Str.{bytes_eq}
@@ -122,3 +124,17 @@ among (other ∷ ids) id h = among_case (place_of ids id) (length ids) (is_one_o
 -- an id is one of these where its place is among theirs
 pub place_among : (ids : List (List ℕ)) (id : List ℕ) → nat_lt (place_of ids id) (length ids) ≡ is_one_of ids id
 place_among ids id = sym (ltb_from_iff (place_within ids id, among ids id))
+
+most_case : (place n : ℕ) (b : Bool) → place ≤ n → cond b 0 (suc place) ≤ suc n
+most_case place n true h = omega arith
+most_case place n false h = omega (arith, h)
+
+place_most : (ids : List (List ℕ)) (id : List ℕ) → place_of ids id ≤ length ids
+place_most [] id = omega arith
+place_most (other ∷ ids) id = most_case (place_of ids id) (length ids) (bytes_eq id other) (place_most ids id)
+
+-- no place of an id is beyond the one after all jobs
+pub places_bounded : (jobs : List FlowJob) (needs : List (List ℕ)) (places : List ℕ) → places ≡ map (place_of (ids_of jobs)) needs → All (λ place. place < length jobs + 1) places
+places_bounded jobs needs places e =
+    rw e (All-map (λ (place : ℕ). place < length jobs + 1) (place_of (ids_of jobs)) needs
+    (λ k d h. omega (arith, place_most (ids_of jobs) (slice_index_or needs k d), length-map jobs (λ (job : FlowJob). job.id))))

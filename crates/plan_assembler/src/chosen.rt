@@ -22,7 +22,7 @@ fn unmarked_all(alloc: Global, graph: &Sequence<Sequence<usize>>) -> Result<Vec<
 }
 
 /// Whether a job has a mark.
-fn is_marked(marks: &[bool], job: usize) -> bool
+pub(crate) fn is_marked(marks: &[bool], job: usize) -> bool
     ensures { result ≡ get_or marks.now job false }
 {
     match marks.get(job) {

@@ -77,7 +77,8 @@ fn needs_of(
         ≡ order_spec.numbers_of first order.now (map (layout.place_of (layout.ids_of jobs.now)) needs.now)) }
 {
     let places = places_of(alloc, index, jobs, needs)?;
-    numbers_of(alloc, first, order, &places)
+    let count = jobs.as_slice().len() + 1;
+    numbers_of(alloc, first, order, &places, count)
 }
 
 /// A job's name, or its id where it has none.

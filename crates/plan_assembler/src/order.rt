@@ -1,9 +1,10 @@
 //! The order of a run's jobs, and the numbers of their needs.
 
-ghost use Rattle.std.specs.Prelude.{◌≡◌, ◌<◌, ◌+◌, ◌^◌, ◌++◌, true, false, IfOk, OnOk, length, get_or, nat_eq};
-ghost use Rattle.std.specs.List.{filter, list_any};
+ghost use Rattle.std.specs.Prelude.{◌≡◌, ◌<◌, ◌+◌, ◌^◌, ◌++◌, ℕ, true, false, IfOk, OnOk, length, get_or, nat_eq};
+ghost use Rattle.std.specs.List.{All, filter, list_any};
 ghost use Rattle.plan_assembler.specs.Order as spec;
 
+use crate::chosen::is_marked;
 use flow_model::Sequence;
 use std::alloc::{AllocError, Global};
 
@@ -77,28 +78,37 @@ pub(crate) fn order_of(
     kept(alloc, &places, chosen)
 }
 
-/// Whether a job is among needs.
-fn is_needed(needs: &Sequence<usize>, job: usize) -> bool
-    ensures { result ≡ list_any (nat_eq job) needs.now }
+/// Marks at the places of needs.
+fn mark_needs(alloc: Global, needs: &Sequence<usize>, count: usize) -> Result<Vec<bool>, AllocError>
+    requires { All (λ need. need < count) needs.now }
+    ensures { IfOk result (λ marks. (j : ℕ) → get_or marks.items j false ≡ list_any (nat_eq j) needs.now) }
 {
     let needs = needs.as_slice();
-    needs.iter().any(|need| job == *need)
+    let mut marks = vec![in alloc; false; count]?;
+    for need in needs {
+        marks[*need] = true;
+    }
+    Ok(marks)
 }
 
-/// The numbers of those jobs that are needed, where the first job has the number `first`.
+/// The numbers of those jobs that are needed, where the first job has the number `first`. There are `count` places.
 pub(crate) fn numbers_of(
     alloc: Global,
     first: u64,
     order: &Sequence<usize>,
     needs: &Sequence<usize>,
+    count: usize,
 ) -> Result<Sequence<u64>, AllocError>
-    requires { first + length order.now < 2 ^ 64 }
+    requires fits { first + length order.now < 2 ^ 64 }
+    requires within { All (λ need. need < count) needs.now }
     ensures { IfOk result (λ numbers. numbers ≡ spec.numbers_of first order.now needs.now) }
 {
     let order = order.as_slice();
+    let marks = mark_needs(alloc, needs, count)?;
+    let marks = marks.as_slice();
     let mut numbers = Vec::new(alloc);
     for (place, job) in order.iter().enumerate() {
-        if is_needed(needs, *job) {
+        if is_marked(marks, *job) {
             numbers.push(first + place as u64)?;
         }
     }
