@@ -1,6 +1,7 @@
 pub mod Answering
 pub mod Counts
 pub mod Cycles
+pub mod EventNames
 pub mod FirstJob
 pub mod FlowTexts
 pub mod JobSteps

@@ -1,4 +1,5 @@
 pub mod Chosen
+pub mod Events
 pub mod Faults
 pub mod Graph
 pub mod Kahn

@@ -1,18 +1,20 @@
 //! The planner: workflows with the contexts that their runs are handed.
 
-ghost use Rattle.std.specs.Prelude.{◌≡◌, None, length};
+ghost use Rattle.std.specs.Prelude.{◌≡◌, IfOk, None, length};
 ghost use Rattle.std.specs.List.{AllByRecursion};
 ghost use Rattle.flow_model.specs.Flow.{IsWorkflow};
 ghost use Rattle.flow_model.specs.Rules.{roots_rules};
+ghost use Rattle.plan_assembler.specs.Events.{AreEvents};
 ghost use Rattle.plan_assembler.specs.Layout as layout;
 ghost use Rattle.plan_assembler.specs.Refusals.{ChecksRuns, Plans, none_taken as none_taken_of};
 ghost use Rattle.plan_assembler.specs.declared.choice.Choice.TheVariants.{All, Event, Job};
 
 use crate::choice::Choice;
+use crate::events::events_of;
 use crate::fault::PlanFault;
 use crate::runs::{is_taken, runs_of};
 use flow_model::{Broken, CheckedPlan, Flow, Plan, Roots, RunPlan, Sequence, Text};
-use std::alloc::Global;
+use std::alloc::{AllocError, Global};
 use std::marker::Model;
 
 /// Workflows, in the order in which they were handed in, with the contexts that their runs are handed, which keep the
@@ -146,5 +148,12 @@ impl Planner {
         ensures { Plans self.now.flows self.now.roots All result }
     {
         self.plan(&Choice::All)
+    }
+
+    /// The names of the events that some workflow names, each once, in byte order.
+    pub fn events(&self) -> Result<Sequence<Text>, AllocError>
+        ensures { IfOk result (AreEvents self.now.flows) }
+    {
+        events_of(self.alloc, &self.flows)
     }
 }
