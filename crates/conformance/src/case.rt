@@ -1,7 +1,7 @@
 //! The cases of a file: their marks are read, each is played, and what differs is told.
 
 use crate::streams::Limits;
-use crate::verbs::{Asked, Found, perform};
+use crate::verbs::{Asked, CONTEXTS, Files, Found, perform};
 use std::alloc::{AllocError, Global};
 use std::collections::BTreeMap;
 use std::io::Write;
@@ -32,6 +32,7 @@ enum Kind {
     Word,
     Verb,
     File,
+    FileName,
     Input,
     Out,
     Err,
@@ -46,6 +47,7 @@ fn kind_of(mark: &str) -> Kind {
         "$" => Kind::Word,
         "?" => Kind::Verb,
         "|" => Kind::File,
+        "/" => Kind::FileName,
         "<" => Kind::Input,
         ">" => Kind::Out,
         "!" => Kind::Err,
@@ -65,8 +67,9 @@ struct Case {
     words: Vec<Vec<u8>>,
     /// Whether the words are those of a verb of this program.
     is_verb: bool,
-    file: Vec<u8>,
-    /// Whether the file is that of an earlier case.
+    files: Files,
+    /// The name of the file whose lines are read, and whether what it has is of an earlier case.
+    file_name: String,
     is_file_old: bool,
     input: Vec<u8>,
     out: Vec<u8>,
@@ -96,6 +99,26 @@ fn add_line(lines: &mut Vec<u8>, text: &[u8], is_ended: bool) -> Result<(), Allo
         lines.push(b'\n')?;
     }
     Ok(())
+}
+
+/// A file of that name, of no bytes.
+fn begin_file(files: &mut Files, alloc: Global, name: &str) -> Result<(), AllocError> {
+    let name = String::from_str(alloc, name)?;
+    drop(files.insert(name, Vec::new(alloc))?);
+    Ok(())
+}
+
+/// Adds a line to the file of that name.
+fn add_file_line(
+    files: &mut Files,
+    name: &str,
+    text: &[u8],
+    is_ended: bool,
+) -> Result<(), AllocError> {
+    match files.get_mut(name) {
+        Some(file) => add_line(file, text, is_ended),
+        None => Ok(()),
+    }
 }
 
 /// Adds a text so many times, of which the number and the text stand in a line.
@@ -156,7 +179,8 @@ impl Case {
             name: Vec::new(alloc),
             words: Vec::new(alloc),
             is_verb: false,
-            file: Vec::new(alloc),
+            files: BTreeMap::new(alloc),
+            file_name: String::new(alloc),
             is_file_old: true,
             input: Vec::new(alloc),
             out: Vec::new(alloc),
@@ -171,16 +195,18 @@ impl Case {
         }
     }
 
-    /// Forgets all but the name, the file and the named texts.
-    fn begin(&mut self) {
+    /// Forgets all but the name, the files and the named texts.
+    fn begin(&mut self) -> Result<(), AllocError> {
         self.words.clear();
         self.is_verb = false;
+        self.file_name.clear();
         self.is_file_old = true;
         self.input.clear();
         self.out.clear();
         self.err.clear();
         self.status.clear();
         self.limits = Limits::none();
+        self.file_name.push_str(CONTEXTS)
     }
 
     /// Whether something is asked or wanted.
@@ -214,19 +240,33 @@ impl Case {
                 self.is_verb = true;
                 add_words(&mut self.words, alloc, text)
             },
-            Kind::File => {
-                if self.is_file_old {
-                    self.file.clear();
-                }
-                self.is_file_old = false;
-                add_line(&mut self.file, text, self.is_ended)
-            },
+            Kind::File => self.take_file_line(alloc),
+            Kind::FileName => self.take_file_name(alloc),
             Kind::Input => add_line(&mut self.input, text, self.is_ended),
             Kind::Out => add_line(&mut self.out, text, self.is_ended),
             Kind::Err => add_line(&mut self.err, text, self.is_ended),
             Kind::Status => add_line(&mut self.status, text, false),
             Kind::Named => keep(&mut self.texts, alloc, text),
         }
+    }
+
+    /// Takes the text as a line of a file, which begins anew where it is of an earlier case.
+    fn take_file_line(&mut self, alloc: Global) -> Result<(), AllocError> {
+        let name = self.file_name.as_str();
+        if self.is_file_old {
+            begin_file(&mut self.files, alloc, name)?;
+        }
+        self.is_file_old = false;
+        add_file_line(&mut self.files, name, self.text.as_slice(), self.is_ended)
+    }
+
+    /// Takes the text as the name of a file, which begins anew.
+    fn take_file_name(&mut self, alloc: Global) -> Result<(), AllocError> {
+        let name = str::from_utf8(self.text.as_slice()).unwrap_or("");
+        self.file_name.clear();
+        self.file_name.push_str(name)?;
+        self.is_file_old = false;
+        begin_file(&mut self.files, alloc, name)
     }
 
     /// Begins a text.
@@ -302,7 +342,7 @@ impl Case {
         let asked = Asked {
             is_verb: self.is_verb,
             words: words.as_slice(),
-            file: self.file.as_slice(),
+            files: &self.files,
             input: self.input.as_slice(),
             limits: self.limits,
         };
@@ -380,6 +420,8 @@ pub fn run_cases<O: Write>(alloc: Global, text: &str, out: &mut O) -> io::Result
         differ: 0,
     };
     let mut case = Case::new(alloc);
+    case.begin()?;
+    begin_file(&mut case.files, alloc, CONTEXTS)?;
     for line in text.lines() {
         if line.is_empty() {
             told = told.and(end_case(alloc, &mut case, out)?);
@@ -401,6 +443,6 @@ fn end_case<O: Write>(alloc: Global, case: &mut Case, out: &mut O) -> io::Result
             differ: 0,
         }
     };
-    case.begin();
+    case.begin()?;
     Ok(told)
 }

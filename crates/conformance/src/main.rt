@@ -6,7 +6,8 @@
 //!   # NAME      the name of the cases from here on
 //!   $ WORDS     the words of the command line, parted by spaces; a further such line is one word
 //!   ? WORDS     likewise those of a verb of this program
-//!   | TEXT      a line of the file that the command reads, which stays for the cases after this one
+//!   | TEXT      a line of the file `contexts.json`, which stays for the cases after this one
+//!   / NAME      the `|` lines that follow in this case are lines of the file of that name, which begins anew
 //!   < TEXT      a line of the input
 //!   ~ NAMES     the named texts, each as a line of the input
 //!   > TEXT      a line that is wanted on `out`
@@ -26,17 +27,19 @@
 //!   \           the line has no newline
 //!
 //! There are no escapes: a text goes to the end of its line. The verbs stand at the heads of `documents`, `expressions`,
-//! `members`, `pattern_sweeps` and `record_sweeps`. The program stands on `commands` and the libraries below it, and proves
-//! nothing of its own; what it wants stands in `data/`.
+//! `flow_calls`, `members`, `pattern_sweeps`, `plan_calls` and `record_sweeps`. The program stands on `commands` and the
+//! libraries below it, and proves nothing of its own; what it wants stands in `data/`.
 
 #![tactic(auto)]
 
 mod case;
 mod documents;
 mod expressions;
+mod flow_calls;
 mod group_calls;
 mod members;
 mod pattern_sweeps;
+mod plan_calls;
 mod record_sweeps;
 mod replies;
 mod samples;

@@ -12,6 +12,7 @@ use crate::sweep::Sweep;
 use crate::verbs;
 use crate::verbs::Asked;
 use std::alloc::{AllocError, Global};
+use std::collections::BTreeMap;
 use std::str;
 
 /// What a verb of these tells.
@@ -35,10 +36,11 @@ fn add_lines(told: &mut String, sign: &str, text: &[u8]) -> Result<(), AllocErro
 
 /// What `table` tells of a record.
 fn table_told(alloc: Global, record: &[u8]) -> Result<String, AllocError> {
+    let files = BTreeMap::new(alloc);
     let asked = Asked {
         is_verb: false,
         words: &["table"],
-        file: b"",
+        files: &files,
         input: record,
         limits: Limits::none(),
     };

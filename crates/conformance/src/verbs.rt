@@ -1,13 +1,20 @@
 //! What a case asks for: a command, by the words of the command line, or a verb of this program's own.
 
-use crate::documents;
+use crate::plan_calls;
 use crate::streams::{Feed, Limits, Page};
 use commands::stream::{Input, Output};
 use commands::words;
 use commands::words::Folder;
 use std::alloc::{AllocError, Global};
+use std::collections::BTreeMap;
 use std::io;
 use std::io::ErrorKind;
+
+/// The name of the file whose lines stand without one.
+pub const CONTEXTS: &str = "contexts.json";
+
+/// The files of a case, by their names.
+pub type Files = BTreeMap<String, Vec<u8>>;
 
 /// What a case asks for.
 #[derive(Clone, Copy)]
@@ -15,8 +22,7 @@ pub struct Asked<'a> {
     /// Whether the words are those of a verb of this program, and not of the command line.
     pub is_verb: bool,
     pub words: &'a [&'a str],
-    /// The file that a command or a verb reads.
-    pub file: &'a [u8],
+    pub files: &'a Files,
     pub input: &'a [u8],
     pub limits: Limits,
 }
@@ -29,10 +35,10 @@ pub struct Found {
     pub status: u8,
 }
 
-/// The folder of a case, which has one file.
+/// The folder of a case.
 #[derive(Drop)]
 struct Shelf<'a> {
-    file: &'a [u8],
+    files: &'a Files,
     limits: Limits,
 }
 
@@ -40,10 +46,9 @@ impl<'a> Folder for Shelf<'a> {
     type File = Input<Feed<'a>>;
 
     fn open(&self, name: &str) -> Option<Input<Feed<'a>>> {
-        if name == "contexts.json" {
-            Some(Input::new(Feed::new(self.file, self.limits)))
-        } else {
-            None
+        match self.files.get(name) {
+            Some(file) => Some(Input::new(Feed::new(file.as_slice(), self.limits))),
+            None => None,
         }
     }
 }
@@ -53,7 +58,7 @@ pub fn perform(alloc: Global, asked: &Asked<'_>) -> Result<Found, AllocError> {
     if !asked.is_verb {
         return run(alloc, asked);
     }
-    let text = documents::told(alloc, asked.words, asked.file, asked.input)?;
+    let text = plan_calls::told(alloc, asked.words, asked.files, asked.input)?;
     let mut out = Page::new(alloc, usize::MAX, usize::MAX);
     let err = Page::new(alloc, usize::MAX, usize::MAX);
     out.put_line(text.as_str())?;
@@ -80,12 +85,12 @@ pub fn run(alloc: Global, asked: &Asked<'_>) -> Result<Found, AllocError> {
 /// Runs the command that these words ask for, or none where they are no UTF-8.
 fn run_words(alloc: Global, line: &[String], asked: &Asked<'_>) -> Found {
     let Asked {
-        file,
+        files,
         input,
         limits,
         ..
     } = *asked;
-    let folder = Shelf { file, limits };
+    let folder = Shelf { files, limits };
     let mut input = Input::new(Feed::new(input, limits));
     let mut out = Output::new(Page::new(alloc, limits.step, limits.out));
     let mut err = Output::new(Page::new(alloc, limits.step, limits.err));
