@@ -9,9 +9,10 @@ use Rattle.flow_model.specs.declared.plan.Roots.{Roots}
 use Rattle.plan_assembler.specs.Graph.{Graph, NeedsBy, HasCycle}
 use Rattle.plan_assembler.specs.Layout.{taken}
 use Rattle.plan_assembler.specs.Plans.{Assembles}
-use Rattle.plan_assembler.specs.Refusals.{RunsPass}
+use Rattle.plan_assembler.specs.Refusals.{RunsPass, Refuses}
 use Rattle.plan_assembler.specs.Stages.{AreStages}
 use Rattle.plan_assembler.specs.declared.choice.Choice.{Choice}
+use Rattle.plan_assembler.specs.declared.fault.PlanFault.{PlanFault}
 
 -- The stages of jobs are the only ones.
 abbrev pub OneStaging : Type 0
@@ -36,3 +37,10 @@ LegsAloneAreLeft =
     (ws : List Workflow) (roots : Roots) (choice : Choice) (p : Plan) → AllByRecursion IsWorkflow (taken choice ws) → roots_rules roots ≡ None
     → 0 < length (taken choice ws) → length (taken choice ws) ≤ 64 → RunsPass choice (taken choice ws)
     → Assembles ws roots choice p → legs_of_runs p.runs ≤ 4096 → IsPlan p
+
+-- Where a choice is refused there is no plan: the workflows come to none that breaks no rule. They may be any workflows: all
+-- that the tests ask of them, a plan that they come to says of them by its own rules.
+abbrev pub RefusedHaveNone : Type 0
+RefusedHaveNone =
+    (ws : List Workflow) (roots : Roots) (choice : Choice) (f : PlanFault) → Refuses ws roots choice f
+    → (p : Plan) → Assembles ws roots choice p → IsPlan p → ⊥

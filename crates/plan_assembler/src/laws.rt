@@ -1,6 +1,6 @@
 //! Laws of the definitions, as contracts of functions that do nothing.
 
-ghost use Rattle.plan_assembler.specs.Laws.{OneStaging, NeedsFall, NoStagesInCycles, OnePlan, LegsAloneAreLeft};
+ghost use Rattle.plan_assembler.specs.Laws.{OneStaging, NeedsFall, NoStagesInCycles, OnePlan, LegsAloneAreLeft, RefusedHaveNone};
 
 /// The stages of jobs are the only ones.
 pub fn one_staging()
@@ -25,4 +25,9 @@ pub fn one_plan()
 /// Once the tests before it have passed, only the count of legs can fail.
 pub fn legs_alone_are_left()
     ensures { LegsAloneAreLeft }
+{}
+
+/// Where a choice is refused, the workflows come to no plan that breaks no rule.
+pub fn refused_have_none()
+    ensures { RefusedHaveNone }
 {}
