@@ -17,3 +17,4 @@ pub mod Readings
 pub mod RunSteps
 pub mod Stagings
 pub mod Standing
+pub mod Whole
