@@ -19,3 +19,4 @@ pub mod Readings
 pub mod RunSteps
 pub mod Stagings
 pub mod Standing
+pub mod Whole

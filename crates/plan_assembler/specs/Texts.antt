@@ -1,8 +1,12 @@
 -- The texts of a workflow that are evaluated, and the first of them that cannot be read.
 use Rattle.std.specs.Prelude.{◌≡◌, ℕ, List, [], ◌∷◌, Option, Some, None, Result, Ok, Err, IfSome, if◌then◌else◌}
+use Rattle.std.specs.List.{prefix_len}
 use Rattle.expr_reader.specs.Accepts.{is_template, is_condition}
+use Rattle.expr_reader.specs.Bytes.{is_white}
 use Rattle.expr_reader.specs.Faults.{fault_at}
-use Rattle.expr_reader.specs.TemplateStands.{TemplateFaultStands, ConditionFaultStands}
+use Rattle.expr_reader.specs.Reading.{Failure}
+use Rattle.expr_reader.specs.Template.{trimmed}
+use Rattle.expr_reader.specs.TemplateStands.{StandsInTemplate, StandsInTrimmed}
 use Rattle.expr_reader.specs.declared.fault.ExprFault.{ExprFault}
 use Rattle.flow_model.specs.Plain.{Plain, null, truth, whole, text, list, map}
 use Rattle.flow_model.specs.declared.flow.FlowJob.{FlowJob}
@@ -19,10 +23,15 @@ pub data Evaluated : Type 0 where
   template : List ℕ → Evaluated
   condition : List ℕ → Evaluated
 
+-- what was found of a fault stands in a text; want of memory, of which there is nothing to be found, stands nowhere
+abbrev pub StandsAt : Evaluated → Option Failure → Type 0
+StandsAt t None = ⊥
+StandsAt (template t) (Some x) = StandsInTemplate t x
+StandsAt (condition t) (Some x) = StandsInTrimmed (prefix_len is_white t) (trimmed t) x
+
 -- a fault stands in a text
 abbrev pub StandsIn : Evaluated → ExprFault → Type 0
-StandsIn (template t) fault = TemplateFaultStands t fault
-StandsIn (condition t) fault = ConditionFaultStands t fault
+StandsIn t fault = StandsAt t (fault_at fault)
 
 -- ---- the first text of a part that cannot be read
 

@@ -1,6 +1,6 @@
 //! Laws of the definitions, as contracts of functions that do nothing.
 
-ghost use Rattle.plan_assembler.specs.Laws.{OneStaging, NeedsFall, NoStagesInCycles, OnePlan, LegsAloneAreLeft, RefusedHaveNone};
+ghost use Rattle.plan_assembler.specs.Laws.{OneStaging, NeedsFall, NoStagesInCycles, OnePlan, LegsAloneAreLeft, RefusedHaveNone, OrderIsWhole, OrderAscends};
 
 /// The stages of jobs are the only ones.
 pub fn one_staging()
@@ -30,4 +30,14 @@ pub fn legs_alone_are_left()
 /// Where a choice is refused, the workflows come to no plan that breaks no rule.
 pub fn refused_have_none()
     ensures { RefusedHaveNone }
+{}
+
+/// The order of a run has exactly the jobs that are taken.
+pub fn order_is_whole()
+    ensures { OrderIsWhole }
+{}
+
+/// The jobs of a run stand by their stage and then by their place, which is by their id.
+pub fn order_ascends()
+    ensures { OrderAscends }
 {}
