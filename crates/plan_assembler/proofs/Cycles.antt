@@ -17,7 +17,7 @@ above f (n ∷ ns) zero k h e = rw (sym e) (omega arith)
 above f (n ∷ ns) (suc i) k h e = let later : f k < stage_after (map f ns) = above f ns i k (omega arith) e in omega arith
 
 -- the stage of a job, by the equation that stages meet
-at_stage : (g : List (List ℕ)) (ss : List ℕ) → AreStages g ss → (j : ℕ) → get_or ss j 0 ≡ stage_after (map (λ k. get_or ss k 0) (get_or g j []))
+pub at_stage : (g : List (List ℕ)) (ss : List ℕ) → AreStages g ss → (j : ℕ) → get_or ss j 0 ≡ stage_after (map (λ k. get_or ss k 0) (get_or g j []))
 at_stage g ss h j = ap (λ (l : List ℕ). get_or l j 0) h ∙ get_or-map (λ needs. stage_after (map (λ k. get_or ss k 0) needs)) g j []
 
 -- a job's stage is above those of its needs
@@ -72,7 +72,8 @@ open_need : (found : List (Option ℕ)) (ns : List ℕ) → 0 < count_by (is_ope
 open_need found [] h = absurd (omega arith)
 open_need found (n ∷ ns) h = open_first found n ns (is_open found n) refl h (open_need found ns)
 
-all_differ : (j : ℕ) (trail : List ℕ) → list_any (nat_eq j) trail ≡ false → AllByRecursion (λ y. nat_eq j y ≡ false) trail
+-- what is none of some differs from each of them
+pub all_differ : (j : ℕ) (trail : List ℕ) → list_any (nat_eq j) trail ≡ false → AllByRecursion (λ y. nat_eq j y ≡ false) trail
 all_differ j [] h = tt
 all_differ j (t ∷ trail) h = (grind (arith, common_steps), all_differ j trail (grind (arith, common_steps)))
 

@@ -91,7 +91,8 @@ jobs_within jobs k w = omega (arith, w, length-map jobs (λ (job : FlowJob). map
 within_jobs : (jobs : List FlowJob) (k : ℕ) → k < length jobs → k < length (graph_of jobs)
 within_jobs jobs k w = omega (arith, w, length-map jobs (λ (job : FlowJob). map (place_of (ids_of jobs)) job.needs))
 
-marked_all : (jobs : List FlowJob) (marks : List Bool) (k : ℕ) → marks ≡ map (λ _. true) jobs → k < length jobs → get_or marks k false ≡ true
+-- of all jobs each is marked
+pub marked_all : (jobs : List FlowJob) (marks : List Bool) (k : ℕ) → marks ≡ map (λ _. true) jobs → k < length jobs → get_or marks k false ≡ true
 marked_all jobs marks k e w = ap (λ (l : List Bool). get_or l k false) e ∙ all_marked jobs k w
 
 chosen_next : (g : Graph) (target j k : ℕ) → Needs g j k → IsChosen g target j → IsChosen g target k
@@ -100,7 +101,8 @@ chosen_next g target j k n c = elim c [
   | inr by ↦ inr (by.0 ++ j ∷ [], further g target by.0 j k by.1 n)
 ]
 
-taken_closed : (choice : Choice) (jobs : List FlowJob) (marks : List Bool) → AreTaken choice jobs marks → IsGraph (graph_of jobs) → AreClosed (graph_of jobs) marks
+-- what a job that is taken needs is taken too
+pub taken_closed : (choice : Choice) (jobs : List FlowJob) (marks : List Bool) → AreTaken choice jobs marks → IsGraph (graph_of jobs) → AreClosed (graph_of jobs) marks
 taken_closed (Event name) jobs marks a graph j k n m = marked_all jobs marks k a (jobs_within jobs k (graph j k n))
 taken_closed (Job id) jobs marks a graph j k n m = (a.1 k).1 (chosen_next (graph_of jobs) (place_of (ids_of jobs) id) j k n ((a.1 j).0 m))
 taken_closed All jobs marks a graph j k n m = marked_all jobs marks k a (jobs_within jobs k (graph j k n))

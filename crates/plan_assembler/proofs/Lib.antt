@@ -13,7 +13,10 @@ pub mod OnePlan
 pub mod Orders
 pub mod Places
 pub mod PlanBack
+pub mod Planned
+pub mod PlannedTexts
 pub mod Readings
 pub mod RunSteps
 pub mod Stagings
 pub mod Standing
+pub mod Whole

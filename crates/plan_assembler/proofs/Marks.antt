@@ -42,7 +42,7 @@ fewer_unmarked (false ∷ marks) (suc k) w h = grind (arith, common_steps, fewer
 fewer_unmarked (true ∷ marks) (suc k) w h = grind (arith, common_steps, fewer_unmarked marks k (omega arith) h)
 
 -- marks beyond the jobs are none
-mark_within : (marks : List Bool) (j : ℕ) → get_or marks j false ≡ true → j < length marks
+pub mark_within : (marks : List Bool) (j : ℕ) → get_or marks j false ≡ true → j < length marks
 mark_within [] j h = absurd (cc)
 mark_within (b ∷ marks) zero h = omega arith
 mark_within (b ∷ marks) (suc j) h = omega (arith, mark_within marks j h)

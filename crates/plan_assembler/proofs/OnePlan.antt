@@ -24,7 +24,7 @@ one_marking (Job id) jobs marks others a b =
     ext_get_or false marks others (a.0 ∙ sym b.0) (λ j w. same_test _ _ (λ e. (b.1 j).1 ((a.1 j).0 e)) (λ e. (a.1 j).1 ((b.1 j).0 e)))
 one_marking All jobs marks others a b = a ∙ sym b
 
-one_order : (choice : Choice) (jobs : List FlowJob) (order other : List ℕ) → IsOrder choice jobs order → IsOrder choice jobs other → order ≡ other
+pub one_order : (choice : Choice) (jobs : List FlowJob) (order other : List ℕ) → IsOrder choice jobs order → IsOrder choice jobs other → order ≡ other
 one_order choice jobs order other a b =
     a.in_order ∙ ap (λ (ss : List ℕ). order_of ss a.marks) (one_staging (graph_of jobs) a.stages b.stages a.are_stages b.are_stages)
     ∙ ap (order_of b.stages) (one_marking choice jobs a.marks b.marks a.are_taken b.are_taken) ∙ sym b.in_order

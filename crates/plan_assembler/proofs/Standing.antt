@@ -41,10 +41,11 @@ pub record Later (ss : List ℕ) (stage k : ℕ) : Type 0 where
   pub within : k < length ss
   pub staged : stage ≤ get_or ss k 0
 
--- one place may stand before another: it is another one, and its stage is no greater
+-- one place may stand before another: it is another one, and its stage is no greater; in one stage it is below the other
 pub record May (ss : List ℕ) (j k : ℕ) : Type 0 where
   pub other : j ≡ k → ⊥
   pub staged : get_or ss j 0 ≤ get_or ss k 0
+  pub below : get_or ss j 0 ≡ get_or ss k 0 → j < k
 
 -- each place may stand before those after it
 abbrev pub InOrder : List ℕ → List ℕ → Type 0
@@ -57,7 +58,7 @@ place_case ss stage p s rest true e is w h =
     let same : s ≡ stage = grind (arith, nat_tests) in
     let here : get_or ss p 0 ≡ stage = sym is ∙ same in (
       (record { low = omega arith; within = w; staged = here }, all_weaker (Stands ss stage (suc p)) (Stands ss stage p) (λ k t. record { low = omega (arith, t.low); within = t.within; staged = t.staged }) rest h.0),
-      (all_weaker (Stands ss stage (suc p)) (May ss p) (λ k t. record { other = λ x. omega (arith, t.low, x); staged = omega (arith, here, t.staged) }) rest h.0, h.1),
+      (all_weaker (Stands ss stage (suc p)) (May ss p) (λ k t. record { other = λ x. omega (arith, t.low, x); staged = omega (arith, here, t.staged); below = λ x. omega (arith, t.low) }) rest h.0, h.1),
     )
 place_case ss stage p s rest false e is w h =
     (all_weaker (Stands ss stage (suc p)) (Stands ss stage p) (λ k t. record { low = omega (arith, t.low); within = t.within; staged = t.staged }) rest h.0, h.1)
@@ -79,7 +80,7 @@ order_append ss stage [] ys h a k b = b
 order_append ss stage (x ∷ xs) ys h a k b =
     let here : get_or ss x 0 ≡ stage = h.0.staged in (
       all_append (May ss x) xs ys a.0 (all_weaker (Later ss (suc stage)) (May ss x)
-          (λ y t. record { other = λ e. let same : get_or ss x 0 ≡ get_or ss y 0 = ap (λ (k : ℕ). get_or ss k 0) e in omega (arith, here, same, t.staged); staged = omega (arith, here, t.staged) }) ys k),
+          (λ y t. record { other = λ e. let same : get_or ss x 0 ≡ get_or ss y 0 = ap (λ (k : ℕ). get_or ss k 0) e in omega (arith, here, same, t.staged); staged = omega (arith, here, t.staged); below = λ e. absurd (omega (arith, here, e, t.staged)) }) ys k),
       order_append ss stage xs ys h.1 a.1 k b,
     )
 

@@ -1,17 +1,22 @@
 -- Laws of the definitions, each the contract of a function of the module `laws`.
-use Rattle.std.specs.Prelude.{◌≡◌, ◌<◌, ◌≤◌, ℕ, List, None, get_or, length}
-use Rattle.std.specs.List.{AllByRecursion}
+use Rattle.std.specs.Prelude.{◌≡◌, ◌<◌, ◌≤◌, ◌↔◌, ◌⊎◌, ℕ, Bool, true, List, None, get_or, length}
+use Rattle.std.specs.List.{AllByRecursion, Contains}
+use Rattle.flow_model.specs.declared.flow.FlowJob.{FlowJob}
 use Rattle.flow_model.specs.Flow.{IsWorkflow}
 use Rattle.flow_model.specs.Rules.{legs_of_runs, roots_rules, IsPlan}
 use Rattle.flow_model.specs.declared.flow.Workflow.{Workflow}
 use Rattle.flow_model.specs.declared.plan.Plan.{Plan}
 use Rattle.flow_model.specs.declared.plan.Roots.{Roots}
+use Rattle.plan_assembler.specs.Chosen.{IsChosen}
 use Rattle.plan_assembler.specs.Graph.{Graph, NeedsBy, HasCycle}
-use Rattle.plan_assembler.specs.Layout.{taken}
+use Rattle.plan_assembler.specs.Layout.{ids_of, taken, place_of, are_needs_known, graph_of, IsOrder}
+use Rattle.plan_assembler.specs.Order.{order_of}
 use Rattle.plan_assembler.specs.Plans.{Assembles}
-use Rattle.plan_assembler.specs.Refusals.{RunsPass}
+use Rattle.plan_assembler.specs.Refusals.{RunsPass, Refuses}
 use Rattle.plan_assembler.specs.Stages.{AreStages}
 use Rattle.plan_assembler.specs.declared.choice.Choice.{Choice}
+use Rattle.plan_assembler.specs.declared.choice.Choice.TheVariants.{Event, Job, All}
+use Rattle.plan_assembler.specs.declared.fault.PlanFault.{PlanFault}
 
 -- The stages of jobs are the only ones.
 abbrev pub OneStaging : Type 0
@@ -36,3 +41,34 @@ LegsAloneAreLeft =
     (ws : List Workflow) (roots : Roots) (choice : Choice) (p : Plan) → AllByRecursion IsWorkflow (taken choice ws) → roots_rules roots ≡ None
     → 0 < length (taken choice ws) → length (taken choice ws) ≤ 64 → RunsPass choice (taken choice ws)
     → Assembles ws roots choice p → legs_of_runs p.runs ≤ 4096 → IsPlan p
+
+-- Where a choice is refused there is no plan: the workflows come to none that breaks no rule. They may be any workflows: all
+-- that the tests ask of them, a plan that they come to says of them by its own rules.
+abbrev pub RefusedHaveNone : Type 0
+RefusedHaveNone =
+    (ws : List Workflow) (roots : Roots) (choice : Choice) (f : PlanFault) → Refuses ws roots choice f
+    → (p : Plan) → Assembles ws roots choice p → IsPlan p → ⊥
+
+-- ---- the order of a run's jobs
+
+-- the choice takes the job at this place: of a run for one job that job and all that it needs, else every job
+abbrev pub IsTakenAt : Choice → List FlowJob → ℕ → Type 0
+IsTakenAt (Event name) jobs j = j < length jobs
+IsTakenAt (Job id) jobs j = IsChosen (graph_of jobs) (place_of (ids_of jobs) id) j
+IsTakenAt All jobs j = j < length jobs
+
+-- The order of a run has exactly the jobs that the choice takes.
+abbrev pub OrderIsWhole : Type 0
+OrderIsWhole =
+    (choice : Choice) (jobs : List FlowJob) (order : List ℕ) → are_needs_known jobs ≡ true → IsOrder choice jobs order
+    → (j : ℕ) → Contains order j ↔ IsTakenAt choice jobs j
+
+-- one place stands before another: its stage is lower, or they have one stage and it is lower itself
+abbrev pub StandsBefore : List ℕ → ℕ → ℕ → Type 0
+StandsBefore ss j k = (get_or ss j 0 < get_or ss k 0) ⊎ ((get_or ss j 0 ≡ get_or ss k 0) × (j < k))
+
+-- The jobs of a run stand by their stage, and in a stage by their place, which is by their id. So none stands twice.
+abbrev pub OrderAscends : Type 0
+OrderAscends =
+    (ss : List ℕ) (marks : List Bool) (i k : ℕ) → i < k → k < length (order_of ss marks)
+    → StandsBefore ss (get_or (order_of ss marks) i 0) (get_or (order_of ss marks) k 0)

@@ -1,6 +1,6 @@
 //! Laws of the definitions, as contracts of functions that do nothing.
 
-ghost use Rattle.plan_assembler.specs.Laws.{OneStaging, NeedsFall, NoStagesInCycles, OnePlan, LegsAloneAreLeft};
+ghost use Rattle.plan_assembler.specs.Laws.{OneStaging, NeedsFall, NoStagesInCycles, OnePlan, LegsAloneAreLeft, RefusedHaveNone, OrderIsWhole, OrderAscends};
 
 /// The stages of jobs are the only ones.
 pub fn one_staging()
@@ -25,4 +25,19 @@ pub fn one_plan()
 /// Once the tests before it have passed, only the count of legs can fail.
 pub fn legs_alone_are_left()
     ensures { LegsAloneAreLeft }
+{}
+
+/// Where a choice is refused, the workflows come to no plan that breaks no rule.
+pub fn refused_have_none()
+    ensures { RefusedHaveNone }
+{}
+
+/// The order of a run has exactly the jobs that are taken.
+pub fn order_is_whole()
+    ensures { OrderIsWhole }
+{}
+
+/// The jobs of a run stand by their stage and then by their place, which is by their id.
+pub fn order_ascends()
+    ensures { OrderAscends }
 {}

@@ -1,0 +1,5 @@
+use Rattle.plan_assembler.proofs.Whole.{order_ascends as proof}
+use Rattle.plan_assembler.proofs.laws.order_ascends.Goals as goal
+
+pub returns : goal.returns
+returns c = proof
