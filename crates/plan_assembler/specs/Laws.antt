@@ -3,15 +3,17 @@ use Rattle.std.specs.Prelude.{◌≡◌, ◌<◌, ◌≤◌, ◌↔◌, ◌⊎�
 use Rattle.std.specs.List.{AllByRecursion, Contains}
 use Rattle.flow_model.specs.declared.flow.FlowJob.{FlowJob}
 use Rattle.flow_model.specs.Flow.{IsWorkflow}
-use Rattle.flow_model.specs.Rules.{legs_of_runs, roots_rules, IsPlan}
+use Rattle.flow_model.specs.Rules.{job_ids, legs_of_runs, roots_rules, IsPlan}
 use Rattle.flow_model.specs.declared.flow.Workflow.{Workflow}
 use Rattle.flow_model.specs.declared.plan.Plan.{Plan}
 use Rattle.flow_model.specs.declared.plan.Roots.{Roots}
+use Rattle.flow_model.specs.declared.plan.RunPlan.{RunPlan}
 use Rattle.plan_assembler.specs.Chosen.{IsChosen}
 use Rattle.plan_assembler.specs.Graph.{Graph, NeedsBy, HasCycle}
-use Rattle.plan_assembler.specs.Layout.{ids_of, taken, place_of, are_needs_known, graph_of, IsOrder}
+use Rattle.plan_assembler.specs.Layout.{ids_of, is_one_of, is_taken, taken, place_of, are_needs_known, graph_of, IsOrder}
+use Rattle.plan_assembler.specs.Needed.{IsNeeded}
 use Rattle.plan_assembler.specs.Order.{order_of}
-use Rattle.plan_assembler.specs.Plans.{Assembles}
+use Rattle.plan_assembler.specs.Plans.{AssemblesRun, Assembles}
 use Rattle.plan_assembler.specs.Refusals.{RunsPass}
 use Rattle.plan_assembler.specs.Stages.{AreStages}
 use Rattle.plan_assembler.specs.declared.choice.Choice.{Choice}
@@ -64,3 +66,11 @@ abbrev pub OrderAscends : Type 0
 OrderAscends =
     (ss : List ℕ) (marks : List Bool) (i k : ℕ) → i < k → k < length (order_of ss marks)
     → StandsBefore ss (get_or (order_of ss marks) i 0) (get_or (order_of ss marks) k 0)
+
+-- ---- what the jobs of a run need
+
+-- The run of a workflow for one job has exactly that job and what it needs, directly or not.
+abbrev pub JobWithNeeds : Type 0
+JobWithNeeds =
+    (roots : Roots) (w : Workflow) (id : List ℕ) (first : ℕ) (run : RunPlan) → IsWorkflow w → is_taken (Job id) w ≡ true
+    → AssemblesRun roots (Job id) w first run → (other : List ℕ) → (is_one_of (job_ids run.jobs) other ≡ true) ↔ IsNeeded w.jobs id other

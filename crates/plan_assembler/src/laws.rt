@@ -1,6 +1,6 @@
 //! Laws of the definitions, as contracts of functions that do nothing.
 
-ghost use Rattle.plan_assembler.specs.Laws.{OneStaging, NeedsFall, NoStagesInCycles, OnePlan, LegsAloneAreLeft, OrderIsWhole, OrderAscends};
+ghost use Rattle.plan_assembler.specs.Laws.{OneStaging, NeedsFall, NoStagesInCycles, OnePlan, LegsAloneAreLeft, OrderIsWhole, OrderAscends, JobWithNeeds};
 
 /// The stages of jobs are the only ones.
 pub fn one_staging()
@@ -35,4 +35,9 @@ pub fn order_is_whole()
 /// The jobs of a run stand by their stage and then by their place, which is by their id.
 pub fn order_ascends()
     ensures { OrderAscends }
+{}
+
+/// The run of a workflow for one job has exactly that job and what it needs, directly or not.
+pub fn job_with_needs()
+    ensures { JobWithNeeds }
 {}
