@@ -11,6 +11,7 @@ pub mod LegValues
 pub mod LegsAlone
 pub mod Marks
 pub mod Named
+pub mod NeedNumbers
 pub mod OnePlan
 pub mod Orders
 pub mod Places
