@@ -52,7 +52,8 @@ not_below x y e h =
     let equal : true ≡ false = sym same ∙ sym (is_eq-slice_cmp x y) ∙ less in
     absurd (cc)
 
-one_place : (jobs : List FlowJob) → IsStrictlySortedBy (slice_cmp nat_cmp) (ids_of jobs) → (p k : ℕ) (a b : FlowJob) → slice_get jobs p ≡ Some a → slice_get jobs k ≡ Some b → a.id ≡ b.id → p ≡ k
+-- jobs that stand by their ids have one place for each id
+pub one_place : (jobs : List FlowJob) → IsStrictlySortedBy (slice_cmp nat_cmp) (ids_of jobs) → (p k : ℕ) (a b : FlowJob) → slice_get jobs p ≡ Some a → slice_get jobs k ≡ Some b → a.id ≡ b.id → p ≡ k
 unfolding IsStrictlySortedBy
 one_place [] h p k a b e f s = absurd (cc)
 one_place (j ∷ jobs) h zero zero a b e f s = refl
@@ -88,7 +89,8 @@ ids_distinct : (jobs : List FlowJob) (ss order : List ℕ) → IsStrictlySortedB
 ids_distinct jobs ss [] s o = refl
 ids_distinct jobs ss (p ∷ ps) s o = ids_case jobs ss p ps (slice_get jobs p) s refl o.0 (ids_distinct jobs ss ps s o.1)
 
-ids_planned : (ids : List (List ℕ)) (order : List ℕ) (first number : ℕ) (jobs : List FlowJob) → job_ids (job_plans ids order first number jobs) ≡ ids_of jobs
+-- the planned jobs have the ids of the jobs
+pub ids_planned : (ids : List (List ℕ)) (order : List ℕ) (first number : ℕ) (jobs : List FlowJob) → job_ids (job_plans ids order first number jobs) ≡ ids_of jobs
 ids_planned ids order first number [] = refl
 ids_planned ids order first number (job ∷ jobs) = ap (λ (l : List (List ℕ)). job.id ∷ l) (ids_planned ids order first (suc number) jobs)
 
@@ -167,7 +169,8 @@ flow_job [] h p job e = absurd (cc)
 flow_job (j ∷ jobs) h zero job e = let a = both (is_flow_job j) (list_all is_flow_job jobs) h in subst (λ (x : FlowJob). IsTrue (is_flow_job x)) (same_Some e) a.0
 flow_job (j ∷ jobs) h (suc p) job e = let a = both (is_flow_job j) (list_all is_flow_job jobs) h in flow_job jobs a.1 p job e
 
-needs_at : (ids : List (List ℕ)) (jobs : List FlowJob) (p : ℕ) (job : FlowJob) → slice_get jobs p ≡ Some job → get_or (map (λ j. map (place_of ids) j.needs) jobs) p [] ≡ map (place_of ids) job.needs
+-- what a job needs, by places
+pub needs_at : (ids : List (List ℕ)) (jobs : List FlowJob) (p : ℕ) (job : FlowJob) → slice_get jobs p ≡ Some job → get_or (map (λ j. map (place_of ids) j.needs) jobs) p [] ≡ map (place_of ids) job.needs
 needs_at ids [] p job e = absurd (cc)
 needs_at ids (j ∷ jobs) zero job e = ap (λ (x : FlowJob). map (place_of ids) x.needs) (same_Some e)
 needs_at ids (j ∷ jobs) (suc p) job e = needs_at ids jobs p job e

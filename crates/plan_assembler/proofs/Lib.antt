@@ -5,10 +5,13 @@ pub mod EventNames
 pub mod FirstJob
 pub mod FlowTexts
 pub mod IdPlaces
+pub mod JobNeeds
 pub mod JobSteps
 pub mod LegValues
 pub mod LegsAlone
 pub mod Marks
+pub mod Named
+pub mod NeedNumbers
 pub mod OnePlan
 pub mod Orders
 pub mod Places

@@ -120,7 +120,8 @@ any_case q n ns false e h more =
     let there = more (grind (arith, common_steps)) in
     (suc there.0, omega (arith, there.1), there.2)
 
-any_contains : (q : ℕ) (ns : List ℕ) → list_any (nat_eq q) ns ≡ true → Contains ns q
+-- what is found among needs is one of them
+pub any_contains : (q : ℕ) (ns : List ℕ) → list_any (nat_eq q) ns ≡ true → Contains ns q
 any_contains q [] h = absurd (cc)
 any_contains q (n ∷ ns) h = any_case q n ns (nat_eq q n) refl h (any_contains q ns)
 

@@ -7,7 +7,7 @@ use Rattle.std.proofs.lemmas.List.Elements.{Contains-append_left, Contains-appen
 use Rattle.std.proofs.lemmas.Map.Steps.{length-le_from_distinct_below}
 use Rattle.std.specs.List.{AllByRecursion, Contains, IsDistinct, filter, list_any}
 use Rattle.flow_model.specs.declared.flow.FlowJob.{FlowJob}
-use Rattle.plan_assembler.specs.Graph.{Graph, IsGraph}
+use Rattle.plan_assembler.specs.Graph.{Graph, Needs, IsGraph}
 use Rattle.plan_assembler.specs.Laws.{IsTakenAt, StandsBefore}
 use Rattle.plan_assembler.specs.Layout.{graph_of, ids_of, place_of, are_needs_known, AreTaken, IsOrder}
 use Rattle.plan_assembler.specs.Order.{places_of, by_stage, order_of}
@@ -15,7 +15,7 @@ use Rattle.plan_assembler.specs.Stages.{AreStages, stage_after}
 use Rattle.plan_assembler.specs.declared.choice.Choice.{Choice}
 use Rattle.plan_assembler.specs.declared.choice.Choice.TheVariants.{Event, Job, All}
 use Rattle.plan_assembler.proofs.Cycles.{at_stage, all_differ}
-use Rattle.plan_assembler.proofs.FirstJob.{marked_all}
+use Rattle.plan_assembler.proofs.FirstJob.{marked_all, taken_closed}
 use Rattle.plan_assembler.proofs.Marks.{mark_within}
 use Rattle.plan_assembler.proofs.Places.{known_graph}
 use Rattle.plan_assembler.proofs.Standing.{May, InOrder, order_stands}
@@ -157,6 +157,13 @@ order_is_whole choice jobs order known o j =
           let high : get_or ss j 0 < 0 + length ss = omega (arith, stage_below g ss j o.are_stages (known_graph jobs known) within, count) in
           subst (λ (l : List ℕ). Contains l j) (sym o.in_order) (kept_there test (by_stage (length ss) 0 ss) j (in_stages (length ss) 0 ss j (omega (arith, within, count)) (omega arith) high) m),
     )
+
+-- what a job of the order needs is in it
+pub need_in_order : (choice : Choice) (jobs : List FlowJob) (order : List ℕ) → are_needs_known jobs ≡ true → IsOrder choice jobs order → (j k : ℕ) → Needs (graph_of jobs) j k → Contains order j → Contains order k
+need_in_order choice jobs order known o j k n c =
+    let marked = (taken_marked choice jobs o.marks o.are_taken j).1 ((order_is_whole choice jobs order known o j).0 c) in
+    let next = taken_closed choice jobs o.marks o.are_taken (known_graph jobs known) j k n marked in
+    (order_is_whole choice jobs order known o k).1 ((taken_marked choice jobs o.marks o.are_taken k).0 next)
 
 -- ---- how they stand
 

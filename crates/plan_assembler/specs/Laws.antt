@@ -1,17 +1,20 @@
 -- Laws of the definitions, each the contract of a function of the module `laws`.
-use Rattle.std.specs.Prelude.{◌≡◌, ◌<◌, ◌≤◌, ◌↔◌, ◌⊎◌, ℕ, Bool, true, List, None, get_or, length}
+use Rattle.std.specs.Prelude.{◌≡◌, ◌<◌, ◌≤◌, ◌↔◌, ◌⊎◌, ℕ, Bool, true, List, Some, None, get_or, length, slice_get}
 use Rattle.std.specs.List.{AllByRecursion, Contains}
 use Rattle.flow_model.specs.declared.flow.FlowJob.{FlowJob}
 use Rattle.flow_model.specs.Flow.{IsWorkflow}
-use Rattle.flow_model.specs.Rules.{legs_of_runs, roots_rules, IsPlan}
+use Rattle.flow_model.specs.Rules.{job_ids, legs_of_runs, roots_rules, IsPlan}
 use Rattle.flow_model.specs.declared.flow.Workflow.{Workflow}
+use Rattle.flow_model.specs.declared.plan.JobPlan.{JobPlan}
 use Rattle.flow_model.specs.declared.plan.Plan.{Plan}
 use Rattle.flow_model.specs.declared.plan.Roots.{Roots}
+use Rattle.flow_model.specs.declared.plan.RunPlan.{RunPlan}
 use Rattle.plan_assembler.specs.Chosen.{IsChosen}
 use Rattle.plan_assembler.specs.Graph.{Graph, NeedsBy, HasCycle}
-use Rattle.plan_assembler.specs.Layout.{ids_of, taken, place_of, are_needs_known, graph_of, IsOrder}
+use Rattle.plan_assembler.specs.Layout.{ids_of, is_one_of, is_taken, taken, place_of, are_needs_known, graph_of, IsOrder}
+use Rattle.plan_assembler.specs.Needed.{IsNeeded, NeedsAsNamed}
 use Rattle.plan_assembler.specs.Order.{order_of}
-use Rattle.plan_assembler.specs.Plans.{Assembles}
+use Rattle.plan_assembler.specs.Plans.{AssemblesRun, Assembles}
 use Rattle.plan_assembler.specs.Refusals.{RunsPass, Refuses}
 use Rattle.plan_assembler.specs.Stages.{AreStages}
 use Rattle.plan_assembler.specs.declared.choice.Choice.{Choice}
@@ -72,3 +75,18 @@ abbrev pub OrderAscends : Type 0
 OrderAscends =
     (ss : List ℕ) (marks : List Bool) (i k : ℕ) → i < k → k < length (order_of ss marks)
     → StandsBefore ss (get_or (order_of ss marks) i 0) (get_or (order_of ss marks) k 0)
+
+-- ---- what the jobs of a run need
+
+-- The run of a workflow for one job has exactly that job and what it needs, directly or not.
+abbrev pub JobWithNeeds : Type 0
+JobWithNeeds =
+    (roots : Roots) (w : Workflow) (id : List ℕ) (first : ℕ) (run : RunPlan) → IsWorkflow w → is_taken (Job id) w ≡ true
+    → AssemblesRun roots (Job id) w first run → (other : List ℕ) → (is_one_of (job_ids run.jobs) other ≡ true) ↔ IsNeeded w.jobs id other
+
+-- Each job of a run is by its id a job of its workflow, and needs exactly those jobs of the run whose ids that one names.
+abbrev pub NeedsAreNamed : Type 0
+NeedsAreNamed =
+    (roots : Roots) (choice : Choice) (w : Workflow) (first : ℕ) (run : RunPlan) → IsWorkflow w → AssemblesRun roots choice w first run
+    → (i : ℕ) (planned : JobPlan) → slice_get run.jobs i ≡ Some planned
+    → (place : ℕ) × (job : FlowJob) × (slice_get w.jobs place ≡ Some job) × (job.id ≡ planned.id) × NeedsAsNamed run job planned

@@ -6,6 +6,7 @@ pub mod Index
 pub mod Kahn
 pub mod Laws
 pub mod Layout
+pub mod Needed
 pub mod Order
 pub mod Planning
 pub mod Plans

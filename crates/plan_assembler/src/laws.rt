@@ -1,6 +1,6 @@
 //! Laws of the definitions, as contracts of functions that do nothing.
 
-ghost use Rattle.plan_assembler.specs.Laws.{OneStaging, NeedsFall, NoStagesInCycles, OnePlan, LegsAloneAreLeft, RefusedHaveNone, OrderIsWhole, OrderAscends};
+ghost use Rattle.plan_assembler.specs.Laws.{OneStaging, NeedsFall, NoStagesInCycles, OnePlan, LegsAloneAreLeft, RefusedHaveNone, OrderIsWhole, OrderAscends, JobWithNeeds, NeedsAreNamed};
 
 /// The stages of jobs are the only ones.
 pub fn one_staging()
@@ -40,4 +40,14 @@ pub fn order_is_whole()
 /// The jobs of a run stand by their stage and then by their place, which is by their id.
 pub fn order_ascends()
     ensures { OrderAscends }
+{}
+
+/// The run of a workflow for one job has exactly that job and what it needs, directly or not.
+pub fn job_with_needs()
+    ensures { JobWithNeeds }
+{}
+
+/// Each job of a run needs exactly those jobs of the run whose ids its workflow's job names.
+pub fn needs_are_named()
+    ensures { NeedsAreNamed }
 {}
