@@ -67,7 +67,7 @@ pub fn fault_text(alloc: Global, fault: &FlowFault) -> Result<String, AllocError
     }
 }
 
-/// A fault's name and what it names, if that has a letter.
+/// A fault's name, and what it names where that is not empty.
 fn named_fault(alloc: Global, name: &str, text: &str) -> Result<String, AllocError> {
     if text.is_empty() {
         String::from_str(alloc, name)
@@ -139,12 +139,13 @@ fn count_of(readings: &[&str], name: &str) -> usize {
 /// How many garbled texts there are, and what they are.
 fn counts_told(alloc: Global, readings: &[&str]) -> Result<String, AllocError> {
     let mut told = format!(in alloc; "{} garbled texts", readings.len())?;
-    let mut sign = ":";
+    let mut is_first = true;
     for name in READINGS {
         let count = count_of(readings, name);
         if count > 0 {
+            let sign = if is_first { ':' } else { ',' };
             write!(&mut told, "{sign} {count} {name}")?;
-            sign = ",";
+            is_first = false;
         }
     }
     Ok(told)

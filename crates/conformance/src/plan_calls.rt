@@ -89,17 +89,18 @@ fn planner(alloc: Global, files: &Files, names: &[&str]) -> Result<Planner, Refu
     for name in names {
         flows.push(flow_of(alloc, files, name)?)?;
     }
-    Ok(Planner::new(alloc, flows, no_contexts(alloc)))
+    Ok(planner_of(alloc, flows))
 }
 
-/// The contexts of runs that are handed none.
-fn no_contexts(alloc: Global) -> Roots {
-    Roots {
+/// A planner for workflows whose runs are handed no contexts.
+fn planner_of(alloc: Global, flows: Sequence<Flow>) -> Planner {
+    let roots = Roots {
         github: Mapping::empty(alloc),
         inputs: Mapping::empty(alloc),
         secrets: Mapping::empty(alloc),
         vars: Mapping::empty(alloc),
-    }
+    };
+    Planner::new(alloc, flows, roots)
 }
 
 /// The workflow of a file.
