@@ -1,11 +1,11 @@
 -- Files come to one plan at most.
-use Rattle.std.proofs.Common.{◌≡◌, ◌∙◌, ℕ, List, [], ◌∷◌, Some, Result, Ok, ap, sym, subst, refl}
+use Rattle.std.proofs.Common.{◌≡◌, ◌∙◌, ℕ, List, [], ◌∷◌, ap, sym, subst, refl}
 use Rattle.flow_model.specs.declared.flow.Workflow.{Workflow}
 use Rattle.flow_model.specs.declared.plan.Plan.{Plan}
 use Rattle.flow_model.specs.declared.plan.Roots.{Roots}
 use Rattle.plan_assembler.specs.Laws.{OnePlan, OneStaging}
 use Rattle.plan_assembler.specs.Plans.{Assembles}
-use Rattle.plan_assembler.specs.Stages.{AreStages, stage_after}
+use Rattle.plan_assembler.specs.Stages.{stage_after}
 use Rattle.plan_assembler.specs.Staging.{AreStageLists, plan_graph, run_jobs, stage_lists}
 use Rattle.plan_assembler.specs.declared.choice.Choice.{Choice}
 use Rattle.commands.specs.Files.{Content}
