@@ -3,6 +3,7 @@ pub mod Expressions
 pub mod Flows
 pub mod Known
 pub mod Lines
+pub mod OneAnswer
 pub mod Reading
 pub mod Told
 pub mod Unplanned

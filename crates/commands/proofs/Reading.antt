@@ -1,5 +1,5 @@
 -- Going over files that are read one after the other.
-use Rattle.std.proofs.Common.{◌≡◌, ◌∙◌, ◌<◌, ◌≤◌, ◌+◌, ℕ, suc, List, [], ◌∷◌, ◌++◌, map, length, take, drop, get_or, set, Ok, Err, refl, ap, sym, subst, inl, inr, arith, append-nil, append_assoc}
+use Rattle.std.proofs.Common.{◌≡◌, ◌∙◌, ◌<◌, ◌≤◌, ◌+◌, ℕ, suc, List, [], ◌∷◌, ◌++◌, map, length, take, drop, get_or, set, Err, refl, ap, sym, subst, inl, inr, arith, append-nil, append_assoc}
 use Rattle.std.proofs.lemmas.List.{drop_more, drop_all, drop-set-lt, map-append, set_split, take_all, take_more_set, length-set}
 use Rattle.commands.specs.Files.{File, Content, IsContent, AreContents, IsCutShort}
 use Rattle.commands.specs.Stream.{IsRead}

@@ -49,6 +49,10 @@ IsListAnswer flows (Err trouble) = ComesToNone All no_contexts flows trouble
 abbrev pub ListTells : List File → List File → Stream → Stream → Stream → Stream → ℕ → Type 0
 ListTells flows flows' out out' err err' status = TellsOf IsListAnswer (AreRead flows flows') out out' err err' status
 
+-- The same files come to one list at most.
+abbrev pub OneListing : Type 0
+OneListing = (flows : List Content) (a b : List ℕ) → IsListAnswer flows (Ok a) → IsListAnswer flows (Ok b) → a ≡ b
+
 -- ---- what the code answers on the way; want of memory may always be answered
 
 -- The list of the jobs, or why there is none.

@@ -31,6 +31,10 @@ abbrev pub PlanTells : Choice → File → File → List File → List File → 
 PlanTells choice contexts contexts' flows flows' out out' err err' status =
     TellsOf (IsPlanAnswer choice) (AreRead (contexts ∷ flows) (contexts' ∷ flows')) out out' err err' status
 
+-- The same files come to one text at most.
+abbrev pub OnePlanText : Type 0
+OnePlanText = (choice : Choice) (contexts : Content) (flows : List Content) (a b : List ℕ) → AnswersPlan choice contexts flows (Ok a) → AnswersPlan choice contexts flows (Ok b) → a ≡ b
+
 -- ---- what the code answers on the way; want of memory may always be answered
 
 -- The line of a plan, or why there is none.

@@ -1,10 +1,11 @@
 //! The commands of the program, each as one public function over sources and sinks, which carries the theorem of what it
 //! writes.
 //!
-//! `table` writes the text of the board after the record that it reads, `eval` the value of an expression, or one line
-//! that says why there is none; each answers an exit status always. The crate stands on `plan_text`, which reads records
-//! and prints boards, on `status_table`, which plays them, and on `expr_reader` and `expr_value`, which read expressions
-//! and evaluate them.
+//! `table` writes the text of the board after the record that it reads, `eval` the value of an expression, `plan` the plan
+//! that workflows come to, `list` the jobs of that plan by their stages, or one line that says why there is none; each
+//! answers an exit status always. The crate stands on `plan_text`, which reads records and prints boards and plans, on
+//! `status_table`, which plays records, on `expr_reader` and `expr_value`, which read expressions and evaluate them, and on
+//! `flow_reader` and `plan_assembler`, which read workflows and plan them.
 
 #![tactic(auto)]
 

@@ -5,7 +5,7 @@ ghost use Rattle.plan_text.specs.BoardText.{Adds};
 ghost use Rattle.plan_assembler.specs.declared.choice.Choice.TheVariants.{All};
 ghost use Rattle.commands.specs.Files.{file_seen};
 ghost use Rattle.commands.specs.List as spec;
-ghost use Rattle.commands.specs.List.{ListTells};
+ghost use Rattle.commands.specs.List.{ListTells, OneListing};
 ghost use Rattle.commands.specs.Planning.{ComesTo, ComesToNone, Finds, no_contexts as no_contexts_of};
 
 use crate::files::{Content, NamedSource, no_contexts, read_files};
@@ -15,6 +15,7 @@ use crate::tell::{refuse_source, tell};
 use crate::trouble::Trouble;
 use flow_model::{CheckedPlan, JobPlan, Plan, Sequence};
 use plan_assembler::Choice;
+use plan_assembler::laws::{one_plan, one_staging};
 use plan_assembler::staging::stages;
 use std::alloc::{AllocError, Global};
 use std::fmt::Write;
@@ -133,4 +134,12 @@ pub fn list<S: Source, O: Sink, E: Sink>(
         Ok(contents) => tell(answer(alloc, contents.as_slice()), out, err),
         Err(fault) => refuse_source(err, fault),
     }
+}
+
+/// The same files come to one list at most.
+pub fn one_listing()
+    ensures { OneListing }
+{
+    one_plan();
+    one_staging();
 }

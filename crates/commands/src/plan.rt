@@ -3,7 +3,7 @@
 ghost use Rattle.std.specs.Prelude.{◌≡◌, IfOk, map, string_bytes};
 ghost use Rattle.commands.specs.Files.{file_seen};
 ghost use Rattle.commands.specs.Plan as spec;
-ghost use Rattle.commands.specs.Plan.{PlanTells};
+ghost use Rattle.commands.specs.Plan.{OnePlanText, PlanTells};
 
 use crate::files::{Content, NamedSource, read_first};
 use crate::planning::plan_of;
@@ -12,6 +12,7 @@ use crate::tell::{refuse_source, tell};
 use crate::trouble::Trouble;
 use flow_model::CheckedPlan;
 use plan_assembler::Choice;
+use plan_assembler::laws::one_plan;
 use plan_text::print_plan;
 use std::alloc::{AllocError, Global};
 
@@ -61,4 +62,11 @@ pub fn plan<R: Source, S: Source, O: Sink, E: Sink>(
         },
         Err(fault) => refuse_source(err, fault),
     }
+}
+
+/// The same files come to one text at most.
+pub fn one_plan_text()
+    ensures { OnePlanText }
+{
+    one_plan();
 }

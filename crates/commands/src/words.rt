@@ -1,6 +1,7 @@
 //! The command line: which command its words ask for, and what it leaves.
 
-ghost use Rattle.std.specs.Prelude.{◌≡◌, IfErr};
+ghost use Rattle.std.specs.Prelude.{◌≡◌, IfErr, IfOk, map, option_copied};
+ghost use Rattle.plan_assembler.specs.declared.choice.Choice.TheVariants.{Event, Job};
 ghost use Rattle.std.specs.IoError.{error_kind};
 ghost use Rattle.commands.specs.Words as spec;
 ghost use Rattle.commands.specs.Words.{RunTells};
@@ -98,17 +99,35 @@ fn run_eval<F: Folder, O: Sink, E: Sink>(
 }
 
 /// The choice that the words make of workflows: those of an event, those with a job, or all, and not both of the first.
-fn choice_of(alloc: Global, words: &ArgMatches) -> Result<Choice, Trouble> {
-    match (words.get_str("event"), words.get_str("job")) {
+fn choice_of(alloc: Global, event: Option<&str>, job: Option<&str>) -> Result<Choice, Trouble>
+    ensures { spec.Chooses (option_copied event.entry) (option_copied job.entry) result }
+{
+    match (event, job) {
         (Some(_), Some(_)) => Err(Trouble::Words),
-        (Some(event), None) => Ok(Choice::Event(text_of(alloc, event)?)),
-        (None, Some(job)) => Ok(Choice::Job(text_of(alloc, job)?)),
+        (Some(event), None) => event_of(alloc, event),
+        (None, Some(job)) => job_of(alloc, job),
         (None, None) => Ok(Choice::All),
     }
 }
 
+/// The choice of the workflows of an event.
+fn event_of(alloc: Global, event: &str) -> Result<Choice, Trouble>
+    ensures { spec.FindsIt (Event event.now) result }
+{
+    Ok(Choice::Event(text_of(alloc, event)?))
+}
+
+/// The choice of the workflows with a job.
+fn job_of(alloc: Global, job: &str) -> Result<Choice, Trouble>
+    ensures { spec.FindsIt (Job job.now) result }
+{
+    Ok(Choice::Job(text_of(alloc, job)?))
+}
+
 /// A word as a text.
-fn text_of(alloc: Global, word: &str) -> Result<Text, Trouble> {
+fn text_of(alloc: Global, word: &str) -> Result<Text, Trouble>
+    ensures { spec.FindsIt word.now result }
+{
     match Text::from_str(alloc, word) {
         Ok(text) => Ok(text),
         Err(_) => Err(Trouble::Memory),
@@ -120,7 +139,9 @@ fn open_named<F: Folder>(
     alloc: Global,
     folder: &F,
     name: &str,
-) -> Result<NamedSource<F::File>, Trouble> {
+) -> Result<NamedSource<F::File>, Trouble>
+    ensures { IfOk result (λ file. file.name ≡ name.now) }
+{
     let text = text_of(alloc, name)?;
     match folder.open(name) {
         Some(source) => Ok(NamedSource { name: text, source }),
@@ -133,7 +154,9 @@ fn open_all<F: Folder>(
     alloc: Global,
     folder: &F,
     names: &[&str],
-) -> Result<Vec<NamedSource<F::File>>, Trouble> {
+) -> Result<Vec<NamedSource<F::File>>, Trouble>
+    ensures { IfOk result (λ files. map (λ file. file.name) files.items ≡ map (λ name. name.now) names.now) }
+{
     let mut files = Vec::new(alloc);
     for name in names {
         let file = open_named(alloc, folder, *name)?;
@@ -219,7 +242,7 @@ fn run_plan<F: Folder, O: Sink, E: Sink>(
 ) -> u8
     ensures { spec.RunsPlan (O.seen out.old) (O.seen out.new) (E.seen err.old) (E.seen err.new) result }
 {
-    let choice = match choice_of(alloc, words) {
+    let choice = match choice_of(alloc, words.get_str("event"), words.get_str("job")) {
         Ok(choice) => choice,
         Err(trouble) => return refuse(err, &trouble),
     };

@@ -1,4 +1,4 @@
-use Rattle.std.proofs.Common.{◌≡◌, ◌<◌, ◌≤◌, ◌+◌, List, map, length, get_or, set, refl, sym, subst, rules}
+use Rattle.std.proofs.Common.{◌<◌, ◌≤◌, ◌+◌, List, map, length, get_or, set, refl, sym, subst, rules}
 use Rattle.commands.specs.Files.{Content, AreContents, file_seen}
 use Rattle.commands.proofs.Reading.{GoingFiles, read_more, cut_there, all_read}
 use Rattle.commands.proofs.files.read_files.Goals as goal
