@@ -5,6 +5,7 @@ use Rattle.serde_json.specs.Written.{compact_text}
 use Rattle.flow_model.specs.declared.plan.Plan.{Plan}
 use Rattle.plan_assembler.specs.declared.choice.Choice.{Choice}
 use Rattle.plan_text.specs.Document.{document}
+use Rattle.plan_text.specs.Load.{load}
 use Rattle.commands.specs.Files.{File, Content, AreRead}
 use Rattle.commands.specs.Planning.{ComesTo, ComesToNone}
 use Rattle.commands.specs.Stream.{Stream}
@@ -15,10 +16,15 @@ use Rattle.commands.specs.declared.trouble.Trouble.{Trouble}
 abbrev pub plan_line : Plan → List ℕ
 plan_line plan = compact_text (document plan) ++ codes "\n"
 
+-- The text is the line of a plan, whose document loads as that plan.
+pub record IsPlanLine (plan : Plan) (text : List ℕ) : Type 0 where
+  pub line : text ≡ plan_line plan
+  pub loads : load (compact_text (document plan)) ≡ Ok plan
+
 -- An answer to the file of contexts and those of the workflows: the line of the plan that they come to, or why there is
 -- none.
 abbrev pub AnswersPlan : Choice → Content → List Content → Answer → Type 0
-AnswersPlan choice contexts flows (Ok text) = (plan : Plan) × ComesTo choice contexts flows plan × (text ≡ plan_line plan)
+AnswersPlan choice contexts flows (Ok text) = (plan : Plan) × ComesTo choice contexts flows plan × IsPlanLine plan text
 AnswersPlan choice contexts flows (Err trouble) = ComesToNone choice contexts flows trouble
 
 -- The same of all files in their order, of which the file of contexts is the first.

@@ -18,7 +18,7 @@ use std::alloc::{AllocError, Global};
 
 /// The line of a plan: the compact text of its document, and a newline.
 fn line_of(alloc: Global, plan: &CheckedPlan) -> Result<String, AllocError>
-    ensures { IfOk result (λ line. string_bytes line ≡ spec.plan_line plan.now) }
+    ensures { IfOk result (λ line. spec.IsPlanLine plan.now (string_bytes line)) }
 {
     let mut line = print_plan(alloc, plan)?;
     line.push_str("\n")?;

@@ -1,0 +1,13 @@
+use Rattle.std.proofs.Common.{◌≡◌, ℕ, List, Ok, ap, ◌++◌, codes, ◌∙◌, string_bytes, subst, rules}
+use Rattle.serde_json.specs.Written.{compact_text}
+use Rattle.plan_text.specs.Document.{document}
+use Rattle.plan_text.specs.Load.{load}
+use Rattle.commands.specs.Plan.{plan_line}
+use Rattle.commands.proofs.plan.line_of.Goals as goal
+
+pub returns : goal.returns
+returns c =
+    let plan = c.args.plan.now in
+    let printed = c.in_ok-line.ensures in
+    let line : string_bytes c.push_str.new.self ≡ plan_line plan = search rules in
+    record { line = line; loads = subst (λ (text : List ℕ). load text ≡ Ok plan) printed.text printed.loads }
