@@ -40,7 +40,7 @@ use Rattle.plan_assembler.proofs.Standing.{all_weaker, Later, May, InOrder, orde
 
 -- ---- the ids of a run's jobs
 
-all_at : (P : List ℕ → Type 0) (jobs : List FlowJob) → AllByRecursion P (ids_of jobs) → (k : ℕ) (b : FlowJob) → slice_get jobs k ≡ Some b → P b.id
+pub all_at : (P : List ℕ → Type 0) (jobs : List FlowJob) → AllByRecursion P (ids_of jobs) → (k : ℕ) (b : FlowJob) → slice_get jobs k ≡ Some b → P b.id
 all_at P [] h k b e = absurd (cc)
 all_at P (j ∷ jobs) h zero b e = subst (λ (x : FlowJob). P x.id) (same_Some e) h.0
 all_at P (j ∷ jobs) h (suc k) b e = all_at P jobs h.1 k b e

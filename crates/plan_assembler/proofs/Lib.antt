@@ -6,6 +6,7 @@ pub mod FirstJob
 pub mod FlowTexts
 pub mod IdPlaces
 pub mod JobNeeds
+pub mod JobOrder
 pub mod JobSteps
 pub mod LegValues
 pub mod LegsAlone
@@ -19,6 +20,7 @@ pub mod PlanBack
 pub mod Planned
 pub mod PlannedTexts
 pub mod Readings
+pub mod RunJobs
 pub mod RunSteps
 pub mod Stagings
 pub mod Standing

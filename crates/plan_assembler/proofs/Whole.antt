@@ -1,5 +1,5 @@
 -- The order of a run has each job that is taken.
-use Rattle.std.proofs.Common.{◌≡◌, ◌∙◌, ◌<◌, ◌≤◌, ◌+◌, ◌==◌, ◌↔◌, inl, inr, ℕ, zero, suc, Bool, true, false, cond, nat_eq, nat_le, max, List, [], ◌∷◌, ◌++◌, map, length, get_or, refl, ap, sym, subst, arith}
+use Rattle.std.proofs.Common.{◌≡◌, ◌∙◌, ◌<◌, ◌≤◌, ◌+◌, ◌==◌, ◌↔◌, ◌⊎◌, inl, inr, ℕ, zero, suc, Bool, true, false, cond, nat_eq, nat_le, max, List, [], ◌∷◌, ◌++◌, map, length, get_or, refl, ap, sym, subst, arith}
 use Rattle.std.proofs.lemmas.Bool.Decides.{nat_tests}
 use Rattle.std.proofs.lemmas.Grind.{common_steps}
 use Rattle.std.proofs.lemmas.List.{length-map}
@@ -8,9 +8,9 @@ use Rattle.std.proofs.lemmas.Map.Steps.{length-le_from_distinct_below}
 use Rattle.std.specs.List.{AllByRecursion, Contains, IsDistinct, filter, list_any}
 use Rattle.flow_model.specs.declared.flow.FlowJob.{FlowJob}
 use Rattle.plan_assembler.specs.Graph.{Graph, Needs, IsGraph}
-use Rattle.plan_assembler.specs.Laws.{IsTakenAt, StandsBefore}
+use Rattle.plan_assembler.specs.Laws.{IsTakenAt}
 use Rattle.plan_assembler.specs.Layout.{graph_of, ids_of, place_of, are_needs_known, AreTaken, IsOrder}
-use Rattle.plan_assembler.specs.Order.{places_of, by_stage, order_of}
+use Rattle.plan_assembler.specs.Order.{places_of, by_stage}
 use Rattle.plan_assembler.specs.Stages.{AreStages, stage_after}
 use Rattle.plan_assembler.specs.declared.choice.Choice.{Choice}
 use Rattle.plan_assembler.specs.declared.choice.Choice.TheVariants.{Event, Job, All}
@@ -178,10 +178,15 @@ pair_stands ss (j ∷ js) i zero h less w = absurd (omega (arith, less))
 pair_stands ss (j ∷ js) zero (suc k) h less w = all_at (May ss j) js k h.0 (omega (arith, w))
 pair_stands ss (j ∷ js) (suc i) (suc k) h less w = pair_stands ss js i k h.1 (omega (arith, less)) (omega (arith, w))
 
-before_case : (ss : List ℕ) (a b : ℕ) (t : Bool) → nat_eq (get_or ss a 0) (get_or ss b 0) ≡ t → May ss a b → StandsBefore ss a b
+-- a place stands before another: its stage is lower, or they have one stage and it is lower itself
+abbrev pub PlacesAscend : List ℕ → ℕ → ℕ → Type 0
+PlacesAscend ss j k = (get_or ss j 0 < get_or ss k 0) ⊎ ((get_or ss j 0 ≡ get_or ss k 0) × (j < k))
+
+before_case : (ss : List ℕ) (a b : ℕ) (t : Bool) → nat_eq (get_or ss a 0) (get_or ss b 0) ≡ t → May ss a b → PlacesAscend ss a b
 before_case ss a b true e m = let same : get_or ss a 0 ≡ get_or ss b 0 = grind (arith, nat_tests) in inr (same, m.below same)
 before_case ss a b false e m = let low = m.staged in inl (grind (arith, nat_tests, low))
 
-pub order_ascends : (ss : List ℕ) (marks : List Bool) (i k : ℕ) → i < k → k < length (order_of ss marks) → StandsBefore ss (get_or (order_of ss marks) i 0) (get_or (order_of ss marks) k 0)
-order_ascends ss marks i k less w =
-    before_case ss (get_or (order_of ss marks) i 0) (get_or (order_of ss marks) k 0) (nat_eq _ _) refl (pair_stands ss (order_of ss marks) i k (order_stands ss marks).1 less w)
+pub order_ascends : (choice : Choice) (jobs : List FlowJob) (order : List ℕ) (o : IsOrder choice jobs order) (i k : ℕ) → i < k → k < length order → PlacesAscend o.stages (get_or order i 0) (get_or order k 0)
+order_ascends choice jobs order o i k less w =
+    let stands : InOrder o.stages order = subst (λ (l : List ℕ). InOrder o.stages l) (sym o.in_order) (order_stands o.stages o.marks).1 in
+    before_case o.stages (get_or order i 0) (get_or order k 0) (nat_eq _ _) refl (pair_stands o.stages order i k stands less w)

@@ -1,6 +1,9 @@
 -- Laws of the definitions, each the contract of a function of the module `laws`.
-use Rattle.std.specs.Prelude.{◌≡◌, ◌<◌, ◌≤◌, ◌↔◌, ◌⊎◌, ℕ, Bool, true, List, Some, None, get_or, length, slice_get}
+use Rattle.std.specs.Prelude.{◌≡◌, ◌<◌, ◌≤◌, ◌↔◌, ◌⊎◌, ℕ, true, List, Some, None, get_or, length, slice_get}
+use Rattle.std.specs.Cmp.Lexicographic.{slice_cmp}
 use Rattle.std.specs.List.{AllByRecursion, Contains}
+use Rattle.std.specs.Ordering.{nat_cmp}
+use Rattle.std.specs.declared.cmp.Ordering.TheVariants.{Less}
 use Rattle.flow_model.specs.declared.flow.FlowJob.{FlowJob}
 use Rattle.flow_model.specs.Flow.{IsWorkflow}
 use Rattle.flow_model.specs.Rules.{job_ids, legs_of_runs, roots_rules, IsPlan}
@@ -13,7 +16,6 @@ use Rattle.plan_assembler.specs.Chosen.{IsChosen}
 use Rattle.plan_assembler.specs.Graph.{Graph, NeedsBy, HasCycle}
 use Rattle.plan_assembler.specs.Layout.{ids_of, is_one_of, is_taken, taken, place_of, are_needs_known, graph_of, IsOrder}
 use Rattle.plan_assembler.specs.Needed.{IsNeeded, NeedsAsNamed}
-use Rattle.plan_assembler.specs.Order.{order_of}
 use Rattle.plan_assembler.specs.Plans.{AssemblesRun, Assembles}
 use Rattle.plan_assembler.specs.Refusals.{RunsPass, Refuses}
 use Rattle.plan_assembler.specs.Stages.{AreStages}
@@ -66,15 +68,23 @@ OrderIsWhole =
     (choice : Choice) (jobs : List FlowJob) (order : List ℕ) → are_needs_known jobs ≡ true → IsOrder choice jobs order
     → (j : ℕ) → Contains order j ↔ IsTakenAt choice jobs j
 
--- one place stands before another: its stage is lower, or they have one stage and it is lower itself
-abbrev pub StandsBefore : List ℕ → ℕ → ℕ → Type 0
-StandsBefore ss j k = (get_or ss j 0 < get_or ss k 0) ⊎ ((get_or ss j 0 ≡ get_or ss k 0) × (j < k))
+-- the stage of the job with this id
+abbrev pub stage_of : List FlowJob → List ℕ → List ℕ → ℕ
+stage_of jobs stages id = get_or stages (place_of (ids_of jobs) id) 0
 
--- The jobs of a run stand by their stage, and in a stage by their place, which is by their id. So none stands twice.
+-- one job stands before another: its stage is lower, or they have one stage and its id is lower in byte order
+abbrev pub StandsBefore : List FlowJob → List ℕ → List ℕ → List ℕ → Type 0
+StandsBefore jobs stages id other =
+    (stage_of jobs stages id < stage_of jobs stages other)
+    ⊎ ((stage_of jobs stages id ≡ stage_of jobs stages other) × (slice_cmp nat_cmp id other ≡ Less))
+
+-- The jobs of a run stand by their stage, and in a stage by their id. So none stands twice.
 abbrev pub OrderAscends : Type 0
 OrderAscends =
-    (ss : List ℕ) (marks : List Bool) (i k : ℕ) → i < k → k < length (order_of ss marks)
-    → StandsBefore ss (get_or (order_of ss marks) i 0) (get_or (order_of ss marks) k 0)
+    (roots : Roots) (choice : Choice) (w : Workflow) (first : ℕ) (run : RunPlan) → IsWorkflow w → AssemblesRun roots choice w first run
+    → (stages : List ℕ) → AreStages (graph_of w.jobs) stages
+    → (i k : ℕ) (job later : JobPlan) → i < k → slice_get run.jobs i ≡ Some job → slice_get run.jobs k ≡ Some later
+    → StandsBefore w.jobs stages job.id later.id
 
 -- ---- what the jobs of a run need
 

@@ -37,7 +37,7 @@ pub fn order_is_whole()
     ensures { OrderIsWhole }
 {}
 
-/// The jobs of a run stand by their stage and then by their place, which is by their id.
+/// The jobs of a run stand by their stage, and in a stage by their id.
 pub fn order_ascends()
     ensures { OrderAscends }
 {}

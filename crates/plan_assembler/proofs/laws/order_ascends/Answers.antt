@@ -1,4 +1,4 @@
-use Rattle.plan_assembler.proofs.Whole.{order_ascends as proof}
+use Rattle.plan_assembler.proofs.JobOrder.{jobs_ascend as proof}
 use Rattle.plan_assembler.proofs.laws.order_ascends.Goals as goal
 
 pub returns : goal.returns
