@@ -1,6 +1,4 @@
-use Rattle.std.proofs.Common.{◌≡◌, ℕ, List, Ok, ap, ◌++◌, codes, ◌∙◌, string_bytes, subst, rules}
-use Rattle.serde_json.specs.Written.{compact_text}
-use Rattle.plan_text.specs.Document.{document}
+use Rattle.std.proofs.Common.{◌≡◌, ℕ, List, Ok, string_bytes, subst, rules}
 use Rattle.plan_text.specs.Load.{load}
 use Rattle.commands.specs.Plan.{plan_line}
 use Rattle.commands.proofs.plan.line_of.Goals as goal
