@@ -1,5 +1,5 @@
 -- The groups as they are kept by names go with the board through each legal list of entries.
-use Rattle.std.proofs.Common.{◌≡◌, ◌≢◌, ℕ, suc, ◌≤◌, ◌&&◌, Bool, true, false, not, List, [], ◌∷◌, map, Option, Some, None, Result, Ok, Err, option_map, option_and_then, nat_le, if◌then◌else◌, ap, subst, sym, refl, ◌∙◌, arith}
+use Rattle.std.proofs.Common.{◌≡◌, ◌≢◌, ℕ, suc, ◌&&◌, Bool, true, false, not, List, [], ◌∷◌, map, Option, Some, None, Result, Ok, Err, option_map, option_and_then, nat_le, if◌then◌else◌, ap, subst, sym, refl, ◌∙◌, arith}
 use Rattle.std.specs.List.{flat_map}
 use Rattle.std.specs.List.Sorted.{IsStrictlySortedBy}
 use Rattle.std.proofs.lemmas.Bool.{true≢false}
@@ -19,11 +19,11 @@ use Rattle.flow_model.specs.declared.event.Member.{Member}
 use Rattle.flow_model.specs.declared.event.Member.TheVariants as member
 use Rattle.flow_model.specs.declared.reply.Reply.{Reply}
 use Rattle.flow_model.specs.declared.reply.ValueFault.{ValueFault}
-use Rattle.group_admission.specs.Content.{Content, EachOnce, holder_of, waiter_of, after_enter, after_release, after_withdraw, is_in_group, is_own}
+use Rattle.group_admission.specs.Content.{Content, EachOnce, holder_of, waiter_of, after_enter, is_in_group, is_own}
 use Rattle.group_admission.specs.Laws.{FirstHolds, NextDisplaces, OwnRunChangesNothing, ReleasesPassOn, WithdrawsLeaveHolders, OrderStays, OnceStays, NowhereIsNoGroup}
 use Rattle.status_table.specs.declared.entrance.Entrance.{Entrance}
 use Rattle.status_table.specs.declared.fault.EventFault.TheVariants as fault
-use Rattle.status_table.specs.Admissions.{Shows, ShowsThen, opened, asked, left}
+use Rattle.status_table.specs.Admissions.{ShowsThen, opened, asked, left}
 use Rattle.status_table.specs.Decisions.{run_entrance, leg_entrance, is_stopping}
 use Rattle.status_table.specs.Derived.{is_going, is_open, is_fresh, is_full}
 use Rattle.status_table.specs.Grouped.{run_opened, leg_asked, run_left, leg_left, after_event, then_groups, groups_from, groups_after, KeptAsShown, EntersFromOutside}
@@ -31,13 +31,13 @@ use Rattle.status_table.specs.Groups.{Standing, apart, holding, waiting, run_sta
 use Rattle.status_table.specs.Lawful.{Lawful}
 use Rattle.status_table.specs.Moves.{is_accepted}
 use Rattle.status_table.specs.Place.{RunAt, LegAt, run_at, leg_at}
-use Rattle.status_table.specs.Row.{Row, row, open_run, open_found, run_enters, may_ask, ask_leg, ask_found, leg_enters, close_found, drop_found, finish_found}
+use Rattle.status_table.specs.Row.{Row, row, open_run, open_found, run_enters, may_ask, ask_found, leg_enters, close_found, drop_found, finish_found}
 use Rattle.status_table.specs.Runs.{new_leg, new_job, new_run, new_board, then_after, after_from, after}
 use Rattle.status_table.proofs.Decided.{by_test}
 use Rattle.status_table.proofs.Entering.{Leads}
 use Rattle.status_table.proofs.Found.{run_stands as run_found, leg_stands as leg_found, leg_item}
 use Rattle.status_table.proofs.Keeps.{Keeps, row_keeps}
-use Rattle.status_table.proofs.Lawfulness.{new_lawful, legal_lawful}
+use Rattle.status_table.proofs.Lawfulness.{new_lawful}
 use Rattle.status_table.proofs.Legal.{new_fits}
 use Rattle.status_table.proofs.Lists.{same_some, no_some, flat_map-map, and-right}
 use Rattle.status_table.proofs.Rows.{row_leads}
