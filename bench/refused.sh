@@ -2,6 +2,7 @@
 # Refuses each growth of memory in turn, one a run, and sees what comes of it:
 #
 #   actrun table   on the records of examples/: the whole board, or the one line `actrun: memory`;
+#   actrun plan, list   on the workflows of examples/, the refused ones too: all that is told otherwise, or that line;
 #   apply          on examples of the table: the event is refused as Memory with the board as it was, and the same event, played
 #                  again, gives what it gives with memory enough (the verb `insist` of the program conformance).
 #
@@ -61,19 +62,30 @@ def growths(words, text=b""):
     return int(run(words, 0, text, COUNT="1").stderr.split()[-1])
 
 
-def table(path):
-    with open(path, "rb") as file:
-        text = file.read()
-    whole = subprocess.run([ACTRUN, "table"], input=text, capture_output=True)
-    count, refused = growths([ACTRUN, "table"], text), 0
+def command(name, words, text=b""):
+    """A command tells what it tells with memory enough, or the one line that there is none."""
+    words = [ACTRUN, *words]
+    whole = subprocess.run(words, input=text, capture_output=True)
+    count, refused = growths(words, text), 0
     for number in range(1, count + 1):
-        found = run([ACTRUN, "table"], number, text)
+        found = run(words, number, text)
         told = (found.returncode, found.stdout, found.stderr)
         if told == (3, b"", b"actrun: memory\n"):
             refused += 1
         elif told != (whole.returncode, whole.stdout, whole.stderr):
-            sys.exit(f"{path}: growth {number}: {told}")
-    print(f"table {os.path.basename(path)}: {count} growths, {refused} told as memory")
+            sys.exit(f"{name}: growth {number}: {told}")
+    print(f"{name}: {count} growths, {refused} told as memory")
+
+
+def table(path):
+    with open(path, "rb") as file:
+        command(f"table {os.path.basename(path)}", ["table"], file.read())
+
+
+def plan(path):
+    name = os.path.basename(path)
+    command(f"plan {name}", ["plan", path])
+    command(f"list {name}", ["list", path])
 
 
 def cases_of(name):
@@ -118,6 +130,9 @@ def apply(name, place, text):
 
 for path in sorted(glob.glob(os.path.join(top, "examples/*.record"))):
     table(path)
+for folder_of in ("examples", "examples/refused"):
+    for path in sorted(glob.glob(os.path.join(top, folder_of, "*.json"))):
+        plan(path)
 for name in EXAMPLES:
     for place, text in enumerate(cases_of(name)):
         apply(name, place, text)
