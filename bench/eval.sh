@@ -1,6 +1,7 @@
 #!/usr/bin/env bash
 # Prints the time of `actrun eval`: of a short and of a long expression, and of functions on texts of a quarter, a half
-# and nearly one MiB, beside that of an expression that only names the same contexts.
+# and nearly one MiB, beside that of an expression that only names the same contexts; and the peak memory of each. What
+# Python takes to start the program counts as well, so a peak is never below some 10 MB.
 set -eu
 top=$(cd "$(dirname "${BASH_SOURCE[0]}")/.." && pwd)
 "$top/actrun" eval 1 > /dev/null
@@ -29,6 +30,22 @@ def least(words):
     return best
 
 
+# Runs the program and prints its peak memory: that of all children, of which there is no other.
+CHILD = """
+import resource, subprocess, sys
+code = subprocess.run(sys.argv[1:], stdout=subprocess.DEVNULL).returncode
+print(resource.getrusage(resource.RUSAGE_CHILDREN).ru_maxrss)
+sys.exit(code)
+"""
+
+
+def peak(words):
+    """The peak memory in MB of one run."""
+    done = subprocess.run([sys.executable, "-c", CHILD, program, "eval"] + words,
+                          capture_output=True, text=True, check=True)
+    return int(done.stdout) * 1024 / 1e6
+
+
 def contexts(size):
     """Contexts with texts, lists and JSON texts of about so many bytes."""
     words = [f"word{k}" for k in range(size // 10)]
@@ -44,9 +61,9 @@ def contexts(size):
     }
 
 
-print(f"eval 1: {least(['1']) * 1e3:.1f} ms")
+print(f"eval 1: {least(['1']) * 1e3:.1f} ms, peak {peak(['1']):.0f} MB")
 long = "1" + " + 1".replace("+", "||") * ((20_000 - 1) // 5)
-print(f"an expression of {len(long)} bytes: {least([long]) * 1e3:.1f} ms")
+print(f"an expression of {len(long)} bytes: {least([long]) * 1e3:.1f} ms, peak {peak([long]):.0f} MB")
 CASES = [
     ("contains", "contains(github.text, 'NEEDLE')"),
     ("format", "contains(format(github.template, 1), 'z')"),
@@ -58,9 +75,11 @@ for size in (MIB // 4, MIB // 2, MIB - 1024):
     with tempfile.NamedTemporaryFile("w", suffix=".json") as file:
         json.dump(contexts(size), file, separators=(",", ":"))
         file.flush()
-        base = least(["--contexts", file.name, "1"])
-        print(f"texts of {size / MIB:.2f} MiB: the file alone {base * 1e3:.1f} ms")
+        alone = ["--contexts", file.name, "1"]
+        base = least(alone)
+        print(f"texts of {size / MIB:.2f} MiB: the file alone {base * 1e3:.1f} ms, peak {peak(alone):.0f} MB")
         for name, expression in CASES:
-            seconds = least(["--contexts", file.name, expression])
-            print(f"  {name}: {(seconds - base) * 1e3:+.1f} ms")
+            words = ["--contexts", file.name, expression]
+            seconds = least(words)
+            print(f"  {name}: {(seconds - base) * 1e3:+.1f} ms, peak {peak(words):.0f} MB")
 PY
