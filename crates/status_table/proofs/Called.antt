@@ -13,8 +13,8 @@ use Rattle.flow_model.specs.declared.reply.StepCall.{StepCall}
 use Rattle.flow_model.specs.declared.reply.ValueFault.{ValueFault}
 use Rattle.status_table.specs.declared.fault.EventFault.TheVariants as fault
 use Rattle.status_table.specs.CallLaws.{StepInOrder, WorkInOrder, PlanInOrder, IfCalled, AskedInOrder, CallInOrder, CallsAreInOrder, MostSpecificIsGiven, CallsAreMostSpecific}
-use Rattle.status_table.specs.Decisions.{then_value, seen_from, flow_env, job_env, step_env, directory_value, work_value, called_if, leg_status, step_decision}
-use Rattle.status_table.specs.Place.{LegAt, leg_at}
+use Rattle.board_decisions.specs.Decisions.{then_value, seen_from, flow_env, job_env, step_env, directory_value, work_value, called_if, leg_status, step_decision}
+use Rattle.board_decisions.specs.Place.{LegAt, leg_at}
 use Rattle.status_table.specs.Row.{decided, next_step, idle_owner, beginning_by, begin_leg, begin_found}
 use Rattle.status_table.proofs.Decided.{by_test}
 use Rattle.status_table.proofs.Found.{leg_stands}

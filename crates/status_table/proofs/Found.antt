@@ -6,10 +6,10 @@ use Rattle.flow_model.specs.declared.plan.JobPlan.{JobPlan}
 use Rattle.flow_model.specs.declared.board.Board.{Board}
 use Rattle.flow_model.specs.declared.board.Job.{Job}
 use Rattle.flow_model.specs.declared.board.Leg.{Leg}
-use Rattle.status_table.specs.Numbered.{leg_there}
-use Rattle.status_table.specs.Place.{◌>>=◌, RunAt, JobAt, LegAt, run_at, job_placed, job_at, leg_at, job_place, leg_place}
-use Rattle.status_table.specs.declared.place.JobPlace.{JobPlace}
-use Rattle.status_table.specs.declared.place.LegPlace.{LegPlace}
+use Rattle.board_decisions.specs.Numbered.{leg_there}
+use Rattle.board_decisions.specs.Place.{◌>>=◌, RunAt, JobAt, LegAt, run_at, job_placed, job_at, leg_at, job_place, leg_place}
+use Rattle.board_decisions.specs.declared.place.JobPlace.{JobPlace}
+use Rattle.board_decisions.specs.declared.place.LegPlace.{LegPlace}
 use Rattle.status_table.proofs.Lists.{bind-some, same_some}
 use Rattle.status_table.proofs.Numbers.{legs_are_numbered}
 

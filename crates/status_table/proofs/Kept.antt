@@ -10,7 +10,7 @@ use Rattle.flow_model.specs.declared.event.Member.{Member}
 use Rattle.flow_model.specs.declared.event.Member.TheVariants as member
 use Rattle.status_table.specs.Groups.{waits, displaced}
 use Rattle.status_table.specs.Seen.{noted, put_out}
-use Rattle.status_table.specs.declared.place.LegPlace.{LegPlace}
+use Rattle.board_decisions.specs.declared.place.LegPlace.{LegPlace}
 
 pub slice_set-slice_get : {T : Type 0} (xs : List T) (i : ℕ) (x : T) → slice_get xs i ≡ Some x → slice_set xs i x ≡ xs
 slice_set-slice_get {T} xs i x h = ap (λ (y : T). slice_set xs i y) (sym (get_or_from_slice_get xs i x x h)) ∙ set-get_or xs i x

@@ -8,7 +8,7 @@ use Rattle.flow_model.specs.declared.board.LegState.{LegState}
 use Rattle.flow_model.specs.declared.board.LegState.TheVariants as leg_state
 use Rattle.flow_model.specs.declared.event.Member.{Member}
 use Rattle.flow_model.specs.declared.event.Member.TheVariants as member
-use Rattle.status_table.specs.Derived.{is_ended}
+use Rattle.board_decisions.specs.Derived.{is_ended}
 use Rattle.status_table.specs.Groups.{Standing, apart, holding, waiting, run_standing, leg_standing, leg_stands, waits_name, first_place, run_or_leg, first_member, waiter, next_after}
 use Rattle.status_table.specs.Seen.{numbered_leg}
 use Rattle.status_table.proofs.Lists.{same_some, no_some}

@@ -10,11 +10,11 @@ use Rattle.flow_model.specs.declared.event.Member.TheVariants as member
 use Rattle.flow_model.specs.declared.plan.Plan.{Plan}
 use Rattle.flow_model.specs.declared.reply.ValueFault.{ValueFault}
 use Rattle.group_admission.specs.Content.{Content, holder_of, waiter_of, after_enter, after_release, after_withdraw}
-use Rattle.status_table.specs.declared.entrance.Entrance.{Entrance}
-use Rattle.status_table.specs.Decisions.{run_entrance, leg_entrance}
+use Rattle.board_decisions.specs.declared.entrance.Entrance.{Entrance}
+use Rattle.board_decisions.specs.Decisions.{run_entrance, leg_entrance}
 use Rattle.status_table.specs.Groups.{Standing, apart, holding, waiting, run_standing, leg_standing, holder, waiter}
 use Rattle.status_table.specs.Lawful.{Lawful}
-use Rattle.status_table.specs.Place.{RunAt, LegAt, run_at, leg_at}
+use Rattle.board_decisions.specs.Place.{RunAt, LegAt, run_at, leg_at}
 use Rattle.status_table.specs.Row.{Row, row}
 
 -- A board shows who holds each name, and who waits for it, as they are kept. An empty name is no group's.

@@ -4,9 +4,9 @@ use Rattle.flow_model.specs.declared.board.Board.{Board}
 use Rattle.flow_model.specs.declared.board.Run.{Run}
 use Rattle.flow_model.specs.declared.board.Job.{Job}
 use Rattle.flow_model.specs.declared.board.Leg.{Leg}
-use Rattle.status_table.specs.Place.{leg_place}
-use Rattle.status_table.specs.declared.place.JobPlace.{JobPlace}
-use Rattle.status_table.specs.declared.place.LegPlace.{LegPlace}
+use Rattle.board_decisions.specs.Place.{leg_place}
+use Rattle.board_decisions.specs.declared.place.JobPlace.{JobPlace}
+use Rattle.board_decisions.specs.declared.place.LegPlace.{LegPlace}
 
 -- the list with the item at a place put in, where there is one
 abbrev pub put : {T : Type 0} → List T → ℕ → (T → T) → Option T → List T

@@ -3,7 +3,7 @@ use Rattle.std.specs.Prelude.{◌≡◌, ℕ, ◌==◌, Option, Some, None, slic
 use Rattle.flow_model.specs.declared.board.Board.{Board}
 use Rattle.flow_model.specs.declared.board.Leg.{Leg}
 use Rattle.flow_model.specs.Numbers.{board_legs}
-use Rattle.status_table.specs.Derived.{is_ended}
+use Rattle.board_decisions.specs.Derived.{is_ended}
 
 -- how often the number of a leg stands among the ends: once where there is such a leg and it is Ended, and else not
 abbrev pub times_ended : Option Leg → ℕ

@@ -10,10 +10,10 @@ use Rattle.flow_model.specs.declared.event.Member.TheVariants as member
 use Rattle.flow_model.specs.declared.plan.Plan.{Plan}
 use Rattle.group_admission.specs.Content.{Content, EachOnce, is_in_group}
 use Rattle.status_table.specs.Admissions.{Shows, opened, asked, left}
-use Rattle.status_table.specs.Decisions.{run_entrance, leg_entrance}
+use Rattle.board_decisions.specs.Decisions.{run_entrance, leg_entrance}
 use Rattle.status_table.specs.Groups.{run_standing, leg_standing}
 use Rattle.status_table.specs.Moves.{is_accepted}
-use Rattle.status_table.specs.Place.{RunAt, LegAt, run_at, leg_at}
+use Rattle.board_decisions.specs.Place.{RunAt, LegAt, run_at, leg_at}
 use Rattle.status_table.specs.Row.{Row, row}
 use Rattle.status_table.specs.Runs.{new_board}
 

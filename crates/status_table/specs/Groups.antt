@@ -17,7 +17,7 @@ use Rattle.flow_model.specs.declared.event.Outcome.TheVariants as outcome
 use Rattle.flow_model.specs.declared.reply.Reply.{Reply}
 use Rattle.flow_model.specs.declared.reply.What.TheVariants as what
 use Rattle.status_table.specs.Change.{with_run, with_numbered_leg}
-use Rattle.status_table.specs.declared.entrance.Entrance.{Entrance}
+use Rattle.board_decisions.specs.declared.entrance.Entrance.{Entrance}
 
 -- ---- how a member stands to its group
 

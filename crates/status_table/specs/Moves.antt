@@ -8,7 +8,7 @@ use Rattle.flow_model.specs.declared.board.LegState.{LegState}
 use Rattle.flow_model.specs.declared.board.LegState.TheVariants as leg_state
 use Rattle.flow_model.specs.declared.event.Event.{Event}
 use Rattle.flow_model.specs.declared.event.Event.TheVariants as event
-use Rattle.status_table.specs.Derived.{is_closed}
+use Rattle.board_decisions.specs.Derived.{is_closed}
 use Rattle.status_table.specs.Row.{Row, row}
 
 -- the numbers below n, ascending

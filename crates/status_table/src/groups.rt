@@ -7,16 +7,16 @@ ghost use Rattle.expr_value.specs.Answer.{Gives};
 ghost use Rattle.flow_model.specs.declared.reply.ValueFault.{ValueFault as ValueFaultOf};
 ghost use Rattle.status_table.specs.Answers.{Answers};
 ghost use Rattle.status_table.specs.Groups as spec;
-ghost use Rattle.status_table.specs.Place.{LegAt};
+ghost use Rattle.board_decisions.specs.Place.{LegAt};
 ghost use Rattle.status_table.specs.Row.{leg_enters, run_enters};
-ghost use Rattle.status_table.specs.declared.entrance.Entrance.{Entrance as EntranceOf};
+ghost use Rattle.board_decisions.specs.declared.entrance.Entrance.{Entrance as EntranceOf};
 ghost use Rattle.status_table.specs.Shape.{HasFewLegs};
 
-use crate::entrance::Entrance;
 use crate::fault::EventFault;
 use crate::members::{
     Role, admit, close_run, delay, drop_leg, find_member, note_end, pass_on, put_out, stop,
 };
+use board_decisions::entrance::Entrance;
 use flow_model::{
     Board, Leg, LegState, Member, Outcome, Reply, Run, RunState, Text, ValueFault, What,
 };

@@ -6,12 +6,12 @@ ghost use Rattle.flow_model.specs.Numbers.{board_legs};
 ghost use Rattle.status_table.specs.Groups as spec;
 ghost use Rattle.flow_model.specs.declared.event.Member.TheVariants as member;
 ghost use Rattle.status_table.specs.Change.{with_numbered_leg};
-ghost use Rattle.status_table.specs.Numbered.{leg_there as leg_there_of};
+ghost use Rattle.board_decisions.specs.Numbered.{leg_there as leg_there_of};
 ghost use Rattle.status_table.specs.Seen.{has_role, noted, numbered_leg as numbered_leg_of, put_out as put_out_of};
 ghost use Rattle.status_table.specs.Shape.{HasFewLegs};
 
 use crate::change::{set_leg_state, set_run_state};
-use crate::place::{LegPlace, find_leg_place};
+use board_decisions::place::{LegPlace, find_leg_place};
 use flow_model::{Board, Leg, LegState, Member, Outcome, Run, RunState, Text};
 use std::alloc::AllocError;
 
