@@ -1,10 +1,10 @@
 -- What is laid over one item after another.
 use Rattle.std.proofs.Common.{◌≡◌, ℕ, zero, suc, ◌+◌, List, [], ◌∷◌, Option, Some, None, map, drop, slice_get, length, refl, ap, ◌∙◌, ◌≤◌, add-one, arith}
 use Rattle.std.specs.List.{zip, filter_map, cons_option}
+use Rattle.board_decisions.specs.Contexts.{overlaid, step_pair, planned_pair}
 use Rattle.flow_model.specs.declared.board.DoneStep.{DoneStep}
 use Rattle.flow_model.specs.declared.plan.StepPlan.{StepPlan}
 use Rattle.flow_model.specs.Plain.{Plain}
-use Rattle.board_decisions.specs.Contexts.{overlaid, step_pair, planned_pair}
 use Rattle.text_values.specs.Env.{laid_over}
 use Rattle.text_values.specs.Values.{Env}
 

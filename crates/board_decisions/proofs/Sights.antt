@@ -1,12 +1,12 @@
 -- What a place sees is the same from a job and from a leg of it, where it sees no more than a job's condition.
 use Rattle.std.proofs.Common.{◌≡◌, Bool, true, false, not, ◌&&◌, ◌||◌, Result, ap, sym, refl, ◌∙◌}
 use Rattle.std.proofs.lemmas.Bool.{true≢false}
-use Rattle.expr_value.specs.declared.status.Status.{Status}
-use Rattle.expr_value.specs.declared.status.Status.TheVariants as status
-use Rattle.flow_model.specs.declared.reply.ValueFault.{ValueFault}
 use Rattle.board_decisions.specs.Contexts.{job_values, job_of, leg_values_by}
 use Rattle.board_decisions.specs.Decisions.{job_condition, leg_values, is_true, stops_anyway, is_stopping}
 use Rattle.board_decisions.specs.Place.{LegAt}
+use Rattle.expr_value.specs.declared.status.Status.{Status}
+use Rattle.expr_value.specs.declared.status.Status.TheVariants as status
+use Rattle.flow_model.specs.declared.reply.ValueFault.{ValueFault}
 use Rattle.text_values.specs.Texts.{condition_value}
 use Rattle.text_values.specs.Values.{Env, contexts_at, with_env}
 use Rattle.text_values.specs.declared.place.Place.TheVariants as place

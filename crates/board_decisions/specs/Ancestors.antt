@@ -1,14 +1,14 @@
 -- The ancestors of a job, and what their results make of its status.
 use Rattle.std.specs.Prelude.{◌≡◌, ℕ, ◌+◌, ◌-◌, ◌<◌, ◌&&◌, ◌||◌, Bool, true, false, not, List, map, length, Some, slice_get, nat_le, nat_lt}
 use Rattle.std.specs.List.{list_all, list_any, Contains}
-use Rattle.flow_model.specs.declared.plan.JobPlan.{JobPlan}
-use Rattle.flow_model.specs.declared.event.Outcome.{Outcome}
 use Rattle.board_decisions.specs.declared.ancestors.Wanted.{Wanted}
 use Rattle.board_decisions.specs.declared.ancestors.Wanted.TheVariants as wanted
-use Rattle.expr_value.specs.declared.status.Status.{Status}
-use Rattle.expr_value.specs.declared.status.Status.TheVariants as status
 use Rattle.board_decisions.specs.Derived.{needs_at, holds_at, any_ancestor, is_success, is_failure, job_results}
 use Rattle.board_decisions.specs.Place.{JobAt}
+use Rattle.expr_value.specs.declared.status.Status.{Status}
+use Rattle.expr_value.specs.declared.status.Status.TheVariants as status
+use Rattle.flow_model.specs.declared.plan.JobPlan.{JobPlan}
+use Rattle.flow_model.specs.declared.event.Outcome.{Outcome}
 
 -- An ancestor of a job is a job that it needs, or an ancestor of one. Both are told by their places in the run, whose
 -- first job has the number `first`.

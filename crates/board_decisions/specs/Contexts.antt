@@ -1,6 +1,11 @@
 -- What the contexts are, seen from a job and from a leg in play (GitHub Docs, "Contexts reference").
 use Rattle.std.specs.Prelude.{ℕ, pos, ◌-◌, ◌==◌, ◌&&◌, List, [], ◌∷◌, map, length, codes, nat_le, Option, Some, None, slice_get, if◌then◌else◌}
 use Rattle.std.specs.List.{zip, filter_map}
+use Rattle.board_decisions.specs.Derived.{job_result}
+use Rattle.board_decisions.specs.Numbered.{leg_there}
+use Rattle.board_decisions.specs.Place.{◌>>=◌, JobAt, LegAt, leg_place}
+use Rattle.board_decisions.specs.declared.place.JobPlace.{JobPlace}
+use Rattle.board_decisions.specs.declared.place.LegPlace.{LegPlace}
 use Rattle.expr_reader.specs.declared.tree.Context.TheVariants as context
 use Rattle.flow_model.specs.Mapping.{with_pair}
 use Rattle.flow_model.specs.Plain.{Plain, text, truth, whole, members_of}
@@ -13,11 +18,6 @@ use Rattle.flow_model.specs.declared.event.Outcome.TheVariants as outcome
 use Rattle.flow_model.specs.declared.plan.JobPlan.{JobPlan}
 use Rattle.flow_model.specs.declared.plan.RunPlan.{RunPlan}
 use Rattle.flow_model.specs.declared.plan.StepPlan.{StepPlan}
-use Rattle.board_decisions.specs.Derived.{job_result}
-use Rattle.board_decisions.specs.Numbered.{leg_there}
-use Rattle.board_decisions.specs.Place.{◌>>=◌, JobAt, LegAt, leg_place}
-use Rattle.board_decisions.specs.declared.place.JobPlace.{JobPlace}
-use Rattle.board_decisions.specs.declared.place.LegPlace.{LegPlace}
 use Rattle.text_values.specs.Env.{laid_over}
 use Rattle.text_values.specs.Values.{Values, Env, env_context}
 

@@ -2,6 +2,10 @@
 -- rows of the table say only what follows from it.
 use Rattle.std.specs.Prelude.{ℕ, ◌&&◌, ◌||◌, Bool, true, false, not, List, [], ◌∷◌, length, Option, Some, None, Result, Ok, Err, if◌then◌else◌}
 use Rattle.std.specs.List.{list_any}
+use Rattle.board_decisions.specs.Contexts.{run_values, job_values, job_of, leg_values_by}
+use Rattle.board_decisions.specs.Derived.{is_failure, has_failed}
+use Rattle.board_decisions.specs.Place.{RunAt, JobAt, LegAt}
+use Rattle.board_decisions.specs.declared.entrance.Entrance.{Entrance}
 use Rattle.expr_reader.specs.Fold.{fold}
 use Rattle.expr_value.specs.Context.{Contexts}
 use Rattle.expr_value.specs.declared.status.Status.{Status}
@@ -16,10 +20,6 @@ use Rattle.flow_model.specs.declared.reply.CallWork.{CallWork}
 use Rattle.flow_model.specs.declared.reply.CallWork.TheVariants as call_work
 use Rattle.flow_model.specs.declared.reply.StepCall.{StepCall}
 use Rattle.flow_model.specs.declared.reply.ValueFault.{ValueFault}
-use Rattle.board_decisions.specs.Contexts.{run_values, job_values, job_of, leg_values_by}
-use Rattle.board_decisions.specs.Derived.{is_failure, has_failed}
-use Rattle.board_decisions.specs.Place.{RunAt, JobAt, LegAt}
-use Rattle.board_decisions.specs.declared.entrance.Entrance.{Entrance}
 use Rattle.text_values.specs.Env.{env_value, laid_over}
 use Rattle.text_values.specs.Outputs.{outputs_value}
 use Rattle.text_values.specs.Texts.{text_text, condition_value, flag_value}

@@ -1,10 +1,10 @@
 //! What is decided by the texts of a plan: conditions, environments, the texts of a call, flags and outputs.
 
 ghost use Rattle.std.specs.Prelude.{◌≡◌, [], not, Some, IfOk, OnOk, string_bytes};
-ghost use Rattle.expr_value.specs.Answer.{Gives};
-ghost use Rattle.expr_value.specs.declared.status.Status.TheVariants as status;
 ghost use Rattle.board_decisions.specs.Decisions as spec;
 ghost use Rattle.board_decisions.specs.Seen.{job_seen, leg_scene, leg_seen, run_seen};
+ghost use Rattle.expr_value.specs.Answer.{Gives};
+ghost use Rattle.expr_value.specs.declared.status.Status.TheVariants as status;
 ghost use Rattle.text_values.specs.Known.{IsKnownOf, known_env};
 ghost use Rattle.text_values.specs.Texts.{condition_value};
 ghost use Rattle.text_values.specs.Values.{contexts_at, with_env};

@@ -1,9 +1,9 @@
 //! What the texts of a plan see: a run, a job or a leg in play.
 
 ghost use Rattle.std.specs.Prelude.{◌≡◌, IfOk};
-ghost use Rattle.flow_model.specs.Value.{view};
 ghost use Rattle.board_decisions.specs.Decisions.{leg_values};
 ghost use Rattle.board_decisions.specs.Seen.{leg_seen};
+ghost use Rattle.flow_model.specs.Value.{view};
 
 use crate::contexts::{job_context, leg_context, run_context};
 use crate::decisions::own_result;

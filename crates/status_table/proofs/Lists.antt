@@ -4,8 +4,8 @@ use Rattle.std.specs.List.{flat_map, list_all, AllZip}
 use Rattle.std.proofs.lemmas.List.{map-append}
 use Rattle.std.proofs.lemmas.List.Concat.{flat_map-append}
 use Rattle.std.proofs.lemmas.Bool.{true≢false}
-use Rattle.status_table.specs.Change.{put, changed}
 use Rattle.board_decisions.specs.Place.{◌>>=◌}
+use Rattle.status_table.specs.Change.{put, changed}
 use Rattle.board_decisions.proofs.Lists.{and-left, and-right, and-both}
 
 pub same_some : {A : Type 0} (x y : A) → Some x ≡ Some y → x ≡ y

@@ -2,6 +2,7 @@
 -- what comes of entering a group and of leaving it. Nothing of this is kept beside the board: it is looked for.
 use Rattle.std.specs.Prelude.{ℕ, suc, ◌==◌, ◌++◌, Bool, true, false, List, [], ◌∷◌, Option, Some, None, if◌then◌else◌}
 use Rattle.std.specs.Str.{bytes_eq}
+use Rattle.board_decisions.specs.declared.entrance.Entrance.{Entrance}
 use Rattle.flow_model.specs.Numbers.{board_legs}
 use Rattle.flow_model.specs.declared.board.Board.{Board}
 use Rattle.flow_model.specs.declared.board.Run.{Run}
@@ -17,7 +18,6 @@ use Rattle.flow_model.specs.declared.event.Outcome.TheVariants as outcome
 use Rattle.flow_model.specs.declared.reply.Reply.{Reply}
 use Rattle.flow_model.specs.declared.reply.What.TheVariants as what
 use Rattle.status_table.specs.Change.{with_run, with_numbered_leg}
-use Rattle.board_decisions.specs.declared.entrance.Entrance.{Entrance}
 
 -- ---- how a member stands to its group
 

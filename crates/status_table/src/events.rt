@@ -5,16 +5,16 @@
 ghost use Rattle.std.specs.Prelude.{◌≡◌, [], Bool, Option, Result, Ok, IfOk};
 ghost use Rattle.std.specs.Option.{option_copied};
 ghost use Rattle.board_decisions.specs.Ancestors.{StandsAfterNeeds};
-ghost use Rattle.status_table.specs.Answers.{Answers, Decides, DecidesAs};
-ghost use Rattle.status_table.specs.InPlay.{InPlay};
-ghost use Rattle.status_table.specs.Row as spec;
+ghost use Rattle.board_decisions.specs.Seen.{job_seen, leg_scene, leg_seen};
 ghost use Rattle.expr_value.specs.Answer.{Gives};
 ghost use Rattle.flow_model.specs.declared.reply.StepCall.{StepCall as StepCallOf};
 ghost use Rattle.flow_model.specs.declared.reply.ValueFault.{ValueFault as ValueFaultOf};
-ghost use Rattle.board_decisions.specs.Seen.{job_seen, leg_scene, leg_seen};
+ghost use Rattle.status_table.specs.Answers.{Answers, Decides, DecidesAs};
+ghost use Rattle.status_table.specs.InPlay.{InPlay};
+ghost use Rattle.status_table.specs.Row as spec;
 ghost use Rattle.status_table.specs.Seen.{begun_seen, DecidesEnding};
-ghost use Rattle.text_values.specs.Known.{IsKnownOf, known_env};
 ghost use Rattle.status_table.specs.Shape.{HasFewLegs};
+ghost use Rattle.text_values.specs.Known.{IsKnownOf, known_env};
 
 use crate::change::{add_step, set_ended, set_job_state, set_leg_state};
 use crate::fault::EventFault;

@@ -3,13 +3,13 @@
 //! Memory is asked for first; what comes after it changes the board in place.
 
 ghost use Rattle.std.specs.Prelude.{◌≡◌, Ok, Option, Result};
+ghost use Rattle.board_decisions.specs.Place.{LegAt};
+ghost use Rattle.board_decisions.specs.declared.entrance.Entrance.{Entrance as EntranceOf};
 ghost use Rattle.expr_value.specs.Answer.{Gives};
 ghost use Rattle.flow_model.specs.declared.reply.ValueFault.{ValueFault as ValueFaultOf};
 ghost use Rattle.status_table.specs.Answers.{Answers};
 ghost use Rattle.status_table.specs.Groups as spec;
-ghost use Rattle.board_decisions.specs.Place.{LegAt};
 ghost use Rattle.status_table.specs.Row.{leg_enters, run_enters};
-ghost use Rattle.board_decisions.specs.declared.entrance.Entrance.{Entrance as EntranceOf};
 ghost use Rattle.status_table.specs.Shape.{HasFewLegs};
 
 use crate::fault::EventFault;

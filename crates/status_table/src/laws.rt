@@ -1,16 +1,16 @@
 //! Laws of the table, each the contract of a function that does nothing.
 
 ghost use Rattle.std.specs.Prelude.{◌≡◌, ℕ, List, Some};
+ghost use Rattle.board_decisions.specs.Ancestors.{SaysOf};
+ghost use Rattle.board_decisions.specs.Derived.{job_status};
+ghost use Rattle.board_decisions.specs.Numbered.{HasAsMany, IsNumberedIn, JobsAreNumbered, LegsAreNumbered};
+ghost use Rattle.board_decisions.specs.Place.{JobAt, job_at};
 ghost use Rattle.flow_model.specs.declared.board.Board.{Board};
 ghost use Rattle.flow_model.specs.declared.event.Entry.{Entry};
 ghost use Rattle.flow_model.specs.declared.plan.Plan.{Plan};
-ghost use Rattle.board_decisions.specs.Ancestors.{SaysOf};
-ghost use Rattle.board_decisions.specs.Derived.{job_status};
 ghost use Rattle.status_table.specs.Ends.{EndOnce};
 ghost use Rattle.status_table.specs.InPlay.{InPlay};
 ghost use Rattle.status_table.specs.Laws.{NoCallAfterFailure, OnlyFailuresArePassedOver};
-ghost use Rattle.board_decisions.specs.Numbered.{HasAsMany, IsNumberedIn, JobsAreNumbered, LegsAreNumbered};
-ghost use Rattle.board_decisions.specs.Place.{JobAt, job_at};
 ghost use Rattle.status_table.specs.Row.{first_of};
 ghost use Rattle.status_table.specs.Runs.{after};
 ghost use Rattle.status_table.specs.Shape.{HasShape};

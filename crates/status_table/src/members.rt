@@ -2,11 +2,11 @@
 
 ghost use Rattle.std.specs.Prelude.{◌≡◌, true, OnOk, OnErr};
 ghost use Rattle.std.specs.Option.{option_copied};
-ghost use Rattle.flow_model.specs.Numbers.{board_legs};
-ghost use Rattle.status_table.specs.Groups as spec;
-ghost use Rattle.flow_model.specs.declared.event.Member.TheVariants as member;
-ghost use Rattle.status_table.specs.Change.{with_numbered_leg};
 ghost use Rattle.board_decisions.specs.Numbered.{leg_there as leg_there_of};
+ghost use Rattle.flow_model.specs.Numbers.{board_legs};
+ghost use Rattle.flow_model.specs.declared.event.Member.TheVariants as member;
+ghost use Rattle.status_table.specs.Groups as spec;
+ghost use Rattle.status_table.specs.Change.{with_numbered_leg};
 ghost use Rattle.status_table.specs.Seen.{has_role, noted, numbered_leg as numbered_leg_of, put_out as put_out_of};
 ghost use Rattle.status_table.specs.Shape.{HasFewLegs};
 

@@ -1,8 +1,8 @@
 use Rattle.std.proofs.Common.{◌≡◌, ◌∷◌, ◌++◌, string_bytes, ap, sym, ◌∙◌}
 use Rattle.flow_model.specs.Mapping.{pairs_of}
 use Rattle.flow_model.specs.Value.{viewed}
-use Rattle.flow_model.proofs.Pairs.{with_pair-next}
 use Rattle.board_decisions.proofs.contexts.copy_values.Goals as goal
+use Rattle.flow_model.proofs.Pairs.{with_pair-next}
 
 pub loop-name-preserved : goal.loop-name-preserved
 loop-name-preserved c =

@@ -1,8 +1,8 @@
 use Rattle.std.proofs.Common.{◌≡◌, [], map, drop}
 use Rattle.std.specs.List.{filter_map}
-use Rattle.flow_model.specs.Value.{viewed}
 use Rattle.board_decisions.specs.Contexts.{need_pair, needed_job}
 use Rattle.board_decisions.specs.Seen.{job_seen}
+use Rattle.flow_model.specs.Value.{viewed}
 use Rattle.text_values.specs.Env.{laid_over}
 use Rattle.board_decisions.proofs.contexts.needs_node.Given as goal
 

@@ -1,7 +1,7 @@
 use Rattle.std.proofs.Common.{◌≡◌, [], drop}
 use Rattle.std.specs.List.{filter_map, zip}
-use Rattle.flow_model.specs.Value.{viewed}
 use Rattle.board_decisions.specs.Contexts.{step_pair}
+use Rattle.flow_model.specs.Value.{viewed}
 use Rattle.text_values.specs.Env.{laid_over}
 use Rattle.board_decisions.proofs.contexts.steps_node.Given as goal
 

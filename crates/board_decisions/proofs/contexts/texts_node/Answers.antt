@@ -2,8 +2,8 @@ use Rattle.std.proofs.Common.{◌≡◌, ◌∷◌, ◌++◌, string_bytes, ap, 
 use Rattle.flow_model.specs.Mapping.{pairs_of, map_values}
 use Rattle.flow_model.specs.Plain as plain
 use Rattle.flow_model.specs.Value.{viewed}
-use Rattle.flow_model.proofs.Pairs.{with_pair-next, Ascends-map_values}
 use Rattle.board_decisions.proofs.contexts.texts_node.Goals as goal
+use Rattle.flow_model.proofs.Pairs.{with_pair-next, Ascends-map_values}
 
 pub loop-name-preserved : goal.loop-name-preserved
 loop-name-preserved c =

@@ -1,9 +1,9 @@
 use Rattle.std.proofs.Common.{sym, ◌∙◌}
 use Rattle.std.proofs.lemmas.Result.{IfOk-weaker}
-use Rattle.expr_value.specs.declared.status.Status.TheVariants as status
 use Rattle.board_decisions.specs.Seen.{leg_seen}
-use Rattle.board_decisions.proofs.Sights.{leg_sees_job, stopping_by}
+use Rattle.expr_value.specs.declared.status.Status.TheVariants as status
 use Rattle.text_values.specs.Known.{known_env}
+use Rattle.board_decisions.proofs.Sights.{leg_sees_job, stopping_by}
 use Rattle.board_decisions.proofs.decisions.is_stopping.Goals as goal
 
 pub returns-clause-value : goal.returns-clause-value

@@ -1,14 +1,14 @@
 use Rattle.std.proofs.Common.{ap, sym, ◌∙◌}
 use Rattle.std.proofs.lemmas.Result.{IfOk-weaker}
-use Rattle.expr_value.specs.declared.status.Status.TheVariants as status
 use Rattle.board_decisions.specs.Contexts.{job_values}
 use Rattle.board_decisions.specs.Place.{JobAt}
 use Rattle.board_decisions.specs.Seen.{leg_seen}
-use Rattle.board_decisions.proofs.Sights.{job_sees_itself, stopping_by}
+use Rattle.expr_value.specs.declared.status.Status.TheVariants as status
 use Rattle.text_values.specs.Known.{known_env}
 use Rattle.text_values.specs.Texts.{condition_value}
 use Rattle.text_values.specs.Values.{contexts_at, with_env}
 use Rattle.text_values.specs.declared.place.Place.TheVariants as place
+use Rattle.board_decisions.proofs.Sights.{job_sees_itself, stopping_by}
 use Rattle.board_decisions.proofs.decisions.is_stopping_itself.Goals as goal
 
 pub returns : goal.returns
