@@ -98,9 +98,13 @@ need_value need =
 abbrev pub need_pair : JobAt → List ℕ × Plain
 need_pair need = (need.plan.id, need_value need)
 
+-- The jobs with these numbers, as far as there are such, over others.
+abbrev pub with_needs : JobAt → List ℕ → List (List ℕ × Plain) → List (List ℕ × Plain)
+with_needs at needs pairs = laid_over (map need_pair (filter_map (needed_job at) needs)) pairs
+
 -- The jobs that a job needs itself, by their ids.
 unfoldable pub needs_value : JobAt → Plain
-needs_value at = object (laid_over (map need_pair (filter_map (needed_job at) at.plan.needs)) [])
+needs_value at = object (with_needs at at.plan.needs [])
 
 -- ---- what a run sees
 

@@ -116,7 +116,8 @@ fn is_stopping_itself(alloc: Global, at: &SeenLeg) -> Result<bool, AllocError>
 
 /// How a leg counts that is to stop, or is not.
 fn counted(at: &SeenLeg, stops: bool) -> Outcome
-    ensures { stops ≡ spec.is_stopping (leg_seen at.now) → result ≡ spec.leg_result (leg_seen at.now) }
+    ensures { stops ≡ spec.is_stopping (leg_seen at.now)
+        → result ≡ spec.leg_result (leg_seen at.now) }
 {
     if stops {
         Outcome::Cancelled

@@ -82,10 +82,7 @@ fn queue(
     holder: Member,
     waited: Option<Member>,
 ) -> Result<Reply, EventFault>
-    ensures { Answers (Ok (
-      spec.stopped (spec.displaced (spec.waits board.old group.name who) waited) group.cancel holder,
-      spec.told None waited (spec.stop_told group.cancel holder),
-    )) board.old result board.new }
+    ensures { Answers (Ok (spec.queued board.old who group holder waited)) board.old result board.new }
 {
     note_end(board, waited)?;
     let cancel = group.cancel;
@@ -104,7 +101,8 @@ fn enter_held(
     held: Option<Member>,
     waited: Option<Member>,
 ) -> Result<Reply, EventFault>
-    ensures { Answers (Ok (spec.enters_held board.old who own group held waited)) board.old result board.new }
+    ensures { Answers (Ok (spec.enters_held board.old who own group held waited))
+        board.old result board.new }
 {
     let Some(holder) = held else {
         admit(board, Some(group.name), who);

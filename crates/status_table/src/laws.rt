@@ -36,7 +36,8 @@ pub fn legal_lists_keep_order()
 /// The status by which a job is judged says how its ancestors ended: the jobs that it needs, and their ancestors.
 pub fn statuses_tell_of_ancestors()
     ensures { (p : Plan) (b : Board) (j : ℕ) (at : JobAt)
-        → InPlay p b → job_at p b j ≡ Some at → SaysOf (first_of j at) at (job_status (first_of j at) at) }
+        → InPlay p b → job_at p b j ≡ Some at
+        → SaysOf (first_of j at) at (job_status (first_of j at) at) }
 {}
 
 /// After a step of a leg that counts as a failure, a step whose condition names no status function is never in a call.

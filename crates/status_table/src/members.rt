@@ -67,7 +67,8 @@ fn has_leg_role(leg: &Leg, role: Role, name: &str) -> bool
 
 /// The first run that has a role at a name.
 fn find_run(runs: &[Run], role: Role, name: &str) -> Option<u64>
-    ensures { result ≡ spec.first_place 0 (λ run. has_role role name.now (spec.run_standing run)) runs.now }
+    ensures { result ≡ spec.first_place 0 (λ run. has_role role name.now (spec.run_standing run))
+        runs.now }
 {
     for (place, run) in runs.iter().enumerate() {
         if has_run_role(run, role, name) {

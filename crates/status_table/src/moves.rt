@@ -124,7 +124,8 @@ fn accepts(
     kind: Kind,
     number: u64,
 ) -> Result<bool, AllocError>
-    ensures { IfOk result (λ yes. yes ≡ rule.accepts plan.now board.now (spec.event_of kind number)) }
+    ensures { IfOk result
+        (λ yes. yes ≡ rule.accepts plan.now board.now (spec.event_of kind number)) }
 {
     match kind {
         Kind::Close => Ok(closes(plan, board, number)),
