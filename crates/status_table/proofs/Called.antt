@@ -1,5 +1,7 @@
 -- What the call of a step is made of.
 use Rattle.std.proofs.Common.{◌≡◌, ℕ, ◌==◌, Bool, true, false, [], Option, Some, None, Result, Ok, Err, length, nat_le, if◌then◌else◌, refl, sym, ap, subst, ◌∙◌}
+use Rattle.board_decisions.specs.Decisions.{then_value, seen_from, flow_env, job_env, step_env, directory_value, work_value, called_if, leg_status, step_decision}
+use Rattle.board_decisions.specs.Place.{LegAt, leg_at}
 use Rattle.expr_value.specs.Context.{Contexts}
 use Rattle.flow_model.specs.Mapping.{value_at, Ascends}
 use Rattle.flow_model.specs.declared.board.Board.{Board}
@@ -13,17 +15,15 @@ use Rattle.flow_model.specs.declared.reply.StepCall.{StepCall}
 use Rattle.flow_model.specs.declared.reply.ValueFault.{ValueFault}
 use Rattle.status_table.specs.declared.fault.EventFault.TheVariants as fault
 use Rattle.status_table.specs.CallLaws.{StepInOrder, WorkInOrder, PlanInOrder, IfCalled, AskedInOrder, CallInOrder, CallsAreInOrder, MostSpecificIsGiven, CallsAreMostSpecific}
-use Rattle.status_table.specs.Decisions.{then_value, seen_from, flow_env, job_env, step_env, directory_value, work_value, called_if, leg_status, step_decision}
-use Rattle.status_table.specs.Place.{LegAt, leg_at}
 use Rattle.status_table.specs.Row.{decided, next_step, idle_owner, beginning_by, begin_leg, begin_found}
-use Rattle.status_table.proofs.Decided.{by_test}
-use Rattle.status_table.proofs.Found.{leg_stands}
-use Rattle.status_table.proofs.Lists.{same_some}
 use Rattle.text_values.specs.Env.{env_value, laid_over}
 use Rattle.text_values.specs.Laws.{EnvHasItsNames, LevelsStayInOrder, MostSpecificWins}
 use Rattle.text_values.specs.Texts.{text_text, condition_value}
 use Rattle.text_values.specs.Values.{Env}
 use Rattle.text_values.specs.declared.place.Place.TheVariants as place
+use Rattle.status_table.proofs.Decided.{by_test}
+use Rattle.status_table.proofs.Found.{leg_stands}
+use Rattle.status_table.proofs.Lists.{same_some}
 
 -- ---- answers that are made of others
 

@@ -1,6 +1,9 @@
 -- What the texts of a plan decide, seen in the rows.
 use Rattle.std.proofs.Common.{◌≡◌, ℕ, ◌==◌, Bool, true, false, not, List, Option, Some, None, Result, Ok, Err, nat_le, if◌then◌else◌, refl, sym, ap, subst}
 use Rattle.std.specs.List.{list_any}
+use Rattle.board_decisions.specs.Decisions.{then_value, is_stopping, status_of, leg_status, seen_from, step_env, called_if, step_decision, step_tolerates}
+use Rattle.board_decisions.specs.Derived.{is_failure}
+use Rattle.board_decisions.specs.Place.{LegAt}
 use Rattle.expr_value.specs.Functions.{is_success}
 use Rattle.flow_model.specs.Answer.{is_well_formed}
 use Rattle.flow_model.specs.declared.board.Board.{Board}
@@ -12,10 +15,7 @@ use Rattle.flow_model.specs.declared.plan.StepPlan.{StepPlan}
 use Rattle.flow_model.specs.declared.reply.StepCall.{StepCall}
 use Rattle.flow_model.specs.declared.reply.ValueFault.{ValueFault}
 use Rattle.status_table.specs.declared.fault.EventFault.TheVariants as fault
-use Rattle.status_table.specs.Decisions.{then_value, is_stopping, status_of, leg_status, seen_from, step_env, called_if, step_decision, step_tolerates}
-use Rattle.status_table.specs.Derived.{is_failure}
 use Rattle.status_table.specs.Laws.{NamesNoStatus, HasFailedStep, CallsNothing, NoCallAfterFailure, IsPassedOver, Concludes, OnlyFailuresArePassedOver}
-use Rattle.status_table.specs.Place.{LegAt}
 use Rattle.status_table.specs.Row.{Row, Beginning, calls, skips, faults, decided, next_step, idle_owner, calling_owner, beginning_by, begin_leg, begin_found, failure_of, conclusion_of, outcome_of, answered_step, skipped_step, failed_step, ending_by, end_leg, end_found}
 use Rattle.text_values.specs.Laws.{WaitsForSuccess}
 use Rattle.text_values.specs.Texts.{condition_value}

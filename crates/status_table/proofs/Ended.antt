@@ -2,6 +2,8 @@
 use Rattle.std.proofs.Common.{◌≡◌, ◌⊎◌, inl, inr, ℕ, zero, suc, ◌-◌, ◌≤◌, ◌||◌, Bool, true, false, List, [], ◌∷◌, Option, Some, length, map, slice_get, ap, sym, refl, ◌∙◌, arith}
 use Rattle.std.specs.List.{list_all, AllZip}
 use Rattle.std.proofs.lemmas.Bool.{true≢false}
+use Rattle.board_decisions.specs.Derived.{is_closed, is_open, is_shut, is_fresh, is_ended, job_has_ended, result_by, holds_at, needs_have_ended}
+use Rattle.board_decisions.specs.Place.{JobAt, job_at, job_place, job_place_from}
 use Rattle.flow_model.specs.declared.plan.Plan.{Plan}
 use Rattle.flow_model.specs.declared.plan.JobPlan.{JobPlan}
 use Rattle.flow_model.specs.declared.board.Board.{Board}
@@ -13,14 +15,13 @@ use Rattle.flow_model.specs.declared.board.JobState.TheVariants as job_state
 use Rattle.flow_model.specs.declared.board.Leg.{Leg}
 use Rattle.flow_model.specs.declared.board.LegState.{LegState}
 use Rattle.flow_model.specs.declared.board.LegState.TheVariants as leg_state
-use Rattle.status_table.specs.Derived.{is_closed, is_open, is_shut, is_fresh, is_ended, job_has_ended, result_by, holds_at, needs_have_ended}
 use Rattle.status_table.specs.Lawful.{leg_stands_right, JobFits, NeedsEnded}
-use Rattle.status_table.specs.Place.{JobAt, job_at, job_place, job_place_from}
 use Rattle.status_table.specs.Row.{first_of}
 use Rattle.status_table.specs.Stays.{LegStays, JobStays, RunStays, Stays}
+use Rattle.board_decisions.proofs.Lists.{and-left}
 use Rattle.status_table.proofs.Counts.{zip-beside, zip-then, zip-left, all-weaker}
 use Rattle.status_table.proofs.Found.{job_stands}
-use Rattle.status_table.proofs.Lists.{same_some, and-left, zip-length}
+use Rattle.status_table.proofs.Lists.{same_some, zip-length}
 
 -- ---- nothing changed, and one change after the other
 

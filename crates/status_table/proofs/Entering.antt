@@ -2,10 +2,10 @@
 use Rattle.std.proofs.Common.{◌≡◌, ◌≢◌, ◌⊎◌, inl, inr, ℕ, ◌<◌, ◌≤◌, Bool, true, false, List, Option, Some, None, Ok, Err, if◌then◌else◌, ap, subst, sym, refl, ◌∙◌, arith}
 use Rattle.std.specs.Str.{bytes_eq}
 use Rattle.std.proofs.lemmas.Slice.Eq.{bytes_eq-Decides}
+use Rattle.board_decisions.specs.declared.entrance.Entrance.{Entrance}
 use Rattle.flow_model.specs.declared.plan.Plan.{Plan}
 use Rattle.flow_model.specs.declared.board.Board.{Board}
 use Rattle.flow_model.specs.declared.event.Member.{Member}
-use Rattle.status_table.specs.declared.entrance.Entrance.{Entrance}
 use Rattle.status_table.specs.Groups.{Standing, apart, holding, waiting, holds_name, holder, waiter, admitted, waits, passed_on, cancelled, displaced, stopped, Done, told, moved, is_own, stop_told, enters_held, enters, leaves}
 use Rattle.status_table.specs.Lawful.{NeedsEnded, Lawful}
 use Rattle.status_table.specs.Members.{OneHolder, holders, waiters}

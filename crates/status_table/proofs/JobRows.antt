@@ -2,6 +2,9 @@
 use Rattle.std.proofs.Common.{◌≡◌, ◌⊎◌, inl, inr, ℕ, ◌+◌, ◌<◌, ◌&&◌, ◌||◌, Bool, true, false, not, List, Option, Some, Result, Ok, Err, slice_get, sum_by, if◌then◌else◌, ap, sym, refl, ◌∙◌, arith}
 use Rattle.std.specs.List.{flat_map, list_all}
 use Rattle.std.proofs.lemmas.Bool.{true≢false, cases_eq}
+use Rattle.board_decisions.specs.Decisions.{job_condition}
+use Rattle.board_decisions.specs.Derived.{is_going, is_closed, is_open, is_shut, is_fresh, is_under_way, job_status, needs_have_ended}
+use Rattle.board_decisions.specs.Place.{JobAt, job_at}
 use Rattle.flow_model.specs.Numbers.{board_legs}
 use Rattle.flow_model.specs.declared.plan.Plan.{Plan}
 use Rattle.flow_model.specs.declared.board.Board.{Board}
@@ -17,12 +20,9 @@ use Rattle.flow_model.specs.declared.board.LegState.TheVariants as leg_state
 use Rattle.flow_model.specs.declared.reply.ValueFault.{ValueFault}
 use Rattle.status_table.specs.declared.fault.EventFault.TheVariants as fault
 use Rattle.status_table.specs.Change.{changed}
-use Rattle.status_table.specs.Decisions.{job_condition}
-use Rattle.status_table.specs.Derived.{is_going, is_closed, is_open, is_shut, is_fresh, is_under_way, job_status, needs_have_ended}
 use Rattle.status_table.specs.Groups.{run_standing, leg_standing, holds_name, waits_name}
 use Rattle.status_table.specs.Lawful.{leg_stands_right, JobFits, RunFits, MembersFit, Lawful}
 use Rattle.status_table.specs.Members.{is_waiting, share_name}
-use Rattle.status_table.specs.Place.{JobAt, job_at}
 use Rattle.status_table.specs.Rank.{job_rank, rank_of_run, rank_of_job, rank_of_leg, rank}
 use Rattle.status_table.specs.Row.{Row, Beginning, calls, skips, faults}
 use Rattle.status_table.specs.Row as rows

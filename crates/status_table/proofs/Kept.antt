@@ -2,6 +2,7 @@
 use Rattle.std.proofs.Common.{◌≡◌, ℕ, List, Option, Some, None, Result, Ok, Err, OnErr, slice_get, slice_set, ap, sym, refl, ◌∙◌}
 use Rattle.std.proofs.lemmas.List.{set-get_or}
 use Rattle.std.proofs.lemmas.Option.{get_or_from_slice_get}
+use Rattle.board_decisions.specs.declared.place.LegPlace.{LegPlace}
 use Rattle.flow_model.specs.declared.board.Board.{Board}
 use Rattle.flow_model.specs.declared.board.Run.{Run}
 use Rattle.flow_model.specs.declared.board.Job.{Job}
@@ -10,7 +11,6 @@ use Rattle.flow_model.specs.declared.event.Member.{Member}
 use Rattle.flow_model.specs.declared.event.Member.TheVariants as member
 use Rattle.status_table.specs.Groups.{waits, displaced}
 use Rattle.status_table.specs.Seen.{noted, put_out}
-use Rattle.status_table.specs.declared.place.LegPlace.{LegPlace}
 
 pub slice_set-slice_get : {T : Type 0} (xs : List T) (i : ℕ) (x : T) → slice_get xs i ≡ Some x → slice_set xs i x ≡ xs
 slice_set-slice_get {T} xs i x h = ap (λ (y : T). slice_set xs i y) (sym (get_or_from_slice_get xs i x x h)) ∙ set-get_or xs i x

@@ -4,6 +4,7 @@ use Rattle.std.specs.List.{flat_map, AllZip}
 use Rattle.std.proofs.lemmas.Bool.{true≢false}
 use Rattle.std.proofs.lemmas.List.{length-map, length-append}
 use Rattle.std.proofs.lemmas.List.Concat.{flat_map-append}
+use Rattle.board_decisions.specs.Derived.{is_open, is_under_way}
 use Rattle.flow_model.specs.Numbers.{board_jobs, board_legs, plan_jobs, plan_legs}
 use Rattle.flow_model.specs.Plain.{Plain}
 use Rattle.flow_model.specs.Sound.{Each, SoundJob, SoundRun, SoundPlan}
@@ -19,7 +20,6 @@ use Rattle.flow_model.specs.declared.board.Leg.{Leg}
 use Rattle.flow_model.specs.declared.event.Entry.{Entry}
 use Rattle.flow_model.specs.declared.event.Event.{Event}
 use Rattle.flow_model.specs.declared.reply.Reply.{Reply}
-use Rattle.status_table.specs.Derived.{is_open, is_under_way}
 use Rattle.status_table.specs.Groups.{run_standing, leg_standing, holds_name, waits_name}
 use Rattle.status_table.specs.Lawful.{leg_stands_right, Within, under_way, JobFits, RunFits, MembersFit, NeedsEnded, Lawful}
 use Rattle.status_table.specs.Rank.{rank_of_run, rank_of_job, rank_of_leg, rank}

@@ -4,6 +4,10 @@ use Rattle.std.proofs.lemmas.Bool.{true≢false, leb-true}
 use Rattle.std.proofs.lemmas.Bool.Decides.{nat_tests}
 use Rattle.std.proofs.lemmas.List.{length-append}
 use Rattle.std.proofs.lemmas.Option.{slice_get_within}
+use Rattle.board_decisions.specs.declared.entrance.Entrance.{Entrance}
+use Rattle.board_decisions.specs.Decisions.{is_stopping, leg_result, leg_outputs, leg_entrance}
+use Rattle.board_decisions.specs.Derived.{is_going, is_open, is_fresh, is_untaken, is_ended, is_under_way, is_full}
+use Rattle.board_decisions.specs.Place.{LegAt}
 use Rattle.flow_model.specs.Numbers.{board_legs}
 use Rattle.flow_model.specs.declared.plan.Plan.{Plan}
 use Rattle.flow_model.specs.declared.plan.JobPlan.{JobPlan}
@@ -25,24 +29,21 @@ use Rattle.flow_model.specs.declared.event.Outcome.TheVariants as outcome
 use Rattle.flow_model.specs.declared.reply.Reply.{Reply}
 use Rattle.flow_model.specs.declared.reply.ValueFault.{ValueFault}
 use Rattle.flow_model.specs.declared.reply.What.TheVariants as what
-use Rattle.status_table.specs.declared.entrance.Entrance.{Entrance}
 use Rattle.status_table.specs.declared.fault.EventFault.{EventFault}
 use Rattle.status_table.specs.declared.fault.EventFault.TheVariants as fault
 use Rattle.status_table.specs.Change.{changed, with_leg}
-use Rattle.status_table.specs.Decisions.{is_stopping, leg_result, leg_outputs, leg_entrance}
-use Rattle.status_table.specs.Derived.{is_going, is_open, is_fresh, is_untaken, is_ended, is_under_way, is_full}
 use Rattle.status_table.specs.Groups.{Standing, apart, holding, waiting, run_stands, leg_stands, run_standing, leg_standing, is_named, holds_name, holder, first_place, run_or_leg, dropped, admitted, waits, moved, is_own, enters, leaves}
 use Rattle.status_table.specs.Lawful.{leg_stands_right, Within, under_way, JobFits, RunFits, MembersFit, Lawful}
 use Rattle.status_table.specs.Members.{OneHolder, is_waiting, share_name}
-use Rattle.status_table.specs.Place.{LegAt}
 use Rattle.status_table.specs.Rank.{leg_rank, rank_of_leg, rank}
 use Rattle.status_table.specs.Row.{Row, Beginning, calls, skips, faults}
 use Rattle.status_table.specs.Row as rows
 use Rattle.status_table.specs.Shape.{open_calls, has_room, JobShape, RunShape, HasShape}
+use Rattle.board_decisions.proofs.Lists.{and-left, and-right}
 use Rattle.status_table.proofs.Counts.{one, sum-changed, only_first}
 use Rattle.status_table.proofs.Entering.{Follows, Leads, leads-if, lawfully, Asker, enters_leads, leaves_leads, ends_apart, stands_still}
 use Rattle.status_table.proofs.Found.{LegStands}
-use Rattle.status_table.proofs.Lists.{same_some, no_some, and-left, and-right, zip-get, all-get}
+use Rattle.status_table.proofs.Lists.{same_some, no_some, zip-get, all-get}
 use Rattle.status_table.proofs.Steps.{Step, Live, leg_step, as_much}
 use Rattle.status_table.proofs.Turnover.{under-context, right-there, right-waiting, numbered}
 

@@ -1,5 +1,4 @@
 pub mod Accepting
-pub mod Backwards
 pub mod Called
 pub mod Counts
 pub mod Decided
@@ -15,14 +14,11 @@ pub mod Lawfulness
 pub mod LegRows
 pub mod Legal
 pub mod Lists
-pub mod Maps
 pub mod Numbers
-pub mod Overlays
 pub mod Rows
 pub mod RunRows
 pub mod RunsLemmas
 pub mod Shown
-pub mod Sights
 pub mod Sound
 pub mod Standings
 pub mod Steps

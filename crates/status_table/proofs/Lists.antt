@@ -4,8 +4,9 @@ use Rattle.std.specs.List.{flat_map, list_all, AllZip}
 use Rattle.std.proofs.lemmas.List.{map-append}
 use Rattle.std.proofs.lemmas.List.Concat.{flat_map-append}
 use Rattle.std.proofs.lemmas.Bool.{true≢false}
+use Rattle.board_decisions.specs.Place.{◌>>=◌}
 use Rattle.status_table.specs.Change.{put, changed}
-use Rattle.status_table.specs.Place.{◌>>=◌}
+use Rattle.board_decisions.proofs.Lists.{and-left, and-right, and-both}
 
 pub same_some : {A : Type 0} (x y : A) → Some x ≡ Some y → x ≡ y
 same_some x y h = cc
@@ -55,11 +56,6 @@ pub length-changed : {T : Type 0} (xs : List T) (i : ℕ) (f : T → T) → leng
 length-changed [] i f = refl
 length-changed (x ∷ xs) zero f = refl
 length-changed (x ∷ xs) (suc i) f = ap length (changed-cons x xs i f) ∙ ap suc (length-changed xs i f)
-
-pub get-left : {T : Type 0} (xs ys : List T) (n : ℕ) → n < length xs → slice_get (xs ++ ys) n ≡ slice_get xs n
-get-left [] ys n h = absurd (omega (arith, h))
-get-left (x ∷ xs) ys zero h = refl
-get-left (x ∷ xs) ys (suc n) h = get-left xs ys n (omega (arith, h))
 
 pub get-right : {T : Type 0} (xs ys : List T) (n : ℕ) → length xs ≤ n → slice_get (xs ++ ys) n ≡ slice_get ys (n - length xs)
 get-right [] ys n h = let e : n - 0 ≡ n = omega arith in rw e refl
@@ -138,17 +134,6 @@ zip-map R f [] h = tt
 zip-map R f (x ∷ xs) h = (h x, zip-map R f xs h)
 
 -- ---- a test of each item
-
-pub and-left : (a b : Bool) → a && b ≡ true → a ≡ true
-and-left true b h = refl
-and-left false b h = h
-
-pub and-right : (a b : Bool) → a && b ≡ true → b ≡ true
-and-right true b h = h
-and-right false b h = absurd (true≢false (sym h))
-
-pub and-both : (a b : Bool) → a ≡ true → b ≡ true → a && b ≡ true
-and-both a b ha hb = rw (ha, hb) refl
 
 pub all-changed : {A : Type 0} (t : A → Bool) (xs : List A) (i : ℕ) (f : A → A) (x : A) → slice_get xs i ≡ Some x → t (f x) ≡ true → list_all t xs ≡ true
     → list_all t (changed xs i f) ≡ true

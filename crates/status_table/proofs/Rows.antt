@@ -1,11 +1,11 @@
 -- Each row of the table leads from a lawful board to a lawful one.
 use Rattle.std.proofs.Common.{◌≡◌, ℕ, Option, Some, None, Err, nat_le, refl}
+use Rattle.board_decisions.specs.Place.{RunAt, JobAt, LegAt, run_at, job_at, leg_at}
 use Rattle.flow_model.specs.declared.plan.Plan.{Plan}
 use Rattle.flow_model.specs.declared.board.Board.{Board}
 use Rattle.flow_model.specs.declared.event.Event.{Event}
 use Rattle.flow_model.specs.declared.event.Event.TheVariants as event
 use Rattle.status_table.specs.declared.fault.EventFault.TheVariants as fault
-use Rattle.status_table.specs.Place.{RunAt, JobAt, LegAt, run_at, job_at, leg_at}
 use Rattle.status_table.specs.Row.{Row, Beginning, calls, skips, faults}
 use Rattle.status_table.specs.Row as rows
 use Rattle.status_table.specs.Shape.{HasShape}

@@ -2,6 +2,10 @@
 use Rattle.std.proofs.Common.{◌≡◌, ℕ, ◌+◌, ◌≤◌, ◌||◌, Bool, true, false, Option, Some, None, Result, Ok, Err, ap, subst, sym, refl, ◌∙◌, arith}
 use Rattle.std.specs.List.{AllZip}
 use Rattle.std.proofs.lemmas.Bool.{true≢false}
+use Rattle.board_decisions.specs.declared.entrance.Entrance.{Entrance}
+use Rattle.board_decisions.specs.Decisions.{run_entrance}
+use Rattle.board_decisions.specs.Derived.{is_going, is_closed, jobs_have_ended, run_result}
+use Rattle.board_decisions.specs.Place.{RunAt}
 use Rattle.flow_model.specs.declared.plan.Plan.{Plan}
 use Rattle.flow_model.specs.declared.plan.RunPlan.{RunPlan}
 use Rattle.flow_model.specs.declared.board.Board.{Board}
@@ -12,14 +16,10 @@ use Rattle.flow_model.specs.declared.event.Member.TheVariants as member
 use Rattle.flow_model.specs.declared.event.Outcome.{Outcome}
 use Rattle.flow_model.specs.declared.event.Outcome.TheVariants as outcome
 use Rattle.flow_model.specs.declared.reply.ValueFault.{ValueFault}
-use Rattle.status_table.specs.declared.entrance.Entrance.{Entrance}
 use Rattle.status_table.specs.declared.fault.EventFault.TheVariants as fault
 use Rattle.status_table.specs.Change.{changed}
-use Rattle.status_table.specs.Decisions.{run_entrance}
-use Rattle.status_table.specs.Derived.{is_going, is_closed, jobs_have_ended, run_result}
 use Rattle.status_table.specs.Groups.{Standing, apart, holding, waiting, run_stands, run_standing, closed, admitted, waits, stopped, moved, enters}
 use Rattle.status_table.specs.Lawful.{JobFits, RunFits, Lawful}
-use Rattle.status_table.specs.Place.{RunAt}
 use Rattle.status_table.specs.Rank.{run_rank, rank_of_run}
 use Rattle.status_table.specs.Row.{Row, Beginning, calls, skips, faults}
 use Rattle.status_table.specs.Row as rows

@@ -4,6 +4,11 @@ use Rattle.std.specs.List.{AllZip}
 use Rattle.std.specs.Str.{bytes_eq}
 use Rattle.std.proofs.lemmas.Bool.{true≢false}
 use Rattle.std.proofs.lemmas.Slice.Eq.{bytes_eq-Decides}
+use Rattle.board_decisions.specs.declared.entrance.Entrance.{Entrance}
+use Rattle.board_decisions.specs.declared.place.LegPlace.{LegPlace}
+use Rattle.board_decisions.specs.Decisions.{run_entrance, leg_entrance, is_stopping, leg_result, leg_outputs}
+use Rattle.board_decisions.specs.Derived.{is_going, is_open, is_closed, is_untaken, is_fresh, is_full, jobs_have_ended, run_result}
+use Rattle.board_decisions.specs.Place.{RunAt, LegAt, run_at, leg_at, leg_place}
 use Rattle.flow_model.specs.Mapping.{value_at, Ascends}
 use Rattle.flow_model.specs.Numbers.{board_legs}
 use Rattle.flow_model.specs.declared.plan.Plan.{Plan}
@@ -22,24 +27,20 @@ use Rattle.flow_model.specs.declared.event.Outcome.TheVariants as outcome
 use Rattle.flow_model.specs.declared.reply.ValueFault.{ValueFault}
 use Rattle.group_admission.specs.Content.{Content, holder_of, waiter_of, after_enter, after_release, after_withdraw, is_own as own_run}
 use Rattle.group_admission.specs.Laws.{Becomes, FirstHolds, NextDisplaces, OwnRunChangesNothing, ReleasesPassOn, WithdrawsLeaveHolders}
-use Rattle.status_table.specs.declared.entrance.Entrance.{Entrance}
 use Rattle.status_table.specs.declared.fault.EventFault.TheVariants as fault
-use Rattle.status_table.specs.declared.place.LegPlace.{LegPlace}
 use Rattle.status_table.specs.Admissions.{Shows, ShowsThen, opened, OpensAsEntered, left, ClosesAsLeft, DropsAsLeft, asked, AsksAsEntered, FinishesAsLeft}
 use Rattle.status_table.specs.Change.{changed, leg_changed, with_run, with_numbered_leg}
-use Rattle.status_table.specs.Decisions.{run_entrance, leg_entrance, is_stopping, leg_result, leg_outputs}
 use Rattle.status_table.specs.Groups.{Standing, apart, holding, waiting, run_standing, leg_standing, holds_name, waits_name, first_place, run_or_leg, first_member, holder, waiter, closed, admitted, waits, displaced, stopped, enters_held, is_named, passed_on, dropped, leaves, Done, told, moved, is_own, stop_told, cancelled, leg_stands}
-use Rattle.status_table.specs.Derived.{is_going, is_open, is_closed, is_untaken, is_fresh, is_full, jobs_have_ended, run_result}
 use Rattle.status_table.specs.Lawful.{JobFits, RunFits, Lawful}
 use Rattle.status_table.specs.Members.{count_members, holders, waiters}
-use Rattle.status_table.specs.Place.{RunAt, LegAt, run_at, leg_at, leg_place}
 use Rattle.status_table.specs.Rank.{run_rank}
 use Rattle.status_table.specs.Row.{Row, open_run, open_found, run_enters, run_closes, close_waiting, close_run, close_found, may_drop, drop_found, may_ask, ask_found, leg_enters, idle_owner, ended_state, leg_ended, finishing_by, finish_leg, finish_found}
+use Rattle.board_decisions.proofs.Lists.{and-left, and-right}
 use Rattle.status_table.proofs.Counts.{one, counted, first-some, only_first, map-some}
 use Rattle.status_table.proofs.Decided.{by_test}
 use Rattle.status_table.proofs.Entering.{Asker}
 use Rattle.status_table.proofs.Found.{RunStands, run_stands as run_found, LegStands, leg_stands as leg_found, leg_item}
-use Rattle.status_table.proofs.Lists.{same_some, changed-cons, changed-there, and-left, and-right}
+use Rattle.status_table.proofs.Lists.{same_some, changed-cons, changed-there}
 use Rattle.status_table.proofs.LegRows.{leg_drops, ask_asker, idle-holds, idle-rank, holding-live}
 use Rattle.status_table.proofs.Numbers.{numbered_leg-changed}
 use Rattle.status_table.proofs.RunRows.{run_asker, new_changes}

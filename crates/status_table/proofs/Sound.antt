@@ -2,11 +2,13 @@
 use Rattle.std.proofs.Common.{◌≡◌, ℕ, zero, suc, ◌+◌, ◌-◌, ◌<◌, ◌≤◌, ◌==◌, ◌&&◌, Bool, true, false, List, [], ◌∷◌, ◌++◌, Option, Some, None, length, slice_get, nat_le, nat_lt, codes, decimal, ap, subst, sym, refl, ◌∙◌, arith}
 use Rattle.std.specs.List.{flat_map, list_all, AllZip}
 use Rattle.std.proofs.lemmas.Bool.Decides.{nat_tests}
-use Rattle.flow_model.specs.Numbers.{plan_jobs, board_jobs}
-use Rattle.status_table.specs.Numbered.{HasAsMany, IsNumberedIn}
 use Rattle.std.proofs.lemmas.Bool.{leb-true, le-leb}
 use Rattle.std.proofs.lemmas.List.{length-append}
 use Rattle.std.proofs.lemmas.Option.{slice_get_within}
+use Rattle.board_decisions.specs.Numbered.{HasAsMany, IsNumberedIn}
+use Rattle.board_decisions.specs.Ancestors.{NeedsPointBack, StandsAfterNeeds}
+use Rattle.board_decisions.specs.Place.{JobAt, job_at}
+use Rattle.flow_model.specs.Numbers.{plan_jobs, board_jobs}
 use Rattle.flow_model.specs.Found.{Path, rule, or_else, under, each_pair, if_there}
 use Rattle.flow_model.specs.Name.{is_id}
 use Rattle.flow_model.specs.Rules.{all_there, is_condition, is_variable, group_rules, legs_rules, is_job_output, steps_rules, is_flag, are_distinct, job_ids, roots_rules, legs_of_runs, ascend_between, job_rules, jobs_rules, run_rules, runs_rules, IsPlan}
@@ -16,13 +18,12 @@ use Rattle.flow_model.specs.declared.plan.JobPlan.{JobPlan}
 use Rattle.flow_model.specs.declared.board.Board.{Board}
 use Rattle.flow_model.specs.declared.board.Run.{Run}
 use Rattle.flow_model.specs.declared.board.Job.{Job}
-use Rattle.status_table.specs.Ancestors.{NeedsPointBack, StandsAfterNeeds}
 use Rattle.status_table.specs.InPlay.{InPlay}
-use Rattle.status_table.specs.Place.{JobAt, job_at}
 use Rattle.status_table.specs.Row.{first_of}
 use Rattle.status_table.specs.Shape.{JobShape, RunShape, HasShape}
+use Rattle.board_decisions.proofs.Lists.{get-left, and-left, and-right, and-both}
 use Rattle.status_table.proofs.Found.{job_stands}
-use Rattle.status_table.proofs.Lists.{same_some, no_some, get-left, get-right, zip-length, zip-append, and-left, and-right, and-both}
+use Rattle.status_table.proofs.Lists.{same_some, no_some, get-right, zip-length, zip-append}
 use Rattle.status_table.proofs.Numbers.{jobs_before, number_of_job}
 
 -- ---- a search that finds nothing

@@ -2,6 +2,8 @@
 use Rattle.std.proofs.Common.{◌≡◌, ◌≢◌, ℕ, ◌+◌, ◌≤◌, true, false, List, [], ◌∷◌, Option, Some, None, slice_get, sum_by, option_map, ap, subst, sym, refl, ◌∙◌, arith}
 use Rattle.std.specs.List.{flat_map, AllZip}
 use Rattle.std.proofs.lemmas.Bool.{true≢false}
+use Rattle.board_decisions.specs.Derived.{is_going, is_closed, is_open, is_shut, is_ended, is_under_way, leg_has_ended, job_has_ended}
+use Rattle.board_decisions.specs.Place.{LegAt}
 use Rattle.flow_model.specs.Numbers.{board_jobs, board_legs}
 use Rattle.flow_model.specs.declared.plan.Plan.{Plan}
 use Rattle.flow_model.specs.declared.plan.RunPlan.{RunPlan}
@@ -17,11 +19,9 @@ use Rattle.flow_model.specs.declared.board.Leg.{Leg}
 use Rattle.flow_model.specs.declared.event.Member.{Member}
 use Rattle.flow_model.specs.declared.event.Member.TheVariants as member
 use Rattle.status_table.specs.Change.{changed, with_leg}
-use Rattle.status_table.specs.Derived.{is_going, is_closed, is_open, is_shut, is_ended, is_under_way, leg_has_ended, job_has_ended}
 use Rattle.status_table.specs.Groups.{Standing, run_standing, leg_standing, holds_name, waits_name}
 use Rattle.status_table.specs.Lawful.{leg_stands_right, Within, under_way, JobFits, RunFits, MembersFit, NeedsEnded}
 use Rattle.status_table.specs.Members.{holders, waiters}
-use Rattle.status_table.specs.Place.{LegAt}
 use Rattle.status_table.specs.Rank.{rank_of_run, rank_of_job, rank_of_leg, rank}
 use Rattle.status_table.specs.Stays.{LegStays, JobStays, RunStays, Stays}
 use Rattle.status_table.proofs.Counts.{one, sum-changed, sum-kept, sum-flat, map-get-kept, zip-changed-at, zip-changed-self, zip-left}

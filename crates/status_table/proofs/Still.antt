@@ -1,6 +1,10 @@
 -- Events that take part in no group: who holds a name and who waits for it is found as before.
 use Rattle.std.proofs.Common.{◌≡◌, ℕ, zero, suc, ◌||◌, Bool, true, false, List, [], ◌∷◌, ◌++◌, Option, Some, None, Result, Ok, Err, slice_get, nat_le, if◌then◌else◌, ap, subst, sym, refl, ◌∙◌}
 use Rattle.std.specs.List.{flat_map}
+use Rattle.board_decisions.specs.declared.place.JobPlace.{JobPlace}
+use Rattle.board_decisions.specs.Decisions.{is_stopping}
+use Rattle.board_decisions.specs.Derived.{is_closed}
+use Rattle.board_decisions.specs.Place.{RunAt, JobAt, LegAt, run_at, job_at, leg_at}
 use Rattle.flow_model.specs.Numbers.{board_legs}
 use Rattle.flow_model.specs.declared.plan.Plan.{Plan}
 use Rattle.flow_model.specs.declared.board.Board.{Board}
@@ -17,13 +21,9 @@ use Rattle.flow_model.specs.declared.event.Member.TheVariants as member
 use Rattle.group_admission.specs.Content.{Content}
 use Rattle.status_table.specs.declared.fault.EventFault.{EventFault}
 use Rattle.status_table.specs.declared.fault.EventFault.TheVariants as fault
-use Rattle.status_table.specs.declared.place.JobPlace.{JobPlace}
 use Rattle.status_table.specs.Admissions.{Shows, ShowsThen, StaysShown}
 use Rattle.status_table.specs.Change.{changed, with_leg}
-use Rattle.status_table.specs.Decisions.{is_stopping}
-use Rattle.status_table.specs.Derived.{is_closed}
 use Rattle.status_table.specs.Groups.{Standing, holding, run_standing, leg_stands, leg_standing, holds_name, waits_name, first_place, run_or_leg, first_member, stopped, moved}
-use Rattle.status_table.specs.Place.{RunAt, JobAt, LegAt, run_at, job_at, leg_at}
 use Rattle.status_table.specs.Row.{Beginning, calls, skips, faults, job_state_set, leg_state_set, step_done, judge_job, judge_found, judgement, take_leg, take_found, idle_owner, next_step, beginning_by, begin_leg, begin_found, calling_owner, ending_by, end_leg, end_found, cancel_found}
 use Rattle.status_table.proofs.Decided.{by_test}
 use Rattle.status_table.proofs.Found.{LegStands, leg_stands as leg_found, leg_item}

@@ -3,6 +3,10 @@ use Rattle.std.proofs.Common.{◌≡◌, ℕ, ◌+◌, ◌-◌, ◌≤◌, ◌&&
 use Rattle.std.specs.List.{list_all, AllZip}
 use Rattle.std.proofs.lemmas.Bool.{true≢false}
 use Rattle.std.proofs.lemmas.Slice.Eq.{bytes_eq-Decides}
+use Rattle.board_decisions.specs.Derived.{is_going, is_closed, is_open, is_shut, is_fresh, is_ended, is_under_way, leg_has_ended, job_has_ended}
+use Rattle.board_decisions.specs.Numbered.{leg_there}
+use Rattle.board_decisions.specs.Place.{◌>>=◌, LegAt, leg_place}
+use Rattle.board_decisions.specs.declared.place.LegPlace.{LegPlace}
 use Rattle.flow_model.specs.Numbers.{board_legs}
 use Rattle.flow_model.specs.declared.plan.Plan.{Plan}
 use Rattle.flow_model.specs.declared.plan.JobPlan.{JobPlan}
@@ -20,17 +24,14 @@ use Rattle.flow_model.specs.declared.event.Member.{Member}
 use Rattle.flow_model.specs.declared.event.Member.TheVariants as member
 use Rattle.flow_model.specs.declared.event.Outcome.TheVariants as outcome
 use Rattle.status_table.specs.Change.{with_leg, leg_changed}
-use Rattle.status_table.specs.Derived.{is_going, is_closed, is_open, is_shut, is_fresh, is_ended, is_under_way, leg_has_ended, job_has_ended}
 use Rattle.status_table.specs.Groups.{Standing, apart, holding, waiting, run_stands, leg_stands, run_standing, leg_standing, is_named, holds_name, waits_name, first_place, run_or_leg, first_member, holder, waiter, passed_on, cancelled, stopped}
 use Rattle.status_table.specs.Lawful.{leg_stands_right, JobFits, RunFits, MembersFit}
 use Rattle.status_table.specs.Members.{count_members, holders, waiters, is_waiting, share_name}
-use Rattle.status_table.specs.Numbered.{leg_there}
-use Rattle.status_table.specs.Place.{◌>>=◌, LegAt, leg_place}
 use Rattle.status_table.specs.Rank.{run_rank, leg_rank}
-use Rattle.status_table.specs.declared.place.LegPlace.{LegPlace}
+use Rattle.board_decisions.proofs.Lists.{and-left, and-right, and-both}
 use Rattle.status_table.proofs.Counts.{one, counted, first-none, first-some, map-some, zip-left, zip-weaker, all-weaker}
 use Rattle.status_table.proofs.Ended.{stays-same}
-use Rattle.status_table.proofs.Lists.{and-left, and-right, and-both, all-get, bind-some}
+use Rattle.status_table.proofs.Lists.{all-get, bind-some}
 use Rattle.status_table.proofs.Numbers.{legs_are_numbered}
 use Rattle.status_table.proofs.Steps.{standing, Step, run_step, Live, leg_step, as_much}
 

@@ -1,6 +1,9 @@
 -- What the events of a board ask of the concurrency groups as they are kept by names: the map from each name that is held to
 -- its holder and its waiter, which a board only shows.
 use Rattle.std.specs.Prelude.{◌≡◌, ◌≢◌, ℕ, List, [], Option, Some, None, Result, Ok, Err}
+use Rattle.board_decisions.specs.declared.entrance.Entrance.{Entrance}
+use Rattle.board_decisions.specs.Decisions.{run_entrance, leg_entrance}
+use Rattle.board_decisions.specs.Place.{RunAt, LegAt, run_at, leg_at}
 use Rattle.flow_model.specs.Mapping.{Ascends}
 use Rattle.flow_model.specs.declared.board.Board.{Board}
 use Rattle.flow_model.specs.declared.event.Event.{Event}
@@ -10,11 +13,8 @@ use Rattle.flow_model.specs.declared.event.Member.TheVariants as member
 use Rattle.flow_model.specs.declared.plan.Plan.{Plan}
 use Rattle.flow_model.specs.declared.reply.ValueFault.{ValueFault}
 use Rattle.group_admission.specs.Content.{Content, holder_of, waiter_of, after_enter, after_release, after_withdraw}
-use Rattle.status_table.specs.declared.entrance.Entrance.{Entrance}
-use Rattle.status_table.specs.Decisions.{run_entrance, leg_entrance}
 use Rattle.status_table.specs.Groups.{Standing, apart, holding, waiting, run_standing, leg_standing, holder, waiter}
 use Rattle.status_table.specs.Lawful.{Lawful}
-use Rattle.status_table.specs.Place.{RunAt, LegAt, run_at, leg_at}
 use Rattle.status_table.specs.Row.{Row, row}
 
 -- A board shows who holds each name, and who waits for it, as they are kept. An empty name is no group's.

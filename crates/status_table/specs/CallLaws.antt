@@ -1,5 +1,7 @@
 -- Laws of the call that a step makes: the variables that it is given, and the inputs of its action.
 use Rattle.std.specs.Prelude.{◌≡◌, ℕ, List, [], Some, Ok, Err}
+use Rattle.board_decisions.specs.Decisions.{seen_from}
+use Rattle.board_decisions.specs.Place.{LegAt, leg_at}
 use Rattle.flow_model.specs.Mapping.{value_at, Ascends}
 use Rattle.flow_model.specs.Sound.{Each}
 use Rattle.flow_model.specs.declared.board.Board.{Board}
@@ -15,8 +17,6 @@ use Rattle.flow_model.specs.declared.reply.CallWork.TheVariants as call_work
 use Rattle.flow_model.specs.declared.reply.StepCall.{StepCall}
 use Rattle.flow_model.specs.declared.reply.What.{What}
 use Rattle.flow_model.specs.declared.reply.What.TheVariants as what
-use Rattle.status_table.specs.Decisions.{seen_from}
-use Rattle.status_table.specs.Place.{LegAt, leg_at}
 use Rattle.status_table.specs.Row.{Row, row, next_step}
 use Rattle.text_values.specs.Env.{env_value, laid_over, or_below}
 use Rattle.text_values.specs.Values.{Env}

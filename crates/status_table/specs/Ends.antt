@@ -1,9 +1,9 @@
 -- The order in which legs ended.
 use Rattle.std.specs.Prelude.{◌≡◌, ℕ, ◌==◌, Option, Some, None, slice_get, count_by, if◌then◌else◌}
+use Rattle.board_decisions.specs.Derived.{is_ended}
 use Rattle.flow_model.specs.declared.board.Board.{Board}
 use Rattle.flow_model.specs.declared.board.Leg.{Leg}
 use Rattle.flow_model.specs.Numbers.{board_legs}
-use Rattle.status_table.specs.Derived.{is_ended}
 
 -- how often the number of a leg stands among the ends: once where there is such a leg and it is Ended, and else not
 abbrev pub times_ended : Option Leg → ℕ

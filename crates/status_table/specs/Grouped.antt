@@ -1,6 +1,8 @@
 -- The concurrency groups as they are kept by names, after whole lists of entries: each entry asks of them what its event asks
 -- on the board before it.
 use Rattle.std.specs.Prelude.{◌≡◌, ℕ, true, false, List, [], ◌∷◌, Option, Some, None, Ok, Err}
+use Rattle.board_decisions.specs.Decisions.{run_entrance, leg_entrance}
+use Rattle.board_decisions.specs.Place.{RunAt, LegAt, run_at, leg_at}
 use Rattle.flow_model.specs.Mapping.{value_at, Ascends}
 use Rattle.flow_model.specs.declared.board.Board.{Board}
 use Rattle.flow_model.specs.declared.event.Entry.{Entry}
@@ -10,10 +12,8 @@ use Rattle.flow_model.specs.declared.event.Member.TheVariants as member
 use Rattle.flow_model.specs.declared.plan.Plan.{Plan}
 use Rattle.group_admission.specs.Content.{Content, EachOnce, is_in_group}
 use Rattle.status_table.specs.Admissions.{Shows, opened, asked, left}
-use Rattle.status_table.specs.Decisions.{run_entrance, leg_entrance}
 use Rattle.status_table.specs.Groups.{run_standing, leg_standing}
 use Rattle.status_table.specs.Moves.{is_accepted}
-use Rattle.status_table.specs.Place.{RunAt, LegAt, run_at, leg_at}
 use Rattle.status_table.specs.Row.{Row, row}
 use Rattle.status_table.specs.Runs.{new_board}
 

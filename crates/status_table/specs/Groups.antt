@@ -2,6 +2,7 @@
 -- what comes of entering a group and of leaving it. Nothing of this is kept beside the board: it is looked for.
 use Rattle.std.specs.Prelude.{ℕ, suc, ◌==◌, ◌++◌, Bool, true, false, List, [], ◌∷◌, Option, Some, None, if◌then◌else◌}
 use Rattle.std.specs.Str.{bytes_eq}
+use Rattle.board_decisions.specs.declared.entrance.Entrance.{Entrance}
 use Rattle.flow_model.specs.Numbers.{board_legs}
 use Rattle.flow_model.specs.declared.board.Board.{Board}
 use Rattle.flow_model.specs.declared.board.Run.{Run}
@@ -17,7 +18,6 @@ use Rattle.flow_model.specs.declared.event.Outcome.TheVariants as outcome
 use Rattle.flow_model.specs.declared.reply.Reply.{Reply}
 use Rattle.flow_model.specs.declared.reply.What.TheVariants as what
 use Rattle.status_table.specs.Change.{with_run, with_numbered_leg}
-use Rattle.status_table.specs.declared.entrance.Entrance.{Entrance}
 
 -- ---- how a member stands to its group
 
@@ -167,14 +167,17 @@ abbrev pub stop_told : Bool → Member → Option Member
 stop_told false holder = None
 stop_told true holder = Some holder
 
+-- The member waits, in the place of one that waited, and the holder is told to stop where the cancel flag holds.
+abbrev pub queued : Board → Member → Entrance → Member → Option Member → Done
+queued b m group holds waited =
+    (stopped (displaced (waits b group.name m) waited) group.cancel holds, told None waited (stop_told group.cancel holds))
+
 -- What comes of a member that enters a group, by who holds its name and who waits for it. With no holder the member
--- is admitted. A leg whose own run is the holder ends cancelled. Else the member waits, in the place of one that
--- waited, and the holder is told to stop where the cancel flag holds.
+-- is admitted. A leg whose own run is the holder ends cancelled. Else the member waits.
 abbrev pub enters_held : Board → Member → Option ℕ → Entrance → Option Member → Option Member → Done
 enters_held b m own group None waited = (admitted b (Some group.name) m, told (Some m) None None)
 enters_held b m own group (Some holds) waited =
-    if is_own own holds then (cancelled b m, moved)
-    else (stopped (displaced (waits b group.name m) waited) group.cancel holds, told None waited (stop_told group.cancel holds))
+    if is_own own holds then (cancelled b m, moved) else queued b m group holds waited
 
 -- A member, with the run that it is a leg of, if it is one, enters its group, or none.
 abbrev pub enters : Board → Member → Option ℕ → Option Entrance → Done

@@ -1,6 +1,8 @@
 -- What holds of each board that a legal list of entries leads to.
 use Rattle.std.specs.Prelude.{◌≡◌, ℕ, ◌≤◌, ◌&&◌, ◌||◌, Bool, true, not, List, length, Option, Some, None, count_by}
 use Rattle.std.specs.List.{list_all, AllZip}
+use Rattle.board_decisions.specs.Derived.{is_going, is_open, is_fresh, is_under_way, needs_have_ended}
+use Rattle.board_decisions.specs.Place.{JobAt, job_at}
 use Rattle.flow_model.specs.declared.plan.Plan.{Plan}
 use Rattle.flow_model.specs.declared.plan.RunPlan.{RunPlan}
 use Rattle.flow_model.specs.declared.plan.JobPlan.{JobPlan}
@@ -10,9 +12,7 @@ use Rattle.flow_model.specs.declared.board.RunState.{RunState}
 use Rattle.flow_model.specs.declared.board.Job.{Job}
 use Rattle.flow_model.specs.declared.board.JobState.{JobState}
 use Rattle.flow_model.specs.declared.board.Leg.{Leg}
-use Rattle.status_table.specs.Derived.{is_going, is_open, is_fresh, is_under_way, needs_have_ended}
 use Rattle.status_table.specs.Members.{OneHolder, is_waiting, share_name}
-use Rattle.status_table.specs.Place.{JobAt, job_at}
 use Rattle.status_table.specs.Row.{first_of}
 
 -- whether a leg that waits, is admitted or runs is of a Going run, and does not wait for its own run

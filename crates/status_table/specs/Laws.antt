@@ -1,6 +1,9 @@
 -- Laws of what the texts of a plan decide, over the rows of the table.
 use Rattle.std.specs.Prelude.{◌≡◌, ℕ, true, false, List, Option, Some, None, Ok, Err}
 use Rattle.std.specs.List.{list_any}
+use Rattle.board_decisions.specs.Decisions.{step_tolerates}
+use Rattle.board_decisions.specs.Derived.{is_failure}
+use Rattle.board_decisions.specs.Place.{LegAt, leg_at}
 use Rattle.expr_reader.specs.Accepts.{condition_read}
 use Rattle.expr_reader.specs.Template.{Piece, names_status}
 use Rattle.flow_model.specs.declared.board.Board.{Board}
@@ -12,9 +15,6 @@ use Rattle.flow_model.specs.declared.plan.Plan.{Plan}
 use Rattle.flow_model.specs.declared.plan.StepPlan.{StepPlan}
 use Rattle.flow_model.specs.declared.reply.What.{What}
 use Rattle.flow_model.specs.declared.reply.What.TheVariants as what
-use Rattle.status_table.specs.Decisions.{step_tolerates}
-use Rattle.status_table.specs.Derived.{is_failure}
-use Rattle.status_table.specs.Place.{LegAt, leg_at}
 use Rattle.status_table.specs.Row.{Row, row, next_step, step_done}
 
 -- A condition names no status function: there is none, or its text is read as one that names none.

@@ -1,11 +1,7 @@
 pub mod Admissions
-pub mod Ancestors
 pub mod Answers
 pub mod CallLaws
 pub mod Change
-pub mod Contexts
-pub mod Decisions
-pub mod Derived
 pub mod Ends
 pub mod Fault
 pub mod Grouped
@@ -16,8 +12,6 @@ pub mod Lawful
 pub mod Laws
 pub mod Members
 pub mod Moves
-pub mod Numbered
-pub mod Place
 pub mod Play
 pub mod Rank
 pub mod Row

@@ -1,6 +1,7 @@
 -- What a clerk may do on a board, whether all is done, and whether nothing can go on.
 use Rattle.std.specs.Prelude.{ℕ, zero, suc, ◌&&◌, ◌++◌, Bool, true, false, not, List, [], ◌∷◌, length, map, filter, Ok, Err}
 use Rattle.std.specs.List.{list_all, list_any}
+use Rattle.board_decisions.specs.Derived.{is_closed}
 use Rattle.flow_model.specs.Numbers.{board_jobs, board_legs}
 use Rattle.flow_model.specs.declared.plan.Plan.{Plan}
 use Rattle.flow_model.specs.declared.board.Board.{Board}
@@ -8,7 +9,6 @@ use Rattle.flow_model.specs.declared.board.LegState.{LegState}
 use Rattle.flow_model.specs.declared.board.LegState.TheVariants as leg_state
 use Rattle.flow_model.specs.declared.event.Event.{Event}
 use Rattle.flow_model.specs.declared.event.Event.TheVariants as event
-use Rattle.status_table.specs.Derived.{is_closed}
 use Rattle.status_table.specs.Row.{Row, row}
 
 -- the numbers below n, ascending

@@ -1,5 +1,7 @@
 -- What values of the code stand for.
 use Rattle.std.specs.Prelude.{ℕ, Bool, false, List, [], ◌∷◌, ◌++◌, Option, Some, None, Result}
+use Rattle.board_decisions.specs.Numbered.{leg_there}
+use Rattle.board_decisions.specs.Place.{◌>>=◌, LegAt, leg_place}
 use Rattle.flow_model.specs.declared.board.Board.{Board}
 use Rattle.flow_model.specs.declared.board.DoneStep.{DoneStep}
 use Rattle.flow_model.specs.declared.board.Leg.{Leg}
@@ -9,53 +11,21 @@ use Rattle.flow_model.specs.declared.event.Member.{Member}
 use Rattle.flow_model.specs.declared.event.Member.TheVariants as member
 use Rattle.flow_model.specs.declared.event.Outcome.{Outcome}
 use Rattle.flow_model.specs.declared.event.Outcome.TheVariants as outcome
-use Rattle.status_table.specs.Numbered.{leg_there}
-use Rattle.status_table.specs.Place.{◌>>=◌, RunAt, JobAt, LegAt, leg_place}
 use Rattle.status_table.specs.Answers.{DecidesAs}
 use Rattle.status_table.specs.Row.{Beginning, calls, skips, faults, outputs_of, ending}
 use Rattle.status_table.specs.Change.{with_numbered_leg}
 use Rattle.status_table.specs.Groups.{Standing, holds_name, waits_name, closed}
 use Rattle.status_table.specs.declared.fault.EventFault.{EventFault}
-use Rattle.status_table.specs.Contexts.{run_values, job_values}
-use Rattle.status_table.specs.Decisions.{leg_values}
 use Rattle.status_table.specs.declared.events.Begun.{Begun}
 use Rattle.status_table.specs.declared.events.Begun.TheVariants as begun
-use Rattle.text_values.specs.Values.{Values}
 use Rattle.status_table.specs.declared.members.Role.{Role}
 use Rattle.status_table.specs.declared.members.Role.TheVariants as role
-use Rattle.status_table.specs.declared.place.SeenRun.{SeenRun}
-use Rattle.status_table.specs.declared.place.SeenJob.{SeenJob}
-use Rattle.status_table.specs.declared.place.SeenLeg.{SeenLeg}
-
--- a run with its plan
-abbrev pub run_seen : SeenRun → RunAt
-run_seen x = record { board = x.board.now; plan = x.plan.now; run = x.run.now }
-
--- a job with its plan and run
-abbrev pub job_seen : SeenJob → JobAt
-job_seen x = record { board = x.board.now; place = x.place; run_plan = x.run_plan.now; plan = x.plan.now; run = x.run.now; job = x.job.now }
-
--- a leg with its job and run
-abbrev pub leg_seen : SeenLeg → LegAt
-leg_seen x = record { board = x.board.now; place = x.place; run_plan = x.run_plan.now; job_plan = x.job_plan.now; run = x.run.now; job = x.job.now; leg = x.leg.now }
 
 -- what beginning a step comes to
 abbrev pub begun_seen : Begun → Beginning
 begun_seen (begun.Call call) = calls call
 begun_seen begun.Skips = skips
 begun_seen (begun.Faults fault) = faults fault
-
--- what the texts of a run see
-abbrev pub run_scene : SeenRun → Values
-run_scene x = run_values x.plan.now
-
--- what the texts of a job see
-abbrev pub job_scene : SeenJob → Values
-job_scene x = job_values (job_seen x)
-
--- what the texts of a leg see
-abbrev pub leg_scene : SeenLeg → Values
-leg_scene x = leg_values (leg_seen x)
 
 -- an outcome and a conclusion, with the outputs of the answer
 abbrev pub ended_step : Outcome × Outcome → Answer → DoneStep

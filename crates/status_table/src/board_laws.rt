@@ -16,7 +16,8 @@ use flow_model::laws::rules_hold;
 /// no leg waits for its own run; no more legs of a job are under way than it may have; and a leg that is not Fresh is of
 /// an Open job, whose needs have ended.
 pub fn legal_lists_are_lawful()
-    ensures { (p : Plan) → IsPlan p → (es : List Entry) (b : Board) → after p es ≡ Some b → Lawful p b }
+    ensures { (p : Plan) → IsPlan p → (es : List Entry) (b : Board)
+        → after p es ≡ Some b → Lawful p b }
 {
     rules_hold();
 }
@@ -32,7 +33,8 @@ pub fn what_has_ended_stays()
 /// A legal list has at most 2,113,728 entries: 3 for each of 64 runs, 1 for each of 4,096 jobs, and 515 for each of
 /// 4,096 legs.
 pub fn legal_lists_are_short()
-    ensures { (p : Plan) → IsPlan p → (es : List Entry) (b : Board) → after p es ≡ Some b → length es ≤ 2113728 }
+    ensures { (p : Plan) → IsPlan p → (es : List Entry) (b : Board)
+        → after p es ≡ Some b → length es ≤ 2113728 }
 {
     rules_hold();
 }

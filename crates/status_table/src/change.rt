@@ -4,7 +4,7 @@ ghost use Rattle.std.specs.Prelude.{◌≡◌, OnOk, OnErr};
 ghost use Rattle.status_table.specs.Change.{with_run};
 ghost use Rattle.status_table.specs.Row as row;
 
-use crate::place::{JobPlace, LegPlace};
+use board_decisions::place::{JobPlace, LegPlace};
 use flow_model::{Board, DoneStep, JobState, LegState, Mapping, RunState, Text};
 use std::alloc::AllocError;
 

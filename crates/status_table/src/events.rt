@@ -4,30 +4,31 @@
 
 ghost use Rattle.std.specs.Prelude.{◌≡◌, [], Bool, Option, Result, Ok, IfOk};
 ghost use Rattle.std.specs.Option.{option_copied};
-ghost use Rattle.status_table.specs.Ancestors.{StandsAfterNeeds};
-ghost use Rattle.status_table.specs.Answers.{Answers, Decides, DecidesAs};
-ghost use Rattle.status_table.specs.InPlay.{InPlay};
-ghost use Rattle.status_table.specs.Row as spec;
+ghost use Rattle.board_decisions.specs.Ancestors.{StandsAfterNeeds};
+ghost use Rattle.board_decisions.specs.Seen.{job_seen, leg_scene, leg_seen};
 ghost use Rattle.expr_value.specs.Answer.{Gives};
 ghost use Rattle.flow_model.specs.declared.reply.StepCall.{StepCall as StepCallOf};
 ghost use Rattle.flow_model.specs.declared.reply.ValueFault.{ValueFault as ValueFaultOf};
-ghost use Rattle.status_table.specs.Seen.{begun_seen, DecidesEnding, job_seen, leg_scene, leg_seen};
-ghost use Rattle.text_values.specs.Known.{IsKnownOf, known_env};
+ghost use Rattle.status_table.specs.Answers.{Answers, Decides, DecidesAs};
+ghost use Rattle.status_table.specs.InPlay.{InPlay};
+ghost use Rattle.status_table.specs.Row as spec;
+ghost use Rattle.status_table.specs.Seen.{begun_seen, DecidesEnding};
 ghost use Rattle.status_table.specs.Shape.{HasFewLegs};
+ghost use Rattle.text_values.specs.Known.{IsKnownOf, known_env};
 
-use crate::ancestors::job_status;
 use crate::change::{add_step, set_ended, set_job_state, set_leg_state};
-use crate::decisions::{
-    is_stopping, job_condition, job_tolerates, leg_entrance, leg_outputs, leg_result, run_entrance,
-    step_decision, step_tolerates,
-};
-use crate::derived::{
-    is_closed, is_failure, is_full, is_untaken, jobs_have_ended, needs_have_ended, run_result,
-};
 use crate::fault::EventFault;
 use crate::groups::{enter_leg, enter_run, moved, next_after_leg, next_after_run, told};
 use crate::members::{close_run, drop_leg, pass_on, stop_run};
-use crate::place::{SeenJob, SeenLeg, SeenRun, find_job, find_leg, find_run};
+use board_decisions::ancestors::job_status;
+use board_decisions::decisions::{
+    is_stopping, job_condition, job_tolerates, leg_entrance, leg_outputs, leg_result, run_entrance,
+    step_decision, step_tolerates,
+};
+use board_decisions::derived::{
+    is_closed, is_failure, is_full, is_untaken, jobs_have_ended, needs_have_ended, run_result,
+};
+use board_decisions::place::{SeenJob, SeenLeg, SeenRun, find_job, find_leg, find_run};
 use flow_model::{
     Answer, Board, DoneStep, JobState, LegState, Mapping, Member, Outcome, Plan, Reply, RunState,
     StepCall, StepPlan, Text, ValueFault, What,

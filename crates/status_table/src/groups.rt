@@ -3,20 +3,20 @@
 //! Memory is asked for first; what comes after it changes the board in place.
 
 ghost use Rattle.std.specs.Prelude.{◌≡◌, Ok, Option, Result};
+ghost use Rattle.board_decisions.specs.Place.{LegAt};
+ghost use Rattle.board_decisions.specs.declared.entrance.Entrance.{Entrance as EntranceOf};
 ghost use Rattle.expr_value.specs.Answer.{Gives};
 ghost use Rattle.flow_model.specs.declared.reply.ValueFault.{ValueFault as ValueFaultOf};
 ghost use Rattle.status_table.specs.Answers.{Answers};
 ghost use Rattle.status_table.specs.Groups as spec;
-ghost use Rattle.status_table.specs.Place.{LegAt};
 ghost use Rattle.status_table.specs.Row.{leg_enters, run_enters};
-ghost use Rattle.status_table.specs.declared.entrance.Entrance.{Entrance as EntranceOf};
 ghost use Rattle.status_table.specs.Shape.{HasFewLegs};
 
-use crate::entrance::Entrance;
 use crate::fault::EventFault;
 use crate::members::{
     Role, admit, close_run, delay, drop_leg, find_member, note_end, pass_on, put_out, stop,
 };
+use board_decisions::entrance::Entrance;
 use flow_model::{
     Board, Leg, LegState, Member, Outcome, Reply, Run, RunState, Text, ValueFault, What,
 };
@@ -82,10 +82,7 @@ fn queue(
     holder: Member,
     waited: Option<Member>,
 ) -> Result<Reply, EventFault>
-    ensures { Answers (Ok (
-      spec.stopped (spec.displaced (spec.waits board.old group.name who) waited) group.cancel holder,
-      spec.told None waited (spec.stop_told group.cancel holder),
-    )) board.old result board.new }
+    ensures { Answers (Ok (spec.queued board.old who group holder waited)) board.old result board.new }
 {
     note_end(board, waited)?;
     let cancel = group.cancel;
@@ -104,7 +101,8 @@ fn enter_held(
     held: Option<Member>,
     waited: Option<Member>,
 ) -> Result<Reply, EventFault>
-    ensures { Answers (Ok (spec.enters_held board.old who own group held waited)) board.old result board.new }
+    ensures { Answers (Ok (spec.enters_held board.old who own group held waited))
+        board.old result board.new }
 {
     let Some(holder) = held else {
         admit(board, Some(group.name), who);

@@ -1,16 +1,16 @@
 //! Laws of the table, each the contract of a function that does nothing.
 
 ghost use Rattle.std.specs.Prelude.{◌≡◌, ℕ, List, Some};
+ghost use Rattle.board_decisions.specs.Ancestors.{SaysOf};
+ghost use Rattle.board_decisions.specs.Derived.{job_status};
+ghost use Rattle.board_decisions.specs.Numbered.{HasAsMany, IsNumberedIn, JobsAreNumbered, LegsAreNumbered};
+ghost use Rattle.board_decisions.specs.Place.{JobAt, job_at};
 ghost use Rattle.flow_model.specs.declared.board.Board.{Board};
 ghost use Rattle.flow_model.specs.declared.event.Entry.{Entry};
 ghost use Rattle.flow_model.specs.declared.plan.Plan.{Plan};
-ghost use Rattle.status_table.specs.Ancestors.{SaysOf};
-ghost use Rattle.status_table.specs.Derived.{job_status};
 ghost use Rattle.status_table.specs.Ends.{EndOnce};
 ghost use Rattle.status_table.specs.InPlay.{InPlay};
 ghost use Rattle.status_table.specs.Laws.{NoCallAfterFailure, OnlyFailuresArePassedOver};
-ghost use Rattle.status_table.specs.Numbered.{HasAsMany, IsNumberedIn, JobsAreNumbered, LegsAreNumbered};
-ghost use Rattle.status_table.specs.Place.{JobAt, job_at};
 ghost use Rattle.status_table.specs.Row.{first_of};
 ghost use Rattle.status_table.specs.Runs.{after};
 ghost use Rattle.status_table.specs.Shape.{HasShape};
@@ -36,7 +36,8 @@ pub fn legal_lists_keep_order()
 /// The status by which a job is judged says how its ancestors ended: the jobs that it needs, and their ancestors.
 pub fn statuses_tell_of_ancestors()
     ensures { (p : Plan) (b : Board) (j : ℕ) (at : JobAt)
-        → InPlay p b → job_at p b j ≡ Some at → SaysOf (first_of j at) at (job_status (first_of j at) at) }
+        → InPlay p b → job_at p b j ≡ Some at
+        → SaysOf (first_of j at) at (job_status (first_of j at) at) }
 {}
 
 /// After a step of a leg that counts as a failure, a step whose condition names no status function is never in a call.

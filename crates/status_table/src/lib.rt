@@ -4,24 +4,20 @@
 //! what is replied, and when it is refused. The trait `Table` promises that a board answers each event by its row, that
 //! a refusal changes nothing, and that the plan was accepted and the board has its shape; `PlainBoard` is the plain
 //! body of it, and `run_entries` plays a list of entries on any table, up to the first that is refused. `laws` and
-//! `board_laws` have what holds of every legal list. What a text of the plan sees and decides is in `specs/Contexts.antt`
-//! and `specs/Decisions.antt`, over `text_values`; who holds a concurrency group, who waits for it, and what comes of
-//! entering and leaving one, in `specs/Groups.antt`; what a clerk may do, in `specs/Moves.antt`; what is true of each board
-//! in play, in `specs/Lawful.antt`.
-//! `call_laws` has what holds of each call that a step makes, and `admission_laws` that a board shows what the map of
-//! `group_admission` keeps.
+//! `board_laws` have what holds of every legal list. Who holds a concurrency group, who waits for it, and what comes of
+//! entering and leaving one, is in `specs/Groups.antt`; what a clerk may do, in `specs/Moves.antt`; what is true of each
+//! board in play, in `specs/Lawful.antt`. `call_laws` has what holds of each call that a step makes, and
+//! `admission_laws` that a board shows what the map of `group_admission` keeps.
+//!
+//! What stands at a number, what follows from a board, and what the texts of the plan decide are words of
+//! `board_decisions` (`Place`, `Derived`, `Ancestors`, `Decisions`), on which the crate stands, with `flow_model` below it.
 
 #![tactic(auto)]
 
 pub mod admission_laws;
-mod ancestors;
 pub mod board_laws;
 pub mod call_laws;
 mod change;
-mod contexts;
-mod decisions;
-mod derived;
-pub mod entrance;
 mod events;
 pub mod fault;
 mod groups;
@@ -29,10 +25,8 @@ pub mod laws;
 mod members;
 pub mod moves;
 mod new_board;
-pub mod place;
 pub mod plain_board;
 pub mod runs;
-mod scene;
 pub mod table;
 
 pub use fault::EventFault;

@@ -2,16 +2,16 @@
 
 ghost use Rattle.std.specs.Prelude.{◌≡◌, true, OnOk, OnErr};
 ghost use Rattle.std.specs.Option.{option_copied};
+ghost use Rattle.board_decisions.specs.Numbered.{leg_there as leg_there_of};
 ghost use Rattle.flow_model.specs.Numbers.{board_legs};
-ghost use Rattle.status_table.specs.Groups as spec;
 ghost use Rattle.flow_model.specs.declared.event.Member.TheVariants as member;
+ghost use Rattle.status_table.specs.Groups as spec;
 ghost use Rattle.status_table.specs.Change.{with_numbered_leg};
-ghost use Rattle.status_table.specs.Numbered.{leg_there as leg_there_of};
 ghost use Rattle.status_table.specs.Seen.{has_role, noted, numbered_leg as numbered_leg_of, put_out as put_out_of};
 ghost use Rattle.status_table.specs.Shape.{HasFewLegs};
 
 use crate::change::{set_leg_state, set_run_state};
-use crate::place::{LegPlace, find_leg_place};
+use board_decisions::place::{LegPlace, find_leg_place};
 use flow_model::{Board, Leg, LegState, Member, Outcome, Run, RunState, Text};
 use std::alloc::AllocError;
 
@@ -67,7 +67,8 @@ fn has_leg_role(leg: &Leg, role: Role, name: &str) -> bool
 
 /// The first run that has a role at a name.
 fn find_run(runs: &[Run], role: Role, name: &str) -> Option<u64>
-    ensures { result ≡ spec.first_place 0 (λ run. has_role role name.now (spec.run_standing run)) runs.now }
+    ensures { result ≡ spec.first_place 0 (λ run. has_role role name.now (spec.run_standing run))
+        runs.now }
 {
     for (place, run) in runs.iter().enumerate() {
         if has_run_role(run, role, name) {

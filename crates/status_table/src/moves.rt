@@ -6,10 +6,10 @@ ghost use Rattle.flow_model.specs.declared.event.Event.TheVariants as event;
 ghost use Rattle.status_table.specs.Kinds as spec;
 ghost use Rattle.status_table.specs.Moves as rule;
 
-use crate::decisions::is_stopping;
-use crate::derived::{is_full, jobs_have_ended, needs_have_ended};
 use crate::events::{may_ask, may_drop};
-use crate::place::{find_job, find_leg, find_run};
+use board_decisions::decisions::is_stopping;
+use board_decisions::derived::{is_full, jobs_have_ended, needs_have_ended};
+use board_decisions::place::{find_job, find_leg, find_run};
 use flow_model::{Board, Event, Job, JobState, Plan, Run, RunState};
 use std::alloc::{AllocError, Global};
 use text_values::Known;
@@ -124,7 +124,8 @@ fn accepts(
     kind: Kind,
     number: u64,
 ) -> Result<bool, AllocError>
-    ensures { IfOk result (λ yes. yes ≡ rule.accepts plan.now board.now (spec.event_of kind number)) }
+    ensures { IfOk result
+        (λ yes. yes ≡ rule.accepts plan.now board.now (spec.event_of kind number)) }
 {
     match kind {
         Kind::Close => Ok(closes(plan, board, number)),

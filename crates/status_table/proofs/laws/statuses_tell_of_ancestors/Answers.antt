@@ -1,5 +1,5 @@
 use Rattle.status_table.specs.Row.{first_of}
-use Rattle.status_table.proofs.Backwards.{status_says}
+use Rattle.board_decisions.proofs.Backwards.{status_says}
 use Rattle.status_table.proofs.Sound.{stands_after_needs}
 use Rattle.status_table.proofs.laws.statuses_tell_of_ancestors.Goals as goal
 

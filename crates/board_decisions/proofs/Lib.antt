@@ -1,0 +1,5 @@
+pub mod Backwards
+pub mod Lists
+pub mod Maps
+pub mod Overlays
+pub mod Sights

@@ -1,0 +1,73 @@
+-- What is laid over one item after another.
+use Rattle.std.proofs.Common.{◌≡◌, ℕ, zero, suc, ◌+◌, List, [], ◌∷◌, Option, Some, None, map, drop, slice_get, length, refl, ap, ◌∙◌, ◌≤◌, add-one, arith}
+use Rattle.std.specs.List.{zip, filter_map, cons_option}
+use Rattle.board_decisions.specs.Contexts.{overlaid, step_pair, planned_pair}
+use Rattle.flow_model.specs.declared.board.DoneStep.{DoneStep}
+use Rattle.flow_model.specs.declared.plan.StepPlan.{StepPlan}
+use Rattle.flow_model.specs.Plain.{Plain}
+use Rattle.text_values.specs.Env.{laid_over}
+use Rattle.text_values.specs.Values.{Env}
+
+-- levels that some items may have, one item and then the others
+pub overlaid_next : {X A : Type 0} (level : A → Env) (f : X → Option A) (x : X) (xs : List X) (made : Env)
+    → overlaid (map level (filter_map f (x ∷ xs))) made ≡ overlaid (map level (filter_map f xs)) (overlaid (map level (filter_map f (x ∷ []))) made)
+overlaid_next {X} {A} level f x xs made = by (f x)
+  where
+    by : (o : Option A) → overlaid (map level (cons_option o (filter_map f xs))) made ≡ overlaid (map level (filter_map f xs)) (overlaid (map level (cons_option o [])) made)
+    by None = refl
+    by (Some a) = refl
+
+one_laid : {V : Type 0} (o : Option (List ℕ × V)) (others made : List (List ℕ × V)) → laid_over (cons_option o others) made ≡ laid_over others (laid_over (cons_option o []) made)
+unfolding laid_over
+one_laid None others made = refl
+one_laid (Some p) others made = refl
+
+-- pairs that some items may have, one item and then the others
+pub laid_next : {X A V : Type 0} (pair : A → List ℕ × V) (f : X → Option A) (x : X) (xs : List X) (made : List (List ℕ × V))
+    → laid_over (map pair (filter_map f (x ∷ xs))) made ≡ laid_over (map pair (filter_map f xs)) (laid_over (map pair (filter_map f (x ∷ []))) made)
+unfolding laid_over
+laid_next {X} {A} pair f x xs made = by (f x)
+  where
+    by : (o : Option A) → laid_over (map pair (cons_option o (filter_map f xs))) made ≡ laid_over (map pair (filter_map f xs)) (laid_over (map pair (cons_option o [])) made)
+    by None = refl
+    by (Some a) = refl
+
+-- nothing stands beside nothing
+pub zip_none : (xs : List StepPlan) → ◌≡◌ {A = List (StepPlan × DoneStep)} (zip xs []) []
+zip_none [] = refl
+zip_none (x ∷ xs) = refl
+
+abbrev no_plans : List StepPlan
+no_plans = []
+
+steps_after : (plans : List StepPlan) (i : ℕ) (done : DoneStep) (steps : List DoneStep) (made : List (List ℕ × Plain))
+    → laid_over (filter_map step_pair (zip (drop i plans) (done ∷ steps))) made
+    ≡ laid_over (filter_map step_pair (zip (drop (suc i) plans) steps)) (laid_over (cons_option (planned_pair (slice_get plans i) done) []) made)
+unfolding laid_over
+steps_after [] i done steps made = none i
+  where
+    none : (i : ℕ) → laid_over (filter_map step_pair (zip (drop i no_plans) (done ∷ steps))) made ≡ laid_over (filter_map step_pair (zip (drop (suc i) no_plans) steps)) (laid_over (cons_option (planned_pair (slice_get no_plans i) done) []) made)
+    none zero = refl
+    none (suc i) = refl
+steps_after (plan ∷ plans) zero done steps made = one_laid (planned_pair (Some plan) done) (filter_map step_pair (zip plans steps)) made
+steps_after (plan ∷ plans) (suc i) done steps made = steps_after plans i done steps made
+
+-- the same for steps that are done, beside their plans
+pub steps_next : (plans : List StepPlan) (i : ℕ) (done : DoneStep) (steps : List DoneStep) (made : List (List ℕ × Plain))
+    → laid_over (filter_map step_pair (zip (drop i plans) (done ∷ steps))) made
+    ≡ laid_over (filter_map step_pair (zip (drop (i + 1) plans) steps)) (laid_over (cons_option (planned_pair (slice_get plans i) done) []) made)
+steps_next plans i done steps made = rw add-one (steps_after plans i done steps made)
+
+past : {A : Type 0} (xs : List A) (i : ℕ) → length xs ≤ i → drop i xs ≡ []
+past [] zero h = refl
+past [] (suc i) h = refl
+past (x ∷ xs) zero h = absurd (omega (arith, h))
+past (x ∷ xs) (suc i) h = past xs i (omega (arith, h))
+
+-- where no step is left, nothing is laid over
+pub steps_end : (plans : List StepPlan) (i : ℕ) (steps : List DoneStep) (made : List (List ℕ × Plain)) → length steps ≤ i
+    → laid_over (filter_map step_pair (zip (drop i plans) (drop i steps))) made ≡ made
+unfolding laid_over
+steps_end plans i steps made h =
+    ap (λ (ss : List DoneStep). laid_over (filter_map step_pair (zip (drop i plans) ss)) made) (past steps i h)
+    ∙ ap (λ (ps : List (StepPlan × DoneStep)). laid_over (filter_map step_pair ps) made) (zip_none (drop i plans))

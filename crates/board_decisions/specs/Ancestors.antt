@@ -1,0 +1,67 @@
+-- The ancestors of a job, and what their results make of its status.
+use Rattle.std.specs.Prelude.{◌≡◌, ℕ, ◌+◌, ◌-◌, ◌<◌, ◌&&◌, ◌||◌, Bool, true, false, not, List, map, length, Some, slice_get, nat_le, nat_lt}
+use Rattle.std.specs.List.{list_all, list_any, Contains}
+use Rattle.board_decisions.specs.declared.ancestors.Wanted.{Wanted}
+use Rattle.board_decisions.specs.declared.ancestors.Wanted.TheVariants as wanted
+use Rattle.board_decisions.specs.Derived.{needs_at, holds_at, any_ancestor, is_success, is_failure, job_results}
+use Rattle.board_decisions.specs.Place.{JobAt}
+use Rattle.expr_value.specs.declared.status.Status.{Status}
+use Rattle.expr_value.specs.declared.status.Status.TheVariants as status
+use Rattle.flow_model.specs.declared.plan.JobPlan.{JobPlan}
+use Rattle.flow_model.specs.declared.event.Outcome.{Outcome}
+
+-- An ancestor of a job is a job that it needs, or an ancestor of one. Both are told by their places in the run, whose
+-- first job has the number `first`.
+pub data IsAncestor (first : ℕ) (jobs : List JobPlan) : ℕ → ℕ → Type 0 where
+  need : {a k : ℕ} → Contains (needs_at first jobs k) a → IsAncestor first jobs a k
+  of_need : {a n k : ℕ} → Contains (needs_at first jobs k) n → IsAncestor first jobs a n → IsAncestor first jobs a k
+
+-- some ancestor of a job has a result that passes a test
+abbrev pub SomeAncestor : ℕ → JobAt → (Outcome → Bool) → Type 0
+SomeAncestor first at test =
+    (a : ℕ) × (result : Outcome) × IsAncestor first at.run_plan.jobs a at.place.job
+    × (slice_get (job_results at.run) a ≡ Some result) × (test result ≡ true)
+
+-- each ancestor of a job has a result that passes a test
+abbrev pub EachAncestor : ℕ → JobAt → (Outcome → Bool) → Type 0
+EachAncestor first at test =
+    (a : ℕ) (result : Outcome) → IsAncestor first at.run_plan.jobs a at.place.job
+    → slice_get (job_results at.run) a ≡ Some result → test result ≡ true
+
+-- What a status says of a job: its run was told to stop; else an ancestor failed; else each ancestor succeeded; else some
+-- did not succeed, and none failed.
+abbrev pub SaysOf : ℕ → JobAt → Status → Type 0
+SaysOf first at status.Cancelled = at.run.stop ≡ true
+SaysOf first at status.Failure = (at.run.stop ≡ false) × SomeAncestor first at is_failure
+SaysOf first at status.Success = (at.run.stop ≡ false) × EachAncestor first at is_success
+SaysOf first at status.Other =
+    (at.run.stop ≡ false) × SomeAncestor first at (λ result. not (is_success result))
+    × EachAncestor first at (λ result. not (is_failure result))
+
+-- each job of a run needs only jobs that stand before it in the run
+abbrev pub NeedsPointBack : ℕ → List JobPlan → Type 0
+NeedsPointBack first jobs =
+    (k : ℕ) (job : JobPlan) → slice_get jobs k ≡ Some job
+    → list_all (λ need. nat_le first need && nat_lt need (first + k)) job.needs ≡ true
+
+-- a job stands in its run, each of whose jobs stands after all that it needs
+pub record StandsAfterNeeds (first : ℕ) (at : JobAt) : Type 0 where
+  pub back : NeedsPointBack first at.run_plan.jobs
+  pub within : at.place.job < length at.run_plan.jobs
+
+-- ---- the search for ancestors
+
+-- whether a result is one of those that are looked for: failures, or all but successes
+abbrev pub passes : Wanted → Outcome → Bool
+passes wanted.Failure result = is_failure result
+passes wanted.NotSuccess result = not (is_success result)
+
+-- whether a job needs one that passes a test, or that was marked
+abbrev pub any_need : ℕ → List Bool → List Bool → JobPlan → Bool
+any_need first tests marks job =
+    list_any (λ need. holds_at tests need || holds_at marks need) (map (λ need. need - first) job.needs)
+
+-- whether a job has an ancestor with a result that is looked for
+abbrev pub has_ancestor_with : ℕ → JobAt → Wanted → Bool
+has_ancestor_with first at wanted =
+    any_ancestor first at.run_plan.jobs (map (passes wanted) (job_results at.run)) at.place.job

@@ -1,0 +1,223 @@
+-- What the contexts are, seen from a job and from a leg in play (GitHub Docs, "Contexts reference").
+use Rattle.std.specs.Prelude.{ℕ, pos, ◌-◌, ◌==◌, ◌&&◌, List, [], ◌∷◌, map, length, codes, nat_le, Option, Some, None, slice_get, if◌then◌else◌}
+use Rattle.std.specs.List.{zip, filter_map}
+use Rattle.board_decisions.specs.Derived.{job_result}
+use Rattle.board_decisions.specs.Numbered.{leg_there}
+use Rattle.board_decisions.specs.Place.{◌>>=◌, JobAt, LegAt, leg_place}
+use Rattle.board_decisions.specs.declared.place.JobPlace.{JobPlace}
+use Rattle.board_decisions.specs.declared.place.LegPlace.{LegPlace}
+use Rattle.expr_reader.specs.declared.tree.Context.TheVariants as context
+use Rattle.flow_model.specs.Mapping.{with_pair}
+use Rattle.flow_model.specs.Plain.{Plain, text, truth, whole, members_of}
+use Rattle.flow_model.specs.Plain as plain
+use Rattle.flow_model.specs.declared.board.Board.{Board}
+use Rattle.flow_model.specs.declared.board.DoneStep.{DoneStep}
+use Rattle.flow_model.specs.declared.board.Leg.{Leg}
+use Rattle.flow_model.specs.declared.event.Outcome.{Outcome}
+use Rattle.flow_model.specs.declared.event.Outcome.TheVariants as outcome
+use Rattle.flow_model.specs.declared.plan.JobPlan.{JobPlan}
+use Rattle.flow_model.specs.declared.plan.RunPlan.{RunPlan}
+use Rattle.flow_model.specs.declared.plan.StepPlan.{StepPlan}
+use Rattle.text_values.specs.Env.{laid_over}
+use Rattle.text_values.specs.Values.{Values, Env, env_context}
+
+-- A map of these pairs.
+abbrev pub object : List (List ℕ × Plain) → Plain
+object pairs = plain.map (members_of pairs)
+
+-- The text of a result.
+abbrev pub result_name : Outcome → List ℕ
+result_name outcome.Success = codes "success"
+result_name outcome.Failure = codes "failure"
+result_name outcome.Cancelled = codes "cancelled"
+result_name outcome.Skipped = codes "skipped"
+
+-- The greatest whole number that stands for a count.
+abbrev pub greatest_count : ℕ
+greatest_count = 9007199254740991
+
+-- A count as a whole number.
+abbrev pub count : ℕ → Plain
+count n = whole (pos (if nat_le n greatest_count then n else greatest_count))
+
+-- ---- github
+
+-- The name of the event over what there is, where there is an event.
+abbrev pub with_event : Option (List ℕ) → List (List ℕ × Plain) → List (List ℕ × Plain)
+with_event None pairs = pairs
+with_event (Some event) pairs = with_pair (codes "event_name") (text event) pairs
+
+-- What the run was handed, with the workflow's name over it, and the event's where there is one.
+unfoldable pub github_value : RunPlan → Plain
+github_value plan = object (with_event plan.event (with_pair (codes "workflow") (text plan.flow) plan.roots.github))
+
+-- ---- needs
+
+-- The leg at a place, where it is one of the job.
+abbrev pub leg_of_job : Board → JobPlace → LegPlace → Option Leg
+leg_of_job b job place = if (place.run == job.run) && (place.job == job.job) then leg_there b place else None
+
+-- The leg with a number, where it is one of the job.
+abbrev pub job_leg : Board → JobPlace → ℕ → Option Leg
+job_leg b job l = leg_place b l >>= leg_of_job b job
+
+-- The legs of a job that are Ended, in the order in which they became so.
+abbrev pub ended_legs : Board → JobPlace → List Leg
+ended_legs b job = filter_map (job_leg b job) b.ends
+
+-- Levels of names and texts laid one over another, the last above all.
+abbrev pub overlaid : List Env → Env → Env
+overlaid [] below = below
+overlaid (level ∷ levels) below = overlaid levels (laid_over level below)
+
+-- The outputs of a job: those of its legs, one over another in the order in which the legs ended.
+unfoldable pub job_outputs : Board → JobPlace → Env
+job_outputs b job = overlaid (map (λ leg. leg.outputs) (ended_legs b job)) []
+
+-- The number of the first job of the run that a job is in.
+abbrev pub first_number : JobAt → ℕ
+first_number at = at.plan.number - at.place.job
+
+-- The job at a place of the run that a job is in.
+abbrev pub job_beside : JobAt → ℕ → Option JobAt
+job_beside at k = do
+  plan ← slice_get at.run_plan.jobs k
+  job ← slice_get at.run.jobs k
+  Some (record { board = at.board; place = record { run = at.place.run; job = k }; run_plan = at.run_plan; plan = plan; run = at.run; job = job })
+
+-- The job with a number that a job needs.
+abbrev pub needed_job : JobAt → ℕ → Option JobAt
+needed_job at need = job_beside at (need - first_number at)
+
+-- What is seen of a job that is needed: its outputs and its result.
+abbrev pub need_value : JobAt → Plain
+need_value need =
+    object ((codes "outputs", env_context (job_outputs need.board need.place)) ∷ (codes "result", text (result_name (job_result need.run need.job))) ∷ [])
+
+-- The same at the job's id.
+abbrev pub need_pair : JobAt → List ℕ × Plain
+need_pair need = (need.plan.id, need_value need)
+
+-- The jobs with these numbers, as far as there are such, over others.
+abbrev pub with_needs : JobAt → List ℕ → List (List ℕ × Plain) → List (List ℕ × Plain)
+with_needs at needs pairs = laid_over (map need_pair (filter_map (needed_job at) needs)) pairs
+
+-- The jobs that a job needs itself, by their ids.
+unfoldable pub needs_value : JobAt → Plain
+needs_value at = object (with_needs at at.plan.needs [])
+
+-- ---- what a run sees
+
+-- The value of each context, seen from a run: what it was handed.
+unfoldable pub run_values : RunPlan → Values
+run_values plan context.Github = github_value plan
+run_values plan context.Inputs = object plan.roots.inputs
+run_values plan context.Vars = object plan.roots.vars
+run_values plan context.Secrets = object plan.roots.secrets
+run_values plan context.Needs = object []
+run_values plan context.Env = object []
+run_values plan context.Job = object []
+run_values plan context.Jobs = object []
+run_values plan context.Steps = object []
+run_values plan context.Runner = object []
+run_values plan context.Strategy = object []
+run_values plan context.Matrix = object []
+
+-- ---- what a job sees
+
+-- The value of each context, seen from a job.
+unfoldable pub job_values : JobAt → Values
+job_values at context.Needs = needs_value at
+job_values at context.Github = run_values at.run_plan context.Github
+job_values at context.Inputs = run_values at.run_plan context.Inputs
+job_values at context.Vars = run_values at.run_plan context.Vars
+job_values at context.Secrets = run_values at.run_plan context.Secrets
+job_values at context.Env = run_values at.run_plan context.Env
+job_values at context.Job = run_values at.run_plan context.Job
+job_values at context.Jobs = run_values at.run_plan context.Jobs
+job_values at context.Steps = run_values at.run_plan context.Steps
+job_values at context.Runner = run_values at.run_plan context.Runner
+job_values at context.Strategy = run_values at.run_plan context.Strategy
+job_values at context.Matrix = run_values at.run_plan context.Matrix
+
+-- ---- what a leg sees
+
+-- The job of a leg.
+abbrev pub job_of : LegAt → JobAt
+job_of at =
+    record { board = at.board; place = record { run = at.place.run; job = at.place.job }; run_plan = at.run_plan; plan = at.job_plan; run = at.run; job = at.job }
+
+-- How many legs of a job may be under way at once: all where it says nothing.
+abbrev pub most_at_once : JobPlan → ℕ
+most_at_once plan = most plan.max_parallel
+  where
+    most : Option ℕ → ℕ
+    most None = length plan.legs
+    most (Some limit) = limit
+
+-- Where a leg stands among those of its job, and how these may be played.
+unfoldable pub strategy_value : LegAt → Plain
+strategy_value at =
+    object (
+    (codes "fail-fast", truth at.job_plan.fail_fast)
+    ∷ (codes "job-index", count at.place.leg)
+    ∷ (codes "job-total", count (length at.job_plan.legs))
+    ∷ (codes "max-parallel", count (most_at_once at.job_plan))
+    ∷ []
+    )
+
+-- The pairs of a combination, where there is one.
+abbrev pub pairs_in : Option (List (List ℕ × Plain)) → List (List ℕ × Plain)
+pairs_in None = []
+pairs_in (Some pairs) = pairs
+
+-- The combination of a leg.
+unfoldable pub matrix_value : LegAt → Plain
+matrix_value at = object (pairs_in (slice_get at.job_plan.legs at.place.leg))
+
+-- How the job counts so far.
+abbrev pub job_value : Outcome → Plain
+job_value result = object ((codes "status", text (result_name result)) ∷ [])
+
+-- What is seen of a step that is done.
+abbrev pub done_value : DoneStep → Plain
+done_value done =
+    object (
+    (codes "conclusion", text (result_name done.conclusion))
+    ∷ (codes "outcome", text (result_name done.outcome))
+    ∷ (codes "outputs", env_context done.outputs)
+    ∷ []
+    )
+
+-- The same at the step's id, where it has one.
+abbrev pub id_pair : Option (List ℕ) → DoneStep → Option (List ℕ × Plain)
+id_pair None done = None
+id_pair (Some id) done = Some (id, done_value done)
+
+-- The same for a step that is done beside its plan.
+abbrev pub step_pair : StepPlan × DoneStep → Option (List ℕ × Plain)
+step_pair step = id_pair step.0.id step.1
+
+-- The same for a step that may have no plan.
+abbrev pub planned_pair : Option StepPlan → DoneStep → Option (List ℕ × Plain)
+planned_pair None done = None
+planned_pair (Some plan) done = id_pair plan.id done
+
+-- The steps of a leg that are done and have an id, by their ids.
+unfoldable pub steps_value : LegAt → Plain
+steps_value at = object (laid_over (filter_map step_pair (zip at.job_plan.steps at.leg.steps)) [])
+
+-- The value of each context, seen from a leg that counts so.
+unfoldable pub leg_values_by : Outcome → LegAt → Values
+leg_values_by result at context.Strategy = strategy_value at
+leg_values_by result at context.Matrix = matrix_value at
+leg_values_by result at context.Job = job_value result
+leg_values_by result at context.Steps = steps_value at
+leg_values_by result at context.Github = job_values (job_of at) context.Github
+leg_values_by result at context.Inputs = job_values (job_of at) context.Inputs
+leg_values_by result at context.Vars = job_values (job_of at) context.Vars
+leg_values_by result at context.Secrets = job_values (job_of at) context.Secrets
+leg_values_by result at context.Needs = job_values (job_of at) context.Needs
+leg_values_by result at context.Env = object []
+leg_values_by result at context.Jobs = object []
+leg_values_by result at context.Runner = object []

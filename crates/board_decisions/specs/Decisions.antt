@@ -1,0 +1,167 @@
+-- What is decided by the texts of a plan: conditions, environments, the texts of a call, flags, outputs and groups. The
+-- rows of the table say only what follows from it.
+use Rattle.std.specs.Prelude.{ℕ, ◌&&◌, ◌||◌, Bool, true, false, not, List, [], ◌∷◌, length, Option, Some, None, Result, Ok, Err, if◌then◌else◌}
+use Rattle.std.specs.List.{list_any}
+use Rattle.board_decisions.specs.Contexts.{run_values, job_values, job_of, leg_values_by}
+use Rattle.board_decisions.specs.Derived.{is_failure, has_failed}
+use Rattle.board_decisions.specs.Place.{RunAt, JobAt, LegAt}
+use Rattle.board_decisions.specs.declared.entrance.Entrance.{Entrance}
+use Rattle.expr_reader.specs.Fold.{fold}
+use Rattle.expr_value.specs.Context.{Contexts}
+use Rattle.expr_value.specs.declared.status.Status.{Status}
+use Rattle.expr_value.specs.declared.status.Status.TheVariants as status
+use Rattle.flow_model.specs.declared.event.Outcome.{Outcome}
+use Rattle.flow_model.specs.declared.event.Outcome.TheVariants as outcome
+use Rattle.flow_model.specs.declared.plan.Group.{Group}
+use Rattle.flow_model.specs.declared.plan.StepPlan.{StepPlan}
+use Rattle.flow_model.specs.declared.plan.Work.{Work}
+use Rattle.flow_model.specs.declared.plan.Work.TheVariants as work
+use Rattle.flow_model.specs.declared.reply.CallWork.{CallWork}
+use Rattle.flow_model.specs.declared.reply.CallWork.TheVariants as call_work
+use Rattle.flow_model.specs.declared.reply.StepCall.{StepCall}
+use Rattle.flow_model.specs.declared.reply.ValueFault.{ValueFault}
+use Rattle.text_values.specs.Env.{env_value, laid_over}
+use Rattle.text_values.specs.Outputs.{outputs_value}
+use Rattle.text_values.specs.Texts.{text_text, condition_value, flag_value}
+use Rattle.text_values.specs.Values.{Values, Env, contexts_at, with_env}
+use Rattle.text_values.specs.declared.place.Place.{Place}
+use Rattle.text_values.specs.declared.place.Place.TheVariants as place
+
+-- What follows from a value, unless there was a fault.
+abbrev pub then_value : {A B : Type 0} → Result A ValueFault → (A → Result B ValueFault) → Result B ValueFault
+then_value (Ok x) next = next x
+then_value (Err f) next = Err f
+
+-- ---- conditions of jobs, and the status of a leg
+
+-- The value of a job's condition under a status.
+unfoldable pub job_condition : JobAt → Status → Result Bool ValueFault
+job_condition at s = condition_value (contexts_at place.JobCondition (with_env [] (job_values at))) s at.plan.condition
+
+-- A condition that gives true; a fault does not.
+abbrev pub is_true : Result Bool ValueFault → Bool
+is_true (Ok b) = b
+is_true (Err fault) = false
+
+-- A leg is to stop whatever its job's condition where it was told to, or where its job fails fast and a leg of it has
+-- failed.
+abbrev pub stops_anyway : LegAt → Bool
+stops_anyway at = at.leg.stop || (at.job_plan.fail_fast && list_any (λ leg. has_failed leg.state) at.job.legs)
+
+-- A leg is to stop so; or where its run was told to and the job's condition does not give true as that of a cancelled
+-- one.
+abbrev pub is_stopping : LegAt → Bool
+is_stopping at = stops_anyway at || (at.run.stop && not (is_true (job_condition (job_of at) status.Cancelled)))
+
+-- How a leg counts so far: cancelled where it is to stop, else failure where a done step counts as one.
+abbrev pub leg_result : LegAt → Outcome
+leg_result at =
+    if is_stopping at then outcome.Cancelled
+    else (if list_any (λ step. is_failure step.conclusion) at.leg.steps then outcome.Failure else outcome.Success)
+
+-- A result as a status.
+abbrev pub status_of : Outcome → Status
+status_of outcome.Success = status.Success
+status_of outcome.Failure = status.Failure
+status_of outcome.Cancelled = status.Cancelled
+status_of outcome.Skipped = status.Other
+
+-- The status of a leg.
+abbrev pub leg_status : LegAt → Status
+leg_status at = status_of (leg_result at)
+
+-- The value of each context, seen from a leg.
+unfoldable pub leg_values : LegAt → Values
+leg_values at = leg_values_by (leg_result at) at
+
+-- The contexts that a place sees, seen from a leg, where `env` is these variables.
+abbrev pub seen_from : LegAt → Place → Env → Contexts
+seen_from at spot env = contexts_at spot (with_env env (leg_values at))
+
+-- ---- environments
+
+-- The variables of the workflow.
+unfoldable pub flow_env : LegAt → Result Env ValueFault
+flow_env at = env_value (seen_from at place.WorkflowEnv []) at.run_plan.env
+
+-- The variables of the workflow, and those of the job over them.
+unfoldable pub job_env : LegAt → Result Env ValueFault
+job_env at =
+    then_value (flow_env at) (λ below.
+    then_value (env_value (seen_from at place.JobEnv []) at.job_plan.env) (λ above. Ok (laid_over above below)))
+
+-- The same, and those of a step over them.
+unfoldable pub step_env : LegAt → StepPlan → Result Env ValueFault
+step_env at step =
+    then_value (job_env at) (λ below.
+    then_value (env_value (seen_from at place.StepEnv below) step.env) (λ above. Ok (laid_over above below)))
+
+-- The variables, and none where there is a fault.
+abbrev pub or_none : Result Env ValueFault → Env
+or_none (Ok env) = env
+or_none (Err f) = []
+
+-- ---- what beginning a step comes to
+
+-- The text of a working directory, where there is one.
+abbrev pub directory_value : Contexts → Option (List ℕ) → Result (Option (List ℕ)) ValueFault
+directory_value c None = Ok None
+directory_value c (Some dir) = then_value (text_text c dir) (λ bytes. Ok (Some bytes))
+
+-- What a call asks for: the script and then its directory, or the inputs of an action in the order of their names.
+unfoldable pub work_value : Contexts → Work → Result CallWork ValueFault
+work_value c (work.Run dir run shell) =
+    then_value (text_text c run) (λ script. then_value (directory_value c dir) (λ there. Ok (call_work.Script script shell there)))
+work_value c (work.Uses uses given) = then_value (env_value c given) (λ inputs. Ok (call_work.Uses uses inputs))
+
+-- The call of a step, whose variables are these.
+abbrev pub call_value : ℕ → LegAt → StepPlan → Env → Result (Option StepCall) ValueFault
+call_value l at step env =
+    then_value (work_value (seen_from at place.StepText env) step.work) (λ asked.
+    Ok (Some (record { leg = l; step = length at.leg.steps; work = asked; env = env })))
+
+-- A step is called where its condition holds, and else not.
+abbrev pub called_if : ℕ → LegAt → StepPlan → Env → Bool → Result (Option StepCall) ValueFault
+called_if l at step env true = call_value l at step env
+called_if l at step env false = Ok None
+
+-- The call of a step, or none where it is skipped: the variables first, then its condition with the status of the
+-- leg, and then the texts of the call. The first fault is the answer.
+unfoldable pub step_decision : ℕ → LegAt → StepPlan → Result (Option StepCall) ValueFault
+step_decision l at step =
+    then_value (step_env at step) (λ env.
+    then_value (condition_value (seen_from at place.StepCondition env) (leg_status at) step.condition) (called_if l at step env))
+
+-- ---- continue-on-error, and the outputs of a leg
+
+-- A failure of a step may be passed over. Where its variables have a fault, it sees none.
+unfoldable pub step_tolerates : LegAt → StepPlan → Bool
+step_tolerates at step = flag_value (seen_from at place.StepText (or_none (step_env at step))) step.tolerate
+
+-- A failure of a leg may be passed over.
+unfoldable pub job_tolerates : LegAt → Bool
+job_tolerates at = flag_value (seen_from at place.JobGroup []) at.job_plan.tolerate
+
+-- The outputs that a leg gives its job. Where its variables have a fault, they see none.
+unfoldable pub leg_outputs : LegAt → Env
+leg_outputs at = outputs_value (seen_from at place.StepEnv (or_none (job_env at))) at.job_plan.outputs
+
+-- ---- how a member enters its group
+
+-- A group by its name and its cancel flag. An empty name is no group.
+abbrev pub entrance : List ℕ → Bool → Option Entrance
+entrance [] cancel = None
+entrance (c ∷ cs) cancel = Some (record { name = c ∷ cs; cancel = cancel })
+
+-- How a group is entered, if there is one: by the name that its text gives, with A to Z as a to z, and its cancel flag.
+abbrev pub entrance_value : Contexts → Option Group → Result (Option Entrance) ValueFault
+entrance_value c None = Ok None
+entrance_value c (Some group) = then_value (text_text c group.name) (λ name. Ok (entrance (fold name) (flag_value c group.cancel)))
+
+-- How a run enters its workflow's group, if there is one.
+unfoldable pub run_entrance : RunAt → Result (Option Entrance) ValueFault
+run_entrance at = entrance_value (contexts_at place.WorkflowGroup (with_env [] (run_values at.plan))) at.plan.group
+
+-- How a leg enters its job's group, if there is one.
+unfoldable pub leg_entrance : LegAt → Result (Option Entrance) ValueFault
+leg_entrance at = entrance_value (seen_from at place.JobGroup []) at.job_plan.group

@@ -1,0 +1,7 @@
+pub mod Ancestors
+pub mod Contexts
+pub mod Decisions
+pub mod Derived
+pub mod Numbered
+pub mod Place
+pub mod Seen

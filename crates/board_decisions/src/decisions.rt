@@ -1,0 +1,473 @@
+//! What is decided by the texts of a plan: conditions, environments, the texts of a call, flags and outputs.
+
+ghost use Rattle.std.specs.Prelude.{◌≡◌, [], not, Some, IfOk, OnOk, string_bytes};
+ghost use Rattle.board_decisions.specs.Decisions as spec;
+ghost use Rattle.board_decisions.specs.Seen.{job_seen, leg_scene, leg_seen, run_seen};
+ghost use Rattle.expr_value.specs.Answer.{Gives};
+ghost use Rattle.expr_value.specs.declared.status.Status.TheVariants as status;
+ghost use Rattle.text_values.specs.Known.{IsKnownOf, known_env};
+ghost use Rattle.text_values.specs.Texts.{condition_value};
+ghost use Rattle.text_values.specs.Values.{contexts_at, with_env};
+ghost use Rattle.text_values.specs.declared.place.Place.TheVariants as place;
+
+use crate::contexts::job_of;
+use crate::derived::{is_any_failed, is_any_step_failed};
+use crate::entrance::Entrance;
+use crate::place::{SeenJob, SeenLeg, SeenRun};
+use expr_reader::fold;
+use expr_value::Status;
+use flow_model::{
+    CallWork, Duplicate, Group, Mapping, Outcome, StepCall, StepPlan, Text, ValueFault, Work,
+};
+use std::alloc::{AllocError, Global};
+use text_values::{
+    Known, Place, Scene, condition_at, env_at, flag_at, lay_over, outputs_at, text_at,
+};
+
+/// Whether a job's condition holds under a status.
+#[tactic(auto, unfolding(crate::specs::Decisions::job_condition))]
+pub fn job_condition(alloc: Global, at: &SeenJob, status: Status) -> Result<bool, ValueFault>
+    ensures { Gives (λ holds. holds) result (spec.job_condition (job_seen at.now) status) }
+{
+    let mut known = Known::empty(alloc);
+    let condition = &at.plan.condition;
+    condition_at(
+        alloc,
+        at,
+        &mut known,
+        Place::JobCondition,
+        condition,
+        status,
+    )
+}
+
+/// Whether a job's condition does not give true as that of a cancelled one; a fault does not. The scene may be the job
+/// or a leg of it.
+fn ends_cancelled<S: Scene>(
+    alloc: Global,
+    scene: &S,
+    known: &mut Known,
+    condition: &Option<Text>,
+) -> Result<bool, AllocError>
+    requires { IsKnownOf (S.values scene.now) known.old }
+    ensures value { IfOk result (λ ends. ends ≡ not (spec.is_true (condition_value
+        (contexts_at place.JobCondition (with_env (known_env known.old) (S.values scene.now)))
+        status.Cancelled condition.now))) }
+    ensures env { known_env known.new ≡ known_env known.old }
+    ensures known { IsKnownOf (S.values scene.now) known.new }
+{
+    match condition_at(
+        alloc,
+        scene,
+        known,
+        Place::JobCondition,
+        condition,
+        Status::Cancelled,
+    ) {
+        Ok(holds) => Ok(!holds),
+        Err(ValueFault::Memory) => Err(AllocError),
+        Err(
+            ValueFault::NotWhole
+            | ValueFault::NoIdentity
+            | ValueFault::BadFormat
+            | ValueFault::BadJson
+            | ValueFault::TooLarge,
+        ) => Ok(true),
+    }
+}
+
+/// Whether a leg is to stop whatever its job's condition.
+fn stops_anyway(at: &SeenLeg) -> bool
+    ensures { result ≡ spec.stops_anyway (leg_seen at.now) }
+{
+    at.leg.stop || (at.job_plan.fail_fast && is_any_failed(at.job.legs.as_slice()))
+}
+
+/// Whether a leg is to stop.
+pub fn is_stopping(alloc: Global, at: &SeenLeg, known: &mut Known) -> Result<bool, AllocError>
+    requires { IsKnownOf (leg_scene at.now) known.old }
+    ensures value { IfOk result (λ stops. stops ≡ spec.is_stopping (leg_seen at.now)) }
+    ensures env { known_env known.new ≡ known_env known.old }
+    ensures known { IsKnownOf (leg_scene at.now) known.new }
+{
+    if stops_anyway(at) {
+        return Ok(true);
+    }
+    if !at.run.stop {
+        return Ok(false);
+    }
+    ends_cancelled(alloc, at, known, &at.job_plan.condition)
+}
+
+/// The same where a text of the leg asks how the leg counts: what its job sees is made for this alone.
+fn is_stopping_itself(alloc: Global, at: &SeenLeg) -> Result<bool, AllocError>
+    ensures { IfOk result (λ stops. stops ≡ spec.is_stopping (leg_seen at.now)) }
+{
+    if stops_anyway(at) {
+        return Ok(true);
+    }
+    if !at.run.stop {
+        return Ok(false);
+    }
+    let job = job_of(at);
+    let mut known = Known::empty(alloc);
+    ends_cancelled(alloc, &job, &mut known, &at.job_plan.condition)
+}
+
+/// How a leg counts that is to stop, or is not.
+fn counted(at: &SeenLeg, stops: bool) -> Outcome
+    ensures { stops ≡ spec.is_stopping (leg_seen at.now)
+        → result ≡ spec.leg_result (leg_seen at.now) }
+{
+    if stops {
+        Outcome::Cancelled
+    } else if is_any_step_failed(at.leg.steps.as_slice()) {
+        Outcome::Failure
+    } else {
+        Outcome::Success
+    }
+}
+
+/// How a leg counts so far.
+pub fn leg_result(alloc: Global, at: &SeenLeg, known: &mut Known) -> Result<Outcome, AllocError>
+    requires { IsKnownOf (leg_scene at.now) known.old }
+    ensures value { IfOk result (λ how. how ≡ spec.leg_result (leg_seen at.now)) }
+    ensures env { known_env known.new ≡ known_env known.old }
+    ensures known { IsKnownOf (leg_scene at.now) known.new }
+{
+    let stops = is_stopping(alloc, at, known)?;
+    Ok(counted(at, stops))
+}
+
+/// How a leg counts so far, where its own texts ask for it.
+pub(crate) fn own_result(alloc: Global, at: &SeenLeg) -> Result<Outcome, AllocError>
+    ensures { IfOk result (λ how. how ≡ spec.leg_result (leg_seen at.now)) }
+{
+    let stops = is_stopping_itself(alloc, at)?;
+    Ok(counted(at, stops))
+}
+
+/// A result as a status.
+fn status_of(how: Outcome) -> Status
+    ensures { result ≡ spec.status_of how }
+{
+    match how {
+        Outcome::Success => Status::Success,
+        Outcome::Failure => Status::Failure,
+        Outcome::Cancelled => Status::Cancelled,
+        Outcome::Skipped => Status::Other,
+    }
+}
+
+/// Lets texts see the variables of the workflow and the job.
+#[tactic(auto, unfolding(crate::specs::Decisions::job_env, crate::specs::Decisions::flow_env))]
+fn know_job_env(alloc: Global, at: &SeenLeg, known: &mut Known) -> Result<(), ValueFault>
+    requires known { IsKnownOf (leg_scene at.now) known.old }
+    requires env { known_env known.old ≡ [] }
+    ensures value { Gives (λ _. known_env known.new) result (spec.job_env (leg_seen at.now)) }
+    ensures known { IsKnownOf (leg_scene at.now) known.new }
+{
+    let flow = env_at(alloc, at, known, Place::WorkflowEnv, &at.run_plan.env)?;
+    let job = env_at(alloc, at, known, Place::JobEnv, &at.job_plan.env)?;
+    known.set_env(lay_over(alloc, flow, &job)?);
+    Ok(())
+}
+
+/// Lets texts see the variables of the workflow, the job and a step.
+#[tactic(auto, unfolding(crate::specs::Decisions::step_env))]
+fn know_step_env(
+    alloc: Global,
+    at: &SeenLeg,
+    known: &mut Known,
+    step: &StepPlan,
+) -> Result<(), ValueFault>
+    requires known { IsKnownOf (leg_scene at.now) known.old }
+    requires env { known_env known.old ≡ [] }
+    ensures value { Gives (λ _. known_env known.new) result
+        (spec.step_env (leg_seen at.now) step.now) }
+    ensures known { IsKnownOf (leg_scene at.now) known.new }
+{
+    know_job_env(alloc, at, known)?;
+    let own = env_at(alloc, at, known, Place::StepEnv, &step.env)?;
+    known.lay_env(alloc, &own)?;
+    Ok(())
+}
+
+/// Lets texts see the variables of the workflow and the job, or none where there is a fault.
+fn know_job_env_or_none(alloc: Global, at: &SeenLeg, known: &mut Known) -> Result<(), AllocError>
+    requires { IsKnownOf (leg_scene at.now) known.old }
+    ensures ok { OnOk result
+        (known_env known.new ≡ spec.or_none (spec.job_env (leg_seen at.now))) }
+    ensures known { IsKnownOf (leg_scene at.now) known.new }
+{
+    known.set_env(Mapping::empty(alloc));
+    match know_job_env(alloc, at, known) {
+        Ok(()) => Ok(()),
+        Err(ValueFault::Memory) => Err(AllocError),
+        Err(
+            ValueFault::NotWhole
+            | ValueFault::NoIdentity
+            | ValueFault::BadFormat
+            | ValueFault::BadJson
+            | ValueFault::TooLarge,
+        ) => {
+            known.set_env(Mapping::empty(alloc));
+            Ok(())
+        },
+    }
+}
+
+/// Lets texts see the variables of the workflow, the job and a step, or none where there is a fault.
+fn know_step_env_or_none(
+    alloc: Global,
+    at: &SeenLeg,
+    known: &mut Known,
+    step: &StepPlan,
+) -> Result<(), AllocError>
+    requires { IsKnownOf (leg_scene at.now) known.old }
+    ensures ok { OnOk result
+        (known_env known.new ≡ spec.or_none (spec.step_env (leg_seen at.now) step.now)) }
+    ensures known { IsKnownOf (leg_scene at.now) known.new }
+{
+    known.set_env(Mapping::empty(alloc));
+    match know_step_env(alloc, at, known, step) {
+        Ok(()) => Ok(()),
+        Err(ValueFault::Memory) => Err(AllocError),
+        Err(
+            ValueFault::NotWhole
+            | ValueFault::NoIdentity
+            | ValueFault::BadFormat
+            | ValueFault::BadJson
+            | ValueFault::TooLarge,
+        ) => {
+            known.set_env(Mapping::empty(alloc));
+            Ok(())
+        },
+    }
+}
+
+/// The text of a working directory, where there is one.
+fn directory_value(
+    alloc: Global,
+    at: &SeenLeg,
+    known: &mut Known,
+    dir: &Option<Text>,
+) -> Result<Option<Text>, ValueFault>
+    requires { IsKnownOf (leg_scene at.now) known.old }
+    ensures value { Gives (λ dir. dir) result (spec.directory_value
+        (contexts_at place.StepText (with_env (known_env known.old) (leg_scene at.now)))
+        dir.now) }
+    ensures env { known_env known.new ≡ known_env known.old }
+    ensures known { IsKnownOf (leg_scene at.now) known.new }
+{
+    match dir {
+        Some(dir) => Ok(Some(text_at(alloc, at, known, Place::StepText, dir.as_str())?)),
+        None => Ok(None),
+    }
+}
+
+/// What the call of a step asks for.
+#[tactic(auto, unfolding(crate::specs::Decisions::work_value))]
+fn work_value(
+    alloc: Global,
+    at: &SeenLeg,
+    known: &mut Known,
+    work: &Work,
+) -> Result<CallWork, ValueFault>
+    requires { IsKnownOf (leg_scene at.now) known.old }
+    ensures value { Gives (λ asked. asked) result (spec.work_value
+        (contexts_at place.StepText (with_env (known_env known.old) (leg_scene at.now)))
+        work.now) }
+    ensures env { known_env known.new ≡ known_env known.old }
+    ensures known { IsKnownOf (leg_scene at.now) known.new }
+{
+    match work {
+        Work::Run { dir, run, shell } => {
+            let text = text_at(alloc, at, known, Place::StepText, run.as_str())?;
+            let dir = directory_value(alloc, at, known, dir)?;
+            Ok(CallWork::Script {
+                text,
+                shell: *shell,
+                dir,
+            })
+        },
+        Work::Uses { uses, given } => {
+            let given = env_at(alloc, at, known, Place::StepText, given)?;
+            let uses = uses.copy(alloc)?;
+            Ok(CallWork::Uses { uses, given })
+        },
+    }
+}
+
+/// The call of a step, whose variables are known.
+fn call_value(
+    alloc: Global,
+    number: u64,
+    at: &SeenLeg,
+    known: &mut Known,
+    step: &StepPlan,
+) -> Result<StepCall, ValueFault>
+    requires { IsKnownOf (leg_scene at.now) known.old }
+    ensures value { Gives (λ call. Some call) result
+        (spec.call_value number (leg_seen at.now) step.now (known_env known.old)) }
+    ensures known { IsKnownOf (leg_scene at.now) known.new }
+{
+    let work = work_value(alloc, at, known, &step.work)?;
+    let env = known.env().copy(alloc)?;
+    Ok(StepCall {
+        leg: number,
+        step: at.leg.steps.len() as u64,
+        work,
+        env,
+    })
+}
+
+/// Whether a step is called: whether its condition holds with the status of the leg.
+fn step_condition(
+    alloc: Global,
+    at: &SeenLeg,
+    known: &mut Known,
+    step: &StepPlan,
+) -> Result<bool, ValueFault>
+    requires { IsKnownOf (leg_scene at.now) known.old }
+    ensures value { Gives (λ holds. holds) result (condition_value
+        (contexts_at place.StepCondition (with_env (known_env known.old) (leg_scene at.now)))
+        (spec.leg_status (leg_seen at.now)) step.now.condition) }
+    ensures env { known_env known.new ≡ known_env known.old }
+    ensures known { IsKnownOf (leg_scene at.now) known.new }
+{
+    let status = status_of(leg_result(alloc, at, known)?);
+    condition_at(
+        alloc,
+        at,
+        known,
+        Place::StepCondition,
+        &step.condition,
+        status,
+    )
+}
+
+/// The call of a step, or none where it is skipped: its variables first, then its condition, then the texts of the
+/// call.
+#[tactic(auto, unfolding(crate::specs::Decisions::step_decision))]
+pub fn step_decision(
+    alloc: Global,
+    number: u64,
+    at: &SeenLeg,
+    known: &mut Known,
+    step: &StepPlan,
+) -> Result<Option<StepCall>, ValueFault>
+    requires known { IsKnownOf (leg_scene at.now) known.old }
+    requires env { known_env known.old ≡ [] }
+    ensures value { Gives (λ call. call) result
+        (spec.step_decision number (leg_seen at.now) step.now) }
+    ensures known { IsKnownOf (leg_scene at.now) known.new }
+{
+    know_step_env(alloc, at, known, step)?;
+    if !step_condition(alloc, at, known, step)? {
+        return Ok(None);
+    }
+    Ok(Some(call_value(alloc, number, at, known, step)?))
+}
+
+/// Whether a failure of a step may be passed over.
+#[tactic(auto, unfolding(crate::specs::Decisions::step_tolerates))]
+pub fn step_tolerates(
+    alloc: Global,
+    at: &SeenLeg,
+    known: &mut Known,
+    step: &StepPlan,
+) -> Result<bool, AllocError>
+    requires { IsKnownOf (leg_scene at.now) known.old }
+    ensures { IfOk result
+        (λ tolerates. tolerates ≡ spec.step_tolerates (leg_seen at.now) step.now) }
+{
+    know_step_env_or_none(alloc, at, known, step)?;
+    flag_at(alloc, at, known, Place::StepText, &step.tolerate)
+}
+
+/// Whether a failure of a leg may be passed over.
+#[tactic(auto, unfolding(crate::specs::Decisions::job_tolerates))]
+pub fn job_tolerates(alloc: Global, at: &SeenLeg, known: &mut Known) -> Result<bool, AllocError>
+    requires { IsKnownOf (leg_scene at.now) known.old }
+    ensures value { IfOk result
+        (λ tolerates. tolerates ≡ spec.job_tolerates (leg_seen at.now)) }
+    ensures known { IsKnownOf (leg_scene at.now) known.new }
+{
+    known.set_env(Mapping::empty(alloc));
+    flag_at(alloc, at, known, Place::JobGroup, &at.job_plan.tolerate)
+}
+
+/// The outputs that a leg gives its job.
+#[tactic(auto, unfolding(crate::specs::Decisions::leg_outputs))]
+pub fn leg_outputs(
+    alloc: Global,
+    at: &SeenLeg,
+    known: &mut Known,
+) -> Result<Mapping<Text>, AllocError>
+    requires { IsKnownOf (leg_scene at.now) known.old }
+    ensures { IfOk result (λ outputs. outputs ≡ spec.leg_outputs (leg_seen at.now)) }
+{
+    know_job_env_or_none(alloc, at, known)?;
+    outputs_at(alloc, at, known, Place::StepEnv, &at.job_plan.outputs)
+}
+
+/// A group by its name and its cancel flag; an empty name is no group.
+fn entrance(name: String, cancel: bool) -> Option<Entrance>
+    ensures { result ≡ spec.entrance (string_bytes name) cancel }
+{
+    if name.is_empty() {
+        return None;
+    }
+    Some(Entrance {
+        name: Text::new(name),
+        cancel,
+    })
+}
+
+/// How a group is entered, if there is one.
+fn entrance_at<S: Scene>(
+    alloc: Global,
+    scene: &S,
+    known: &mut Known,
+    place: Place,
+    group: &Option<Group>,
+) -> Result<Option<Entrance>, ValueFault>
+    requires { IsKnownOf (S.values scene.now) known.old }
+    ensures { Gives (λ group. group) result (spec.entrance_value
+        (contexts_at place (with_env (known_env known.old) (S.values scene.now)))
+        group.now) }
+{
+    let Some(group) = group else {
+        return Ok(None);
+    };
+    let text = text_at(alloc, scene, known, place, group.name.as_str())?;
+    let name = fold(alloc, text.as_str())?;
+    let cancel = flag_at(alloc, scene, known, place, &group.cancel)?;
+    Ok(entrance(name, cancel))
+}
+
+/// How a run enters its workflow's group, if there is one.
+#[tactic(auto, unfolding(crate::specs::Decisions::run_entrance))]
+pub fn run_entrance(alloc: Global, at: &SeenRun) -> Result<Option<Entrance>, ValueFault>
+    ensures { Gives (λ group. group) result (spec.run_entrance (run_seen at.now)) }
+{
+    let mut known = Known::empty(alloc);
+    let group = &at.plan.group;
+    entrance_at(alloc, at, &mut known, Place::WorkflowGroup, group)
+}
+
+/// How a leg enters its job's group, if there is one.
+#[tactic(auto, unfolding(crate::specs::Decisions::leg_entrance))]
+pub fn leg_entrance(
+    alloc: Global,
+    at: &SeenLeg,
+    known: &mut Known,
+) -> Result<Option<Entrance>, ValueFault>
+    requires { IsKnownOf (leg_scene at.now) known.old }
+    ensures { Gives (λ group. group) result (spec.leg_entrance (leg_seen at.now)) }
+{
+    known.set_env(Mapping::empty(alloc));
+    let group = &at.job_plan.group;
+    entrance_at(alloc, at, known, Place::JobGroup, group)
+}

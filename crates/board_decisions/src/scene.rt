@@ -1,0 +1,68 @@
+//! What the texts of a plan see: a run, a job or a leg in play.
+
+ghost use Rattle.std.specs.Prelude.{◌≡◌, IfOk};
+ghost use Rattle.board_decisions.specs.Decisions.{leg_values};
+ghost use Rattle.board_decisions.specs.Seen.{leg_seen};
+ghost use Rattle.flow_model.specs.Value.{view};
+
+use crate::contexts::{job_context, leg_context, run_context};
+use crate::decisions::own_result;
+use crate::place::{SeenJob, SeenLeg, SeenRun};
+use expr_reader::Context;
+use flow_model::{Node, Outcome, Value};
+use std::alloc::{AllocError, Global};
+use text_values::Scene;
+
+impl<'a> Scene for SeenRun<'a> {
+    ghost use Rattle.board_decisions.specs.Seen.{run_scene};
+
+    ghost values = { run_scene };
+
+    fn value(&self, alloc: Global, context: Context) -> Result<Value, AllocError> {
+        Ok(Value::new(run_context(alloc, self.plan, context)?))
+    }
+}
+
+impl<'a> Scene for SeenJob<'a> {
+    ghost use Rattle.board_decisions.specs.Seen.{job_scene};
+
+    ghost values = { job_scene };
+
+    fn value(&self, alloc: Global, context: Context) -> Result<Value, AllocError> {
+        Ok(Value::new(job_context(alloc, self, context)?))
+    }
+}
+
+impl<'a> Scene for SeenLeg<'a> {
+    ghost use Rattle.board_decisions.specs.Seen.{leg_scene};
+
+    ghost values = { leg_scene };
+
+    fn value(&self, alloc: Global, context: Context) -> Result<Value, AllocError> {
+        Ok(Value::new(seen_context(alloc, self, context)?))
+    }
+}
+
+/// The value of a context, seen from a leg.
+#[tactic(auto, unfolding(crate::specs::Decisions::leg_values, crate::specs::Contexts::leg_values_by))]
+fn seen_context(alloc: Global, at: &SeenLeg, context: Context) -> Result<Node, AllocError>
+    ensures { IfOk result (λ node. view node ≡ leg_values (leg_seen at.now) context) }
+{
+    match context {
+        Context::Job => {
+            let how = own_result(alloc, at)?;
+            leg_context(alloc, how, at, Context::Job)
+        },
+        Context::Github
+        | Context::Inputs
+        | Context::Vars
+        | Context::Secrets
+        | Context::Needs
+        | Context::Env
+        | Context::Jobs
+        | Context::Steps
+        | Context::Runner
+        | Context::Strategy
+        | Context::Matrix => leg_context(alloc, Outcome::Success, at, context),
+    }
+}

@@ -1,8 +1,0 @@
-use Rattle.std.proofs.Common.{◌≡◌, ◌++◌}
-use Rattle.flow_model.specs.Mapping.{pairs_of}
-use Rattle.flow_model.specs.Value.{viewed}
-use Rattle.status_table.proofs.contexts.copy_values.Given as goal
-
--- The values that were copied and those that are left are all.
-abbrev pub invariant-loop-name : goal.invariant-loop-name
-invariant-loop-name l = viewed l.made ++ pairs_of l.name-iterator ≡ l.values
