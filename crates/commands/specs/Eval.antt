@@ -20,7 +20,7 @@ use Rattle.flow_model.specs.declared.reply.ValueFault.TheVariants as value_fault
 use Rattle.commands.specs.Contexts.{file_contexts}
 use Rattle.commands.specs.Stream.{Stream, IsRead}
 use Rattle.commands.specs.Tell.{Answer, OrMemory, TellsOf, answer_seen}
-use Rattle.commands.specs.declared.contexts.FlowFault.{FlowFault}
+use Rattle.commands.specs.declared.contexts.ContextsFault.{ContextsFault}
 use Rattle.commands.specs.declared.trouble.Trouble.{Trouble}
 use Rattle.commands.specs.declared.trouble.Trouble.TheVariants.{NoExpression, NoValue, NoContexts, NoFlow, NotPlanned, NoPlan, NoEntry, Refused, Words, Io, Memory}
 
@@ -146,7 +146,7 @@ ContextsTrouble file bytes Io = ⊥
 ContextsTrouble file bytes Memory = Unit {0}
 
 -- That trouble with a file of that name, unless memory runs out.
-abbrev pub IsContextsTrouble : List ℕ → FlowFault → Trouble → Type 0
+abbrev pub IsContextsTrouble : List ℕ → ContextsFault → Trouble → Type 0
 IsContextsTrouble file fault (NoContexts name named) = (name ≡ file) × (named ≡ fault)
 IsContextsTrouble file fault (NoExpression other) = ⊥
 IsContextsTrouble file fault (NoValue other) = ⊥
@@ -165,8 +165,8 @@ HasContexts file bytes (Ok contexts) = file_contexts bytes ≡ Ok contexts
 HasContexts file bytes (Err trouble) = ContextsTrouble file bytes trouble
 
 -- The line of a value, or why there is none.
-abbrev pub Gives : List ℕ → List ℕ → List ℕ → Result (String Global) Trouble → Type 0
-Gives file expression bytes result = OrMemory (answer_seen result) (IsEvalAnswer file expression bytes (answer_seen result))
+abbrev pub GivesValue : List ℕ → List ℕ → List ℕ → Result (String Global) Trouble → Type 0
+GivesValue file expression bytes result = OrMemory (answer_seen result) (IsEvalAnswer file expression bytes (answer_seen result))
 
 -- A fault of an expression's text, or want of memory.
 abbrev pub expression_trouble : ExprFault → Trouble

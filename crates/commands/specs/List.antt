@@ -56,5 +56,5 @@ OneListing = (flows : List Content) (a b : List ℕ) → IsListAnswer flows (Ok 
 -- ---- what the code answers on the way; want of memory may always be answered
 
 -- The list of the jobs, or why there is none.
-abbrev pub Gives : List Content → Result (String Global) Trouble → Type 0
-Gives flows result = OrMemory (answer_seen result) (IsListAnswer flows (answer_seen result))
+abbrev pub GivesList : List Content → Result (String Global) Trouble → Type 0
+GivesList flows result = OrMemory (answer_seen result) (IsListAnswer flows (answer_seen result))

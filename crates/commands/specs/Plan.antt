@@ -39,10 +39,12 @@ PlanTells choice contexts contexts' flows flows' out out' err err' status =
 
 -- The same files come to one text at most.
 abbrev pub OnePlanText : Type 0
-OnePlanText = (choice : Choice) (contexts : Content) (flows : List Content) (a b : List ℕ) → AnswersPlan choice contexts flows (Ok a) → AnswersPlan choice contexts flows (Ok b) → a ≡ b
+OnePlanText =
+    (choice : Choice) (contexts : Content) (flows : List Content) (a b : List ℕ)
+    → AnswersPlan choice contexts flows (Ok a) → AnswersPlan choice contexts flows (Ok b) → a ≡ b
 
 -- ---- what the code answers on the way; want of memory may always be answered
 
 -- The line of a plan, or why there is none.
-abbrev pub Gives : Choice → Content → List Content → Result (String Global) Trouble → Type 0
-Gives choice contexts flows result = OrMemory (answer_seen result) (AnswersPlan choice contexts flows (answer_seen result))
+abbrev pub GivesPlan : Choice → Content → List Content → Result (String Global) Trouble → Type 0
+GivesPlan choice contexts flows result = OrMemory (answer_seen result) (AnswersPlan choice contexts flows (answer_seen result))

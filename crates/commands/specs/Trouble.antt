@@ -2,12 +2,12 @@
 use Rattle.std.specs.Prelude.{ℕ, ◌++◌, codes, decimal, List}
 use Rattle.expr_reader.specs.Faults.{fault_name, fault_place}
 use Rattle.flow_model.specs.Faults.{value_fault_name}
-use Rattle.flow_reader.specs.Fault.{flow_fault_name as workflow_fault_name}
+use Rattle.flow_reader.specs.Fault.{flow_fault_name}
 use Rattle.plan_assembler.specs.Faults.{plan_fault_text}
 use Rattle.plan_assembler.specs.declared.fault.PlanFault.{PlanFault}
 use Rattle.plan_text.specs.Fault.{load_fault_name}
 use Rattle.status_table.specs.Fault.{event_fault_name}
-use Rattle.commands.specs.Contexts.{flow_fault_name}
+use Rattle.commands.specs.Contexts.{contexts_fault_name}
 use Rattle.commands.specs.declared.stream.SourceFault.{SourceFault}
 use Rattle.commands.specs.declared.stream.SourceFault.TheVariants as source_fault
 use Rattle.commands.specs.declared.trouble.Trouble.{Trouble}
@@ -39,8 +39,8 @@ unread_line name place = codes "actrun: plan Expr " ++ (name ++ (codes " at " ++
 abbrev pub line : Trouble → List ℕ
 line (NoExpression fault) = placed_line (fault_name fault) (fault_place fault)
 line (NoValue fault) = name_line (codes "value") (value_fault_name fault)
-line (NoContexts file fault) = file_line file (flow_fault_name fault)
-line (NoFlow file fault) = file_line file (workflow_fault_name fault)
+line (NoContexts file fault) = file_line file (contexts_fault_name fault)
+line (NoFlow file fault) = file_line file (flow_fault_name fault)
 line (NotPlanned fault) = unplanned_line fault
 line (NoPlan fault) = name_line (codes "load") (load_fault_name fault)
 line (NoEntry n) = numbered_line n (codes "NotEntry")

@@ -17,7 +17,7 @@ use thiserror::Error;
 /// Why a file gives no contexts.
 #[derive(Clone, Copy, Debug, PartialEq, Eq, Error)]
 #[error("{}", self.name())]
-pub enum FlowFault {
+pub enum ContextsFault {
     /// It is no JSON.
     NotJson,
     /// A number in a context is no whole number, or out of range.
@@ -26,15 +26,15 @@ pub enum FlowFault {
     WrongShape,
 }
 
-impl FlowFault {
+impl ContextsFault {
     /// The fault's name, as it is printed.
     pub fn name(self) -> &'static str
-        ensures { result.now ≡ spec.flow_fault_name self }
+        ensures { result.now ≡ spec.contexts_fault_name self }
     {
         match self {
-            FlowFault::NotJson => "NotJson",
-            FlowFault::NotWhole => "NotWhole",
-            FlowFault::WrongShape => "WrongShape",
+            ContextsFault::NotJson => "NotJson",
+            ContextsFault::NotWhole => "NotWhole",
+            ContextsFault::WrongShape => "WrongShape",
         }
     }
 }
@@ -42,7 +42,7 @@ impl FlowFault {
 /// Why no contexts were read: a fault of the file, or want of memory.
 #[derive(Clone, Copy)]
 pub(crate) enum Unread {
-    Fault(FlowFault),
+    Fault(ContextsFault),
     Memory,
 }
 
@@ -87,7 +87,7 @@ fn within_depth(value: Value) -> Result<Value, Unread>
     if is_within(value.node(), 101) {
         Ok(value)
     } else {
-        Err(Unread::Fault(FlowFault::WrongShape))
+        Err(Unread::Fault(ContextsFault::WrongShape))
     }
 }
 
@@ -97,7 +97,7 @@ fn map_of(alloc: Global, json: &serde_json::Value) -> Result<Value, Unread>
 {
     match value_of(alloc, json) {
         Ok(value) => within_depth(value),
-        Err(JsonFault::NotWhole) => Err(Unread::Fault(FlowFault::NotWhole)),
+        Err(JsonFault::NotWhole) => Err(Unread::Fault(ContextsFault::NotWhole)),
         Err(JsonFault::Memory) => Err(Unread::Memory),
     }
 }
@@ -112,7 +112,7 @@ fn context_of(alloc: Global, json: &serde_json::Value) -> Result<Value, Unread>
         | serde_json::Value::Bool(_)
         | serde_json::Value::Number(_)
         | serde_json::Value::String(_)
-        | serde_json::Value::Array(_) => Err(Unread::Fault(FlowFault::WrongShape)),
+        | serde_json::Value::Array(_) => Err(Unread::Fault(ContextsFault::WrongShape)),
     }
 }
 
@@ -145,7 +145,7 @@ fn document_contexts(alloc: Global, json: &serde_json::Value) -> Result<Mapping<
         | serde_json::Value::Bool(_)
         | serde_json::Value::Number(_)
         | serde_json::Value::String(_)
-        | serde_json::Value::Array(_) => Err(Unread::Fault(FlowFault::WrongShape)),
+        | serde_json::Value::Array(_) => Err(Unread::Fault(ContextsFault::WrongShape)),
     }
 }
 
@@ -155,6 +155,6 @@ pub(crate) fn file_contexts(alloc: Global, bytes: &[u8]) -> Result<Mapping<Value
 {
     match read_json(alloc, bytes)? {
         Some(json) => document_contexts(alloc, &json),
-        None => Err(Unread::Fault(FlowFault::NotJson)),
+        None => Err(Unread::Fault(ContextsFault::NotJson)),
     }
 }

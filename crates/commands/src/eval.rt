@@ -7,7 +7,7 @@ ghost use Rattle.flow_model.specs.Json.{json_of as json_of_value};
 ghost use Rattle.commands.specs.Eval as spec;
 ghost use Rattle.commands.specs.Eval.{EvalTells};
 
-use crate::contexts::{FlowFault, Unread, file_contexts};
+use crate::contexts::{ContextsFault, Unread, file_contexts};
 use crate::stream::{Sink, Source};
 use crate::tell::{refuse_source, tell};
 use crate::trouble::Trouble;
@@ -75,7 +75,7 @@ fn line_of(alloc: Global, value: &Value) -> Result<String, AllocError>
 }
 
 /// That the file of that name gives no contexts.
-fn contexts_trouble(alloc: Global, file: &str, fault: FlowFault) -> Trouble
+fn contexts_trouble(alloc: Global, file: &str, fault: ContextsFault) -> Trouble
     ensures { spec.IsContextsTrouble file.now fault result }
 {
     match Text::from_str(alloc, file) {
@@ -97,7 +97,7 @@ fn contexts_of(alloc: Global, file: &str, bytes: &[u8]) -> Result<Mapping<Value>
 
 /// The line of the value of an expression over the contexts that the bytes of a file give.
 fn answer(alloc: Global, file: &str, bytes: &[u8], expression: &str) -> Result<String, Trouble>
-    ensures { spec.Gives file.now expression.now bytes.now result }
+    ensures { spec.GivesValue file.now expression.now bytes.now result }
 {
     let contexts = contexts_of(alloc, file, bytes)?;
     let tree = tree_of(alloc, expression)?;

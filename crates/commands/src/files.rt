@@ -63,7 +63,8 @@ pub(crate) fn no_contexts(alloc: Global) -> Result<Content, AllocError>
 
 /// Reads a file to its end.
 fn read_file<S: Source>(alloc: Global, file: &mut NamedSource<S>) -> Result<Content, SourceFault>
-    ensures { spec.ReadsFile (spec.file_seen S.seen file.old) (spec.file_seen S.seen file.new) result }
+    ensures { spec.ReadsFile (spec.file_seen S.seen file.old)
+        (spec.file_seen S.seen file.new) result }
 {
     match file.name.copy(alloc) {
         Ok(name) => {
@@ -95,7 +96,8 @@ pub(crate) fn read_files<S: Source>(
     alloc: Global,
     files: &mut [NamedSource<S>],
 ) -> Result<Sequence<Content>, SourceFault>
-    ensures { spec.AreRead (map (spec.file_seen S.seen) files.old) (map (spec.file_seen S.seen) files.new) result }
+    ensures { spec.AreRead (map (spec.file_seen S.seen) files.old)
+        (map (spec.file_seen S.seen) files.new) result }
 {
     let mut contents = Vec::new(alloc);
     for file in files.iter_mut() {

@@ -1,5 +1,5 @@
-//! The commands of the program, each as one public function over sources and sinks, which carries the theorem of what it
-//! writes.
+//! commands: the commands of the program, each as one public function over sources and sinks, which carries the theorem
+//! of what it writes.
 //!
 //! `table` writes the text of the board after the record that it reads, `eval` the value of an expression, `plan` the plan
 //! that workflows come to, `list` the jobs of that plan by their stages, or one line that says why there is none; each

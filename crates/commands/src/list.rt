@@ -99,7 +99,8 @@ fn listed(alloc: Global, plan: &CheckedPlan) -> Result<String, AllocError>
 
 /// The plan of all workflows, which are handed no contexts.
 fn plan_of_all(alloc: Global, flows: &[Content]) -> Result<CheckedPlan, Trouble>
-    ensures { Finds (ComesTo All no_contexts_of flows.now) (ComesToNone All no_contexts_of flows.now) result }
+    ensures { Finds (ComesTo All no_contexts_of flows.now)
+        (ComesToNone All no_contexts_of flows.now) result }
 {
     match no_contexts(alloc) {
         Ok(contexts) => plan_of(alloc, &Choice::All, &contexts, flows),
@@ -109,7 +110,7 @@ fn plan_of_all(alloc: Global, flows: &[Content]) -> Result<CheckedPlan, Trouble>
 
 /// The list of the jobs of the workflows that files stand for.
 fn answer(alloc: Global, flows: &[Content]) -> Result<String, Trouble>
-    ensures { spec.Gives flows.now result }
+    ensures { spec.GivesList flows.now result }
 {
     let plan = plan_of_all(alloc, flows)?;
     match listed(alloc, &plan) {

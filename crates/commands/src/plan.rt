@@ -32,7 +32,7 @@ fn answer(
     contexts: &Content,
     flows: &[Content],
 ) -> Result<String, Trouble>
-    ensures { spec.Gives choice.now contexts.now flows.now result }
+    ensures { spec.GivesPlan choice.now contexts.now flows.now result }
 {
     let plan = plan_of(alloc, choice, contexts, flows)?;
     match line_of(alloc, &plan) {

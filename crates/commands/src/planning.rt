@@ -96,7 +96,8 @@ fn planned(
     flows: Sequence<Flow>,
 ) -> Result<CheckedPlan, Trouble>
     requires { roots_rules roots ≡ None }
-    ensures { Finds (spec.IsPlanned flows roots choice.now) (spec.IsUnplanned flows roots choice.now) result }
+    ensures { Finds (spec.IsPlanned flows roots choice.now)
+        (spec.IsUnplanned flows roots choice.now) result }
 {
     let planner = Planner::new(alloc, flows, roots);
     match chosen(&planner, choice) {

@@ -154,8 +154,9 @@ impl<W: Write> Sink for Output<W> {
 }
 
 /// Writes texts one after the other, and answers whether all were written.
-pub fn put_parts<S: Sink>(sink: &mut S, parts: &[&str]) -> bool
-    ensures { Puts (S.seen sink.old) (S.seen sink.new) (flat_map (λ part. part.now) parts.now) result }
+pub(crate) fn put_parts<S: Sink>(sink: &mut S, parts: &[&str]) -> bool
+    ensures { Puts (S.seen sink.old) (S.seen sink.new)
+        (flat_map (λ part. part.now) parts.now) result }
 {
     for part in parts {
         if !sink.put(part.as_bytes()) {

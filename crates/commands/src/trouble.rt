@@ -4,10 +4,11 @@ ghost use Rattle.std.specs.Prelude.{◌≡◌};
 ghost use Rattle.commands.specs.Stream.{Puts};
 ghost use Rattle.commands.specs.Trouble as spec;
 
-use crate::contexts::FlowFault;
+use crate::contexts::ContextsFault;
 use crate::stream::{Sink, put_parts};
 use expr_reader::ExprFault;
 use flow_model::{Text, ValueFault};
+use flow_reader::FlowFault;
 use itoa::Buffer;
 use plan_assembler::PlanFault;
 use plan_text::LoadFault;
@@ -30,9 +31,9 @@ pub enum Trouble {
     /// An evaluation has a fault.
     NoValue(ValueFault),
     /// The file of that name gives no contexts.
-    NoContexts(Text, FlowFault),
+    NoContexts(Text, ContextsFault),
     /// The file of that name stands for no workflow, or for no contexts of runs.
-    NoFlow(Text, flow_reader::FlowFault),
+    NoFlow(Text, FlowFault),
     /// The workflows come to no plan.
     NotPlanned(PlanFault),
     /// The first line of a record is no plan's.

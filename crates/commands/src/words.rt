@@ -155,7 +155,8 @@ fn open_all<F: Folder>(
     folder: &F,
     names: &[&str],
 ) -> Result<Vec<NamedSource<F::File>>, Trouble>
-    ensures { IfOk result (λ files. map (λ file. file.name) files.items ≡ map (λ name. name.now) names.now) }
+    ensures { IfOk result
+        (λ files. map (λ file. file.name) files.items ≡ map (λ name. name.now) names.now) }
 {
     let mut files = Vec::new(alloc);
     for name in names {
@@ -189,7 +190,8 @@ fn run_plan_on<F: Folder, R: Source, O: Sink, E: Sink>(
     out: &mut O,
     err: &mut E,
 ) -> u8
-    ensures { spec.RunsPlan (O.seen out.old) (O.seen out.new) (E.seen err.old) (E.seen err.new) result }
+    ensures { spec.RunsPlan (O.seen out.old) (O.seen out.new)
+        (E.seen err.old) (E.seen err.new) result }
 {
     match open_flows(alloc, words, folder) {
         Ok(mut flows) => plan(alloc, choice, contexts, flows.as_mut_slice(), out, err),
@@ -207,7 +209,8 @@ fn run_plan_over<F: Folder, O: Sink, E: Sink>(
     out: &mut O,
     err: &mut E,
 ) -> u8
-    ensures { spec.RunsPlan (O.seen out.old) (O.seen out.new) (E.seen err.old) (E.seen err.new) result }
+    ensures { spec.RunsPlan (O.seen out.old) (O.seen out.new)
+        (E.seen err.old) (E.seen err.new) result }
 {
     match open_named(alloc, folder, file) {
         Ok(mut contexts) => run_plan_on(alloc, words, choice, &mut contexts, folder, out, err),
@@ -224,7 +227,8 @@ fn run_plan_alone<F: Folder, O: Sink, E: Sink>(
     out: &mut O,
     err: &mut E,
 ) -> u8
-    ensures { spec.RunsPlan (O.seen out.old) (O.seen out.new) (E.seen err.old) (E.seen err.new) result }
+    ensures { spec.RunsPlan (O.seen out.old) (O.seen out.new)
+        (E.seen err.old) (E.seen err.new) result }
 {
     let name = Text::new(String::new(alloc));
     let source = Input::new("{}".as_bytes());
@@ -240,7 +244,8 @@ fn run_plan<F: Folder, O: Sink, E: Sink>(
     out: &mut O,
     err: &mut E,
 ) -> u8
-    ensures { spec.RunsPlan (O.seen out.old) (O.seen out.new) (E.seen err.old) (E.seen err.new) result }
+    ensures { spec.RunsPlan (O.seen out.old) (O.seen out.new)
+        (E.seen err.old) (E.seen err.new) result }
 {
     let choice = match choice_of(alloc, words.get_str("event"), words.get_str("job")) {
         Ok(choice) => choice,
@@ -260,7 +265,8 @@ fn run_list<F: Folder, O: Sink, E: Sink>(
     out: &mut O,
     err: &mut E,
 ) -> u8
-    ensures { spec.RunsList (O.seen out.old) (O.seen out.new) (E.seen err.old) (E.seen err.new) result }
+    ensures { spec.RunsList (O.seen out.old) (O.seen out.new)
+        (E.seen err.old) (E.seen err.new) result }
 {
     match open_flows(alloc, words, folder) {
         Ok(mut flows) => list(alloc, flows.as_mut_slice(), out, err),
