@@ -18,5 +18,6 @@ mod contexts;
 pub mod decisions;
 pub mod derived;
 pub mod entrance;
+mod nodes;
 pub mod place;
 mod scene;
