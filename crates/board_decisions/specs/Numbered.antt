@@ -1,6 +1,6 @@
 -- The places of the jobs and legs of a board agree with the order in which they are numbered.
 use Rattle.std.specs.Prelude.{◌≡◌, ℕ, Option, Some, length, nat_lt, slice_get, is_some}
-use Rattle.board_decisions.specs.Place.{◌>>=◌, JobAt, job_place, leg_place}
+use Rattle.board_decisions.specs.Place.{◌>>=◌, JobAt, LegAt, job_place, leg_place}
 use Rattle.board_decisions.specs.declared.place.JobPlace.{JobPlace}
 use Rattle.board_decisions.specs.declared.place.LegPlace.{LegPlace}
 use Rattle.flow_model.specs.Numbers.{plan_jobs, plan_legs, board_jobs, board_legs}
@@ -31,6 +31,10 @@ pub record LegsAreNumbered (b : Board) : Type 0 where
 pub record IsNumberedIn (p : Plan) (n : ℕ) (at : JobAt) : Type 0 where
   pub item : slice_get (plan_jobs p) n ≡ Some at.plan
   pub number : at.plan.number ≡ n
+
+-- The leg that is found by number n has the combination that is item n of all legs of the plan.
+abbrev pub IsPlannedAt : Plan → ℕ → LegAt → Type 0
+IsPlannedAt p n at = slice_get (plan_legs p) n ≡ slice_get at.job_plan.legs at.place.leg
 
 -- A board has as many jobs and legs as its plan.
 pub record HasAsMany (p : Plan) (b : Board) : Type 0 where

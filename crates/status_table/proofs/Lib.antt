@@ -15,6 +15,7 @@ pub mod LegRows
 pub mod Legal
 pub mod Lists
 pub mod Numbers
+pub mod Planned
 pub mod Rows
 pub mod RunRows
 pub mod RunsLemmas
