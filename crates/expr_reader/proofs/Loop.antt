@@ -50,37 +50,44 @@ at_start rest start st r start_is h =
 whole : (base : ℕ) (text rest start : List ℕ) (st : State) (r : Result (Option Lexed) Fault) → IsReading text rest st → start ≡ skip_white rest → next_at (is_dotted st) start ≡ r → read_tokens base text ≡ located base (length text) (after_token (reads (length rest)) st (length start) r)
 whole base text rest start st r reading start_is h = ap (located base (length text)) (sym reading.same ∙ at_start rest start st r start_is h)
 
--- A fault that gets its place is the reading's.
-given : (base : ℕ) (text : List ℕ) (e : ExprFault) (why : Refusal) (place : ℕ) → fault_at e ≡ refused_at why place → ((f : Fault) → why ≡ refusal.Fault f → read_tokens base text ≡ Err (f, place)) → IfSome (fault_at e) (λ x. read_tokens base text ≡ Err x)
-given base text e refusal.Memory place at h = subst (λ (o : Option Failure). IfSome o (λ x. read_tokens base text ≡ Err x)) (sym at) tt
-given base text e (refusal.Fault f) place at h = subst (λ (o : Option Failure). IfSome o (λ x. read_tokens base text ≡ Err x)) (sym at) (h f refl)
+-- A refusal that gets its place is the step's fault there.
+pub placed_refusal : {A : Type 0} (e : ExprFault) (why : Refusal) (place : ℕ) (r : Result A Fault) → fault_at e ≡ refused_at why place → Fails why r → IfSome (fault_at e) (λ x. placed place r ≡ Err x)
+placed_refusal e refusal.Memory place r at fails = subst (λ (o : Option Failure). IfSome o (λ x. placed place r ≡ Err x)) (sym at) tt
+placed_refusal e (refusal.Fault f) place r at fails = subst (λ (o : Option Failure). IfSome o (λ x. placed place r ≡ Err x)) (sym at) (ap (placed place) fails)
 
-fails_so : {A : Type 0} (why : Refusal) (f : Fault) (r : Result A Fault) → why ≡ refusal.Fault f → Fails why r → r ≡ Err f
-fails_so why f r h fails = subst (λ (w : Refusal). Fails w r) h fails
+-- What is given with a place is given.
+pub placed_given : {A : Type 0} (place : ℕ) (r : Result A Fault) (x : A) → placed place r ≡ Ok x → r ≡ Ok x
+placed_given place (Ok y) x h = cc
+placed_given place (Err f) x h = cc
+
+token_fails : (base : ℕ) (text rest start : List ℕ) (st : State) (x : Failure) (r : Result (Option Lexed) Fault) → IsReading text rest st → start ≡ skip_white rest → next_at (is_dotted st) start ≡ r → placed (base + (length text - length start)) r ≡ Err x → read_tokens base text ≡ Err x
+token_fails base text rest start st x (Ok y) reading start_is at h = cc
+token_fails base text rest start st x (Err f) reading start_is at h = whole base text rest start st (Err f) reading start_is at ∙ cc
 
 -- No token comes, but a fault.
-pub token_refused : (base : ℕ) (text rest start : List ℕ) (st : State) (why : Refusal) (e : ExprFault) → IsReading text rest st → start ≡ skip_white rest → fault_at e ≡ refused_at why (base + (length text - length start)) → Fails why (next_at (is_dotted st) start) → IfSome (fault_at e) (λ x. read_tokens base text ≡ Err x)
-token_refused base text rest start st why e reading start_is at fails =
-    given base text e why (base + (length text - length start)) at (λ f h. whole base text rest start st (Err f) reading start_is (fails_so why f (next_at (is_dotted st) start) h fails))
+pub token_refused : (base : ℕ) (text rest start : List ℕ) (st : State) (o : Option Failure) → IsReading text rest st → start ≡ skip_white rest → IfSome o (λ x. placed (base + (length text - length start)) (next_at (is_dotted st) start) ≡ Err x) → IfSome o (λ x. read_tokens base text ≡ Err x)
+token_refused base text rest start st None reading start_is h = tt
+token_refused base text rest start st (Some x) reading start_is h = token_fails base text rest start st x (next_at (is_dotted st) start) reading start_is refl h
+
+step_fails : (base : ℕ) (text rest start : List ℕ) (st : State) (x : Lexed) (y : Failure) (r : Result State Fault) → IsReading text rest st → start ≡ skip_white rest → next_at (is_dotted st) start ≡ Ok (Some x) → step limits st x.0 ≡ r → placed (base + (length text - length start)) r ≡ Err y → read_tokens base text ≡ Err y
+step_fails base text rest start st x y (Ok after) reading start_is comes at h = cc
+step_fails base text rest start st x y (Err f) reading start_is comes at h =
+    whole base text rest start st (Ok (Some x)) reading start_is comes
+    ∙ ap (λ (r : Result State Fault). located base (length text) (after_step (reads (length rest)) (length start) x.1 r)) at ∙ cc
 
 -- A token comes that is refused.
-pub step_refused : (base : ℕ) (text rest start : List ℕ) (st : State) (x : Lexed) (why : Refusal) (e : ExprFault) → IsReading text rest st → start ≡ skip_white rest → next_at (is_dotted st) start ≡ Ok (Some x) → fault_at e ≡ refused_at why (base + (length text - length start)) → Fails why (step limits st x.0) → IfSome (fault_at e) (λ x. read_tokens base text ≡ Err x)
-step_refused base text rest start st x why e reading start_is comes at fails =
-    given base text e why (base + (length text - length start)) at
-    (λ f h. whole base text rest start st (Ok (Some x)) reading start_is comes
-    ∙ ap (λ (r : Result State Fault). located base (length text) (after_step (reads (length rest)) (length start) x.1 r)) (fails_so why f (step limits st x.0) h fails))
+pub step_refused : (base : ℕ) (text rest start : List ℕ) (st : State) (x : Lexed) (o : Option Failure) → IsReading text rest st → start ≡ skip_white rest → next_at (is_dotted st) start ≡ Ok (Some x) → IfSome o (λ y. placed (base + (length text - length start)) (step limits st x.0) ≡ Err y) → IfSome o (λ y. read_tokens base text ≡ Err y)
+step_refused base text rest start st x None reading start_is comes h = tt
+step_refused base text rest start st x (Some y) reading start_is comes h = step_fails base text rest start st x y (step limits st x.0) reading start_is comes refl h
 
--- The end comes too early.
-pub end_refused : (base : ℕ) (text rest start : List ℕ) (st : State) (why : Refusal) (e : ExprFault) → IsReading text rest st → start ≡ skip_white rest → next_at (is_dotted st) start ≡ Ok None → fault_at e ≡ refused_at why (base + (length text - length start)) → Fails why (finish limits st) → IfSome (fault_at e) (λ x. read_tokens base text ≡ Err x)
-end_refused base text rest start st why e reading start_is comes at fails =
-    given base text e why (base + (length text - length start)) at
-    (λ f h. whole base text rest start st (Ok None) reading start_is comes
-    ∙ ap (λ (r : Result Expr Fault). located base (length text) (placed (length start) r)) (fails_so why f (finish limits st) h fails))
+located_placed : (base size left : ℕ) (r : Result Expr Fault) → located base size (placed left r) ≡ placed (base + (size - left)) r
+located_placed base size left (Ok e) = refl
+located_placed base size left (Err f) = refl
 
--- The end comes, and the tree is whole.
-pub end_read : (base : ℕ) (text rest start : List ℕ) (st : State) (e : Expr) → IsReading text rest st → start ≡ skip_white rest → next_at (is_dotted st) start ≡ Ok None → finish limits st ≡ Ok e → read_tokens base text ≡ Ok e
-end_read base text rest start st e reading start_is comes done =
-    whole base text rest start st (Ok None) reading start_is comes ∙ ap (λ (r : Result Expr Fault). located base (length text) (placed (length start) r)) done
+-- The end comes, and the tree is whole, or the end comes too early.
+pub end_read : (base : ℕ) (text rest start : List ℕ) (st : State) → IsReading text rest st → start ≡ skip_white rest → next_at (is_dotted st) start ≡ Ok None → placed (base + (length text - length start)) (finish limits st) ≡ read_tokens base text
+end_read base text rest start st reading start_is comes =
+    sym (whole base text rest start st (Ok None) reading start_is comes ∙ located_placed base (length text) (length start) (finish limits st))
 
 abbrev comes_so : (bs : List ℕ) (x : Lexed) (d : Bool) → next d bs ≡ Ok (Some x) → Comes bs (Ok (Some x))
 comes_so bs x d h = subst (Comes bs) h (next_comes d bs)

@@ -5,7 +5,10 @@ use Rattle.std.proofs.lemmas.Bool.Decides.{nat_tests}
 use Rattle.expr_reader.specs.Expr.{Expr}
 use Rattle.expr_reader.specs.Machine.{Part, either_of, both_of, equality_of, relation_of, not_of, group_of, index_of, call_of, want, binding, top_binding, completed, both_more, either_more, lengthened, Limits, node, close}
 use Rattle.expr_reader.specs.Outcome.{◌>>=◌}
+use Rattle.expr_reader.specs.Stack.{chain_of, chain_binding, chain_more}
 use Rattle.expr_reader.specs.declared.fault.Fault.{Fault}
+use Rattle.expr_reader.specs.declared.operand.Chain.{Chain}
+use Rattle.expr_reader.specs.declared.operand.Chain.TheVariants as chain
 
 -- How tightly a tree on top of a stack has to hold together.
 abbrev pub floor : List Part → ℕ
@@ -77,3 +80,12 @@ either_begins e (not_of ∷ s) h = refl
 either_begins e (group_of ∷ s) h = refl
 either_begins e (index_of a ∷ s) h = refl
 either_begins e (call_of f es ∷ s) h = refl
+
+-- The same of each chain.
+pub chain_goes_on : (c : Chain) (e : Expr) (s : List Part) → top_binding s ≡ chain_binding c → lengthened e s ≡ Ok (want (chain_more c e s))
+chain_goes_on chain.Either e s h = either_goes_on e s h
+chain_goes_on chain.Both e s h = both_goes_on e s h
+
+pub chain_begins : (c : Chain) (e : Expr) (s : List Part) → ¬ (top_binding s ≡ chain_binding c) → chain_more c e s ≡ chain_of c (e ∷ []) ∷ s
+chain_begins chain.Either e s h = either_begins e s h
+chain_begins chain.Both e s h = both_begins e s h

@@ -25,3 +25,10 @@ Gives view (Err e) step = Fails e step
 -- A node over parts that are so deep is refused: it is too deep, or there is no memory.
 abbrev pub IsRefused : ℕ → Refusal → Type 0
 IsRefused parts e = (e ≡ refusal.Memory) ⊎ ((e ≡ refusal.Fault TooDeep) × (greatest_depth ≤ parts))
+
+-- An answer is taken on: what its step gives goes to the next one, and a refusal stays.
+abbrev pub TakenOn :
+    {X Y A B : Type 0} → (X → A) → (Y → B) → Result X Refusal → (A → Result B Fault)
+    → Result Y Refusal → Type 0
+TakenOn {A = A} seen made answer next result =
+    (step : Result A Fault) → Gives seen answer step → Gives made result (step >>= next)

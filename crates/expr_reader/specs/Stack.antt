@@ -1,12 +1,16 @@
 -- The machine's state, apart from where it lies in memory.
-use Rattle.std.specs.Prelude.{ℕ, Option, Some, None, List, map, reverse, string_bytes, Vec}
+use Rattle.std.specs.Prelude.{ℕ, suc, Result, Ok, Option, Some, None, List, map, reverse, string_bytes, Vec}
 use Rattle.std.specs.Borrow.{Bor}
 use Rattle.std.specs.declared.alloc.Global.{Global}
 use Rattle.expr_reader.specs.Expr.{Expr}
 use Rattle.expr_reader.specs.Grammar.{Token, constant, root, callee, name, relational, equational, mark}
 use Rattle.expr_reader.specs.Lexer.{Lexed}
-use Rattle.expr_reader.specs.Machine.{Part, either_of, both_of, equality_of, relation_of, not_of, group_of, index_of, call_of, State, want, have, dotted, called, starred, Held}
+use Rattle.expr_reader.specs.Machine.{Part, either_of, both_of, equality_of, relation_of, not_of, group_of, index_of, call_of, both_more, either_more, State, want, have, dotted, called, starred, Held, limits, close}
+use Rattle.expr_reader.specs.Outcome.{◌>>=◌}
 use Rattle.expr_reader.specs.View.{view, views, constant_of}
+use Rattle.expr_reader.specs.declared.fault.Fault.{Fault}
+use Rattle.expr_reader.specs.declared.operand.Chain.{Chain}
+use Rattle.expr_reader.specs.declared.operand.Chain.TheVariants as chain
 use Rattle.expr_reader.specs.declared.operand.Operand.{Operand}
 use Rattle.expr_reader.specs.declared.operand.Trees.{Trees}
 use Rattle.expr_reader.specs.declared.machine.Frame.{Frame}
@@ -24,10 +28,28 @@ tree_of o = view o.tree
 abbrev pub trees_of : Trees → List Expr
 trees_of ts = views ts.trees.items
 
+-- An open chain.
+abbrev pub chain_of : Chain → List Expr → Part
+chain_of chain.Either es = either_of es
+chain_of chain.Both es = both_of es
+
+-- How tightly an open chain binds.
+abbrev pub chain_binding : Chain → ℕ
+chain_binding chain.Either = 1
+chain_binding chain.Both = 2
+
+-- A chain begins with the tree, or goes on with it.
+abbrev pub chain_more : Chain → Expr → List Part → List Part
+chain_more chain.Either = either_more
+chain_more chain.Both = both_more
+
+-- The operator of a chain after a tree.
+abbrev pub chained : Chain → Expr → List Part → Result State Fault
+chained c e s = close limits (suc (chain_binding c)) e s >>= λ x. Ok (want (chain_more c x.0 x.1))
+
 -- What one frame of the stack holds open.
 abbrev pub part : Frame → Part
-part (frame.Either ts) = either_of (trees_of ts)
-part (frame.Both ts) = both_of (trees_of ts)
+part (frame.Chain c ts) = chain_of c (trees_of ts)
 part (frame.Equality q o) = equality_of q (tree_of o)
 part (frame.Relation r o) = relation_of r (tree_of o)
 part frame.Not = not_of

@@ -22,6 +22,7 @@ mod number;
 mod operand;
 mod pieces;
 mod reader;
+mod room;
 mod status;
 mod template;
 mod templates;

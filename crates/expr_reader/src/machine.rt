@@ -1,16 +1,17 @@
 //! Makes a tree of tokens, from the left, with a stack of what is open.
 
-ghost use Rattle.std.specs.Prelude.{◌≡◌, ◌<◌, ◌≤◌, [], ◌∷◌, ◌++◌, Ok, Err, MatchOption, OnOk, IfErr, string_bytes};
+ghost use Rattle.std.specs.Prelude.{◌≡◌, ◌<◌, ◌≤◌, [], ◌∷◌, ◌++◌, Ok, Err, MatchOption};
 ghost use Rattle.expr_reader.specs.Expr as expr;
 ghost use Rattle.expr_reader.specs.Grammar as grammar;
 ghost use Rattle.expr_reader.specs.Machine as machine;
 ghost use Rattle.expr_reader.specs.Machine.{limits};
-ghost use Rattle.expr_reader.specs.Outcome.{Gives};
-ghost use Rattle.expr_reader.specs.Stack.{tree_of, trees_of, part, parts, parts_of, held, state_of, token_of};
+ghost use Rattle.expr_reader.specs.Outcome.{Gives, TakenOn};
+ghost use Rattle.expr_reader.specs.Stack.{tree_of, trees_of, chain_of, chain_binding, chain_more, chained, part, parts, parts_of, held, state_of, token_of};
 ghost use Rattle.expr_reader.specs.View.{view};
 
 use crate::fault::{Fault, Refusal};
-use crate::operand::{Operand, Trees};
+use crate::operand::{Chain, Operand, Trees};
+use crate::room::add;
 use crate::token::{Mark, Token};
 use crate::tree::{Equality, Function, Relation, Tree, Wildcard};
 use std::alloc::Global;
@@ -29,8 +30,7 @@ const NOT: u8 = 5;
 /// A node that still wants its last part.
 #[derive(Drop)]
 enum Frame {
-    Either(Trees),
-    Both(Trees),
+    Chain(Chain, Trees),
     Equality(Equality, Operand),
     Relation(Relation, Operand),
     Not,
@@ -78,6 +78,19 @@ fn refuse<T: Drop, R>(_: T) -> Result<R, Refusal>
     Err(unexpected())
 }
 
+impl Chain {
+    // How tightly the chain binds.
+    fn binding(self) -> u8
+        ensures value { result ≡ chain_binding self }
+        ensures low { result ≤ 2 }
+    {
+        match self {
+            Chain::Either => EITHER,
+            Chain::Both => BOTH,
+        }
+    }
+}
+
 impl Frame {
     // How tightly an operator binds its last part; a bracket is no operator.
     fn binding(&self) -> u8
@@ -85,8 +98,8 @@ impl Frame {
     {
         match self {
             Frame::Group | Frame::Index(_) | Frame::Call(_, _) => 0,
-            Frame::Either(_) => EITHER,
-            Frame::Both(_) => BOTH,
+            Frame::Chain(Chain::Either, _) => EITHER,
+            Frame::Chain(Chain::Both, _) => BOTH,
             Frame::Equality(_, _) => EQUALITY,
             Frame::Relation(_, _) => RELATION,
             Frame::Not => NOT,
@@ -112,14 +125,6 @@ fn pop(frames: &mut Vec<Frame>) -> Option<Frame>
     frames.pop()
 }
 
-fn push(frames: &mut Vec<Frame>, frame: Frame) -> Result<(), Refusal>
-    ensures ok { OnOk result (parts frames.new ≡ part frame ∷ parts frames.old) }
-    ensures err { IfErr result (λ e. e ≡ Refusal.Memory) }
-{
-    frames.push(frame)?;
-    Ok(())
-}
-
 // An open operator with its last part.
 fn completed(alloc: Global, frame: Frame, operand: Operand) -> Result<Operand, Refusal>
     requires { 1 ≤ machine.binding (part frame) }
@@ -127,8 +132,7 @@ fn completed(alloc: Global, frame: Frame, operand: Operand) -> Result<Operand, R
         (machine.node limits (machine.completed (part frame) (tree_of operand))) }
 {
     match frame {
-        Frame::Either(trees) => Operand::either(trees, operand),
-        Frame::Both(trees) => Operand::both(trees, operand),
+        Frame::Chain(chain, trees) => Operand::chain(chain, trees, operand),
         Frame::Equality(equality, left) => Operand::equality(alloc, equality, left, operand),
         Frame::Relation(relation, left) => Operand::relation(alloc, relation, left, operand),
         Frame::Not => Operand::not(alloc, operand),
@@ -174,36 +178,28 @@ fn have(operand: Operand, frames: Vec<Frame>) -> Machine
     }
 }
 
-fn want(frames: Vec<Frame>) -> Machine
-    ensures { state_of result ≡ machine.want (parts frames) }
-{
-    Machine {
-        mode: Mode::Want,
-        frames,
-    }
-}
-
+// A frame is opened, in which an operand comes next.
 fn opened(mut frames: Vec<Frame>, frame: Frame) -> Result<Machine, Refusal>
     ensures { Gives state_of result (Ok (machine.want (part frame ∷ parts frames))) }
 {
-    push(&mut frames, frame)?;
-    Ok(want(frames))
+    add(&mut frames, frame)?;
+    Ok(Machine {
+        mode: Mode::Want,
+        frames,
+    })
 }
 
-// A chain of `&&` with one part more.
-fn both_with(trees: Trees, last: Operand, frames: Vec<Frame>) -> Result<Machine, Refusal>
+// A chain with one part more.
+fn chain_with(
+    chain: Chain,
+    trees: Trees,
+    last: Operand,
+    frames: Vec<Frame>,
+) -> Result<Machine, Refusal>
     ensures { Gives state_of result (Ok (machine.want
-        (machine.both_of (trees_of trees ++ tree_of last ∷ []) ∷ parts frames))) }
+        (chain_of chain (trees_of trees ++ tree_of last ∷ []) ∷ parts frames))) }
 {
-    opened(frames, Frame::Both(trees.push(last)?))
-}
-
-// A chain of `||` with one part more.
-fn either_with(trees: Trees, last: Operand, frames: Vec<Frame>) -> Result<Machine, Refusal>
-    ensures { Gives state_of result (Ok (machine.want
-        (machine.either_of (trees_of trees ++ tree_of last ∷ []) ∷ parts frames))) }
-{
-    opened(frames, Frame::Either(trees.push(last)?))
+    opened(frames, Frame::Chain(chain, trees.push(last)?))
 }
 
 // The innermost chain goes on with the operand.
@@ -211,92 +207,35 @@ fn lengthened(operand: Operand, mut frames: Vec<Frame>) -> Result<Machine, Refus
     ensures { Gives state_of result (machine.lengthened (tree_of operand) (parts frames)) }
 {
     match pop(&mut frames) {
-        Some(Frame::Both(trees)) => both_with(trees, operand, frames),
-        Some(Frame::Either(trees)) => either_with(trees, operand, frames),
+        Some(Frame::Chain(chain, trees)) => chain_with(chain, trees, operand, frames),
         Some(other) => refuse((other, operand, frames)),
         None => refuse((operand, frames)),
     }
 }
 
-// A chain of `&&` begins with the operand, or goes on with it.
-#[tactic(auto, using(crate::proofs::Stacks::both_goes_on, crate::proofs::Stacks::both_begins))]
-fn both_more(alloc: Global, operand: Operand, frames: Vec<Frame>) -> Result<Machine, Refusal>
+// A chain begins with the operand, or goes on with it.
+#[tactic(auto, using(crate::proofs::Stacks::chain_goes_on, crate::proofs::Stacks::chain_begins))]
+fn more(
+    alloc: Global,
+    chain: Chain,
+    operand: Operand,
+    frames: Vec<Frame>,
+) -> Result<Machine, Refusal>
     ensures { Gives state_of result
-        (Ok (machine.want (machine.both_more (tree_of operand) (parts frames)))) }
+        (Ok (machine.want (chain_more chain (tree_of operand) (parts frames)))) }
 {
-    if top_binding(frames.as_slice()) == BOTH {
+    if top_binding(frames.as_slice()) == chain.binding() {
         lengthened(operand, frames)
     } else {
-        both_with(Trees::new(alloc), operand, frames)
+        chain_with(chain, Trees::new(alloc), operand, frames)
     }
 }
 
-// A chain of `||` begins with the operand, or goes on with it.
-#[tactic(auto, using(crate::proofs::Stacks::either_goes_on, crate::proofs::Stacks::either_begins))]
-fn either_more(alloc: Global, operand: Operand, frames: Vec<Frame>) -> Result<Machine, Refusal>
-    ensures { Gives state_of result
-        (Ok (machine.want (machine.either_more (tree_of operand) (parts frames)))) }
+// A node that was made is an operand over what is open.
+fn have_made(made: Result<Operand, Refusal>, frames: Vec<Frame>) -> Result<Machine, Refusal>
+    ensures { TakenOn tree_of state_of made (λ e. Ok (machine.have e (parts frames))) result }
 {
-    if top_binding(frames.as_slice()) == EITHER {
-        lengthened(operand, frames)
-    } else {
-        either_with(Trees::new(alloc), operand, frames)
-    }
-}
-
-// The group is whole.
-fn grouped(alloc: Global, operand: Operand, frames: Vec<Frame>) -> Result<Machine, Refusal>
-    ensures { Gives state_of result (machine.have_made (parts frames)
-        (machine.node limits (expr.group (tree_of operand)))) }
-{
-    Ok(have(Operand::group(alloc, operand)?, frames))
-}
-
-// The call is whole.
-fn called(function: Function, arguments: Trees, frames: Vec<Frame>) -> Result<Machine, Refusal>
-    ensures { Gives state_of result (machine.have_made (parts frames)
-        (machine.called_with limits function (expr.exprs_of (trees_of arguments)))) }
-{
-    Ok(have(Operand::call(function, arguments)?, frames))
-}
-
-// The index is whole.
-fn indexed(
-    alloc: Global,
-    base: Operand,
-    index: Operand,
-    frames: Vec<Frame>,
-) -> Result<Machine, Refusal>
-    ensures { Gives state_of result (machine.have_made (parts frames)
-        (machine.node limits (expr.index (tree_of base) (tree_of index)))) }
-{
-    Ok(have(Operand::index(alloc, base, index)?, frames))
-}
-
-// The property is whole.
-fn property(
-    alloc: Global,
-    base: Operand,
-    name: String,
-    frames: Vec<Frame>,
-) -> Result<Machine, Refusal>
-    ensures { Gives state_of result (machine.have_made (parts frames)
-        (machine.node limits (expr.property (tree_of base) (string_bytes name)))) }
-{
-    Ok(have(Operand::property(alloc, base, name)?, frames))
-}
-
-// The dereference of every item is whole.
-fn wildcard(
-    alloc: Global,
-    wildcard: Wildcard,
-    base: Operand,
-    frames: Vec<Frame>,
-) -> Result<Machine, Refusal>
-    ensures { Gives state_of result (machine.have_made (parts frames)
-        (machine.node limits (expr.wildcard wildcard (tree_of base)))) }
-{
-    Ok(have(Operand::wildcard(alloc, wildcard, base)?, frames))
+    Ok(have(made?, frames))
 }
 
 // The call has its last argument.
@@ -310,7 +249,7 @@ fn called_last(
         (machine.called_with limits function
         (expr.exprs_of (trees_of arguments ++ tree_of last ∷ [])))) }
 {
-    called(function, arguments.push(last)?, frames)
+    have_made(Operand::call(function, arguments.push(last)?), frames)
 }
 
 // A closing parenthesis ends a group or a call.
@@ -318,7 +257,7 @@ fn end_round(alloc: Global, operand: Operand, mut frames: Vec<Frame>) -> Result<
     ensures { Gives state_of result (machine.end_round limits (tree_of operand) (parts frames)) }
 {
     match pop(&mut frames) {
-        Some(Frame::Group) => grouped(alloc, operand, frames),
+        Some(Frame::Group) => have_made(Operand::group(alloc, operand), frames),
         Some(Frame::Call(function, trees)) => called_last(function, trees, operand, frames),
         Some(other) => refuse((other, operand, frames)),
         None => refuse((operand, frames)),
@@ -330,7 +269,7 @@ fn end_index(alloc: Global, operand: Operand, mut frames: Vec<Frame>) -> Result<
     ensures { Gives state_of result (machine.end_index limits (tree_of operand) (parts frames)) }
 {
     match pop(&mut frames) {
-        Some(Frame::Index(base)) => indexed(alloc, base, operand, frames),
+        Some(Frame::Index(base)) => have_made(Operand::index(alloc, base, operand), frames),
         Some(other) => refuse((other, operand, frames)),
         None => refuse((operand, frames)),
     }
@@ -371,7 +310,7 @@ fn called_empty(
         (machine.end_empty limits (machine.call_of function (trees_of arguments) ∷ parts frames)) }
 {
     if arguments.is_empty() {
-        called(function, arguments, frames)
+        have_made(Operand::call(function, arguments), frames)
     } else {
         refuse((arguments, frames))
     }
@@ -439,20 +378,17 @@ fn at_comma(alloc: Global, operand: Operand, frames: Vec<Frame>) -> Result<Machi
     end_argument(operand, frames)
 }
 
-fn at_both(alloc: Global, operand: Operand, frames: Vec<Frame>) -> Result<Machine, Refusal>
-    ensures { Gives state_of result
-        (machine.have_mark limits (tree_of operand) (parts frames) Mark.Both) }
+// An operator goes on with a chain, or begins one.
+fn at_chain(
+    alloc: Global,
+    chain: Chain,
+    operand: Operand,
+    frames: Vec<Frame>,
+) -> Result<Machine, Refusal>
+    ensures { Gives state_of result (chained chain (tree_of operand) (parts frames)) }
 {
-    let (operand, frames) = close(alloc, operand, frames, EQUALITY)?;
-    both_more(alloc, operand, frames)
-}
-
-fn at_either(alloc: Global, operand: Operand, frames: Vec<Frame>) -> Result<Machine, Refusal>
-    ensures { Gives state_of result
-        (machine.have_mark limits (tree_of operand) (parts frames) Mark.Either) }
-{
-    let (operand, frames) = close(alloc, operand, frames, BOTH)?;
-    either_more(alloc, operand, frames)
+    let (operand, frames) = close(alloc, operand, frames, chain.binding() + 1)?;
+    more(alloc, chain, operand, frames)
 }
 
 fn have_mark(
@@ -473,8 +409,8 @@ fn have_mark(
             frames,
         }),
         Mark::Comma => at_comma(alloc, operand, frames),
-        Mark::Both => at_both(alloc, operand, frames),
-        Mark::Either => at_either(alloc, operand, frames),
+        Mark::Both => at_chain(alloc, Chain::Both, operand, frames),
+        Mark::Either => at_chain(alloc, Chain::Either, operand, frames),
         Mark::Open | Mark::Star | Mark::Not => refuse((operand, frames)),
     }
 }
@@ -547,8 +483,11 @@ fn dotted_token(
         (machine.dotted_step limits (tree_of base) (parts frames) (token_of token)) }
 {
     match token {
-        Token::Name(name) => property(alloc, base, name, frames),
-        Token::Mark(Mark::Star) => wildcard(alloc, Wildcard::Dotted, base, frames),
+        Token::Name(name) => have_made(Operand::property(alloc, base, name), frames),
+        Token::Mark(Mark::Star) => have_made(
+            Operand::wildcard(alloc, Wildcard::Dotted, base),
+            frames,
+        ),
         other => refuse((other, base, frames)),
     }
 }
@@ -577,7 +516,10 @@ fn starred_token(
         (machine.starred_step limits (tree_of base) (parts frames) (token_of token)) }
 {
     match token {
-        Token::Mark(Mark::CloseIndex) => wildcard(alloc, Wildcard::Bracketed, base, frames),
+        Token::Mark(Mark::CloseIndex) => have_made(
+            Operand::wildcard(alloc, Wildcard::Bracketed, base),
+            frames,
+        ),
         other => refuse((other, base, frames)),
     }
 }
@@ -587,7 +529,10 @@ impl Machine {
     pub(crate) fn new(alloc: Global) -> Machine
         ensures { state_of result ≡ machine.want [] }
     {
-        want(Vec::new(alloc))
+        Machine {
+            mode: Mode::Want,
+            frames: Vec::new(alloc),
+        }
     }
 
     /// Whether a dot came last.

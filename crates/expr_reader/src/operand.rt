@@ -1,13 +1,14 @@
 //! Trees on their way, with their depths.
 
-ghost use Rattle.std.specs.Prelude.{◌≡◌, ◌≤◌, suc, max, ◌≢◌, ◌∷◌, ◌++◌, [], IfOk, IfErr, MatchBool, string_bytes};
-ghost use Rattle.expr_reader.specs.Expr.{depth as depth_of, deepest as deepest_of, exprs_of, literal as literal_of, context as context_of, call as call_of, group as group_of, property as property_of, index as index_of, wildcard as wildcard_of, opposite, relation as relation_of, equality as equality_of, both as both_of, either as either_of};
+ghost use Rattle.std.specs.Prelude.{◌≡◌, ◌≤◌, suc, ◌≢◌, ◌∷◌, ◌++◌, [], IfOk, IfErr, MatchBool, string_bytes};
+ghost use Rattle.expr_reader.specs.Expr.{depth as depth_of, deepest as deepest_of, exprs_of, literal as literal_of, context as context_of, call as call_of, group as group_of, property as property_of, index as index_of, wildcard as wildcard_of, opposite, relation as relation_of, equality as equality_of};
 ghost use Rattle.expr_reader.specs.Grammar.{takes as takes_of};
-ghost use Rattle.expr_reader.specs.Machine.{limits, node, called_with};
+ghost use Rattle.expr_reader.specs.Machine.{limits, node, called_with, completed};
 ghost use Rattle.expr_reader.specs.Outcome.{Gives, IsRefused};
 ghost use Rattle.expr_reader.specs.View.{view, views, constant_of};
 
 use crate::fault::{Fault, Refusal};
+use crate::room::{add, boxed};
 use crate::tree::{Context, Equality, Function, Literal, Relation, Tree, Wildcard};
 use std::alloc::Global;
 
@@ -52,14 +53,13 @@ struct Part {
     ghost shallow: { height ≤ 50 },
 }
 
-/// Two parts of a node, with the depth of the node.
-#[derive(Drop)]
-struct Parts {
-    left: Box<Tree>,
-    right: Box<Tree>,
-    height: usize,
-    ghost measured: { height ≡ suc (max (depth_of (view left.value)) (depth_of (view right.value))) },
-    ghost shallow: { height ≤ 50 },
+/// What joins the parts of a chain.
+#[derive(Clone, Copy)]
+pub(crate) enum Chain {
+    /// `||`
+    Either,
+    /// `&&`
+    Both,
 }
 
 impl Trees {
@@ -87,7 +87,7 @@ impl Trees {
     {
         let Trees { mut trees, height } = self;
         let Operand { tree, height: last } = operand;
-        trees.push(tree)?;
+        add(&mut trees, tree)?;
         Ok(Trees {
             trees,
             height: height.max(last),
@@ -96,7 +96,7 @@ impl Trees {
 }
 
 impl Operand {
-    ghost use Rattle.expr_reader.specs.Stack.{tree_of, trees_of};
+    ghost use Rattle.expr_reader.specs.Stack.{tree_of, trees_of, chain_of};
 
     /// Its tree.
     pub(crate) fn into_tree(self) -> Tree
@@ -130,25 +130,8 @@ impl Operand {
     {
         let Operand { tree, height } = self;
         let height = height_above(height)?;
-        let tree = Box::new(alloc, tree)?;
+        let tree = boxed(alloc, tree)?;
         Ok(Part { tree, height })
-    }
-
-    // The operand and another as the parts of a node.
-    fn into_parts(self, alloc: Global, right: Operand) -> Result<Parts, Refusal>
-        ensures ok { IfOk result (λ parts. (view parts.left.value ≡ tree_of self)
-            × (view parts.right.value ≡ tree_of right)) }
-        ensures err { IfErr result
-            (IsRefused (max (depth_of (tree_of self)) (depth_of (tree_of right)))) }
-    {
-        let height = height_above(self.height.max(right.height))?;
-        let left = Box::new(alloc, self.tree)?;
-        let right = Box::new(alloc, right.tree)?;
-        Ok(Parts {
-            left,
-            right,
-            height,
-        })
     }
 
     pub(crate) fn group(alloc: Global, inner: Operand) -> Result<Operand, Refusal>
@@ -175,10 +158,11 @@ impl Operand {
     pub(crate) fn index(alloc: Global, base: Operand, index: Operand) -> Result<Operand, Refusal>
         ensures { Gives tree_of result (node limits (index_of (tree_of base) (tree_of index))) }
     {
-        let parts = base.into_parts(alloc, index)?;
+        let base = base.into_part(alloc)?;
+        let index = index.into_part(alloc)?;
         Ok(Operand {
-            tree: Tree::Index(parts.left, parts.right),
-            height: parts.height,
+            tree: Tree::Index(base.tree, index.tree),
+            height: base.height.max(index.height),
         })
     }
 
@@ -215,10 +199,11 @@ impl Operand {
         ensures { Gives tree_of result
             (node limits (relation_of relation (tree_of left) (tree_of right))) }
     {
-        let parts = left.into_parts(alloc, right)?;
+        let left = left.into_part(alloc)?;
+        let right = right.into_part(alloc)?;
         Ok(Operand {
-            tree: Tree::Relation(relation, parts.left, parts.right),
-            height: parts.height,
+            tree: Tree::Relation(relation, left.tree, right.tree),
+            height: left.height.max(right.height),
         })
     }
 
@@ -231,37 +216,31 @@ impl Operand {
         ensures { Gives tree_of result
             (node limits (equality_of equality (tree_of left) (tree_of right))) }
     {
-        let parts = left.into_parts(alloc, right)?;
+        let left = left.into_part(alloc)?;
+        let right = right.into_part(alloc)?;
         Ok(Operand {
-            tree: Tree::Equality(equality, parts.left, parts.right),
-            height: parts.height,
+            tree: Tree::Equality(equality, left.tree, right.tree),
+            height: left.height.max(right.height),
         })
     }
 
-    /// A chain of `&&`, with its last part.
-    pub(crate) fn both(parts: Trees, last: Operand) -> Result<Operand, Refusal>
-        ensures { Gives tree_of result (node limits
-            (both_of (exprs_of (trees_of parts ++ tree_of last ∷ [])))) }
+    /// A chain, with its last part.
+    pub(crate) fn chain(chain: Chain, parts: Trees, last: Operand) -> Result<Operand, Refusal>
+        ensures { Gives tree_of result
+            (node limits (completed (chain_of chain (trees_of parts)) (tree_of last))) }
     {
         let parts = parts.push(last)?;
         let height = height_above(parts.height)?;
-        Ok(Operand {
-            tree: Tree::Both(parts.trees),
-            height,
-        })
-    }
-
-    /// A chain of `||`, with its last part.
-    pub(crate) fn either(parts: Trees, last: Operand) -> Result<Operand, Refusal>
-        ensures { Gives tree_of result (node limits
-            (either_of (exprs_of (trees_of parts ++ tree_of last ∷ [])))) }
-    {
-        let parts = parts.push(last)?;
-        let height = height_above(parts.height)?;
-        Ok(Operand {
-            tree: Tree::Either(parts.trees),
-            height,
-        })
+        match chain {
+            Chain::Either => Ok(Operand {
+                tree: Tree::Either(parts.trees),
+                height,
+            }),
+            Chain::Both => Ok(Operand {
+                tree: Tree::Both(parts.trees),
+                height,
+            }),
+        }
     }
 
     #[tactic(auto, using(crate::proofs::Depths::count_views))]

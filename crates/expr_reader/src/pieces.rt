@@ -10,6 +10,7 @@ ghost use Rattle.expr_reader.specs.TemplateView.{piece_of, pieces_of_vec, templa
 use crate::fault::ExprFault;
 use crate::marks::{begins_mark, split_end, split_mark};
 use crate::reader::read_at;
+use crate::room::add;
 use crate::template::{Piece, Template};
 use crate::tree::Tree;
 use std::alloc::Global;
@@ -47,10 +48,10 @@ fn marked_piece<'a>(
 {
     let (_, after) = text.split_at(3);
     match split_end(after) {
-        Some((inside, rest)) => match read_at(alloc, inside, size - after.len(), status) {
-            Ok(tree) => Ok((Piece::Expression(tree), rest)),
-            Err(fault) => Err(fault),
-        },
+        Some((inside, rest)) => {
+            let tree = read_at(alloc, inside, size - after.len(), status)?;
+            Ok((Piece::Expression(tree), rest))
+        }
         None => Err(ExprFault::UnclosedTemplate(size - text.len())),
     }
 }
@@ -62,7 +63,7 @@ fn push(pieces: &mut Vec<Piece>, piece: Piece, place: usize) -> Result<(), ExprF
         (pieces_of_vec pieces.new ≡ pieces_of_vec pieces.old ++ piece_of piece ∷ []) }
     ensures err { IfErr result OnlyMemory }
 {
-    match pieces.push(piece) {
+    match add(pieces, piece) {
         Ok(()) => Ok(()),
         Err(_) => Err(ExprFault::Memory(place)),
     }
@@ -82,13 +83,9 @@ pub(crate) fn read_pieces(
     let mut pieces = Vec::new(alloc);
     let mut rest = text;
     'pieces: while !rest.is_empty() {
-        match next_piece(alloc, rest, size, status) {
-            Ok((piece, after)) => {
-                push(&mut pieces, piece, size - rest.len())?;
-                rest = after;
-            }
-            Err(fault) => return Err(fault),
-        }
+        let (piece, after) = next_piece(alloc, rest, size, status)?;
+        push(&mut pieces, piece, size - rest.len())?;
+        rest = after;
     }
     Ok(pieces)
 }

@@ -3,14 +3,18 @@
 ghost use Rattle.std.specs.Prelude.{◌≡◌, ℕ, ◌+◌, ◌^◌, ◌<◌, List, length, IfOk, IfErr};
 ghost use Rattle.expr_reader.specs.Expr.{Expr};
 ghost use Rattle.expr_reader.specs.Faults.{fault_at, refused_at, Answers, IsRead, FaultStands};
-ghost use Rattle.expr_reader.specs.Reading.{read_tokens, read_text};
+ghost use Rattle.expr_reader.specs.Lexer.{next_at};
+ghost use Rattle.expr_reader.specs.Machine.{limits, step, finish};
+ghost use Rattle.expr_reader.specs.Reading.{placed as placed_at, read_tokens, read_text};
 ghost use Rattle.expr_reader.specs.Spells.{Spells};
+ghost use Rattle.expr_reader.specs.Stack.{state_of, token_of, some_lexed};
 ghost use Rattle.expr_reader.specs.View.{view};
 
 use crate::bytes::{Class, split_run};
 use crate::fault::{ExprFault, Fault, Refusal};
 use crate::lexer::next_token;
 use crate::machine::Machine;
+use crate::token::Token;
 use crate::tree::Tree;
 use std::alloc::Global;
 
@@ -45,6 +49,54 @@ fn placed(fault: Fault, place: usize) -> ExprFault
     }
 }
 
+// The next token, where the text from its place on has no white space in front.
+fn next_placed(
+    alloc: Global,
+    text: &str,
+    dotted: bool,
+    place: usize,
+) -> Result<Option<(Token, &str)>, ExprFault>
+    ensures { Answers some_lexed result (placed_at place (next_at dotted text.now)) }
+{
+    match next_token(alloc, text, dotted) {
+        Ok(next) => Ok(next),
+        Err(refusal) => Err(at(refusal, place)),
+    }
+}
+
+// The machine with the token at a place taken.
+fn advanced(
+    alloc: Global,
+    machine: Machine,
+    token: Token,
+    place: usize,
+) -> Result<Machine, ExprFault>
+    ensures { Answers state_of result
+        (placed_at place (step limits (state_of machine) (token_of token))) }
+{
+    match machine.advance(alloc, token) {
+        Ok(advanced) => Ok(advanced),
+        Err(refusal) => Err(at(refusal, place)),
+    }
+}
+
+// The machine's tree, where the text ends at a place.
+fn finished(alloc: Global, machine: Machine, place: usize) -> Result<Tree, ExprFault>
+    ensures { Answers view result (placed_at place (finish limits (state_of machine))) }
+{
+    match machine.finish(alloc) {
+        Ok(tree) => Ok(tree),
+        Err(refusal) => Err(at(refusal, place)),
+    }
+}
+
+// The place of the first status function stays.
+fn note_status(status: &mut Option<usize>, token: &Token, place: usize) {
+    if status.is_none() && token.names_status() {
+        *status = Some(place);
+    }
+}
+
 // Reads an expression of any length, which begins at the place base. The place of the first status
 // function goes to status, where none stands there yet.
 fn read_tokens(
@@ -61,27 +113,13 @@ fn read_tokens(
     'tokens: loop {
         let (_, start) = split_run(rest, Class::White);
         let place = base + (text.len() - start.len());
-        match next_token(alloc, start, machine.is_dotted()) {
-            Err(refusal) => return Err(at(refusal, place)),
-            Ok(None) => {
-                return match machine.finish(alloc) {
-                    Ok(tree) => Ok(tree),
-                    Err(refusal) => Err(at(refusal, place)),
-                };
-            }
-            Ok(Some((token, after))) => {
-                if status.is_none() && token.names_status() {
-                    *status = Some(place);
-                }
-                match machine.advance(alloc, token) {
-                    Err(refusal) => return Err(at(refusal, place)),
-                    Ok(advanced) => {
-                        machine = advanced;
-                        rest = after;
-                    }
-                }
-            }
-        }
+        let next = next_placed(alloc, start, machine.is_dotted(), place)?;
+        let Some((token, after)) = next else {
+            return finished(alloc, machine, place);
+        };
+        note_status(status, &token, place);
+        machine = advanced(alloc, machine, token, place)?;
+        rest = after;
     }
 }
 
