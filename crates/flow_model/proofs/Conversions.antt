@@ -290,6 +290,11 @@ members_step ps v e left all is h =
     sym (members_read ps (string_bytes e.0) v rest)
     ∙ ap (λ (o : Option plain.Plain). option_map (members_then ps) (option_and_then (λ w. option_map (plain.member (string_bytes e.0) w) rest) o)) (sym h) ∙ is
 
+-- a list of no length has no items
+pub none_left : {X : Type 0} (xs : List X) → length xs ≡ 0 → xs ≡ []
+none_left [] e = refl
+none_left (x ∷ xs) e = absurd (omega arith)
+
 -- the next item and those after it
 pub drop-next : {X : Type 0} (xs : List X) (i : ℕ) (x : X) → i < length xs → x ≡ get_or xs i x → drop i xs ≡ x ∷ drop (i + 1) xs
 drop-next {X} xs i x h e = rw add-one (drop-cons xs i x h ∙ ap (λ (y : X). y ∷ drop (suc i) xs) (sym e))

@@ -116,6 +116,10 @@ abbrev pub work_rules : Work → Option Path
 work_rules (Run dir run shell) = script_rules dir run
 work_rules (Uses uses given) = under (codes "with") (each_pair is_input given)
 
+-- the rule of the condition of a step or a job, if there is one
+abbrev pub condition_rule : Option (List ℕ) → Option Path
+condition_rule t = rule (codes "condition") (all_there is_condition t)
+
 -- the rules of a step
 abbrev pub step_rules : StepPlan → Option Path
 step_rules s =
@@ -175,6 +179,10 @@ job_rules first number j =
     (or_else (under (codes "outputs") (each_pair is_job_output j.outputs))
     (or_else (steps_rules j.steps)
     (rule (codes "tolerate") (is_flag j.tolerate))))))))))
+
+-- the rules of the job at this place of its run, seen from the run's jobs
+abbrev pub job_rules_at : ℕ → ℕ → JobPlan → Option Path
+job_rules_at first place j = under (decimal place) (job_rules first (first + place) j)
 
 -- the rules of a run's jobs from place k on
 abbrev pub jobs_rules : ℕ → ℕ → List JobPlan → Option Path

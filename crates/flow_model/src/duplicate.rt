@@ -28,10 +28,10 @@ impl Duplicate for u64 {
     }
 }
 
-/// References side by side, `(a, (b, .. ()))`, which are copied in one go.
+/// References in pairs of pairs, as `((a, b), c)`, which are copied in one go.
 pub(crate) trait Copies {
-    /// What they refer to, side by side.
-    type Made;
+    /// What they refer to, in the same pairs.
+    type Made: Drop;
 
     ghost seen: { Self → Self.Made };
 
@@ -42,24 +42,24 @@ pub(crate) trait Copies {
         ensures { IfOk result (λ made. made ≡ seen self) };
 }
 
-impl Copies for () {
-    type Made = ();
+impl<'a, T: Duplicate + Drop> Copies for &'a T {
+    type Made = T;
 
-    ghost seen = { λ parts. parts };
+    ghost seen = { λ part. part.now };
 
-    fn copies(self, _alloc: Global) -> Result<(), AllocError> {
-        Ok(())
+    fn copies(self, alloc: Global) -> Result<T, AllocError> {
+        self.copy(alloc)
     }
 }
 
-impl<'a, A: Duplicate + Drop, R: Copies + Drop> Copies for (&'a A, R) {
-    type Made = (A, R::Made);
+impl<A: Copies + Drop, B: Copies + Drop> Copies for (A, B) {
+    type Made = (A::Made, B::Made);
 
-    ghost seen = { λ parts. (parts.0.now, R.seen parts.1) };
+    ghost seen = { λ parts. (A.seen parts.0, B.seen parts.1) };
 
-    fn copies(self, alloc: Global) -> Result<(A, R::Made), AllocError> {
-        let (first, others) = self;
-        let first = first.copy(alloc)?;
-        Ok((first, others.copies(alloc)?))
+    fn copies(self, alloc: Global) -> Result<(A::Made, B::Made), AllocError> {
+        let (first, second) = self;
+        let first = first.copies(alloc)?;
+        Ok((first, second.copies(alloc)?))
     }
 }

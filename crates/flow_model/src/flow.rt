@@ -103,9 +103,11 @@ impl Duplicate for Flow {
 
 impl Duplicate for Workflow {
     fn copy(&self, alloc: Global) -> Result<Workflow, AllocError> {
-        let parts = (&self.group, (&self.jobs, (&self.name, ())));
-        let parts = (&self.env, (&self.events, parts));
-        let (env, (events, (group, (jobs, (name, ()))))) = parts.copies(alloc)?;
+        let parts = (
+            (&self.env, &self.events),
+            (&self.group, (&self.jobs, &self.name)),
+        );
+        let ((env, events), (group, (jobs, name))) = parts.copies(alloc)?;
         Ok(Workflow {
             env,
             events,
@@ -118,12 +120,12 @@ impl Duplicate for Workflow {
 
 impl Duplicate for FlowJob {
     fn copy(&self, alloc: Global) -> Result<FlowJob, AllocError> {
-        let last = (&self.outputs, (&self.steps, (&self.tolerate, ())));
-        let others = (&self.matrix, (&self.name, (&self.needs, last)));
-        let parts = (&self.group, (&self.id, others));
-        let parts = (&self.condition, (&self.env, parts));
-        let (condition, (env, (group, (id, others)))) = parts.copies(alloc)?;
-        let (matrix, (name, (needs, (outputs, (steps, (tolerate, ())))))) = others;
+        let parts = ((&self.condition, &self.env), (&self.group, &self.id));
+        let others = ((&self.matrix, &self.name), (&self.needs, &self.outputs));
+        let parts = ((parts, others), (&self.steps, &self.tolerate));
+        let ((parts, others), (steps, tolerate)) = parts.copies(alloc)?;
+        let ((condition, env), (group, id)) = parts;
+        let ((matrix, name), (needs, outputs)) = others;
         Ok(FlowJob {
             condition,
             env,

@@ -1,28 +1,27 @@
 //! A value to JSON and back, for all that reads or prints values.
 
-ghost use Rattle.std.specs.Prelude.{◌≡◌, IfOk, IsTrue, Some, map};
+ghost use Rattle.std.specs.Prelude.{◌≡◌, IfOk, IsTrue, Some};
+ghost use Rattle.serde_json.specs.Data.{array, object};
 ghost use Rattle.serde_json.specs.View.{view as json_view, items_view, members_view, number_view};
-ghost use Rattle.flow_model.specs.Json.{json_items, json_members, json_of, value_of, whole_of, value_items, value_members, is_in_range, ReadsAs};
+ghost use Rattle.flow_model.specs.Json.{json_of, value_of, whole_of, is_in_range, ReadsAs};
 ghost use Rattle.flow_model.specs.Mapping.{pairs_of};
 ghost use Rattle.flow_model.specs.Plain as plain;
 ghost use Rattle.flow_model.specs.Value.{view, views, viewed};
 
+use crate::duplicate::Duplicate;
 use crate::mapping::Mapping;
 use crate::text::Text;
-use crate::value::{Node, Value};
+use crate::value::{Node, Value, copy_node};
 use crate::within::{GREATEST, is_whole};
 use std::alloc::{AllocError, AllocFailed, Global};
 use std::collections::BTreeMap;
-use thiserror::Error;
 
-/// Why a JSON value is no value.
-#[derive(Clone, Copy, Debug, PartialEq, Eq, Error)]
+/// Why a JSON value is no value. Whoever reads JSON tells it as a fault of its own.
+#[derive(Clone, Copy)]
 pub enum JsonFault {
     /// A number has a fraction or an exponent, or is out of range.
-    #[error("NotWhole")]
     NotWhole,
     /// There is no memory.
-    #[error("Memory")]
     Memory,
 }
 
@@ -52,7 +51,25 @@ pub fn json_of(alloc: Global, value: &Value) -> Result<serde_json::Value, AllocE
     ensures back { IfOk result
         (λ json. IsTrue (is_in_range value.now) → value_of (json_view json) ≡ Some value.now) }
 {
-    json_of_node(alloc, value.node())
+    let twin = value.copy(alloc)?;
+    into_json(alloc, twin)
+}
+
+/// The JSON of a value that is taken apart: no text is copied.
+pub fn into_json(alloc: Global, value: Value) -> Result<serde_json::Value, AllocError>
+    ensures json { IfOk result (λ json. json_view json ≡ json_of value) }
+    ensures back { IfOk result
+        (λ json. IsTrue (is_in_range value) → value_of (json_view json) ≡ Some value) }
+{
+    node_into_json(alloc, value.into_node())
+}
+
+/// The JSON of what a node stands for.
+pub fn json_of_node(alloc: Global, node: &Node) -> Result<serde_json::Value, AllocError>
+    ensures { IfOk result (λ json. json_view json ≡ json_of (view node.now)) }
+{
+    let twin = copy_node(alloc, node)?;
+    node_into_json(alloc, twin)
 }
 
 /// The value of a JSON value. It is `NotWhole` exactly where a number in it has a fraction or an
@@ -62,72 +79,76 @@ pub fn value_of(alloc: Global, json: &serde_json::Value) -> Result<Value, JsonFa
     ensures in_range { IfOk result (λ value. IsTrue (is_in_range value)) }
     ensures back { IfOk result (λ value. json_of value ≡ json_view json.now) }
 {
-    let node = node_of(alloc, json)?;
+    let twin = json.clone()?;
+    into_value(alloc, twin)
+}
+
+/// The value of a JSON value that is taken apart: no text is copied. It is `NotWhole` where `value_of` is.
+pub fn into_value(alloc: Global, json: serde_json::Value) -> Result<Value, JsonFault>
+    ensures value { ReadsAs (λ v. v) result (value_of (json_view json)) }
+    ensures in_range { IfOk result (λ value. IsTrue (is_in_range value)) }
+    ensures back { IfOk result (λ value. json_of value ≡ json_view json) }
+{
+    let node = json_into_node(alloc, json)?;
     Ok(Value::new(node))
 }
 
 /// The JSON of what a node stands for.
 #[cycle(print)]
-pub fn json_of_node(alloc: Global, node: &Node) -> Result<serde_json::Value, AllocError>
-    ensures { IfOk result (λ json. json_view json ≡ json_of (view node.now)) }
+fn node_into_json(alloc: Global, node: Node) -> Result<serde_json::Value, AllocError>
+    ensures { IfOk result (λ json. json_view json ≡ json_of (view node)) }
 {
     match node {
         Node::Null => Ok(serde_json::Value::Null),
-        Node::Truth(truth) => Ok(serde_json::Value::Bool(*truth)),
-        Node::Whole(number) => Ok(serde_json::Value::from(*number)),
-        Node::Text(text) => {
-            let text = String::from_str(alloc, text.as_str())?;
-            Ok(serde_json::Value::String(text))
-        },
-        Node::List(nodes) => Ok(serde_json::Value::Array(json_of_nodes(alloc, nodes)?)),
-        Node::Map(members) => Ok(serde_json::Value::Object(json_of_members(alloc, members)?)),
+        Node::Truth(truth) => Ok(serde_json::Value::Bool(truth)),
+        Node::Whole(number) => Ok(serde_json::Value::from(number)),
+        Node::Text(text) => Ok(serde_json::Value::String(text.into_string())),
+        Node::List(nodes) => nodes_into_json(alloc, nodes),
+        Node::Map(members) => members_into_json(alloc, members),
     }
 }
 
-/// The JSON of what nodes stand for.
+/// The JSON of a list of nodes.
 #[cycle(print)]
-fn json_of_nodes(alloc: Global, nodes: &Vec<Node>) -> Result<Vec<serde_json::Value>, AllocError>
+fn nodes_into_json(alloc: Global, nodes: Vec<Node>) -> Result<serde_json::Value, AllocError>
     ensures { IfOk result
-        (λ items. items_view items.items ≡ json_items (plain.items_of (views nodes.now.items))) }
+        (λ json. json_view json ≡ json_of (plain.list (plain.items_of (views nodes.items)))) }
 {
     let mut items = Vec::with_capacity(alloc, nodes.len())?;
     for node in nodes {
-        items.push(json_of_node(alloc, node)?)?;
+        items.push(node_into_json(alloc, node)?)?;
     }
-    Ok(items)
+    Ok(serde_json::Value::Array(items))
 }
 
-/// The JSON of what members stand for.
+/// The JSON of a map of nodes.
 #[cycle(print)]
-fn json_of_members(
+fn members_into_json(
     alloc: Global,
-    members: &BTreeMap<String, Node>,
-) -> Result<BTreeMap<String, serde_json::Value>, AllocError>
-    ensures { IfOk result (λ json. members_view json.entries
-        ≡ json_members (plain.members_of (viewed (pairs_of members.now.entries)))) }
+    members: BTreeMap<String, Node>,
+) -> Result<serde_json::Value, AllocError>
+    ensures { IfOk result (λ json. json_view json
+        ≡ json_of (plain.map (plain.members_of (viewed (pairs_of members.entries))))) }
 {
     let mut json = Mapping::empty(alloc);
-    for (key, node) in members.iter() {
-        json.set(alloc, key.as_str(), json_of_node(alloc, node)?)?;
+    for (key, node) in members {
+        json.insert(Text::new(key), node_into_json(alloc, node)?)?;
     }
-    Ok(json.into_map())
+    Ok(serde_json::Value::Object(json.into_map()))
 }
 
 /// The node of a JSON value.
 #[cycle(read)]
-fn node_of(alloc: Global, json: &serde_json::Value) -> Result<Node, JsonFault>
-    ensures { ReadsAs view result (value_of (json_view json.now)) }
+fn json_into_node(alloc: Global, json: serde_json::Value) -> Result<Node, JsonFault>
+    ensures { ReadsAs view result (value_of (json_view json)) }
 {
     match json {
         serde_json::Value::Null => Ok(Node::Null),
-        serde_json::Value::Bool(truth) => Ok(Node::Truth(*truth)),
-        serde_json::Value::Number(number) => Ok(Node::Whole(whole_of(number)?)),
-        serde_json::Value::String(text) => {
-            let text = Text::from_str(alloc, text.as_str())?;
-            Ok(Node::Text(text))
-        },
-        serde_json::Value::Array(items) => Ok(Node::List(nodes_of(alloc, items)?)),
-        serde_json::Value::Object(members) => Ok(Node::Map(members_of(alloc, members)?)),
+        serde_json::Value::Bool(truth) => Ok(Node::Truth(truth)),
+        serde_json::Value::Number(number) => Ok(Node::Whole(whole_of(&number)?)),
+        serde_json::Value::String(text) => Ok(Node::Text(Text::new(text))),
+        serde_json::Value::Array(items) => items_into_node(alloc, items),
+        serde_json::Value::Object(members) => members_into_node(alloc, members),
     }
 }
 
@@ -149,31 +170,29 @@ pub fn whole_of(number: &serde_json::Number) -> Result<i64, JsonFault>
     }
 }
 
-/// The nodes of an array's items.
+/// The list of an array's items.
 #[cycle(read)]
-fn nodes_of(alloc: Global, items: &Vec<serde_json::Value>) -> Result<Vec<Node>, JsonFault>
-    ensures { ReadsAs (λ nodes. plain.items_of (views nodes.items)) result
-        (value_items (items_view items.now.items)) }
+fn items_into_node(alloc: Global, items: Vec<serde_json::Value>) -> Result<Node, JsonFault>
+    ensures { ReadsAs view result (value_of (array (items_view items.items))) }
 {
     let mut nodes = Vec::with_capacity(alloc, items.len())?;
     for item in items {
-        nodes.push(node_of(alloc, item)?)?;
+        nodes.push(json_into_node(alloc, item)?)?;
     }
-    Ok(nodes)
+    Ok(Node::List(nodes))
 }
 
-/// The members of an object.
+/// The map of an object's members.
 #[cycle(read)]
-fn members_of(
+fn members_into_node(
     alloc: Global,
-    json: &BTreeMap<String, serde_json::Value>,
-) -> Result<BTreeMap<String, Node>, JsonFault>
-    ensures { ReadsAs (λ members. plain.members_of (viewed (pairs_of members.entries))) result
-        (value_members (members_view json.now.entries)) }
+    members: BTreeMap<String, serde_json::Value>,
+) -> Result<Node, JsonFault>
+    ensures { ReadsAs view result (value_of (object (members_view members.entries))) }
 {
-    let mut members = Mapping::empty(alloc);
-    for (key, member) in json.iter() {
-        members.set(alloc, key.as_str(), node_of(alloc, member)?)?;
+    let mut nodes = Mapping::empty(alloc);
+    for (key, member) in members {
+        nodes.insert(Text::new(key), json_into_node(alloc, member)?)?;
     }
-    Ok(members.into_map())
+    Ok(Node::Map(nodes.into_map()))
 }

@@ -132,7 +132,7 @@ pub enum Work {
 }
 
 /// The shell of a script (workflow syntax: `shell`).
-#[derive(Clone, Copy, PartialEq, Eq)]
+#[derive(Clone, Copy)]
 pub enum Shell {
     /// None was named.
     Default,
@@ -142,9 +142,8 @@ pub enum Shell {
 
 impl Duplicate for Matrix {
     fn copy(&self, alloc: Global) -> Result<Matrix, AllocError> {
-        let variables = self.variables.copy(alloc)?;
-        let exclude = self.exclude.copy(alloc)?;
-        let include = self.include.copy(alloc)?;
+        let parts = (&self.variables, (&self.exclude, &self.include));
+        let (variables, (exclude, include)) = parts.copies(alloc)?;
         Ok(Matrix {
             variables,
             exclude,
@@ -162,9 +161,9 @@ impl Duplicate for Plan {
 
 impl Duplicate for RunPlan {
     fn copy(&self, alloc: Global) -> Result<RunPlan, AllocError> {
-        let others = (&self.group, (&self.jobs, (&self.roots, ())));
-        let parts = (&self.env, (&self.event, (&self.flow, others)));
-        let (env, (event, (flow, (group, (jobs, (roots, ())))))) = parts.copies(alloc)?;
+        let parts = ((&self.env, &self.event), (&self.flow, &self.group));
+        let parts = (parts, (&self.jobs, &self.roots));
+        let (((env, event), (flow, group)), (jobs, roots)) = parts.copies(alloc)?;
         Ok(RunPlan {
             env,
             event,
@@ -195,23 +194,25 @@ impl Duplicate for Flag {
 
 impl Duplicate for Roots {
     fn copy(&self, alloc: Global) -> Result<Roots, AllocError> {
+        let parts = ((&self.github, &self.inputs), (&self.secrets, &self.vars));
+        let ((github, inputs), (secrets, vars)) = parts.copies(alloc)?;
         Ok(Roots {
-            github: self.github.copy(alloc)?,
-            inputs: self.inputs.copy(alloc)?,
-            secrets: self.secrets.copy(alloc)?,
-            vars: self.vars.copy(alloc)?,
+            github,
+            inputs,
+            secrets,
+            vars,
         })
     }
 }
 
 impl Duplicate for JobPlan {
     fn copy(&self, alloc: Global) -> Result<JobPlan, AllocError> {
-        let last = (&self.outputs, (&self.steps, (&self.tolerate, ())));
-        let others = (&self.legs, (&self.name, (&self.needs, last)));
-        let parts = (&self.group, (&self.id, others));
-        let parts = (&self.condition, (&self.env, parts));
-        let (condition, (env, (group, (id, others)))) = parts.copies(alloc)?;
-        let (legs, (name, (needs, (outputs, (steps, (tolerate, ())))))) = others;
+        let parts = ((&self.condition, &self.env), (&self.group, &self.id));
+        let others = ((&self.legs, &self.name), (&self.needs, &self.outputs));
+        let parts = ((parts, others), (&self.steps, &self.tolerate));
+        let ((parts, others), (steps, tolerate)) = parts.copies(alloc)?;
+        let ((condition, env), (group, id)) = parts;
+        let ((legs, name), (needs, outputs)) = others;
         Ok(JobPlan {
             condition,
             env,
@@ -232,9 +233,9 @@ impl Duplicate for JobPlan {
 
 impl Duplicate for StepPlan {
     fn copy(&self, alloc: Global) -> Result<StepPlan, AllocError> {
-        let others = (&self.name, (&self.tolerate, (&self.work, ())));
-        let parts = (&self.condition, (&self.env, (&self.id, others)));
-        let (condition, (env, (id, (name, (tolerate, (work, ())))))) = parts.copies(alloc)?;
+        let parts = ((&self.condition, &self.env), (&self.id, &self.name));
+        let parts = (parts, (&self.tolerate, &self.work));
+        let (((condition, env), (id, name)), (tolerate, work)) = parts.copies(alloc)?;
         Ok(StepPlan {
             condition,
             env,
@@ -250,8 +251,7 @@ impl Duplicate for Work {
     fn copy(&self, alloc: Global) -> Result<Work, AllocError> {
         match self {
             Work::Run { dir, run, shell } => {
-                let dir = dir.copy(alloc)?;
-                let run = run.copy(alloc)?;
+                let (dir, run) = (dir, run).copies(alloc)?;
                 Ok(Work::Run {
                     dir,
                     run,
@@ -259,8 +259,7 @@ impl Duplicate for Work {
                 })
             },
             Work::Uses { uses, given } => {
-                let uses = uses.copy(alloc)?;
-                let given = given.copy(alloc)?;
+                let (uses, given) = (uses, given).copies(alloc)?;
                 Ok(Work::Uses { uses, given })
             },
         }

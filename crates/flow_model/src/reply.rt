@@ -3,17 +3,18 @@
 ghost use Rattle.std.specs.Prelude.{◌≡◌};
 ghost use Rattle.flow_model.specs.Faults.{value_fault_name};
 
-use crate::duplicate::Duplicate;
+use crate::duplicate::{Copies, Duplicate};
 use crate::event::Member;
 use crate::mapping::Mapping;
 use crate::plan::Shell;
 use crate::text::Text;
 use std::alloc::{AllocError, AllocFailed, Global};
+use std::fmt;
+use std::fmt::Display;
 use thiserror::Error;
 
 /// Why a text could not be evaluated.
-#[derive(Clone, Copy, Debug, PartialEq, Eq, Error)]
-#[error("{}", self.name())]
+#[derive(Clone, Copy, Debug, Error)]
 pub enum ValueFault {
     /// A number is no whole number, or out of range.
     NotWhole,
@@ -42,6 +43,17 @@ impl ValueFault {
             ValueFault::TooLarge => "TooLarge",
             ValueFault::Memory => "Memory",
         }
+    }
+}
+
+impl Display for ValueFault {
+    ghost use Rattle.std.specs.Prelude.{Some};
+    ghost use Rattle.flow_model.specs.Faults.{value_fault_name};
+
+    ghost output = { λ fault. Some (value_fault_name fault) };
+
+    fn fmt<W: fmt::Write>(&self, f: &mut fmt::Formatter<W>) -> fmt::Result {
+        f.write_str(self.name())
     }
 }
 
@@ -116,8 +128,7 @@ pub struct Reply {
 
 impl Duplicate for StepCall {
     fn copy(&self, alloc: Global) -> Result<StepCall, AllocError> {
-        let work = self.work.copy(alloc)?;
-        let env = self.env.copy(alloc)?;
+        let (work, env) = (&self.work, &self.env).copies(alloc)?;
         Ok(StepCall {
             leg: self.leg,
             step: self.step,
@@ -131,8 +142,7 @@ impl Duplicate for CallWork {
     fn copy(&self, alloc: Global) -> Result<CallWork, AllocError> {
         match self {
             CallWork::Script { text, shell, dir } => {
-                let text = text.copy(alloc)?;
-                let dir = dir.copy(alloc)?;
+                let (text, dir) = (text, dir).copies(alloc)?;
                 Ok(CallWork::Script {
                     text,
                     shell: *shell,
@@ -140,8 +150,7 @@ impl Duplicate for CallWork {
                 })
             },
             CallWork::Uses { uses, given } => {
-                let uses = uses.copy(alloc)?;
-                let given = given.copy(alloc)?;
+                let (uses, given) = (uses, given).copies(alloc)?;
                 Ok(CallWork::Uses { uses, given })
             },
         }

@@ -184,7 +184,7 @@ fn check_job(alloc: Global, first: u64, number: u64, job: &JobPlan) -> Result<()
 /// Checks the job at a place of its run, seen from the run's jobs.
 fn check_job_at(alloc: Global, first: u64, place: usize, job: &JobPlan) -> Result<(), Broken>
     requires { first + place < 2 ^ 64 }
-    ensures { Checks (found.under (decimal place) (spec.job_rules first (first + place) job.now)) result }
+    ensures { Checks (spec.job_rules_at first place job.now) result }
 {
     at_place(
         alloc,

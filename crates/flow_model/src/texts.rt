@@ -36,20 +36,10 @@ fn not_read(fault: ExprFault) -> Result<bool, AllocError>
     ensures { (pieces : Option (List Piece)) → IfSome (fault_at fault) (λ x. pieces ≡ None)
         → IfOk result (λ holds. holds ≡ is_some pieces) }
 {
-    match fault {
-        ExprFault::Memory(_) => Err(AllocError),
-        ExprFault::UnclosedText(_)
-        | ExprFault::BadNumber(_)
-        | ExprFault::BadChar(_)
-        | ExprFault::Unexpected(_)
-        | ExprFault::UnknownName(_)
-        | ExprFault::UnknownFunction(_)
-        | ExprFault::ArgumentCount(_)
-        | ExprFault::TooDeep(_)
-        | ExprFault::TooLong(_)
-        | ExprFault::UnclosedTemplate(_)
-        | ExprFault::StatusHere(_) => Ok(false),
+    if let ExprFault::Memory(_) = fault {
+        return Err(AllocError);
     }
+    Ok(false)
 }
 
 /// Whether a text is a template.
@@ -107,7 +97,7 @@ pub(crate) fn check_optional_template(
 
 /// Checks that the condition of a job or step, if there is one, is a condition.
 pub(crate) fn check_condition(alloc: Global, text: &Option<Text>) -> Result<(), Broken>
-    ensures { Checks (found.rule (codes "condition") (spec.all_there is_condition text.now)) result }
+    ensures { Checks (spec.condition_rule text.now) result }
 {
     match text {
         Some(text) => {

@@ -2,6 +2,7 @@
 
 ghost use Rattle.std.specs.Prelude.{◌≡◌, ◌++◌, IfOk};
 ghost use Rattle.flow_model.specs.Mapping.{pairs_of};
+ghost use Rattle.flow_model.specs.Plain as plain;
 ghost use Rattle.flow_model.specs.Value.{view, views, viewed};
 
 use crate::duplicate::Duplicate;
@@ -86,35 +87,33 @@ pub fn copy_node(alloc: Global, node: &Node) -> Result<Node, AllocError>
         Node::Truth(truth) => Ok(Node::Truth(*truth)),
         Node::Whole(number) => Ok(Node::Whole(*number)),
         Node::Text(text) => Ok(Node::Text(text.copy(alloc)?)),
-        Node::List(nodes) => Ok(Node::List(copy_nodes(alloc, nodes)?)),
-        Node::Map(members) => Ok(Node::Map(copy_members(alloc, members)?)),
+        Node::List(nodes) => copy_nodes(alloc, nodes),
+        Node::Map(members) => copy_members(alloc, members),
     }
 }
 
-/// Nodes that stand for the same data.
+/// A list of nodes that stand for the same data.
 #[cycle(copy)]
-fn copy_nodes(alloc: Global, nodes: &Vec<Node>) -> Result<Vec<Node>, AllocError>
-    ensures { IfOk result (λ twins. views twins.items ≡ views nodes.now.items) }
+fn copy_nodes(alloc: Global, nodes: &Vec<Node>) -> Result<Node, AllocError>
+    ensures { IfOk result
+        (λ twin. view twin ≡ plain.list (plain.items_of (views nodes.now.items))) }
 {
     let mut twins = Vec::with_capacity(alloc, nodes.len())?;
     for node in nodes {
         twins.push(copy_node(alloc, node)?)?;
     }
-    Ok(twins)
+    Ok(Node::List(twins))
 }
 
-/// Members that stand for the same data.
+/// A map of members that stand for the same data.
 #[cycle(copy)]
-fn copy_members(
-    alloc: Global,
-    members: &BTreeMap<String, Node>,
-) -> Result<BTreeMap<String, Node>, AllocError>
-    ensures { IfOk result
-        (λ twins. viewed (pairs_of twins.entries) ≡ viewed (pairs_of members.now.entries)) }
+fn copy_members(alloc: Global, members: &BTreeMap<String, Node>) -> Result<Node, AllocError>
+    ensures { IfOk result (λ twin. view twin
+        ≡ plain.map (plain.members_of (viewed (pairs_of members.now.entries)))) }
 {
     let mut twins = Mapping::empty(alloc);
     for (key, node) in members.iter() {
         twins.set(alloc, key.as_str(), copy_node(alloc, node)?)?;
     }
-    Ok(twins.into_map())
+    Ok(Node::Map(twins.into_map()))
 }

@@ -1,56 +1,54 @@
-use Rattle.std.proofs.Common.{◌≡◌, List, [], ◌∷◌, ◌++◌, ℕ, Some, option_map, string_bytes, drop, ◌+◌, ap, sym, ◌∙◌, arith, rules}
-use Rattle.std.proofs.lemmas.List.{drop_all, map-append}
-use Rattle.serde_json.specs.View.{view as json_view, members_view, items_view}
-use Rattle.serde_json.proofs.Views.{view-Object}
-use Rattle.flow_model.specs.Json.{value_of, value_members, value_items}
+use Rattle.std.proofs.Common.{◌≡◌, List, [], ◌∷◌, ◌++◌, ℕ, Some, length, option_map, string_bytes, ap, sym, ◌∙◌, arith}
+use Rattle.std.proofs.lemmas.List.{map-append}
+use Rattle.std.specs.Vec.Iter.{into_iter_items}
+use Rattle.serde_json.specs.View.{members_view, items_view}
+use Rattle.flow_model.specs.Json.{value_members, value_items}
 use Rattle.flow_model.specs.Mapping.{pairs_of, keys_of}
 use Rattle.flow_model.specs.Plain as plain
 use Rattle.flow_model.specs.Value.{view, views, viewed}
-use Rattle.flow_model.proofs.Conversions.{items_step, items_then, items_then-end, members_step, members_then, members_then-end, drop-next}
+use Rattle.flow_model.proofs.Conversions.{items_step, items_then, items_then-end, members_step, members_then, members_then-end, none_left}
 use Rattle.flow_model.proofs.LastPair.{with_pair-above, keys_of-next}
-use Rattle.flow_model.proofs.Nodes.{view-Map}
+use Rattle.flow_model.proofs.Nodes.{view-List, view-Map}
 use Rattle.flow_model.proofs.Pairs.{Ascends-pairs_of}
 use Rattle.flow_model.proofs.json.+read.Goals as goal
 
-pub nodes_of-loop-item-preserved : goal.nodes_of-loop-item-preserved
-nodes_of-loop-item-preserved t c =
+pub items_into_node-loop-item-preserved : goal.items_into_node-loop-item-preserved
+items_into_node-loop-item-preserved t c =
     let vs = views c.loop-item.nodes.items in
-    let left = drop (c.loop-item.item-index + 1) c.args.items.now.items in
-    let here : drop c.loop-item.item-index c.args.items.now.items ≡ c.item-item.result ∷ left =
-    drop-next c.args.items.now.items c.loop-item.item-index c.item-item.result (omega arith) (search rules) in
-    rw (c.in_ok-push.ensures.items, map-append view c.loop-item.nodes.items (c.in_ok-node_of.field-0 ∷ []))
-    (items_step vs (view c.in_ok-node_of.field-0) c.item-item.result left (value_items (items_view c.args.items.now.items))
-    (ap (λ ds. option_map (items_then vs) (value_items (items_view ds))) (sym here) ∙ c.loop-item.invariant) c.in_ok-node_of.ensures)
-
-pub nodes_of-returns : goal.nodes_of-returns
-nodes_of-returns t c =
-    let vs = views c.loop-item.nodes.items in
-    let past : drop c.loop-item.item-index c.args.items.now.items ≡ [] = drop_all c.loop-item.item-index c.args.items.now.items (omega arith) in
-    sym c.loop-item.invariant ∙ ap (λ ds. option_map (items_then vs) (value_items (items_view ds))) past ∙ ap Some (items_then-end vs)
-
-pub members_of-loop-key-preserved : goal.members_of-loop-key-preserved
-members_of-loop-key-preserved t c =
-    let left = c.next.new.self in
-    let k = string_bytes c.in-Some.key.now in
-    let v = c.in_ok-node_of.field-0 in
-    let ascends = Ascends-pairs_of _ c.iter-key-items.ensures.ordered in
-    let keys : keys_of c.loop-key.members ++ k ∷ keys_of (pairs_of left) ≡ keys_of (pairs_of c.args.json.now.entries) =
-    ap (λ es. keys_of c.loop-key.members ++ keys_of (pairs_of es)) (sym c.in-Some.ensures.steps) ∙ c.loop-key.invariant.keys in
-    rw (c.in_ok-set.ensures.ok, c.as_str.ensures.value) (record {
-      keys = keys_of-next c.loop-key.members k v (keys_of (pairs_of left)) _ keys ascends;
-      reads = rw (with_pair-above c.loop-key.members k v (keys_of (pairs_of left)) _ keys ascends, map-append {B = List ℕ × plain.Plain} (λ p. (p.0, view p.1)) c.loop-key.members ((k, v) ∷ []))
-          (members_step (viewed c.loop-key.members) (view v) (c.in-Some.key.now, c.in-Some.member.now) left _
-          (ap (λ es. option_map (members_then (viewed c.loop-key.members)) (value_members (members_view es))) (sym c.in-Some.ensures.steps) ∙ c.loop-key.invariant.reads)
-          c.in_ok-node_of.ensures);
+    let steps = c.in-Some.ensures.steps in
+    rw (c.in_ok-push.ensures.items, map-append view c.loop-item.nodes.items (c.in_ok-json_into_node.field-0 ∷ [])) (record {
+      reads = items_step vs (view c.in_ok-json_into_node.field-0) c.in-Some.item (into_iter_items c.next.new.self) (value_items (items_view c.args.items.items))
+          (ap (λ ds. option_map (items_then vs) (value_items (items_view ds))) (sym steps.0) ∙ c.loop-item.invariant.reads) c.in_ok-json_into_node.ensures;
+      left = omega (arith, steps.1, c.loop-item.invariant.left, ap length steps.0);
     })
 
-pub members_of-returns : goal.members_of-returns
-members_of-returns t c =
-    rw c.into_map.ensures (sym c.loop-key.invariant.reads
-    ∙ ap (λ es. option_map (members_then (viewed c.loop-key.members)) (value_members (members_view es))) c.in-None.ensures.steps.0
-    ∙ ap Some (members_then-end (viewed c.loop-key.members)))
+pub items_into_node-returns : goal.items_into_node-returns
+items_into_node-returns t c =
+    let vs = views c.loop-item.nodes.items in
+    let past : into_iter_items c.loop-item.item-iterator ≡ [] = none_left _ (sym c.loop-item.invariant.left ∙ c.in-None.ensures.steps.0) in
+    ap (option_map plain.list) (sym c.loop-item.invariant.reads ∙ ap (λ ds. option_map (items_then vs) (value_items (items_view ds))) past ∙ ap Some (items_then-end vs))
+    ∙ ap Some (sym (view-List c.loop-item.nodes))
 
-pub node_of-returns-in_ok-members_of-in-Object : goal.node_of-returns-in_ok-members_of-in-Object
-node_of-returns-in_ok-members_of-in-Object t c =
-    ap value_of (ap json_view c.in-Object.is ∙ view-Object c.in-Object.members)
-    ∙ ap (option_map plain.map) c.in_ok-members_of-in-Object.ensures ∙ ap Some (sym (view-Map c.in_ok-members_of-in-Object.field-0))
+pub members_into_node-loop-key-preserved : goal.members_into_node-loop-key-preserved
+members_into_node-loop-key-preserved t c =
+    let left = c.next.new.self in
+    let k = string_bytes c.in-Some.key in
+    let v = c.in_ok-json_into_node.field-0 in
+    let ascends = Ascends-pairs_of _ c.into_iter-key-iterator.ensures.into_iter_gives.5 in
+    let keys : keys_of c.loop-key.nodes ++ k ∷ keys_of (pairs_of left) ≡ keys_of (pairs_of c.args.members.entries) =
+    ap (λ es. keys_of c.loop-key.nodes ++ keys_of (pairs_of es)) (sym c.in-Some.ensures.steps) ∙ c.loop-key.invariant.keys in
+    rw (c.in_ok-insert.ensures.ok, c.new.ensures) (record {
+      keys = keys_of-next c.loop-key.nodes k v (keys_of (pairs_of left)) _ keys ascends;
+      reads = rw (with_pair-above c.loop-key.nodes k v (keys_of (pairs_of left)) _ keys ascends, map-append {B = List ℕ × plain.Plain} (λ p. (p.0, view p.1)) c.loop-key.nodes ((k, v) ∷ []))
+          (members_step (viewed c.loop-key.nodes) (view v) (c.in-Some.key, c.in-Some.member) left _
+          (ap (λ es. option_map (members_then (viewed c.loop-key.nodes)) (value_members (members_view es))) (sym c.in-Some.ensures.steps) ∙ c.loop-key.invariant.reads)
+          c.in_ok-json_into_node.ensures);
+    })
+
+pub members_into_node-returns : goal.members_into_node-returns
+members_into_node-returns t c =
+    let read : value_members (members_view c.args.members.entries) ≡ Some (plain.members_of (viewed (pairs_of c.into_map.result.entries))) =
+    rw c.into_map.ensures (sym c.loop-key.invariant.reads
+    ∙ ap (λ es. option_map (members_then (viewed c.loop-key.nodes)) (value_members (members_view es))) c.in-None.ensures.steps.0
+    ∙ ap Some (members_then-end (viewed c.loop-key.nodes))) in
+    ap (option_map plain.map) read ∙ ap Some (sym (view-Map c.into_map.result))

@@ -1,4 +1,5 @@
-use Rattle.std.proofs.Common.{◌≡◌, List, ◌∷◌, ◌++◌, ℕ, string_bytes, ap, sym, ◌∙◌}
+use Rattle.std.proofs.Common.{◌≡◌, List, ◌∷◌, ◌++◌, ℕ, string_bytes, append-nil, ap, sym, ◌∙◌}
+use Rattle.std.proofs.lemmas.Result.{IfOk-weaker}
 use Rattle.flow_model.specs.Mapping.{pairs_of}
 use Rattle.flow_model.specs.Plain as plain
 use Rattle.flow_model.specs.Value.{view, viewed}
@@ -15,8 +16,13 @@ copy_members-loop-key-preserved t c =
     (with_pair-next (viewed c.loop-key.twins) (string_bytes c.in-Some.key.now) (view c.in-Some.node.now) (viewed (pairs_of left)) _ all
     (Ascends-map_values view _ (Ascends-pairs_of _ c.iter-key-items.ensures.ordered)))
 
-pub copy_node-returns-in_ok-copy_members-in-Map : goal.copy_node-returns-in_ok-copy_members-in-Map
-copy_node-returns-in_ok-copy_members-in-Map t c =
-    let seen : viewed (pairs_of c.in_ok-copy_members-in-Map.field-0.entries) ≡ viewed (pairs_of c.in-Map.members.entries) = c.in_ok-copy_members-in-Map.ensures in
-    view-Map c.in_ok-copy_members-in-Map.field-0 ∙ ap (λ (ps : List (List ℕ × plain.Plain)). plain.map (plain.members_of ps)) seen
-    ∙ sym (ap view c.in-Map.is ∙ view-Map c.in-Map.members)
+pub copy_members-returns : goal.copy_members-returns
+copy_members-returns t c =
+    let whole : viewed (pairs_of c.into_map.result.entries) ≡ viewed (pairs_of c.args.members.now.entries) =
+    ap viewed c.into_map.ensures ∙ sym (append-nil (viewed c.loop-key.twins))
+    ∙ ap (λ es. viewed c.loop-key.twins ++ viewed (pairs_of es)) (sym c.in-None.ensures.steps.0) ∙ c.loop-key.invariant in
+    view-Map c.into_map.result ∙ ap (λ (ps : List (List ℕ × plain.Plain)). plain.map (plain.members_of ps)) whole
+
+pub copy_node-returns-in-Map : goal.copy_node-returns-in-Map
+copy_node-returns-in-Map t c =
+    IfOk-weaker c.copy_members.result _ _ (λ twin e. e ∙ sym (ap view c.in-Map.is ∙ view-Map c.in-Map.members)) c.copy_members.ensures
