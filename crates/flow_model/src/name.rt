@@ -36,7 +36,7 @@ pub fn is_id(text: &str) -> bool
 }
 
 /// Whether a text may name an output of an answer: 1 to 256 letters, digits, `-` and `_`.
-pub fn is_output_name(text: &str) -> bool
+pub(crate) fn is_output_name(text: &str) -> bool
     ensures { result ≡ spec.is_output_name text.now }
 {
     1 <= text.len() && text.len() <= 256 && are_name_bytes(text.as_bytes())

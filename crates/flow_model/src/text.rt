@@ -37,7 +37,7 @@ impl Text {
     }
 
     /// Gives the `String` back.
-    pub fn into_string(self) -> String
+    pub(crate) fn into_string(self) -> String
         ensures { string_bytes result ≡ self }
     {
         self.text
