@@ -1,5 +1,5 @@
 -- A text that grows piece by piece.
-use Rattle.std.proofs.Common.{◌≡◌, ℕ, Bool, true, false, cond, nat_le, Some, None, Option, Ok, Err, List, [], ◌++◌, length, refl, sym, ap, ◌∙◌, append_assoc, append-nil, length-append, arith}
+use Rattle.std.proofs.Common.{◌≡◌, ℕ, Bool, true, false, nat_le, Some, None, Option, Ok, Err, List, [], ◌++◌, length, refl, sym, ap, ◌∙◌, append_assoc, append-nil, length-append, arith}
 use Rattle.std.proofs.lemmas.Bool.Decides.{nat_tests}
 use Rattle.std.proofs.lemmas.Bool.{cond-true, cond-false}
 use Rattle.std.specs.Option.{option_map}
@@ -7,7 +7,7 @@ use Rattle.expr_value.specs.Bounded.{within, grown, grown_value, FitsLimit}
 use Rattle.expr_value.specs.Formatting.{ended}
 use Rattle.expr_value.specs.Functions.{formatted_value}
 use Rattle.expr_value.specs.Limit.{most_bytes, limited}
-use Rattle.flow_model.specs.Plain.{Plain, text}
+use Rattle.flow_model.specs.Plain.{text}
 use Rattle.flow_model.specs.declared.reply.ValueFault.TheVariants.{TooLarge}
 
 -- Past the limit, nothing is left, whatever is added.
@@ -53,11 +53,3 @@ limited_grown t = limited_by t (nat_le (length t) most_bytes) refl
 pub ended_nothing : (rest : Option (List ℕ)) → ended (Some []) rest ≡ formatted_value rest
 ended_nothing None = refl
 ended_nothing (Some w) = limited_grown w
-
-limited_is_by : (t : List ℕ) (v : Plain) (b : Bool) → cond b (Ok (text t)) (Err TooLarge) ≡ Ok v → v ≡ text t
-limited_is_by t v true h = cc
-limited_is_by t v false h = cc
-
--- A text within the limit is that text.
-pub limited_is : (t : List ℕ) (v : Plain) → limited t ≡ Ok v → v ≡ text t
-limited_is t v h = limited_is_by t v (nat_le (length t) most_bytes) h

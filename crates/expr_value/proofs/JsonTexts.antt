@@ -1,18 +1,13 @@
 -- The text of a value's JSON.
-use Rattle.std.proofs.Common.{◌≡◌, ℕ, ℤ, Ok, Some, pos, negsuc, Bool, true, false, ◌||◌, List, refl, ap, ◌∙◌}
+use Rattle.std.proofs.Common.{◌≡◌, ℕ, ℤ, pos, negsuc, Bool, true, false, ◌||◌, List, refl, ap, ◌∙◌}
 use Rattle.json.specs.Layout.{pretty}
 use Rattle.json.specs.Lex.{tokens}
 use Rattle.serde_json.specs.Data.{Data}
 use Rattle.serde_json.specs.Find.{of_integer, is_float}
 use Rattle.serde_json.specs.Written.{IsInOrder, has_float, items_have_float, members_have_float}
 use Rattle.serde_json.proofs.Texts.{tokens_from_order}
-use Rattle.std.specs.Prelude.{IsTrue}
-use Rattle.serde_json.specs.Read.{read}
-use Rattle.expr_value.specs.Functions.{pretty_text, from_json, value_read, whole_value}
-use Rattle.expr_value.specs.Limit.{limited}
-use Rattle.expr_value.proofs.Growing.{limited_is}
-use Rattle.flow_model.proofs.Conversions.{value_again}
-use Rattle.flow_model.specs.Json.{is_in_range, json_of, json_items, json_members}
+use Rattle.expr_value.specs.Functions.{pretty_text}
+use Rattle.flow_model.specs.Json.{json_of, json_items, json_members}
 use Rattle.flow_model.specs.Plain.{Plain, null, truth, whole, text, list, map, Items, no_items, item, Members, no_members, member}
 
 either : (a b : Bool) → a ≡ false → b ≡ false → (a || b) ≡ false
@@ -44,8 +39,3 @@ mutual
 -- A text that is laid out so and has the JSON of a value in order is its text.
 pub pretty_exact : (bytes : List ℕ) (v : Plain) (d : Data) → bytes ≡ pretty (tokens bytes) → IsInOrder bytes d → d ≡ json_of v → bytes ≡ pretty_text (json_of v)
 pretty_exact bytes v d layout order same = layout ∙ ap pretty (tokens_from_order bytes d order (ap has_float same ∙ no_float v)) ∙ ap pretty_text same
-
--- The value of a text that reads as the JSON of a value in range.
-pub text_read : (v : Plain) (bytes : List ℕ) (node : Plain) → limited bytes ≡ Ok node → read bytes ≡ Some (json_of v) → IsTrue (is_in_range v) → from_json node ≡ Ok v
-text_read v bytes node given reads in_range =
-    ap from_json (limited_is bytes node given) ∙ ap value_read reads ∙ ap whole_value (value_again v in_range)

@@ -1,14 +1,17 @@
 -- The steps in which `format` is computed.
-use Rattle.std.specs.Prelude.{◌≡◌, ◌≢◌, ℕ, ◌≤◌, ◌==◌, ◌||◌, Bool, not, Option, Some, None, Result, Ok, Err, List, ◌++◌, length, map}
+use Rattle.std.specs.Prelude.{◌≡◌, ◌≢◌, ℕ, ◌≤◌, ◌==◌, ◌||◌, Bool, not, Option, Some, None, Result, Err, List, ◌++◌, length, map}
 use Rattle.std.specs.Borrow.{Bor}
+use Rattle.std.specs.Option.{option_map}
 use Rattle.expr_value.specs.Bounded.{grown, grown_value}
+use Rattle.expr_value.specs.Convert.{text_of}
 use Rattle.expr_value.specs.Format.{opening, closing, formatted}
 use Rattle.expr_value.specs.Functions.{text_of_value}
-use Rattle.expr_value.specs.Seen.{items_seen}
+use Rattle.expr_value.specs.Seen.{items_seen, kind_seen}
 use Rattle.expr_value.specs.declared.item.Item.{Item}
+use Rattle.expr_value.specs.declared.kind.Kind.{Kind}
 use Rattle.flow_model.specs.Plain.{Plain}
 use Rattle.flow_model.specs.declared.reply.ValueFault.{ValueFault}
-use Rattle.flow_model.specs.declared.reply.ValueFault.TheVariants.{NotWhole, NoIdentity, BadFormat, BadJson, TooLarge, Memory}
+use Rattle.flow_model.specs.declared.reply.ValueFault.TheVariants.{BadFormat}
 
 -- The texts of arguments.
 abbrev pub texts_of : List Item → List (List ℕ)
@@ -27,15 +30,9 @@ abbrev pub ended : Option (List ℕ) → Option (List ℕ) → Result Plain Valu
 ended so_far None = Err BadFormat
 ended so_far (Some bytes) = grown_value (grown so_far bytes)
 
--- A step has added what stands at the front, and answers the rest of the format text, which has at most so many
--- bytes; or there is no format.
-abbrev pub Steps : List (List ℕ) → Option (List ℕ) → Option (List ℕ) → ℕ
-    → Result (Bor (List ℕ)) ValueFault → Option (List ℕ) → Type 0
-Steps arguments old meaning size (Ok rest) new =
-    (ended new (formatted arguments rest.now) ≡ ended old meaning) × (length rest.now ≤ size)
-Steps arguments old meaning size (Err NotWhole) new = ⊥
-Steps arguments old meaning size (Err NoIdentity) new = ⊥
-Steps arguments old meaning size (Err BadFormat) new = meaning ≡ None
-Steps arguments old meaning size (Err BadJson) new = ⊥
-Steps arguments old meaning size (Err TooLarge) new = ⊥
-Steps arguments old meaning size (Err Memory) new = Unit {0}
+-- What was found at the front of a format text: the kind that has its text, and the rest, which has at most so many
+-- bytes; or it is no format.
+abbrev pub Splits : List (List ℕ) → Option (List ℕ) → ℕ → Option (Kind × Bor (List ℕ)) → Type 0
+Splits arguments meaning size None = meaning ≡ None
+Splits arguments meaning size (Some (kind, rest)) =
+    (meaning ≡ option_map (λ bytes. text_of (kind_seen kind) ++ bytes) (formatted arguments rest.now)) × (length rest.now ≤ size)

@@ -7,6 +7,7 @@ pub mod Context
 pub mod Convert
 pub mod Dereference
 pub mod Evaluate
+pub mod Evaluating
 pub mod Format
 pub mod Formatting
 pub mod FunctionLaws
@@ -22,4 +23,5 @@ pub mod Number
 pub mod Ordered
 pub mod Searching
 pub mod Seen
+pub mod Stepping
 pub mod Template

@@ -1,6 +1,6 @@
 -- The number that a text writes (RFC 8259, "Numbers": an optional minus, an integer, and where there is one a
 -- fraction and an exponent; no white space round it).
-use Rattle.std.specs.Prelude.{ℕ, ℤ, pos, Bool, false, not, ◌&&◌, ◌||◌, ◌==◌, nat_le, if◌then◌else◌, Option, Some, None, Result, Ok, Err, List, [], ◌∷◌, take, drop}
+use Rattle.std.specs.Prelude.{ℕ, ℤ, pos, Bool, true, false, not, ◌&&◌, ◌||◌, ◌==◌, nat_le, if◌then◌else◌, Option, Some, None, Result, Ok, Err, List, [], ◌∷◌, take, drop}
 use Rattle.std.specs.List.{list_all, prefix_len}
 use Rattle.std.specs.Option.{option_map}
 use Rattle.expr_reader.specs.Bytes.{is_digit}
@@ -78,6 +78,11 @@ number_of_parts digits (b ∷ bs) = if is_integer digits && is_tail (b ∷ bs) t
 -- The number of a text without a sign.
 abbrev pub unsigned_number : List ℕ → Result (Option ℕ) ValueFault
 unsigned_number bs = number_of_parts (take (prefix_len is_digit bs) bs) (drop (prefix_len is_digit bs) bs)
+
+-- A number with a minus, or without.
+abbrev pub sign_of : Bool → ℕ → ℤ
+sign_of true = negative
+sign_of false = pos
 
 -- A number under its sign.
 abbrev pub with_sign : (ℕ → ℤ) → Result (Option ℕ) ValueFault → Result (Option ℤ) ValueFault

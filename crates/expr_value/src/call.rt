@@ -46,10 +46,10 @@ fn call_join(alloc: Global, arguments: &[Item<'_>]) -> Result<Node, ValueFault>
     ensures { Gives view result (join_of (map item_seen arguments.now)) }
 {
     match arguments {
-        [item] => join(alloc, item, ","),
+        [item] => join(alloc, item.node(), ","),
         [item, separator] => {
             let separator = text_of_kind(alloc, separator.kind())?;
-            join(alloc, item, separator.as_str())
+            join(alloc, item.node(), separator.as_str())
         },
         [] | [_, _, _, ..] => Ok(Node::Null),
     }

@@ -46,7 +46,8 @@ fn order_by_number(left: Kind<'_>, right: Kind<'_>) -> Result<Option<Ordering>, 
 // Whether two values are equal by number.
 fn equals_by_number(left: Kind<'_>, right: Kind<'_>) -> Result<bool, ValueFault>
     ensures { result
-        ≡ compare.passes is_eq (compare.order_by_number (kind_seen left.entry) (kind_seen right.entry)) }
+        ≡ compare.passes is_eq
+        (compare.order_by_number (kind_seen left.entry) (kind_seen right.entry)) }
 {
     match order_by_number(left, right) {
         Ok(Some(order)) => Ok(order.is_eq()),
@@ -65,9 +66,7 @@ pub(crate) fn equals(left: Kind<'_>, right: Kind<'_>) -> Result<bool, ValueFault
     ensures { result ≡ compare.equals (kind_seen left.entry) (kind_seen right.entry) }
 {
     match (left, right) {
-        (Kind::Null, Kind::Null) => Ok(true),
         (Kind::Truth(left), Kind::Truth(right)) => Ok(left == right),
-        (Kind::Whole(left), Kind::Whole(right)) => Ok(left == right),
         (Kind::Text(left), Kind::Text(right)) => Ok(text_order(left, right).is_eq()),
         (Kind::List, Kind::List) | (Kind::Map, Kind::Map) => Err(ValueFault::NoIdentity),
         _ => equals_by_number(left, right),
@@ -85,7 +84,8 @@ pub(crate) fn equality(
     right: Kind<'_>,
 ) -> Result<bool, ValueFault>
     ensures { result
-        ≡ compare.equality_of equality (compare.equals (kind_seen left.entry) (kind_seen right.entry)) }
+        ≡ compare.equality_of equality
+        (compare.equals (kind_seen left.entry) (kind_seen right.entry)) }
 {
     match equals(left, right) {
         Ok(same) => match equality {

@@ -2,11 +2,11 @@
 //! filters).
 
 ghost use Rattle.std.specs.Prelude.{◌≡◌, ◌++◌, IfOk, Ok};
-ghost use Rattle.std.specs.List.{cons_option, filter_map, flat_map};
 ghost use Rattle.expr_value.specs.Answer.{Gives};
 ghost use Rattle.expr_value.specs.Convert.{text_of, number_of as number_of_kind};
-ghost use Rattle.expr_value.specs.Dereference.{one, filtered, or_null as or_null_of, is_alike as is_alike_of, property_in, property_of as property_of_value, item_at, item_found, index_of as index_of_value, contents, index_each, property_found as property_found_of, index_found as index_found_of, all_found as all_found_of, outside as outside_of};
-ghost use Rattle.expr_value.specs.Seen.{item_seen, items_seen, found_seen, maybe_seen, node_seen, kind_seen, members_seen};
+ghost use Rattle.expr_value.specs.Dereference.{one, filtered, or_null as or_null_of, is_alike as is_alike_of, property_in, property_of as property_of_value, item_at, item_found, index_of as index_of_value, outside as outside_of};
+ghost use Rattle.expr_value.specs.Seen.{found_seen, item_seen, items_seen, kind_seen, maybe_seen, members_seen, node_seen};
+ghost use Rattle.expr_value.specs.Stepping.{place_in, places_in, step_found as step_found_of, step_seen};
 ghost use Rattle.flow_model.specs.Value.{view, views};
 
 use crate::compare::text_order;
@@ -109,9 +109,30 @@ fn index_of<'n>(
     }
 }
 
+/// One step of a chain: `.name` or `[index]`.
+#[derive(Clone, Copy)]
+pub(crate) enum Step<'s> {
+    Property(&'s str),
+    Index(Kind<'s>),
+}
+
+// What stands at a step from a value.
+fn place_of<'n>(
+    alloc: Global,
+    node: &'n Node,
+    step: Step<'_>,
+) -> Result<Option<&'n Node>, ValueFault>
+    ensures { Gives node_seen result (place_in (step_seen step.entry) (view node.now)) }
+{
+    match step {
+        Step::Property(name) => Ok(property_of(node, name)),
+        Step::Index(index) => index_of(alloc, node, index),
+    }
+}
+
 // A node that may be there, as an item of its own.
-fn made<'a>(alloc: Global, node: Option<&Node>) -> Result<Option<Item<'a>>, AllocError>
-    ensures { IfOk result (λ item. maybe_seen item ≡ node_seen node.entry) }
+fn made<'a>(alloc: Global, node: Option<&Node>) -> Result<Option<Item<'a>>, ValueFault>
+    ensures { Gives maybe_seen result (Ok (node_seen node.entry)) }
 {
     match node {
         Some(node) => Ok(Some(Item::Made(copy_node(alloc, node)?))),
@@ -129,45 +150,29 @@ fn lent(node: Option<&Node>) -> Option<Item<'_>>
     }
 }
 
-// The property of an item, where it is a map that has it.
-fn item_property<'a>(
-    alloc: Global,
-    item: &Item<'a>,
-    name: &str,
-) -> Result<Option<Item<'a>>, AllocError>
-    ensures { IfOk result
-        (λ found. maybe_seen found ≡ property_of_value name.now (item_seen item.now)) }
-{
-    match item {
-        Item::Lent(node) => Ok(lent(property_of(*node, name))),
-        Item::Made(node) => made(alloc, property_of(node, name)),
-    }
-}
-
-// What stands at an index in a value that was made, as an item of its own.
-fn made_index<'a>(
+// What stands at a step from a value that was made, as an item of its own.
+fn made_place<'a>(
     alloc: Global,
     node: &Node,
-    index: Kind<'_>,
+    step: Step<'_>,
 ) -> Result<Option<Item<'a>>, ValueFault>
-    ensures { Gives maybe_seen result (index_of_value (kind_seen index.entry) (view node.now)) }
+    ensures { Gives maybe_seen result (place_in (step_seen step.entry) (view node.now)) }
 {
-    let found = index_of(alloc, node, index)?;
-    Ok(made(alloc, found)?)
+    let found = place_of(alloc, node, step)?;
+    made(alloc, found)
 }
 
-// What stands at an index in an item.
-fn item_index<'a>(
+// What stands at a step from an item.
+fn item_place<'a>(
     alloc: Global,
     item: &Item<'a>,
-    index: Kind<'_>,
+    step: Step<'_>,
 ) -> Result<Option<Item<'a>>, ValueFault>
-    ensures { Gives maybe_seen result
-        (index_of_value (kind_seen index.entry) (item_seen item.now)) }
+    ensures { Gives maybe_seen result (place_in (step_seen step.entry) (item_seen item.now)) }
 {
     match item {
-        Item::Lent(node) => Ok(lent(index_of(alloc, *node, index)?)),
-        Item::Made(node) => made_index(alloc, node, index),
+        Item::Lent(node) => Ok(lent(place_of(alloc, *node, step)?)),
+        Item::Made(node) => made_place(alloc, node, step),
     }
 }
 
@@ -181,108 +186,56 @@ fn or_null(item: Option<Item<'_>>) -> Found<'_>
     }
 }
 
-// The property of each item that has it.
-fn properties<'a>(
-    alloc: Global,
-    items: &[Item<'a>],
-    name: &str,
-) -> Result<Vec<Item<'a>>, AllocError>
-    ensures { IfOk result (λ found. items_seen found.items
-        ≡ filter_map (property_of_value name.now) (items_seen items.now)) }
+// A step from one value: what stands there, or null.
+fn one_place<'a>(alloc: Global, item: &Item<'a>, step: Step<'_>) -> Result<Found<'a>, ValueFault>
+    ensures { Gives found_seen result
+        (step_found_of (step_seen step.entry) (one (item_seen item.now))) }
 {
-    let mut found = Vec::new(alloc);
-    for item in items {
-        if let Some(property) = item_property(alloc, item, name)? {
-            found.push(property)?;
-        }
-    }
-    Ok(found)
+    Ok(or_null(item_place(alloc, item, step)?))
 }
 
-// What stands at an index in each item that has it.
-fn indexes<'a>(
+// What stands at a step from each item that has it.
+fn places<'a>(
     alloc: Global,
     items: &[Item<'a>],
-    index: Kind<'_>,
+    step: Step<'_>,
 ) -> Result<Vec<Item<'a>>, ValueFault>
     ensures { Gives (λ found. items_seen found.items) result
-        (index_each (kind_seen index.entry) (items_seen items.now)) }
+        (places_in (step_seen step.entry) (items_seen items.now)) }
 {
     let mut found = Vec::new(alloc);
     for item in items {
-        if let Some(place) = item_index(alloc, item, index)? {
+        if let Some(place) = item_place(alloc, item, step)? {
             found.push(place)?;
         }
     }
     Ok(found)
 }
 
-// `.name` of one value: the property, or null.
-fn one_property<'a>(alloc: Global, item: &Item<'a>, name: &str) -> Result<Found<'a>, ValueFault>
-    ensures { Gives found_seen result
-        (Ok (property_found_of name.now (one (item_seen item.now)))) }
-{
-    Ok(or_null(item_property(alloc, item, name)?))
-}
-
-// `.name` of a filtered list.
-fn filtered_properties<'a>(
+// A step from a filtered list.
+fn filtered_places<'a>(
     alloc: Global,
     items: &[Item<'a>],
-    name: &str,
+    step: Step<'_>,
 ) -> Result<Found<'a>, ValueFault>
     ensures { Gives found_seen result
-        (Ok (property_found_of name.now (filtered (items_seen items.now)))) }
+        (step_found_of (step_seen step.entry) (filtered (items_seen items.now))) }
 {
-    Ok(Found::Filtered(properties(alloc, items, name)?))
+    Ok(Found::Filtered(places(alloc, items, step)?))
 }
 
-/// `.name`: the property of one value or null, or of each item of a filtered list that has it.
-pub(crate) fn property_found<'a>(
+/// A step: what stands there in one value or null, or in each item of a filtered list that has it.
+pub(crate) fn step_found<'a>(
     alloc: Global,
     found: &Found<'a>,
-    name: &str,
+    step: Step<'_>,
 ) -> Result<Found<'a>, ValueFault>
-    ensures { Gives found_seen result (Ok (property_found_of name.now (found_seen found.now))) }
+    ensures { Gives found_seen result
+        (step_found_of (step_seen step.entry) (found_seen found.now)) }
 {
     match found {
-        Found::One(item) => one_property(alloc, item, name),
-        Found::Filtered(items) => filtered_properties(alloc, items.as_slice(), name),
-    }
-}
-
-// `[index]` of one value: what stands there, or null.
-fn one_index<'a>(alloc: Global, item: &Item<'a>, index: Kind<'_>) -> Result<Found<'a>, ValueFault>
-    ensures { Gives found_seen result
-        (index_found_of (kind_seen index.entry) (one (item_seen item.now))) }
-{
-    Ok(or_null(item_index(alloc, item, index)?))
-}
-
-// `[index]` of a filtered list.
-fn filtered_indexes<'a>(
-    alloc: Global,
-    items: &[Item<'a>],
-    index: Kind<'_>,
-) -> Result<Found<'a>, ValueFault>
-    ensures { Gives found_seen result
-        (index_found_of (kind_seen index.entry) (filtered (items_seen items.now))) }
-{
-    Ok(Found::Filtered(indexes(alloc, items, index)?))
-}
-
-/// `[index]`: what stands there in one value or null, or in each item of a filtered list that has it.
-pub(crate) fn index_found<'a>(
-    alloc: Global,
-    found: &Found<'a>,
-    index: Kind<'_>,
-) -> Result<Found<'a>, ValueFault>
-    ensures { Gives found_seen result
-        (index_found_of (kind_seen index.entry) (found_seen found.now)) }
-{
-    match found {
-        Found::One(item) => one_index(alloc, item, index),
-        Found::Filtered(items) => filtered_indexes(alloc, items.as_slice(), index),
+        Found::One(item) => one_place(alloc, item, step),
+        Found::Filtered(items) => filtered_places(alloc, items.as_slice(), step),
     }
 }
 

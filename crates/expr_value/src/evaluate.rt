@@ -1,25 +1,24 @@
 //! The values of expressions.
 
-ghost use Rattle.std.specs.Prelude.{◌≡◌, ◌++◌, IfOk, Ok, map, true, false};
-ghost use Rattle.expr_reader.specs.Expr as expr;
+ghost use Rattle.std.specs.Prelude.{◌≡◌, IfOk, Ok, not};
 ghost use Rattle.expr_reader.specs.View.{view as tree_view, constant_of};
 ghost use Rattle.expr_value.specs.Answer.{Gives};
 ghost use Rattle.expr_value.specs.Context.{context_value};
-ghost use Rattle.expr_value.specs.Convert.{truth_of as truth_of_kind};
-ghost use Rattle.expr_value.specs.Dereference.{one};
-ghost use Rattle.expr_value.specs.Evaluate.{all_chain, all_values, begun as begun_of, call_value, chain as chain_of, conjunction as conjunction_of, constant_value, disjunction as disjunction_of, equality_value, indexed, relation_value, then_value, value};
+ghost use Rattle.expr_value.specs.Dereference.{one, outside as outside_of};
+ghost use Rattle.expr_value.specs.Evaluate.{all_values, begun as begun_of, call_value, chain as chain_of, constant_value, indexed, is_truthy, then_value, truth_answer, value};
+ghost use Rattle.expr_value.specs.Evaluating.{completed as completed_of, first_of, test_kinds, test_value};
 ghost use Rattle.expr_value.specs.Functions.{called};
-ghost use Rattle.expr_value.specs.Kind.{kind_of as kind_of_value};
-ghost use Rattle.expr_value.specs.Seen.{item_seen, items_seen, kind_seen, found_seen, tree_answers};
+ghost use Rattle.expr_value.specs.Seen.{found_seen, item_seen, items_seen, kind_seen, tree_answers};
 ghost use Rattle.flow_model.specs.Plain as plain;
 ghost use Rattle.flow_model.specs.Value.{view};
 
 use crate::call::call;
 use crate::compare::{equality, related};
 use crate::context::Context;
-use crate::dereference::{Found, index_found, outside, property_found};
+use crate::dereference::{Found, Step, outside, step_found};
 use crate::filter::all_found;
 use crate::item::Item;
+use crate::kind::Kind;
 use crate::status::Status;
 use crate::truth::truth_of;
 use expr_reader::{Equality, Function, Literal, Relation, Tree};
@@ -80,28 +79,71 @@ fn call_found<'a>(
     Ok(begun(call(alloc, function, status, values)?))
 }
 
-// The value of a relation of two values.
-fn relation_found<'a>(
-    relation: Relation,
-    left: &Item<'_>,
-    right: &Item<'_>,
-) -> Result<Found<'a>, ValueFault>
-    ensures { Gives found_seen result
-        (begun_of (relation_value relation (item_seen left.now) (item_seen right.now))) }
-{
-    Ok(begun(Node::Truth(related(relation, left.kind(), right.kind())?)))
+// How two values are compared.
+#[derive(Clone, Copy)]
+enum Test {
+    Relation(Relation),
+    Equality(Equality),
 }
 
-// The value of an equality of two values.
-fn equality_found<'a>(
-    test: Equality,
-    left: &Item<'_>,
-    right: &Item<'_>,
-) -> Result<Found<'a>, ValueFault>
-    ensures { Gives found_seen result
-        (begun_of (equality_value test (item_seen left.now) (item_seen right.now))) }
+// Whether two values pass a test.
+fn compared(test: Test, left: Kind<'_>, right: Kind<'_>) -> Result<bool, ValueFault>
+    ensures { truth_answer result ≡ test_kinds test (kind_seen left.entry) (kind_seen right.entry) }
 {
-    Ok(begun(Node::Truth(equality(test, left.kind(), right.kind())?)))
+    match test {
+        Test::Relation(relation) => related(relation, left, right),
+        Test::Equality(test) => equality(test, left, right),
+    }
+}
+
+// The value of a test of two values.
+fn test_found<'a>(test: Test, left: &Item<'_>, right: &Item<'_>) -> Result<Found<'a>, ValueFault>
+    ensures { Gives found_seen result
+        (begun_of (test_value test (item_seen left.now) (item_seen right.now))) }
+{
+    Ok(begun(Node::Truth(compared(test, left.kind(), right.kind())?)))
+}
+
+// What may follow an operand, or stand round it.
+#[derive(Clone, Copy)]
+enum Last<'t> {
+    /// `.name`
+    Property(&'t str),
+    /// `.*` or `[*]`
+    Contents,
+    /// `( )`: a filtered list is a list from there on.
+    Group,
+    /// `!` before it.
+    Opposite,
+}
+
+// Whether what a chain has come to is true.
+fn is_true(found: &Found<'_>) -> bool
+    ensures { result ≡ is_truthy (outside_of (found_seen found.now)) }
+{
+    match found {
+        Found::One(item) => truth_of(item.kind()),
+        Found::Filtered(_) => true,
+    }
+}
+
+// The value in parentheses.
+fn grouped<'a>(alloc: Global, found: Found<'a>) -> Result<Found<'a>, ValueFault>
+    ensures { Gives found_seen result (Ok (one (outside_of (found_seen found.entry)))) }
+{
+    Ok(Found::One(outside(alloc, found)?))
+}
+
+// An operand with what follows it, or stands round it.
+fn completed<'a>(alloc: Global, found: Found<'a>, last: Last<'_>) -> Result<Found<'a>, ValueFault>
+    ensures { Gives found_seen result (completed_of last.entry (Ok (found_seen found.entry))) }
+{
+    match last {
+        Last::Property(name) => step_found(alloc, &found, Step::Property(name)),
+        Last::Contents => all_found(alloc, &found),
+        Last::Group => grouped(alloc, found),
+        Last::Opposite => Ok(begun(Node::Truth(!is_true(&found)))),
+    }
 }
 
 // The value of an expression, as a chain of dereferences may go on from it.
@@ -121,25 +163,50 @@ fn chain<'a, C: Context>(
         Tree::Call(function, arguments) => {
             called_with(alloc, *function, arguments.as_slice(), contexts, status)
         },
-        Tree::Group(inner) => grouped(alloc, inner, contexts, status),
-        Tree::Property(base, name) => member_of(alloc, base, name.as_str(), contexts, status),
+        Tree::Group(inner) => operand(alloc, inner, Last::Group, contexts, status),
+        Tree::Property(base, name) => {
+            operand(alloc, base, Last::Property(name.as_str()), contexts, status)
+        },
         Tree::Index(base, index) => {
             let found = chain(alloc, base, contexts, status)?;
             indexed_by(alloc, found, index, contexts, status)
         },
-        Tree::Wildcard(_, base) => contents_of(alloc, base, contexts, status),
-        Tree::Not(operand) => opposite_of(alloc, operand, contexts, status),
+        Tree::Wildcard(_, base) => operand(alloc, base, Last::Contents, contexts, status),
+        Tree::Not(inner) => operand(alloc, inner, Last::Opposite, contexts, status),
         Tree::Relation(relation, left, right) => {
             let left = evaluate(alloc, left, contexts, status)?;
-            related_to(alloc, *relation, left, right, contexts, status)
+            tested(
+                alloc,
+                Test::Relation(*relation),
+                left,
+                right,
+                contexts,
+                status,
+            )
         },
         Tree::Equality(test, left, right) => {
             let left = evaluate(alloc, left, contexts, status)?;
-            equal_to(alloc, *test, left, right, contexts, status)
+            tested(alloc, Test::Equality(*test), left, right, contexts, status)
         },
-        Tree::Both(parts) => conjunction(alloc, parts.as_slice(), contexts, status),
-        Tree::Either(parts) => disjunction(alloc, parts.as_slice(), contexts, status),
+        Tree::Both(parts) => decided(alloc, false, parts.as_slice(), contexts, status),
+        Tree::Either(parts) => decided(alloc, true, parts.as_slice(), contexts, status),
     }
+}
+
+// The chain of an operand with what follows it, or stands round it.
+#[cycle(evaluate)]
+fn operand<'a, C: Context>(
+    alloc: Global,
+    inner: &Tree,
+    last: Last<'_>,
+    contexts: &'a C,
+    status: Status,
+) -> Result<Found<'a>, ValueFault>
+    ensures { Gives found_seen result (completed_of last.entry
+        (chain_of (C.contexts contexts.now) status (tree_view inner.now))) }
+{
+    let found = chain(alloc, inner, contexts, status)?;
+    completed(alloc, found, last)
 }
 
 // The value of a call.
@@ -158,37 +225,6 @@ fn called_with<'a, C: Context>(
     call_found(alloc, function, status, values.as_slice())
 }
 
-// The value in parentheses: a filtered list is a list from there on.
-#[cycle(evaluate)]
-fn grouped<'a, C: Context>(
-    alloc: Global,
-    inner: &Tree,
-    contexts: &'a C,
-    status: Status,
-) -> Result<Found<'a>, ValueFault>
-    ensures { Gives found_seen result
-        (chain_of (C.contexts contexts.now) status (expr.group (tree_view inner.now))) }
-{
-    let value = evaluate(alloc, inner, contexts, status)?;
-    Ok(Found::One(value))
-}
-
-// The chain after `.name`.
-#[cycle(evaluate)]
-fn member_of<'a, C: Context>(
-    alloc: Global,
-    base: &Tree,
-    name: &str,
-    contexts: &'a C,
-    status: Status,
-) -> Result<Found<'a>, ValueFault>
-    ensures { Gives found_seen result
-        (chain_of (C.contexts contexts.now) status (expr.property (tree_view base.now) name.now)) }
-{
-    let found = chain(alloc, base, contexts, status)?;
-    property_found(alloc, &found, name)
-}
-
 // The chain after `[index]`, from what it has come to.
 #[cycle(evaluate)]
 fn indexed_by<'a, C: Context>(
@@ -203,44 +239,14 @@ fn indexed_by<'a, C: Context>(
         (value (C.contexts contexts.now) status (tree_view index.now))) }
 {
     let index = evaluate(alloc, index, contexts, status)?;
-    index_found(alloc, &found, index.kind())
+    step_found(alloc, &found, Step::Index(index.kind()))
 }
 
-// The chain after `.*` or `[*]`.
+// The value of a test, from the left side's.
 #[cycle(evaluate)]
-fn contents_of<'a, C: Context>(
+fn tested<'a, C: Context>(
     alloc: Global,
-    base: &Tree,
-    contexts: &'a C,
-    status: Status,
-) -> Result<Found<'a>, ValueFault>
-    ensures { Gives found_seen result
-        (all_chain (chain_of (C.contexts contexts.now) status (tree_view base.now))) }
-{
-    let found = chain(alloc, base, contexts, status)?;
-    all_found(alloc, &found)
-}
-
-// The value of `!operand`.
-#[cycle(evaluate)]
-fn opposite_of<'a, C: Context>(
-    alloc: Global,
-    operand: &Tree,
-    contexts: &'a C,
-    status: Status,
-) -> Result<Found<'a>, ValueFault>
-    ensures { Gives found_seen result
-        (chain_of (C.contexts contexts.now) status (expr.opposite (tree_view operand.now))) }
-{
-    let value = evaluate(alloc, operand, contexts, status)?;
-    Ok(begun(Node::Truth(!truth_of(value.kind()))))
-}
-
-// The value of a relation, from the left side's.
-#[cycle(evaluate)]
-fn related_to<'a, C: Context>(
-    alloc: Global,
-    relation: Relation,
+    test: Test,
     left: Item<'a>,
     right: &Tree,
     contexts: &'a C,
@@ -248,28 +254,10 @@ fn related_to<'a, C: Context>(
 ) -> Result<Found<'a>, ValueFault>
     ensures { Gives found_seen result (begun_of (then_value
         (value (C.contexts contexts.now) status (tree_view right.now))
-        (relation_value relation (item_seen left.entry)))) }
+        (test_value test (item_seen left.entry)))) }
 {
     let right = evaluate(alloc, right, contexts, status)?;
-    relation_found(relation, &left, &right)
-}
-
-// The value of an equality, from the left side's.
-#[cycle(evaluate)]
-fn equal_to<'a, C: Context>(
-    alloc: Global,
-    test: Equality,
-    left: Item<'a>,
-    right: &Tree,
-    contexts: &'a C,
-    status: Status,
-) -> Result<Found<'a>, ValueFault>
-    ensures { Gives found_seen result (begun_of (then_value
-        (value (C.contexts contexts.now) status (tree_view right.now))
-        (equality_value test (item_seen left.entry)))) }
-{
-    let right = evaluate(alloc, right, contexts, status)?;
-    equality_found(test, &left, &right)
+    test_found(test, &left, &right)
 }
 
 /// The value of an expression.
@@ -298,50 +286,28 @@ fn evaluate_all<'a, C: Context>(
     ensures { Gives (λ values. items_seen values.items) result
         (all_values (tree_answers (C.contexts contexts.now) status trees.now)) }
 {
-    let mut values = Vec::with_capacity(alloc, trees.len())?;
+    let mut values = Vec::new(alloc);
     for tree in trees {
         values.push(evaluate(alloc, tree, contexts, status)?)?;
     }
     Ok(values)
 }
 
-// The first part that is not true, or the last one; what stands after it is not evaluated.
+// The first part that is so true as is asked for, or the last one; what stands after it is not evaluated.
 #[cycle(evaluate)]
-fn conjunction<'a, C: Context>(
+fn decided<'a, C: Context>(
     alloc: Global,
+    truth: bool,
     parts: &[Tree],
     contexts: &'a C,
     status: Status,
 ) -> Result<Found<'a>, ValueFault>
-    ensures { Gives found_seen result
-        (begun_of (conjunction_of (plain.truth true)
+    ensures { Gives found_seen result (begun_of (first_of truth (plain.truth (not truth))
         (tree_answers (C.contexts contexts.now) status parts.now))) }
 {
-    let mut value = Item::Made(Node::Truth(true));
+    let mut value = Item::Made(Node::Truth(!truth));
     for part in parts {
-        if !truth_of(value.kind()) {
-            return Ok(Found::One(value));
-        }
-        value = evaluate(alloc, part, contexts, status)?;
-    }
-    Ok(Found::One(value))
-}
-
-// The first part that is true, or the last one; what stands after it is not evaluated.
-#[cycle(evaluate)]
-fn disjunction<'a, C: Context>(
-    alloc: Global,
-    parts: &[Tree],
-    contexts: &'a C,
-    status: Status,
-) -> Result<Found<'a>, ValueFault>
-    ensures { Gives found_seen result
-        (begun_of (disjunction_of (plain.truth false)
-        (tree_answers (C.contexts contexts.now) status parts.now))) }
-{
-    let mut value = Item::Made(Node::Truth(false));
-    for part in parts {
-        if truth_of(value.kind()) {
+        if truth_of(value.kind()) == truth {
             return Ok(Found::One(value));
         }
         value = evaluate(alloc, part, contexts, status)?;

@@ -3,7 +3,7 @@
 ghost use Rattle.std.specs.Prelude.{◌≡◌, ◌++◌, IfOk, Ok, OnOk};
 ghost use Rattle.std.specs.List.{flat_map};
 ghost use Rattle.expr_value.specs.Answer.{Gives};
-ghost use Rattle.expr_value.specs.Dereference.{contents, one, filtered, all_found as all_found_of};
+ghost use Rattle.expr_value.specs.Dereference.{contents, filtered, all_found as all_found_of};
 ghost use Rattle.expr_value.specs.Kind.{items as items_of_list, values as values_of};
 ghost use Rattle.expr_value.specs.Seen.{item_seen, items_seen, found_seen, members_seen};
 ghost use Rattle.flow_model.specs.Value.{view, views};
@@ -13,6 +13,7 @@ use crate::item::Item;
 use flow_model::{Node, ValueFault, copy_node};
 use std::alloc::{AllocError, Global};
 use std::collections::BTreeMap;
+use std::slice;
 
 // Adds the items of a list, lent.
 fn push_nodes<'a>(nodes: &'a [Node], found: &mut Vec<Item<'a>>) -> Result<(), AllocError>
@@ -39,36 +40,6 @@ fn push_values<'a>(
     Ok(())
 }
 
-// Adds copies of the items of a list.
-fn push_node_copies(
-    alloc: Global,
-    nodes: &[Node],
-    found: &mut Vec<Item<'_>>,
-) -> Result<(), AllocError>
-    ensures { OnOk result
-        (items_seen found.new.items ≡ items_seen found.old.items ++ views nodes.now) }
-{
-    for node in nodes {
-        found.push(Item::Made(copy_node(alloc, node)?))?;
-    }
-    Ok(())
-}
-
-// Adds copies of the values of a map.
-fn push_value_copies(
-    alloc: Global,
-    members: &BTreeMap<String, Node>,
-    found: &mut Vec<Item<'_>>,
-) -> Result<(), AllocError>
-    ensures { OnOk result (items_seen found.new.items
-        ≡ items_seen found.old.items ++ values_of (members_seen members.now.entries)) }
-{
-    for (_key, node) in members.iter() {
-        found.push(Item::Made(copy_node(alloc, node)?))?;
-    }
-    Ok(())
-}
-
 // Adds the contents of a node, lent.
 fn push_lent<'a>(node: &'a Node, found: &mut Vec<Item<'a>>) -> Result<(), AllocError>
     ensures { OnOk result (items_seen found.new.items
@@ -81,16 +52,29 @@ fn push_lent<'a>(node: &'a Node, found: &mut Vec<Item<'a>>) -> Result<(), AllocE
     }
 }
 
+// Adds copies of what items stand for.
+fn push_copies(
+    alloc: Global,
+    items: &[Item<'_>],
+    found: &mut Vec<Item<'_>>,
+) -> Result<(), AllocError>
+    ensures { OnOk result
+        (items_seen found.new.items ≡ items_seen found.old.items ++ items_seen items.now) }
+{
+    for item in items {
+        found.push(Item::Made(copy_node(alloc, item.node())?))?;
+    }
+    Ok(())
+}
+
 // Adds copies of the contents of a node.
 fn push_made(alloc: Global, node: &Node, found: &mut Vec<Item<'_>>) -> Result<(), AllocError>
     ensures { OnOk result (items_seen found.new.items
         ≡ items_seen found.old.items ++ contents (view node.now)) }
 {
-    match node {
-        Node::List(nodes) => push_node_copies(alloc, nodes.as_slice(), found),
-        Node::Map(members) => push_value_copies(alloc, members, found),
-        Node::Null | Node::Truth(_) | Node::Whole(_) | Node::Text(_) => Ok(()),
-    }
+    let mut lent = Vec::new(alloc);
+    push_lent(node, &mut lent)?;
+    push_copies(alloc, lent.as_slice(), found)
 }
 
 // Adds the contents of an item: what a context lends is lent on.
@@ -120,18 +104,10 @@ fn all_contents<'a>(alloc: Global, items: &[Item<'a>]) -> Result<Vec<Item<'a>>, 
     Ok(found)
 }
 
-// `.*` of one value.
-fn one_contents<'a>(alloc: Global, item: &Item<'a>) -> Result<Found<'a>, ValueFault>
-    ensures { Gives found_seen result (Ok (all_found_of (one (item_seen item.now)))) }
-{
-    let mut found = Vec::new(alloc);
-    push_contents(alloc, item, &mut found)?;
-    Ok(Found::Filtered(found))
-}
-
-// `.*` of a filtered list.
+// `.*` of values, as a filtered list.
 fn filtered_contents<'a>(alloc: Global, items: &[Item<'a>]) -> Result<Found<'a>, ValueFault>
-    ensures { Gives found_seen result (Ok (all_found_of (filtered (items_seen items.now)))) }
+    ensures { Gives found_seen result
+        (Ok (filtered (flat_map contents (items_seen items.now)))) }
 {
     Ok(Found::Filtered(all_contents(alloc, items)?))
 }
@@ -141,7 +117,7 @@ pub(crate) fn all_found<'a>(alloc: Global, found: &Found<'a>) -> Result<Found<'a
     ensures { Gives found_seen result (Ok (all_found_of (found_seen found.now))) }
 {
     match found {
-        Found::One(item) => one_contents(alloc, item),
+        Found::One(item) => filtered_contents(alloc, slice::from_ref(item)),
         Found::Filtered(items) => filtered_contents(alloc, items.as_slice()),
     }
 }

@@ -6,7 +6,7 @@ ghost use Rattle.expr_reader.specs.Bytes.{is_digit as is_digit_byte};
 ghost use Rattle.expr_reader.specs.Number.{digits_value};
 ghost use Rattle.expr_value.specs.Answer.{Gives};
 ghost use Rattle.expr_value.specs.Format.{formatted, opened, closed};
-ghost use Rattle.expr_value.specs.Formatting.{texts_of, is_plain as is_plain_byte, BeginsOther, Steps};
+ghost use Rattle.expr_value.specs.Formatting.{texts_of, is_plain as is_plain_byte, BeginsOther, Splits};
 ghost use Rattle.expr_value.specs.Functions.{formatted_value};
 ghost use Rattle.expr_value.specs.Kind.{kind_of};
 ghost use Rattle.expr_value.specs.Seen.{kind_seen, item_seen};
@@ -89,116 +89,91 @@ fn argument_at<'a>(arguments: &'a [Item<'_>], digits: &str) -> Option<Kind<'a>>
     Some(argument.kind())
 }
 
-// Adds the argument whose number stands at the front, after an opening brace.
-fn push_argument<'a>(
-    bounded: &mut Bounded,
-    alloc: Global,
-    text: &'a str,
-    arguments: &[Item<'_>],
-) -> Result<&'a str, ValueFault>
+// The argument whose number stands at the front, after an opening brace, and what follows it.
+fn argument_piece<'a>(text: &'a str, arguments: &'a [Item<'_>]) -> Option<(Kind<'a>, &'a str)>
     requires { BeginsOther (codes "{") text.now }
-    ensures { Steps (texts_of arguments.now) bounded.old (opened (texts_of arguments.now) text.now)
-        (length text.now) result bounded.new }
+    ensures { Splits (texts_of arguments.now) (opened (texts_of arguments.now) text.now)
+        (length text.now) result }
 {
     let (digits, rest) = split_digits(text);
     if digits.is_empty() {
-        return Err(ValueFault::BadFormat);
+        return None;
     }
     let Some(after) = after_brace(rest, '}') else {
-        return Err(ValueFault::BadFormat);
+        return None;
     };
     let Some(kind) = argument_at(arguments, digits) else {
-        return Err(ValueFault::BadFormat);
+        return None;
     };
-    push_kind(bounded, alloc, kind)?;
-    Ok(after)
+    Some((kind, after))
 }
 
-// Adds what follows an opening brace.
-fn push_opened<'a>(
-    bounded: &mut Bounded,
-    alloc: Global,
-    text: &'a str,
-    arguments: &[Item<'_>],
-) -> Result<&'a str, ValueFault>
-    ensures { Steps (texts_of arguments.now) bounded.old (opened (texts_of arguments.now) text.now)
-        (length text.now) result bounded.new }
+// What follows an opening brace: another one, or the number of an argument.
+fn opened_piece<'a>(text: &'a str, arguments: &'a [Item<'_>]) -> Option<(Kind<'a>, &'a str)>
+    ensures { Splits (texts_of arguments.now) (opened (texts_of arguments.now) text.now)
+        (length text.now) result }
 {
     match after_brace(text, '{') {
-        Some(after) => {
-            bounded.push_str("{")?;
-            Ok(after)
-        },
-        None => push_argument(bounded, alloc, text, arguments),
+        Some(after) => Some((Kind::Text("{"), after)),
+        None => argument_piece(text, arguments),
     }
 }
 
-// Adds what follows a closing brace: another one.
-fn push_closed<'a>(
-    bounded: &mut Bounded,
-    text: &'a str,
-    arguments: &[Item<'_>],
-) -> Result<&'a str, ValueFault>
-    ensures { Steps (texts_of arguments.now) bounded.old (closed (texts_of arguments.now) text.now)
-        (length text.now) result bounded.new }
+// What follows a closing brace: another one.
+fn closed_piece<'a>(text: &'a str, arguments: &[Item<'_>]) -> Option<(Kind<'a>, &'a str)>
+    ensures { Splits (texts_of arguments.now) (closed (texts_of arguments.now) text.now)
+        (length text.now) result }
 {
     match after_brace(text, '}') {
-        Some(after) => {
-            bounded.push_str("}")?;
-            Ok(after)
-        },
-        None => Err(ValueFault::BadFormat),
+        Some(after) => Some((Kind::Text("}"), after)),
+        None => None,
     }
 }
 
-// Adds the text before the first brace.
-fn push_plain<'a>(
-    bounded: &mut Bounded,
-    text: &'a str,
-    arguments: &[Item<'_>],
-) -> Result<&'a str, ValueFault>
+// The text before the first brace.
+fn plain_piece<'a>(text: &'a str, arguments: &[Item<'_>]) -> (Kind<'a>, &'a str)
     requires some { 0 < length text.now }
     requires no_opening { BeginsOther (codes "{") text.now }
     requires no_closing { BeginsOther (codes "}") text.now }
-    ensures { Steps (texts_of arguments.now) bounded.old
-        (formatted (texts_of arguments.now) text.now) (length text.now - 1) result bounded.new }
+    ensures { Splits (texts_of arguments.now) (formatted (texts_of arguments.now) text.now)
+        (length text.now - 1) (Some result) }
 {
     let (plain, rest) = split_plain(text);
-    bounded.push_str(plain)?;
-    Ok(rest)
+    (Kind::Text(plain), rest)
 }
 
-// Adds what stands at the front: a brace and what belongs to it, or the text before the first brace.
-fn push_piece<'a>(
-    bounded: &mut Bounded,
-    alloc: Global,
-    text: &'a str,
-    arguments: &[Item<'_>],
-) -> Result<&'a str, ValueFault>
+// What stands at the front, as a kind that has its text, and what follows it: a brace and what belongs to it, or the
+// text before the first brace. None is no format.
+fn piece<'a>(text: &'a str, arguments: &'a [Item<'_>]) -> Option<(Kind<'a>, &'a str)>
     requires { 0 < length text.now }
-    ensures { Steps (texts_of arguments.now) bounded.old
-        (formatted (texts_of arguments.now) text.now) (length text.now - 1) result bounded.new }
+    ensures { Splits (texts_of arguments.now) (formatted (texts_of arguments.now) text.now)
+        (length text.now - 1) result }
 {
     if let Some(after) = after_brace(text, '{') {
-        return push_opened(bounded, alloc, after, arguments);
+        return opened_piece(after, arguments);
     }
     if let Some(after) = after_brace(text, '}') {
-        return push_closed(bounded, after, arguments);
+        return closed_piece(after, arguments);
     }
-    push_plain(bounded, text, arguments)
+    Some(plain_piece(text, arguments))
 }
 
 /// A format text with its arguments.
-pub(crate) fn format(alloc: Global, text: &str, arguments: &[Item<'_>]) -> Result<Node, ValueFault>
+pub(crate) fn format<'x>(
+    alloc: Global,
+    text: &'x str,
+    arguments: &'x [Item<'_>],
+) -> Result<Node, ValueFault>
     ensures { Gives view result (formatted_value (formatted (texts_of arguments.now) text.now)) }
 {
     let mut bounded = Bounded::empty(alloc);
     let mut rest = text;
     'pieces: while !rest.is_empty() {
-        match push_piece(&mut bounded, alloc, rest, arguments) {
-            Ok(after) => rest = after,
-            Err(fault) => return Err(fault),
-        }
+        let Some((kind, after)) = piece(rest, arguments) else {
+            return Err(ValueFault::BadFormat);
+        };
+        push_kind(&mut bounded, alloc, kind)?;
+        rest = after;
     }
     bounded.finish()
 }

@@ -1,12 +1,13 @@
 //! The values that an evaluation hands on, without a copy of what a context holds.
 
-ghost use Rattle.std.specs.Prelude.{◌≡◌, IfOk};
+ghost use Rattle.std.specs.Prelude.{◌≡◌, IfOk, Ok};
+ghost use Rattle.expr_value.specs.Answer.{Gives};
 ghost use Rattle.expr_value.specs.Kind.{kind_of as kind_of_value};
 ghost use Rattle.expr_value.specs.Seen.{kind_seen, item_seen, items_seen};
 ghost use Rattle.flow_model.specs.Value.{view, views};
 
 use crate::kind::{Kind, kind_of};
-use flow_model::{Node, Value, copy_node};
+use flow_model::{Node, Value, ValueFault, copy_node};
 use std::alloc::{AllocError, Global};
 
 /// A value that a context lends, or that the evaluation made.
@@ -39,26 +40,19 @@ impl Item<'_> {
 pub(crate) fn item_copies(alloc: Global, items: &[Item<'_>]) -> Result<Vec<Node>, AllocError>
     ensures { IfOk result (λ nodes. views nodes.items ≡ items_seen items.now) }
 {
-    let mut nodes = Vec::with_capacity(alloc, items.len())?;
+    let mut nodes = Vec::new(alloc);
     for item in items {
         nodes.push(copy_node(alloc, item.node())?)?;
     }
     Ok(nodes)
 }
 
-// What an item stands for; what a context lends is copied.
-fn into_node(alloc: Global, item: Item<'_>) -> Result<Node, AllocError>
-    ensures { IfOk result (λ node. view node ≡ item_seen item.entry) }
+/// The value that an item stands for, apart from the contexts; what a context lends is copied.
+pub(crate) fn into_value(alloc: Global, item: Item<'_>) -> Result<Value, ValueFault>
+    ensures { Gives (λ value. value) result (Ok (item_seen item.entry)) }
 {
     match item {
-        Item::Lent(node) => copy_node(alloc, node),
-        Item::Made(node) => Ok(node),
+        Item::Lent(node) => Ok(Value::new(copy_node(alloc, node)?)),
+        Item::Made(node) => Ok(Value::new(node)),
     }
-}
-
-/// The value that an item stands for, apart from the contexts; what a context lends is copied.
-pub(crate) fn into_value(alloc: Global, item: Item<'_>) -> Result<Value, AllocError>
-    ensures { IfOk result (λ value. value ≡ item_seen item.entry) }
-{
-    Ok(Value::new(into_node(alloc, item)?))
 }

@@ -7,14 +7,13 @@ ghost use Rattle.expr_value.specs.Bounded.{grown};
 ghost use Rattle.expr_value.specs.Convert.{text_of};
 ghost use Rattle.expr_value.specs.Functions.{join as join_of, text_of_value};
 ghost use Rattle.expr_value.specs.Joining.{item_text};
-ghost use Rattle.expr_value.specs.Limit.{limited};
-ghost use Rattle.expr_value.specs.Seen.{kind_seen, item_seen};
+ghost use Rattle.expr_value.specs.Limit.{limited as limited_of};
+ghost use Rattle.expr_value.specs.Seen.{kind_seen};
 ghost use Rattle.flow_model.specs.Value.{view, views};
 
-use crate::bounded::Bounded;
-use crate::item::Item;
+use crate::bounded::{Bounded, limited};
 use crate::kind::{Kind, kind_of};
-use crate::text::push_kind;
+use crate::text::{push_kind, text_of_kind};
 use flow_model::{Node, ValueFault};
 use std::alloc::{AllocError, Global};
 
@@ -38,7 +37,7 @@ fn push_item(
 // The texts of the items of a list, with a separator between them.
 fn join_nodes(alloc: Global, nodes: &[Node], separator: &str) -> Result<Node, ValueFault>
     ensures { Gives view result
-        (limited (join_by text_of_value separator.now (views nodes.now))) }
+        (limited_of (join_by text_of_value separator.now (views nodes.now))) }
 {
     let mut bounded = Bounded::empty(alloc);
     let mut first = true;
@@ -51,15 +50,13 @@ fn join_nodes(alloc: Global, nodes: &[Node], separator: &str) -> Result<Node, Va
 
 // The text of what is no list.
 fn join_kind(alloc: Global, kind: Kind<'_>) -> Result<Node, ValueFault>
-    ensures { Gives view result (limited (text_of (kind_seen kind.entry))) }
+    ensures { Gives view result (limited_of (text_of (kind_seen kind.entry))) }
 {
-    let mut bounded = Bounded::empty(alloc);
-    push_kind(&mut bounded, alloc, kind)?;
-    bounded.finish()
+    limited(text_of_kind(alloc, kind)?)
 }
 
-// The texts of the items of a list, or the text of what is no list.
-fn join_node(alloc: Global, node: &Node, separator: &str) -> Result<Node, ValueFault>
+/// The texts of the items of a list, with a separator between them, or the text of what is no list.
+pub(crate) fn join(alloc: Global, node: &Node, separator: &str) -> Result<Node, ValueFault>
     ensures { Gives view result (join_of (view node.now) separator.now) }
 {
     match node {
@@ -68,11 +65,4 @@ fn join_node(alloc: Global, node: &Node, separator: &str) -> Result<Node, ValueF
             join_kind(alloc, kind_of(node))
         },
     }
-}
-
-/// The texts of the items of a list, with a separator between them, or the text of what is no list.
-pub(crate) fn join(alloc: Global, item: &Item<'_>, separator: &str) -> Result<Node, ValueFault>
-    ensures { Gives view result (join_of (item_seen item.now) separator.now) }
-{
-    join_node(alloc, item.node(), separator)
 }

@@ -1,13 +1,12 @@
 //! The functions `toJSON` and `fromJSON`.
 
-ghost use Rattle.std.specs.Prelude.{◌≡◌, ◌≤◌, IfOk, IsTrue, Ok, Some, string_bytes};
-ghost use Rattle.serde_json.specs.Data.{depth};
+ghost use Rattle.std.specs.Prelude.{◌≡◌, IfOk, string_bytes};
 ghost use Rattle.serde_json.specs.Read.{read};
 ghost use Rattle.serde_json.specs.View.{view as json_view};
 ghost use Rattle.expr_value.specs.Answer.{Gives};
-ghost use Rattle.expr_value.specs.Functions.{from_json as from_json_of, pretty_text, to_json as to_json_of, value_read, whole_value};
+ghost use Rattle.expr_value.specs.Functions.{pretty_text, to_json as to_json_of, value_read, whole_value};
 ghost use Rattle.expr_value.specs.Seen.{item_seen};
-ghost use Rattle.flow_model.specs.Json.{is_in_range, json_of, value_of as value_of_data};
+ghost use Rattle.flow_model.specs.Json.{json_of, value_of as value_of_data};
 ghost use Rattle.flow_model.specs.Value.{view};
 
 use crate::bounded::limited;
@@ -19,27 +18,18 @@ use std::alloc::{AllocError, Global};
 // The text of a value's JSON, on lines.
 #[tactic(auto, using(crate::proofs::JsonTexts::pretty_exact))]
 fn pretty(alloc: Global, item: &Item<'_>) -> Result<String, AllocError>
-    ensures text { IfOk result
+    ensures { IfOk result
         (λ text. string_bytes text ≡ pretty_text (json_of (item_seen item.now))) }
-    ensures back { IfOk result (λ text. depth (json_of (item_seen item.now)) ≤ 127
-        → read (string_bytes text) ≡ Some (json_of (item_seen item.now))) }
 {
     let json = json_of_node(alloc, item.node())?;
-    let text = json.to_string_pretty(alloc)?;
-    Ok(text)
+    json.to_string_pretty(alloc)
 }
 
-/// The text of a value's JSON, on lines, each two spaces deeper for each bracket. `fromJSON` of it is the value,
-/// where its numbers are in range and it nests at most 127 deep.
+/// The text of a value's JSON, on lines, each two spaces deeper for each bracket.
 pub(crate) fn to_json(alloc: Global, item: &Item<'_>) -> Result<Node, ValueFault>
-    ensures value { Gives view result (to_json_of (item_seen item.now)) }
-    ensures back { IfOk result (λ node. depth (json_of (item_seen item.now)) ≤ 127
-        → IsTrue (is_in_range (item_seen item.now))
-        → from_json_of (view node) ≡ Ok (item_seen item.now)) }
+    ensures { Gives view result (to_json_of (item_seen item.now)) }
 {
-    let text = pretty(alloc, item)?;
-    let node = limited(text)?;
-    Ok(node)
+    limited(pretty(alloc, item)?)
 }
 
 // The value of a JSON value.

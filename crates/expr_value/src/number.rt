@@ -2,6 +2,7 @@
 
 ghost use Rattle.std.specs.Prelude.{◌≡◌, ◌≤◌, true, length, take, drop, IfOk, IfSome};
 ghost use Rattle.std.specs.List.{list_all, prefix_len};
+ghost use Rattle.std.specs.Option.{option_map};
 ghost use Rattle.expr_reader.specs.Bytes.{is_digit};
 ghost use Rattle.expr_reader.specs.Number.{greatest, digits_value as digits_value_of};
 ghost use Rattle.expr_value.specs.Convert.{number_of as number_of_kind};
@@ -94,11 +95,14 @@ fn is_tail(bytes: &[u8]) -> bool
 {
     match bytes {
         [] => false,
-        [b'.', fraction @ ..] => {
-            let (digits, rest) = split_digits(fraction);
-            is_part(digits, rest)
+        [first, fraction @ ..] => {
+            if *first == b'.' {
+                let (digits, rest) = split_digits(fraction);
+                is_part(digits, rest)
+            } else {
+                is_exponent(bytes)
+            }
         },
-        [_, ..] => is_exponent(bytes),
     }
 }
 
@@ -148,6 +152,27 @@ fn unsigned_number(bytes: &[u8]) -> Result<Option<u64>, ValueFault>
     number_of_parts(digits, rest)
 }
 
+// A number with a minus, or without.
+fn with_sign(minus: bool, size: Option<u64>) -> Option<i64>
+    requires { IfSome size (λ n. n ≤ greatest) }
+    ensures { result ≡ option_map (number.sign_of minus) size }
+{
+    match size {
+        Some(size) => Some(if minus { -(size as i64) } else { size as i64 }),
+        None => None,
+    }
+}
+
+// The number of what follows the sign.
+fn signed_number(minus: bool, bytes: &[u8]) -> Result<Option<i64>, ValueFault>
+    ensures { result ≡ number.with_sign (number.sign_of minus) (number.unsigned_number bytes.now) }
+{
+    match unsigned_number(bytes) {
+        Ok(size) => Ok(with_sign(minus, size)),
+        Err(fault) => Err(fault),
+    }
+}
+
 /// The number that a text writes (RFC 8259, "Numbers"). None is not-a-number; the empty text is 0.
 ///
 /// # Errors
@@ -158,14 +183,8 @@ pub(crate) fn number_of_text(text: &str) -> Result<Option<i64>, ValueFault>
 {
     match text.as_bytes() {
         [] => Ok(Some(0)),
-        [b'-', digits @ ..] => match unsigned_number(digits) {
-            Ok(number) => Ok(number.map(|n| -(n as i64))),
-            Err(fault) => Err(fault),
-        },
-        bytes => match unsigned_number(bytes) {
-            Ok(number) => Ok(number.map(|n| n as i64)),
-            Err(fault) => Err(fault),
-        },
+        [b'-', digits @ ..] => signed_number(true, digits),
+        bytes => signed_number(false, bytes),
     }
 }
 

@@ -4,7 +4,7 @@ ghost use Rattle.std.specs.Prelude.{◌≡◌, IfOk, string_bytes};
 ghost use Rattle.std.specs.List.{list_any};
 ghost use Rattle.expr_reader.specs.Fold.{fold};
 ghost use Rattle.expr_value.specs.Convert.{text_of};
-ghost use Rattle.expr_value.specs.Functions.{contains as contains_of, folds_pass as folds_pass_of, is_match as is_match_of};
+ghost use Rattle.expr_value.specs.Functions.{folds_pass as folds_pass_of, is_match as is_match_of};
 ghost use Rattle.expr_value.specs.Searching.{contains_kind, finds as finds_of, stands_at as stands_at_of};
 ghost use Rattle.expr_value.specs.Seen.{kind_seen, item_seen};
 ghost use Rattle.flow_model.specs.Value.{view, views};
@@ -66,10 +66,7 @@ fn folds_pass(
 fn is_match(value: Kind<'_>, item: &Node) -> bool
     ensures { result ≡ is_match_of (kind_seen value.entry) (view item.now) }
 {
-    match equals(kind_of(item), value) {
-        Ok(same) => same,
-        Err(_) => false,
-    }
+    matches!(equals(kind_of(item), value), Ok(true))
 }
 
 // Whether some item of a list equals a value.
@@ -85,7 +82,7 @@ fn any_match(nodes: &[Node], value: Kind<'_>) -> bool
 }
 
 // Whether an item of a list equals a value, or its text stands in a text.
-fn node_contains(alloc: Global, node: &Node, value: Kind<'_>) -> Result<bool, AllocError>
+fn contains(alloc: Global, node: &Node, value: Kind<'_>) -> Result<bool, AllocError>
     ensures { IfOk result (λ b. b ≡ contains_kind (view node.now) (kind_seen value.entry)) }
 {
     match node {
@@ -94,13 +91,6 @@ fn node_contains(alloc: Global, node: &Node, value: Kind<'_>) -> Result<bool, Al
             folds_pass(alloc, Place::Anywhere, kind_of(node), value)
         },
     }
-}
-
-// Whether an item of a list equals a value, or the value's text stands in a text, ignoring case.
-fn contains(alloc: Global, item: &Item<'_>, value: &Item<'_>) -> Result<bool, AllocError>
-    ensures { IfOk result (λ b. b ≡ contains_of (item_seen item.now) (item_seen value.now)) }
-{
-    node_contains(alloc, item.node(), value.kind())
 }
 
 /// Whether a value's text stands at the place in a text, ignoring case, or, if it may stand anywhere, a value in a
@@ -115,7 +105,7 @@ pub(crate) fn finds(
         (λ b. b ≡ finds_of place (item_seen item.now) (item_seen value.now)) }
 {
     match place {
-        Place::Anywhere => contains(alloc, item, value),
+        Place::Anywhere => contains(alloc, item.node(), value.kind()),
         Place::Front | Place::End => folds_pass(alloc, place, item.kind(), value.kind()),
     }
 }

@@ -141,7 +141,7 @@ fn owned_value<C: Context>(
         (template_value_of (C.contexts contexts.now) status (template_of template.now)) }
 {
     let item = template_value(alloc, template, contexts, status)?;
-    Ok(into_value(alloc, item)?)
+    into_value(alloc, item)
 }
 
 /// The value of an expression over contexts and a status (GitHub Docs, "Evaluate expressions in workflows and
@@ -161,7 +161,7 @@ pub fn eval<C: Context>(
         (evaluated_of (C.contexts contexts.now) status (tree_view tree.now)) }
 {
     let item = evaluated(alloc, tree, contexts, status)?;
-    Ok(into_value(alloc, item)?)
+    into_value(alloc, item)
 }
 
 /// The value of a template: of exactly one expression and nothing else that expression's value, else the join of the

@@ -1,8 +1,9 @@
-use Rattle.std.proofs.Common.{◌≡◌, true, false, drop}
+use Rattle.std.proofs.Common.{◌≡◌, not, drop}
 use Rattle.expr_reader.specs.Expr.{exprs_of}
 use Rattle.expr_reader.specs.View.{views}
 use Rattle.expr_value.proofs.Fronts.{with_front}
-use Rattle.expr_value.specs.Evaluate.{all_values, answers, conjunction, disjunction}
+use Rattle.expr_value.specs.Evaluate.{all_values, answers}
+use Rattle.expr_value.specs.Evaluating.{first_of}
 use Rattle.expr_value.specs.Seen.{item_seen, items_seen}
 use Rattle.flow_model.specs.Plain as plain
 use Rattle.expr_value.proofs.evaluate.+evaluate.Given as goal
@@ -13,13 +14,8 @@ invariant-evaluate_all-loop-tree g l =
     let contexts = g.C.Context.contexts l.contexts in
     with_front (items_seen l.values.items) (all_values (answers contexts l.status (exprs_of (views (drop l.tree-index l.trees))))) ≡ all_values (answers contexts l.status (exprs_of (views l.trees)))
 
--- the last value leads over what is left to the whole chain's
-abbrev pub invariant-conjunction-loop-part : goal.invariant-conjunction-loop-part
-invariant-conjunction-loop-part g l =
+-- the last value leads over what is left to that of all
+abbrev pub invariant-decided-loop-part : goal.invariant-decided-loop-part
+invariant-decided-loop-part g l =
     let contexts = g.C.Context.contexts l.contexts in
-    conjunction (item_seen l.value) (answers contexts l.status (exprs_of (views (drop l.part-index l.parts)))) ≡ conjunction (plain.truth true) (answers contexts l.status (exprs_of (views l.parts)))
-
-abbrev pub invariant-disjunction-loop-part : goal.invariant-disjunction-loop-part
-invariant-disjunction-loop-part g l =
-    let contexts = g.C.Context.contexts l.contexts in
-    disjunction (item_seen l.value) (answers contexts l.status (exprs_of (views (drop l.part-index l.parts)))) ≡ disjunction (plain.truth false) (answers contexts l.status (exprs_of (views l.parts)))
+    first_of l.truth (item_seen l.value) (answers contexts l.status (exprs_of (views (drop l.part-index l.parts)))) ≡ first_of l.truth (plain.truth (not l.truth)) (answers contexts l.status (exprs_of (views l.parts)))

@@ -1,17 +1,12 @@
-use Rattle.std.proofs.Common.{◌≡◌, ◌∙◌, ap, sym}
-use Rattle.std.proofs.lemmas.Result.{IfOk-weaker}
-use Rattle.expr_value.specs.Functions.{contains}
-use Rattle.expr_value.specs.Searching.{contains_kind}
-use Rattle.expr_value.specs.Seen.{item_seen, kind_seen}
-use Rattle.flow_model.specs.Value.{view}
-use Rattle.expr_value.proofs.Searches.{contains_by_kind}
+use Rattle.std.proofs.Common.{◌∙◌, ap, sym}
+use Rattle.flow_model.specs.Plain.{list, items_of}
+use Rattle.flow_model.specs.Value.{view, views}
+use Rattle.flow_model.proofs.Nodes.{view-List}
+use Rattle.expr_value.proofs.Searches.{contains_in_list}
 use Rattle.expr_value.proofs.search.contains.Goals as goal
 
-pub returns : goal.returns
-returns c =
-    let v = item_seen c.args.item.now in
-    let same : contains_kind (view c.node.result.now) (kind_seen c.kind.result) ≡ contains v (item_seen c.args.value.now) =
-    ap (λ w. contains_kind w (kind_seen c.kind.result)) c.node.ensures
-    ∙ ap (contains_kind v) c.kind.ensures
-    ∙ sym (contains_by_kind v (item_seen c.args.value.now)) in
-    IfOk-weaker c.node_contains.result _ _ (λ b h. h ∙ same) c.node_contains.ensures
+pub returns-in-List : goal.returns-in-List
+returns-in-List c =
+    contains_in_list (view c.args.node.now) (views c.as_slice.result.now) _ c.any_match.result
+    (ap view c.in-List.is ∙ view-List c.in-List.nodes ∙ ap (λ nodes. list (items_of (views nodes))) (sym c.as_slice.ensures.value))
+    c.any_match.ensures

@@ -1,16 +1,14 @@
-use Rattle.std.proofs.Common.{◌≡◌, ◌+◌, ◌<◌, ◌≤◌, ◌∙◌, sym, ap, arith, map, length}
+use Rattle.std.proofs.Common.{◌≡◌, ◌+◌, ◌<◌, ◌≤◌, ◌∙◌, ap, arith, map, length}
 use Rattle.std.proofs.lemmas.Bool.Decides.{nat_tests}
 use Rattle.std.specs.List.{prefix_len}
 use Rattle.expr_reader.specs.Bytes.{is_digit}
 use Rattle.expr_reader.specs.Number.{digits_value}
-use Rattle.expr_value.specs.Convert.{text_of}
 use Rattle.expr_value.specs.Format.{formatted, numbered}
-use Rattle.expr_value.specs.Formatting.{ended, texts_of}
+use Rattle.expr_value.specs.Formatting.{texts_of}
 use Rattle.expr_value.specs.Seen.{kind_seen, item_seen}
 use Rattle.expr_value.proofs.Braces.{opened_digits, opened_none, digits_pass, numbered_none, argument_found, argument_missing, rest_shorter}
-use Rattle.expr_value.proofs.Growing.{ended_grown}
 use Rattle.expr_value.proofs.Runs.{spans}
-use Rattle.expr_value.proofs.format.push_argument.Goals as goal
+use Rattle.expr_value.proofs.format.argument_piece.Goals as goal
 
 pub returns-then-is_empty : goal.returns-then-is_empty
 returns-then-is_empty c =
@@ -51,11 +49,10 @@ returns c =
     let digits = c.split_digits.result.0.now in
     let rest = c.split_digits.result.1.now in
     let after = c.in-Some.after.now in
-    let bytes = text_of (kind_seen c.in-Some-argument_at.kind) in
     let some : 0 < length digits = grind (arith, nat_tests) in
     let shorter : length rest ≤ length text = omega (arith, rest_shorter is_digit text rest c.split_digits.ensures.back) in
     let longer : length rest ≡ 1 + length after = ap length c.in-Some.ensures ∙ omega arith in
     let meaning = opened_digits arguments text digits rest c.split_digits.ensures.front c.split_digits.ensures.back some
     ∙ ap (numbered arguments (digits_value 10 0 digits)) c.in-Some.ensures
     ∙ argument_found (map item_seen c.args.arguments.now) (digits_value 10 0 digits) (kind_seen c.in-Some-argument_at.kind) (formatted arguments after) c.in-Some-argument_at.ensures in
-    (ap (λ o. ended o (formatted arguments after)) c.in_ok-push_kind.ensures ∙ ended_grown c.args.bounded.now bytes (formatted arguments after) ∙ ap (ended c.args.bounded.now) (sym meaning), omega arith)
+    (meaning, omega arith)
