@@ -2,4 +2,3 @@ pub mod Backwards
 pub mod Lists
 pub mod Maps
 pub mod Overlays
-pub mod Sights

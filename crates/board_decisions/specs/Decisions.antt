@@ -84,11 +84,14 @@ seen_from at spot env = contexts_at spot (with_env env (leg_values at))
 unfoldable pub flow_env : LegAt → Result Env ValueFault
 flow_env at = env_value (seen_from at place.WorkflowEnv []) at.run_plan.env
 
+-- The variables of the job over others.
+abbrev pub job_env_over : LegAt → Env → Result Env ValueFault
+job_env_over at below =
+    then_value (env_value (seen_from at place.JobEnv []) at.job_plan.env) (λ above. Ok (laid_over above below))
+
 -- The variables of the workflow, and those of the job over them.
 unfoldable pub job_env : LegAt → Result Env ValueFault
-job_env at =
-    then_value (flow_env at) (λ below.
-    then_value (env_value (seen_from at place.JobEnv []) at.job_plan.env) (λ above. Ok (laid_over above below)))
+job_env at = then_value (flow_env at) (job_env_over at)
 
 -- The same, and those of a step over them.
 unfoldable pub step_env : LegAt → StepPlan → Result Env ValueFault

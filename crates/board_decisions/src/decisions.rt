@@ -20,9 +20,7 @@ use flow_model::{
     CallWork, Duplicate, Group, Mapping, Outcome, StepCall, StepPlan, Text, ValueFault, Work,
 };
 use std::alloc::{AllocError, Global};
-use text_values::{
-    Known, Place, Scene, condition_at, env_at, flag_at, lay_over, outputs_at, text_at,
-};
+use text_values::{Known, Place, Scene, condition_at, env_at, flag_at, outputs_at, text_at};
 
 /// Whether a job's condition holds under a status.
 #[tactic(auto, unfolding(crate::specs::Decisions::job_condition))]
@@ -41,29 +39,12 @@ pub fn job_condition(alloc: Global, at: &SeenJob, status: Status) -> Result<bool
     )
 }
 
-/// Whether a job's condition does not give true as that of a cancelled one; a fault does not. The scene may be the job
-/// or a leg of it.
-fn ends_cancelled<S: Scene>(
-    alloc: Global,
-    scene: &S,
-    known: &mut Known,
-    condition: &Option<Text>,
-) -> Result<bool, AllocError>
-    requires { IsKnownOf (S.values scene.now) known.old }
-    ensures value { IfOk result (λ ends. ends ≡ not (spec.is_true (condition_value
-        (contexts_at place.JobCondition (with_env (known_env known.old) (S.values scene.now)))
-        status.Cancelled condition.now))) }
-    ensures env { known_env known.new ≡ known_env known.old }
-    ensures known { IsKnownOf (S.values scene.now) known.new }
+/// Whether a job's condition does not give true as that of a cancelled one; a fault does not.
+fn ends_cancelled(alloc: Global, job: &SeenJob) -> Result<bool, AllocError>
+    ensures { IfOk result (λ ends. ends ≡ not (spec.is_true
+        (spec.job_condition (job_seen job.now) status.Cancelled))) }
 {
-    match condition_at(
-        alloc,
-        scene,
-        known,
-        Place::JobCondition,
-        condition,
-        Status::Cancelled,
-    ) {
+    match job_condition(alloc, job, Status::Cancelled) {
         Ok(holds) => Ok(!holds),
         Err(ValueFault::Memory) => Err(AllocError),
         Err(
@@ -84,23 +65,7 @@ fn stops_anyway(at: &SeenLeg) -> bool
 }
 
 /// Whether a leg is to stop.
-pub fn is_stopping(alloc: Global, at: &SeenLeg, known: &mut Known) -> Result<bool, AllocError>
-    requires { IsKnownOf (leg_scene at.now) known.old }
-    ensures value { IfOk result (λ stops. stops ≡ spec.is_stopping (leg_seen at.now)) }
-    ensures env { known_env known.new ≡ known_env known.old }
-    ensures known { IsKnownOf (leg_scene at.now) known.new }
-{
-    if stops_anyway(at) {
-        return Ok(true);
-    }
-    if !at.run.stop {
-        return Ok(false);
-    }
-    ends_cancelled(alloc, at, known, &at.job_plan.condition)
-}
-
-/// The same where a text of the leg asks how the leg counts: what its job sees is made for this alone.
-fn is_stopping_itself(alloc: Global, at: &SeenLeg) -> Result<bool, AllocError>
+pub fn is_stopping(alloc: Global, at: &SeenLeg) -> Result<bool, AllocError>
     ensures { IfOk result (λ stops. stops ≡ spec.is_stopping (leg_seen at.now)) }
 {
     if stops_anyway(at) {
@@ -109,9 +74,7 @@ fn is_stopping_itself(alloc: Global, at: &SeenLeg) -> Result<bool, AllocError>
     if !at.run.stop {
         return Ok(false);
     }
-    let job = job_of(at);
-    let mut known = Known::empty(alloc);
-    ends_cancelled(alloc, &job, &mut known, &at.job_plan.condition)
+    ends_cancelled(alloc, &job_of(at))
 }
 
 /// How a leg counts that is to stop, or is not.
@@ -129,21 +92,10 @@ fn counted(at: &SeenLeg, stops: bool) -> Outcome
 }
 
 /// How a leg counts so far.
-pub fn leg_result(alloc: Global, at: &SeenLeg, known: &mut Known) -> Result<Outcome, AllocError>
-    requires { IsKnownOf (leg_scene at.now) known.old }
-    ensures value { IfOk result (λ how. how ≡ spec.leg_result (leg_seen at.now)) }
-    ensures env { known_env known.new ≡ known_env known.old }
-    ensures known { IsKnownOf (leg_scene at.now) known.new }
-{
-    let stops = is_stopping(alloc, at, known)?;
-    Ok(counted(at, stops))
-}
-
-/// How a leg counts so far, where its own texts ask for it.
-pub(crate) fn own_result(alloc: Global, at: &SeenLeg) -> Result<Outcome, AllocError>
+pub fn leg_result(alloc: Global, at: &SeenLeg) -> Result<Outcome, AllocError>
     ensures { IfOk result (λ how. how ≡ spec.leg_result (leg_seen at.now)) }
 {
-    let stops = is_stopping_itself(alloc, at)?;
+    let stops = is_stopping(alloc, at)?;
     Ok(counted(at, stops))
 }
 
@@ -159,6 +111,25 @@ fn status_of(how: Outcome) -> Status
     }
 }
 
+/// Lets texts see the variables of the job over others.
+fn know_job_over(
+    alloc: Global,
+    at: &SeenLeg,
+    known: &mut Known,
+    below: Mapping<Text>,
+) -> Result<(), ValueFault>
+    requires known { IsKnownOf (leg_scene at.now) known.old }
+    requires env { known_env known.old ≡ [] }
+    ensures value { Gives (λ _. known_env known.new) result
+        (spec.job_env_over (leg_seen at.now) below) }
+    ensures known { IsKnownOf (leg_scene at.now) known.new }
+{
+    let job = env_at(alloc, at, known, Place::JobEnv, &at.job_plan.env)?;
+    known.set_env(below);
+    known.lay_env(alloc, &job)?;
+    Ok(())
+}
+
 /// Lets texts see the variables of the workflow and the job.
 #[tactic(auto, unfolding(crate::specs::Decisions::job_env, crate::specs::Decisions::flow_env))]
 fn know_job_env(alloc: Global, at: &SeenLeg, known: &mut Known) -> Result<(), ValueFault>
@@ -168,9 +139,7 @@ fn know_job_env(alloc: Global, at: &SeenLeg, known: &mut Known) -> Result<(), Va
     ensures known { IsKnownOf (leg_scene at.now) known.new }
 {
     let flow = env_at(alloc, at, known, Place::WorkflowEnv, &at.run_plan.env)?;
-    let job = env_at(alloc, at, known, Place::JobEnv, &at.job_plan.env)?;
-    known.set_env(lay_over(alloc, flow, &job)?);
-    Ok(())
+    know_job_over(alloc, at, known, flow)
 }
 
 /// Lets texts see the variables of the workflow, the job and a step.
@@ -195,12 +164,12 @@ fn know_step_env(
 
 /// Lets texts see the variables of the workflow and the job, or none where there is a fault.
 fn know_job_env_or_none(alloc: Global, at: &SeenLeg, known: &mut Known) -> Result<(), AllocError>
-    requires { IsKnownOf (leg_scene at.now) known.old }
+    requires known { IsKnownOf (leg_scene at.now) known.old }
+    requires env { known_env known.old ≡ [] }
     ensures ok { OnOk result
         (known_env known.new ≡ spec.or_none (spec.job_env (leg_seen at.now))) }
     ensures known { IsKnownOf (leg_scene at.now) known.new }
 {
-    known.set_env(Mapping::empty(alloc));
     match know_job_env(alloc, at, known) {
         Ok(()) => Ok(()),
         Err(ValueFault::Memory) => Err(AllocError),
@@ -224,12 +193,12 @@ fn know_step_env_or_none(
     known: &mut Known,
     step: &StepPlan,
 ) -> Result<(), AllocError>
-    requires { IsKnownOf (leg_scene at.now) known.old }
+    requires known { IsKnownOf (leg_scene at.now) known.old }
+    requires env { known_env known.old ≡ [] }
     ensures ok { OnOk result
         (known_env known.new ≡ spec.or_none (spec.step_env (leg_seen at.now) step.now)) }
     ensures known { IsKnownOf (leg_scene at.now) known.new }
 {
-    known.set_env(Mapping::empty(alloc));
     match know_step_env(alloc, at, known, step) {
         Ok(()) => Ok(()),
         Err(ValueFault::Memory) => Err(AllocError),
@@ -336,7 +305,7 @@ fn step_condition(
     ensures env { known_env known.new ≡ known_env known.old }
     ensures known { IsKnownOf (leg_scene at.now) known.new }
 {
-    let status = status_of(leg_result(alloc, at, known)?);
+    let status = status_of(leg_result(alloc, at)?);
     condition_at(
         alloc,
         at,
@@ -350,7 +319,7 @@ fn step_condition(
 /// The call of a step, or none where it is skipped: its variables first, then its condition, then the texts of the
 /// call.
 #[tactic(auto, unfolding(crate::specs::Decisions::step_decision))]
-pub fn step_decision(
+fn decide_step(
     alloc: Global,
     number: u64,
     at: &SeenLeg,
@@ -359,9 +328,8 @@ pub fn step_decision(
 ) -> Result<Option<StepCall>, ValueFault>
     requires known { IsKnownOf (leg_scene at.now) known.old }
     requires env { known_env known.old ≡ [] }
-    ensures value { Gives (λ call. call) result
+    ensures { Gives (λ call. call) result
         (spec.step_decision number (leg_seen at.now) step.now) }
-    ensures known { IsKnownOf (leg_scene at.now) known.new }
 {
     know_step_env(alloc, at, known, step)?;
     if !step_condition(alloc, at, known, step)? {
@@ -370,46 +338,53 @@ pub fn step_decision(
     Ok(Some(call_value(alloc, number, at, known, step)?))
 }
 
+/// The call of a step, or none where it is skipped. A context's value is made once at most.
+pub fn step_decision(
+    alloc: Global,
+    number: u64,
+    at: &SeenLeg,
+    step: &StepPlan,
+) -> Result<Option<StepCall>, ValueFault>
+    ensures { Gives (λ call. call) result
+        (spec.step_decision number (leg_seen at.now) step.now) }
+{
+    decide_step(alloc, number, at, &mut Known::empty(alloc), step)
+}
+
 /// Whether a failure of a step may be passed over.
 #[tactic(auto, unfolding(crate::specs::Decisions::step_tolerates))]
-pub fn step_tolerates(
-    alloc: Global,
-    at: &SeenLeg,
-    known: &mut Known,
-    step: &StepPlan,
-) -> Result<bool, AllocError>
-    requires { IsKnownOf (leg_scene at.now) known.old }
+pub fn step_tolerates(alloc: Global, at: &SeenLeg, step: &StepPlan) -> Result<bool, AllocError>
     ensures { IfOk result
         (λ tolerates. tolerates ≡ spec.step_tolerates (leg_seen at.now) step.now) }
 {
-    know_step_env_or_none(alloc, at, known, step)?;
-    flag_at(alloc, at, known, Place::StepText, &step.tolerate)
+    let mut known = Known::empty(alloc);
+    know_step_env_or_none(alloc, at, &mut known, step)?;
+    flag_at(alloc, at, &mut known, Place::StepText, &step.tolerate)
 }
 
 /// Whether a failure of a leg may be passed over.
 #[tactic(auto, unfolding(crate::specs::Decisions::job_tolerates))]
-pub fn job_tolerates(alloc: Global, at: &SeenLeg, known: &mut Known) -> Result<bool, AllocError>
-    requires { IsKnownOf (leg_scene at.now) known.old }
-    ensures value { IfOk result
-        (λ tolerates. tolerates ≡ spec.job_tolerates (leg_seen at.now)) }
-    ensures known { IsKnownOf (leg_scene at.now) known.new }
+pub fn job_tolerates(alloc: Global, at: &SeenLeg) -> Result<bool, AllocError>
+    ensures { IfOk result (λ tolerates. tolerates ≡ spec.job_tolerates (leg_seen at.now)) }
 {
-    known.set_env(Mapping::empty(alloc));
-    flag_at(alloc, at, known, Place::JobGroup, &at.job_plan.tolerate)
+    let tolerate = &at.job_plan.tolerate;
+    flag_at(
+        alloc,
+        at,
+        &mut Known::empty(alloc),
+        Place::JobGroup,
+        tolerate,
+    )
 }
 
 /// The outputs that a leg gives its job.
 #[tactic(auto, unfolding(crate::specs::Decisions::leg_outputs))]
-pub fn leg_outputs(
-    alloc: Global,
-    at: &SeenLeg,
-    known: &mut Known,
-) -> Result<Mapping<Text>, AllocError>
-    requires { IsKnownOf (leg_scene at.now) known.old }
+pub fn leg_outputs(alloc: Global, at: &SeenLeg) -> Result<Mapping<Text>, AllocError>
     ensures { IfOk result (λ outputs. outputs ≡ spec.leg_outputs (leg_seen at.now)) }
 {
-    know_job_env_or_none(alloc, at, known)?;
-    outputs_at(alloc, at, known, Place::StepEnv, &at.job_plan.outputs)
+    let mut known = Known::empty(alloc);
+    know_job_env_or_none(alloc, at, &mut known)?;
+    outputs_at(alloc, at, &mut known, Place::StepEnv, &at.job_plan.outputs)
 }
 
 /// A group by its name and its cancel flag; an empty name is no group.
@@ -459,15 +434,10 @@ pub fn run_entrance(alloc: Global, at: &SeenRun) -> Result<Option<Entrance>, Val
 
 /// How a leg enters its job's group, if there is one.
 #[tactic(auto, unfolding(crate::specs::Decisions::leg_entrance))]
-pub fn leg_entrance(
-    alloc: Global,
-    at: &SeenLeg,
-    known: &mut Known,
-) -> Result<Option<Entrance>, ValueFault>
-    requires { IsKnownOf (leg_scene at.now) known.old }
+pub fn leg_entrance(alloc: Global, at: &SeenLeg) -> Result<Option<Entrance>, ValueFault>
     ensures { Gives (λ group. group) result (spec.leg_entrance (leg_seen at.now)) }
 {
-    known.set_env(Mapping::empty(alloc));
+    let mut known = Known::empty(alloc);
     let group = &at.job_plan.group;
-    entrance_at(alloc, at, known, Place::JobGroup, group)
+    entrance_at(alloc, at, &mut known, Place::JobGroup, group)
 }

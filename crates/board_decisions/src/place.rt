@@ -1,6 +1,8 @@
 //! Where runs, jobs and legs stand, and what stands there.
 
 ghost use Rattle.std.specs.Prelude.{◌≡◌, option_map};
+ghost use Rattle.std.specs.Option.{option_copied};
+ghost use Rattle.board_decisions.specs.Numbered.{leg_there as leg_there_of};
 ghost use Rattle.board_decisions.specs.Place as spec;
 ghost use Rattle.board_decisions.specs.Seen.{run_seen, job_seen, leg_seen};
 
@@ -101,6 +103,15 @@ pub fn find_leg_place(runs: &[Run], number: usize) -> Option<LegPlace>
         }
     }
     None
+}
+
+/// The leg at a place, if there is one.
+pub fn leg_there(board: &Board, place: LegPlace) -> Option<&Leg>
+    ensures { option_copied result ≡ leg_there_of board.now place }
+{
+    let run = board.runs.as_slice().get(place.run)?;
+    let job = run.jobs.as_slice().get(place.job)?;
+    job.legs.as_slice().get(place.leg)
 }
 
 /// The run with a number.

@@ -6,7 +6,7 @@ ghost use Rattle.board_decisions.specs.Seen.{leg_seen};
 ghost use Rattle.flow_model.specs.Value.{view};
 
 use crate::contexts::{job_context, leg_context, run_context};
-use crate::decisions::own_result;
+use crate::decisions::leg_result;
 use crate::place::{SeenJob, SeenLeg, SeenRun};
 use expr_reader::Context;
 use flow_model::{Node, Outcome, Value};
@@ -50,7 +50,7 @@ fn seen_context(alloc: Global, at: &SeenLeg, context: Context) -> Result<Node, A
 {
     match context {
         Context::Job => {
-            let how = own_result(alloc, at)?;
+            let how = leg_result(alloc, at)?;
             leg_context(alloc, how, at, Context::Job)
         },
         Context::Github

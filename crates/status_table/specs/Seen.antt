@@ -1,5 +1,5 @@
 -- What values of the code stand for.
-use Rattle.std.specs.Prelude.{ℕ, Bool, false, List, [], ◌∷◌, ◌++◌, Option, Some, None, Result}
+use Rattle.std.specs.Prelude.{ℕ, Bool, true, false, List, [], ◌∷◌, ◌++◌, Option, Some, None, Result}
 use Rattle.board_decisions.specs.Numbered.{leg_there}
 use Rattle.board_decisions.specs.Place.{◌>>=◌, LegAt, leg_place}
 use Rattle.flow_model.specs.declared.board.Board.{Board}
@@ -15,6 +15,8 @@ use Rattle.status_table.specs.Answers.{DecidesAs}
 use Rattle.status_table.specs.Row.{Beginning, calls, skips, faults, outputs_of, ending}
 use Rattle.status_table.specs.Change.{with_numbered_leg}
 use Rattle.status_table.specs.Groups.{Standing, holds_name, waits_name, closed}
+use Rattle.status_table.specs.declared.change.LegChange.{LegChange}
+use Rattle.status_table.specs.declared.change.LegChange.TheVariants as leg_change
 use Rattle.status_table.specs.declared.fault.EventFault.{EventFault}
 use Rattle.status_table.specs.declared.events.Begun.{Begun}
 use Rattle.status_table.specs.declared.events.Begun.TheVariants as begun
@@ -55,3 +57,10 @@ abbrev pub put_out : Board → Option Member → Board
 put_out b None = b
 put_out b (Some (member.Run r)) = closed b r outcome.Cancelled
 put_out b (Some (member.Leg l)) = with_numbered_leg b l (λ leg. record leg { state = leg_state.Ended outcome.Cancelled false })
+
+-- a leg after a change
+abbrev pub leg_after : LegChange → Leg → Leg
+leg_after (leg_change.State state) leg = record leg { state = state }
+leg_after (leg_change.Group state group) leg = record leg { state = state; group = group }
+leg_after (leg_change.Outputs state outputs) leg = record leg { state = state; outputs = outputs }
+leg_after leg_change.Stop leg = record leg { stop = true }

@@ -5,7 +5,7 @@
 ghost use Rattle.std.specs.Prelude.{◌≡◌, [], Bool, Option, Result, Ok, IfOk};
 ghost use Rattle.std.specs.Option.{option_copied};
 ghost use Rattle.board_decisions.specs.Ancestors.{StandsAfterNeeds};
-ghost use Rattle.board_decisions.specs.Seen.{job_seen, leg_scene, leg_seen};
+ghost use Rattle.board_decisions.specs.Seen.{job_seen, leg_seen};
 ghost use Rattle.expr_value.specs.Answer.{Gives};
 ghost use Rattle.flow_model.specs.declared.reply.StepCall.{StepCall as StepCallOf};
 ghost use Rattle.flow_model.specs.declared.reply.ValueFault.{ValueFault as ValueFaultOf};
@@ -14,7 +14,6 @@ ghost use Rattle.status_table.specs.InPlay.{InPlay};
 ghost use Rattle.status_table.specs.Row as spec;
 ghost use Rattle.status_table.specs.Seen.{begun_seen, DecidesEnding};
 ghost use Rattle.status_table.specs.Shape.{HasFewLegs};
-ghost use Rattle.text_values.specs.Known.{IsKnownOf, known_env};
 
 use crate::change::{add_step, set_ended, set_job_state, set_leg_state};
 use crate::fault::EventFault;
@@ -34,7 +33,6 @@ use flow_model::{
     StepCall, StepPlan, Text, ValueFault, What,
 };
 use std::alloc::{AllocError, Global};
-use text_values::Known;
 
 /// A reply that tells of nothing but what happened.
 fn reply(what: What) -> Reply
@@ -170,12 +168,11 @@ pub(crate) fn ask(
     if is_full(at.job_plan, at.job) {
         return Err(EventFault::SlotsFull);
     }
-    let mut known = Known::empty(alloc);
-    if is_stopping(alloc, &at, &mut known)? {
+    if is_stopping(alloc, &at)? {
         return Err(EventFault::Stopping);
     }
     let own = at.place.run as u64;
-    let group = leg_entrance(alloc, &at, &mut known);
+    let group = leg_entrance(alloc, &at);
     enter_leg(board, number, own, group)
 }
 
@@ -204,7 +201,7 @@ pub(crate) fn discard(
     if !may_drop(&at) {
         return Err(EventFault::WrongState);
     }
-    if !is_stopping(alloc, &at, &mut Known::empty(alloc))? {
+    if !is_stopping(alloc, &at)? {
         return Err(EventFault::NotStopping);
     }
     let next = next_after_leg(board, at.leg);
@@ -233,7 +230,7 @@ pub(crate) fn take(
         LegState::Running { .. } => return Err(EventFault::WrongState),
         LegState::Ended { .. } => return Err(EventFault::WrongState),
     }
-    if is_stopping(alloc, &at, &mut Known::empty(alloc))? {
+    if is_stopping(alloc, &at)? {
         return Err(EventFault::Stopping);
     }
     let place = at.place;
@@ -365,17 +362,8 @@ fn told_begun(decision: Result<Option<StepCall>, ValueFault>) -> Result<Begun, E
 }
 
 /// What beginning the next step of a leg comes to, or why it is not begun.
-fn beginning(
-    alloc: Global,
-    worker: u8,
-    number: u64,
-    at: &SeenLeg,
-    known: &mut Known,
-) -> Result<Begun, EventFault>
-    requires known { IsKnownOf (leg_scene at.now) known.old }
-    requires env { known_env known.old ≡ [] }
-    ensures value { DecidesAs begun_seen (spec.beginning worker number (leg_seen at.now)) result }
-    ensures known { IsKnownOf (leg_scene at.now) known.new }
+fn beginning(alloc: Global, worker: u8, number: u64, at: &SeenLeg) -> Result<Begun, EventFault>
+    ensures { DecidesAs begun_seen (spec.beginning worker number (leg_seen at.now)) result }
 {
     let Some(owner) = idle_owner(at.leg.state) else {
         return Err(EventFault::WrongState);
@@ -386,7 +374,7 @@ fn beginning(
     if worker != owner {
         return Err(EventFault::OtherWorker);
     }
-    told_begun(step_decision(alloc, number, at, known, step))
+    told_begun(step_decision(alloc, number, at, step))
 }
 
 /// A step that was skipped.
@@ -402,11 +390,10 @@ fn skipped_step(alloc: Global) -> DoneStep
 }
 
 /// A step that failed before its call.
-fn failed_step(alloc: Global, at: &SeenLeg, known: &mut Known) -> Result<DoneStep, AllocError>
-    requires { IsKnownOf (leg_scene at.now) known.old }
+fn failed_step(alloc: Global, at: &SeenLeg) -> Result<DoneStep, AllocError>
     ensures { IfOk result (λ done. done ≡ spec.failed_step (leg_seen at.now)) }
 {
-    let conclusion = failure_of(alloc, at, known)?;
+    let conclusion = failure_of(alloc, at)?;
     let outputs = Mapping::empty(alloc);
     Ok(DoneStep {
         outcome: Outcome::Failure,
@@ -429,8 +416,7 @@ pub(crate) fn begin(
         return Err(EventFault::NoSuch);
     };
     let place = at.place;
-    let mut known = Known::empty(alloc);
-    match beginning(alloc, worker, number, &at, &mut known)? {
+    match beginning(alloc, worker, number, &at)? {
         Begun::Call(call) => {
             set_leg_state(
                 board,
@@ -447,7 +433,7 @@ pub(crate) fn begin(
             Ok(reply(What::Skipped))
         },
         Begun::Faults(fault) => {
-            let done = failed_step(alloc, &at, &mut known)?;
+            let done = failed_step(alloc, &at)?;
             add_step(board, place, worker, done)?;
             Ok(reply(What::Faulted(fault)))
         },
@@ -481,15 +467,14 @@ fn outputs_of(alloc: Global, answer: Answer) -> Mapping<Text>
 }
 
 /// How a failure counts for the next step of a leg: one that may be passed over counts as a success.
-fn failure_of(alloc: Global, at: &SeenLeg, known: &mut Known) -> Result<Outcome, AllocError>
-    requires { IsKnownOf (leg_scene at.now) known.old }
+fn failure_of(alloc: Global, at: &SeenLeg) -> Result<Outcome, AllocError>
     ensures { IfOk result (λ how. how
         ≡ spec.failure_of (leg_seen at.now) (spec.next_step (leg_seen at.now))) }
 {
     let Some(step) = next_step(at) else {
         return Ok(Outcome::Failure);
     };
-    if step_tolerates(alloc, at, known, step)? {
+    if step_tolerates(alloc, at, step)? {
         Ok(Outcome::Success)
     } else {
         Ok(Outcome::Failure)
@@ -502,7 +487,7 @@ fn conclusion_of(alloc: Global, at: &SeenLeg, outcome: Outcome) -> Result<Outcom
 {
     match outcome {
         Outcome::Success => Ok(Outcome::Success),
-        Outcome::Failure => failure_of(alloc, at, &mut Known::empty(alloc)),
+        Outcome::Failure => failure_of(alloc, at),
         Outcome::Cancelled => Ok(Outcome::Cancelled),
         Outcome::Skipped => Ok(Outcome::Skipped),
     }
@@ -563,15 +548,8 @@ pub(crate) fn end(
 }
 
 /// The state in which a leg ends, or why it does not.
-fn finishing(
-    alloc: Global,
-    worker: u8,
-    at: &SeenLeg,
-    known: &mut Known,
-) -> Result<LegState, EventFault>
-    requires { IsKnownOf (leg_scene at.now) known.old }
-    ensures value { Decides (spec.finishing worker (leg_seen at.now)) result }
-    ensures known { IsKnownOf (leg_scene at.now) known.new }
+fn finishing(alloc: Global, worker: u8, at: &SeenLeg) -> Result<LegState, EventFault>
+    ensures { Decides (spec.finishing worker (leg_seen at.now)) result }
 {
     let Some(owner) = idle_owner(at.leg.state) else {
         return Err(EventFault::WrongState);
@@ -582,8 +560,8 @@ fn finishing(
     if at.leg.steps.len() < at.job_plan.steps.len() {
         return Err(EventFault::StepsLeft);
     }
-    let how = leg_result(alloc, at, known)?;
-    let tolerated = is_failure(how) && job_tolerates(alloc, at, known)?;
+    let how = leg_result(alloc, at)?;
+    let tolerated = is_failure(how) && job_tolerates(alloc, at)?;
     Ok(LegState::Ended {
         result: how,
         tolerated,
@@ -606,9 +584,8 @@ pub(crate) fn finish(
         return Err(EventFault::NoSuch);
     };
     let place = at.place;
-    let mut known = Known::empty(alloc);
-    let state = finishing(alloc, worker, &at, &mut known)?;
-    let outputs = leg_outputs(alloc, &at, &mut known)?;
+    let state = finishing(alloc, worker, &at)?;
+    let outputs = leg_outputs(alloc, &at)?;
     let next = next_after_leg(board, at.leg);
     set_ended(board, place, number, state, outputs)?;
     pass_on(board, next);

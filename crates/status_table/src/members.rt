@@ -2,7 +2,6 @@
 
 ghost use Rattle.std.specs.Prelude.{◌≡◌, true, OnOk, OnErr};
 ghost use Rattle.std.specs.Option.{option_copied};
-ghost use Rattle.board_decisions.specs.Numbered.{leg_there as leg_there_of};
 ghost use Rattle.flow_model.specs.Numbers.{board_legs};
 ghost use Rattle.flow_model.specs.declared.event.Member.TheVariants as member;
 ghost use Rattle.status_table.specs.Groups as spec;
@@ -10,8 +9,8 @@ ghost use Rattle.status_table.specs.Change.{with_numbered_leg};
 ghost use Rattle.status_table.specs.Seen.{has_role, noted, numbered_leg as numbered_leg_of, put_out as put_out_of};
 ghost use Rattle.status_table.specs.Shape.{HasFewLegs};
 
-use crate::change::{set_leg_state, set_run_state};
-use board_decisions::place::{LegPlace, find_leg_place};
+use crate::change::{LegChange, change_leg, set_run_state};
+use board_decisions::place::{find_leg_place, leg_there};
 use flow_model::{Board, Leg, LegState, Member, Outcome, Run, RunState, Text};
 use std::alloc::AllocError;
 
@@ -78,15 +77,6 @@ fn find_run(runs: &[Run], role: Role, name: &str) -> Option<u64>
     None
 }
 
-/// The leg at a place, if there is one.
-fn leg_there(board: &Board, place: LegPlace) -> Option<&Leg>
-    ensures { option_copied result ≡ leg_there_of board.now place }
-{
-    let run = board.runs.as_slice().get(place.run)?;
-    let job = run.jobs.as_slice().get(place.job)?;
-    job.legs.as_slice().get(place.leg)
-}
-
 /// The leg of a number, if there is one.
 fn numbered_leg(board: &Board, number: usize) -> Option<&Leg>
     ensures { option_copied result ≡ numbered_leg_of board.now number }
@@ -126,23 +116,6 @@ pub(crate) fn find_member(board: &Board, role: Role, name: &str) -> Option<Membe
     }
 }
 
-/// Admits a leg, in the group with a name or in none.
-fn admit_leg(board: &mut Board, number: u64, name: Option<Text>)
-    ensures { board.new ≡ spec.admitted board.old name (member.Leg number) }
-{
-    let Some(place) = find_leg_place(board.runs.as_slice(), number as usize) else {
-        return;
-    };
-    if let Some(run) = board.runs.get_mut(place.run) {
-        if let Some(job) = run.jobs.get_mut(place.job) {
-            if let Some(leg) = job.legs.get_mut(place.leg) {
-                leg.state = LegState::Admitted;
-                leg.group = name;
-            }
-        }
-    }
-}
-
 /// Lets a run go, in the group with a name or in none.
 fn admit_run(board: &mut Board, number: u64, name: Option<Text>)
     ensures { board.new ≡ spec.admitted board.old name (member.Run number) }
@@ -159,7 +132,9 @@ pub(crate) fn admit(board: &mut Board, name: Option<Text>, who: Member)
 {
     match who {
         Member::Run(number) => admit_run(board, number, name),
-        Member::Leg(number) => admit_leg(board, number, name),
+        Member::Leg(number) => {
+            change_leg(board, number, LegChange::Group(LegState::Admitted, name));
+        },
     }
 }
 
@@ -173,30 +148,19 @@ fn delay_run(board: &mut Board, number: u64, name: Text)
     }
 }
 
-/// Lets a leg wait for a name.
-fn delay_leg(board: &mut Board, number: u64, name: Text)
-    ensures { board.new ≡ spec.waits board.old name (member.Leg number) }
-{
-    let Some(place) = find_leg_place(board.runs.as_slice(), number as usize) else {
-        return;
-    };
-    if let Some(run) = board.runs.get_mut(place.run) {
-        if let Some(job) = run.jobs.get_mut(place.job) {
-            if let Some(leg) = job.legs.get_mut(place.leg) {
-                leg.state = LegState::Waiting;
-                leg.group = Some(name);
-            }
-        }
-    }
-}
-
 /// Lets a member wait for a name.
 pub(crate) fn delay(board: &mut Board, name: Text, who: Member)
     ensures { board.new ≡ spec.waits board.old name who }
 {
     match who {
         Member::Run(number) => delay_run(board, number, name),
-        Member::Leg(number) => delay_leg(board, number, name),
+        Member::Leg(number) => {
+            change_leg(
+                board,
+                number,
+                LegChange::Group(LegState::Waiting, Some(name)),
+            );
+        },
     }
 }
 
@@ -204,26 +168,7 @@ pub(crate) fn delay(board: &mut Board, name: Text, who: Member)
 fn set_state(board: &mut Board, number: u64, state: LegState)
     ensures { board.new ≡ with_numbered_leg board.old number (λ leg. record leg { state = state }) }
 {
-    let Some(place) = find_leg_place(board.runs.as_slice(), number as usize) else {
-        return;
-    };
-    set_leg_state(board, place, state);
-}
-
-/// Tells a leg to stop.
-fn stop_leg(board: &mut Board, number: u64)
-    ensures { board.new ≡ spec.stopped board.old true (member.Leg number) }
-{
-    let Some(place) = find_leg_place(board.runs.as_slice(), number as usize) else {
-        return;
-    };
-    if let Some(run) = board.runs.get_mut(place.run) {
-        if let Some(job) = run.jobs.get_mut(place.job) {
-            if let Some(leg) = job.legs.get_mut(place.leg) {
-                leg.stop = true;
-            }
-        }
-    }
+    change_leg(board, number, LegChange::State(state));
 }
 
 /// Tells a run to stop.
@@ -244,7 +189,7 @@ pub(crate) fn stop(board: &mut Board, wanted: bool, who: Member)
     }
     match who {
         Member::Run(number) => stop_run(board, number),
-        Member::Leg(number) => stop_leg(board, number),
+        Member::Leg(number) => change_leg(board, number, LegChange::Stop),
     }
 }
 

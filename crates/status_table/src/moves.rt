@@ -12,7 +12,6 @@ use board_decisions::derived::{is_full, jobs_have_ended, needs_have_ended};
 use board_decisions::place::{find_job, find_leg, find_run};
 use flow_model::{Board, Event, Job, JobState, Plan, Run, RunState};
 use std::alloc::{AllocError, Global};
-use text_values::Known;
 
 /// The kinds of a clerk's events.
 #[derive(Clone, Copy)]
@@ -98,7 +97,7 @@ fn drops(alloc: Global, plan: &Plan, board: &Board, number: u64) -> Result<bool,
     if !may_drop(&at) {
         return Ok(false);
     }
-    is_stopping(alloc, &at, &mut Known::empty(alloc))
+    is_stopping(alloc, &at)
 }
 
 /// Whether a leg may ask.
@@ -112,7 +111,7 @@ fn asks(alloc: Global, plan: &Plan, board: &Board, number: u64) -> Result<bool, 
     if !may_ask(&at) || is_full(at.job_plan, at.job) {
         return Ok(false);
     }
-    let stops = is_stopping(alloc, &at, &mut Known::empty(alloc))?;
+    let stops = is_stopping(alloc, &at)?;
     Ok(!stops)
 }
 
