@@ -3,7 +3,7 @@
 use flow_model::Member;
 
 /// What became of a member that entered a group.
-#[derive(Clone, Copy, PartialEq, Eq)]
+#[derive(Clone, Copy)]
 pub enum Entered {
     /// It holds the group, or the name is empty and names none.
     Admitted,

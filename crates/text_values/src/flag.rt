@@ -1,10 +1,9 @@
 //! Flags where they stand.
 
-ghost use Rattle.std.specs.Prelude.{◌≡◌, IfOk, codes};
-ghost use Rattle.std.specs.Str.{bytes_eq};
-ghost use Rattle.expr_reader.specs.Fold.{fold};
+ghost use Rattle.std.specs.Prelude.{◌≡◌, IfOk};
 ghost use Rattle.text_values.specs.Known.{IsKnownOf, known_env};
-ghost use Rattle.text_values.specs.Texts.{answers_true, flag_value, says_true as says_true_of, text_value};
+ghost use Rattle.text_values.specs.Texts.{answers_true, flag_value, says_true as says_true_of};
+ghost use Rattle.text_values.specs.Texts.{text_value};
 ghost use Rattle.text_values.specs.Values.{contexts_at, with_env};
 
 use crate::known::Known;
@@ -15,20 +14,13 @@ use expr_reader::same_text;
 use flow_model::{Flag, Node, Value, ValueFault};
 use std::alloc::{AllocError, Global};
 
-// Whether a text is `true`, ignoring case.
-fn is_true_text(text: &str) -> bool
-    ensures { result ≡ bytes_eq (fold text.now) (codes "true") }
-{
-    same_text(text, "true")
-}
-
 // Whether a value is `true`, or a text equal to `true` ignoring case.
 fn says_true(value: &Value) -> bool
     ensures { result ≡ says_true_of value.now }
 {
     match value.node() {
         Node::Truth(truth) => *truth,
-        Node::Text(text) => is_true_text(text.as_str()),
+        Node::Text(text) => same_text(text.as_str(), "true"),
         Node::Null | Node::Whole(_) | Node::List(_) | Node::Map(_) => false,
     }
 }

@@ -69,13 +69,6 @@ impl Known {
         Ok(())
     }
 
-    /// Gives the variables back.
-    pub fn into_env(self) -> Mapping<Text>
-        ensures { result ≡ known_env self }
-    {
-        self.env
-    }
-
     /// The value of a context, where it was made.
     #[tactic(auto, unfolding(crate::specs::Known::value_made))]
     pub(crate) fn value_made(&self, context: Context) -> Option<&Value>

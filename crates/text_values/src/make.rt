@@ -59,8 +59,8 @@ fn make_one<S: Scene>(
     known: &mut Known,
     context: Context,
 ) -> Result<(), AllocError>
-    ensures ok { OnOk result
-        (known.new ≡ made_one (with_env (known_env known.old) (S.values scene.now)) context known.old) }
+    ensures ok { let values = with_env (known_env known.old) (S.values scene.now) in
+        OnOk result (known.new ≡ made_one values context known.old) }
     ensures err { OnErr result (known.new ≡ known.old) }
 {
     if known.value_made(context).is_some() {

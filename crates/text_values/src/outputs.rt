@@ -25,7 +25,8 @@ fn set_output<S: Scene>(
 ) -> Result<(), AllocError>
     requires { IsKnownOf (S.values scene.now) known.old }
     ensures value { OnOk result (made.new ≡ with_output_set name.now (text_text
-        (contexts_at place (with_env (known_env known.old) (S.values scene.now))) text.now) made.old) }
+        (contexts_at place (with_env (known_env known.old) (S.values scene.now)))
+        text.now) made.old) }
     ensures env { known_env known.new ≡ known_env known.old }
     ensures known { IsKnownOf (S.values scene.now) known.new }
 {

@@ -1,13 +1,13 @@
 //! The places of a plan's texts.
 
 ghost use Rattle.std.specs.Prelude.{◌≡◌};
-ghost use Rattle.text_values.specs.Places.{seen_at, sees as sees_of};
+ghost use Rattle.text_values.specs.Places.{seen_at};
 
 use expr_reader::Context;
 
 /// Where in a plan a text stands, which decides what contexts it sees (GitHub Docs, "Contexts reference": context
 /// availability).
-#[derive(Clone, Copy, PartialEq, Eq)]
+#[derive(Clone, Copy)]
 pub enum Place {
     /// The name and the cancel flag of a workflow's group.
     WorkflowGroup,
@@ -46,18 +46,5 @@ impl Place {
                 Github, Inputs, Vars, Needs, Strategy, Matrix, Job, Steps, Env,
             ],
         }
-    }
-
-    /// Whether the place sees a context.
-    pub fn sees(self, context: Context) -> bool
-        ensures { result ≡ sees_of self context }
-    {
-        let contexts = self.contexts();
-        for seen in contexts {
-            if context.name().cmp(seen.name()).is_eq() {
-                return true;
-            }
-        }
-        false
     }
 }

@@ -92,29 +92,8 @@ fn unread_holds(fault: ExprFault) -> Result<bool, ValueFault>
     Ok(false)
 }
 
-// The value at a place of a text that is read.
-#[tactic(auto, unfolding(crate::specs::Texts::text_value))]
-fn read_at<S: Scene>(
-    alloc: Global,
-    scene: &S,
-    known: &mut Known,
-    place: Place,
-    text: &str,
-) -> Result<Value, ValueFault>
-    requires { IsKnownOf (S.values scene.now) known.old }
-    ensures value { Gives (λ value. value) result
-        (text_value (contexts_at place (with_env (known_env known.old) (S.values scene.now)))
-        text.now) }
-    ensures env { known_env known.new ≡ known_env known.old }
-    ensures known { IsKnownOf (S.values scene.now) known.new }
-{
-    match read_template(alloc, text) {
-        Ok(template) => template_at(alloc, scene, known, place, &template),
-        Err(fault) => unread_value(alloc, fault),
-    }
-}
-
 /// The value of a text at a place.
+#[tactic(auto, unfolding(crate::specs::Texts::text_value))]
 pub(crate) fn value_at<S: Scene>(
     alloc: Global,
     scene: &S,
@@ -132,7 +111,10 @@ pub(crate) fn value_at<S: Scene>(
     if is_its_own(text) {
         return Ok(own_value(alloc, text)?);
     }
-    read_at(alloc, scene, known, place, text)
+    match read_template(alloc, text) {
+        Ok(template) => template_at(alloc, scene, known, place, &template),
+        Err(fault) => unread_value(alloc, fault),
+    }
 }
 
 /// The value of a text at a place, turned to text: `run`, a working directory, a group's name.
@@ -159,29 +141,6 @@ pub fn text_at<S: Scene>(
     Ok(to_text(alloc, &value)?)
 }
 
-// Whether a condition's text holds at a place.
-#[tactic(auto, unfolding(crate::specs::Texts::condition_value))]
-fn condition_text_at<S: Scene>(
-    alloc: Global,
-    scene: &S,
-    known: &mut Known,
-    place: Place,
-    text: &str,
-    status: Status,
-) -> Result<bool, ValueFault>
-    requires { IsKnownOf (S.values scene.now) known.old }
-    ensures value { Gives (λ holds. holds) result
-        (condition_value (contexts_at place (with_env (known_env known.old) (S.values scene.now)))
-        status (Some text.now)) }
-    ensures env { known_env known.new ≡ known_env known.old }
-    ensures known { IsKnownOf (S.values scene.now) known.new }
-{
-    match read_condition(alloc, text) {
-        Ok(template) => condition_read_at(alloc, scene, known, place, &template, status),
-        Err(fault) => unread_holds(fault),
-    }
-}
-
 /// Whether a condition holds at a place under a status; no condition is `success()` (GitHub Docs, workflow syntax:
 /// `if`).
 ///
@@ -205,7 +164,10 @@ pub fn condition_at<S: Scene>(
     ensures known { IsKnownOf (S.values scene.now) known.new }
 {
     match condition {
-        Some(text) => condition_text_at(alloc, scene, known, place, text.as_str(), status),
+        Some(text) => match read_condition(alloc, text.as_str()) {
+            Ok(template) => condition_read_at(alloc, scene, known, place, &template, status),
+            Err(fault) => unread_holds(fault),
+        },
         None => Ok(is_success(status)),
     }
 }
