@@ -338,7 +338,7 @@ fn decide_step(
     Ok(Some(call_value(alloc, number, at, known, step)?))
 }
 
-/// The call of a step, or none where it is skipped. A context's value is made once at most.
+/// The call of a step, or none where it is skipped. Its texts share what is made of the contexts.
 pub fn step_decision(
     alloc: Global,
     number: u64,

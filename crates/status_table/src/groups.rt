@@ -82,7 +82,8 @@ fn queue(
     holder: Member,
     waited: Option<Member>,
 ) -> Result<Reply, EventFault>
-    ensures { Answers (Ok (spec.queued board.old who group holder waited)) board.old result board.new }
+    ensures { Answers (Ok (spec.queued board.old who group holder waited))
+        board.old result board.new }
 {
     note_end(board, waited)?;
     let cancel = group.cancel;
