@@ -63,8 +63,3 @@ at_product (v ∷ vs) n d h w =
     ap (λ m. get_or (product (v ∷ vs)) m d) (sym place)
     ∙ at_row v.0 (product vs) v.1 q r d (place_within v vs (size (v ∷ vs)) n h refl w) (subst (λ m. r < m) (sym many) left)
     ∙ ap (λ (c : Pairs). (v.0, get_or v.1 q null) ∷ c) (at_product vs r [] (have_first v vs h).1 left)
-
--- a choice gives each variable a value
-pub length_choice : (vs : Variables) (n : ℕ) → length (choice vs n) ≡ length vs
-length_choice [] n = refl
-length_choice (v ∷ vs) n = ap suc (length_choice vs (n % size vs))

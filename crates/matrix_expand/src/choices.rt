@@ -24,26 +24,39 @@ fn chosen_item(values: &Sequence<Value>, block: usize, rest: usize) -> &Value
     &items[rest / block]
 }
 
-/// The value that a choice gives to a name, if the name is a variable.
-fn chosen<'a>(
+/// The pairs of a choice, each the name of a variable with the value that it is given.
+pub(crate) fn row<'a>(
+    alloc: Global,
     variables: &'a Mapping<Sequence<Value>>,
     size: usize,
     number: usize,
-    name: &str,
-) -> Option<&'a Value>
+) -> Result<Vec<(&'a str, &'a Value)>, AllocError>
     requires full { have_values variables.now ≡ true }
     requires sized { size ≡ size_of variables.now }
     requires within { number < size }
-    ensures { option_copied result ≡ value_at name.now (spec.choice variables.now number) }
+    ensures { IfOk result (λ row. spec.row_pairs row.items ≡ spec.choice variables.now number) }
 {
+    let from = variables.iter();
+    let mut row = Vec::new(alloc);
     let mut block = size;
     let mut rest = number;
-    for (key, values) in variables.iter() {
+    for (key, values) in from {
         block = block / values.len();
-        if name == key.as_str() {
-            return Some(chosen_item(values, block, rest));
-        }
+        let item = chosen_item(values, block, rest);
+        row.push((key.as_str(), item))?;
         rest = rest % block;
+    }
+    Ok(row)
+}
+
+/// The value that a row gives to a name, if the name is a variable.
+fn found<'a>(row: &[(&'a str, &'a Value)], name: &str) -> Option<&'a Value>
+    ensures { option_copied result ≡ value_at name.now (spec.row_pairs row.now) }
+{
+    for (key, item) in row {
+        if name == *key {
+            return Some(*item);
+        }
     }
     None
 }
@@ -58,57 +71,33 @@ fn is_value(value: &Value, found: Option<&Value>) -> bool
     }
 }
 
-/// Whether all of an entry's pairs stand in a choice.
-fn stands_in(
-    entry: &Combo,
-    variables: &Mapping<Sequence<Value>>,
-    size: usize,
-    number: usize,
-) -> bool
-    requires full { have_values variables.now ≡ true }
-    requires sized { size ≡ size_of variables.now }
-    requires within { number < size }
-    ensures { result ≡ stands_in entry.now (spec.choice variables.now number) }
+/// Whether all of an entry's pairs stand in a row.
+fn stands_in<'a>(entry: &Combo, row: &[(&'a str, &'a Value)]) -> bool
+    ensures { result ≡ stands_in entry.now (spec.row_pairs row.now) }
 {
     for (name, value) in entry.iter() {
-        if !is_value(value, chosen(variables, size, number, name.as_str())) {
+        if !is_value(value, found(row, name.as_str())) {
             return false;
         }
     }
     true
 }
 
-/// Whether an exclude takes a choice out.
+/// Whether an exclude takes a row out.
 #[tactic(auto, unfolding(crate::specs::Combos::takes_out))]
-fn takes_out(
-    entry: &Combo,
-    variables: &Mapping<Sequence<Value>>,
-    size: usize,
-    number: usize,
-) -> bool
-    requires full { have_values variables.now ≡ true }
-    requires sized { size ≡ size_of variables.now }
-    requires within { number < size }
-    ensures { result ≡ takes_out (spec.choice variables.now number) entry.now }
+fn takes_out<'a>(entry: &Combo, row: &[(&'a str, &'a Value)]) -> bool
+    ensures { result ≡ takes_out (spec.row_pairs row.now) entry.now }
 {
-    !entry.is_empty() && stands_in(entry, variables, size, number)
+    !entry.is_empty() && stands_in(entry, row)
 }
 
-/// Whether one of the excludes takes a choice out.
-pub(crate) fn is_taken_out(
-    excludes: &Sequence<Combo>,
-    variables: &Mapping<Sequence<Value>>,
-    size: usize,
-    number: usize,
-) -> bool
-    requires full { have_values variables.now ≡ true }
-    requires sized { size ≡ size_of variables.now }
-    requires within { number < size }
-    ensures { result ≡ list_any (takes_out (spec.choice variables.now number)) excludes.now }
+/// Whether one of the excludes takes a row out.
+pub(crate) fn is_taken_out<'a>(excludes: &Sequence<Combo>, row: &[(&'a str, &'a Value)]) -> bool
+    ensures { result ≡ list_any (takes_out (spec.row_pairs row.now)) excludes.now }
 {
     let from = excludes.as_slice();
     for entry in from {
-        if takes_out(entry, variables, size, number) {
+        if takes_out(entry, row) {
             return true;
         }
     }

@@ -5,7 +5,7 @@ use Rattle.matrix_expand.specs.Combos.{Pairs, is_original, originals, product}
 use Rattle.matrix_expand.specs.Expands.{size}
 use Rattle.matrix_expand.proofs.Filters.{kept, passed, over, finished}
 use Rattle.matrix_expand.proofs.Products.{length_product, at_product}
-use Rattle.matrix_expand.proofs.original.originals.Goals.{then-is_original+else-len-eq-MOST_COMBINATIONS+in_ok-choice+in_ok-push, else-is_original}
+use Rattle.matrix_expand.proofs.original.originals.Goals.{then-chosen+else-len-eq-MOST_COMBINATIONS+in_ok-choice+in_ok-push, else-chosen}
 use Rattle.matrix_expand.proofs.original.originals.Goals as goal
 
 pub returns-then-len-eq-MOST_COMBINATIONS : goal.returns-then-len-eq-MOST_COMBINATIONS
@@ -26,17 +26,17 @@ loop-number-preserved c =
     let n = c.loop-number.number in
     let below : n < size vs = subst (λ s. n < s) c.requires.sized c.loop-number-test.true in
     let place : n < length (product vs) = subst (λ s. n < s) (sym (length_product vs)) below in
-    elim c.if-is_original.branch [
-      | then-is_original+else-len-eq-MOST_COMBINATIONS+in_ok-choice+in_ok-push w ↦
+    elim c.if-chosen.branch [
+      | then-chosen+else-len-eq-MOST_COMBINATIONS+in_ok-choice+in_ok-push w ↦
           let test : is_original c.args.matrix.now.exclude (choice vs n) ≡ true = search rules in
           let room : (length c.loop-number.made ≡ 256) → ⊥ = search rules in
-          let made : c.if-is_original.made ≡ c.loop-number.made ++ choice vs n ∷ [] =
+          let made : c.if-chosen.made ≡ c.loop-number.made ++ choice vs n ∷ [] =
           w.made-is ∙ w.in_ok-push.ensures.ok ∙ ap (λ (x : Pairs). c.loop-number.made ++ x ∷ []) w.in_ok-choice.ensures in
           rw made (record {
             found = kept (is_original c.args.matrix.now.exclude) c.loop-number.made n (product vs) _ (choice vs n) place (at_product vs n [] c.requires.full below) test c.loop-number.invariant.found;
             few = rw (length-append c.loop-number.made (choice vs n ∷ [])) (omega arith);
           })
-      | else-is_original w ↦
+      | else-chosen w ↦
           let test : is_original c.args.matrix.now.exclude (choice vs n) ≡ false = search rules in
           rw w.made-is (record {
             found = passed (is_original c.args.matrix.now.exclude) c.loop-number.made n (product vs) _ (choice vs n) place (at_product vs n [] c.requires.full below) test c.loop-number.invariant.found;
