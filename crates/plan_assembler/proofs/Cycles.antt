@@ -1,13 +1,13 @@
 -- Where there are stages no job needs itself, the stages are the only ones, and where each job of some waits for one of them, one needs itself.
-use Rattle.std.proofs.Common.{◌≡◌, ◌<◌, ◌+◌, ◌∙◌, ℕ, zero, suc, Bool, true, false, List, [], ◌∷◌, ◌++◌, map, length, get_or, Option, nat_eq, refl, ap, sym, arith, subst}
+use Rattle.std.proofs.Common.{◌≡◌, ◌≤◌, ◌<◌, ◌+◌, ◌∙◌, ℕ, zero, suc, Bool, true, false, List, [], ◌∷◌, ◌++◌, map, length, get_or, Option, nat_eq, refl, ap, sym, arith, subst}
 use Rattle.std.proofs.lemmas.Grind.{common_steps}
 use Rattle.std.proofs.lemmas.Bool.Decides.{nat_tests}
-use Rattle.std.specs.List.{Contains, IsDistinct, AllByRecursion, list_any, count_by}
+use Rattle.std.specs.List.{Contains, IsDistinct, AllByRecursion, list_any}
 use Rattle.std.proofs.Math.ListN.{get_or-map}
 use Rattle.std.proofs.lemmas.List.{ext_get_or, get_or_default, length-map}
 use Rattle.std.proofs.lemmas.Map.Steps.{length-le_from_distinct_below}
-use Rattle.plan_assembler.specs.Kahn.{is_open}
 use Rattle.plan_assembler.specs.Graph.{Needs, NeedsBy, HasCycle, IsGraph}
+use Rattle.plan_assembler.specs.Placing.{is_open, waits, AllWait}
 use Rattle.plan_assembler.specs.Stages.{AreStages, stage_after}
 
 -- the stage after some is above each of them
@@ -15,6 +15,11 @@ above : (f : ℕ → ℕ) (ns : List ℕ) (i k : ℕ) → i < length ns → get_
 above f [] i k h e = absurd (omega arith)
 above f (n ∷ ns) zero k h e = rw (sym e) (omega arith)
 above f (n ∷ ns) (suc i) k h e = let later : f k < stage_after (map f ns) = above f ns i k (omega arith) e in omega arith
+
+-- and at most one above the greatest
+pub bound_after : (f : ℕ → ℕ) (t : ℕ) → ((k : ℕ) → f k ≤ t) → (ks : List ℕ) → stage_after (map f ks) ≤ suc t
+bound_after f t h [] = omega arith
+bound_after f t h (k ∷ ks) = omega (arith, h k, bound_after f t h ks)
 
 -- the stage of a job, by the equation that stages meet
 pub at_stage : (g : List (List ℕ)) (ss : List ℕ) → AreStages g ss → (j : ℕ) → get_or ss j 0 ≡ stage_after (map (λ k. get_or ss k 0) (get_or g j []))
@@ -60,16 +65,15 @@ pub further : (g : List (List ℕ)) (j : ℕ) (ms : List ℕ) (k l : ℕ) → Ne
 further g j [] k l n m = (n, m)
 further g j (m ∷ ms) k l n more = (n.0, further g m ms k l n.1 more)
 
-open_first : (found : List (Option ℕ)) (n : ℕ) (ns : List ℕ) (b : Bool) → is_open found n ≡ b → 0 < count_by (is_open found) (n ∷ ns) → (0 < count_by (is_open found) ns → (k : ℕ) × Contains ns k × (is_open found k ≡ true)) → (k : ℕ) × Contains (n ∷ ns) k × (is_open found k ≡ true)
+-- an open need, where there is one
+open_first : (found : List (Option ℕ)) (n : ℕ) (ns : List ℕ) (b : Bool) → is_open found n ≡ b → waits found (n ∷ ns) ≡ true → (waits found ns ≡ true → (k : ℕ) × Contains ns k × (is_open found k ≡ true)) → (k : ℕ) × Contains (n ∷ ns) k × (is_open found k ≡ true)
 open_first found n ns true e h more = (n, (0, omega arith, refl), e)
 open_first found n ns false e h more =
-    let left : 0 < count_by (is_open found) ns = grind (arith, common_steps) in
-    let next = more left in
+    let next = more (grind (arith, common_steps)) in
     (next.0, (suc next.1.0, omega (arith, next.1.1), next.1.2), next.2)
 
--- an open need, where there is one
-open_need : (found : List (Option ℕ)) (ns : List ℕ) → 0 < count_by (is_open found) ns → (k : ℕ) × Contains ns k × (is_open found k ≡ true)
-open_need found [] h = absurd (omega arith)
+open_need : (found : List (Option ℕ)) (ns : List ℕ) → waits found ns ≡ true → (k : ℕ) × Contains ns k × (is_open found k ≡ true)
+open_need found [] h = absurd (cc)
 open_need found (n ∷ ns) h = open_first found n ns (is_open found n) refl h (open_need found ns)
 
 -- what is none of some differs from each of them
@@ -91,19 +95,19 @@ behind_more g trail j k n within behind q false e h =
     (there.0, (there.1.0 ++ j ∷ [], further g q there.1.0 j k there.1.1 n))
 
 -- following open needs for longer than there are jobs, one job comes again
-walk : (g : List (List ℕ)) (found : List (Option ℕ)) → ((j : ℕ) → j < length g → is_open found j ≡ true → 0 < count_by (is_open found) (get_or g j [])) → IsGraph g
+walk : (g : List (List ℕ)) (found : List (Option ℕ)) → AllWait g found → IsGraph g
     → (fuel : ℕ) (trail : List ℕ) (j : ℕ) → IsDistinct nat_eq trail → ((q : ℕ) → list_any (nat_eq q) trail ≡ true → (q < length g) × ((ms : List ℕ) × NeedsBy g q ms j))
     → j < length g → is_open found j ≡ true → length g < length trail + fuel → HasCycle g
 unfolding IsDistinct
-walk g found waits graph zero trail j distinct behind within o enough =
+walk g found all graph zero trail j distinct behind within o enough =
     absurd (omega (arith, length-le_from_distinct_below trail (length g) distinct (λ q h. (behind q h).0)))
-walk g found waits graph (suc fuel) trail j distinct behind within o enough =
-    let next = open_need found (get_or g j []) (waits j within o) in
+walk g found all graph (suc fuel) trail j distinct behind within o enough =
+    let next = open_need found (get_or g j []) (all j within o) in
     come_again g trail j behind (list_any (nat_eq j) trail) refl (λ new.
-    walk g found waits graph fuel (j ∷ trail) next.0 (all_differ j trail new, distinct)
+    walk g found all graph fuel (j ∷ trail) next.0 (all_differ j trail new, distinct)
     (λ q h. behind_more g trail j next.0 next.1 within behind q (nat_eq q j) refl h) (graph j next.0 next.1) next.2 (omega arith))
 
-pub stuck : (g : List (List ℕ)) (found : List (Option ℕ)) → ((j : ℕ) → j < length g → is_open found j ≡ true → 0 < count_by (is_open found) (get_or g j [])) → IsGraph g
+pub stuck : (g : List (List ℕ)) (found : List (Option ℕ)) → AllWait g found → IsGraph g
     → (j : ℕ) → j < length g → is_open found j ≡ true → HasCycle g
 unfolding IsDistinct
-stuck g found waits graph j within o = walk g found waits graph (suc (length g)) [] j tt (λ q h. absurd (cc)) within o (omega arith)
+stuck g found all graph j within o = walk g found all graph (suc (length g)) [] j tt (λ q h. absurd (cc)) within o (omega arith)

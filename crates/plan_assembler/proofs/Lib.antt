@@ -1,5 +1,4 @@
 pub mod Answering
-pub mod Counts
 pub mod Cycles
 pub mod EventNames
 pub mod FirstJob
@@ -16,6 +15,7 @@ pub mod NeedNumbers
 pub mod OnePlan
 pub mod Orders
 pub mod Places
+pub mod Placings
 pub mod PlanBack
 pub mod Planned
 pub mod PlannedTexts

@@ -67,12 +67,6 @@ pub record GoingRuns (roots : Roots) (choice : Choice) (ws : List Workflow) (i f
   pub few : length runs + length (taken choice (drop i ws)) ≤ 64
   pub room : first ≤ 256 * length runs
 
-pub begin_runs : (roots : Roots) (choice : Choice) (ws : List Workflow) (runs : List RunPlan) → runs ≡ [] → length (taken choice ws) ≤ 64 → GoingRuns roots choice ws 0 0 runs
-begin_runs roots choice ws runs e h = subst (λ (rs : List RunPlan). GoingRuns roots choice ws 0 0 rs) (sym e) (record { made = λ more m. m; pass = λ p. p; fail = λ f x. x; few = omega arith; room = omega arith })
-
-pub room_left : (roots : Roots) (choice : Choice) (ws : List Workflow) (i first : ℕ) (runs : List RunPlan) → GoingRuns roots choice ws i first runs → first ≤ 16384
-room_left roots choice ws i first runs g = omega (arith, g.few, g.room)
-
 left_at : (ws : List Workflow) (i : ℕ) (w : Workflow) → i < length ws → w ≡ get_or ws i w → drop i ws ≡ w ∷ drop (i + 1) ws
 left_at ws i w h e = drop_more ws i w h ∙ ap (λ (x : Workflow). x ∷ drop (i + 1) ws) (sym e)
 

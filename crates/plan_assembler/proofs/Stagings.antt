@@ -7,16 +7,12 @@ use Rattle.flow_model.specs.declared.plan.RunPlan.{RunPlan}
 use Rattle.plan_assembler.specs.Graph.{Graph}
 use Rattle.plan_assembler.specs.Stages.{AreStages, stage_after}
 use Rattle.plan_assembler.specs.Staging.{next_stage, stages_from, AreBounded, in_stage, run_jobs, stage_lists}
-use Rattle.plan_assembler.proofs.Cycles.{same_after}
+use Rattle.plan_assembler.proofs.Cycles.{same_after, bound_after}
 
 -- each job needs jobs before it, where the first of these has the place n
 abbrev pub PointBack : ℕ → Graph → Type 0
 PointBack n [] = Unit {0}
 PointBack n (needs ∷ g) = ((k : ℕ) → Contains needs k → k < n) × PointBack (suc n) g
-
-pub bound_after : (f : ℕ → ℕ) (t : ℕ) → ((k : ℕ) → f k ≤ t) → (ks : List ℕ) → stage_after (map f ks) ≤ suc t
-bound_after f t h [] = omega arith
-bound_after f t h (k ∷ ks) = omega (arith, h k, bound_after f t h ks)
 
 get_last : (xs : List ℕ) (x k : ℕ) (t : ℕ) → ((i : ℕ) → get_or xs i 0 ≤ t) → x ≤ t → get_or (xs ++ x ∷ []) k 0 ≤ t
 get_last [] x zero t h w = w
@@ -33,7 +29,7 @@ bounded_next found new needs b e k =
     subst (λ (l : List ℕ). get_or l k 0 ≤ length l) (sym e) (omega (arith, all, long, ap length e))
 
 -- jobs after jobs
-pub stages_append : (found : List ℕ) (g h : Graph) → stages_from found (g ++ h) ≡ stages_from (stages_from found g) h
+stages_append : (found : List ℕ) (g h : Graph) → stages_from found (g ++ h) ≡ stages_from (stages_from found g) h
 stages_append found [] h = refl
 stages_append found (needs ∷ g) h = stages_append (found ++ next_stage found needs ∷ []) g h
 
@@ -41,7 +37,7 @@ pub map-append : (jobs more : List JobPlan) → map (λ job. job.needs) (jobs ++
 map-append [] more = refl
 map-append (job ∷ jobs) more = ap (λ (g : Graph). job.needs ∷ g) (map-append jobs more)
 
-pub stages_of_run : (found new : List ℕ) (jobs more : List JobPlan) → new ≡ stages_from found (map (λ job. job.needs) jobs)
+stages_of_run : (found new : List ℕ) (jobs more : List JobPlan) → new ≡ stages_from found (map (λ job. job.needs) jobs)
     → stages_from new (map (λ job. job.needs) more) ≡ stages_from found (map (λ job. job.needs) (jobs ++ more))
 stages_of_run found new jobs more e =
     ap (λ (l : List ℕ). stages_from l (map (λ job. job.needs) more)) e ∙ sym (stages_append found (map (λ job. job.needs) jobs) (map (λ job. job.needs) more))
@@ -82,7 +78,7 @@ below_more : (n : ℕ) (g : Graph) (needs : List ℕ) → AllBelow n g → ((k :
 below_more n [] needs h here = ((λ k c. omega (arith, here k c)), tt)
 below_more n (other ∷ g) needs h here = ((λ k c. omega (arith, h.0 k c)), below_more n g needs h.1 here)
 
-pub settle : (h g : Graph) (found : List ℕ) → length found ≡ length h → found ≡ map (next_stage found) h → AllBelow (length found) h → PointBack (length found) g
+settle : (h g : Graph) (found : List ℕ) → length found ≡ length h → found ≡ map (next_stage found) h → AllBelow (length found) h → PointBack (length found) g
     → stages_from found g ≡ map (next_stage (stages_from found g)) (h ++ g)
 settle h [] found l e below back = e ∙ ap (map (next_stage found)) (sym (append-nil h))
 settle h (needs ∷ g) found l e below back =
@@ -120,3 +116,10 @@ run_jobs_next done new all rs i run h at kept e =
     let own : List (ℕ × ℕ) = map (λ (job : JobPlan). (i, job.number)) run.jobs in
     ap (λ (l : List (ℕ × ℕ)). l ++ run_jobs (i + 1) (drop (i + 1) rs)) e ∙ append_assoc done own (run_jobs (i + 1) (drop (i + 1) rs))
     ∙ ap (λ (k : ℕ). done ++ (own ++ run_jobs k (drop (i + 1) rs))) more ∙ ap (λ (l : List RunPlan). done ++ run_jobs i l) (sym here) ∙ kept
+
+pub mapped_next : (f : JobPlan → ℕ × ℕ) (done new all : List (ℕ × ℕ)) (jobs : List JobPlan) (i : ℕ) (job : JobPlan) → i < length jobs → job ≡ get_or jobs i job → new ≡ done ++ f job ∷ [] → done ++ map f (drop i jobs) ≡ all
+    → new ++ map f (drop (i + 1) jobs) ≡ all
+mapped_next f done new all jobs i job h at e kept =
+    let here : drop i jobs ≡ job ∷ drop (i + 1) jobs = drop_more jobs i job h ∙ ap (λ (j : JobPlan). j ∷ drop (i + 1) jobs) (sym at) in
+    ap (λ (l : List (ℕ × ℕ)). l ++ map f (drop (i + 1) jobs)) e ∙ append_assoc done (f job ∷ []) (map f (drop (i + 1) jobs))
+    ∙ ap (λ (l : List JobPlan). done ++ map f l) (sym here) ∙ kept

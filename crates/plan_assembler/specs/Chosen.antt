@@ -1,5 +1,5 @@
 -- The jobs of a run for one job: that job, and all that it needs, directly or not.
-use Rattle.std.specs.Prelude.{◌≡◌, ◌↔◌, ◌⊎◌, ℕ, Bool, true, false, not, List, length, get_or}
+use Rattle.std.specs.Prelude.{◌≡◌, ◌<◌, ◌↔◌, ◌⊎◌, ℕ, Bool, true, false, not, List, [], length, get_or}
 use Rattle.std.specs.List.{count_by}
 use Rattle.plan_assembler.specs.Graph.{Graph, Needs, NeedsBy}
 
@@ -11,7 +11,14 @@ IsChosen g target j = (j ≡ target) ⊎ ((ms : List ℕ) × NeedsBy g target ms
 abbrev pub AreChosen : Graph → ℕ → List Bool → Type 0
 AreChosen g target marks = (length marks ≡ length g) × ((j : ℕ) → (get_or marks j false ≡ true) ↔ IsChosen g target j)
 
--- some of them, for this crate's own use
+-- ---- for this crate's own use
+
+-- all that those with a mark need has one
+abbrev pub AreClosed : Graph → List Bool → Type 0
+AreClosed g marks =
+    (j i : ℕ) → j < length g → get_or marks j false ≡ true → i < length (get_or g j []) → get_or marks (get_or (get_or g j []) i 0) false ≡ true
+
+-- some of the jobs of a run have a mark, among them the target
 pub record Marking (g : Graph) (target : ℕ) (marks : List Bool) : Type 0 where
   pub one_each : length marks ≡ length g
   pub first : get_or marks target false ≡ true

@@ -48,6 +48,10 @@ place_of (other ∷ ids) id = if bytes_eq id other then 0 else suc (place_of ids
 abbrev pub are_needs_known : List FlowJob → Bool
 are_needs_known jobs = list_all (λ job. list_all (is_one_of (ids_of jobs)) job.needs) jobs
 
+-- the places of what a job needs
+abbrev pub need_places : List FlowJob → List (List ℕ) → List ℕ
+need_places jobs needs = map (place_of (ids_of jobs)) needs
+
 -- what the jobs need, by their places
 abbrev pub graph_of : List FlowJob → Graph
 graph_of jobs = map (λ job. map (place_of (ids_of jobs)) job.needs) jobs

@@ -3,11 +3,11 @@ pub mod Events
 pub mod Faults
 pub mod Graph
 pub mod Index
-pub mod Kahn
 pub mod Laws
 pub mod Layout
 pub mod Needed
 pub mod Order
+pub mod Placing
 pub mod Planning
 pub mod Plans
 pub mod Refusals

@@ -1,5 +1,5 @@
 -- The order of a run's jobs: by their stage, and in a stage by their id, which is by their place.
-use Rattle.std.specs.Prelude.{ℕ, zero, suc, ◌==◌, Bool, false, List, [], ◌∷◌, ◌++◌, length, get_or, nat_eq, if◌then◌else◌}
+use Rattle.std.specs.Prelude.{◌≡◌, ℕ, zero, suc, ◌==◌, Bool, false, List, [], ◌∷◌, ◌++◌, length, get_or, nat_eq, if◌then◌else◌}
 use Rattle.std.specs.List.{filter, list_any}
 
 -- the places, counted from `place` on, that have this stage
@@ -20,3 +20,13 @@ order_of ss chosen = filter (λ j. get_or chosen j false) (by_stage (length ss) 
 abbrev pub numbers_of : ℕ → List ℕ → List ℕ → List ℕ
 numbers_of number [] needs = []
 numbers_of number (j ∷ js) needs = if list_any (nat_eq j) needs then number ∷ numbers_of (suc number) js needs else numbers_of (suc number) js needs
+
+-- ---- for this crate's own use
+
+-- the chosen ones of these places
+abbrev pub chosen_of : List Bool → List ℕ → List ℕ
+chosen_of chosen places = filter (λ j. get_or chosen j false) places
+
+-- these are marks at exactly these places
+abbrev pub AreMarks : List ℕ → List Bool → Type 0
+AreMarks places marks = (j : ℕ) → get_or marks j false ≡ list_any (nat_eq j) places

@@ -17,7 +17,7 @@ use Rattle.matrix_expand.specs.declared.fault.MatrixFault.TheVariants as matrix
 use Rattle.plan_assembler.specs.Graph.{HasCycle}
 use Rattle.plan_assembler.specs.Layout.{ids_of, is_taken, taken, are_needs_known, graph_of, IsOrder, at_places, are_few}
 use Rattle.plan_assembler.specs.Plans.{HasLegs, legs_of, job_plan, job_plans, run_plan, AssemblesRuns, Assembles}
-use Rattle.plan_assembler.specs.Texts.{Evaluated, StandsInFound, of_job, of_workflow}
+use Rattle.plan_assembler.specs.Texts.{Evaluated, StandsInFound, Reads, of_job, of_workflow}
 use Rattle.plan_assembler.specs.declared.choice.Choice.{Choice}
 use Rattle.plan_assembler.specs.declared.choice.Choice.TheVariants.{Event, Job, All}
 use Rattle.plan_assembler.specs.declared.fault.PlanFault.{PlanFault}
@@ -135,6 +135,14 @@ abbrev pub FindsLegs : Option Matrix → Result (List Pairs) MatrixFault → Typ
 FindsLegs m (Ok legs) = HasLegs m × (legs ≡ legs_of m)
 FindsLegs None (Err e) = e ≡ matrix.Memory
 FindsLegs (Some m) (Err e) = Expands m (Err e)
+
+-- what becomes of the fault of a job's matrix
+abbrev pub IsMatrixFault : ℕ → MatrixFault → PlanFault → Type 0
+IsMatrixFault number e f = (m : Option Matrix) → FindsLegs m (Err e) → Answered (MatrixFails number m) f
+
+-- what becomes of the fault of a text at a place
+abbrev pub IsTextFault : Place → ExprFault → PlanFault → Type 0
+IsTextFault at e f = (found : Option Evaluated) → Reads found (Err e) → Answered (TextFails at found) f
 
 -- the legs of a job that passes its tests
 abbrev pub TestsJob : ℕ → FlowJob → Result (List Pairs) PlanFault → Type 0

@@ -2,6 +2,7 @@
 use Rattle.std.specs.Prelude.{◌≡◌, ◌==◌, ◌≤◌, ◌++◌, ℕ, zero, suc, List, [], ◌∷◌, map, length, get_or}
 use Rattle.std.specs.List.{filter}
 use Rattle.flow_model.specs.Numbers.{plan_jobs}
+use Rattle.flow_model.specs.declared.plan.JobPlan.{JobPlan}
 use Rattle.flow_model.specs.declared.plan.Plan.{Plan}
 use Rattle.flow_model.specs.declared.plan.RunPlan.{RunPlan}
 use Rattle.plan_assembler.specs.Graph.{Graph}
@@ -35,10 +36,26 @@ AreStageLists p lists = (ss : List ℕ) × (AreStages (plan_graph p) ss × (list
 abbrev pub next_stage : List ℕ → List ℕ → ℕ
 next_stage found needs = stage_after (map (λ k. get_or found k 0) needs)
 
+-- with the stage of a job with these needs
+abbrev pub with_stage : List ℕ → List ℕ → List ℕ
+with_stage found needs = found ++ next_stage found needs ∷ []
+
 -- with the stages of these jobs, each of which needs jobs before it
 abbrev pub stages_from : List ℕ → Graph → List ℕ
 stages_from found [] = found
 stages_from found (needs ∷ g) = stages_from (found ++ next_stage found needs ∷ []) g
+
+-- what these jobs need, by their numbers
+abbrev pub needs_of : List JobPlan → Graph
+needs_of jobs = map (λ job. job.needs) jobs
+
+-- the stages that are found for the jobs of a plan
+abbrev pub plan_stages : Plan → List ℕ
+plan_stages p = stages_from [] (plan_graph p)
+
+-- each of these jobs as this run and its number
+abbrev pub numbered : ℕ → List JobPlan → List (ℕ × ℕ)
+numbered run jobs = map (λ job. (run, job.number)) jobs
 
 -- no stage is greater than the number of jobs
 abbrev pub AreBounded : List ℕ → Type 0

@@ -1,24 +1,18 @@
 //! The jobs of a run for one job.
 
-ghost use Rattle.std.specs.Prelude.{◌≡◌, ◌<◌, ℕ, true, false, [], IfOk, MatchOption, length, map, get_or};
+ghost use Rattle.std.specs.Prelude.{◌≡◌, ◌<◌, ℕ, true, false, IfOk, MatchOption, length, get_or, replicate};
 ghost use Rattle.std.specs.List.{Contains};
-ghost use Rattle.plan_assembler.specs.Chosen.{AreChosen, IsNext, Marking, count_unmarked};
+ghost use Rattle.plan_assembler.specs.Chosen.{AreChosen, AreClosed, IsNext, Marking, count_unmarked};
 ghost use Rattle.plan_assembler.specs.Graph.{IsGraph};
 
 use flow_model::Sequence;
 use std::alloc::{AllocError, Global};
 
-/// No mark for each job.
-fn unmarked_all(alloc: Global, graph: &Sequence<Sequence<usize>>) -> Result<Vec<bool>, AllocError>
-    ensures { IfOk result (λ marks. marks.items ≡ map (λ _. false) graph.now) }
+/// So many marks, all alike.
+pub(crate) fn alike(alloc: Global, mark: bool, count: usize) -> Result<Vec<bool>, AllocError>
+    ensures { IfOk result (λ marks. marks.items ≡ replicate count mark) }
 {
-    let graph = graph.as_slice();
-    let mut marks = Vec::with_capacity(alloc, graph.len())?;
-    for needs in graph {
-        let _needs = needs;
-        marks.push(false)?;
-    }
-    Ok(marks)
+    vec![in alloc; mark; count]
 }
 
 /// Whether a job has a mark.
@@ -49,8 +43,7 @@ fn unmarked(needs: &Sequence<usize>, marks: &[bool]) -> Option<usize>
 /// A job without a mark that one with a mark needs, if there is one.
 fn next_needed(graph: &Sequence<Sequence<usize>>, marks: &[bool]) -> Option<usize>
     ensures { MatchOption result
-        ((j i : ℕ) → j < length graph.now → get_or marks.now j false ≡ true → i < length (get_or graph.now j [])
-        → get_or marks.now (get_or (get_or graph.now j []) i 0) false ≡ true)
+        (AreClosed graph.now marks.now)
         (IsNext graph.now marks.now) }
 {
     let graph = graph.as_slice();
@@ -66,7 +59,7 @@ fn next_needed(graph: &Sequence<Sequence<usize>>, marks: &[bool]) -> Option<usiz
 
 /// The target gets a mark.
 fn mark_first(graph: &Sequence<Sequence<usize>>, marks: &mut [bool], target: usize)
-    requires none { marks.old ≡ map (λ _. false) graph.now }
+    requires none { marks.old ≡ replicate (length graph.now) false }
     requires within { target < length graph.now }
     ensures { Marking graph.now target marks.new }
 {
@@ -94,7 +87,7 @@ pub(crate) fn chosen_for(
     requires within { target < length graph.now }
     ensures { IfOk result (AreChosen graph.now target) }
 {
-    let mut marks = unmarked_all(alloc, graph)?;
+    let mut marks = alike(alloc, false, graph.len())?;
     mark_first(graph, marks.as_mut_slice(), target);
     while let Some(need) = next_needed(graph, marks.as_slice()) {
         mark_next(graph, marks.as_mut_slice(), target, need);

@@ -1,10 +1,8 @@
 //! Why there is no plan.
 
-ghost use Rattle.std.specs.Prelude.{◌≡◌, IfSome, Option};
-ghost use Rattle.expr_reader.specs.Faults.{fault_at};
+ghost use Rattle.std.specs.Prelude.{◌≡◌};
 ghost use Rattle.plan_assembler.specs.Faults.{plan_fault_name, plan_fault_text};
-ghost use Rattle.plan_assembler.specs.Refusals.{Answered, HasNoLegs, TextFails};
-ghost use Rattle.plan_assembler.specs.Texts.{Evaluated, StandsInFound};
+ghost use Rattle.plan_assembler.specs.Refusals.{IsTextFault};
 ghost use Rattle.plan_assembler.specs.declared.fault.PlanFault.TheVariants.{Memory};
 
 use expr_reader::ExprFault;
@@ -14,7 +12,7 @@ use std::fmt;
 use thiserror::Error;
 
 /// Where a text stands that is evaluated, by the numbers that runs and jobs have in the plan.
-#[derive(Clone, Copy, Debug, PartialEq, Eq)]
+#[derive(Clone, Copy, Debug)]
 pub enum Place {
     /// In the workflow of a run, outside of its jobs.
     Run(u64),
@@ -23,7 +21,7 @@ pub enum Place {
 }
 
 /// Why there is no plan.
-#[derive(Clone, Copy, Debug, PartialEq, Eq, Error)]
+#[derive(Clone, Copy, Debug, Error)]
 pub enum PlanFault {
     /// A job needs what is no job of its workflow.
     UnknownNeed,
@@ -76,7 +74,7 @@ impl fmt::Display for PlanFault {
             | PlanFault::UnknownJob
             | PlanFault::NoWorkflow
             | PlanFault::TooMany
-            | PlanFault::Memory => write!(f, "{}", self.name()),
+            | PlanFault::Memory => f.write_str(self.name()),
         }
     }
 }
@@ -100,7 +98,7 @@ impl<T: Drop> From<AllocFailed<T>> for PlanFault {
 /// The fault of a text at a place.
 #[tactic(auto, unfolding(crate::specs::Refusals::Answered))]
 pub(crate) fn at_place(place: Place, fault: ExprFault) -> PlanFault
-    ensures { (found : Option Evaluated) → IfSome (fault_at fault) (λ x. StandsInFound found fault) → Answered (TextFails place found) result }
+    ensures { IsTextFault place fault result }
 {
     match fault {
         ExprFault::Memory(_) => PlanFault::Memory,

@@ -1,12 +1,12 @@
 //! The jobs of a run, each with its legs, its needs and its number.
 
-ghost use Rattle.std.specs.Prelude.{◌≡◌, ◌<◌, ◌+◌, ◌^◌, ℕ, [], ◌∷◌, Err, IfOk, List, Option, length, map, unwrap_or};
-ghost use Rattle.flow_model.specs.declared.plan.Matrix.{Matrix as MatrixOf};
+ghost use Rattle.std.specs.Prelude.{◌≡◌, ◌<◌, ◌+◌, ◌^◌, [], ◌∷◌, IfOk, length, unwrap_or};
 ghost use Rattle.plan_assembler.specs.Index.{Indexes};
 ghost use Rattle.plan_assembler.specs.Layout as layout;
 ghost use Rattle.plan_assembler.specs.Order as order_spec;
 ghost use Rattle.plan_assembler.specs.Plans as spec;
-ghost use Rattle.plan_assembler.specs.Refusals.{Answered, FindsLegs, MakesJob, MakesJobs, MatrixFails, PushesJob, TestsJob};
+ghost use Rattle.plan_assembler.specs.Refusals.{FindsLegs, IsMatrixFault, TestsJob};
+ghost use Rattle.plan_assembler.specs.Refusals.{MakesJob, MakesJobs, PushesJob};
 
 use crate::fault::{Place, PlanFault, at_place};
 use crate::layout::{job_at, places_of};
@@ -39,7 +39,7 @@ fn legs_of(alloc: Global, matrix: &Option<Matrix>) -> Result<Sequence<Combo>, Ma
 /// The fault of the matrix of the job with this number.
 #[tactic(auto, unfolding(crate::specs::Refusals::Answered))]
 fn no_legs(number: u64, fault: MatrixFault) -> PlanFault
-    ensures { (matrix : Option MatrixOf) → FindsLegs matrix (Err fault) → Answered (MatrixFails number matrix) result }
+    ensures { IsMatrixFault number fault result }
 {
     match fault {
         MatrixFault::EmptyVariable | MatrixFault::NoCombination | MatrixFault::TooMany => {
@@ -73,8 +73,8 @@ fn needs_of(
 ) -> Result<Sequence<u64>, AllocError>
     requires indexed { Indexes (layout.ids_of jobs.now) index.now }
     requires fits { first + length order.now < 2 ^ 64 }
-    ensures { IfOk result (λ numbers. numbers
-        ≡ order_spec.numbers_of first order.now (map (layout.place_of (layout.ids_of jobs.now)) needs.now)) }
+    ensures { let places = layout.need_places jobs.now needs.now in
+        IfOk result (λ numbers. numbers ≡ order_spec.numbers_of first order.now places) }
 {
     let places = places_of(alloc, index, jobs, needs)?;
     let count = jobs.as_slice().len() + 1;
@@ -91,6 +91,33 @@ fn name_of(alloc: Global, job: &FlowJob) -> Result<Text, AllocError>
     }
 }
 
+/// A job of a plan, of the parts of a job.
+fn plan_of(
+    job: FlowJob,
+    name: Text,
+    legs: Sequence<Combo>,
+    needs: Sequence<u64>,
+    number: u64,
+) -> JobPlan
+    ensures { name ≡ unwrap_or job.name job.id → result ≡ spec.job_with job legs needs number }
+{
+    JobPlan {
+        condition: job.condition,
+        env: job.env,
+        fail_fast: job.fail_fast,
+        group: job.group,
+        id: job.id,
+        legs,
+        max_parallel: job.max_parallel,
+        name,
+        needs,
+        number,
+        outputs: job.outputs,
+        steps: job.steps,
+        tolerate: job.tolerate,
+    }
+}
+
 /// A job of a plan.
 fn job_with(
     alloc: Global,
@@ -102,22 +129,7 @@ fn job_with(
     ensures { IfOk result (λ plan. plan ≡ spec.job_with job.now legs needs number) }
 {
     let name = name_of(alloc, job)?;
-    let copy = job.copy(alloc)?;
-    Ok(JobPlan {
-        condition: copy.condition,
-        env: copy.env,
-        fail_fast: copy.fail_fast,
-        group: copy.group,
-        id: copy.id,
-        legs,
-        max_parallel: copy.max_parallel,
-        name,
-        needs,
-        number,
-        outputs: copy.outputs,
-        steps: copy.steps,
-        tolerate: copy.tolerate,
-    })
+    Ok(plan_of(job.copy(alloc)?, name, legs, needs, number))
 }
 
 /// The job of a plan with this number, which passes its tests.

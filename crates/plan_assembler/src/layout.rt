@@ -9,7 +9,7 @@ ghost use Rattle.plan_assembler.specs.Layout as spec;
 ghost use Rattle.plan_assembler.specs.Layout.{AreTaken, IsOrder};
 
 use crate::choice::Choice;
-use crate::chosen::chosen_for;
+use crate::chosen::{alike, chosen_for};
 use crate::fault::PlanFault;
 use crate::index::{is_id, place_of};
 use crate::order::order_of;
@@ -91,7 +91,7 @@ pub(crate) fn places_of(
     needs: &Sequence<Text>,
 ) -> Result<Sequence<usize>, AllocError>
     requires { Indexes (spec.ids_of jobs.now) index.now }
-    ensures { IfOk result (λ places. places ≡ map (spec.place_of (spec.ids_of jobs.now)) needs.now) }
+    ensures { IfOk result (λ places. places ≡ spec.need_places jobs.now needs.now) }
 {
     let needs = needs.as_slice();
     let mut places = Vec::with_capacity(alloc, needs.len())?;
@@ -122,12 +122,7 @@ pub(crate) fn graph_of(
 fn all_taken(alloc: Global, jobs: &Sequence<FlowJob>) -> Result<Sequence<bool>, AllocError>
     ensures { IfOk result (λ marks. marks ≡ map (λ _. true) jobs.now) }
 {
-    let jobs = jobs.as_slice();
-    let mut marks = Vec::with_capacity(alloc, jobs.len())?;
-    for job in jobs {
-        let _job = job;
-        marks.push(true)?;
-    }
+    let marks = alike(alloc, true, jobs.len())?;
     Ok(Sequence::new(marks))
 }
 

@@ -1,8 +1,9 @@
 //! The order of a run's jobs, and the numbers of their needs.
 
-ghost use Rattle.std.specs.Prelude.{◌≡◌, ◌<◌, ◌+◌, ◌^◌, ◌++◌, ℕ, true, false, IfOk, OnOk, length, get_or, nat_eq};
-ghost use Rattle.std.specs.List.{All, filter, list_any};
+ghost use Rattle.std.specs.Prelude.{◌≡◌, ◌<◌, ◌+◌, ◌^◌, ◌++◌, ◌≤◌, ℕ, false, IfOk, OnOk, length, get_or};
+ghost use Rattle.std.specs.List.{All};
 ghost use Rattle.plan_assembler.specs.Order as spec;
+ghost use Rattle.plan_assembler.specs.Order.{AreMarks};
 
 use crate::chosen::is_marked;
 use flow_model::Sequence;
@@ -25,12 +26,30 @@ fn push_stage(
     Ok(())
 }
 
+/// The greatest stage, or 0 where there is none.
+fn greatest(stages: &Sequence<usize>) -> usize
+    ensures { (j : ℕ) → get_or stages.now j 0 ≤ result }
+{
+    let stages = stages.as_slice();
+    let mut greatest = 0;
+    for stage in stages {
+        if greatest < *stage {
+            greatest = *stage;
+        }
+    }
+    greatest
+}
+
 /// All places, by their stage.
 fn by_stage(alloc: Global, stages: &Sequence<usize>) -> Result<Sequence<usize>, AllocError>
     ensures { IfOk result (λ order. order ≡ spec.by_stage (length stages.now) 0 stages.now) }
 {
     let mut order = Vec::with_capacity(alloc, stages.len())?;
+    let last = greatest(stages);
     for stage in 0..stages.len() {
+        if last < stage {
+            return Ok(Sequence::new(order));
+        }
         push_stage(&mut order, stages, stage)?;
     }
     Ok(Sequence::new(order))
@@ -52,7 +71,7 @@ fn kept(
     places: &Sequence<usize>,
     chosen: &Sequence<bool>,
 ) -> Result<Sequence<usize>, AllocError>
-    ensures kept { IfOk result (λ order. order ≡ filter (λ j. get_or chosen.now j false) places.now) }
+    ensures kept { IfOk result (λ order. order ≡ spec.chosen_of chosen.now places.now) }
     ensures long { IfOk result (λ order. length order < 2 ^ 63) }
 {
     let places = places.as_slice();
@@ -81,7 +100,7 @@ pub(crate) fn order_of(
 /// Marks at the places of needs.
 fn mark_needs(alloc: Global, needs: &Sequence<usize>, count: usize) -> Result<Vec<bool>, AllocError>
     requires { All (λ need. need < count) needs.now }
-    ensures { IfOk result (λ marks. (j : ℕ) → get_or marks.items j false ≡ list_any (nat_eq j) needs.now) }
+    ensures { IfOk result (λ marks. AreMarks needs.now marks.items) }
 {
     let needs = needs.as_slice();
     let mut marks = vec![in alloc; false; count]?;
@@ -91,7 +110,8 @@ fn mark_needs(alloc: Global, needs: &Sequence<usize>, count: usize) -> Result<Ve
     Ok(marks)
 }
 
-/// The numbers of those jobs that are needed, where the first job has the number `first`. There are `count` places.
+/// The numbers of those jobs that are needed, where the first job has the number `first`. There are
+/// `count` places.
 pub(crate) fn numbers_of(
     alloc: Global,
     first: u64,

@@ -207,7 +207,8 @@ pub(crate) fn is_taken(choice: &Choice, workflow: &Workflow) -> bool
     }
 }
 
-/// Adds the run of a workflow, if the choice takes it, and gives the number of the job after its jobs.
+/// Adds the run of a workflow, if the choice takes it, and gives the number of the job after its
+/// jobs.
 #[tactic(auto, using(crate::proofs::Answering::memory_answered))]
 fn push_run(
     alloc: Global,
@@ -218,7 +219,8 @@ fn push_run(
     runs: &mut Vec<RunPlan>,
 ) -> Result<u64, PlanFault>
     requires { first ≤ 16384 }
-    ensures { PushesRun roots.now choice.now workflow.now first runs.old.items runs.new.items result }
+    ensures { PushesRun roots.now choice.now workflow.now first
+        runs.old.items runs.new.items result }
 {
     if !is_taken(choice, workflow) {
         return Ok(first);

@@ -1,25 +1,40 @@
-//! The stages of jobs, by a count of the needs that have none yet.
+//! The stages of jobs, by passes over them.
 
-ghost use Rattle.std.specs.Prelude.{◌≡◌, ◌≤◌, ◌<◌, ◌+◌, ◌^◌, ℕ, true, false, None, Some, IfOk, OnOk, MatchOption, List, [], length, map, get_or, set, nat_eq, unwrap_or};
-ghost use Rattle.std.specs.List.{count_by};
+ghost use Rattle.std.specs.Prelude.{◌≡◌, ◌<◌, ◌+◌, ◌^◌, ℕ, true, false, None, IfOk, length, map, replicate};
 ghost use Rattle.plan_assembler.specs.Graph.{IsGraph};
-ghost use Rattle.plan_assembler.specs.Kahn.{IsPlacing, found_at as stage_found, is_open, is_ready as is_ready_of, open_needs};
+ghost use Rattle.plan_assembler.specs.Placing.{AllWait, IsPlacing, Places, Settles, count_open};
+ghost use Rattle.plan_assembler.specs.Placing as spec;
 ghost use Rattle.plan_assembler.specs.Stages.{Stages, stage_after};
 
 use flow_model::Sequence;
 use std::alloc::{AllocError, Global};
 
-/// How often a job stands among needs.
-fn occurrences(needs: &Sequence<usize>, job: usize) -> usize
-    ensures { result ≡ count_by (nat_eq job) needs.now }
+/// Whether a job has no stage yet.
+fn is_open(found: &[Option<usize>], job: usize) -> bool
+    ensures { result ≡ spec.is_open found.now job }
+{
+    match found.get(job) {
+        Some(Some(_)) => false,
+        Some(None) | None => true,
+    }
+}
+
+/// Whether one of these needs has no stage yet.
+fn waits(needs: &Sequence<usize>, found: &[Option<usize>]) -> bool
+    ensures { result ≡ spec.waits found.now needs.now }
 {
     let needs = needs.as_slice();
-    needs.iter().filter(|need| job == **need).count()
+    for need in needs {
+        if is_open(found, *need) {
+            return true;
+        }
+    }
+    false
 }
 
 /// The stage of a job, 0 while it has none.
 fn stage_at(found: &[Option<usize>], job: usize) -> usize
-    ensures { result ≡ stage_found found.now job }
+    ensures { result ≡ spec.found_at found.now job }
 {
     match found.get(job) {
         Some(Some(stage)) => *stage,
@@ -28,10 +43,9 @@ fn stage_at(found: &[Option<usize>], job: usize) -> usize
 }
 
 /// The stage after those of the needs.
-fn stage_of(needs: &Sequence<usize>, found: &[Option<usize>], most: usize) -> usize
-    requires bounded { (k : ℕ) → stage_found found.now k ≤ most }
-    requires fits { most + 1 < 2 ^ 64 }
-    ensures { result ≡ stage_after (map (stage_found found.now) needs.now) }
+fn stage_of(needs: &Sequence<usize>, found: &[Option<usize>]) -> usize
+    requires { (k : ℕ) → spec.found_at found.now k + 1 < 2 ^ 64 }
+    ensures { result ≡ stage_after (map (spec.found_at found.now) needs.now) }
 {
     let needs = needs.as_slice();
     let mut stage = 0;
@@ -44,120 +58,58 @@ fn stage_of(needs: &Sequence<usize>, found: &[Option<usize>], most: usize) -> us
     stage
 }
 
-/// The stage after those of a job's needs.
-fn stage_for(
-    graph: &Sequence<Sequence<usize>>,
-    found: &[Option<usize>],
-    job: usize,
-    most: usize,
-) -> usize
-    requires bounded { (k : ℕ) → stage_found found.now k ≤ most }
-    requires fits { most + 1 < 2 ^ 64 }
+/// A job without a stage gets the one after those of its needs, once they all have theirs; whether
+/// it did is told.
+fn place(graph: &Sequence<Sequence<usize>>, found: &mut [Option<usize>], job: usize) -> bool
+    requires placing { IsPlacing graph.now found.old }
     requires within { job < length graph.now }
-    ensures { result ≡ stage_after (map (stage_found found.now) (get_or graph.now job [])) }
+    ensures placing { IsPlacing graph.now found.new }
+    ensures place { Places graph.now found.old job found.new result }
 {
     let graph = graph.as_slice();
-    stage_of(&graph[job], found, most)
-}
-
-/// For each job, how many needs it has.
-fn count_needs(alloc: Global, graph: &Sequence<Sequence<usize>>) -> Result<Vec<usize>, AllocError>
-    ensures { IfOk result (λ counts. counts.items ≡ map length graph.now) }
-{
-    let graph = graph.as_slice();
-    let mut counts = Vec::with_capacity(alloc, graph.len())?;
-    for needs in graph {
-        counts.push(needs.len())?;
+    let needs = &graph[job];
+    if !is_open(found, job) || waits(needs, found) {
+        return false;
     }
-    Ok(counts)
+    found[job] = Some(stage_of(needs, found));
+    true
 }
 
-/// No stage for each job.
-fn none_found(
-    alloc: Global,
-    graph: &Sequence<Sequence<usize>>,
-) -> Result<Vec<Option<usize>>, AllocError>
-    ensures { IfOk result (λ found. found.items ≡ map (λ _. None) graph.now) }
+/// A pass over all jobs; whether one got its stage is told.
+fn pass(graph: &Sequence<Sequence<usize>>, found: &mut [Option<usize>]) -> bool
+    requires { IsPlacing graph.now found.old }
+    ensures placing { IsPlacing graph.now found.new }
+    ensures fewer { result ≡ true → count_open found.new < count_open found.old }
+    ensures stuck { result ≡ false → AllWait graph.now found.new }
 {
-    let graph = graph.as_slice();
-    let mut found = Vec::with_capacity(alloc, graph.len())?;
-    for needs in graph {
-        let _needs = needs;
-        found.push(None)?;
-    }
-    Ok(found)
-}
-
-/// Whether a job can get its stage.
-fn is_ready(counts: &[usize], found: &[Option<usize>], job: usize) -> bool
-    requires counted { job < length counts.now }
-    requires within { job < length found.now }
-    ensures { result ≡ is_ready_of counts.now found.now job }
-{
-    found[job].is_none() && counts[job] == 0
-}
-
-/// The first job that can get its stage.
-fn next_ready(counts: &[usize], found: &[Option<usize>]) -> Option<usize>
-    requires { length counts.now ≡ length found.now }
-    ensures { MatchOption result
-        ((j : ℕ) → j < length found.now → is_ready_of counts.now found.now j ≡ false)
-        (λ j. (j < length found.now) × (is_ready_of counts.now found.now j ≡ true)) }
-{
-    for job in 0..found.len() {
-        if is_ready(counts, found, job) {
-            return Some(job);
+    let mut placed = false;
+    for job in 0..graph.len() {
+        if place(graph, found, job) {
+            placed = true;
         }
     }
-    None
+    placed
 }
 
-/// A job gets its stage: the counts of those that need it fall.
-fn close(
-    counts: &mut [usize],
-    graph: &Sequence<Sequence<usize>>,
-    found: &[Option<usize>],
-    job: usize,
-)
-    requires counted { counts.old ≡ open_needs graph.now found.now }
-    requires within { job < length found.now }
-    requires open { is_open found.now job ≡ true }
-    ensures { (s : ℕ) → counts.new ≡ open_needs graph.now (set found.now job (Some s)) }
+/// No stage for each of so many jobs.
+fn none_found(alloc: Global, count: usize) -> Result<Vec<Option<usize>>, AllocError>
+    ensures { IfOk result (λ found. found.items ≡ replicate count None) }
 {
-    let graph = graph.as_slice();
-    for place in 0..graph.len() {
-        counts[place] -= occurrences(&graph[place], job);
-    }
+    vec![in alloc; None; count]
 }
 
-/// A job that is ready gets the stage after those of its needs.
-fn place(
-    counts: &mut [usize],
-    graph: &Sequence<Sequence<usize>>,
-    found: &mut [Option<usize>],
-    job: usize,
-    turn: usize,
-)
-    requires placing { IsPlacing graph.now counts.old found.old turn }
-    requires within { job < length found.old }
-    requires left { turn < length found.old }
-    requires ready { is_ready_of counts.old found.old job ≡ true }
-    ensures { IsPlacing graph.now counts.new found.new (turn + 1) }
-{
-    close(counts, graph, found, job);
-    let stage = stage_for(graph, found, job, turn);
-    found[job] = Some(stage);
-}
-
-/// The stages that were found.
-fn settled(alloc: Global, found: &[Option<usize>]) -> Result<Sequence<usize>, AllocError>
-    ensures { IfOk result (λ stages. stages ≡ map (λ o. unwrap_or o 0) found.now) }
+/// The stages that were found, or none where a job has none.
+fn settled(alloc: Global, found: &[Option<usize>]) -> Result<Option<Sequence<usize>>, AllocError>
+    ensures { IfOk result (Settles found.now) }
 {
     let mut stages = Vec::with_capacity(alloc, found.len())?;
     for stage in found {
-        stages.push(stage.unwrap_or(0))?;
+        match stage {
+            Some(stage) => stages.push(*stage)?,
+            None => return Ok(None),
+        }
     }
-    Ok(Sequence::new(stages))
+    Ok(Some(Sequence::new(stages)))
 }
 
 /// The stages of all jobs, or none where a job needs itself, directly or not.
@@ -168,19 +120,7 @@ pub(crate) fn find_stages(
     requires { IsGraph graph.now }
     ensures { IfOk result (Stages graph.now) }
 {
-    let mut counts = count_needs(alloc, graph)?;
-    let mut found = none_found(alloc, graph)?;
-    for turn in 0..graph.len() {
-        match next_ready(counts.as_slice(), found.as_slice()) {
-            Some(job) => place(
-                counts.as_mut_slice(),
-                graph,
-                found.as_mut_slice(),
-                job,
-                turn,
-            ),
-            None => return Ok(None),
-        }
-    }
-    Ok(Some(settled(alloc, found.as_slice())?))
+    let mut found = none_found(alloc, graph.len())?;
+    while pass(graph, found.as_mut_slice()) {}
+    settled(alloc, found.as_slice())
 }

@@ -1,6 +1,6 @@
 //! The jobs of a plan by their stages.
 
-ghost use Rattle.std.specs.Prelude.{◌≡◌, ◌≤◌, ◌<◌, ◌+◌, ◌^◌, ◌++◌, [], ◌∷◌, IfOk, OnOk, length, map, get_or};
+ghost use Rattle.std.specs.Prelude.{◌≡◌, ◌≤◌, ◌<◌, ◌+◌, ◌^◌, ◌++◌, IfOk, OnOk, length, get_or};
 ghost use Rattle.plan_assembler.specs.Stages.{stage_after as stage_after_of};
 ghost use Rattle.plan_assembler.specs.Staging as spec;
 ghost use Rattle.plan_assembler.specs.Staging.{AreBounded, AreStageLists};
@@ -38,7 +38,7 @@ fn next_stage(needs: &Sequence<u64>, found: &[usize]) -> usize
 /// Adds the stage of a job.
 fn push_job(found: &mut Vec<usize>, needs: &Sequence<u64>) -> Result<(), AllocError>
     requires { AreBounded found.old.items }
-    ensures ok { OnOk result (found.new.items ≡ found.old.items ++ spec.next_stage found.old.items needs.now ∷ []) }
+    ensures ok { OnOk result (found.new.items ≡ spec.with_stage found.old.items needs.now) }
     ensures bounded { OnOk result (AreBounded found.new.items) }
 {
     let stage = next_stage(needs, found.as_slice());
@@ -49,7 +49,8 @@ fn push_job(found: &mut Vec<usize>, needs: &Sequence<u64>) -> Result<(), AllocEr
 /// Adds the stages of the jobs of a run.
 fn push_jobs(found: &mut Vec<usize>, jobs: &Sequence<JobPlan>) -> Result<(), AllocError>
     requires { AreBounded found.old.items }
-    ensures ok { OnOk result (found.new.items ≡ spec.stages_from found.old.items (map (λ job. job.needs) jobs.now)) }
+    ensures ok { let needs = spec.needs_of jobs.now in
+        OnOk result (found.new.items ≡ spec.stages_from found.old.items needs) }
     ensures bounded { OnOk result (AreBounded found.new.items) }
 {
     let jobs = jobs.as_slice();
@@ -61,7 +62,7 @@ fn push_jobs(found: &mut Vec<usize>, jobs: &Sequence<JobPlan>) -> Result<(), All
 
 /// The stages of all jobs of a plan, by their numbers.
 fn plan_stages(alloc: Global, plan: &Plan) -> Result<Vec<usize>, AllocError>
-    ensures found { IfOk result (λ found. found.items ≡ spec.stages_from [] (spec.plan_graph plan.now)) }
+    ensures found { IfOk result (λ found. found.items ≡ spec.plan_stages plan.now) }
     ensures bounded { IfOk result (λ found. AreBounded found.items) }
 {
     let runs = plan.runs.as_slice();
@@ -78,7 +79,7 @@ fn push_run(
     run: u64,
     jobs: &Sequence<JobPlan>,
 ) -> Result<(), AllocError>
-    ensures { OnOk result (list.new.items ≡ list.old.items ++ map (λ job. (run, job.number)) jobs.now) }
+    ensures { OnOk result (list.new.items ≡ list.old.items ++ spec.numbered run jobs.now) }
 {
     let jobs = jobs.as_slice();
     for job in jobs {

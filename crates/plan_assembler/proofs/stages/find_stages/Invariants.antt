@@ -1,5 +1,8 @@
-use Rattle.plan_assembler.specs.Kahn.{IsPlacing}
+use Rattle.plan_assembler.specs.Placing.{IsPlacing, count_open}
 use Rattle.plan_assembler.proofs.stages.find_stages.Given as goal
 
-abbrev pub invariant-loop-turn : goal.invariant-loop-turn
-invariant-loop-turn l = IsPlacing l.graph l.counts.items l.found.items l.turn
+abbrev pub invariant-loop : goal.invariant-loop
+invariant-loop l = IsPlacing l.graph l.found.items
+
+abbrev pub decreases-loop : goal.decreases-loop
+decreases-loop l = count_open l.found.items

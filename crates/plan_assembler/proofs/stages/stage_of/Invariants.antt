@@ -1,5 +1,5 @@
 use Rattle.std.proofs.Common.{◌≡◌, map, max, drop}
-use Rattle.plan_assembler.specs.Kahn.{found_at}
+use Rattle.plan_assembler.specs.Placing.{found_at}
 use Rattle.plan_assembler.specs.Stages.{stage_after}
 use Rattle.plan_assembler.proofs.stages.stage_of.Given as goal
 
