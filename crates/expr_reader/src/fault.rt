@@ -10,7 +10,7 @@ use thiserror::Error;
 
 /// Why a text is no expression, template or condition, with the byte from the start of the text at
 /// which the fault stands.
-#[derive(Clone, Copy, Debug, PartialEq, Eq, Error)]
+#[derive(Clone, Copy, PartialEq, Eq, Error)]
 pub enum ExprFault {
     /// A text without its closing quote; the offset is that of its first quote.
     UnclosedText(usize),
@@ -88,6 +88,13 @@ impl fmt::Display for ExprFault {
 
     fn fmt<W: fmt::Write>(&self, f: &mut fmt::Formatter<W>) -> fmt::Result {
         write!(f, "{} at {}", self.name(), self.place())
+    }
+}
+
+/// As a derive shows it: `Unexpected(4)`.
+impl fmt::Debug for ExprFault {
+    fn fmt<W: fmt::Write>(&self, f: &mut fmt::Formatter<W>) -> fmt::Result {
+        f.debug_tuple(self.name()).field(&self.place()).finish()
     }
 }
 

@@ -1,6 +1,6 @@
 //! Reads expressions.
 
-ghost use Rattle.std.specs.Prelude.{◌≡◌, ℕ, ◌+◌, ◌^◌, ◌<◌, List, length, IfOk, IfErr};
+ghost use Rattle.std.specs.Prelude.{◌≡◌, ℕ, ◌+◌, ◌^◌, ◌<◌, List, length, Err, IfOk, IfErr};
 ghost use Rattle.expr_reader.specs.Expr.{Expr};
 ghost use Rattle.expr_reader.specs.Faults.{fault_at, refused_at, Answers, IsRead, FaultStands};
 ghost use Rattle.expr_reader.specs.Lexer.{next_at};
@@ -90,6 +90,13 @@ fn finished(alloc: Global, machine: Machine, place: usize) -> Result<Tree, ExprF
     }
 }
 
+// What was made so far is of no use where a fault stands.
+fn let_go<T: Drop, R>(_: T, fault: ExprFault) -> Result<R, ExprFault>
+    ensures { result ≡ Err fault }
+{
+    Err(fault)
+}
+
 // The place of the first status function stays.
 fn note_status(status: &mut Option<usize>, token: &Token, place: usize) {
     if status.is_none() && token.names_status() {
@@ -113,13 +120,15 @@ fn read_tokens(
     'tokens: loop {
         let (_, start) = split_run(rest, Class::White);
         let place = base + (text.len() - start.len());
-        let next = next_placed(alloc, start, machine.is_dotted(), place)?;
-        let Some((token, after)) = next else {
-            return finished(alloc, machine, place);
-        };
-        note_status(status, &token, place);
-        machine = advanced(alloc, machine, token, place)?;
-        rest = after;
+        match next_placed(alloc, start, machine.is_dotted(), place) {
+            Err(fault) => return let_go(machine, fault),
+            Ok(None) => return finished(alloc, machine, place),
+            Ok(Some((token, after))) => {
+                note_status(status, &token, place);
+                machine = advanced(alloc, machine, token, place)?;
+                rest = after;
+            }
+        }
     }
 }
 

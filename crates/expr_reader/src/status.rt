@@ -34,15 +34,12 @@ fn tree_names_status(tree: &Tree) -> bool
         Tree::Literal(_) | Tree::Context(_) => false,
         Tree::Call(function, arguments) => is_status(*function)
             || any_names_status(arguments.as_slice()),
-        Tree::Group(inner) => tree_names_status(inner),
-        Tree::Property(base, _) => tree_names_status(base),
-        Tree::Index(base, index) => tree_names_status(base) || tree_names_status(index),
-        Tree::Wildcard(_, base) => tree_names_status(base),
-        Tree::Not(operand) => tree_names_status(operand),
-        Tree::Relation(_, left, right) => tree_names_status(left) || tree_names_status(right),
-        Tree::Equality(_, left, right) => tree_names_status(left) || tree_names_status(right),
-        Tree::Both(parts) => any_names_status(parts.as_slice()),
-        Tree::Either(parts) => any_names_status(parts.as_slice()),
+        Tree::Group(part) | Tree::Property(part, _) | Tree::Wildcard(_, part) | Tree::Not(part) =>
+            tree_names_status(part),
+        Tree::Index(left, right)
+        | Tree::Relation(_, left, right)
+        | Tree::Equality(_, left, right) => tree_names_status(left) || tree_names_status(right),
+        Tree::Both(parts) | Tree::Either(parts) => any_names_status(parts.as_slice()),
     }
 }
 
