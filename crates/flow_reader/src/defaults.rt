@@ -1,6 +1,6 @@
 //! The shell and the directory that scripts have by default.
 
-ghost use Rattle.std.specs.Prelude.{◌≡◌, IfOk, map};
+ghost use Rattle.std.specs.Prelude.{◌≡◌, IfOk, OnOk, map};
 ghost use Rattle.flow_reader.specs.Defaults as spec;
 
 use crate::fault::FlowFault;
@@ -204,23 +204,22 @@ impl Fill for FlowJob {
 
     fn fill(self, alloc: Global, defaults: &Defaults) -> Result<FlowJob, AllocError> {
         let mut filled = self;
-        let steps = mem::replace(&mut filled.steps, Sequence::empty(alloc));
-        filled.steps = fill_each(alloc, defaults, steps)?;
+        fill_each(alloc, defaults, &mut filled.steps)?;
         Ok(filled)
     }
 }
 
-/// The same of a list.
+/// The same of each item of a list. Where memory runs out, some of the items are lost.
 pub(crate) fn fill_each<T: Fill + Drop>(
     alloc: Global,
     defaults: &Defaults,
-    items: Sequence<T>,
-) -> Result<Sequence<T>, AllocError>
-    ensures { IfOk result (λ made. made ≡ map (T.filled defaults.now) items) }
+    items: &mut Sequence<T>,
+) -> Result<(), AllocError>
+    ensures { OnOk result (items.new ≡ map (T.filled defaults.now) items.old) }
 {
-    let mut made = Sequence::empty(alloc);
-    for item in items.into_vec() {
-        made.push(item.fill(alloc, defaults)?)?;
+    let left = mem::replace(items, Sequence::empty(alloc));
+    for item in left.into_vec() {
+        items.push(item.fill(alloc, defaults)?)?;
     }
-    Ok(made)
+    Ok(())
 }

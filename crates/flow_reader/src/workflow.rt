@@ -19,7 +19,6 @@ use flow_model::{Group, Sequence, Text, Workflow};
 use serde_json::Value;
 use std::alloc::{AllocError, Global};
 use std::marker::Model;
-use std::mem;
 
 /// The names of the events that start a workflow.
 #[derive(Drop)]
@@ -125,8 +124,7 @@ fn fill_workflow(
     ensures { IfOk result (λ filled. filled ≡ filled_workflow defaults.now workflow) }
 {
     let mut filled = workflow;
-    let jobs = mem::replace(&mut filled.jobs, Sequence::empty(alloc));
-    filled.jobs = fill_each(alloc, defaults, jobs)?;
+    fill_each(alloc, defaults, &mut filled.jobs)?;
     Ok(filled)
 }
 
