@@ -4,7 +4,6 @@ use Rattle.std.proofs.lemmas.Grind.{common_steps}
 use Rattle.std.proofs.lemmas.Bool.Decides.{nat_tests}
 use Rattle.std.proofs.lemmas.List.{ext_get_or, get_or-set_same, length-replicate}
 use Rattle.std.proofs.Math.ListN.{length-map, length-set, get_or-map}
-use Rattle.std.specs.Option.{is_none}
 use Rattle.plan_assembler.specs.Graph.{IsGraph}
 use Rattle.plan_assembler.specs.Placing.{found_at, is_open, waits, count_open, AllWait, IsPlacing, Settles}
 use Rattle.plan_assembler.specs.Stages.{AreStages, Stages, stage_after}

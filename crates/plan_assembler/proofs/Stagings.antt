@@ -5,7 +5,7 @@ use Rattle.std.proofs.lemmas.List.{drop_more, get_or_default}
 use Rattle.flow_model.specs.declared.plan.JobPlan.{JobPlan}
 use Rattle.flow_model.specs.declared.plan.RunPlan.{RunPlan}
 use Rattle.plan_assembler.specs.Graph.{Graph}
-use Rattle.plan_assembler.specs.Stages.{AreStages, stage_after}
+use Rattle.plan_assembler.specs.Stages.{AreStages}
 use Rattle.plan_assembler.specs.Staging.{next_stage, stages_from, AreBounded, in_stage, run_jobs, stage_lists}
 use Rattle.plan_assembler.proofs.Cycles.{same_after, bound_after}
 

@@ -1,12 +1,12 @@
 //! The jobs of a workflow's run, in the order of the plan.
 
-ghost use Rattle.std.specs.Prelude.{◌≡◌, ◌<◌, ◌^◌, true, false, IfOk, IfSome, List, length, map, slice_get, Option};
+ghost use Rattle.std.specs.Prelude.{◌≡◌, ◌<◌, ◌^◌, true, false, IfOk, IfSome, length, map, slice_get, Option};
 ghost use Rattle.std.specs.Option.{option_copied};
-ghost use Rattle.std.specs.List.{list_all, list_any};
+ghost use Rattle.std.specs.List.{list_all};
 ghost use Rattle.plan_assembler.specs.Graph.{IsGraph};
 ghost use Rattle.plan_assembler.specs.Index.{Indexes};
 ghost use Rattle.plan_assembler.specs.Layout as spec;
-ghost use Rattle.plan_assembler.specs.Layout.{AreTaken, IsOrder};
+ghost use Rattle.plan_assembler.specs.Layout.{AreTaken};
 
 use crate::choice::Choice;
 use crate::chosen::{alike, chosen_for};
@@ -14,7 +14,7 @@ use crate::fault::PlanFault;
 use crate::index::{is_id, place_of};
 use crate::order::order_of;
 use crate::stages::find_stages;
-use flow_model::{FlowJob, Sequence, Text, Workflow};
+use flow_model::{FlowJob, Sequence, Text};
 use indexmap::IndexMap;
 use std::alloc::{AllocError, Global};
 

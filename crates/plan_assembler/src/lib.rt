@@ -1,16 +1,16 @@
 //! plan_assembler: the plan that a choice of workflows comes to.
 //!
-//! A `Planner` keeps workflows and the contexts that their runs are handed. `plan_event`, `plan_job`
-//! and `plan_all` answer a plan that assembles (`Assembles`, specs/Plans) and breaks no rule: one run
-//! for each workflow that the choice takes, with the jobs that it takes, by their stage and then by
-//! their id. They refuse by the first test that fails, in the order of specs/Refusals. `events` gives
-//! the names of events (specs/Events). `staging::stages` gives the jobs of a plan by their stages
+//! A `Planner` keeps workflows and the contexts that their runs are handed. `plan_event`,
+//! `plan_job` and `plan_all` answer a plan that assembles (`Assembles`, specs/Plans) and breaks no
+//! rule: one run for each workflow that the choice takes, with the jobs that it takes, by their stage
+//! and then by their id. They refuse by the first test that fails, in the order of specs/Refusals.
+//! `events` gives the names of events (specs/Events). `staging::stages` gives the jobs of a plan by their stages
 //! (specs/Staging). The stages of jobs are said by one equation (specs/Stages), and found by passes
 //! over the jobs. What follows from the definitions alone stands in `laws`.
 //!
 //! It stands on `expr_reader`, which reads the texts that are evaluated, on `flow_model`, on
-//! `matrix_expand` for the legs of a job, on `indexmap` for the places of ids, and on `thiserror` for
-//! its errors.
+//! `matrix_expand` for the legs of a job, on `indexmap` for the places of ids, and on `thiserror`
+//! for its errors.
 
 #![tactic(auto)]
 

@@ -1,6 +1,6 @@
 //! The jobs of a plan by their stages.
 
-ghost use Rattle.std.specs.Prelude.{◌≡◌, ◌≤◌, ◌<◌, ◌+◌, ◌^◌, ◌++◌, IfOk, OnOk, length, get_or};
+ghost use Rattle.std.specs.Prelude.{◌≡◌, ◌<◌, ◌+◌, ◌^◌, ◌++◌, IfOk, OnOk, length, get_or};
 ghost use Rattle.plan_assembler.specs.Stages.{stage_after as stage_after_of};
 ghost use Rattle.plan_assembler.specs.Staging as spec;
 ghost use Rattle.plan_assembler.specs.Staging.{AreBounded, AreStageLists};

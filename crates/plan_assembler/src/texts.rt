@@ -1,7 +1,5 @@
 //! Reading the texts of a workflow that are evaluated.
 
-ghost use Rattle.std.specs.Prelude.{◌≡◌, ◌&&◌, not, nat_le, length, IsTrue, Option};
-ghost use Rattle.expr_reader.specs.Accepts.{is_template};
 ghost use Rattle.plan_assembler.specs.Texts as spec;
 ghost use Rattle.plan_assembler.specs.Texts.{Reads};
 
