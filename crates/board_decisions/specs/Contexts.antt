@@ -10,6 +10,7 @@ use Rattle.expr_reader.specs.declared.tree.Context.TheVariants as context
 use Rattle.flow_model.specs.Mapping.{with_pair}
 use Rattle.flow_model.specs.Plain.{Plain, text, truth, whole, members_of}
 use Rattle.flow_model.specs.Plain as plain
+use Rattle.flow_model.specs.Rules.{greatest}
 use Rattle.flow_model.specs.declared.board.Board.{Board}
 use Rattle.flow_model.specs.declared.board.DoneStep.{DoneStep}
 use Rattle.flow_model.specs.declared.board.Leg.{Leg}
@@ -32,13 +33,9 @@ result_name outcome.Failure = codes "failure"
 result_name outcome.Cancelled = codes "cancelled"
 result_name outcome.Skipped = codes "skipped"
 
--- The greatest whole number that stands for a count.
-abbrev pub greatest_count : ℕ
-greatest_count = 9007199254740991
-
--- A count as a whole number.
+-- A count as a whole number; one that is greater than any is shown as the greatest.
 abbrev pub count : ℕ → Plain
-count n = whole (pos (if nat_le n greatest_count then n else greatest_count))
+count n = whole (pos (if nat_le n greatest then n else greatest))
 
 -- ---- github
 

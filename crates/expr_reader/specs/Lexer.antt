@@ -32,12 +32,12 @@ abbrev mutual
   -- The text up to its closing quote, a doubled quote being one, and what follows.
   pub unquoted : List ℕ → Option (List ℕ × List ℕ)
   unquoted [] = None
-  unquoted (b ∷ bs) = if b == 39 then after_quote bs else with_front (b ∷ []) (unquoted bs)
+  unquoted (b ∷ bs) = if b == quote then after_quote bs else with_front (b ∷ []) (unquoted bs)
 
   -- The same after a quote.
   pub after_quote : List ℕ → Option (List ℕ × List ℕ)
   after_quote [] = Some ([], [])
-  after_quote (b ∷ bs) = if b == 39 then with_front (39 ∷ []) (unquoted bs) else Some ([], b ∷ bs)
+  after_quote (b ∷ bs) = if b == quote then with_front (quote ∷ []) (unquoted bs) else Some ([], b ∷ bs)
 
 abbrev pub quoted_token : Option (List ℕ × List ℕ) → Result Lexed Fault
 quoted_token None = Err UnclosedText

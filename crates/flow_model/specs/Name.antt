@@ -1,14 +1,7 @@
 -- The names of jobs, steps and outputs.
 use Rattle.std.specs.Prelude.{ℕ, ◌&&◌, ◌||◌, Bool, false, nat_eq, nat_le, List, [], ◌∷◌, codes, length}
 use Rattle.std.specs.List.{list_all, list_any}
-
--- A to Z and a to z
-abbrev pub is_letter : ℕ → Bool
-is_letter b = (nat_le 65 b && nat_le b 90) || (nat_le 97 b && nat_le b 122)
-
--- 0 to 9
-abbrev pub is_digit : ℕ → Bool
-is_digit b = nat_le 48 b && nat_le b 57
+pub use Rattle.expr_reader.specs.Bytes.{is_letter, is_digit}
 
 -- one of these bytes
 abbrev pub is_one_of : List ℕ → ℕ → Bool

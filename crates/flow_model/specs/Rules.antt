@@ -4,6 +4,7 @@ use Rattle.std.specs.Prelude.{◌≡◌, ℕ, ℤ, pos, negsuc, suc, ◌+◌, �
 use Rattle.std.specs.List.{list_all, list_any}
 use Rattle.std.specs.Str.{bytes_eq}
 pub use Rattle.expr_reader.specs.Accepts.{is_template, is_condition}
+pub use Rattle.expr_reader.specs.Number.{greatest}
 use Rattle.flow_model.specs.Plain.{Plain, null, truth, whole, text, list, map as map_value, Items, no_items, item, Members, no_members, member}
 use Rattle.flow_model.specs.Name.{is_id, is_one_of}
 use Rattle.flow_model.specs.Found.{Path, rule, or_else, under, each, each_pair, if_there}
@@ -31,10 +32,6 @@ all_there test None = true
 all_there test (Some x) = test x
 
 -- ---- values
-
--- the greatest whole number; the least is its opposite
-abbrev pub greatest : ℕ
-greatest = 9007199254740991
 
 -- in the range of whole numbers
 abbrev pub is_whole : ℤ → Bool
