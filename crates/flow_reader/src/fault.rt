@@ -11,28 +11,28 @@ use thiserror::Error;
 #[derive(Debug, Drop, Error)]
 pub enum FlowFault {
     /// It is no JSON (RFC 8259).
-    #[error("NotJson")]
+    #[error("{}", self.name())]
     NotJson,
     /// A number in it has a fraction or an exponent, or is out of range.
-    #[error("NotWhole")]
+    #[error("{}", self.name())]
     NotWhole,
     /// Something that has to be there is missing at this key.
-    #[error("Missing({0:?})")]
+    #[error("{name}({0:?})", name = self.name())]
     Missing(Text),
     /// What stands at this path is of the wrong kind, or nested too deep: keys and places from the root, joined by dots.
-    #[error("WrongShape({0:?})")]
+    #[error("{name}({0:?})", name = self.name())]
     WrongShape(Text),
     /// This text is no id or name, or is the id of two steps of one job.
-    #[error("BadId({0:?})")]
+    #[error("{name}({0:?})", name = self.name())]
     BadId(Text),
     /// What stands at this key is left out of what workflows may say here.
-    #[error("LeftOut({0:?})")]
+    #[error("{name}({0:?})", name = self.name())]
     LeftOut(Text),
     /// A shell is neither `sh` nor `bash`.
-    #[error("UnknownShell")]
+    #[error("{}", self.name())]
     UnknownShell,
     /// There is no memory.
-    #[error("Memory")]
+    #[error("{}", self.name())]
     Memory,
 }
 
