@@ -38,7 +38,7 @@ pub use check::{Broken, CheckedPlan};
 pub use duplicate::Duplicate;
 pub use event::{Answer, Entry, Event, Member, Outcome};
 pub use flow::{Flow, FlowJob, Workflow};
-pub use json::{JsonFault, json_of, json_of_node, value_of, whole_of};
+pub use json::{JsonFault, into_json, into_value, json_of, json_of_node, value_of, whole_of};
 pub use mapping::Mapping;
 pub use name::is_id;
 pub use plan::{Combo, Flag, Group, JobPlan, Matrix, Plan, Roots, RunPlan, Shell, StepPlan, Work};

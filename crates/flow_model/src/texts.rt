@@ -1,6 +1,6 @@
 //! The rules of texts that are evaluated: each is read, as a condition or as a template.
 
-ghost use Rattle.std.specs.Prelude.{◌≡◌, ◌&&◌, not, nat_le, length, IsTrue, IfOk, IfSome, List, Option, codes, is_some};
+ghost use Rattle.std.specs.Prelude.{◌≡◌, ◌&&◌, not, nat_le, length, IsTrue, IfOk, IfSome, List, Option, is_some};
 ghost use Rattle.expr_reader.specs.Accepts.{is_template, is_condition};
 ghost use Rattle.expr_reader.specs.Faults.{fault_at};
 ghost use Rattle.expr_reader.specs.Template.{Piece, has_marker};
