@@ -2,7 +2,7 @@
 use Rattle.std.proofs.Common.{◌≡◌, ℕ, suc, ◌+◌, ◌≤◌, Bool, true, false, cond, nat_lt, Result, Ok, Err, Option, Some, None, IfOk, IfErr, IfSome, List, [], ◌∷◌, length, refl, sym, ap, subst, ◌∙◌, arith}
 use Rattle.std.proofs.lemmas.Bool.{cond-false, le-ltb, ltb-true, ltb-false}
 use Rattle.expr_reader.specs.Expr.{Expr}
-use Rattle.expr_reader.specs.Faults.{fault_at, Answers}
+use Rattle.expr_reader.specs.Faults.{fault_at, Gives}
 use Rattle.expr_reader.specs.Reading.{Failure, read_text}
 use Rattle.expr_reader.specs.Template.{Piece, marked, has_marker, Pieces, names_status, SpellsTemplate, SpellsTrimmed}
 use Rattle.expr_reader.specs.TemplateReading.{read_pieces, one_piece, trimmed_by, read_trimmed}
@@ -87,11 +87,11 @@ trimmed_by_stands base text x true mark h = long_stands base text x (nat_lt 1048
     long_stands base text x false mark test h = in_marks mark (pieces_stand (base + length text) text x (omega arith) h)
 
 -- A condition: found, only and stands.
-pub condition_found : (base : ℕ) (text : List ℕ) (result : Result Template ExprFault) → Answers template_of result (read_trimmed base text) → IfOk result (λ t. SpellsTrimmed (has_marker text) (template_of t) text)
+pub condition_found : (base : ℕ) (text : List ℕ) (result : Result Template ExprFault) → Gives template_of result (read_trimmed base text) → IfOk result (λ t. SpellsTrimmed (has_marker text) (template_of t) text)
 condition_found base text (Ok t) h = trimmed_by_found base text (template_of t) (has_marker text) h
 condition_found base text (Err f) h = tt
 
-pub condition_only : (base : ℕ) (text : List ℕ) (result : Result Template ExprFault) → Answers template_of result (read_trimmed base text) → (ps : List Piece) → SpellsTrimmed (has_marker text) ps text → IsReadAs result ps
+pub condition_only : (base : ℕ) (text : List ℕ) (result : Result Template ExprFault) → Gives template_of result (read_trimmed base text) → (ps : List Piece) → SpellsTrimmed (has_marker text) ps text → IsReadAs result ps
 condition_only base text (Ok t) h ps s = one_template (read_trimmed base text) (template_of t) ps h (trimmed_by_read base text ps (has_marker text) s)
 condition_only base text (Err f) h ps s = only_memory (read_trimmed base text) ps f (fault_at f) refl (trimmed_by_read base text ps (has_marker text) s) h
 
@@ -99,6 +99,6 @@ condition_stands_by : (base : ℕ) (text : List ℕ) (o : Option Failure) → If
 condition_stands_by base text None h = tt
 condition_stands_by base text (Some x) h = trimmed_by_stands base text x (has_marker text) refl h
 
-pub condition_stands : (base : ℕ) (text : List ℕ) (result : Result Template ExprFault) → Answers template_of result (read_trimmed base text) → IfErr result (λ f. IfSome (fault_at f) (StandsInTrimmed base text))
+pub condition_stands : (base : ℕ) (text : List ℕ) (result : Result Template ExprFault) → Gives template_of result (read_trimmed base text) → IfErr result (λ f. IfSome (fault_at f) (StandsInTrimmed base text))
 condition_stands base text (Ok t) h = tt
 condition_stands base text (Err f) h = condition_stands_by base text (fault_at f) h

@@ -2,7 +2,7 @@
 use Rattle.std.proofs.Common.{◌≡◌, ℕ, suc, ◌+◌, ◌-◌, ◌≤◌, Bool, true, false, cond, nat_lt, Result, Ok, Err, Option, Some, None, IfOk, IfErr, IfSome, List, [], ◌∷◌, length, refl, sym, ap, subst, ◌∙◌, length-append, arith}
 use Rattle.std.proofs.lemmas.Bool.{cond-false, le-ltb, ltb-true, ltb-false}
 use Rattle.expr_reader.specs.Expr.{Expr}
-use Rattle.expr_reader.specs.Faults.{fault_at, IsRead, Answers, StandsIn, FaultStands}
+use Rattle.expr_reader.specs.Faults.{fault_at, IsRead, Gives, StandsIn, FaultStands}
 use Rattle.expr_reader.specs.Grammar.{Token}
 use Rattle.expr_reader.specs.Machine.{want}
 use Rattle.expr_reader.specs.Reading.{Failure, reads, located, read_tokens, read_text}
@@ -94,7 +94,7 @@ pub spelled_once : (t u : Expr) (text : List ℕ) → Spells t text → Spells u
 spelled_once t u text s r = one_answer (read_text 0 text) t u (spelled_read 0 t text s) (spelled_read 0 u text r)
 
 -- The clauses of the public call, from what its helper answers.
-pub answers_found : (text : List ℕ) (result : Result Tree ExprFault) → Answers view result (read_text 0 text) → IfOk result (λ t. Spells (view t) text)
+pub answers_found : (text : List ℕ) (result : Result Tree ExprFault) → Gives view result (read_text 0 text) → IfOk result (λ t. Spells (view t) text)
 answers_found text (Ok t) h = read_spells 0 text (view t) h
 answers_found text (Err f) h = tt
 
@@ -103,7 +103,7 @@ pub only_memory : {A : Type 0} (r : Result A Failure) (x : A) (f : ExprFault) (o
 only_memory r x f None at read h = at
 only_memory r x f (Some y) at read h = cc
 
-pub answers_only : (text : List ℕ) (result : Result Tree ExprFault) → Answers view result (read_text 0 text) → (e : Expr) → Spells e text → IsRead result e
+pub answers_only : (text : List ℕ) (result : Result Tree ExprFault) → Gives view result (read_text 0 text) → (e : Expr) → Spells e text → IsRead result e
 answers_only text (Ok t) h e s = one_answer (read_text 0 text) (view t) e h (spelled_read 0 e text s)
 answers_only text (Err f) h e s = only_memory (read_text 0 text) e f (fault_at f) refl (spelled_read 0 e text s) h
 
@@ -114,6 +114,6 @@ stands_of : (text : List ℕ) (o : Option Failure) → IfSome o (λ x. read_text
 stands_of text None h = tt
 stands_of text (Some x) h = at_start text x (read_stands 0 text x h)
 
-pub answers_stand : (text : List ℕ) (result : Result Tree ExprFault) → Answers view result (read_text 0 text) → IfErr result (λ f. FaultStands text f)
+pub answers_stand : (text : List ℕ) (result : Result Tree ExprFault) → Gives view result (read_text 0 text) → IfErr result (λ f. FaultStands text f)
 answers_stand text (Ok t) h = tt
 answers_stand text (Err f) h = stands_of text (fault_at f) h

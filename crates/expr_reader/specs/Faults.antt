@@ -76,9 +76,9 @@ IsRead (Ok tree) e = view tree ≡ e
 IsRead (Err fault) e = OnlyMemory fault
 
 -- What a function returned, seen by view, is what reading a text gives, unless memory ran out.
-abbrev pub Answers : {X A : Type 0} → (X → A) → Result X ExprFault → Result A Failure → Type 0
-Answers view (Ok x) reading = reading ≡ Ok (view x)
-Answers view (Err fault) reading = IfSome (fault_at fault) (λ x. reading ≡ Err x)
+abbrev pub Gives : {X A : Type 0} → (X → A) → Result X ExprFault → Result A Failure → Type 0
+Gives view (Ok x) reading = reading ≡ Ok (view x)
+Gives view (Err fault) reading = IfSome (fault_at fault) (λ x. reading ≡ Err x)
 
 -- What stands in an expression's text: more than 20,000 bytes, or the fault at its place.
 abbrev pub StandsIn : List ℕ → Failure → Type 0

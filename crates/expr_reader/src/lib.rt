@@ -1,4 +1,4 @@
-//! Reads the expression language of GitHub Actions: single expressions, templates and conditions.
+//! expr_reader: reads the expression language of GitHub Actions: single expressions, templates and conditions.
 //!
 //! `read_expr` answers a tree exactly where the text spells one within the limits, and no text spells
 //! two; `read_template` and `read_condition` do the same for texts with expressions in them. A fault that

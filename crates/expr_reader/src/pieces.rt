@@ -1,7 +1,7 @@
 //! Reads the pieces of a text.
 
 ghost use Rattle.std.specs.Prelude.{◌≡◌, ◌≤◌, ◌<◌, length, true, ◌∷◌, ◌++◌, [], OnOk, IfOk, IfErr};
-ghost use Rattle.expr_reader.specs.Faults.{Answers, OnlyMemory};
+ghost use Rattle.expr_reader.specs.Faults.{Gives, OnlyMemory};
 ghost use Rattle.expr_reader.specs.Template.{begins_mark as begins_mark_of, marked};
 ghost use Rattle.expr_reader.specs.TemplateReading.{piece_at, read_pieces as read_pieces_of};
 ghost use Rattle.expr_reader.specs.View.{view};
@@ -23,7 +23,7 @@ fn next_piece<'a>(
     status: &mut Option<usize>,
 ) -> Result<(Piece, &'a str), ExprFault>
     requires { length text.now ≤ size }
-    ensures { Answers piece_and_rest result (piece_at size text.now) }
+    ensures { Gives piece_and_rest result (piece_at size text.now) }
 {
     if begins_mark(text.as_bytes()) {
         return marked_piece(alloc, text, size, status);
@@ -44,7 +44,7 @@ fn marked_piece<'a>(
 ) -> Result<(Piece, &'a str), ExprFault>
     requires short { length text.now ≤ size }
     requires mark { begins_mark_of text.now ≡ true }
-    ensures { Answers piece_and_rest result (piece_at size text.now) }
+    ensures { Gives piece_and_rest result (piece_at size text.now) }
 {
     let (_, after) = text.split_at(3);
     match split_end(after) {
@@ -78,7 +78,7 @@ pub(crate) fn read_pieces(
     status: &mut Option<usize>,
 ) -> Result<Vec<Piece>, ExprFault>
     requires { length text.now ≤ size }
-    ensures { Answers pieces_of_vec result (read_pieces_of size text.now) }
+    ensures { Gives pieces_of_vec result (read_pieces_of size text.now) }
 {
     let mut pieces = Vec::new(alloc);
     let mut rest = text;

@@ -2,7 +2,7 @@
 
 ghost use Rattle.std.specs.Prelude.{◌≡◌, ℕ, ◌+◌, ◌^◌, ◌<◌, List, length, Err, IfOk, IfErr};
 ghost use Rattle.expr_reader.specs.Expr.{Expr};
-ghost use Rattle.expr_reader.specs.Faults.{fault_at, refused_at, Answers, IsRead, FaultStands};
+ghost use Rattle.expr_reader.specs.Faults.{fault_at, refused_at, Gives, IsRead, FaultStands};
 ghost use Rattle.expr_reader.specs.Lexer.{next_at};
 ghost use Rattle.expr_reader.specs.Machine.{limits, step, finish};
 ghost use Rattle.expr_reader.specs.Reading.{placed as placed_at, read_tokens, read_text};
@@ -56,7 +56,7 @@ fn next_placed(
     dotted: bool,
     place: usize,
 ) -> Result<Option<(Token, &str)>, ExprFault>
-    ensures { Answers some_lexed result (placed_at place (next_at dotted text.now)) }
+    ensures { Gives some_lexed result (placed_at place (next_at dotted text.now)) }
 {
     match next_token(alloc, text, dotted) {
         Ok(next) => Ok(next),
@@ -71,7 +71,7 @@ fn advanced(
     token: Token,
     place: usize,
 ) -> Result<Machine, ExprFault>
-    ensures { Answers state_of result
+    ensures { Gives state_of result
         (placed_at place (step limits (state_of machine) (token_of token))) }
 {
     match machine.advance(alloc, token) {
@@ -82,7 +82,7 @@ fn advanced(
 
 // The machine's tree, where the text ends at a place.
 fn finished(alloc: Global, machine: Machine, place: usize) -> Result<Tree, ExprFault>
-    ensures { Answers view result (placed_at place (finish limits (state_of machine))) }
+    ensures { Gives view result (placed_at place (finish limits (state_of machine))) }
 {
     match machine.finish(alloc) {
         Ok(tree) => Ok(tree),
@@ -113,7 +113,7 @@ fn read_tokens(
     status: &mut Option<usize>,
 ) -> Result<Tree, ExprFault>
     requires { base + length text.now < 2 ^ 64 }
-    ensures { Answers view result (read_tokens base text.now) }
+    ensures { Gives view result (read_tokens base text.now) }
 {
     let mut machine = Machine::new(alloc);
     let mut rest = text;
@@ -141,7 +141,7 @@ pub(crate) fn read_at(
     status: &mut Option<usize>,
 ) -> Result<Tree, ExprFault>
     requires { base + length text.now < 2 ^ 64 }
-    ensures { Answers view result (read_text base text.now) }
+    ensures { Gives view result (read_text base text.now) }
 {
     if text.len() > LONGEST {
         return Err(ExprFault::TooLong(base + LONGEST));

@@ -3,7 +3,7 @@
 ghost use Rattle.std.specs.Prelude.{◌≡◌, ℕ, ◌+◌, ◌^◌, ◌<◌, ◌↔◌, IsTrue, List, length, IfOk, IfErr};
 ghost use Rattle.expr_reader.specs.Template.{Piece as PieceOf, SpellsTemplate, IsTemplate, SpellsCondition, IsCondition, has_marker as has_marker_of, HoldsMarker};
 ghost use Rattle.expr_reader.specs.Accepts.{is_template, is_condition, template_read, condition_read, TemplatesAreRead, ConditionsAreRead, ReadsAs};
-ghost use Rattle.expr_reader.specs.Faults.{Answers};
+ghost use Rattle.expr_reader.specs.Faults.{Gives};
 ghost use Rattle.expr_reader.specs.TemplateReading.{read_trimmed};
 ghost use Rattle.expr_reader.specs.TemplateStands.{IsReadAs, TemplateFaultStands, ConditionFaultStands};
 ghost use Rattle.expr_reader.specs.TemplateView.{template_of};
@@ -88,7 +88,7 @@ pub fn read_condition(alloc: Global, text: &str) -> Result<Template, ExprFault>
 // Reads a condition without white space at its ends, which begins at the place base.
 fn read_trimmed(alloc: Global, text: &str, base: usize) -> Result<Template, ExprFault>
     requires { base + length text.now < 2 ^ 64 }
-    ensures { Answers template_of result (read_trimmed base text.now) }
+    ensures { Gives template_of result (read_trimmed base text.now) }
 {
     let mut status = None;
     if !has_marker(text) {

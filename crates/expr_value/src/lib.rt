@@ -1,4 +1,4 @@
-//! The values of expressions, templates and conditions.
+//! expr_value: the values of expressions, templates and conditions.
 //!
 //! `eval` gives the value of an expression over a finite map of contexts and a status, or its first fault from the
 //! left; `eval_text` the value of a template, `eval_condition` whether a condition holds. `to_text`, `truthy` and

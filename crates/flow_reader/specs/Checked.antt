@@ -54,9 +54,9 @@ unfoldable pub IsFault : FlowFault → FlowFault → Type 0
 IsFault wanted fault = Contains (Memory ∷ wanted ∷ []) fault
 
 -- A reader answers what the part stands for, or a fault of it.
-abbrev pub Answers : {A : Type 0} → Result A FlowFault → Checked A → Type 0
-Answers (Ok a) meaning = meaning ≡ Ok a
-Answers (Err fault) meaning = Stands fault meaning
+abbrev pub Gives : {A : Type 0} → Result A FlowFault → Checked A → Type 0
+Gives (Ok a) meaning = meaning ≡ Ok a
+Gives (Err fault) meaning = Stands fault meaning
 
 -- ---- what stands at a key of an object
 

@@ -3,7 +3,7 @@
 ghost use Rattle.std.specs.Prelude.{◌≡◌, false, IfOk};
 ghost use Rattle.serde_json.specs.View.{view};
 ghost use Rattle.flow_model.specs.declared.plan.Flag.TheVariants.{Truth};
-ghost use Rattle.flow_reader.specs.Checked.{Answers};
+ghost use Rattle.flow_reader.specs.Checked.{Gives};
 ghost use Rattle.flow_reader.specs.Parts.{group_from, roots_of};
 
 use crate::fault::FlowFault;
@@ -57,7 +57,7 @@ type RootsParts = (
 /// The contexts that a run is handed.
 #[tactic(auto, unfolding(crate::specs::Parts::roots_of), using(crate::proofs::Faults::stands_made, crate::proofs::Faults::ok_made))]
 pub(crate) fn roots_from_json(alloc: Global, json: &serde_json::Value) -> Result<Roots, FlowFault>
-    ensures { Answers result (roots_of (view json.now)) }
+    ensures { Gives result (roots_of (view json.now)) }
 {
     let keys = ["github", "inputs", "secrets", "vars"];
     let (github, (inputs, (secrets, (vars, ())))) = read_object::<RootsParts>(alloc, json, &keys)?;

@@ -2,7 +2,7 @@
 
 ghost use Rattle.std.specs.Prelude.{◌≡◌, ◌==◌, IfOk, length};
 ghost use Rattle.serde_json.specs.View.{view, members_view};
-ghost use Rattle.flow_reader.specs.Checked.{Answers, members_checked};
+ghost use Rattle.flow_reader.specs.Checked.{Gives, members_checked};
 ghost use Rattle.flow_reader.specs.Defaults.{filled_job};
 ghost use Rattle.flow_reader.specs.Workflow.{job_from, job_parts_of, job_of, job_at, some_jobs};
 
@@ -39,7 +39,7 @@ type JobParts = ((), ((), ((), JobHead)));
 /// What an object says of a job.
 #[tactic(auto, unfolding(crate::specs::Workflow::job_parts_of))]
 fn read_parts(alloc: Global, json: &Value) -> Result<JobParts, FlowFault>
-    ensures { Answers result (job_parts_of (view json.now)) }
+    ensures { Gives result (job_parts_of (view json.now)) }
 {
     let keys = [
         "container",
@@ -94,7 +94,7 @@ fn job_from(alloc: Global, id: Text, parts: JobParts) -> Result<FlowJob, AllocEr
 /// The job that has this id.
 #[tactic(auto, unfolding(crate::specs::Workflow::job_of), using(crate::proofs::Faults::stands_made, crate::proofs::Faults::stands_memory, crate::proofs::Faults::ok_made))]
 fn read_job(alloc: Global, id: &str, json: &Value) -> Result<FlowJob, FlowFault>
-    ensures { Answers result (job_of id.now (view json.now)) }
+    ensures { Gives result (job_of id.now (view json.now)) }
 {
     let id = Text::from_str(alloc, id)?;
     let parts = read_parts(alloc, json)?;
@@ -104,7 +104,7 @@ fn read_job(alloc: Global, id: &str, json: &Value) -> Result<FlowJob, FlowFault>
 /// The job at an id.
 #[tactic(auto, unfolding(crate::specs::Workflow::job_at), using(crate::proofs::Faults::stands_bad, crate::proofs::Faults::stands_under, crate::proofs::Faults::ok_under))]
 fn read_job_at(alloc: Global, id: &str, json: &Value) -> Result<FlowJob, FlowFault>
-    ensures { Answers result (job_at id.now (view json.now)) }
+    ensures { Gives result (job_at id.now (view json.now)) }
 {
     if !is_id(id) {
         return Err(bad_id(alloc, id));
@@ -121,7 +121,7 @@ fn read_each(
     alloc: Global,
     members: &BTreeMap<String, Value>,
 ) -> Result<Sequence<FlowJob>, FlowFault>
-    ensures { Answers result (members_checked job_at (members_view members.now.entries)) }
+    ensures { Gives result (members_checked job_at (members_view members.now.entries)) }
 {
     let mut read = Sequence::empty(alloc);
     for (id, json) in members.iter() {
@@ -143,7 +143,7 @@ fn read_some(
     alloc: Global,
     members: &BTreeMap<String, Value>,
 ) -> Result<Sequence<FlowJob>, FlowFault>
-    ensures { Answers result (some_jobs (members_view members.now.entries)) }
+    ensures { Gives result (some_jobs (members_view members.now.entries)) }
 {
     if has_none(members) {
         return Err(wrong_shape(alloc));

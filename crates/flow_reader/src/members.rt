@@ -2,7 +2,7 @@
 
 ghost use Rattle.std.specs.Prelude.{◌≡◌, IfOk};
 ghost use Rattle.serde_json.specs.View.{view, members_view};
-ghost use Rattle.flow_reader.specs.Checked.{Answers, of_members, pairs_checked, keys_in};
+ghost use Rattle.flow_reader.specs.Checked.{Gives, of_members, pairs_checked, keys_in};
 
 use crate::fault::FlowFault;
 use crate::refusal::wrong_shape;
@@ -27,7 +27,7 @@ pub(crate) trait ReadsMember<V> {
         ensures { result ≡ counted key.now };
 
     fn read_member(alloc: Global, key: &str, json: &Value) -> Result<V, FlowFault>
-        ensures { Answers result (member key.now (view json.now)) };
+        ensures { Gives result (member key.now (view json.now)) };
 }
 
 /// The pairs of an object's members.
@@ -36,7 +36,7 @@ fn read_pairs<V: Drop, M: ReadsMember<V>>(
     alloc: Global,
     members: &BTreeMap<String, Value>,
 ) -> Result<Mapping<V>, FlowFault>
-    ensures { Answers result (pairs_checked M.counted M.member (members_view members.now.entries)) }
+    ensures { Gives result (pairs_checked M.counted M.member (members_view members.now.entries)) }
 {
     let mut read = Mapping::empty(alloc);
     for (key, json) in members.iter() {
@@ -54,7 +54,7 @@ pub(crate) fn read_map<V: Drop, M: ReadsMember<V>>(
     alloc: Global,
     json: &Value,
 ) -> Result<Mapping<V>, FlowFault>
-    ensures { Answers result (of_members (pairs_checked M.counted M.member) (view json.now)) }
+    ensures { Gives result (of_members (pairs_checked M.counted M.member) (view json.now)) }
 {
     match json.as_object() {
         Some(members) => read_pairs::<V, M>(alloc, members),

@@ -2,7 +2,7 @@
 
 ghost use Rattle.std.specs.Prelude.{◌≡◌, [], ◌∷◌, MatchOption, map};
 ghost use Rattle.serde_json.specs.View.{view};
-ghost use Rattle.flow_reader.specs.Checked.{Answers, in_object, defaulted, spelled_in};
+ghost use Rattle.flow_reader.specs.Checked.{Gives, in_object, defaulted, spelled_in};
 
 use crate::fault::FlowFault;
 use crate::reading::{FromJson, is_expression, within};
@@ -22,7 +22,7 @@ pub(crate) trait Part {
     fn read_at(alloc: Global, object: &Value, key: &str) -> Result<Self, FlowFault>
     where
         Self: Sized,
-        ensures { Answers result (part key.now (view object.now)) };
+        ensures { Gives result (part key.now (view object.now)) };
 }
 
 /// A part that may be missing.
@@ -90,7 +90,7 @@ pub(crate) fn read_spelled<T: FromJson>(
     key: &str,
     json: &Value,
 ) -> Result<T, FlowFault>
-    ensures { Answers result (spelled_in T.reading key.now (view json.now)) }
+    ensures { Gives result (spelled_in T.reading key.now (view json.now)) }
 {
     if is_expression(json) {
         Err(left_out(alloc, key))
@@ -139,7 +139,7 @@ pub(crate) fn read_or<T: FromJson + Drop>(
     key: &str,
     default: T,
 ) -> Result<T, FlowFault>
-    ensures { Answers result (defaulted default T.reading key.now (view object.now)) }
+    ensures { Gives result (defaulted default T.reading key.now (view object.now)) }
 {
     match object.get(key) {
         Some(json) => within(alloc, key, json),
@@ -159,7 +159,7 @@ pub(crate) trait Parts {
     fn read(alloc: Global, object: &Value, keys: &[&str]) -> Result<Self, FlowFault>
     where
         Self: Sized,
-        ensures { Answers result (parts (map (λ key. key.now) keys.now) (view object.now)) };
+        ensures { Gives result (parts (map (λ key. key.now) keys.now) (view object.now)) };
 }
 
 /// The first key, and the others.
@@ -205,7 +205,7 @@ pub(crate) fn read_object<P: Parts>(
     json: &Value,
     keys: &[&str],
 ) -> Result<P, FlowFault>
-    ensures { Answers result
+    ensures { Gives result
         (in_object (P.parts (map (λ key. key.now) keys.now)) (view json.now)) }
 {
     if json.as_object().is_none() {

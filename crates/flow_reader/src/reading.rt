@@ -3,7 +3,7 @@
 ghost use Rattle.std.specs.Prelude.{◌≡◌, Ok, length, decimal, IfOk, string_bytes};
 ghost use Rattle.serde_json.specs.Find.{get};
 ghost use Rattle.serde_json.specs.View.{view, items_view, members_view};
-ghost use Rattle.flow_reader.specs.Checked.{Answers, under, items_checked, list_of, is_expression};
+ghost use Rattle.flow_reader.specs.Checked.{Gives, under, items_checked, list_of, is_expression};
 
 use crate::fault::FlowFault;
 use crate::refusal::{at, wrong_shape};
@@ -24,13 +24,13 @@ pub(crate) trait FromJson {
     fn from_json(alloc: Global, json: &Value) -> Result<Self, FlowFault>
     where
         Self: Sized,
-        ensures { Answers result (reading (view json.now)) };
+        ensures { Gives result (reading (view json.now)) };
 }
 
 /// The part that stands at a key or place.
 #[tactic(auto, using(crate::proofs::Faults::stands_under, crate::proofs::Faults::ok_under))]
 pub(crate) fn within<T: FromJson>(alloc: Global, key: &str, json: &Value) -> Result<T, FlowFault>
-    ensures { Answers result (under key.now (T.reading (view json.now))) }
+    ensures { Gives result (under key.now (T.reading (view json.now))) }
 {
     match T::from_json(alloc, json) {
         Ok(part) => Ok(part),
@@ -66,7 +66,7 @@ impl<T: FromJson + Drop> FromJson for Sequence<T> {
 /// The item that stands at a place.
 #[tactic(auto, using(crate::proofs::Faults::stands_memory))]
 fn read_item<T: FromJson>(alloc: Global, place: usize, json: &Value) -> Result<T, FlowFault>
-    ensures { Answers result (under (decimal place) (T.reading (view json.now))) }
+    ensures { Gives result (under (decimal place) (T.reading (view json.now))) }
 {
     let key = place_text(alloc, place)?;
     within(alloc, key.as_str(), json)
@@ -75,7 +75,7 @@ fn read_item<T: FromJson>(alloc: Global, place: usize, json: &Value) -> Result<T
 /// The items of a list, each at its place.
 #[tactic(auto, using(crate::proofs::Faults::stands_memory))]
 fn read_items<T: FromJson + Drop>(alloc: Global, items: &[Value]) -> Result<Sequence<T>, FlowFault>
-    ensures { Answers result (items_checked T.reading 0 (items_view items.now)) }
+    ensures { Gives result (items_checked T.reading 0 (items_view items.now)) }
 {
     let mut read = Sequence::empty(alloc);
     for (place, item) in items.iter().enumerate() {

@@ -7,7 +7,7 @@ ghost use Rattle.flow_model.specs.declared.plan.Work.TheVariants.{Run, Uses};
 ghost use Rattle.serde_json.specs.View.{view};
 ghost use Rattle.std.specs.List.{list_any};
 ghost use Rattle.std.specs.Str.{bytes_eq};
-ghost use Rattle.flow_reader.specs.Checked.{Answers, both, made, under, defaulted};
+ghost use Rattle.flow_reader.specs.Checked.{Gives, both, made, under, defaulted};
 ghost use Rattle.flow_reader.specs.Parts.{text_of, inputs_of};
 ghost use Rattle.flow_reader.specs.Step.{script_of, action_in, step_from, distinct};
 
@@ -26,7 +26,7 @@ use std::marker::Model;
 /// A script, without its shell and directory.
 #[tactic(auto, using(crate::proofs::Faults::stands_made, crate::proofs::Faults::ok_made))]
 fn read_script(alloc: Global, key: &str, json: &Value) -> Result<Work, FlowFault>
-    ensures { Answers result (script_of key.now (view json.now)) }
+    ensures { Gives result (script_of key.now (view json.now)) }
 {
     let run = within(alloc, key, json)?;
     Ok(Work::Run {
@@ -38,7 +38,7 @@ fn read_script(alloc: Global, key: &str, json: &Value) -> Result<Work, FlowFault
 
 /// The inputs of an action.
 fn read_inputs(alloc: Global, object: &Value) -> Result<Inputs, FlowFault>
-    ensures { Answers result (defaulted [] inputs_of (codes "with") (view object.now)) }
+    ensures { Gives result (defaulted [] inputs_of (codes "with") (view object.now)) }
 {
     let pairs = Mapping::empty(alloc);
     read_or(alloc, object, "with", Inputs { pairs })
@@ -47,7 +47,7 @@ fn read_inputs(alloc: Global, object: &Value) -> Result<Inputs, FlowFault>
 /// An action with its inputs.
 #[tactic(auto, using(crate::proofs::Faults::stands_made, crate::proofs::Faults::stands_left, crate::proofs::Faults::stands_right, crate::proofs::Faults::ok_made, crate::proofs::Faults::ok_both))]
 fn read_action(alloc: Global, json: &Value, object: &Value) -> Result<Work, FlowFault>
-    ensures { Answers result (action_in (view json.now) (view object.now)) }
+    ensures { Gives result (action_in (view json.now) (view object.now)) }
 {
     let uses = within(alloc, "uses", json)?;
     let given = read_inputs(alloc, object)?;
@@ -153,7 +153,7 @@ fn is_step_id(id: &str, steps: &[StepPlan]) -> bool
 /// Checks that no id stands again.
 #[tactic(auto, using(crate::proofs::Faults::stands_bad))]
 fn check_ids(alloc: Global, steps: &[StepPlan]) -> Result<(), FlowFault>
-    ensures { Answers result (distinct (step_ids steps.now)) }
+    ensures { Gives result (distinct (step_ids steps.now)) }
 {
     for (place, step) in steps.iter().enumerate() {
         if let Some(id) = &step.id {

@@ -3,7 +3,7 @@
 ghost use Rattle.std.specs.Prelude.{◌≡◌, [], unwrap_or};
 ghost use Rattle.serde_json.specs.View.{view};
 ghost use Rattle.flow_model.specs.Flow.{is_matrix_key};
-ghost use Rattle.flow_reader.specs.Checked.{Answers};
+ghost use Rattle.flow_reader.specs.Checked.{Gives};
 ghost use Rattle.flow_reader.specs.Strategy.{matrix_variables_of, matrix_from, strategy_from};
 
 use crate::fault::FlowFault;
@@ -49,7 +49,7 @@ fn read_variables(
     alloc: Global,
     json: &serde_json::Value,
 ) -> Result<Mapping<Sequence<Value>>, FlowFault>
-    ensures { Answers result (matrix_variables_of (view json.now)) }
+    ensures { Gives result (matrix_variables_of (view json.now)) }
 {
     read_map::<Sequence<Value>, MatrixVariables>(alloc, json)
 }

@@ -4,7 +4,7 @@ ghost use Rattle.std.specs.Prelude.{◌≡◌, [], ◌∷◌, ◌++◌, Some, If
 ghost use Rattle.std.specs.List.{list_any};
 ghost use Rattle.std.specs.Str.{bytes_eq};
 ghost use Rattle.serde_json.specs.View.{view};
-ghost use Rattle.flow_reader.specs.Checked.{Answers, defaulted};
+ghost use Rattle.flow_reader.specs.Checked.{Gives, defaulted};
 ghost use Rattle.flow_reader.specs.Parts.{id_text, shell_named, truth_text, unless_blank, texts_of, each_once};
 
 use crate::fault::FlowFault;
@@ -48,7 +48,7 @@ impl Model for Id {
 /// A text as an id.
 #[tactic(auto, using(crate::proofs::Faults::stands_bad, crate::proofs::Faults::stands_memory))]
 fn read_id(alloc: Global, name: &str) -> Result<Id, FlowFault>
-    ensures { Answers result (id_text name.now) }
+    ensures { Gives result (id_text name.now) }
 {
     if !is_id(name) {
         return Err(bad_id(alloc, name));
@@ -189,7 +189,7 @@ impl Part for Condition {
 /// The shell of this name.
 #[tactic(auto, using(crate::proofs::Faults::stands_itself))]
 fn shell_named(name: &str) -> Result<Shell, FlowFault>
-    ensures { Answers result (shell_named name.now) }
+    ensures { Gives result (shell_named name.now) }
 {
     if name == "sh" {
         Ok(Shell::Sh)
@@ -252,7 +252,7 @@ fn one_text(alloc: Global, text: &str) -> Result<Sequence<Text>, AllocError>
 /// A text, or a list of texts.
 #[tactic(auto, unfolding(crate::specs::Parts::texts_of), using(crate::proofs::Faults::stands_memory))]
 pub(crate) fn read_texts(alloc: Global, json: &Value) -> Result<Sequence<Text>, FlowFault>
-    ensures { Answers result (texts_of (view json.now)) }
+    ensures { Gives result (texts_of (view json.now)) }
 {
     match json.as_str() {
         Some(text) => Ok(one_text(alloc, text)?),

@@ -4,7 +4,7 @@ ghost use Rattle.std.specs.Prelude.{◌≡◌};
 ghost use Rattle.serde_json.specs.View.{view, number_view};
 ghost use Rattle.flow_model.specs.Json.{whole_of};
 ghost use Rattle.flow_model.specs.Value.{view as view_of_node};
-ghost use Rattle.flow_reader.specs.Checked.{Answers};
+ghost use Rattle.flow_reader.specs.Checked.{Gives};
 ghost use Rattle.flow_reader.specs.Parts.{limit_at, whole_at};
 
 use crate::fault::FlowFault;
@@ -18,7 +18,7 @@ use std::marker::Model;
 /// How many at once, from 1.
 #[tactic(auto, using(crate::proofs::Faults::stands_bad, crate::proofs::Faults::stands_itself, crate::proofs::Faults::stands_memory))]
 fn limit_of(alloc: Global, number: &Number) -> Result<u64, FlowFault>
-    ensures { Answers result (limit_at (whole_of (number_view number.now))) }
+    ensures { Gives result (limit_at (whole_of (number_view number.now))) }
 {
     match whole_of(number) {
         Ok(whole) => {
@@ -66,7 +66,7 @@ impl Model for Scalar {
 /// A number as a value.
 #[tactic(auto, using(crate::proofs::Faults::stands_itself, crate::proofs::Faults::stands_memory))]
 fn scalar_of(number: &Number) -> Result<Scalar, FlowFault>
-    ensures { Answers result (whole_at (whole_of (number_view number.now))) }
+    ensures { Gives result (whole_at (whole_of (number_view number.now))) }
 {
     match whole_of(number) {
         Ok(whole) => Ok(make_scalar(Node::Whole(whole))),

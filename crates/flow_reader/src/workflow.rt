@@ -2,7 +2,7 @@
 
 ghost use Rattle.std.specs.Prelude.{◌≡◌, [], Some, IfOk, unwrap_or};
 ghost use Rattle.serde_json.specs.View.{view};
-ghost use Rattle.flow_reader.specs.Checked.{Answers};
+ghost use Rattle.flow_reader.specs.Checked.{Gives};
 ghost use Rattle.flow_reader.specs.Defaults.{filled_workflow};
 ghost use Rattle.flow_reader.specs.Workflow.{workflow_of, workflow_parts_of, workflow_from};
 
@@ -84,7 +84,7 @@ type WorkflowParts = (Option<Text>, BodyParts);
 /// What an object says of a workflow.
 #[tactic(auto, unfolding(crate::specs::Workflow::workflow_parts_of))]
 fn read_parts(alloc: Global, json: &Value) -> Result<WorkflowParts, FlowFault>
-    ensures { Answers result (workflow_parts_of (view json.now)) }
+    ensures { Gives result (workflow_parts_of (view json.now)) }
 {
     let keys = ["name", "on", "env", "defaults", "concurrency", "jobs"];
     read_object::<WorkflowParts>(alloc, json, &keys)
@@ -141,7 +141,7 @@ fn workflow_from(alloc: Global, path: &str, parts: WorkflowParts) -> Result<Work
 /// The workflow that a value stands for, where the file is this one.
 #[tactic(auto, unfolding(crate::specs::Workflow::workflow_of), using(crate::proofs::Faults::stands_made, crate::proofs::Faults::stands_memory, crate::proofs::Faults::ok_made))]
 pub(crate) fn read_workflow(alloc: Global, path: &str, json: &Value) -> Result<Workflow, FlowFault>
-    ensures { Answers result (workflow_of path.now (view json.now)) }
+    ensures { Gives result (workflow_of path.now (view json.now)) }
 {
     let parts = read_parts(alloc, json)?;
     Ok(workflow_from(alloc, path, parts)?)

@@ -1,4 +1,4 @@
-//! The values of a plan's texts where they stand.
+//! text_values: the values of a plan's texts where they stand.
 //!
 //! A text stands at a place (`Place`), which sees some of the contexts. A `Scene` makes the value of a context when
 //! it is asked, and `Known` keeps what was made and the variables that are seen as `env`: a context's value is made

@@ -1,7 +1,7 @@
 -- One token more leaves a shorter rest.
 use Rattle.std.proofs.Common.{◌≡◌, ℕ, ◌+◌, ◌-◌, Bool, Ok, Err, None, Some, Result, IfSome, length, sym, ap, subst, ◌∙◌, rules}
 use Rattle.expr_reader.specs.Expr.{Expr}
-use Rattle.expr_reader.specs.Faults.{fault_at, Answers}
+use Rattle.expr_reader.specs.Faults.{fault_at, Gives}
 use Rattle.expr_reader.specs.Lexer.{Lexed, next_at}
 use Rattle.expr_reader.specs.Machine.{is_dotted, limits, step}
 use Rattle.expr_reader.specs.Reading.{Failure, placed, read_tokens}
@@ -19,7 +19,7 @@ returns-in-Ok-None c =
     ap (λ (d : Bool). next_at d start) (sym c.is_dotted.ensures)
     ∙ placed_given place (next_at c.is_dotted.result start) (some_lexed c.in-Ok-None.field-0) c.in-Ok-None.ensures
     ∙ ap (λ o. Ok (some_lexed o)) c.in-Ok-None.field-0-is in
-    subst (λ (r : Result Expr Failure). Answers view c.finished.result r)
+    subst (λ (r : Result Expr Failure). Gives view c.finished.result r)
     (end_read c.args.base c.args.text.now c.tokens.rest.now start st c.tokens.invariant.0 c.split_run.ensures.back comes) c.finished.ensures
 
 pub returns-in_err-machine-in-Ok-Some : goal.returns-in_err-machine-in-Ok-Some
