@@ -12,3 +12,4 @@ pub mod Parts
 pub mod PrintedEntry
 pub mod Reading
 pub mod Record
+pub mod Report

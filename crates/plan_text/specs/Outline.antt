@@ -1,23 +1,27 @@
 -- The outline of a text: its JSON as it is spelled, before it is turned to data.
-use Rattle.std.specs.Prelude.{◌≡◌, ◌≤◌, ℕ, List, Some, Ok}
+use Rattle.std.specs.Prelude.{◌≡◌, ℕ, List, [], map, Some, Ok}
 use Rattle.json.specs.Json as json
-use Rattle.json.specs.Tree.{depth, members_depth, HasNumbers, MembersHaveNumbers}
-use Rattle.serde_json.specs.Data.{Data, Members}
+use Rattle.json.specs.Lex.{tokens}
+use Rattle.serde_json.specs.Data.{Data, Members, no_members}
 use Rattle.serde_json.specs.Read.{of_json, of_members}
 use Rattle.plan_text.specs.Fields.{put_each}
 use Rattle.plan_text.specs.Parts.{Reading}
 
--- its numbers are numbers, and it nests to 127
-abbrev pub IsOutline : json.Json → Type 0
-IsOutline j = HasNumbers j × (depth j ≤ 127)
-
--- the same of the members of an object
-abbrev pub AreOutlines : json.Members → Type 0
-AreOutlines ms = MembersHaveNumbers ms × (members_depth ms ≤ 126)
+-- this is the JSON of the whole text, nested to 127
+abbrev pub IsOutlineOf : List ℕ → json.Json → Type 0
+IsOutlineOf text j = json.value 127 (tokens text) ≡ Some (j, [])
 
 -- it stands for this data
 abbrev pub StandsFor : json.Json → Data → Type 0
 StandsFor j d = of_json j ≡ Some d
+
+-- each outline stands for the data at its place
+abbrev pub EachStandsFor : {A B : Type 0} → (A → json.Json) → (B → Data) → List A → List B → Type 0
+EachStandsFor outline data_of xs ys = map (λ x. of_json (outline x)) xs ≡ map (λ y. Some (data_of y)) ys
+
+-- the members of an object stand for these
+abbrev pub MembersStandFor : json.Members → Members → Type 0
+MembersStandFor js ds = of_members js no_members ≡ Some ds
 
 -- this part is read of the data that it stands for
 abbrev pub IsReadOf : {A : Type 0} → (Data → Reading A) → json.Json → A → Type 0

@@ -23,6 +23,8 @@ mod plan_writing;
 mod printed;
 mod reading;
 mod record;
+mod report;
+mod tree;
 mod writing;
 
 pub use board::board_text;

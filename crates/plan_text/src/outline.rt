@@ -5,19 +5,19 @@
 //! times the text. What is spelled in another order is refused here: it is for the reading of whole
 //! trees.
 
-ghost use Rattle.std.specs.Prelude.{◌≡◌, IfOk, Ok};
+ghost use Rattle.std.specs.Prelude.{◌≡◌, IfOk, Some, Ok};
 ghost use Rattle.json.specs.Value.{value_view};
-ghost use Rattle.serde_json.specs.View.{view};
+ghost use Rattle.serde_json.specs.Read.{read};
+ghost use Rattle.plan_text.specs.Document.{document};
 ghost use Rattle.plan_text.specs.Load.{load};
-ghost use Rattle.plan_text.specs.Outline.{IsOutline, StandsFor, IsReadOf};
+ghost use Rattle.plan_text.specs.Outline.{IsOutlineOf, StandsFor, IsReadOf};
 
-use crate::json_text::read_json;
 use crate::reading::{FromJson, Unread, refused};
+use crate::tree::tree_of;
 use flow_model::{
     Broken, CheckedPlan, Group, JobPlan, Mapping, Plan, Roots, RunPlan, Sequence, Text,
 };
 use json::{Error, Reader, Scratch};
-use serde_json::Value;
 use std::alloc::Global;
 
 /// How deep a text may nest.
@@ -33,13 +33,11 @@ trait FromOutline {
     fn from_outline(alloc: Global, outline: &json::Value<'_>) -> Result<Self, Unread>
     where
         Self: Sized,
-        requires { IsOutline (value_view outline.now) }
         ensures { IfOk result (λ part. StandsFor (value_view outline.now) (document part)) };
 }
 
 /// A part that is read of its tree.
 fn part_of<T: FromJson>(alloc: Global, outline: &json::Value<'_>) -> Result<T, Unread>
-    requires { IsOutline (value_view outline.now) }
     ensures { IfOk result (λ part. IsReadOf T.reading (value_view outline.now) part) }
 {
     let tree = tree_of(alloc, outline)?;
@@ -127,7 +125,7 @@ trait OutlineFields {
     ghost use Rattle.std.specs.Prelude.{ℕ, List, map};
     ghost use Rattle.serde_json.specs.Data.{Data};
     ghost use Rattle.json.specs.Value.{members_view};
-    ghost use Rattle.plan_text.specs.Outline.{AreOutlines, StandFor};
+    ghost use Rattle.plan_text.specs.Outline.{StandFor};
 
     /// Their documents, at these keys.
     ghost documents: { List (List ℕ) → Self → List (List ℕ × Data) };
@@ -139,7 +137,6 @@ trait OutlineFields {
     ) -> Result<Self, Unread>
     where
         Self: Sized,
-        requires { AreOutlines (members_view members.now) }
         ensures { IfOk result (λ parts. StandFor (members_view members.now)
             (documents (map (λ key. key.now) keys.now) parts)) };
 }
@@ -246,16 +243,33 @@ impl FromOutline for Plan {
     }
 }
 
-/// The tree of an outline. It goes by way of a text.
-fn tree_of(alloc: Global, outline: &json::Value<'_>) -> Result<Value, Unread>
-    requires { IsOutline (value_view outline.now) }
-    ensures { IfOk result (λ tree. StandsFor (value_view outline.now) (view tree)) }
+/// The outline of a text.
+fn outline_of<'a>(
+    alloc: Global,
+    text: &'a str,
+    scratch: &'a mut Scratch,
+) -> Result<json::Value<'a>, Unread>
+    ensures { IfOk result (λ outline. IsOutlineOf text.now (value_view outline)) }
 {
-    let text = json::to_vec(alloc, outline)?;
-    match read_json(alloc, text.as_slice())? {
-        Some(tree) => Ok(tree),
-        None => Err(refused(alloc, "")),
+    let mut reader = Reader::new(text, scratch)?;
+    let outline = match json::Value::read(alloc, &mut reader, MAX_DEPTH) {
+        Ok(outline) => outline,
+        Err(Error::OutOfMemory) => return Err(Unread::Memory),
+        Err(_) => return Err(refused(alloc, "")),
+    };
+    if reader.next().is_some() {
+        return Err(refused(alloc, ""));
     }
+    Ok(outline)
+}
+
+/// The plan of whose document a text is the outline.
+fn read_text(alloc: Global, text: &str) -> Result<Plan, Unread>
+    ensures { IfOk result (λ plan. read text.now ≡ Some (document plan)) }
+{
+    let mut scratch = Scratch::new(alloc);
+    let outline = outline_of(alloc, text, &mut scratch)?;
+    Plan::from_outline(alloc, &outline)
 }
 
 /// The plan whose document a text is, spelled in the order in which it is printed.
@@ -265,17 +279,7 @@ pub(crate) fn read_printed(alloc: Global, bytes: &[u8]) -> Result<CheckedPlan, U
     let Ok(text) = std::str::from_utf8(bytes) else {
         return Err(refused(alloc, ""));
     };
-    let mut scratch = Scratch::new(alloc);
-    let mut reader = Reader::new(text, &mut scratch)?;
-    let outline = match json::Value::read(alloc, &mut reader, MAX_DEPTH) {
-        Ok(outline) => outline,
-        Err(Error::OutOfMemory) => return Err(Unread::Memory),
-        Err(_) => return Err(refused(alloc, "")),
-    };
-    if reader.next().is_some() {
-        return Err(refused(alloc, ""));
-    }
-    let plan = Plan::from_outline(alloc, &outline)?;
+    let plan = read_text(alloc, text)?;
     match plan.check(alloc) {
         Ok(checked) => Ok(checked),
         Err(Broken::Rule(path)) => Err(Unread::Refused(path)),

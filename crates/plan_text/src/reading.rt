@@ -185,8 +185,9 @@ fn read_pairs<T: FromJson + Drop>(
 {
     let mut read = Mapping::empty(alloc);
     for (key, member) in members.iter() {
-        let name = Text::from_str(alloc, key.as_str())?;
-        read.insert(name, part(alloc, key.as_str(), member)?)?;
+        let name = key.as_str();
+        let value = part(alloc, name, member)?;
+        read.set(alloc, name, value)?;
     }
     Ok(read)
 }

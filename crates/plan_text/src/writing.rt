@@ -107,8 +107,9 @@ impl<T: ToJson> ToJson for Mapping<T> {
         let from = self.iter();
         let mut members = Mapping::empty(alloc);
         for (key, value) in from {
-            let name = Text::from_str(alloc, key.as_str())?;
-            members.insert(name, value.to_json(alloc)?)?;
+            let name = key.as_str();
+            let json = value.to_json(alloc)?;
+            members.set(alloc, name, json)?;
         }
         Ok(Value::Object(members.into_map()))
     }
@@ -144,7 +145,7 @@ fn put<T: ToJson>(
 }
 
 /// Members of an object that are to be written: a part and the members after it, or none.
-pub(crate) trait Members {
+pub(crate) trait Members: Copy {
     ghost use Rattle.std.specs.Prelude.{ℕ, List, map};
     ghost use Rattle.serde_json.specs.Data.{Data};
     ghost use Rattle.plan_text.specs.Fields.{put_each};
@@ -158,8 +159,6 @@ pub(crate) trait Members {
         members: &mut Map<String, Value>,
         keys: &[&str],
     ) -> Result<(), AllocError>
-    where
-        Self: Sized,
         ensures { OnOk result (members_view members.new.entries ≡ put_each
             (documents (map (λ key. key.now) keys.now) self) (members_view members.old.entries)) };
 }
@@ -179,7 +178,7 @@ impl Members for () {
     }
 }
 
-impl<'a, A: ToJson, R: Members + Drop> Members for (&'a A, R) {
+impl<'a, A: ToJson, R: Members> Members for (&'a A, R) {
     ghost use Rattle.plan_text.specs.Fields.{documents_at};
 
     ghost documents = { documents_at (λ part. A.writing part.now) R.documents };

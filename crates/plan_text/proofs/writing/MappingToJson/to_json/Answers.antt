@@ -16,7 +16,7 @@ loop-key-preserved g c =
     let written = map_values view c.loop-key.members in
     let all : written ++ (string_bytes c.in-Some.key.now, write c.in-Some.value.now) ∷ map_values write (pairs_of left) ≡ map_values write c.args.self.now =
     ap (λ es. written ++ map_values write (pairs_of es)) (sym c.in-Some.ensures.steps) ∙ c.loop-key.invariant in
-    rw (c.in_ok-insert.ensures.ok, map_values-with_pair view c.in_ok-name.name c.in_ok-to_json.field-0 c.loop-key.members, c.in_ok-name.ensures, c.as_str.ensures.value, c.in_ok-to_json.ensures)
+    rw (c.in_ok-set.ensures.ok, map_values-with_pair view c.as_str-name.result.now c.in_ok-json.json c.loop-key.members, c.as_str-name.ensures.value, c.in_ok-json.ensures)
     (with_pair-next written (string_bytes c.in-Some.key.now) (write c.in-Some.value.now) (map_values write (pairs_of left)) _ all
     (Ascends-map_values write c.args.self.now c.iter-from.ensures.ascends))
 
