@@ -6,12 +6,14 @@ ghost use Rattle.board_decisions.specs.Derived as spec;
 
 use flow_model::{DoneStep, Job, JobPlan, JobState, Leg, LegState, Outcome, Run, RunState};
 
+/// Whether a run has ended.
 pub fn is_closed(state: RunState) -> bool
     ensures { result ≡ spec.is_closed state }
 {
     matches!(state, RunState::Closed(_))
 }
 
+/// Whether a job was shut in place of being opened.
 fn is_shut(state: JobState) -> bool
     ensures { result ≡ spec.is_shut state }
 {
@@ -28,12 +30,14 @@ pub fn is_untaken(state: LegState) -> bool
     )
 }
 
+/// Whether a leg has ended by itself.
 fn is_ended(state: LegState) -> bool
     ensures { result ≡ spec.is_ended state }
 {
     matches!(state, LegState::Ended { .. })
 }
 
+/// Whether a leg has asked and has not ended.
 fn is_under_way(state: LegState) -> bool
     ensures { result ≡ spec.is_under_way state }
 {
@@ -43,18 +47,21 @@ fn is_under_way(state: LegState) -> bool
     )
 }
 
+/// Whether a result is a success.
 pub(crate) fn is_success(outcome: Outcome) -> bool
     ensures { result ≡ spec.is_success outcome }
 {
     matches!(outcome, Outcome::Success)
 }
 
+/// Whether a result is a failure.
 pub fn is_failure(outcome: Outcome) -> bool
     ensures { result ≡ spec.is_failure outcome }
 {
     matches!(outcome, Outcome::Failure)
 }
 
+/// Whether a result is that of what was cancelled.
 fn is_cancelled(outcome: Outcome) -> bool
     ensures { result ≡ spec.is_cancelled outcome }
 {
@@ -120,18 +127,21 @@ pub fn jobs_have_ended(run: &Run) -> bool
         .all(|job| job_has_ended(run, job))
 }
 
+/// Whether a leg ended with a failure that is not tolerated.
 pub(crate) fn is_any_failed(legs: &[Leg]) -> bool
     ensures { result ≡ list_any (λ leg. spec.has_failed leg.state) legs.now }
 {
     legs.iter().any(|leg| has_failed(leg.state))
 }
 
+/// Whether a leg ended cancelled.
 fn is_any_cancelled(legs: &[Leg]) -> bool
     ensures { result ≡ list_any (λ leg. spec.was_cancelled leg.state) legs.now }
 {
     legs.iter().any(|leg| was_cancelled(leg.state))
 }
 
+/// What the ends of its legs make of a job: a failure before cancelled ones.
 fn legs_result(legs: &[Leg]) -> Outcome
     ensures { result ≡ spec.legs_result legs.now }
 {
@@ -158,6 +168,7 @@ pub(crate) fn job_result(run: &Run, job: &Job) -> Outcome
     }
 }
 
+/// Whether a job of a run failed.
 fn is_any_job_failed(run: &Run) -> bool
     ensures { result ≡ spec.is_any_job_failed run.now }
 {
@@ -167,6 +178,7 @@ fn is_any_job_failed(run: &Run) -> bool
         .any(|job| is_failure(job_result(run, job)))
 }
 
+/// Whether a job of a run was cancelled.
 fn is_any_job_cancelled(run: &Run) -> bool
     ensures { result ≡ spec.is_any_job_cancelled run.now }
 {
@@ -189,12 +201,14 @@ pub fn run_result(run: &Run) -> Outcome
     }
 }
 
+/// Whether a done step counts as a failure.
 pub(crate) fn is_any_step_failed(steps: &[DoneStep]) -> bool
     ensures { result ≡ list_any (λ step. spec.is_failure step.conclusion) steps.now }
 {
     steps.iter().any(|step| is_failure(step.conclusion))
 }
 
+/// How many legs are under way.
 fn count_under_way(legs: &[Leg]) -> usize
     ensures { result ≡ count_by (λ leg. spec.is_under_way leg.state) legs.now }
 {

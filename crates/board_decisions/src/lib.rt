@@ -1,4 +1,4 @@
-//! What a board and its plan tell of each place, and what the texts of the place decide there.
+//! board_decisions: what a board and its plan tell of each place, and what the texts of the place decide there.
 //!
 //! `place` finds the run, job or leg with a number, and what was planned for it; `derived` says what follows from what
 //! stands there: what has ended, how jobs and runs count, and when a job has as many legs under way as it may have;
@@ -18,5 +18,6 @@ mod contexts;
 pub mod decisions;
 pub mod derived;
 pub mod entrance;
+mod nodes;
 pub mod place;
 mod scene;

@@ -1,7 +1,7 @@
 use Rattle.std.proofs.Common.{◌≡◌, ◌++◌}
 use Rattle.flow_model.specs.Mapping.{pairs_of}
 use Rattle.flow_model.specs.Value.{viewed}
-use Rattle.board_decisions.proofs.contexts.copy_values.Given as goal
+use Rattle.board_decisions.proofs.nodes.copy_values.Given as goal
 
 -- The values that were copied and those that are left are all.
 abbrev pub invariant-loop-name : goal.invariant-loop-name
