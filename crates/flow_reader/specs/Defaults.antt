@@ -2,6 +2,7 @@
 use Rattle.std.specs.Prelude.{ℕ, List, codes, map, Option, Some, None, Ok, ⊤}
 use Rattle.serde_json.specs.Data.{Data}
 use Rattle.flow_model.specs.declared.flow.FlowJob.{FlowJob}
+use Rattle.flow_model.specs.declared.flow.Workflow.{Workflow}
 use Rattle.flow_model.specs.declared.plan.Shell.{Shell}
 use Rattle.flow_model.specs.declared.plan.Shell.TheVariants.{Default, Sh, Bash}
 use Rattle.flow_model.specs.declared.plan.StepPlan.{StepPlan}
@@ -81,3 +82,13 @@ filled_job defaults j = record {
 -- the same of all jobs
 abbrev pub filled_jobs : Defaults → List FlowJob → List FlowJob
 filled_jobs defaults jobs = map (filled_job defaults) jobs
+
+-- the workflow whose jobs have its defaults
+abbrev pub filled_workflow : Defaults → Workflow → Workflow
+filled_workflow defaults w = record {
+  env = w.env;
+  events = w.events;
+  group = w.group;
+  jobs = filled_jobs defaults w.jobs;
+  name = w.name;
+}

@@ -1,6 +1,6 @@
 //! The shell and the directory that scripts have by default.
 
-ghost use Rattle.std.specs.Prelude.{◌≡◌, IfOk};
+ghost use Rattle.std.specs.Prelude.{◌≡◌, IfOk, map};
 ghost use Rattle.flow_reader.specs.Defaults as spec;
 
 use crate::fault::FlowFault;
@@ -10,6 +10,7 @@ use flow_model::{Duplicate, FlowJob, Sequence, Shell, StepPlan, Text, Work};
 use serde_json::Value;
 use std::alloc::{AllocError, Global};
 use std::marker::Model;
+use std::mem;
 
 /// What a job or workflow names for its scripts.
 #[derive(Drop)]
@@ -119,8 +120,32 @@ fn shell_or(shell: Shell, default: Shell) -> Shell
     }
 }
 
+/// The directory that is named, or else the other.
+fn dir_or_other(dir: Option<Text>, other: Option<Text>) -> Option<Text>
+    ensures { result ≡ spec.dir_or dir other }
+{
+    match dir {
+        Some(dir) => Some(dir),
+        None => other,
+    }
+}
+
+/// What a step does, with a shell and a directory of its own.
+pub(crate) fn own_work(own: Defaults, work: Work) -> Work
+    ensures { result ≡ spec.filled_work own work }
+{
+    match work {
+        Work::Run { dir, run, shell } => Work::Run {
+            dir: dir_or_other(dir, own.dir),
+            run,
+            shell: shell_or(shell, own.shell),
+        },
+        Work::Uses { uses, given } => Work::Uses { uses, given },
+    }
+}
+
 /// What a step does, with the defaults where its script names no shell or directory.
-pub(crate) fn fill_work(alloc: Global, defaults: &Defaults, work: Work) -> Result<Work, AllocError>
+fn fill_work(alloc: Global, defaults: &Defaults, work: Work) -> Result<Work, AllocError>
     ensures { IfOk result (λ filled. filled ≡ spec.filled_work defaults.now work) }
 {
     match work {
@@ -133,40 +158,69 @@ pub(crate) fn fill_work(alloc: Global, defaults: &Defaults, work: Work) -> Resul
     }
 }
 
-/// The same of a step.
-fn fill_step(alloc: Global, defaults: &Defaults, step: StepPlan) -> Result<StepPlan, AllocError>
-    ensures { IfOk result (λ filled. filled ≡ spec.filled_step defaults.now step) }
-{
-    let StepPlan {
-        condition,
-        env,
-        id,
-        name,
-        tolerate,
-        work,
-    } = step;
-    let work = fill_work(alloc, defaults, work)?;
-    Ok(StepPlan {
-        condition,
-        env,
-        id,
-        name,
-        tolerate,
-        work,
-    })
+/// What has scripts, which may have defaults.
+pub(crate) trait Fill {
+    ghost use Rattle.flow_reader.specs.declared.defaults.Defaults.{Defaults};
+
+    ghost filled: { Defaults → Self → Self };
+
+    /// The same with these defaults where its scripts name no shell or directory.
+    fn fill(self, alloc: Global, defaults: &Defaults) -> Result<Self, AllocError>
+    where
+        Self: Sized,
+        ensures { IfOk result (λ made. made ≡ filled defaults.now self) };
 }
 
-/// The same of all steps.
-pub(crate) fn fill_steps(
+impl Fill for StepPlan {
+    ghost use Rattle.flow_reader.specs.Defaults.{filled_step};
+
+    ghost filled = { filled_step };
+
+    fn fill(self, alloc: Global, defaults: &Defaults) -> Result<StepPlan, AllocError> {
+        let StepPlan {
+            condition,
+            env,
+            id,
+            name,
+            tolerate,
+            work,
+        } = self;
+        let work = fill_work(alloc, defaults, work)?;
+        Ok(StepPlan {
+            condition,
+            env,
+            id,
+            name,
+            tolerate,
+            work,
+        })
+    }
+}
+
+impl Fill for FlowJob {
+    ghost use Rattle.flow_reader.specs.Defaults.{filled_job};
+
+    ghost filled = { filled_job };
+
+    fn fill(self, alloc: Global, defaults: &Defaults) -> Result<FlowJob, AllocError> {
+        let mut filled = self;
+        let steps = mem::replace(&mut filled.steps, Sequence::empty(alloc));
+        filled.steps = fill_each(alloc, defaults, steps)?;
+        Ok(filled)
+    }
+}
+
+/// The same of a list.
+pub(crate) fn fill_each<T: Fill + Drop>(
     alloc: Global,
     defaults: &Defaults,
-    steps: Sequence<StepPlan>,
-) -> Result<Sequence<StepPlan>, AllocError>
-    ensures { IfOk result (λ filled. filled ≡ spec.filled_steps defaults.now steps) }
+    items: Sequence<T>,
+) -> Result<Sequence<T>, AllocError>
+    ensures { IfOk result (λ made. made ≡ map (T.filled defaults.now) items) }
 {
-    let mut filled = Sequence::empty(alloc);
-    for step in steps.into_vec() {
-        filled.push(fill_step(alloc, defaults, step)?)?;
+    let mut made = Sequence::empty(alloc);
+    for item in items.into_vec() {
+        made.push(item.fill(alloc, defaults)?)?;
     }
-    Ok(filled)
+    Ok(made)
 }

@@ -11,28 +11,28 @@ use thiserror::Error;
 #[derive(Debug, Drop, Error)]
 pub enum FlowFault {
     /// It is no JSON (RFC 8259).
-    #[error("{}", self.name())]
+    #[error("NotJson")]
     NotJson,
     /// A number in it has a fraction or an exponent, or is out of range.
-    #[error("{}", self.name())]
+    #[error("NotWhole")]
     NotWhole,
     /// Something that has to be there is missing at this key.
-    #[error("{name}({0:?})", name = self.name())]
+    #[error("Missing({0:?})")]
     Missing(Text),
     /// What stands at this path is of the wrong kind, or nested too deep: keys and places from the root, joined by dots.
-    #[error("{name}({0:?})", name = self.name())]
+    #[error("WrongShape({0:?})")]
     WrongShape(Text),
     /// This text is no id or name, or is the id of two steps of one job.
-    #[error("{name}({0:?})", name = self.name())]
+    #[error("BadId({0:?})")]
     BadId(Text),
     /// What stands at this key is left out of what workflows may say here.
-    #[error("{name}({0:?})", name = self.name())]
+    #[error("LeftOut({0:?})")]
     LeftOut(Text),
     /// A shell is neither `sh` nor `bash`.
-    #[error("{}", self.name())]
+    #[error("UnknownShell")]
     UnknownShell,
     /// There is no memory.
-    #[error("{}", self.name())]
+    #[error("Memory")]
     Memory,
 }
 

@@ -3,10 +3,10 @@
 ghost use Rattle.std.specs.Prelude.{◌≡◌, ◌==◌, IfOk, length};
 ghost use Rattle.serde_json.specs.View.{view, members_view};
 ghost use Rattle.flow_reader.specs.Checked.{Answers, members_checked};
-ghost use Rattle.flow_reader.specs.Defaults.{filled_job, filled_jobs};
+ghost use Rattle.flow_reader.specs.Defaults.{filled_job};
 ghost use Rattle.flow_reader.specs.Workflow.{job_from, job_parts_of, job_of, job_at, some_jobs};
 
-use crate::defaults::{Defaults, fill_steps};
+use crate::defaults::{Defaults, Fill};
 use crate::fault::FlowFault;
 use crate::maps::{Env, Outputs};
 use crate::parts::{Required, read_object};
@@ -59,15 +59,14 @@ fn read_parts(alloc: Global, json: &Value) -> Result<JobParts, FlowFault>
     read_object::<JobParts>(alloc, json, &keys)
 }
 
-/// The job that has these parts.
-fn job_from(alloc: Global, id: Text, parts: JobParts) -> Result<FlowJob, AllocError>
-    ensures { IfOk result (λ job. job ≡ job_from id parts) }
+/// The defaults of a job, and the job whose steps do not have them yet.
+fn spelled_job(id: Text, parts: JobParts) -> (Defaults, FlowJob)
+    ensures { filled_job result.0 result.1 ≡ job_from id parts }
 {
     let (_, (_, (_, (name, (needs, (condition, (strategy, (group, (tolerate, others))))))))) =
         parts;
     let (env, (defaults, (outputs, (steps, ())))) = others;
-    let steps = fill_steps(alloc, &defaults, steps.part.steps)?;
-    Ok(FlowJob {
+    let job = FlowJob {
         condition: condition.text,
         env: env.pairs,
         fail_fast: strategy.fail_fast,
@@ -78,9 +77,18 @@ fn job_from(alloc: Global, id: Text, parts: JobParts) -> Result<FlowJob, AllocEr
         name,
         needs: needs.ids,
         outputs: outputs.pairs,
-        steps,
+        steps: steps.part.steps,
         tolerate,
-    })
+    };
+    (defaults, job)
+}
+
+/// The job that has these parts.
+fn job_from(alloc: Global, id: Text, parts: JobParts) -> Result<FlowJob, AllocError>
+    ensures { IfOk result (λ job. job ≡ job_from id parts) }
+{
+    let (defaults, job) = spelled_job(id, parts);
+    job.fill(alloc, &defaults)
 }
 
 /// The job that has this id.
@@ -88,8 +96,8 @@ fn job_from(alloc: Global, id: Text, parts: JobParts) -> Result<FlowJob, AllocEr
 fn read_job(alloc: Global, id: &str, json: &Value) -> Result<FlowJob, FlowFault>
     ensures { Answers result (job_of id.now (view json.now)) }
 {
-    let parts = read_parts(alloc, json)?;
     let id = Text::from_str(alloc, id)?;
+    let parts = read_parts(alloc, json)?;
     Ok(job_from(alloc, id, parts)?)
 }
 
@@ -177,54 +185,4 @@ impl FromJson for Jobs {
             None => Err(wrong_shape(alloc)),
         }
     }
-}
-
-/// A job whose steps have these defaults where they have none.
-fn fill_job(alloc: Global, defaults: &Defaults, job: FlowJob) -> Result<FlowJob, AllocError>
-    ensures { IfOk result (λ filled. filled ≡ filled_job defaults.now job) }
-{
-    let FlowJob {
-        condition,
-        env,
-        fail_fast,
-        group,
-        id,
-        matrix,
-        max_parallel,
-        name,
-        needs,
-        outputs,
-        steps,
-        tolerate,
-    } = job;
-    let steps = fill_steps(alloc, defaults, steps)?;
-    Ok(FlowJob {
-        condition,
-        env,
-        fail_fast,
-        group,
-        id,
-        matrix,
-        max_parallel,
-        name,
-        needs,
-        outputs,
-        steps,
-        tolerate,
-    })
-}
-
-/// The same of all jobs.
-pub(crate) fn fill_jobs(
-    alloc: Global,
-    defaults: &Defaults,
-    jobs: Sequence<FlowJob>,
-) -> Result<Sequence<FlowJob>, AllocError>
-    ensures { IfOk result (λ filled. filled ≡ filled_jobs defaults.now jobs) }
-{
-    let mut filled = Sequence::empty(alloc);
-    for job in jobs.into_vec() {
-        filled.push(fill_job(alloc, defaults, job)?)?;
-    }
-    Ok(filled)
 }

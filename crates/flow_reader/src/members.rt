@@ -6,6 +6,7 @@ ghost use Rattle.flow_reader.specs.Checked.{Answers, of_members, pairs_checked, 
 
 use crate::fault::FlowFault;
 use crate::refusal::wrong_shape;
+use crate::texts::push_text;
 use flow_model::{Mapping, Sequence, Text};
 use serde_json::Value;
 use std::alloc::{AllocError, Global};
@@ -70,7 +71,7 @@ pub(crate) fn keys_of(
 {
     let mut keys = Sequence::empty(alloc);
     for (key, _json) in members.iter() {
-        keys.push(Text::from_str(alloc, key.as_str())?)?;
+        push_text(alloc, &mut keys, key.as_str())?;
     }
     Ok(keys)
 }

@@ -9,9 +9,9 @@ ghost use Rattle.std.specs.List.{list_any};
 ghost use Rattle.std.specs.Str.{bytes_eq};
 ghost use Rattle.flow_reader.specs.Checked.{Answers, both, made, under, defaulted};
 ghost use Rattle.flow_reader.specs.Parts.{text_of, inputs_of};
-ghost use Rattle.flow_reader.specs.Step.{work_at, script_of, action_in, distinct};
+ghost use Rattle.flow_reader.specs.Step.{script_of, action_in, step_from, distinct};
 
-use crate::defaults::{Defaults, fill_work};
+use crate::defaults::{Defaults, own_work};
 use crate::fault::FlowFault;
 use crate::maps::{Env, Inputs};
 use crate::parts::{Part, read_object, read_or};
@@ -100,12 +100,27 @@ fn id_text(id: Option<Id>) -> Option<Text>
     }
 }
 
+/// The step that has these parts, with the shell and the directory that it names itself.
+fn step_from(parts: StepParts) -> StepPlan
+    ensures { result ≡ step_from parts }
+{
+    let (id, (name, (condition, (env, (tolerate, (shell, (dir, (work, ())))))))) = parts;
+    StepPlan {
+        condition: condition.text,
+        env: env.pairs,
+        id: id_text(id),
+        name,
+        tolerate,
+        work: own_work(Defaults { dir, shell }, work),
+    }
+}
+
 impl FromJson for StepPlan {
     ghost use Rattle.flow_reader.specs.Step.{step_of};
 
     ghost reading = { step_of };
 
-    #[tactic(auto, unfolding(crate::specs::Step::step_of), using(crate::proofs::Faults::stands_made, crate::proofs::Faults::stands_memory, crate::proofs::Faults::ok_made))]
+    #[tactic(auto, unfolding(crate::specs::Step::step_of), using(crate::proofs::Faults::stands_made, crate::proofs::Faults::ok_made))]
     fn from_json(alloc: Global, json: &Value) -> Result<StepPlan, FlowFault> {
         let keys = [
             "id",
@@ -117,18 +132,7 @@ impl FromJson for StepPlan {
             "working-directory",
             "run",
         ];
-        let (id, (name, (condition, (env, (tolerate, (shell, (dir, (work, ())))))))) =
-            read_object::<StepParts>(alloc, json, &keys)?;
-        let own = Defaults { dir, shell };
-        let work = fill_work(alloc, &own, work)?;
-        Ok(StepPlan {
-            condition: condition.text,
-            env: env.pairs,
-            id: id_text(id),
-            name,
-            tolerate,
-            work,
-        })
+        Ok(step_from(read_object::<StepParts>(alloc, json, &keys)?))
     }
 }
 

@@ -4,7 +4,7 @@ ghost use Rattle.std.specs.Prelude.{◌≡◌, [], unwrap_or};
 ghost use Rattle.serde_json.specs.View.{view};
 ghost use Rattle.flow_model.specs.Flow.{is_matrix_key};
 ghost use Rattle.flow_reader.specs.Checked.{Answers};
-ghost use Rattle.flow_reader.specs.Strategy.{matrix_variables_of};
+ghost use Rattle.flow_reader.specs.Strategy.{matrix_variables_of, matrix_from, strategy_from};
 
 use crate::fault::FlowFault;
 use crate::members::{ReadsMember, read_map};
@@ -67,6 +67,21 @@ fn entries_or_none(alloc: Global, entries: Spelled<Entries>) -> Entries
     }
 }
 
+/// What an object says of a matrix besides its variables.
+type EntriesParts = (Spelled<Entries>, (Spelled<Entries>, ()));
+
+/// The matrix that has these variables and entries.
+fn matrix_from(alloc: Global, variables: Mapping<Sequence<Value>>, parts: EntriesParts) -> Matrix
+    ensures { result ≡ matrix_from (variables, parts) }
+{
+    let (exclude, (include, ())) = parts;
+    Matrix {
+        variables,
+        exclude: entries_or_none(alloc, exclude),
+        include: entries_or_none(alloc, include),
+    }
+}
+
 impl FromJson for Matrix {
     ghost use Rattle.flow_reader.specs.Strategy.{matrix_of};
 
@@ -76,14 +91,8 @@ impl FromJson for Matrix {
     fn from_json(alloc: Global, json: &serde_json::Value) -> Result<Matrix, FlowFault> {
         let variables = read_variables(alloc, json)?;
         let keys = ["exclude", "include"];
-        let (exclude, (include, ())) = read_object::<(Spelled<Entries>, (Spelled<Entries>, ()))>(
-            alloc, json, &keys,
-        )?;
-        Ok(Matrix {
-            variables,
-            exclude: entries_or_none(alloc, exclude),
-            include: entries_or_none(alloc, include),
-        })
+        let parts = read_object::<EntriesParts>(alloc, json, &keys)?;
+        Ok(matrix_from(alloc, variables, parts))
     }
 }
 
@@ -98,6 +107,18 @@ pub(crate) struct Strategy {
 /// What an object says of a strategy.
 type StrategyParts = (Spelled<bool>, (Spelled<Matrix>, (Spelled<u64>, ())));
 
+/// The strategy that has these parts.
+fn strategy_from(parts: StrategyParts) -> Strategy
+    ensures { result ≡ strategy_from parts }
+{
+    let (fail_fast, (matrix, (max_parallel, ()))) = parts;
+    Strategy {
+        fail_fast: fail_fast.part.unwrap_or(true),
+        matrix: matrix.part,
+        max_parallel: max_parallel.part,
+    }
+}
+
 impl FromJson for Strategy {
     ghost use Rattle.flow_reader.specs.Strategy.{strategy_of};
 
@@ -106,14 +127,7 @@ impl FromJson for Strategy {
     #[tactic(auto, unfolding(crate::specs::Strategy::strategy_of), using(crate::proofs::Faults::stands_made, crate::proofs::Faults::ok_made))]
     fn from_json(alloc: Global, json: &serde_json::Value) -> Result<Strategy, FlowFault> {
         let keys = ["fail-fast", "matrix", "max-parallel"];
-        let (fail_fast, (matrix, (max_parallel, ()))) = read_object::<StrategyParts>(
-            alloc, json, &keys,
-        )?;
-        Ok(Strategy {
-            fail_fast: fail_fast.part.unwrap_or(true),
-            matrix: matrix.part,
-            max_parallel: max_parallel.part,
-        })
+        Ok(strategy_from(read_object::<StrategyParts>(alloc, json, &keys)?))
     }
 }
 

@@ -1,6 +1,6 @@
 //! Texts of a workflow: names, ids, conditions, shells and flags.
 
-ghost use Rattle.std.specs.Prelude.{◌≡◌, [], ◌∷◌, ◌++◌, IfOk};
+ghost use Rattle.std.specs.Prelude.{◌≡◌, [], ◌∷◌, ◌++◌, Some, IfOk, OnOk};
 ghost use Rattle.std.specs.List.{list_any};
 ghost use Rattle.std.specs.Str.{bytes_eq};
 ghost use Rattle.serde_json.specs.View.{view};
@@ -12,7 +12,7 @@ use crate::parts::{Part, read_or};
 use crate::reading::FromJson;
 use crate::refusal::{bad_id, wrong_shape};
 use expr_reader::is_blank;
-use flow_model::{Duplicate, Flag, Sequence, Shell, Text, is_id};
+use flow_model::{Flag, Sequence, Shell, Text, is_id};
 use serde_json::Value;
 use std::alloc::{AllocError, Global};
 use std::marker::Model;
@@ -148,6 +148,14 @@ fn word_of(truth: bool) -> &'static str
     if truth { "true" } else { "false" }
 }
 
+/// The text of a truth value as a condition.
+fn of_truth(alloc: Global, truth: bool) -> Result<Condition, AllocError>
+    ensures { IfOk result (λ condition. condition ≡ Some (truth_text truth)) }
+{
+    let text = Text::from_str(alloc, word_of(truth))?;
+    Ok(Condition { text: Some(text) })
+}
+
 impl FromJson for Condition {
     ghost use Rattle.flow_reader.specs.Parts.{condition_of};
 
@@ -156,8 +164,7 @@ impl FromJson for Condition {
     #[tactic(auto, using(crate::proofs::Faults::stands_bad, crate::proofs::Faults::stands_memory))]
     fn from_json(alloc: Global, json: &Value) -> Result<Condition, FlowFault> {
         if let Some(truth) = json.as_bool() {
-            let text = Text::from_str(alloc, word_of(truth))?;
-            return Ok(Condition { text: Some(text) });
+            return Ok(of_truth(alloc, truth)?);
         }
         match json.as_str() {
             Some(text) => Ok(not_blank(alloc, text)?),
@@ -220,12 +227,25 @@ impl Part for Shell {
     }
 }
 
+/// Adds a copy of a text to others.
+pub(crate) fn push_text(
+    alloc: Global,
+    texts: &mut Sequence<Text>,
+    text: &str,
+) -> Result<(), AllocError>
+    ensures { OnOk result (texts.new ≡ texts.old ++ text.now ∷ []) }
+{
+    let text = Text::from_str(alloc, text)?;
+    texts.push(text)?;
+    Ok(())
+}
+
 /// A list of one text.
 fn one_text(alloc: Global, text: &str) -> Result<Sequence<Text>, AllocError>
     ensures { IfOk result (λ texts. texts ≡ text.now ∷ []) }
 {
     let mut texts = Sequence::empty(alloc);
-    texts.push(Text::from_str(alloc, text)?)?;
+    push_text(alloc, &mut texts, text)?;
     Ok(texts)
 }
 
@@ -260,7 +280,7 @@ fn each_once(alloc: Global, texts: &Sequence<Text>) -> Result<Sequence<Text>, Al
     let mut once = Sequence::empty(alloc);
     for (place, text) in from.iter().enumerate() {
         if !is_among(text.as_str(), &from[place + 1..]) {
-            once.push(text.copy(alloc)?)?;
+            push_text(alloc, &mut once, text.as_str())?;
         }
     }
     Ok(once)

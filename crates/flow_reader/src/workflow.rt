@@ -1,13 +1,14 @@
 //! The workflow that a JSON value stands for.
 
-ghost use Rattle.std.specs.Prelude.{◌≡◌, IfOk, unwrap_or};
+ghost use Rattle.std.specs.Prelude.{◌≡◌, [], Some, IfOk, unwrap_or};
 ghost use Rattle.serde_json.specs.View.{view};
 ghost use Rattle.flow_reader.specs.Checked.{Answers};
+ghost use Rattle.flow_reader.specs.Defaults.{filled_workflow};
 ghost use Rattle.flow_reader.specs.Workflow.{workflow_of, workflow_parts_of, workflow_from};
 
-use crate::defaults::Defaults;
+use crate::defaults::{Defaults, fill_each};
 use crate::fault::FlowFault;
-use crate::job::{Jobs, fill_jobs};
+use crate::job::Jobs;
 use crate::maps::Env;
 use crate::members::keys_of;
 use crate::parts::{Part, Required, read_object};
@@ -18,6 +19,7 @@ use flow_model::{Group, Sequence, Text, Workflow};
 use serde_json::Value;
 use std::alloc::{AllocError, Global};
 use std::marker::Model;
+use std::mem;
 
 /// The names of the events that start a workflow.
 #[derive(Drop)]
@@ -71,14 +73,14 @@ impl Part for Events {
     }
 }
 
-/// The keys of a workflow.
-type WorkflowParts = (
-    Option<Text>,
-    (
-        Events,
-        (Env, (Defaults, (Option<Group>, (Required<Jobs>, ())))),
-    ),
+/// The keys of a workflow besides its name.
+type BodyParts = (
+    Events,
+    (Env, (Defaults, (Option<Group>, (Required<Jobs>, ())))),
 );
+
+/// The keys of a workflow.
+type WorkflowParts = (Option<Text>, BodyParts);
 
 /// What an object says of a workflow.
 #[tactic(auto, unfolding(crate::specs::Workflow::workflow_parts_of))]
@@ -99,20 +101,43 @@ fn name_or(alloc: Global, name: Option<Text>, path: &str) -> Result<Text, AllocE
     }
 }
 
+/// The defaults of a workflow, and the workflow whose jobs do not have them yet.
+fn spelled_workflow(name: Text, others: BodyParts) -> (Defaults, Workflow)
+    ensures { filled_workflow result.0 result.1 ≡ workflow_from [] (Some name, others) }
+{
+    let (events, (env, (defaults, (group, (jobs, ()))))) = others;
+    let workflow = Workflow {
+        env: env.pairs,
+        events: events.names,
+        group,
+        jobs: jobs.part.jobs,
+        name,
+    };
+    (defaults, workflow)
+}
+
+/// A workflow whose jobs have these defaults where they have none.
+fn fill_workflow(
+    alloc: Global,
+    defaults: &Defaults,
+    workflow: Workflow,
+) -> Result<Workflow, AllocError>
+    ensures { IfOk result (λ filled. filled ≡ filled_workflow defaults.now workflow) }
+{
+    let mut filled = workflow;
+    let jobs = mem::replace(&mut filled.jobs, Sequence::empty(alloc));
+    filled.jobs = fill_each(alloc, defaults, jobs)?;
+    Ok(filled)
+}
+
 /// The workflow that has these parts.
 fn workflow_from(alloc: Global, path: &str, parts: WorkflowParts) -> Result<Workflow, AllocError>
     ensures { IfOk result (λ workflow. workflow ≡ workflow_from path.now parts) }
 {
-    let (name, (events, (env, (defaults, (group, (jobs, ())))))) = parts;
+    let (name, others) = parts;
     let name = name_or(alloc, name, path)?;
-    let jobs = fill_jobs(alloc, &defaults, jobs.part.jobs)?;
-    Ok(Workflow {
-        env: env.pairs,
-        events: events.names,
-        group,
-        jobs,
-        name,
-    })
+    let (defaults, workflow) = spelled_workflow(name, others);
+    fill_workflow(alloc, &defaults, workflow)
 }
 
 /// The workflow that a value stands for, where the file is this one.

@@ -11,9 +11,9 @@ returns-in_err-variables c =
     rw (p.1, p.2) (stands_made matrix_from _ c.in_err-variables.field-0.0
     (stands_left (matrix_variables_of (view c.args.json.now)) _ c.in_err-variables.field-0.0 c.in_err-variables.ensures))
 
-pub returns-in_err-exclude : goal.returns-in_err-exclude
+pub returns-in_err-parts : goal.returns-in_err-parts
 unfolding matrix_of
-returns-in_err-exclude c =
-    let p = err_from_is_err_and c.from_residual-in_err-exclude.result c.from_residual-in_err-exclude.ensures.1 in
-    rw (p.1, p.2) (stands_made matrix_from _ c.in_err-exclude.field-0.0
-    (stands_right (matrix_variables_of (view c.args.json.now)) _ c.in_err-exclude.field-0.0 c.in_err-exclude.ensures))
+returns-in_err-parts c =
+    let p = err_from_is_err_and c.from_residual-in_err-parts.result c.from_residual-in_err-parts.ensures.1 in
+    rw (p.1, p.2) (stands_made matrix_from _ c.in_err-parts.field-0.0
+    (stands_right (matrix_variables_of (view c.args.json.now)) _ c.in_err-parts.field-0.0 c.in_err-parts.ensures))
