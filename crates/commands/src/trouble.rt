@@ -15,13 +15,13 @@ use plan_text::LoadFault;
 use status_table::EventFault;
 
 /// The exit status of a command that did its work.
-pub const DONE: u8 = 0;
+pub(crate) const DONE: u8 = 0;
 
 /// The exit status where the words or a text are refused.
-pub const REFUSED: u8 = 2;
+pub(crate) const REFUSED: u8 = 2;
 
 /// The exit status where memory, a file or a stream fails.
-pub const FAILED: u8 = 3;
+pub(crate) const FAILED: u8 = 3;
 
 /// Why a command has nothing to tell.
 #[derive(Drop)]
@@ -124,12 +124,12 @@ fn say_unplanned<S: Sink>(err: &mut S, fault: PlanFault) -> bool
     match fault {
         PlanFault::Expr(_, inner) => say_unread(err, inner.name(), inner.place()),
         PlanFault::Matrix(_, inner) => say_name(err, "plan Matrix", inner.name()),
-        PlanFault::UnknownNeed => say_name(err, "plan", "UnknownNeed"),
-        PlanFault::Cycle => say_name(err, "plan", "Cycle"),
-        PlanFault::UnknownJob => say_name(err, "plan", "UnknownJob"),
-        PlanFault::NoWorkflow => say_name(err, "plan", "NoWorkflow"),
-        PlanFault::TooMany => say_name(err, "plan", "TooMany"),
-        PlanFault::Memory => say_name(err, "plan", "Memory"),
+        PlanFault::UnknownNeed
+        | PlanFault::Cycle
+        | PlanFault::UnknownJob
+        | PlanFault::NoWorkflow
+        | PlanFault::TooMany
+        | PlanFault::Memory => say_name(err, "plan", fault.name()),
     }
 }
 
