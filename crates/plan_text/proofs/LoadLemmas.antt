@@ -12,7 +12,7 @@ use Rattle.flow_model.specs.declared.event.Entry.{Entry}
 use Rattle.plan_text.specs.Document.{document, IsPlanDocument}
 use Rattle.plan_text.specs.EntryDocument.{entry_document, IsEntryDocument, entry_of, is_entry}
 use Rattle.plan_text.specs.Record.{entry_in, line_entry, on_line}
-use Rattle.plan_text.specs.Load.{json_read, IsTextOf, has_other_version, accepted, checked, loaded, load, Answers}
+use Rattle.plan_text.specs.Load.{json_read, IsTextOf, has_other_version, accepted, checked, loaded, load, Gives}
 use Rattle.plan_text.specs.Parts.{Reading}
 use Rattle.plan_text.specs.Reading.{plan_of}
 use Rattle.plan_text.specs.declared.fault.LoadFault.{LoadFault}
@@ -81,7 +81,7 @@ from_loaded (Some d) q e =
     (ap Some (plan_reads.only d q r.0), r.1)
 
 -- what is loaded has that document
-pub load_found : (r : Result Plan LoadFault) (bytes : List ℕ) → Answers r (load bytes) → IfOk r (λ p. IsTextOf IsPlanDocument bytes p)
+pub load_found : (r : Result Plan LoadFault) (bytes : List ℕ) → Gives r (load bytes) → IfOk r (λ p. IsTextOf IsPlanDocument bytes p)
 load_found (Ok p) bytes h = is_text document bytes p (from_loaded (json_read bytes) p h).0
 load_found (Err fault) bytes h = tt
 
@@ -110,12 +110,12 @@ from_on_line number None e is = absurd (cc)
 from_on_line number (Some f) e is = cc
 
 -- what is read has that document
-pub entry_found : (r : Result Entry LoadFault) (line : List ℕ) → Answers r (on_line 1 (line_entry line)) → IfOk r (λ e. IsTextOf IsEntryDocument line e)
+pub entry_found : (r : Result Entry LoadFault) (line : List ℕ) → Gives r (on_line 1 (line_entry line)) → IfOk r (λ e. IsTextOf IsEntryDocument line e)
 entry_found (Ok e) line h = is_text entry_document line e (from_entry_in (json_read line) e (from_on_line 1 (line_entry line) e h)).0
 entry_found (Err fault) line h = tt
 
 -- and is in the ranges
-pub entry_in_range : (r : Result Entry LoadFault) (line : List ℕ) → Answers r (on_line 1 (line_entry line)) → IfOk r (λ e. IsTrue (is_entry e))
+pub entry_in_range : (r : Result Entry LoadFault) (line : List ℕ) → Gives r (on_line 1 (line_entry line)) → IfOk r (λ e. IsTrue (is_entry e))
 entry_in_range (Ok e) line h = (from_entry_in (json_read line) e (from_on_line 1 (line_entry line) e h)).1
 entry_in_range (Err fault) line h = tt
 

@@ -47,10 +47,10 @@ abbrev pub load : List ℕ → Result Plan LoadFault
 load bytes = loaded (json_read bytes)
 
 -- The answer is this one; memory may run out besides.
-abbrev pub Answers : {A : Type 0} → Result A LoadFault → Result A LoadFault → Type 0
-Answers (Ok found) answer = answer ≡ Ok found
-Answers (Err NotJson) answer = answer ≡ Err NotJson
-Answers (Err Version) answer = answer ≡ Err Version
-Answers (Err (NotPlan path)) answer = answer ≡ Err (NotPlan path)
-Answers (Err (NotEntry line)) answer = answer ≡ Err (NotEntry line)
-Answers (Err Memory) answer = Unit {0}
+abbrev pub Gives : {A : Type 0} → Result A LoadFault → Result A LoadFault → Type 0
+Gives (Ok found) answer = answer ≡ Ok found
+Gives (Err NotJson) answer = answer ≡ Err NotJson
+Gives (Err Version) answer = answer ≡ Err Version
+Gives (Err (NotPlan path)) answer = answer ≡ Err (NotPlan path)
+Gives (Err (NotEntry line)) answer = answer ≡ Err (NotEntry line)
+Gives (Err Memory) answer = Unit {0}

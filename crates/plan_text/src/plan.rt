@@ -6,7 +6,7 @@ ghost use Rattle.serde_json.specs.Written.{compact_text};
 ghost use Rattle.flow_model.specs.Rules.{IsPlan, plan_rules};
 ghost use Rattle.flow_model.specs.declared.plan.Plan.{Plan};
 ghost use Rattle.plan_text.specs.Document.{document, IsPlanDocument};
-ghost use Rattle.plan_text.specs.Load.{json_read, IsTextOf, is_version_one, has_other_version, loaded, load, accepted, Answers};
+ghost use Rattle.plan_text.specs.Load.{json_read, IsTextOf, is_version_one, has_other_version, loaded, load, accepted, Gives};
 
 use crate::fault::LoadFault;
 use crate::json_text::read_json;
@@ -44,14 +44,14 @@ pub fn load_plan(alloc: Global, bytes: &[u8]) -> Result<CheckedPlan, LoadFault>
     ensures found { IfOk result (λ p. IsTextOf IsPlanDocument bytes.now p) }
     ensures sound { IfOk result (λ p. IsPlan p) }
     ensures only { (p : Plan) → IsPlan p → IsTextOf IsPlanDocument bytes.now p
-        → Answers result (Ok p) }
-    ensures exact { Answers result (load bytes.now) }
+        → Gives result (Ok p) }
+    ensures exact { Gives result (load bytes.now) }
 {
     load_bytes(alloc, bytes)
 }
 
 fn load_bytes(alloc: Global, bytes: &[u8]) -> Result<CheckedPlan, LoadFault>
-    ensures { Answers result (load bytes.now) }
+    ensures { Gives result (load bytes.now) }
 {
     // most plans are spelled as they are printed, and then no tree of the whole is needed
     match read_printed(alloc, bytes) {
@@ -62,7 +62,7 @@ fn load_bytes(alloc: Global, bytes: &[u8]) -> Result<CheckedPlan, LoadFault>
 }
 
 fn load_tree(alloc: Global, bytes: &[u8]) -> Result<CheckedPlan, LoadFault>
-    ensures { Answers result (load bytes.now) }
+    ensures { Gives result (load bytes.now) }
 {
     match read_json(alloc, bytes)? {
         Some(json) => load_json(alloc, &json),
@@ -71,7 +71,7 @@ fn load_tree(alloc: Global, bytes: &[u8]) -> Result<CheckedPlan, LoadFault>
 }
 
 fn load_json(alloc: Global, json: &Value) -> Result<CheckedPlan, LoadFault>
-    ensures { Answers result (loaded (Some (view json.now))) }
+    ensures { Gives result (loaded (Some (view json.now))) }
 {
     if has_other_version(json) {
         return Err(LoadFault::Version);
@@ -84,7 +84,7 @@ fn load_json(alloc: Global, json: &Value) -> Result<CheckedPlan, LoadFault>
 }
 
 fn check(alloc: Global, plan: Plan) -> Result<CheckedPlan, LoadFault>
-    ensures { Answers result (accepted plan (plan_rules plan)) }
+    ensures { Gives result (accepted plan (plan_rules plan)) }
 {
     match plan.check(alloc) {
         Ok(checked) => Ok(checked),
