@@ -8,7 +8,7 @@ ghost use Rattle.commands.specs.Contexts.{Gives};
 
 use expr_reader::Context;
 use flow_model::within::is_within;
-use flow_model::{JsonFault, Mapping, Text, Value, value_of};
+use flow_model::{JsonFault, Mapping, Text, Value, into_value};
 use plan_text::read_json;
 use std::alloc::{AllocError, AllocFailed, Global};
 use std::collections::BTreeMap;
@@ -92,10 +92,10 @@ fn within_depth(value: Value) -> Result<Value, Unread>
 }
 
 /// The map of a context.
-fn map_of(alloc: Global, json: &serde_json::Value) -> Result<Value, Unread>
-    ensures { Gives (λ v. v) result (spec.within_depth (value_of (json_view json.now))) }
+fn map_of(alloc: Global, json: serde_json::Value) -> Result<Value, Unread>
+    ensures { Gives (λ v. v) result (spec.within_depth (value_of (json_view json))) }
 {
-    match value_of(alloc, json) {
+    match into_value(alloc, json) {
         Ok(value) => within_depth(value),
         Err(JsonFault::NotWhole) => Err(Unread::Fault(ContextsFault::NotWhole)),
         Err(JsonFault::Memory) => Err(Unread::Memory),
@@ -103,8 +103,8 @@ fn map_of(alloc: Global, json: &serde_json::Value) -> Result<Value, Unread>
 }
 
 /// The map of a context.
-fn context_of(alloc: Global, json: &serde_json::Value) -> Result<Value, Unread>
-    ensures { Gives (λ v. v) result (spec.context_of (json_view json.now)) }
+fn context_of(alloc: Global, json: serde_json::Value) -> Result<Value, Unread>
+    ensures { Gives (λ v. v) result (spec.context_of (json_view json)) }
 {
     match json {
         serde_json::Value::Object(_) => map_of(alloc, json),
@@ -119,25 +119,24 @@ fn context_of(alloc: Global, json: &serde_json::Value) -> Result<Value, Unread>
 /// The contexts among the members of an object.
 fn contexts_of(
     alloc: Global,
-    members: &BTreeMap<String, serde_json::Value>,
+    members: BTreeMap<String, serde_json::Value>,
 ) -> Result<Mapping<Value>, Unread>
     ensures { Gives (λ contexts. contexts) result
-        (spec.contexts_with [] (members_view members.now.entries)) }
+        (spec.contexts_with [] (members_view members.entries)) }
 {
     let mut contexts = Mapping::empty(alloc);
-    for (key, json) in members.iter() {
+    for (key, json) in members {
         if is_context(key.as_str()) {
             let value = context_of(alloc, json)?;
-            let name = Text::from_str(alloc, key.as_str())?;
-            contexts.insert(name, value)?;
+            contexts.insert(Text::new(key), value)?;
         }
     }
     Ok(contexts)
 }
 
 /// The contexts of a document.
-fn document_contexts(alloc: Global, json: &serde_json::Value) -> Result<Mapping<Value>, Unread>
-    ensures { Gives (λ contexts. contexts) result (spec.document_contexts (json_view json.now)) }
+fn document_contexts(alloc: Global, json: serde_json::Value) -> Result<Mapping<Value>, Unread>
+    ensures { Gives (λ contexts. contexts) result (spec.document_contexts (json_view json)) }
 {
     match json {
         serde_json::Value::Object(members) => contexts_of(alloc, members),
@@ -154,7 +153,7 @@ pub(crate) fn file_contexts(alloc: Global, bytes: &[u8]) -> Result<Mapping<Value
     ensures { Gives (λ contexts. contexts) result (spec.file_contexts bytes.now) }
 {
     match read_json(alloc, bytes)? {
-        Some(json) => document_contexts(alloc, &json),
+        Some(json) => document_contexts(alloc, json),
         None => Err(Unread::Fault(ContextsFault::NotJson)),
     }
 }

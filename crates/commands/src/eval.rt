@@ -13,7 +13,7 @@ use crate::tell::{refuse_source, tell};
 use crate::trouble::Trouble;
 use expr_reader::{ExprFault, Tree, read_expr};
 use expr_value::Status;
-use flow_model::{Mapping, Text, Value, ValueFault, json_of};
+use flow_model::{Mapping, Text, Value, ValueFault, into_json};
 use std::alloc::{AllocError, Global};
 
 /// A fault of an expression's text, or want of memory.
@@ -58,16 +58,16 @@ fn value_of(alloc: Global, contexts: &Mapping<Value>, tree: &Tree) -> Result<Val
 }
 
 /// The compact JSON of a value.
-fn compact_json(alloc: Global, value: &Value) -> Result<String, AllocError>
-    ensures { IfOk result (λ text. string_bytes text ≡ compact_text (json_of_value value.now)) }
+fn compact_json(alloc: Global, value: Value) -> Result<String, AllocError>
+    ensures { IfOk result (λ text. string_bytes text ≡ compact_text (json_of_value value)) }
 {
-    let json = json_of(alloc, value)?;
+    let json = into_json(alloc, value)?;
     json.to_string(alloc)
 }
 
 /// The line of a value: its compact JSON, and a newline.
-fn line_of(alloc: Global, value: &Value) -> Result<String, AllocError>
-    ensures { IfOk result (λ line. string_bytes line ≡ spec.value_line value.now) }
+fn line_of(alloc: Global, value: Value) -> Result<String, AllocError>
+    ensures { IfOk result (λ line. string_bytes line ≡ spec.value_line value) }
 {
     let mut line = compact_json(alloc, value)?;
     line.push_str("\n")?;
@@ -102,7 +102,7 @@ fn answer(alloc: Global, file: &str, bytes: &[u8], expression: &str) -> Result<S
     let contexts = contexts_of(alloc, file, bytes)?;
     let tree = tree_of(alloc, expression)?;
     let value = value_of(alloc, &contexts, &tree)?;
-    match line_of(alloc, &value) {
+    match line_of(alloc, value) {
         Ok(line) => Ok(line),
         Err(_) => Err(Trouble::Memory),
     }

@@ -11,7 +11,7 @@ ghost use Rattle.flow_model.specs.Value.{view};
 
 use crate::bounded::limited;
 use crate::item::Item;
-use flow_model::{JsonFault, Node, ValueFault, json_of_node, value_of};
+use flow_model::{JsonFault, Node, ValueFault, into_value, json_of_node};
 use serde_json::Value;
 use std::alloc::{AllocError, Global};
 
@@ -32,11 +32,11 @@ pub(crate) fn to_json(alloc: Global, item: &Item<'_>) -> Result<Node, ValueFault
     limited(pretty(alloc, item)?)
 }
 
-// The value of a JSON value.
-fn value_of_json(alloc: Global, json: &Value) -> Result<Node, ValueFault>
-    ensures { Gives view result (whole_value (value_of_data (json_view json.now))) }
+// The value of a JSON value, which is taken apart.
+fn value_of_json(alloc: Global, json: Value) -> Result<Node, ValueFault>
+    ensures { Gives view result (whole_value (value_of_data (json_view json))) }
 {
-    match value_of(alloc, json) {
+    match into_value(alloc, json) {
         Ok(value) => Ok(value.into_node()),
         Err(JsonFault::NotWhole) => Err(ValueFault::NotWhole),
         Err(JsonFault::Memory) => Err(ValueFault::Memory),
@@ -48,7 +48,7 @@ pub(crate) fn from_json(alloc: Global, text: &str) -> Result<Node, ValueFault>
     ensures { Gives view result (value_read (read text.now)) }
 {
     match Value::from_str(alloc, text) {
-        Ok(json) => value_of_json(alloc, &json),
+        Ok(json) => value_of_json(alloc, json),
         Err(error) => {
             if error.is_memory() {
                 Err(ValueFault::Memory)

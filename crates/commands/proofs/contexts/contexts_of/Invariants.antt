@@ -5,4 +5,4 @@ use Rattle.commands.proofs.contexts.contexts_of.Given as goal
 
 -- what is left leads from the contexts so far to what all members lead to
 abbrev pub invariant-loop-key : goal.invariant-loop-key
-invariant-loop-key l = contexts_with l.contexts (members_view l.key-iterator) ≡ contexts_with [] (members_view l.members.entries)
+invariant-loop-key l = contexts_with l.contexts (members_view l.key-iterator) ≡ contexts_with [] (members_view l.fn.members.entries)

@@ -8,5 +8,5 @@ use Rattle.commands.proofs.eval.compact_json.Goals as goal
 
 pub returns : goal.returns
 returns c =
-    let is : view c.in_ok-json.json ≡ json_of c.args.value.now = c.in_ok-json.ensures.json in
-    IfOk-weaker c.to_string.result _ _ (λ s h. h (ap has_float is ∙ no_float c.args.value.now) ∙ ap compact_text is) c.to_string.ensures.text
+    let is : view c.in_ok-json.json ≡ json_of c.args.value = c.in_ok-json.ensures.json in
+    IfOk-weaker c.to_string.result _ _ (λ s h. h (ap has_float is ∙ no_float c.args.value) ∙ ap compact_text is) c.to_string.ensures.text
