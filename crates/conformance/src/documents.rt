@@ -40,9 +40,9 @@ fn deed_of<'a>(words: &[&'a str]) -> Option<Deed<'a>> {
     match word(words, 0) {
         "record" => Some(Deed::Print),
         "copy" => Some(Deed::Copy),
-        "apply" => Some(Deed::Play(Way::once(word(words, 1)))),
-        "insist" => Some(Deed::Play(Way::insisting())),
-        "replies" => Some(Deed::Play(Way::with_members())),
+        "apply" => Some(Deed::Play(Way::of(words))),
+        "insist" => Some(Deed::Play(Way::of(words))),
+        "replies" => Some(Deed::Play(Way::of(words))),
         "run" => Some(Deed::Run),
         "moves" => Some(Deed::Moves),
         _ => None,

@@ -54,15 +54,10 @@ pub fn fault_of(alloc: Global, kind: &str, text: &str) -> Option<ExprFault> {
     }
 }
 
-/// A fault.
-fn fault_text(alloc: Global, fault: ExprFault) -> Result<String, AllocError> {
-    fault.to_string(alloc)
-}
-
 /// The fault, or that the text is read.
 pub fn fault_told(alloc: Global, fault: Option<ExprFault>) -> Result<String, AllocError> {
     match fault {
-        Some(fault) => fault_text(alloc, fault),
+        Some(fault) => fault.to_string(alloc),
         None => String::from_str(alloc, "read"),
     }
 }
@@ -71,7 +66,7 @@ pub fn fault_told(alloc: Global, fault: Option<ExprFault>) -> Result<String, All
 pub fn tree_told(alloc: Global, text: &str) -> Result<String, AllocError> {
     match read_expr(alloc, text) {
         Ok(tree) => tree_text(alloc, &tree),
-        Err(fault) => fault_text(alloc, fault),
+        Err(fault) => fault.to_string(alloc),
     }
 }
 
@@ -86,7 +81,7 @@ fn tree_text(alloc: Global, tree: &Tree) -> Result<String, AllocError> {
 fn pieces_told(alloc: Global, read: Result<Template, ExprFault>) -> Result<String, AllocError> {
     match read {
         Ok(template) => pieces_text(alloc, &template),
-        Err(fault) => fault_text(alloc, fault),
+        Err(fault) => fault.to_string(alloc),
     }
 }
 
@@ -162,7 +157,7 @@ fn json_text(alloc: Global, value: &Value) -> Result<String, AllocError> {
 fn template_told(alloc: Global, text: &str, file: &[u8]) -> Result<String, AllocError> {
     match read_template(alloc, text) {
         Ok(template) => template_value(alloc, &template, file),
-        Err(fault) => fault_text(alloc, fault),
+        Err(fault) => fault.to_string(alloc),
     }
 }
 
@@ -196,7 +191,7 @@ fn truth_told(alloc: Global, answer: Result<bool, ValueFault>) -> Result<String,
 fn holds_told(alloc: Global, status: &str, text: &str, file: &[u8]) -> Result<String, AllocError> {
     match read_condition(alloc, text) {
         Ok(condition) => condition_holds(alloc, &condition, status_of(status), file),
-        Err(fault) => fault_text(alloc, fault),
+        Err(fault) => fault.to_string(alloc),
     }
 }
 

@@ -5,6 +5,7 @@
 
 use crate::members::{add_members, add_move};
 use crate::replies::reply_text;
+use crate::verbs::word;
 use flow_model::{Board, CheckedPlan, Duplicate, Entry, Reply};
 use plan_text::board_text;
 use status_table::{EventFault, PlainBoard, Table, run_entries};
@@ -22,30 +23,13 @@ pub struct Way<'a> {
 }
 
 impl<'a> Way<'a> {
-    /// Each entry once, reported by that worker.
-    pub fn once(worker: &'a str) -> Way<'a> {
+    /// The way of a verb, whose further word names the worker.
+    pub fn of(words: &[&'a str]) -> Way<'a> {
+        let verb = word(words, 0);
         Way {
-            worker,
-            insists: false,
-            tells_members: false,
-        }
-    }
-
-    /// Again where memory is wanting.
-    pub fn insisting() -> Way<'static> {
-        Way {
-            worker: "",
-            insists: true,
-            tells_members: false,
-        }
-    }
-
-    /// With the members that replies name.
-    pub fn with_members() -> Way<'static> {
-        Way {
-            worker: "",
-            insists: false,
-            tells_members: true,
+            worker: word(words, 1),
+            insists: verb == "insist",
+            tells_members: verb == "replies",
         }
     }
 }
