@@ -130,7 +130,7 @@ fn add_flow(alloc: Global, told: &mut String, text: &[u8]) -> Result<(), AllocEr
 }
 
 /// What a text is.
-fn reading(alloc: Global, text: &[u8]) -> &'static str {
+fn reading_of(alloc: Global, text: &[u8]) -> &'static str {
     match read_flow(alloc, PATH, text) {
         Ok(_) => WORKFLOWS,
         Err(fault) => fault.name(),
@@ -140,7 +140,7 @@ fn reading(alloc: Global, text: &[u8]) -> &'static str {
 fn cut_told(alloc: Global, input: &[u8]) -> Result<String, AllocError> {
     let mut count = 0_usize;
     for end in 0..input.len() {
-        if reading(alloc, &input[..end]) == WORKFLOWS {
+        if reading_of(alloc, &input[..end]) == WORKFLOWS {
             count = count.saturating_add(1);
         }
     }
@@ -154,7 +154,7 @@ fn garbled_told(alloc: Global, input: &[u8]) -> Result<String, AllocError> {
         let whole = text[place];
         for other in OTHERS {
             text[place] = other;
-            readings.push(reading(alloc, text.as_slice()))?;
+            readings.push(reading_of(alloc, text.as_slice()))?;
         }
         text[place] = whole;
     }
