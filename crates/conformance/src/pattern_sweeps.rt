@@ -11,7 +11,6 @@
 use crate::expressions::{fault_of, fault_told, tree_told};
 use crate::record_sweeps;
 use crate::sweep::Sweep;
-use crate::verbs::word;
 use expr_reader::ExprFault;
 use std::alloc::{AllocError, Global};
 use std::str;
@@ -24,13 +23,12 @@ pub fn told(
     input: &[u8],
 ) -> Result<String, AllocError> {
     let lines = str::from_utf8(file).unwrap_or("");
-    let pattern = word(words, 1);
-    match word(words, 0) {
-        "faults" => faults_told(alloc, pattern, lines),
-        "pairs" => pairs_told(alloc, pattern, lines),
-        "bytes" => bytes_told(alloc),
-        "nest" => nest_told(alloc, pattern, word(words, 2)),
-        "slices" => slices_told(alloc, lines),
+    match words {
+        ["faults", pattern] => faults_told(alloc, pattern, lines),
+        ["pairs", pattern] => pairs_told(alloc, pattern, lines),
+        ["bytes"] => bytes_told(alloc),
+        ["nest", pattern, text] => nest_told(alloc, pattern, text),
+        ["slices"] => slices_told(alloc, lines),
         _ => record_sweeps::told(alloc, words, input),
     }
 }
