@@ -170,15 +170,4 @@ GivesValue file expression bytes result = OrMemory (answer_seen result) (IsEvalA
 
 -- A fault of an expression's text, or want of memory.
 abbrev pub expression_trouble : ExprFault → Trouble
-expression_trouble (expr_fault.UnclosedText n) = NoExpression (expr_fault.UnclosedText n)
-expression_trouble (expr_fault.BadNumber n) = NoExpression (expr_fault.BadNumber n)
-expression_trouble (expr_fault.BadChar n) = NoExpression (expr_fault.BadChar n)
-expression_trouble (expr_fault.Unexpected n) = NoExpression (expr_fault.Unexpected n)
-expression_trouble (expr_fault.UnknownName n) = NoExpression (expr_fault.UnknownName n)
-expression_trouble (expr_fault.UnknownFunction n) = NoExpression (expr_fault.UnknownFunction n)
-expression_trouble (expr_fault.ArgumentCount n) = NoExpression (expr_fault.ArgumentCount n)
-expression_trouble (expr_fault.TooDeep n) = NoExpression (expr_fault.TooDeep n)
-expression_trouble (expr_fault.TooLong n) = NoExpression (expr_fault.TooLong n)
-expression_trouble (expr_fault.UnclosedTemplate n) = NoExpression (expr_fault.UnclosedTemplate n)
-expression_trouble (expr_fault.StatusHere n) = NoExpression (expr_fault.StatusHere n)
-expression_trouble (expr_fault.Memory n) = Memory
+expression_trouble fault = if is_none (fault_at fault) then Memory else NoExpression fault

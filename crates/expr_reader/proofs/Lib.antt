@@ -20,3 +20,4 @@ mod PieceLaws
 mod PieceLoop
 mod Conditions
 mod Accepts
+mod PlainTexts

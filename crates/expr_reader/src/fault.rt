@@ -1,7 +1,7 @@
 //! What is wrong with a text.
 
-ghost use Rattle.std.specs.Prelude.{◌≡◌};
-ghost use Rattle.expr_reader.specs.Faults.{fault_name, fault_place, fault_text};
+ghost use Rattle.std.specs.Prelude.{◌≡◌, is_none};
+ghost use Rattle.expr_reader.specs.Faults.{fault_at, fault_name, fault_place, fault_text};
 ghost use Rattle.expr_reader.specs.declared.fault.Refusal.TheVariants.{Memory};
 
 use std::alloc::{AllocError, AllocFailed};
@@ -76,6 +76,26 @@ impl ExprFault {
             | ExprFault::UnclosedTemplate(place)
             | ExprFault::StatusHere(place)
             | ExprFault::Memory(place) => place,
+        }
+    }
+
+    /// Whether the text is not at fault: no memory was left.
+    pub fn is_memory(self) -> bool
+        ensures { result ≡ is_none (fault_at self) }
+    {
+        match self {
+            ExprFault::Memory(_) => true,
+            ExprFault::UnclosedText(_)
+            | ExprFault::BadNumber(_)
+            | ExprFault::BadChar(_)
+            | ExprFault::Unexpected(_)
+            | ExprFault::UnknownName(_)
+            | ExprFault::UnknownFunction(_)
+            | ExprFault::ArgumentCount(_)
+            | ExprFault::TooDeep(_)
+            | ExprFault::TooLong(_)
+            | ExprFault::UnclosedTemplate(_)
+            | ExprFault::StatusHere(_) => false,
         }
     }
 }

@@ -37,7 +37,7 @@ pub use reader::{one_reading, read_expr};
 pub use status::names_status;
 pub use template::{Piece, Template};
 pub use templates::{
-    condition_reading, condition_test, marker_test, one_condition, one_template, read_condition,
-    read_template, template_reading, template_test,
+    condition_reading, condition_test, itself_reading, marker_test, one_condition, one_template,
+    read_condition, read_template, stands_for_itself, template_reading, template_test,
 };
 pub use tree::{Context, Equality, Function, Literal, Relation, Tree, Wildcard};

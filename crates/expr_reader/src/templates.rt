@@ -2,7 +2,7 @@
 
 ghost use Rattle.std.specs.Prelude.{◌≡◌, ℕ, ◌+◌, ◌^◌, ◌<◌, ◌↔◌, IsTrue, List, length, IfOk, IfErr};
 ghost use Rattle.expr_reader.specs.Template.{Piece as PieceOf, SpellsTemplate, IsTemplate, SpellsCondition, IsCondition, has_marker as has_marker_of, HoldsMarker};
-ghost use Rattle.expr_reader.specs.Accepts.{is_template, is_condition, template_read, condition_read, TemplatesAreRead, ConditionsAreRead, ReadsAs};
+ghost use Rattle.expr_reader.specs.Accepts.{is_template, is_condition, stands_for_itself as stands_for_itself_of, template_read, condition_read, TemplatesAreRead, ConditionsAreRead, ReadsAs, WhatStandsForItselfIsRead};
 ghost use Rattle.expr_reader.specs.Faults.{Gives};
 ghost use Rattle.expr_reader.specs.TemplateReading.{read_trimmed};
 ghost use Rattle.expr_reader.specs.TemplateStands.{IsReadAs, TemplateFaultStands, ConditionFaultStands};
@@ -105,6 +105,19 @@ fn read_trimmed(alloc: Global, text: &str, base: usize) -> Result<Template, Expr
         Err(fault) => Err(fault),
     }
 }
+
+/// Whether a text needs no reading as a template: no expression stands in it, and it is no longer than a template may
+/// be.
+pub fn stands_for_itself(text: &str) -> bool
+    ensures { result ≡ stands_for_itself_of text.now }
+{
+    text.len() <= LONGEST && !has_marker(text)
+}
+
+/// What stands for itself is a template of one piece, itself, or, where it is empty, of none.
+pub fn itself_reading()
+    ensures { WhatStandsForItselfIsRead }
+{}
 
 /// What `template_read` gives for a text is what the text spells as a template.
 pub fn template_reading()

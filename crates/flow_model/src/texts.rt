@@ -1,9 +1,9 @@
 //! The rules of texts that are evaluated: each is read, as a condition or as a template.
 
-ghost use Rattle.std.specs.Prelude.{◌≡◌, ◌&&◌, not, nat_le, length, IsTrue, IfOk, IfSome, List, Option, is_some};
+ghost use Rattle.std.specs.Prelude.{◌≡◌, IfOk, IfSome, List, Option, is_some};
 ghost use Rattle.expr_reader.specs.Accepts.{is_template, is_condition};
 ghost use Rattle.expr_reader.specs.Faults.{fault_at};
-ghost use Rattle.expr_reader.specs.Template.{Piece, has_marker};
+ghost use Rattle.expr_reader.specs.Template.{Piece};
 ghost use Rattle.flow_model.specs.Found as found;
 ghost use Rattle.flow_model.specs.Found.{Checks};
 ghost use Rattle.flow_model.specs.Rules as spec;
@@ -13,30 +13,17 @@ use crate::check::{Broken, rule};
 use crate::plan::Flag;
 use crate::text::Text;
 use expr_reader::{
-    ExprFault, condition_test, has_marker, read_condition, read_template, template_reading,
+    ExprFault, condition_test, itself_reading, read_condition, read_template, stands_for_itself,
     template_test,
 };
 use std::alloc::{AllocError, Global};
-
-/// The most bytes of a template.
-const LONGEST: usize = 1_048_576;
-
-/// Whether a text is a template that need not be read: it has no more bytes than one, and no expression stands in it.
-#[tactic(auto, using(crate::proofs::PlainTexts::plain_template))]
-fn is_plain(text: &str) -> bool
-    ensures exact { result ≡ (nat_le (length text.now) LONGEST && not (has_marker text.now)) }
-    ensures read { IsTrue result → IsTrue (is_template text.now) }
-{
-    template_reading();
-    text.len() <= LONGEST && !has_marker(text)
-}
 
 /// A text that has a fault is not what it was read as, unless it is want of memory.
 fn not_read(fault: ExprFault) -> Result<bool, AllocError>
     ensures { (pieces : Option (List Piece)) → IfSome (fault_at fault) (λ x. pieces ≡ None)
         → IfOk result (λ holds. holds ≡ is_some pieces) }
 {
-    if let ExprFault::Memory(_) = fault {
+    if fault.is_memory() {
         return Err(AllocError);
     }
     Ok(false)
@@ -46,7 +33,8 @@ fn not_read(fault: ExprFault) -> Result<bool, AllocError>
 pub(crate) fn is_template(alloc: Global, text: &str) -> Result<bool, AllocError>
     ensures { IfOk result (λ holds. holds ≡ is_template text.now) }
 {
-    if is_plain(text) {
+    itself_reading();
+    if stands_for_itself(text) {
         return Ok(true);
     }
     match read_template(alloc, text) {

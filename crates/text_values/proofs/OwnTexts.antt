@@ -1,8 +1,7 @@
--- A text in which no expression stands is its own value.
-use Rattle.std.proofs.Common.{◌≡◌, ℕ, ◌≤◌, true, false, nat_le, Ok, List, [], ◌∷◌, length, refl, sym, ap, ◌∙◌, arith, append-nil}
+-- A text that stands for itself is its own value.
+use Rattle.std.proofs.Common.{◌≡◌, ℕ, ◌≤◌, true, nat_le, Ok, List, [], ◌∷◌, length, ap, ◌∙◌, arith, append-nil}
 use Rattle.std.proofs.lemmas.Bool.Decides.{nat_tests}
-use Rattle.expr_reader.specs.Accepts.{TemplatesAreRead}
-use Rattle.expr_reader.specs.Template.{plain, has_marker, SpellsTemplate}
+use Rattle.expr_reader.specs.Accepts.{WhatStandsForItselfIsRead, stands_for_itself}
 use Rattle.expr_value.specs.Context.{Contexts}
 use Rattle.expr_value.specs.Limit.{limited}
 use Rattle.flow_model.specs.Plain.{text}
@@ -13,18 +12,14 @@ within bytes short =
     let test : nat_le (length bytes) 1048576 ≡ true = grind (arith, nat_tests) in
     rw test
 
-spelled : (b : ℕ) (bs : List ℕ) → has_marker (b ∷ bs) ≡ false → length (b ∷ bs) ≤ 1048576 → SpellsTemplate (plain (b ∷ bs) ∷ []) (b ∷ bs)
-spelled b bs unmarked short = record {
-  short = short;
-  pieces = ([], record { some = λ none. cc; unmarked = unmarked; ends = tt }, sym (append-nil (b ∷ bs)), refl);
-  plain_status = refl;
-}
+short_of : (bytes : List ℕ) → stands_for_itself bytes ≡ true → length bytes ≤ 1048576
+short_of bytes holds = grind (arith, nat_tests)
 
--- A text without `${{` and within the limit is its own value.
-pub own_value : TemplatesAreRead → (c : Contexts) (bytes : List ℕ) → has_marker bytes ≡ false → length bytes ≤ 1048576 → text_value c bytes ≡ Ok (text bytes)
+-- A text that stands for itself is its own value.
+pub own_value : WhatStandsForItselfIsRead → (c : Contexts) (bytes : List ℕ) → stands_for_itself bytes ≡ true → text_value c bytes ≡ Ok (text bytes)
 unfolding text_value
-own_value read c [] unmarked short = ap (read_value c) ((read [] []).1 (record { short = short; pieces = refl; plain_status = refl }))
-own_value read c (b ∷ bs) unmarked short =
-    ap (read_value c) ((read (b ∷ bs) (plain (b ∷ bs) ∷ [])).1 (spelled b bs unmarked short))
+own_value read c [] holds = ap (read_value c) (read [] holds)
+own_value read c (b ∷ bs) holds =
+    ap (read_value c) (read (b ∷ bs) holds)
     ∙ ap (λ (bytes : List ℕ). limited bytes) (append-nil (b ∷ bs))
-    ∙ within (b ∷ bs) short
+    ∙ within (b ∷ bs) (short_of (b ∷ bs) holds)

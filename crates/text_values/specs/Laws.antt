@@ -1,9 +1,8 @@
 -- Laws of the values, each the contract of a function that does nothing.
 use Rattle.std.specs.Prelude.{◌≡◌, ◌≤◌, ℕ, Bool, true, false, if◌then◌else◌, Some, None, Ok, Err, List, [], ◌∷◌, ◌++◌, length}
-use Rattle.expr_reader.specs.Accepts.{condition_read}
+use Rattle.expr_reader.specs.Accepts.{condition_read, stands_for_itself}
 use Rattle.expr_reader.specs.Expr.{call, none}
-use Rattle.expr_reader.specs.Sizes.{longest_template}
-use Rattle.expr_reader.specs.Template.{Piece, marked, has_marker, names_status, SpellsCondition}
+use Rattle.expr_reader.specs.Template.{Piece, marked, names_status, SpellsCondition}
 use Rattle.expr_reader.specs.declared.tree.Function.TheVariants.{Always}
 use Rattle.expr_reader.specs.declared.tree.Context.{Context}
 use Rattle.expr_value.specs.Context.{Contexts, context_value}
@@ -54,11 +53,10 @@ OutputStandsInItsPlace =
     (c : Contexts) (before after : Env) (name from bytes : List ℕ) → text_text c from ≡ Ok bytes
     → outputs_value c (before ++ (name, from) ∷ after) ≡ outputs_value c before ++ (name, bytes) ∷ outputs_value c after
 
--- A text within the limit in which no expression stands is its own value.
+-- A text that stands for itself is its own value.
 abbrev pub TextIsItself : Type 0
 TextIsItself =
-    (c : Contexts) (bytes : List ℕ) → has_marker bytes ≡ false → length bytes ≤ longest_template
-    → text_value c bytes ≡ Ok (text bytes)
+    (c : Contexts) (bytes : List ℕ) → stands_for_itself bytes ≡ true → text_value c bytes ≡ Ok (text bytes)
 
 -- The condition `always()` holds, whatever the status.
 abbrev pub AlwaysHolds : Type 0

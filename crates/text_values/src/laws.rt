@@ -5,18 +5,18 @@ ghost use Rattle.text_values.specs.Laws.{EnvHasItsNames, LevelsStayInOrder, Most
 ghost use Rattle.text_values.specs.Laws.{FaultTakesOutItsOutput, OutputStandsInItsPlace};
 ghost use Rattle.text_values.specs.Laws.{PlaceGivesWhatItSees};
 
-use expr_reader::{condition_reading, template_reading};
+use expr_reader::{condition_reading, itself_reading};
 
 /// A place gives a context its value where it sees it, and an empty map where it does not.
 pub fn place_gives_what_it_sees()
     ensures { PlaceGivesWhatItSees }
 {}
 
-/// A text within the limit in which no expression stands is its own value.
+/// A text that stands for itself (no expression stands in it, and it is no longer than a template) is its own value.
 pub fn text_is_itself()
     ensures { TextIsItself }
 {
-    template_reading();
+    itself_reading();
 }
 
 /// The condition `always()` holds, whatever the status.

@@ -1,8 +1,9 @@
 //! Texts and conditions where they stand.
 
-ghost use Rattle.std.specs.Prelude.{◌≡◌, IsTrue, IfOk, IfSome, List, Option, false, is_none, length, ◌≤◌};
+ghost use Rattle.std.specs.Prelude.{◌≡◌, IfOk, IfSome, List, Ok, Option, true};
+ghost use Rattle.expr_reader.specs.Accepts.{stands_for_itself as stands_for_itself_of};
 ghost use Rattle.expr_reader.specs.Faults.{fault_at};
-ghost use Rattle.expr_reader.specs.Template.{Piece, has_marker as has_marker_of};
+ghost use Rattle.expr_reader.specs.Template.{Piece};
 ghost use Rattle.expr_value.specs.Answer.{Gives};
 ghost use Rattle.expr_value.specs.Context.{Contexts};
 ghost use Rattle.expr_value.specs.declared.status.Status.{Status as StatusOf};
@@ -15,13 +16,10 @@ use crate::evaluate::{condition_read_at, is_success, template_at};
 use crate::known::Known;
 use crate::place::Place;
 use crate::scene::Scene;
-use expr_reader::{ExprFault, has_marker, read_condition, read_template, template_reading};
+use expr_reader::{ExprFault, itself_reading, read_condition, read_template, stands_for_itself};
 use expr_value::{Status, to_text};
 use flow_model::{Node, Text, Value, ValueFault};
 use std::alloc::{AllocError, Global};
-
-/// The most bytes of a template.
-const LONGEST: usize = 1_048_576;
 
 // A text as a value.
 fn value_of(alloc: Global, text: &str) -> Result<Value, AllocError>
@@ -30,42 +28,14 @@ fn value_of(alloc: Global, text: &str) -> Result<Value, AllocError>
     Ok(Value::new(Node::Text(Text::from_str(alloc, text)?)))
 }
 
-// Whether a text is its own value: no expression stands in it.
-fn is_its_own(text: &str) -> bool
-    ensures { IsTrue result → (has_marker_of text.now ≡ false) × (length text.now ≤ LONGEST) }
-{
-    text.len() <= LONGEST && !has_marker(text)
-}
-
-// The value of a text that is its own.
+// The value of a text that stands for itself.
 #[tactic(auto, using(crate::proofs::OwnTexts::own_value))]
 fn own_value(alloc: Global, text: &str) -> Result<Value, AllocError>
-    requires marker { has_marker_of text.now ≡ false }
-    requires short { length text.now ≤ LONGEST }
+    requires { stands_for_itself_of text.now ≡ true }
     ensures { (c : Contexts) → IfOk result (λ value. text_value c text.now ≡ Ok value) }
 {
-    template_reading();
+    itself_reading();
     value_of(alloc, text)
-}
-
-// Whether a text was not read for want of memory.
-fn is_memory(fault: ExprFault) -> bool
-    ensures { result ≡ is_none (fault_at fault) }
-{
-    match fault {
-        ExprFault::Memory(_) => true,
-        ExprFault::UnclosedText(_)
-        | ExprFault::BadNumber(_)
-        | ExprFault::BadChar(_)
-        | ExprFault::Unexpected(_)
-        | ExprFault::UnknownName(_)
-        | ExprFault::UnknownFunction(_)
-        | ExprFault::ArgumentCount(_)
-        | ExprFault::TooDeep(_)
-        | ExprFault::TooLong(_)
-        | ExprFault::UnclosedTemplate(_)
-        | ExprFault::StatusHere(_) => false,
-    }
 }
 
 // The value of what is no template.
@@ -74,7 +44,7 @@ fn unread_value(alloc: Global, fault: ExprFault) -> Result<Value, ValueFault>
         → IfSome (fault_at fault) (λ x. pieces ≡ None)
         → Gives (λ value. value) result (read_value c pieces) }
 {
-    if is_memory(fault) {
+    if fault.is_memory() {
         return Err(ValueFault::Memory);
     }
     Ok(value_of(alloc, "")?)
@@ -86,7 +56,7 @@ fn unread_holds(fault: ExprFault) -> Result<bool, ValueFault>
         → IfSome (fault_at fault) (λ x. pieces ≡ None)
         → Gives (λ holds. holds) result (read_holds c s pieces) }
 {
-    if is_memory(fault) {
+    if fault.is_memory() {
         return Err(ValueFault::Memory);
     }
     Ok(false)
@@ -108,7 +78,7 @@ pub(crate) fn value_at<S: Scene>(
     ensures env { known_env known.new ≡ known_env known.old }
     ensures known { IsKnownOf (S.values scene.now) known.new }
 {
-    if is_its_own(text) {
+    if stands_for_itself(text) {
         return Ok(own_value(alloc, text)?);
     }
     match read_template(alloc, text) {

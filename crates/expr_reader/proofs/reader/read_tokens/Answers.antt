@@ -4,7 +4,7 @@ use Rattle.expr_reader.specs.Expr.{Expr}
 use Rattle.expr_reader.specs.Faults.{fault_at, Gives}
 use Rattle.expr_reader.specs.Lexer.{Lexed, next_at}
 use Rattle.expr_reader.specs.Machine.{is_dotted, limits, step}
-use Rattle.expr_reader.specs.Reading.{Failure, placed, read_tokens}
+use Rattle.expr_reader.specs.Reading.{Failure, read_tokens}
 use Rattle.expr_reader.specs.Stack.{state_of, token_of, some_lexed}
 use Rattle.expr_reader.specs.View.{view}
 use Rattle.expr_reader.proofs.Loop.{placed_given, end_read, step_refused, shorter, goes_on}
