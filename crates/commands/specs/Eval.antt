@@ -1,5 +1,5 @@
 -- What `actrun eval` tells: the value of an expression over the contexts of a file, or why there is none.
-use Rattle.std.specs.Prelude.{◌≡◌, ℕ, ◌++◌, codes, List, String, Some, Result, Ok, Err}
+use Rattle.std.specs.Prelude.{◌≡◌, ℕ, ◌++◌, codes, if◌then◌else◌, is_none, List, String, Some, Result, Ok, Err}
 use Rattle.std.specs.declared.alloc.Global.{Global}
 use Rattle.serde_json.specs.Written.{compact_text}
 use Rattle.expr_reader.specs.Expr.{Expr}
@@ -8,7 +8,6 @@ use Rattle.expr_reader.specs.Reading.{Failure}
 use Rattle.expr_reader.specs.Spells.{Spells, IsExpression}
 use Rattle.expr_reader.specs.View.{view}
 use Rattle.expr_reader.specs.declared.fault.ExprFault.{ExprFault}
-use Rattle.expr_reader.specs.declared.fault.ExprFault.TheVariants as expr_fault
 use Rattle.expr_reader.specs.declared.tree.Tree.{Tree}
 use Rattle.expr_value.specs.Context.{Contexts}
 use Rattle.expr_value.specs.Evaluate.{evaluated}

@@ -20,20 +20,10 @@ use std::alloc::{AllocError, Global};
 fn expression_trouble(fault: ExprFault) -> Trouble
     ensures { result ≡ spec.expression_trouble fault }
 {
-    match fault {
-        ExprFault::Memory(_) => Trouble::Memory,
-        ExprFault::UnclosedText(_)
-        | ExprFault::BadNumber(_)
-        | ExprFault::BadChar(_)
-        | ExprFault::Unexpected(_)
-        | ExprFault::UnknownName(_)
-        | ExprFault::UnknownFunction(_)
-        | ExprFault::ArgumentCount(_)
-        | ExprFault::TooDeep(_)
-        | ExprFault::TooLong(_)
-        | ExprFault::UnclosedTemplate(_)
-        | ExprFault::StatusHere(_) => Trouble::NoExpression(fault),
+    if fault.is_memory() {
+        return Trouble::Memory;
     }
+    Trouble::NoExpression(fault)
 }
 
 /// The tree of an expression.

@@ -5,7 +5,7 @@ use crate::verbs::{Asked, CONTEXTS, Files, Found, perform};
 use std::alloc::{AllocError, Global};
 use std::collections::BTreeMap;
 use std::io::Write;
-use std::{io, mem, str};
+use std::{io, str};
 
 /// How many cases agree, and how many differ.
 #[derive(Clone, Copy)]
@@ -15,6 +15,22 @@ pub struct Told {
 }
 
 impl Told {
+    /// Of no cases.
+    pub fn none() -> Told {
+        Told {
+            agree: 0,
+            differ: 0,
+        }
+    }
+
+    /// Of one case.
+    fn one(agrees: bool) -> Told {
+        Told {
+            agree: u64::from(agrees),
+            differ: u64::from(!agrees),
+        }
+    }
+
     /// Both together.
     pub fn and(self, other: Told) -> Told {
         Told {
@@ -42,23 +58,20 @@ enum Kind {
 
 /// What a mark begins.
 fn kind_of(mark: &str) -> Kind {
-    match mark {
-        "#" => Kind::Name,
-        "$" => Kind::Word,
-        "?" => Kind::Verb,
-        "|" => Kind::File,
-        "/" => Kind::FileName,
-        "<" => Kind::Input,
-        ">" => Kind::Out,
-        "!" => Kind::Err,
-        "=" => Kind::Status,
-        ":" => Kind::Named,
+    match mark.as_bytes() {
+        b"#" => Kind::Name,
+        b"$" => Kind::Word,
+        b"?" => Kind::Verb,
+        b"|" => Kind::File,
+        b"/" => Kind::FileName,
+        b"<" => Kind::Input,
+        b">" => Kind::Out,
+        b"!" => Kind::Err,
+        b"=" => Kind::Status,
+        b":" => Kind::Named,
         _ => Kind::Prose,
     }
 }
-
-/// The texts with a name.
-type Texts = BTreeMap<String, Vec<u8>>;
 
 /// A case as it is read.
 #[derive(Drop)]
@@ -76,7 +89,7 @@ struct Case {
     err: Vec<u8>,
     status: Vec<u8>,
     limits: Limits,
-    texts: Texts,
+    texts: Files,
     /// The text of the line that is being read, what it is, and what stands behind the place of an edit.
     kind: Kind,
     text: Vec<u8>,
@@ -85,7 +98,7 @@ struct Case {
 }
 
 /// Adds the text of that name.
-fn add_named(texts: &Texts, name: &str, text: &mut Vec<u8>) -> Result<(), AllocError> {
+fn add_named(texts: &Files, name: &str, text: &mut Vec<u8>) -> Result<(), AllocError> {
     match texts.get(name) {
         Some(named) => text.extend_from_slice(named.as_slice()),
         None => text.extend_from_slice(b"(no such text)"),
@@ -121,35 +134,48 @@ fn add_file_line(
     }
 }
 
-/// Adds a text so many times, of which the number and the text stand in a line.
-fn add_repeated(text: &mut Vec<u8>, line: &str) -> Result<(), AllocError> {
-    let (count, part) = line.split_once(' ').unwrap_or((line, ""));
-    let count = count.parse::<u32>().unwrap_or(0);
-    for _ in 0..count {
-        text.extend_from_slice(part.as_bytes())?;
+/// Adds a part so many times.
+fn add_times(text: &mut Vec<u8>, part: &[u8], count: &str) -> Result<(), AllocError> {
+    for _ in 0..count.parse::<u32>().unwrap_or(0) {
+        text.extend_from_slice(part)?;
     }
     Ok(())
 }
 
-/// Adds the bytes that hexadecimal words name, each as often as stands behind a star.
+/// Adds a text so many times, of which the number and the text stand in a line.
+fn add_repeated(text: &mut Vec<u8>, line: &str) -> Result<(), AllocError> {
+    let (count, part) = line.split_once(' ').unwrap_or((line, ""));
+    add_times(text, part.as_bytes(), count)
+}
+
+/// Adds the byte that a hexadecimal word names, as often as stands behind a star.
+fn add_byte(text: &mut Vec<u8>, word: &str) -> Result<(), AllocError> {
+    let (byte, count) = word.split_once('*').unwrap_or((word, "1"));
+    let byte = u8::from_str_radix(byte, 16).unwrap_or(b'?');
+    add_times(text, &[byte], count)
+}
+
+/// Adds the bytes that words name.
 fn add_bytes(text: &mut Vec<u8>, line: &str) -> Result<(), AllocError> {
     for word in line.split_whitespace() {
-        let (byte, count) = word.split_once('*').unwrap_or((word, "1"));
-        let byte = u8::from_str_radix(byte, 16).unwrap_or(b'?');
-        for _ in 0..count.parse::<u32>().unwrap_or(0) {
-            text.push(byte)?;
-        }
+        add_byte(text, word)?;
     }
     Ok(())
 }
 
 /// Keeps a text by its name, its first word.
-fn keep(texts: &mut Texts, alloc: Global, line: &[u8]) -> Result<(), AllocError> {
+fn keep(texts: &mut Files, alloc: Global, line: &[u8]) -> Result<(), AllocError> {
     let line = str::from_utf8(line).unwrap_or("");
     let (name, text) = line.split_once(' ').unwrap_or((line, ""));
-    let name = String::from_str(alloc, name)?;
-    let text = Vec::from_slice(alloc, text.as_bytes())?;
-    drop(texts.insert(name, text)?);
+    begin_file(texts, alloc, name)?;
+    add_file_line(texts, name, text.as_bytes(), false)
+}
+
+/// Writes parts one after the other.
+fn put_all<O: Write>(out: &mut O, parts: &[&[u8]]) -> io::Result<()> {
+    for part in parts {
+        out.write_all(part)?;
+    }
     Ok(())
 }
 
@@ -231,15 +257,8 @@ impl Case {
         let text = self.text.as_slice();
         match self.kind {
             Kind::Prose => Ok(()),
-            Kind::Name => {
-                self.name.clear();
-                self.name.extend_from_slice(text)
-            },
-            Kind::Word => add_words(&mut self.words, alloc, text),
-            Kind::Verb => {
-                self.is_verb = true;
-                add_words(&mut self.words, alloc, text)
-            },
+            Kind::Name => add_line(&mut self.name, text, false),
+            Kind::Word | Kind::Verb => add_words(&mut self.words, alloc, text),
             Kind::File => self.take_file_line(alloc),
             Kind::FileName => self.take_file_name(alloc),
             Kind::Input => add_line(&mut self.input, text, self.is_ended),
@@ -269,23 +288,38 @@ impl Case {
         begin_file(&mut self.files, alloc, name)
     }
 
+    /// Notes what a mark tells by itself: another name begins, or the words are those of a verb.
+    fn note_kind(&mut self, kind: Kind) {
+        if kind == Kind::Name {
+            self.name.clear();
+        }
+        if kind == Kind::Verb {
+            self.is_verb = true;
+        }
+    }
+
     /// Begins a text.
     fn start(&mut self, alloc: Global, kind: Kind, text: &str) -> Result<(), AllocError> {
         self.finish(alloc)?;
         self.kind = kind;
         self.is_ended = true;
+        self.note_kind(kind);
         self.text.extend_from_slice(text.as_bytes())
     }
 
     /// Takes the first such part out of the text; what follows stands in its place.
-    fn cut(&mut self, alloc: Global, part: &str) -> Result<(), AllocError> {
-        let mut whole = mem::replace(&mut self.text, Vec::new(alloc));
-        whole.extend_from_slice(self.behind.as_slice())?;
+    fn cut(&mut self, part: &str) -> Result<(), AllocError> {
+        self.text.extend_from_slice(self.behind.as_slice())?;
         self.behind.clear();
-        let text = str::from_utf8(whole.as_slice()).unwrap_or("");
-        let (front, back) = text.split_once(part).unwrap_or(("(no such part)", ""));
-        self.text.extend_from_slice(front.as_bytes())?;
-        self.behind.extend_from_slice(back.as_bytes())
+        let text = str::from_utf8(self.text.as_slice()).unwrap_or("");
+        let Some((front, back)) = text.split_once(part) else {
+            self.text.clear();
+            return self.text.extend_from_slice(b"(no such part)");
+        };
+        let length = front.len();
+        self.behind.extend_from_slice(back.as_bytes())?;
+        self.text.truncate(length);
+        Ok(())
     }
 
     /// Takes the named texts as lines of the input.
@@ -301,12 +335,12 @@ impl Case {
     fn limit(&mut self, text: &str) {
         let (what, number) = text.split_once(' ').unwrap_or((text, ""));
         let number = number.parse::<usize>().unwrap_or(usize::MAX);
-        match what {
-            "words" => self.limits.words_fail = true,
-            "in" => self.limits.read_fails = true,
-            "out" => self.limits.out = number,
-            "err" => self.limits.err = number,
-            "step" => self.limits.step = number,
+        match what.as_bytes() {
+            b"words" => self.limits.words_fail = true,
+            b"in" => self.limits.read_fails = true,
+            b"out" => self.limits.out = number,
+            b"err" => self.limits.err = number,
+            b"step" => self.limits.step = number,
             _ => {},
         }
     }
@@ -314,18 +348,18 @@ impl Case {
     /// Reads a line of a file of cases.
     fn read_line(&mut self, alloc: Global, line: &str) -> Result<(), AllocError> {
         let (mark, text) = line.split_once(' ').unwrap_or((line, ""));
-        match mark {
-            "+" => self.text.extend_from_slice(text.as_bytes()),
-            "&" => add_named(&self.texts, text, &mut self.text),
-            "*" => add_repeated(&mut self.text, text),
-            "@" => add_bytes(&mut self.text, text),
-            "-" => self.cut(alloc, text),
-            "~" => self.take_named(alloc, text),
-            "\\" => {
+        match mark.as_bytes() {
+            b"+" => self.text.extend_from_slice(text.as_bytes()),
+            b"&" => add_named(&self.texts, text, &mut self.text),
+            b"*" => add_repeated(&mut self.text, text),
+            b"@" => add_bytes(&mut self.text, text),
+            b"-" => self.cut(text),
+            b"~" => self.take_named(alloc, text),
+            b"\\" => {
                 self.is_ended = false;
                 Ok(())
             },
-            "%" => {
+            b"%" => {
                 self.limit(text);
                 Ok(())
             },
@@ -333,12 +367,18 @@ impl Case {
         }
     }
 
-    /// Plays the case, and tells where it differs.
-    fn run<O: Write>(&self, alloc: Global, told: &mut O) -> io::Result<Told> {
+    /// The words.
+    fn words(&self, alloc: Global) -> Result<Vec<&str>, AllocError> {
         let mut words = Vec::new(alloc);
         for word in self.words.as_slice() {
             words.push(str::from_utf8(word.as_slice()).unwrap_or(""))?;
         }
+        Ok(words)
+    }
+
+    /// Plays the case, and tells where it differs.
+    fn run<O: Write>(&self, alloc: Global, told: &mut O) -> io::Result<Told> {
+        let words = self.words(alloc)?;
         let asked = Asked {
             is_verb: self.is_verb,
             words: words.as_slice(),
@@ -347,78 +387,49 @@ impl Case {
             limits: self.limits,
         };
         let found = perform(alloc, &asked)?;
-        self.compare(alloc, &found, told)
+        self.compare(&found, told)
     }
 
     /// Tells where what was found differs from what is wanted.
-    fn compare<O: Write>(&self, alloc: Global, found: &Found, told: &mut O) -> io::Result<Told> {
-        let status = found.status.to_string(alloc)?;
-        if self.agrees(found, status.as_str()) {
-            return Ok(Told {
-                agree: 1,
-                differ: 0,
-            });
+    fn compare<O: Write>(&self, found: &Found, told: &mut O) -> io::Result<Told> {
+        let agrees = self.agrees(found);
+        if !agrees {
+            self.tell(told, found)?;
         }
-        self.tell(told, found, status.as_str())?;
-        Ok(Told {
-            agree: 0,
-            differ: 1,
-        })
+        Ok(Told::one(agrees))
     }
 
     /// The wanted status.
-    fn status(&self) -> &[u8] {
+    fn status(&self) -> &str {
         if self.status.is_empty() {
-            b"0"
-        } else {
-            self.status.as_slice()
+            return "0";
         }
+        str::from_utf8(self.status.as_slice()).unwrap_or("")
     }
 
     /// Whether this is what is wanted.
-    fn agrees(&self, found: &Found, status: &str) -> bool {
+    fn agrees(&self, found: &Found) -> bool {
         found.out.text() == self.out.as_slice()
             && found.err.text() == self.err.as_slice()
-            && status.as_bytes() == self.status()
+            && self.status().parse::<u8>().ok() == Some(found.status)
     }
 
     /// Tells what was wanted and what was found.
-    fn tell<O: Write>(&self, told: &mut O, found: &Found, status: &str) -> io::Result<()> {
-        told.write_all(b"differs: ")?;
-        told.write_all(self.name.as_slice())?;
+    fn tell<O: Write>(&self, told: &mut O, found: &Found) -> io::Result<()> {
+        put_all(told, &[b"differs: ", self.name.as_slice()])?;
         for word in self.words.as_slice() {
-            told.write_all(b"\n  ")?;
-            told.write_all(word.as_slice())?;
+            put_all(told, &[b"\n  ", word.as_slice()])?;
         }
-        told.write_all(b"\nwanted, status ")?;
-        for part in [
-            self.status(),
-            b":\n",
-            self.out.as_slice(),
-            self.err.as_slice(),
-        ] {
-            told.write_all(part)?;
-        }
-        told.write_all(b"found, status ")?;
-        for part in [
-            status.as_bytes(),
-            b":\n",
-            found.out.text(),
-            found.err.text(),
-            b"\n",
-        ] {
-            told.write_all(part)?;
-        }
-        Ok(())
+        writeln!(told, "\nwanted, status {}:", self.status())?;
+        put_all(told, &[self.out.as_slice(), self.err.as_slice()])?;
+        writeln!(told, "found, status {}:", found.status)?;
+        put_all(told, &[found.out.text(), found.err.text(), b"\n"])
     }
 }
 
 /// Plays the cases of a text.
 pub fn run_cases<O: Write>(alloc: Global, text: &str, out: &mut O) -> io::Result<Told> {
-    let mut told = Told {
-        agree: 0,
-        differ: 0,
-    };
+    let mut told = Told::none();
     let mut case = Case::new(alloc);
     case.begin()?;
     begin_file(&mut case.files, alloc, CONTEXTS)?;
@@ -438,10 +449,7 @@ fn end_case<O: Write>(alloc: Global, case: &mut Case, out: &mut O) -> io::Result
     let told = if case.is_asked() {
         case.run(alloc, out)?
     } else {
-        Told {
-            agree: 0,
-            differ: 0,
-        }
+        Told::none()
     };
     case.begin()?;
     Ok(told)

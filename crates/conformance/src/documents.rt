@@ -6,22 +6,48 @@
 //!   copy            the same of copies, whose plan was checked anew
 //!   apply [WORKER]  the reply to each entry of the record, reported by that worker, and the board after them
 //!   insist          the same, where an entry that is refused for want of memory is played again
+//!   replies         the same with the members that each reply names
 //!   run             how far the record can be played, and a copy of the board after it
+//!   moves           the moves that are open after the entries of the record, one a line, or `none`
 //!   sample board    a copy of a board with all that its lines can tell
 //!   sample reply    a copy of a reply that calls an action
 //!
-//! What is refused is told by its fault, with its path or line. `groups` stands in `group_calls`, `replies` and `moves`
-//! in `members`.
+//! What is refused is told by its fault, with its path or line. Records are played in `plays`; `groups` stands in
+//! `group_calls`.
 
+use crate::plays::{Way, board_told, moves, played, replies};
 use crate::replies::reply_text;
-use crate::{expressions, group_calls, members, samples};
-use flow_model::{Board, Broken, CheckedPlan, Duplicate, Entry, Sequence};
+use crate::verbs::word;
+use crate::{expressions, group_calls, samples};
+use flow_model::{Broken, CheckedPlan, Duplicate, Entry, Sequence};
 use plan_text::{
-    LoadFault, board_text, load_plan, load_record, print_entry, print_plan, print_record,
-    read_entry,
+    LoadFault, load_plan, load_record, print_entry, print_plan, print_record, read_entry,
 };
-use status_table::{EventFault, PlainBoard, Table, run_entries};
 use std::alloc::{AllocError, Global};
+
+/// What is done with a record.
+#[derive(Clone, Copy)]
+enum Deed<'a> {
+    Print,
+    Copy,
+    Play(Way<'a>),
+    Run,
+    Moves,
+}
+
+/// What a verb of records does.
+fn deed_of<'a>(words: &[&'a str]) -> Option<Deed<'a>> {
+    match word(words, 0) {
+        "record" => Some(Deed::Print),
+        "copy" => Some(Deed::Copy),
+        "apply" => Some(Deed::Play(Way::of(words))),
+        "insist" => Some(Deed::Play(Way::of(words))),
+        "replies" => Some(Deed::Play(Way::of(words))),
+        "run" => Some(Deed::Run),
+        "moves" => Some(Deed::Moves),
+        _ => None,
+    }
+}
 
 /// What a verb of these tells; other words are those of expressions or sweeps.
 pub fn told(
@@ -30,20 +56,14 @@ pub fn told(
     file: &[u8],
     input: &[u8],
 ) -> Result<String, AllocError> {
-    match words {
-        ["plan"] => plan_told(alloc, input),
-        ["entry"] => entry_told(alloc, input),
-        ["record"] => record_told(alloc, input),
-        ["copy"] => copy_told(alloc, input),
-        ["apply"] => apply_told(alloc, input, ""),
-        ["apply", worker] => apply_told(alloc, input, worker),
-        ["insist"] => insist_told(alloc, input),
-        ["run"] => run_told(alloc, input),
-        ["sample", "board"] => sample_board(alloc),
-        ["sample", "reply"] => sample_reply(alloc),
-        ["groups"] => group_calls::told(alloc, input),
-        ["replies"] => members::replies_told(alloc, input),
-        ["moves"] => members::moves_told(alloc, input),
+    if let Some(deed) = deed_of(words) {
+        return record_told(alloc, input, deed);
+    }
+    match word(words, 0) {
+        "plan" => plan_told(alloc, input),
+        "entry" => entry_told(alloc, input),
+        "sample" => sample_told(alloc, word(words, 1)),
+        "groups" => group_calls::told(alloc, input),
         _ => expressions::told(alloc, words, file, input),
     }
 }
@@ -53,9 +73,9 @@ pub fn fault_text(alloc: Global, fault: &LoadFault) -> Result<String, AllocError
     match fault {
         LoadFault::NotPlan(path) => format!(in alloc; "NotPlan {}", path.as_str()),
         LoadFault::NotEntry(line) => format!(in alloc; "NotEntry {line}"),
-        LoadFault::NotJson => String::from_str(alloc, "NotJson"),
-        LoadFault::Version => String::from_str(alloc, "Version"),
-        LoadFault::Memory => String::from_str(alloc, "Memory"),
+        LoadFault::NotJson | LoadFault::Version | LoadFault::Memory => {
+            String::from_str(alloc, fault.name())
+        },
     }
 }
 
@@ -73,17 +93,26 @@ fn entry_told(alloc: Global, input: &[u8]) -> Result<String, AllocError> {
     }
 }
 
-fn record_told(alloc: Global, input: &[u8]) -> Result<String, AllocError> {
+fn record_told(alloc: Global, input: &[u8], deed: Deed<'_>) -> Result<String, AllocError> {
     match load_record(alloc, input) {
-        Ok((plan, entries)) => print_record(alloc, &plan, entries.as_slice()),
+        Ok((plan, entries)) => deed_told(alloc, &plan, &entries, deed),
         Err(fault) => fault_text(alloc, &fault),
     }
 }
 
-fn copy_told(alloc: Global, input: &[u8]) -> Result<String, AllocError> {
-    match load_record(alloc, input) {
-        Ok((plan, entries)) => copied_record(alloc, &plan, &entries),
-        Err(fault) => fault_text(alloc, &fault),
+/// What is told of a record.
+fn deed_told(
+    alloc: Global,
+    plan: &CheckedPlan,
+    entries: &Sequence<Entry>,
+    deed: Deed<'_>,
+) -> Result<String, AllocError> {
+    match deed {
+        Deed::Print => print_record(alloc, plan, entries.as_slice()),
+        Deed::Copy => copied_record(alloc, plan, entries),
+        Deed::Play(way) => replies(alloc, plan, entries.as_slice(), way),
+        Deed::Run => played(alloc, plan, entries.as_slice()),
+        Deed::Moves => moves(alloc, plan, entries.as_slice()),
     }
 }
 
@@ -102,17 +131,11 @@ fn copied_record(
     }
 }
 
-fn apply_told(alloc: Global, input: &[u8], worker: &str) -> Result<String, AllocError> {
-    match load_record(alloc, input) {
-        Ok((plan, entries)) => replies(alloc, &plan, entries.as_slice(), worker),
-        Err(fault) => fault_text(alloc, &fault),
+fn sample_told(alloc: Global, what: &str) -> Result<String, AllocError> {
+    if what == "reply" {
+        return sample_reply(alloc);
     }
-}
-
-/// The text of a copy of the board.
-fn board_told(alloc: Global, board: &Board) -> Result<String, AllocError> {
-    let twin = board.copy(alloc)?;
-    board_text(alloc, &twin)
+    sample_board(alloc)
 }
 
 fn sample_board(alloc: Global) -> Result<String, AllocError> {
@@ -123,116 +146,4 @@ fn sample_board(alloc: Global) -> Result<String, AllocError> {
 fn sample_reply(alloc: Global) -> Result<String, AllocError> {
     let reply = samples::reply(alloc)?;
     reply_text(alloc, &reply)
-}
-
-/// The text of the board of a table.
-pub fn shown(alloc: Global, board: &PlainBoard) -> Result<String, AllocError> {
-    let view = board.view()?;
-    board_told(alloc, &view)
-}
-
-/// The replies to entries, one a line, and the board after them.
-fn replies(
-    alloc: Global,
-    plan: &CheckedPlan,
-    entries: &[Entry],
-    worker: &str,
-) -> Result<String, AllocError> {
-    let mut board = PlainBoard::new(alloc, plan)?;
-    let mut told = String::new(alloc);
-    for entry in entries {
-        add_reply(alloc, &mut board, entry, worker, &mut told)?;
-    }
-    add_board(alloc, &board, &mut told)?;
-    Ok(told)
-}
-
-fn insist_told(alloc: Global, input: &[u8]) -> Result<String, AllocError> {
-    match load_record(alloc, input) {
-        Ok((plan, entries)) => insisted(alloc, &plan, entries.as_slice()),
-        Err(fault) => fault_text(alloc, &fault),
-    }
-}
-
-/// The replies to entries, each played again where there was no memory, and the board after them.
-fn insisted(alloc: Global, plan: &CheckedPlan, entries: &[Entry]) -> Result<String, AllocError> {
-    let mut board = PlainBoard::new(alloc, plan)?;
-    let mut told = String::new(alloc);
-    for entry in entries {
-        let is_answered = add_reply(alloc, &mut board, entry, "", &mut told)?;
-        if !is_answered {
-            add_reply(alloc, &mut board, entry, "", &mut told)?;
-        }
-    }
-    add_board(alloc, &board, &mut told)?;
-    Ok(told)
-}
-
-/// Adds the board of a table.
-pub fn add_board(alloc: Global, board: &PlainBoard, told: &mut String) -> Result<(), AllocError> {
-    let shown = shown(alloc, board)?;
-    told.push_str(shown.as_str())
-}
-
-/// Plays a copy of the entry, reported by that worker, and adds the reply. It answers whether there was memory.
-fn add_reply(
-    alloc: Global,
-    board: &mut PlainBoard,
-    entry: &Entry,
-    worker: &str,
-    told: &mut String,
-) -> Result<bool, AllocError> {
-    let worker = worker.parse::<u8>().unwrap_or(entry.worker);
-    let event = entry.event.copy(alloc)?;
-    let reply = applied(alloc, board, Entry { worker, event })?;
-    writeln!(told, "{reply}")?;
-    Ok(reply.as_str() != "refused Memory")
-}
-
-/// Plays an entry. A refusal that changes the board is told as such.
-fn applied(alloc: Global, board: &mut PlainBoard, entry: Entry) -> Result<String, AllocError> {
-    let before = shown(alloc, board)?;
-    match board.apply(entry) {
-        Ok(reply) => reply_text(alloc, &reply),
-        Err(fault) => {
-            let after = shown(alloc, board)?;
-            refusal_text(alloc, fault, after.as_str() == before.as_str())
-        },
-    }
-}
-
-/// A refusal.
-pub fn refusal_text(alloc: Global, fault: EventFault, is_same: bool) -> Result<String, AllocError> {
-    if is_same {
-        format!(in alloc; "refused {fault}")
-    } else {
-        format!(in alloc; "refused {fault}, and the board is changed")
-    }
-}
-
-fn run_told(alloc: Global, input: &[u8]) -> Result<String, AllocError> {
-    match load_record(alloc, input) {
-        Ok((plan, entries)) => played(alloc, &plan, entries.as_slice()),
-        Err(fault) => fault_text(alloc, &fault),
-    }
-}
-
-/// How far entries can be played, and the board after them.
-fn played(alloc: Global, plan: &CheckedPlan, entries: &[Entry]) -> Result<String, AllocError> {
-    let mut board = PlainBoard::new(alloc, plan)?;
-    let outcome = run_entries(alloc, &mut board, entries);
-    outcome_text(alloc, outcome, &board)
-}
-
-/// What came of a run, and its board.
-fn outcome_text(
-    alloc: Global,
-    outcome: Result<(), (usize, EventFault)>,
-    board: &PlainBoard,
-) -> Result<String, AllocError> {
-    let board = shown(alloc, board)?;
-    match outcome {
-        Ok(()) => format!(in alloc; "played\n{board}"),
-        Err((place, fault)) => format!(in alloc; "refused entry {place} {fault}\n{board}"),
-    }
 }

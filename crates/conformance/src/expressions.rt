@@ -12,13 +12,16 @@
 
 use crate::pattern_sweeps;
 use crate::tree_text::{write_pieces, write_tree};
+use crate::verbs::word;
 use expr_reader::{
-    ExprFault, Template, fold, names_status, read_condition, read_expr, read_template, same_text,
+    ExprFault, Template, Tree, fold, names_status, read_condition, read_expr, read_template,
+    same_text,
 };
 use expr_value::{Status, eval_condition, eval_text, loose_eq, to_text, truthy};
-use flow_model::{Duplicate, Mapping, Node, Text, Value, ValueFault, json_of, value_of};
+use flow_model::{Duplicate, Mapping, Node, Value, ValueFault, json_of, value_of};
 use plan_text::read_json;
 use std::alloc::{AllocError, Global};
+use std::collections::BTreeMap;
 
 /// What a verb of these tells; other words are those of sweeps.
 pub fn told(
@@ -27,16 +30,17 @@ pub fn told(
     file: &[u8],
     input: &[u8],
 ) -> Result<String, AllocError> {
-    match words {
-        ["tree", text] => tree_told(alloc, text),
-        ["pieces", text] => pieces_told(alloc, read_template(alloc, text)),
-        ["condition", text] => pieces_told(alloc, read_condition(alloc, text)),
-        ["read", kind, text] => fault_told(alloc, fault_of(alloc, kind, text)),
-        ["template", text] => template_told(alloc, text, file),
-        ["holds", status, text] => holds_told(alloc, status, text, file),
-        ["value", json] => value_told(alloc, json),
-        ["equal", left, right] => equal_told(alloc, left, right),
-        ["fold", text, other] => fold_told(alloc, text, other),
+    let (text, other) = (word(words, 1), word(words, 2));
+    match word(words, 0) {
+        "tree" => tree_told(alloc, text),
+        "pieces" => pieces_told(alloc, read_template(alloc, text)),
+        "condition" => pieces_told(alloc, read_condition(alloc, text)),
+        "read" => fault_told(alloc, fault_of(alloc, text, other)),
+        "template" => template_told(alloc, text, file),
+        "holds" => holds_told(alloc, text, other, file),
+        "value" => value_told(alloc, text),
+        "equal" => equal_told(alloc, text, other),
+        "fold" => fold_told(alloc, text, other),
         _ => pattern_sweeps::told(alloc, words, file, input),
     }
 }
@@ -53,34 +57,46 @@ pub fn fault_of(alloc: Global, kind: &str, text: &str) -> Option<ExprFault> {
 /// The fault, or that the text is read.
 pub fn fault_told(alloc: Global, fault: Option<ExprFault>) -> Result<String, AllocError> {
     match fault {
-        Some(fault) => format!(in alloc; "{fault}"),
+        Some(fault) => fault.to_string(alloc),
         None => String::from_str(alloc, "read"),
     }
 }
 
-/// The tree of an expression.
+/// The tree of an expression, or its fault.
 pub fn tree_told(alloc: Global, text: &str) -> Result<String, AllocError> {
     match read_expr(alloc, text) {
-        Ok(tree) => {
-            let mut told = String::new(alloc);
-            write_tree(&mut told, &tree)?;
-            Ok(told)
-        },
-        Err(fault) => format!(in alloc; "{fault}"),
+        Ok(tree) => tree_text(alloc, &tree),
+        Err(fault) => fault.to_string(alloc),
     }
 }
 
-/// The pieces of a template or condition, and whether it names a status function.
+/// A tree.
+fn tree_text(alloc: Global, tree: &Tree) -> Result<String, AllocError> {
+    let mut told = String::new(alloc);
+    write_tree(alloc, &mut told, tree)?;
+    Ok(told)
+}
+
+/// The pieces of a template or condition, or its fault.
 fn pieces_told(alloc: Global, read: Result<Template, ExprFault>) -> Result<String, AllocError> {
     match read {
-        Ok(template) => {
-            let mut told = String::new(alloc);
-            write_pieces(&mut told, &template)?;
-            writeln!(&mut told, "{}", names_status(&template))?;
-            Ok(told)
-        },
-        Err(fault) => format!(in alloc; "{fault}"),
+        Ok(template) => pieces_text(alloc, &template),
+        Err(fault) => fault.to_string(alloc),
     }
+}
+
+/// Pieces, and whether they name a status function.
+fn pieces_text(alloc: Global, template: &Template) -> Result<String, AllocError> {
+    let mut told = String::new(alloc);
+    write_pieces(alloc, &mut told, template)?;
+    told.push_str(truth_text(names_status(template)))?;
+    told.push_str("\n")?;
+    Ok(told)
+}
+
+/// A truth value.
+pub fn truth_text(truth: bool) -> &'static str {
+    if truth { "true" } else { "false" }
 }
 
 /// Adds a context, if it has a value.
@@ -90,22 +106,38 @@ fn add_context(
     name: &str,
     json: &serde_json::Value,
 ) -> Result<(), AllocError> {
-    if let Ok(value) = value_of(alloc, json) {
-        let name = Text::from_str(alloc, name)?;
-        contexts.insert(name, value)?;
+    match value_of(alloc, json) {
+        Ok(value) => contexts.set(alloc, name, value),
+        Err(_) => Ok(()),
     }
-    Ok(())
+}
+
+/// The contexts among the members of an object.
+fn contexts_among(
+    alloc: Global,
+    members: &BTreeMap<String, serde_json::Value>,
+) -> Result<Mapping<Value>, AllocError> {
+    let mut contexts = Mapping::empty(alloc);
+    for (name, member) in members.iter() {
+        add_context(alloc, &mut contexts, name.as_str(), member)?;
+    }
+    Ok(contexts)
+}
+
+/// The contexts that a document gives.
+fn contexts_in(alloc: Global, json: &serde_json::Value) -> Result<Mapping<Value>, AllocError> {
+    match json {
+        serde_json::Value::Object(members) => contexts_among(alloc, members),
+        _ => Ok(Mapping::empty(alloc)),
+    }
 }
 
 /// The contexts that the file gives.
 fn contexts_of(alloc: Global, file: &[u8]) -> Result<Mapping<Value>, AllocError> {
-    let mut contexts = Mapping::empty(alloc);
-    if let Some(serde_json::Value::Object(members)) = read_json(alloc, file)? {
-        for (name, member) in members.iter() {
-            add_context(alloc, &mut contexts, name.as_str(), member)?;
-        }
+    match read_json(alloc, file)? {
+        Some(json) => contexts_in(alloc, &json),
+        None => Ok(Mapping::empty(alloc)),
     }
-    Ok(contexts)
 }
 
 /// The value that a text of JSON writes; of any other text null.
@@ -123,13 +155,18 @@ fn json_text(alloc: Global, value: &Value) -> Result<String, AllocError> {
 }
 
 fn template_told(alloc: Global, text: &str, file: &[u8]) -> Result<String, AllocError> {
-    let contexts = contexts_of(alloc, file)?;
     match read_template(alloc, text) {
-        Ok(template) => match eval_text(alloc, &template, &contexts) {
-            Ok(value) => json_text(alloc, &value),
-            Err(fault) => format!(in alloc; "{fault}"),
-        },
-        Err(fault) => format!(in alloc; "{fault}"),
+        Ok(template) => template_value(alloc, &template, file),
+        Err(fault) => fault.to_string(alloc),
+    }
+}
+
+/// The value of a template over the contexts of the file, or its fault.
+fn template_value(alloc: Global, template: &Template, file: &[u8]) -> Result<String, AllocError> {
+    let contexts = contexts_of(alloc, file)?;
+    match eval_text(alloc, template, &contexts) {
+        Ok(value) => json_text(alloc, &value),
+        Err(fault) => fault.to_string(alloc),
     }
 }
 
@@ -146,20 +183,27 @@ fn status_of(name: &str) -> Status {
 /// Whether something holds, or why that is not known.
 fn truth_told(alloc: Global, answer: Result<bool, ValueFault>) -> Result<String, AllocError> {
     match answer {
-        Ok(truth) => format!(in alloc; "{truth}"),
-        Err(fault) => format!(in alloc; "{fault}"),
+        Ok(truth) => String::from_str(alloc, truth_text(truth)),
+        Err(fault) => fault.to_string(alloc),
     }
 }
 
 fn holds_told(alloc: Global, status: &str, text: &str, file: &[u8]) -> Result<String, AllocError> {
-    let contexts = contexts_of(alloc, file)?;
     match read_condition(alloc, text) {
-        Ok(condition) => {
-            let holds = eval_condition(alloc, &condition, &contexts, status_of(status));
-            truth_told(alloc, holds)
-        },
-        Err(fault) => format!(in alloc; "{fault}"),
+        Ok(condition) => condition_holds(alloc, &condition, status_of(status), file),
+        Err(fault) => fault.to_string(alloc),
     }
+}
+
+/// Whether a condition holds over the contexts of the file.
+fn condition_holds(
+    alloc: Global,
+    condition: &Template,
+    status: Status,
+    file: &[u8],
+) -> Result<String, AllocError> {
+    let contexts = contexts_of(alloc, file)?;
+    truth_told(alloc, eval_condition(alloc, condition, &contexts, status))
 }
 
 fn value_told(alloc: Global, json: &str) -> Result<String, AllocError> {
@@ -183,6 +227,7 @@ fn equal_told(alloc: Global, left: &str, right: &str) -> Result<String, AllocErr
 
 fn fold_told(alloc: Global, text: &str, other: &str) -> Result<String, AllocError> {
     let mut told = fold(alloc, text)?;
-    write!(&mut told, "\n{}", same_text(text, other))?;
+    told.push_str("\n")?;
+    told.push_str(truth_text(same_text(text, other)))?;
     Ok(told)
 }

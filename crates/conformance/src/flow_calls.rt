@@ -10,6 +10,7 @@
 //! A fault is told by its name and the key, path or text that it names. Values are told as compact JSON.
 
 use crate::documents;
+use crate::verbs::word;
 use flow_model::{Combo, Flow, Mapping, Matrix, Roots, Value, json_of};
 use flow_reader::{FlowFault, read_flow, read_roots};
 use matrix_expand::expand;
@@ -44,31 +45,26 @@ pub fn told(
     file: &[u8],
     input: &[u8],
 ) -> Result<String, AllocError> {
-    match words {
-        ["flows"] => flows_told(alloc, input),
-        ["flow", "cut"] => cut_told(alloc, input),
-        ["flow", "garbled"] => garbled_told(alloc, input),
-        ["roots"] => roots_told(alloc, input),
-        ["legs"] => legs_told(alloc, input),
+    match word(words, 0) {
+        "flows" => lines_told(alloc, Reading::Flow, input),
+        "roots" => lines_told(alloc, Reading::Roots, input),
+        "legs" => lines_told(alloc, Reading::Legs, input),
+        "flow" => sweep_told(alloc, word(words, 1), input),
         _ => documents::told(alloc, words, file, input),
     }
 }
 
-/// A fault, and what it names.
-pub fn fault_text(alloc: Global, fault: &FlowFault) -> Result<String, AllocError> {
-    match fault {
-        FlowFault::Missing(text)
-        | FlowFault::WrongShape(text)
-        | FlowFault::BadId(text)
-        | FlowFault::LeftOut(text) => named_fault(alloc, fault.name(), text.as_str()),
-        FlowFault::NotJson | FlowFault::NotWhole | FlowFault::UnknownShell | FlowFault::Memory => {
-            String::from_str(alloc, fault.name())
-        },
+/// The sweeps over workflows.
+fn sweep_told(alloc: Global, sweep: &str, input: &[u8]) -> Result<String, AllocError> {
+    if sweep == "cut" {
+        return cut_told(alloc, input);
     }
+    garbled_told(alloc, input)
 }
 
-/// A fault's name, and what it names where that is not empty.
-fn named_fault(alloc: Global, name: &str, text: &str) -> Result<String, AllocError> {
+/// A fault, and what it names.
+pub fn fault_text(alloc: Global, fault: &FlowFault) -> Result<String, AllocError> {
+    let (name, text) = (fault.name(), named_in(fault));
     if text.is_empty() {
         String::from_str(alloc, name)
     } else {
@@ -76,25 +72,65 @@ fn named_fault(alloc: Global, name: &str, text: &str) -> Result<String, AllocErr
     }
 }
 
-fn flows_told(alloc: Global, input: &[u8]) -> Result<String, AllocError> {
+/// What a fault names, if anything.
+fn named_in(fault: &FlowFault) -> &str {
+    match fault {
+        FlowFault::Missing(text)
+        | FlowFault::WrongShape(text)
+        | FlowFault::BadId(text)
+        | FlowFault::LeftOut(text) => text.as_str(),
+        FlowFault::NotJson | FlowFault::NotWhole | FlowFault::UnknownShell | FlowFault::Memory => {
+            ""
+        },
+    }
+}
+
+/// Adds a fault, in a line.
+fn add_fault(alloc: Global, told: &mut String, fault: &FlowFault) -> Result<(), AllocError> {
+    let fault = fault_text(alloc, fault)?;
+    writeln!(told, "{fault}")
+}
+
+/// What lines are read as.
+#[derive(Clone, Copy)]
+enum Reading {
+    Flow,
+    Roots,
+    Legs,
+}
+
+fn lines_told(alloc: Global, reading: Reading, input: &[u8]) -> Result<String, AllocError> {
     let mut told = String::new(alloc);
     for line in input.split_inclusive(|byte| *byte == b'\n') {
-        let answer = flow_told(alloc, line)?;
-        writeln!(&mut told, "{answer}")?;
+        add_line(alloc, &mut told, reading, line)?;
     }
     Ok(told)
 }
 
-/// That a text is a workflow, or its fault.
-fn flow_told(alloc: Global, text: &[u8]) -> Result<String, AllocError> {
+/// Adds what a line is read as.
+fn add_line(
+    alloc: Global,
+    told: &mut String,
+    reading: Reading,
+    line: &[u8],
+) -> Result<(), AllocError> {
+    match reading {
+        Reading::Flow => add_flow(alloc, told, line),
+        Reading::Roots => add_roots(alloc, told, line),
+        Reading::Legs => add_legs(alloc, told, line),
+    }
+}
+
+/// Adds that a text is a workflow, or its fault.
+fn add_flow(alloc: Global, told: &mut String, text: &[u8]) -> Result<(), AllocError> {
     match read_flow(alloc, PATH, text) {
-        Ok(_) => String::from_str(alloc, "workflow"),
-        Err(fault) => fault_text(alloc, &fault),
+        Ok(_) => told.push_str("workflow\n"),
+        Err(fault) => add_fault(alloc, told, &fault),
     }
 }
 
 /// What a text is.
-fn reading(alloc: Global, text: &[u8]) -> &'static str {
+fn reading_of(alloc: Global, text: &[u8]) -> &'static str {
     match read_flow(alloc, PATH, text) {
         Ok(_) => WORKFLOWS,
         Err(fault) => fault.name(),
@@ -104,7 +140,7 @@ fn reading(alloc: Global, text: &[u8]) -> &'static str {
 fn cut_told(alloc: Global, input: &[u8]) -> Result<String, AllocError> {
     let mut count = 0_usize;
     for end in 0..input.len() {
-        if reading(alloc, &input[..end]) == WORKFLOWS {
+        if reading_of(alloc, &input[..end]) == WORKFLOWS {
             count = count.saturating_add(1);
         }
     }
@@ -118,7 +154,7 @@ fn garbled_told(alloc: Global, input: &[u8]) -> Result<String, AllocError> {
         let whole = text[place];
         for other in OTHERS {
             text[place] = other;
-            readings.push(reading(alloc, text.as_slice()))?;
+            readings.push(reading_of(alloc, text.as_slice()))?;
         }
         text[place] = whole;
     }
@@ -151,31 +187,21 @@ fn counts_told(alloc: Global, readings: &[&str]) -> Result<String, AllocError> {
     Ok(told)
 }
 
-fn roots_told(alloc: Global, input: &[u8]) -> Result<String, AllocError> {
-    let mut told = String::new(alloc);
-    for line in input.split_inclusive(|byte| *byte == b'\n') {
-        let answer = roots_text(alloc, line)?;
-        writeln!(&mut told, "{answer}")?;
-    }
-    Ok(told)
-}
-
-/// The contexts that a text gives, or its fault.
-fn roots_text(alloc: Global, text: &[u8]) -> Result<String, AllocError> {
+/// Adds the contexts that a text gives, or its fault.
+fn add_roots(alloc: Global, told: &mut String, text: &[u8]) -> Result<(), AllocError> {
     match read_roots(alloc, text) {
-        Ok(roots) => contexts_text(alloc, &roots),
-        Err(fault) => fault_text(alloc, &fault),
+        Ok(roots) => add_contexts(alloc, told, &roots),
+        Err(fault) => add_fault(alloc, told, &fault),
     }
 }
 
-/// The contexts, each behind its name.
-fn contexts_text(alloc: Global, roots: &Roots) -> Result<String, AllocError> {
-    let mut told = String::new(alloc);
-    add_values(alloc, &mut told, "github ", &roots.github)?;
-    add_values(alloc, &mut told, " inputs ", &roots.inputs)?;
-    add_values(alloc, &mut told, " secrets ", &roots.secrets)?;
-    add_values(alloc, &mut told, " vars ", &roots.vars)?;
-    Ok(told)
+/// Adds the contexts, each behind its name.
+fn add_contexts(alloc: Global, told: &mut String, roots: &Roots) -> Result<(), AllocError> {
+    add_values(alloc, told, "github ", &roots.github)?;
+    add_values(alloc, told, " inputs ", &roots.inputs)?;
+    add_values(alloc, told, " secrets ", &roots.secrets)?;
+    add_values(alloc, told, " vars ", &roots.vars)?;
+    told.push_str("\n")
 }
 
 /// Adds values as a JSON object, behind a text.
@@ -198,14 +224,6 @@ fn object_of(alloc: Global, values: &Mapping<Value>) -> Result<serde_json::Value
     Ok(serde_json::Value::Object(members.into_map()))
 }
 
-fn legs_told(alloc: Global, input: &[u8]) -> Result<String, AllocError> {
-    let mut told = String::new(alloc);
-    for line in input.split_inclusive(|byte| *byte == b'\n') {
-        add_legs(alloc, &mut told, line)?;
-    }
-    Ok(told)
-}
-
 /// The workflow with a job of that matrix.
 fn with_matrix(alloc: Global, matrix: &[u8]) -> Result<Vec<u8>, AllocError> {
     let mut text = Vec::new(alloc);
@@ -220,10 +238,7 @@ fn add_legs(alloc: Global, told: &mut String, matrix: &[u8]) -> Result<(), Alloc
     let text = with_matrix(alloc, matrix)?;
     match read_flow(alloc, PATH, text.as_slice()) {
         Ok(flow) => add_expanded(alloc, told, &flow),
-        Err(fault) => {
-            let fault = fault_text(alloc, &fault)?;
-            writeln!(told, "{fault}")
-        },
+        Err(fault) => add_fault(alloc, told, &fault),
     }
 }
 

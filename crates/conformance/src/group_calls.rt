@@ -10,6 +10,8 @@
 //!
 //! KIND is `run` or `leg`. A name that is left out is empty.
 
+use crate::expressions::truth_text;
+use crate::verbs::word;
 use flow_model::{Duplicate, Member};
 use group_admission::{Entered, Groups};
 use std::alloc::{AllocError, Global};
@@ -38,27 +40,14 @@ fn add_answer(
 
 /// The answer to a call.
 fn answer(alloc: Global, groups: &mut Groups, words: &[&str]) -> Result<String, AllocError> {
-    match words {
-        ["enter", kind, number] => enter(alloc, groups, member(kind, number), "", None, false),
-        ["enter", kind, number, name] => {
-            enter(alloc, groups, member(kind, number), name, None, false)
-        },
-        ["enter", kind, number, name, "cancel"] => {
-            enter(alloc, groups, member(kind, number), name, None, true)
-        },
-        ["enter", kind, number, name, "own", run] => enter(
-            alloc,
-            groups,
-            member(kind, number),
-            name,
-            Some(number_of(run)),
-            false,
-        ),
-        ["release", kind, number] => member_text(alloc, groups.release(member(kind, number))),
-        ["withdraw", kind, number] => { truth_text(alloc, groups.withdraw(member(kind, number))) },
-        ["holder", name] => member_text(alloc, groups.holder(name)),
-        ["waiting", name] => member_text(alloc, groups.waiting(name)),
-        ["copy"] => copied(alloc, groups),
+    let member = member(word(words, 1), word(words, 2));
+    match word(words, 0) {
+        "enter" => enter(alloc, groups, member, words),
+        "release" => member_text(alloc, groups.release(member)),
+        "withdraw" => String::from_str(alloc, truth_text(groups.withdraw(member))),
+        "holder" => member_text(alloc, groups.holder(word(words, 1))),
+        "waiting" => member_text(alloc, groups.waiting(word(words, 1))),
+        "copy" => copied(alloc, groups),
         _ => String::from_str(alloc, "no such call"),
     }
 }
@@ -82,14 +71,14 @@ fn enter(
     alloc: Global,
     groups: &mut Groups,
     member: Member,
-    name: &str,
-    own_run: Option<u64>,
-    cancel: bool,
+    words: &[&str],
 ) -> Result<String, AllocError> {
     if groups.is_in_group(member) {
         return String::from_str(alloc, "is in a group");
     }
-    match groups.enter(name, member, own_run, cancel)? {
+    let how = word(words, 4);
+    let own_run = (how == "own").then_some(number_of(word(words, 5)));
+    match groups.enter(word(words, 3), member, own_run, how == "cancel")? {
         Entered::Admitted => String::from_str(alloc, "admitted"),
         Entered::OwnRun => String::from_str(alloc, "own run"),
         Entered::Waiting { displaced, stopped } => waiting_text(alloc, displaced, stopped),
@@ -120,9 +109,4 @@ pub fn member_text(alloc: Global, member: Option<Member>) -> Result<String, Allo
         Some(Member::Leg(number)) => format!(in alloc; "leg {number}"),
         None => String::from_str(alloc, "none"),
     }
-}
-
-/// A truth value.
-fn truth_text(alloc: Global, truth: bool) -> Result<String, AllocError> {
-    String::from_str(alloc, if truth { "true" } else { "false" })
 }

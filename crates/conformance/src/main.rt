@@ -27,7 +27,7 @@
 //!   \           the line has no newline
 //!
 //! There are no escapes: a text goes to the end of its line. The verbs stand at the heads of `documents`, `expressions`,
-//! `flow_calls`, `members`, `pattern_sweeps`, `plan_calls` and `record_sweeps`. The program stands on `commands` and the
+//! `flow_calls`, `group_calls`, `pattern_sweeps`, `plan_calls` and `record_sweeps`. The program stands on `commands` and the
 //! libraries below it, and proves nothing of its own; what it wants stands in `data/`.
 
 #![tactic(auto)]
@@ -40,6 +40,7 @@ mod group_calls;
 mod members;
 mod pattern_sweeps;
 mod plan_calls;
+mod plays;
 mod record_sweeps;
 mod replies;
 mod samples;
@@ -74,10 +75,7 @@ fn run_files<F: Files + Alloc<A = Global>, O: Write>(
     words: &[String],
     out: &mut O,
 ) -> io::Result<Told> {
-    let mut told = Told {
-        agree: 0,
-        differ: 0,
-    };
+    let mut told = Told::none();
     for file in words.iter().skip(1) {
         let text = fs::read_to_string(files, file.as_str())?;
         told = told.and(run_cases(alloc, text.as_str(), out)?);

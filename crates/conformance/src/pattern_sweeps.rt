@@ -11,6 +11,7 @@
 use crate::expressions::{fault_of, fault_told, tree_told};
 use crate::record_sweeps;
 use crate::sweep::Sweep;
+use crate::verbs::word;
 use expr_reader::ExprFault;
 use std::alloc::{AllocError, Global};
 use std::str;
@@ -23,12 +24,13 @@ pub fn told(
     input: &[u8],
 ) -> Result<String, AllocError> {
     let lines = str::from_utf8(file).unwrap_or("");
-    match words {
-        ["faults", pattern] => faults_told(alloc, pattern, lines),
-        ["pairs", pattern] => pairs_told(alloc, pattern, lines),
-        ["bytes"] => bytes_told(alloc),
-        ["nest", pattern, text] => nest_told(alloc, pattern, text),
-        ["slices"] => slices_told(alloc, lines),
+    let pattern = word(words, 1);
+    match word(words, 0) {
+        "faults" => faults_told(alloc, pattern, lines),
+        "pairs" => pairs_told(alloc, pattern, lines),
+        "bytes" => bytes_told(alloc),
+        "nest" => nest_told(alloc, pattern, word(words, 2)),
+        "slices" => slices_told(alloc, lines),
         _ => record_sweeps::told(alloc, words, input),
     }
 }
@@ -39,30 +41,9 @@ fn filled(alloc: Global, pattern: &str, text: &str) -> Result<String, AllocError
     format!(in alloc; "{front}{text}{back}")
 }
 
-/// The place of a fault; none for want of memory.
-fn place_of(fault: ExprFault) -> Option<usize> {
-    match fault {
-        ExprFault::UnclosedText(place)
-        | ExprFault::BadNumber(place)
-        | ExprFault::BadChar(place)
-        | ExprFault::Unexpected(place)
-        | ExprFault::UnknownName(place)
-        | ExprFault::UnknownFunction(place)
-        | ExprFault::ArgumentCount(place)
-        | ExprFault::TooDeep(place)
-        | ExprFault::TooLong(place)
-        | ExprFault::UnclosedTemplate(place)
-        | ExprFault::StatusHere(place) => Some(place),
-        ExprFault::Memory(_) => None,
-    }
-}
-
 /// Whether a fault has a place in its text.
 fn has_place(fault: ExprFault, text: &str) -> bool {
-    match place_of(fault) {
-        Some(place) => place <= text.len(),
-        None => false,
-    }
+    !fault.is_memory() && fault.place() <= text.len()
 }
 
 fn faults_told(alloc: Global, pattern: &str, lines: &str) -> Result<String, AllocError> {

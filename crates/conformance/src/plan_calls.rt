@@ -50,14 +50,20 @@ pub fn told(
 ) -> Result<String, AllocError> {
     match words {
         ["events", names @ ..] => answer_told(alloc, files, names, Wanted::Events),
-        ["planned", "all", names @ ..] => answer_told(alloc, files, names, Wanted::All),
-        ["planned", "event", name, names @ ..] => {
-            answer_told(alloc, files, names, Wanted::Event(name))
-        },
-        ["planned", "job", id, names @ ..] => answer_told(alloc, files, names, Wanted::Job(id)),
+        ["planned", words @ ..] => planned_told(alloc, files, words),
         ["stages"] => document_told(alloc, input),
         ["stages", names @ ..] => answer_told(alloc, files, names, Wanted::Stages),
         _ => flow_calls::told(alloc, words, contexts(files), input),
+    }
+}
+
+/// The plan of a choice of workflows.
+fn planned_told(alloc: Global, files: &Files, words: &[&str]) -> Result<String, AllocError> {
+    match words {
+        ["event", name, names @ ..] => answer_told(alloc, files, names, Wanted::Event(name)),
+        ["job", id, names @ ..] => answer_told(alloc, files, names, Wanted::Job(id)),
+        [_, names @ ..] => answer_told(alloc, files, names, Wanted::All),
+        [] => String::from_str(alloc, "no such verb"),
     }
 }
 

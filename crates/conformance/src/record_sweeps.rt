@@ -10,18 +10,18 @@
 use crate::streams::Limits;
 use crate::sweep::Sweep;
 use crate::verbs;
-use crate::verbs::Asked;
+use crate::verbs::{Asked, word};
 use std::alloc::{AllocError, Global};
 use std::collections::BTreeMap;
 use std::str;
 
 /// What a verb of these tells.
 pub fn told(alloc: Global, words: &[&str], input: &[u8]) -> Result<String, AllocError> {
-    match words {
-        ["cut"] => cut_told(alloc, input),
-        ["garbled", byte] => garbled_told(alloc, input, byte),
-        ["lines", change] => lines_told(alloc, input, change),
-        ["raised"] => raised_told(alloc, input),
+    match word(words, 0) {
+        "cut" => cut_told(alloc, input),
+        "garbled" => garbled_told(alloc, input, word(words, 1)),
+        "lines" => lines_told(alloc, input, word(words, 1)),
+        "raised" => raised_told(alloc, input),
         _ => String::from_str(alloc, "no such verb"),
     }
 }

@@ -3,7 +3,7 @@
 //! `1 || 2 && !x.y` is `(|| 1 (&& 2 (! (. x "y"))))`; parentheses of the text are `(group ..)`, an index is `([] ..)`.
 
 use expr_reader::{Equality, Function, Literal, Piece, Relation, Template, Tree, Wildcard};
-use std::alloc::AllocError;
+use std::alloc::{AllocError, Global};
 
 /// The name of a function.
 fn function_name(function: Function) -> &'static str {
@@ -65,79 +65,119 @@ fn write_literal(out: &mut String, literal: &Literal) -> Result<(), AllocError> 
     }
 }
 
-/// Writes a tree.
-#[cycle(tree)]
-pub fn write_tree(out: &mut String, tree: &Tree) -> Result<(), AllocError> {
+/// A part of what is still to be written.
+#[derive(Clone, Copy)]
+enum Part<'a> {
+    Tree(&'a Tree),
+    Sign(&'a str),
+    Quoted(&'a str),
+}
+
+/// Lays the front of a node, its name, on the parts that are laid already.
+fn lay_front<'a>(rest: &mut Vec<Part<'a>>, name: &'a str) -> Result<(), AllocError> {
+    rest.extend_from_slice(&[Part::Sign(name), Part::Sign("(")])
+}
+
+/// Lays a node: its name and its parts in parentheses.
+fn lay_node<'a>(
+    rest: &mut Vec<Part<'a>>,
+    name: &'a str,
+    parts: &[Part<'a>],
+) -> Result<(), AllocError> {
+    rest.push(Part::Sign(")"))?;
+    for part in parts.iter().rev() {
+        rest.extend_from_slice(&[*part, Part::Sign(" ")])?;
+    }
+    lay_front(rest, name)
+}
+
+/// Lays a node of any number of trees.
+fn lay_all<'a>(
+    rest: &mut Vec<Part<'a>>,
+    name: &'a str,
+    trees: &'a [Tree],
+) -> Result<(), AllocError> {
+    rest.push(Part::Sign(")"))?;
+    for tree in trees.iter().rev() {
+        rest.extend_from_slice(&[Part::Tree(tree), Part::Sign(" ")])?;
+    }
+    lay_front(rest, name)
+}
+
+/// Lays the parts of a tree; one without parts is written.
+fn lay_tree<'a>(
+    out: &mut String,
+    rest: &mut Vec<Part<'a>>,
+    tree: &'a Tree,
+) -> Result<(), AllocError> {
     match tree {
         Tree::Literal(literal) => write_literal(out, literal),
         Tree::Context(context) => out.push_str(context.name()),
-        Tree::Call(function, trees) => write_all(out, function_name(*function), trees.as_slice()),
-        Tree::Both(trees) => write_all(out, "&&", trees.as_slice()),
-        Tree::Either(trees) => write_all(out, "||", trees.as_slice()),
-        Tree::Group(inner) => write_node(out, "group", inner),
-        Tree::Not(inner) => write_node(out, "!", inner),
-        Tree::Wildcard(wildcard, base) => write_node(out, wildcard_sign(*wildcard), base),
+        Tree::Call(function, trees) => lay_all(rest, function_name(*function), trees.as_slice()),
+        Tree::Both(trees) => lay_all(rest, "&&", trees.as_slice()),
+        Tree::Either(trees) => lay_all(rest, "||", trees.as_slice()),
+        Tree::Group(inner) => lay_node(rest, "group", &[Part::Tree(inner)]),
+        Tree::Not(inner) => lay_node(rest, "!", &[Part::Tree(inner)]),
+        Tree::Wildcard(wildcard, base) => {
+            lay_node(rest, wildcard_sign(*wildcard), &[Part::Tree(base)])
+        },
         Tree::Property(base, name) => {
-            write_front(out, ".", base)?;
-            out.push_str(" ")?;
-            write_text(out, name.as_str())?;
-            out.push_str(")")
+            lay_node(rest, ".", &[Part::Tree(base), Part::Quoted(name.as_str())])
         },
-        Tree::Index(base, index) => {
-            write_front(out, "[]", base)?;
-            write_back(out, index)
-        },
+        Tree::Index(base, index) => lay_node(rest, "[]", &[Part::Tree(base), Part::Tree(index)]),
         Tree::Relation(relation, left, right) => {
-            write_front(out, relation_sign(*relation), left)?;
-            write_back(out, right)
+            let parts = [Part::Tree(left), Part::Tree(right)];
+            lay_node(rest, relation_sign(*relation), &parts)
         },
         Tree::Equality(equality, left, right) => {
-            write_front(out, equality_sign(*equality), left)?;
-            write_back(out, right)
+            let parts = [Part::Tree(left), Part::Tree(right)];
+            lay_node(rest, equality_sign(*equality), &parts)
         },
     }
 }
 
-/// Writes the name of a node and its first part.
-#[cycle(tree)]
-fn write_front(out: &mut String, name: &str, tree: &Tree) -> Result<(), AllocError> {
-    write!(out, "({name} ")?;
-    write_tree(out, tree)
-}
-
-/// Writes the last part of a node.
-#[cycle(tree)]
-fn write_back(out: &mut String, tree: &Tree) -> Result<(), AllocError> {
-    out.push_str(" ")?;
-    write_tree(out, tree)?;
-    out.push_str(")")
-}
-
-/// Writes a node of one part.
-#[cycle(tree)]
-fn write_node(out: &mut String, name: &str, tree: &Tree) -> Result<(), AllocError> {
-    write_front(out, name, tree)?;
-    out.push_str(")")
-}
-
-/// Writes a node of any number of parts.
-#[cycle(tree)]
-fn write_all(out: &mut String, name: &str, trees: &[Tree]) -> Result<(), AllocError> {
-    write!(out, "({name}")?;
-    for tree in trees {
-        out.push_str(" ")?;
-        write_tree(out, tree)?;
+/// Writes a part, or lays its parts.
+fn write_part<'a>(
+    out: &mut String,
+    rest: &mut Vec<Part<'a>>,
+    part: Part<'a>,
+) -> Result<(), AllocError> {
+    match part {
+        Part::Tree(tree) => lay_tree(out, rest, tree),
+        Part::Sign(sign) => out.push_str(sign),
+        Part::Quoted(text) => write_text(out, text),
     }
-    out.push_str(")")
+}
+
+/// Writes a tree. What is still to be written is laid on a stack, the next part on top.
+pub fn write_tree(alloc: Global, out: &mut String, tree: &Tree) -> Result<(), AllocError> {
+    let mut rest = Vec::new(alloc);
+    rest.push(Part::Tree(tree))?;
+    for _ in 0..usize::MAX {
+        match rest.pop() {
+            Some(part) => write_part(out, &mut rest, part)?,
+            None => return Ok(()),
+        }
+    }
+    Ok(())
+}
+
+/// Writes a piece of a template.
+fn write_piece(alloc: Global, out: &mut String, piece: &Piece) -> Result<(), AllocError> {
+    match piece {
+        Piece::Text(text) => write_text(out, text.as_str()),
+        Piece::Expression(tree) => write_tree(alloc, out, tree),
+    }
 }
 
 /// Writes the pieces of a template, one a line.
-pub fn write_pieces(out: &mut String, template: &Template) -> Result<(), AllocError> {
+pub fn write_pieces(
+    alloc: Global,
+    out: &mut String,
+    template: &Template,
+) -> Result<(), AllocError> {
     for piece in template.pieces.as_slice() {
-        match piece {
-            Piece::Text(text) => write_text(out, text.as_str())?,
-            Piece::Expression(tree) => write_tree(out, tree)?,
-        }
+        write_piece(alloc, out, piece)?;
         out.push_str("\n")?;
     }
     Ok(())

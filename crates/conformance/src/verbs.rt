@@ -27,6 +27,14 @@ pub struct Asked<'a> {
     pub limits: Limits,
 }
 
+/// The word at a place, or a text of no bytes.
+pub fn word<'a>(words: &[&'a str], place: usize) -> &'a str {
+    match words.get(place) {
+        Some(word) => word,
+        None => "",
+    }
+}
+
 /// What came of it.
 #[derive(Drop)]
 pub struct Found {

@@ -100,18 +100,8 @@ impl<T: Drop> From<AllocFailed<T>> for PlanFault {
 pub(crate) fn at_place(place: Place, fault: ExprFault) -> PlanFault
     ensures { IsTextFault place fault result }
 {
-    match fault {
-        ExprFault::Memory(_) => PlanFault::Memory,
-        ExprFault::UnclosedText(_)
-        | ExprFault::BadNumber(_)
-        | ExprFault::BadChar(_)
-        | ExprFault::Unexpected(_)
-        | ExprFault::UnknownName(_)
-        | ExprFault::UnknownFunction(_)
-        | ExprFault::ArgumentCount(_)
-        | ExprFault::TooDeep(_)
-        | ExprFault::TooLong(_)
-        | ExprFault::UnclosedTemplate(_)
-        | ExprFault::StatusHere(_) => PlanFault::Expr(place, fault),
+    if fault.is_memory() {
+        return PlanFault::Memory;
     }
+    PlanFault::Expr(place, fault)
 }
