@@ -71,7 +71,7 @@ first-fails {A} t (x ∷ xs) h = by (t x) refl (first-fails t xs)
         earlier rest zero y less at = ap t (sym (same_some x y at)) ∙ is
         earlier rest (suc i) y less at = rest.before i y (omega (arith, less)) at
 
--- a list made of others passes a test, and so does each of them
+-- where a list made of others passes a test, each of them does
 part-passes : {A B : Type 0} (t : B → Bool) (g : A → List B) (xs : List A) (i : ℕ) (x : A) → list_all t (flat_map g xs) ≡ true → slice_get xs i ≡ Some x → list_all t (g x) ≡ true
 part-passes t g [] i x h at = absurd (no_some x at)
 part-passes {A} t g (y ∷ ys) i x h at = by i at (λ k all there. part-passes t g ys k x all there)
