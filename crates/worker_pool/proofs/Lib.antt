@@ -1,0 +1,5 @@
+mod Numbered
+mod NoMoves
+mod Holding
+mod Keeping
+mod Stuck
