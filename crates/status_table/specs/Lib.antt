@@ -14,6 +14,7 @@ pub mod Members
 pub mod Moves
 pub mod Play
 pub mod Rank
+pub mod Reversible
 pub mod Row
 pub mod Runs
 pub mod Seen

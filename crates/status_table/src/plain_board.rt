@@ -12,6 +12,7 @@ use crate::events::{ask, begin, cancel, close, discard, end, finish, judge, open
 use crate::fault::EventFault;
 use crate::moves::find_moves;
 use crate::new_board::make_board;
+use crate::reversible::Reversible;
 use crate::table::Table;
 use flow_model::{Board, CheckedPlan, Duplicate, Entry, Event, Plan, Reply, Sequence};
 use std::alloc::{AllocError, Global};
@@ -112,5 +113,26 @@ impl Table for PlainBoard {
     fn moves(&self) -> Result<Sequence<Event>, AllocError> {
         let events = find_moves(self.alloc, self.plan.plan(), &self.board)?;
         Ok(Sequence::new(events))
+    }
+}
+
+impl Reversible for PlainBoard {
+    /// The board before, which is moved back.
+    type Undo = Board;
+
+    ghost use Rattle.status_table.specs.InPlay.{InPlay};
+
+    ghost fits = { λ undo plan board. InPlay plan undo };
+
+    ghost before = { λ undo board. undo };
+
+    fn apply_with_undo(&mut self, entry: Entry) -> Result<(Reply, Board), EventFault> {
+        let before = self.view()?;
+        let reply = self.apply(entry)?;
+        Ok((reply, before))
+    }
+
+    fn revert(&mut self, undo: Board) {
+        self.board = undo;
     }
 }

@@ -1,0 +1,9 @@
+-- Answers that come with what takes them back.
+use Rattle.std.specs.Prelude.{Result, Ok, Err}
+use Rattle.flow_model.specs.declared.reply.Reply.{Reply}
+use Rattle.status_table.specs.declared.fault.EventFault.{EventFault}
+
+-- the answer without its undo
+abbrev pub answer_of : {U : Type 0} → Result (Reply × U) EventFault → Result Reply EventFault
+answer_of (Ok both) = Ok both.0
+answer_of (Err refusal) = Err refusal
