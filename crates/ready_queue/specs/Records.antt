@@ -1,0 +1,56 @@
+-- What passes have done: the records under a pass, its own first and then those of the passes that were joined to it.
+use Rattle.std.specs.Prelude.{◌≡◌, ℕ, ◌+◌, List, [], ◌∷◌, ◌++◌, map}
+use Rattle.ready_queue.specs.Names.{Name, keeps, under}
+use Rattle.ready_queue.specs.Bags.{weigh, SameBag, InOrder}
+use Rattle.ready_queue.specs.declared.record.Record.{Record}
+
+-- A pass of this name that has done nothing yet.
+abbrev pub newcomer : Name → Record
+newcomer name = record { name = name; splits = 0; put = []; taken = [] }
+
+-- What is so of each of them.
+abbrev pub Each : {X : Type 0} → (X → Type 0) → List X → Type 0
+Each P [] = Unit {0}
+Each P (x ∷ xs) = P x × Each P xs
+
+-- ---- what they put and took
+
+-- All tickets that were put.
+abbrev pub all_put : List Record → List ℕ
+all_put [] = []
+all_put (r ∷ rs) = r.put ++ all_put rs
+
+-- The tickets, without the names of those who put them.
+abbrev pub tickets : List (ℕ × Name) → List ℕ
+tickets puts = map (λ e. e.0) puts
+
+-- All tickets that were taken.
+abbrev pub all_taken : List Record → List ℕ
+all_taken [] = []
+all_taken (r ∷ rs) = tickets r.taken ++ all_taken rs
+
+-- What a pass took of another is in the order in which that one put it.
+abbrev pub TakesInOrder : Record → Record → Type 0
+TakesInOrder taker putter = InOrder (under putter.name taker.taken) putter.put
+
+-- Each took of each in the order in which it was put.
+abbrev pub AllInOrder : List Record → Type 0
+AllInOrder rs = Each (λ taker. Each (TakesInOrder taker) rs) rs
+
+-- ---- who is out
+
+-- How many of them keep a name.
+abbrev pub keepers : Name → List Record → ℕ
+keepers name [] = 0
+keepers name (r ∷ rs) = keeps r.name r.splits name + keepers name rs
+
+-- They keep every name, so there is no other pass.
+abbrev pub IsWhole : List Record → Type 0
+IsWhole rs = (name : Name) → keepers name rs ≡ 1
+
+-- At a moment at which the queue holds these tickets: with the records of the other passes, what was put is what was taken and
+-- what the queue holds.
+pub record GoesWith (rs : List Record) (items : List ℕ) : Type 0 where
+  pub others : List Record
+  pub whole : IsWhole (rs ++ others)
+  pub bag : SameBag (all_put (rs ++ others)) (all_taken (rs ++ others) ++ items)
