@@ -4,3 +4,4 @@ pub mod Totals
 pub mod Orders
 pub mod Moves
 pub mod Counts
+pub mod Sharing

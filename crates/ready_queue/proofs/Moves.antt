@@ -7,37 +7,43 @@ use Rattle.crossbeam_queue.specs.Fifo.{Pushes, Pops, Forks, Merges, Learns}
 use Rattle.crossbeam_queue.proofs.Lists.{at_set, at_snoc}
 use Rattle.ready_queue.specs.Names.{Name, same_name, keeps, under}
 use Rattle.ready_queue.specs.Bags.{weigh, SameBag}
-use Rattle.ready_queue.specs.Records.{newcomer, Each, all_put, all_taken, tickets, keepers, IsWhole, GoesWith, AllInOrder}
-use Rattle.ready_queue.specs.Rule.{Put, puts_of, Fits, total, Kept}
+use Rattle.ready_queue.specs.Records.{newcomer, Each, all_put, all_taken, tickets, keepers, IsWhole, Put, puts_of, IsMoment, GoesWith, AllInOrder}
+use Rattle.ready_queue.specs.Rule.{Fits, total, Kept}
 use Rattle.ready_queue.specs.Steps.{with_put, Puts, with_taken, Takes, after_split, split_off, joined, Closes}
 use Rattle.ready_queue.specs.declared.record.Record.{Record}
 use Rattle.ready_queue.proofs.Naming.{keeps_own, keeps_all, keeps_split, under_append, under_own, under_other, not_kept, same_is}
-use Rattle.ready_queue.proofs.Totals.{total_set, total_snoc, one_part, two_parts, others_of, total_others, weigh_append, weigh_length, keepers_append, nobody, put_append, taken_append, tickets_append, sum_of_keepers, sum_of_put, sum_of_taken, each_map, each_apart, each_append}
-use Rattle.ready_queue.proofs.Orders.{all_in_order}
+use Rattle.ready_queue.proofs.Totals.{total_set, total_snoc, one_part, two_parts, others_of, total_others, weigh_append, weigh_length, keepers_append, nobody, put_append, taken_append, tickets_append, sum_of_keepers, sum_of_put, sum_of_taken, each_apart, each_append, each_others, length_tickets}
+use Rattle.ready_queue.proofs.Orders.{all_in_order, by_one}
 
 -- ---- what the rule tells
 
--- The account of a pass and of all others.
-goes_with : (items : List ℕ) (views : List (List Record)) (port : ℕ) (v : List Record) → Kept items views → get_elem? views port ≡ some v → GoesWith v items
-goes_with items views port v kept at =
+-- What a pass knows of one moment.
+moment : (items : List ℕ) (views : List (List Record)) (port : ℕ) (v : List Record) → (kept : Kept items views) → get_elem? views port ≡ some v → IsMoment v kept.queued
+moment items views port v kept at =
     let others = others_of views port in
+    let whole : IsWhole (v ++ others) = λ name. total_others (keepers name) (sum_of_keepers name) views port v at ∙ kept.once name in
+    let fit : Each (Fits kept.done kept.queued) (v ++ others) = each_append (Fits kept.done kept.queued) v others (kept.fits port v at) (each_others (Fits kept.done kept.queued) views port kept.fits) in
     record {
       others = others;
-      whole = λ name. total_others (keepers name) (sum_of_keepers name) views port v at ∙ kept.once name;
+      done = kept.done;
+      whole = whole;
+      puts = λ name. (by_one kept.done kept.queued name (v ++ others) (whole name) fit).0;
+      takes = λ name. (by_one kept.done kept.queued name (v ++ others) (whole name) fit).1;
       bag =
           λ weight.
           let put = total_others (λ u. weigh weight (all_put u)) (sum_of_put weight) views port v at in
           let taken = total_others (λ u. weigh weight (all_taken u)) (sum_of_taken weight) views port v at in
           let bag = kept.bag weight in
-          let both = weigh_append weight (all_taken (v ++ others)) items in
+          let both = weigh_append weight (all_taken (v ++ others)) (tickets kept.queued) in
+          let held : weigh weight (tickets kept.queued) ≡ weigh weight items = ap (weigh weight) kept.held in
           omega arith;
     }
 
 pub goes : (port : ℕ) (v : List Record) → Learns Kept port v (λ items. GoesWith v items)
-goes port v items views kept at = goes_with items views port v kept at
+goes port v items views kept at = (kept.queued, kept.held, moment items views port v kept at)
 
 pub closes : (port : ℕ) (v : List Record) → Learns Kept port v (Closes v)
-closes port v items views kept at = (goes_with items views port v kept at, kept.few)
+closes port v items views kept at = (goes port v items views kept at, kept.few)
 
 pub orders : (port : ℕ) (v : List Record) → Learns Kept port v (λ items. AllInOrder v)
 orders port v items views kept at = all_in_order kept.done kept.queued v (kept.fits port v at)
@@ -133,7 +139,7 @@ puts n port (own ∷ rest) x live small items views room kept at =
             (λ t. each_apart (Fits kept.done kept.queued) (Fits kept.done queued) own.name (fits_put_other kept.done kept.queued own.name x) u (other_keeps_none own rest views port j u at once t.0 t.1) (kept.fits j u t.1))
             (at_set views port j w u e);
       },
-      (refl, (items, room, goes_with items views port (own ∷ rest) kept at)),
+      (refl, (kept.queued, rw (sym (length_tickets kept.queued) ∙ ap length kept.held) room, moment items views port (own ∷ rest) kept at)),
     )
 
 -- ---- a take
@@ -161,6 +167,7 @@ took : (port : ℕ) (own : Record) (rest : List Record) (p : Put) (queued : List
     → get_elem? views port ≡ some (own ∷ rest)
     → (w : List Record) × Kept items (set views port w) × Takes (own ∷ rest) p.0 w
 took port own rest p queued items views done held few once bag fits at =
+    let before : Kept (p.0 ∷ items) views = record { done = done; queued = p ∷ queued; held = ap (λ l. p.0 ∷ l) held; few = few; once = once; bag = bag; fits = fits } in
     let mine : Record = record own { taken = own.taken ++ p ∷ [] } in
     let w : List Record = mine ∷ rest in
     let done' : List (Put × Name) = done ++ (p, own.name) ∷ [] in
@@ -191,7 +198,7 @@ took port own rest p queued items views done held few once bag fits at =
             (λ t. each_apart (Fits done (p ∷ queued)) (Fits done' queued) own.name other u (other_keeps_none own rest views port j u at (once own.name) t.0 t.1) (fits j u t.1))
             (at_set views port j w u e);
       },
-      ((p.1, refl), all_in_order done' queued w fit'),
+      (p.1, queued, refl, moment (p.0 ∷ items) views port (own ∷ rest) before at, all_in_order done' queued w fit'),
     )
 
 -- The first of the tickets in the queue is that of the first put that is not taken.
@@ -322,8 +329,9 @@ whole_bag v items others none bag = subst (λ (rs : List Record). SameBag (all_p
 -- With no other pass out, what was put is what was taken and what the queue holds.
 pub whole_goes : (v : List Record) (items : List ℕ) → IsWhole v → GoesWith v items → SameBag (all_put v) (all_taken v ++ items)
 whole_goes v items whole goes =
-    let none : (name : Name) → keepers name goes.others ≡ 0 = λ name. (let a = whole name in let b = goes.whole name in let c = keepers_append name v goes.others in omega arith) in
-    whole_bag v items goes.others (nobody goes.others none) goes.bag
+    let at = goes.2 in
+    let none : (name : Name) → keepers name at.others ≡ 0 = λ name. (let a = whole name in let b = at.whole name in let c = keepers_append name v at.others in omega arith) in
+    subst (λ l. SameBag (all_put v) (all_taken v ++ l)) goes.1 (whole_bag v (tickets goes.0) at.others (nobody at.others none) at.bag)
 
 -- One bag has one length.
 pub bag_length : (xs ys : List ℕ) → SameBag xs ys → length xs ≡ length ys

@@ -1,12 +1,12 @@
--- What each pass took of another is in the order in which that one put it.
-use Rattle.std.proofs.Common.{◌≡◌, ℕ, Bool, true, false, List, [], ◌∷◌, ◌++◌, refl, sym, ap, ◌∙◌, subst, inl, inr, ⊎_elim, arith, ◌<◌}
+-- Records that fit one history: each name has its part, and each pass took of each in the order of the puts.
+use Rattle.std.proofs.Common.{◌≡◌, ℕ, Bool, true, false, List, [], ◌∷◌, ◌++◌, refl, sym, ap, ◌∙◌, subst, zero, suc, ◌+◌, true≢false, inl, inr, ⊎_elim, arith, ◌<◌, ◌⊎◌, append-nil}
 use Rattle.std.specs.Prelude.{if◌then◌else◌}
 use Rattle.ready_queue.specs.Names.{Name, same_name, keeps, under}
 use Rattle.ready_queue.specs.Bags.{InOrder}
-use Rattle.ready_queue.specs.Records.{Each, TakesInOrder, AllInOrder}
-use Rattle.ready_queue.specs.Rule.{Put, puts_of, Fits}
+use Rattle.ready_queue.specs.Records.{Each, TakesInOrder, AllInOrder, keepers, put_by, taken_by, Put, puts_of}
+use Rattle.ready_queue.specs.Rule.{Fits}
 use Rattle.ready_queue.specs.declared.record.Record.{Record}
-use Rattle.ready_queue.proofs.Naming.{same_refl, keeps_own}
+use Rattle.ready_queue.proofs.Naming.{same_refl, same_is, keeps_own}
 use Rattle.ready_queue.proofs.Totals.{each_map}
 
 in_more : (xs ys : List ℕ) (y : ℕ) → InOrder xs ys → InOrder xs (y ∷ ys)
@@ -44,3 +44,46 @@ all_in_order done queued rs fit =
     each_map (Fits done queued) (λ taker. Each (TakesInOrder taker) rs)
     (λ taker h. each_map (Fits done queued) (TakesInOrder taker) (λ putter k. takes_in_order done queued taker putter h k) rs fit)
     rs fit
+
+-- ---- the part of each name
+
+not_same : (name : Name) (r : Record) → keeps r.name r.splits name ≡ 0 → (b : Bool) → same_name name r.name ≡ b → b ≡ false
+not_same name r none true e =
+    let own = keeps_own r.name r.splits in
+    let same : keeps r.name r.splits name ≡ keeps r.name r.splits r.name = ap (keeps r.name r.splits) (same_is name r.name e) in
+    absurd (omega arith)
+not_same name r none false e = refl
+
+not_own : (name : Name) (r : Record) → keeps r.name r.splits name ≡ 0 → same_name name r.name ≡ false
+not_own name r none = not_same name r none (same_name name r.name) refl
+
+-- Under a name that they do not keep there is nothing.
+by_none : (name : Name) (rs : List Record) → keepers name rs ≡ 0 → (put_by name rs ≡ []) × (taken_by name rs ≡ [])
+by_none name [] none = (refl, refl)
+by_none name (r ∷ rs) none =
+    let here : same_name name r.name ≡ false = not_own name r (omega arith) in
+    let more = by_none name rs (omega arith) in
+    (rw here more.0, rw here more.1)
+
+only_here : {X : Type 0} (b : Bool) (xs more : List X) → more ≡ [] → (if b then xs ++ more else more) ≡ (if b then xs else [])
+only_here true xs more e = ap (λ l. xs ++ l) e ∙ append-nil xs
+only_here false xs more e = e
+
+none_or_some : (n : ℕ) → (n ≡ 0) ⊎ (0 < n)
+none_or_some zero = inl refl
+none_or_some (suc n) = inr (omega arith)
+
+-- Under a name that one of them keeps there is its part of the history.
+pub by_one : (done : List (Put × Name)) (queued : List Put) (name : Name) (rs : List Record) → keepers name rs ≡ 1 → Each (Fits done queued) rs → (put_by name rs ≡ under name (puts_of done queued)) × (taken_by name rs ≡ under name done)
+by_one done queued name [] one fit = absurd (omega arith)
+by_one done queued name (r ∷ rs) one fit =
+    ⊎_elim
+    (λ (none : keeps r.name r.splits name ≡ 0).
+    let here : same_name name r.name ≡ false = not_own name r none in
+    let more = by_one done queued name rs (omega arith) fit.1 in
+    (rw here more.0, rw here more.1))
+    (λ (has : 0 < keeps r.name r.splits name).
+    let rest = by_none name rs (let all : keeps r.name r.splits name + keepers name rs ≡ 1 = one in omega arith) in
+    let h = fit.0 name has in
+    (only_here (same_name name r.name) r.put (put_by name rs) rest.0 ∙ sym h.0, only_here (same_name name r.name) r.taken (taken_by name rs) rest.1 ∙ sym h.1))
+    (none_or_some (keeps r.name r.splits name))

@@ -102,6 +102,10 @@ pub tickets_append : (a b : List (ℕ × Name)) → tickets (a ++ b) ≡ tickets
 tickets_append [] b = refl
 tickets_append (e ∷ es) b = ap (λ l. e.0 ∷ l) (tickets_append es b)
 
+pub length_tickets : (puts : List (ℕ × Name)) → length (tickets puts) ≡ length puts
+length_tickets [] = refl
+length_tickets (e ∷ es) = ap suc (length_tickets es)
+
 pub sum_of_keepers : (name : Name) → IsSum (keepers name)
 sum_of_keepers name = record { none = refl; both = keepers_append name }
 
@@ -130,3 +134,13 @@ each_apart P Q name f (r ∷ rs) none h = (f r (omega arith) h.0, each_apart P Q
 pub each_append : (P : Record → Type 0) (v w : List Record) → Each P v → Each P w → Each P (v ++ w)
 each_append P [] w h k = k
 each_append P (r ∷ rs) w h k = (h.0, each_append P rs w h.1 k)
+
+-- What is so of the records under each pass is so of all of them.
+each_all : (P : Record → Type 0) (views : List (List Record)) → ((j : ℕ) (u : List Record) → get_elem? views j ≡ some u → Each P u) → Each P (all_of views)
+each_all P [] h = tt
+each_all P (v ∷ vs) h = each_append P v (all_of vs) (h zero v refl) (each_all P vs (λ j u e. h (suc j) u e))
+
+pub each_others : (P : Record → Type 0) (views : List (List Record)) (port : ℕ) → ((j : ℕ) (u : List Record) → get_elem? views j ≡ some u → Each P u) → Each P (others_of views port)
+each_others P [] port h = tt
+each_others P (v ∷ vs) zero h = each_all P vs (λ j u e. h (suc j) u e)
+each_others P (v ∷ vs) (suc port) h = each_append P v (others_of vs port) (h zero v refl) (each_others P vs port (λ j u e. h (suc j) u e))

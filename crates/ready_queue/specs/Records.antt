@@ -1,6 +1,6 @@
 -- What passes have done: the records under a pass, its own first and then those of the passes that were joined to it.
-use Rattle.std.specs.Prelude.{◌≡◌, ℕ, ◌+◌, List, [], ◌∷◌, ◌++◌, map}
-use Rattle.ready_queue.specs.Names.{Name, keeps, under}
+use Rattle.std.specs.Prelude.{◌≡◌, ℕ, ◌+◌, List, [], ◌∷◌, ◌++◌, map, if◌then◌else◌}
+use Rattle.ready_queue.specs.Names.{Name, same_name, keeps, under}
 use Rattle.ready_queue.specs.Bags.{weigh, SameBag, InOrder}
 use Rattle.ready_queue.specs.declared.record.Record.{Record}
 
@@ -37,6 +37,16 @@ TakesInOrder taker putter = InOrder (under putter.name taker.taken) putter.put
 abbrev pub AllInOrder : List Record → Type 0
 AllInOrder rs = Each (λ taker. Each (TakesInOrder taker) rs) rs
 
+-- What was put under a name.
+abbrev pub put_by : Name → List Record → List ℕ
+put_by name [] = []
+put_by name (r ∷ rs) = if same_name name r.name then r.put ++ put_by name rs else put_by name rs
+
+-- What was taken under a name.
+abbrev pub taken_by : Name → List Record → List (ℕ × Name)
+taken_by name [] = []
+taken_by name (r ∷ rs) = if same_name name r.name then r.taken ++ taken_by name rs else taken_by name rs
+
 -- ---- who is out
 
 -- How many of them keep a name.
@@ -48,9 +58,34 @@ keepers name (r ∷ rs) = keeps r.name r.splits name + keepers name rs
 abbrev pub IsWhole : List Record → Type 0
 IsWhole rs = (name : Name) → keepers name rs ≡ 1
 
--- At a moment at which the queue holds these tickets: with the records of the other passes, what was put is what was taken and
--- what the queue holds.
-pub record GoesWith (rs : List Record) (items : List ℕ) : Type 0 where
+-- They keep the same names.
+abbrev pub KeepsNames : List Record → List Record → Type 0
+KeepsNames v w = (name : Name) → keepers name w ≡ keepers name v
+
+-- The names that the one keeps are divided between both others.
+abbrev pub DividesNames : List Record → List Record → List Record → Type 0
+DividesNames v left right = (name : Name) → keepers name left + keepers name right ≡ keepers name v
+
+-- ---- one history
+
+-- A ticket with the name of the pass that put it.
+abbrev pub Put : Type 0
+Put = ℕ × Name
+
+-- All puts in order: those whose tickets are taken, each beside its taker's name, and those in the queue.
+abbrev pub puts_of : List (Put × Name) → List Put → List Put
+puts_of done queued = map (λ e. e.0) done ++ queued
+
+-- At one moment, at which these puts were in the queue, the oldest first: with the records of all other passes there is one
+-- history, of which each name has its part. What was put is, as a bag, what was taken and what the queue holds.
+pub record IsMoment (rs : List Record) (queued : List Put) : Type 0 where
   pub others : List Record
+  pub done : List (Put × Name)
   pub whole : IsWhole (rs ++ others)
-  pub bag : SameBag (all_put (rs ++ others)) (all_taken (rs ++ others) ++ items)
+  pub puts : (name : Name) → put_by name (rs ++ others) ≡ under name (puts_of done queued)
+  pub takes : (name : Name) → taken_by name (rs ++ others) ≡ under name done
+  pub bag : SameBag (all_put (rs ++ others)) (all_taken (rs ++ others) ++ tickets queued)
+
+-- The same, at which the queue held these tickets.
+abbrev pub GoesWith : List Record → List ℕ → Type 0
+GoesWith rs items = (queued : List Put) × (tickets queued ≡ items) × IsMoment rs queued

@@ -4,16 +4,8 @@ use mathlib.Core.Option.{some}
 use lib.ListN.{get_elem?}
 use Rattle.ready_queue.specs.Names.{Name, same_name, keeps, under}
 use Rattle.ready_queue.specs.Bags.{weigh}
-use Rattle.ready_queue.specs.Records.{Each, all_put, all_taken, tickets, keepers}
+use Rattle.ready_queue.specs.Records.{Each, all_put, all_taken, tickets, keepers, Put, puts_of}
 use Rattle.ready_queue.specs.declared.record.Record.{Record}
-
--- A ticket with the name of the pass that put it.
-abbrev pub Put : Type 0
-Put = ℕ × Name
-
--- The puts so far, in order: those whose tickets are taken, each beside its taker's name, and those in the queue.
-abbrev pub puts_of : List (Put × Name) → List Put → List Put
-puts_of done queued = map (λ e. e.0) done ++ queued
 
 -- The history has of the pass itself what its record says, and nothing of a name that is still to be given.
 abbrev pub Fits : List (Put × Name) → List Put → Record → Type 0

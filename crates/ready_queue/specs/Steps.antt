@@ -2,7 +2,7 @@
 use Rattle.std.specs.Prelude.{◌≡◌, ℕ, ◌+◌, ◌<◌, ◌^◌, List, [], ◌∷◌, ◌++◌, length}
 use Rattle.crossbeam_queue.specs.Fifo.{Held}
 use Rattle.ready_queue.specs.Names.{Name}
-use Rattle.ready_queue.specs.Records.{newcomer, AllInOrder, GoesWith}
+use Rattle.ready_queue.specs.Records.{newcomer, AllInOrder, Put, IsMoment, GoesWith}
 use Rattle.ready_queue.specs.declared.record.Record.{Record}
 
 -- ---- an accepted put
@@ -14,7 +14,7 @@ with_put ticket (own ∷ rest) = record own { put = own.put ++ ticket ∷ [] } �
 
 -- The ticket was put, at a moment at which the queue held fewer tickets than it has room for.
 abbrev pub Puts : ℕ → List Record → ℕ → List Record → Type 0
-Puts capacity v ticket w = (w ≡ with_put ticket v) × ((items : List ℕ) × (length items < capacity) × GoesWith v items)
+Puts capacity v ticket w = (w ≡ with_put ticket v) × ((queued : List Put) × (length queued < capacity) × IsMoment v queued)
 
 -- ---- a refused put
 
@@ -29,9 +29,13 @@ abbrev pub with_taken : ℕ → Name → List Record → List Record
 with_taken ticket putter [] = []
 with_taken ticket putter (own ∷ rest) = record own { taken = own.taken ++ (ticket, putter) ∷ [] } ∷ rest
 
--- The ticket is one that a pass put, and it is taken in its turn.
+-- The ticket was taken, at a moment at which it was the oldest in the queue, and each took of each in order.
 abbrev pub Takes : List Record → ℕ → List Record → Type 0
-Takes v ticket w = ((putter : Name) × (w ≡ with_taken ticket putter v)) × AllInOrder w
+Takes v ticket w =
+    (putter : Name) × (behind : List Put)
+    × (w ≡ with_taken ticket putter v)
+    × IsMoment v ((ticket, putter) ∷ behind)
+    × AllInOrder w
 
 -- ---- an empty take
 

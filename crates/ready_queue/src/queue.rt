@@ -3,7 +3,7 @@
 ghost use Rattle.std.specs.Prelude.{◌≡◌, ◌<◌, [], ◌∷◌, length, IfOk, MatchResult, MatchOption};
 ghost use Rattle.crossbeam_queue.specs.Passes.{view, IsSamePass, IsPassOf as IsSeatOf};
 ghost use Rattle.ready_queue.specs.Passes.{IsPassOf, records_of, capacity_of, IsCountOf};
-ghost use Rattle.ready_queue.specs.Records.{newcomer, IsWhole, AllInOrder};
+ghost use Rattle.ready_queue.specs.Records.{newcomer, IsWhole, KeepsNames, DividesNames, AllInOrder};
 ghost use Rattle.ready_queue.specs.Steps as step;
 
 use crate::count::Count;
@@ -34,6 +34,7 @@ impl TicketQueue {
         ensures capacity { IfOk result (λ made. capacity_of made.0 ≡ capacity) }
         ensures pass { IfOk result (λ made. IsPassOf made.0 made.1) }
         ensures first { IfOk result (λ made. records_of made.1 ≡ newcomer [] ∷ []) }
+        ensures whole { IfOk result (λ made. IsWhole (records_of made.1)) }
     {
         let (tickets, seat) = RuledArrayQueue::ruled(alloc, capacity)?;
         let tally = Tally::new();
@@ -46,6 +47,7 @@ impl TicketQueue {
         requires { IsPassOf self.now pass.old }
         ensures pass { IsPassOf self.now pass.new }
         ensures step { MatchResult result (λ _. step.Puts (capacity_of self.now) (records_of pass.old) ticket (records_of pass.new)) (λ back. (back ≡ ticket) × step.Refuses (capacity_of self.now) (records_of pass.old) (records_of pass.new)) }
+        ensures names { KeepsNames (records_of pass.old) (records_of pass.new) }
     {
         self.put_within::<Brand, R>(rt, &mut pass.seat, ticket)?;
         pass.tally = pass.tally.with_put();
@@ -76,6 +78,7 @@ impl TicketQueue {
         requires { IsPassOf self.now pass.old }
         ensures pass { IsPassOf self.now pass.new }
         ensures step { MatchOption result (step.FindsNone (records_of pass.old) (records_of pass.new)) (λ ticket. step.Takes (records_of pass.old) ticket (records_of pass.new)) }
+        ensures names { KeepsNames (records_of pass.old) (records_of pass.new) }
     {
         let ticket = self.tickets.pop_as::<Take, R>(rt, &mut pass.seat)?;
         pass.tally = pass.tally.with_taken();
@@ -87,6 +90,7 @@ impl TicketQueue {
         requires { IsPassOf self.now pass }
         ensures passes { IsPassOf self.now result.0 × IsPassOf self.now result.1 }
         ensures step { (records_of result.0 ≡ step.after_split (records_of pass)) × (records_of result.1 ≡ step.split_off (records_of pass)) }
+        ensures names { DividesNames (records_of pass) (records_of result.0) (records_of result.1) }
     {
         let Pass { mut seat, tally } = pass;
         let other = self.tickets.another::<Share>(&mut seat);
@@ -105,6 +109,7 @@ impl TicketQueue {
         ensures pass { IsPassOf self.now result }
         ensures step { records_of result ≡ step.joined (records_of pass) (records_of other) }
         ensures order { AllInOrder (records_of result) }
+        ensures names { DividesNames (records_of result) (records_of pass) (records_of other) }
     {
         let tally = pass.tally.joined(other.tally);
         let mut seat = pass.seat;

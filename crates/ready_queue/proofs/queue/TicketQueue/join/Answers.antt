@@ -2,6 +2,7 @@ use Rattle.std.proofs.Common.{◌<◌, ap, subst, sym, ◌∙◌, length, refl}
 use Rattle.crossbeam_queue.specs.Passes.{view}
 use Rattle.ready_queue.specs.Records.{all_put, all_taken}
 use Rattle.ready_queue.proofs.Moves.{joins, orders}
+use Rattle.ready_queue.proofs.Sharing.{names_joined}
 use Rattle.ready_queue.proofs.Counts.{recount, both_live, both_puts, both_takes}
 use Rattle.ready_queue.proofs.queue.TicketQueue.join.Goals as goal
 
@@ -20,3 +21,6 @@ invariant_of-result c =
       live = subst (λ rs. 0 < length rs) (sym is) (both_live v w c.args.pass.live);
       counts = recount _ _ _ _ c.joined-tally.result (ap (λ rs. length (all_put rs)) is ∙ both_puts v w) (ap (λ rs. length (all_taken rs)) is ∙ both_takes v w) (c.joined-tally.ensures _ _ _ _ c.args.pass.counts c.args.other.counts);
     }
+
+pub returns-clause-names : goal.returns-clause-names
+returns-clause-names c = names_joined _ _ _ (c.learn_as.ensures.queue.1 ∙ c.absorb.ensures.rule)
