@@ -1,5 +1,5 @@
 -- The six kinds of step of the queue's rule, each on the records under its one pass before (v) and after (w).
-use Rattle.std.specs.Prelude.{◌≡◌, ℕ, ◌+◌, ◌<◌, ◌^◌, List, [], ◌∷◌, ◌++◌, length}
+use Rattle.std.specs.Prelude.{◌≡◌, ℕ, ◌+◌, ◌<◌, ◌^◌, List, [], ◌∷◌, ◌++◌, length, Option, Some, None, Result, Ok, Err}
 use Rattle.crossbeam_queue.specs.Fifo.{Held}
 use Rattle.ready_queue.specs.Names.{Name}
 use Rattle.ready_queue.specs.Records.{newcomer, AllInOrder, Put, IsMoment, GoesWith}
@@ -22,6 +22,11 @@ Puts capacity v ticket w = (w ≡ with_put ticket v) × ((queued : List Put) × 
 abbrev pub Refuses : ℕ → List Record → List Record → Type 0
 Refuses capacity v w = (w ≡ v) × Held capacity (GoesWith v)
 
+-- A put is accepted, or refused with the ticket handed back.
+abbrev pub PutTells : ℕ → List Record → ℕ → Result (Unit {0}) ℕ → List Record → Type 0
+PutTells capacity v ticket (Ok done) w = Puts capacity v ticket w
+PutTells capacity v ticket (Err back) w = (back ≡ ticket) × Refuses capacity v w
+
 -- ---- a take of a ticket
 
 -- A ticket more that the pass itself took, of the pass of that name.
@@ -43,6 +48,11 @@ Takes v ticket w =
 abbrev pub FindsNone : List Record → List Record → Type 0
 FindsNone v w = (w ≡ v) × Held 0 (GoesWith v)
 
+-- A take gives a ticket, or finds none.
+abbrev pub TakeTells : List Record → Option ℕ → List Record → Type 0
+TakeTells v None w = FindsNone v w
+TakeTells v (Some ticket) w = Takes v ticket w
+
 -- ---- a split
 
 -- The pass itself has split once more.
@@ -63,6 +73,6 @@ joined v w = v ++ w
 
 -- ---- closing
 
--- What the queue holds when no other pass is out, of which there are less than a word counts.
+-- What the queue holds goes with the records, and is less than a word counts.
 abbrev pub Closes : List Record → List ℕ → Type 0
 Closes v items = GoesWith v items × (length items < 2 ^ 64)

@@ -1,8 +1,8 @@
 //! The queue of tickets.
 
-ghost use Rattle.std.specs.Prelude.{◌≡◌, ◌<◌, [], ◌∷◌, length, IfOk, MatchResult, MatchOption};
+ghost use Rattle.std.specs.Prelude.{◌≡◌, ◌<◌, [], ◌∷◌, length, IfOk};
 ghost use Rattle.crossbeam_queue.specs.Passes.{view, IsSamePass, IsPassOf as IsSeatOf};
-ghost use Rattle.ready_queue.specs.Passes.{IsPassOf, records_of, capacity_of, IsCountOf};
+ghost use Rattle.ready_queue.specs.Passes.{IsPassOf, records_of, capacity_of, PutStep, TakeStep, IsCountOf};
 ghost use Rattle.ready_queue.specs.Records.{newcomer, IsWhole, KeepsNames, DividesNames, AllInOrder};
 ghost use Rattle.ready_queue.specs.Steps as step;
 
@@ -46,7 +46,7 @@ impl TicketQueue {
     pub fn put<R: Wait>(&self, rt: &R, pass: &mut Pass, ticket: Ticket) -> Result<(), Ticket>
         requires { IsPassOf self.now pass.old }
         ensures pass { IsPassOf self.now pass.new }
-        ensures step { MatchResult result (λ _. step.Puts (capacity_of self.now) (records_of pass.old) ticket (records_of pass.new)) (λ back. (back ≡ ticket) × step.Refuses (capacity_of self.now) (records_of pass.old) (records_of pass.new)) }
+        ensures step { PutStep self.now pass.old ticket result pass.new }
         ensures names { KeepsNames (records_of pass.old) (records_of pass.new) }
     {
         self.put_within::<Brand, R>(rt, &mut pass.seat, ticket)?;
@@ -65,7 +65,7 @@ impl TicketQueue {
         requires live { 0 < length (view seat.old) }
         requires room { capacity_of self.now ≡ N.room }
         ensures pass { IsSamePass seat.old seat.new }
-        ensures step { MatchResult result (λ _. step.Puts (capacity_of self.now) (view seat.old) ticket (view seat.new)) (λ back. (back ≡ ticket) × step.Refuses (capacity_of self.now) (view seat.old) (view seat.new)) }
+        ensures step { step.PutTells N.room (view seat.old) ticket result (view seat.new) }
     {
         // Read for its range: the queue holds fewer tickets than a word counts.
         let _capacity = self.tickets.capacity();
@@ -77,7 +77,7 @@ impl TicketQueue {
     pub fn take<R: Wait>(&self, rt: &R, pass: &mut Pass) -> Option<Ticket>
         requires { IsPassOf self.now pass.old }
         ensures pass { IsPassOf self.now pass.new }
-        ensures step { MatchOption result (step.FindsNone (records_of pass.old) (records_of pass.new)) (λ ticket. step.Takes (records_of pass.old) ticket (records_of pass.new)) }
+        ensures step { TakeStep pass.old result pass.new }
         ensures names { KeepsNames (records_of pass.old) (records_of pass.new) }
     {
         let ticket = self.tickets.pop_as::<Take, R>(rt, &mut pass.seat)?;
@@ -89,7 +89,8 @@ impl TicketQueue {
     pub fn split(&self, pass: Pass) -> (Pass, Pass)
         requires { IsPassOf self.now pass }
         ensures passes { IsPassOf self.now result.0 × IsPassOf self.now result.1 }
-        ensures step { (records_of result.0 ≡ step.after_split (records_of pass)) × (records_of result.1 ≡ step.split_off (records_of pass)) }
+        ensures kept { records_of result.0 ≡ step.after_split (records_of pass) }
+        ensures made { records_of result.1 ≡ step.split_off (records_of pass) }
         ensures names { DividesNames (records_of pass) (records_of result.0) (records_of result.1) }
     {
         let Pass { mut seat, tally } = pass;

@@ -1,7 +1,6 @@
 //! The numbers that a pass carries.
 
-ghost use Rattle.std.specs.Prelude.{ℕ, ◌+◌};
-ghost use Rattle.ready_queue.specs.Tally.{Counts};
+ghost use Rattle.ready_queue.specs.Tally.{Counts, CountsPut, CountsTake, CountsBoth};
 
 /// How many tickets were put and taken, each at most `u64::MAX`, and how far the puts are ahead of the
 /// takes, which wraps.
@@ -24,7 +23,7 @@ impl Tally {
     }
 
     pub fn with_put(self) -> Tally
-        ensures { (puts takes : ℕ) → Counts puts takes self → Counts (puts + 1) takes result }
+        ensures { CountsPut self result }
     {
         Tally {
             put: self.put.saturating_add(1),
@@ -34,7 +33,7 @@ impl Tally {
     }
 
     pub fn with_taken(self) -> Tally
-        ensures { (puts takes : ℕ) → Counts puts takes self → Counts puts (takes + 1) result }
+        ensures { CountsTake self result }
     {
         Tally {
             put: self.put,
@@ -45,7 +44,7 @@ impl Tally {
 
     /// The numbers of both.
     pub fn joined(self, other: Tally) -> Tally
-        ensures { (puts takes more others : ℕ) → Counts puts takes self → Counts more others other → Counts (puts + more) (takes + others) result }
+        ensures { CountsBoth self other result }
     {
         Tally {
             put: self.put.saturating_add(other.put),
