@@ -1,0 +1,7 @@
+pub mod Words
+pub mod Naming
+pub mod Totals
+pub mod Orders
+pub mod Moves
+pub mod Counts
+pub mod Sharing
