@@ -1,2 +1,4 @@
 pub mod Faults
 pub mod Host
+pub mod Lawful
+pub mod Laws
