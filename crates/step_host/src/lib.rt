@@ -13,6 +13,8 @@
 pub mod fault;
 pub mod host;
 pub mod laws;
+pub mod script;
 
-pub use fault::HostFault;
+pub use fault::{HostFault, ScriptFault};
 pub use host::{DecidedHost, StepHost};
+pub use script::ScriptHost;
