@@ -1,0 +1,42 @@
+-- What holds of lists that are lawful over a host.
+use Rattle.std.specs.Prelude.{◌≡◌, ℕ, List, [], ◌∷◌, ◌++◌, Some, Ok}
+use Rattle.flow_model.specs.declared.plan.Plan.{Plan}
+use Rattle.flow_model.specs.declared.board.Board.{Board}
+use Rattle.flow_model.specs.declared.event.Answer.{Answer}
+use Rattle.flow_model.specs.declared.event.Entry.{Entry}
+use Rattle.flow_model.specs.declared.reply.Reply.{Reply}
+use Rattle.flow_model.specs.declared.reply.StepCall.{StepCall}
+use Rattle.status_table.specs.Row.{row}
+use Rattle.status_table.specs.Runs.{after, IsLegal}
+use Rattle.step_host.specs.Lawful.{open_call, call_after, EndsAdmitted, Lawful}
+use Rattle.step_host.specs.Replay.{recorded, IsRecorded}
+use Rattle.step_host.specs.Script.{IsScript}
+
+-- No entries are lawful.
+abbrev pub NoneIsLawful : (StepCall → Answer → Type 0) → Type 0
+NoneIsLawful admits = (p : Plan) → Lawful admits p []
+
+-- A lawful list stays so with one entry more, if the table accepts it and it ends no call but as the host admits.
+abbrev pub LawfulGrows : (StepCall → Answer → Type 0) → Type 0
+LawfulGrows admits =
+    (p : Plan) (es : List Entry) (b new : Board) (e : Entry) (reply : Reply) → Lawful admits p es
+    → after p es ≡ Some b → row p b e.worker e.event ≡ Ok (new, reply) → EndsAdmitted admits (open_call p es) e.event
+    → Lawful admits p (es ++ e ∷ [])
+
+-- The first entries of a lawful list are lawful.
+abbrev pub LawfulBegins : (StepCall → Answer → Type 0) → Type 0
+LawfulBegins admits = (p : Plan) (es more : List Entry) → Lawful admits p (es ++ more) → Lawful admits p es
+
+-- Which call of a leg is open after one entry more follows from what was replied to that entry.
+abbrev pub CallFollows : Type 0
+CallFollows =
+    (p : Plan) (es : List Entry) (b new : Board) (e : Entry) (reply : Reply) (l : ℕ) → after p es ≡ Some b
+    → row p b e.worker e.event ≡ Ok (new, reply) → open_call p (es ++ e ∷ []) l ≡ call_after l (open_call p es l) e.event reply.what
+
+-- What a legal list records is a script.
+abbrev pub RecordsAreScripts : Type 0
+RecordsAreScripts = (p : Plan) (es : List Entry) → IsLegal p es → IsScript (recorded p es)
+
+-- A legal list is lawful over what it records.
+abbrev pub RecordsAreLawful : Type 0
+RecordsAreLawful = (p : Plan) (es : List Entry) → IsLegal p es → Lawful (IsRecorded p es) p es

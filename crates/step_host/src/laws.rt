@@ -1,0 +1,21 @@
+//! Laws of lists that are lawful over a host, each a clause of a function that does nothing.
+
+ghost use Rattle.step_host.specs.Laws.{CallFollows, LawfulBegins, LawfulGrows, NoneIsLawful, RecordsAreLawful, RecordsAreScripts};
+
+use crate::host::StepHost;
+
+/// A list is lawful over a host entry by entry: no entries are; one more that the table accepts keeps it so, where an
+/// answer is admitted for the call that is open; and so the first entries of a lawful list are lawful.
+pub fn lawful_lists_grow<H: StepHost>()
+    ensures none { (host : H) → NoneIsLawful (H.admits host) }
+    ensures last { (host : H) → LawfulGrows (H.admits host) }
+    ensures first { (host : H) → LawfulBegins (H.admits host) }
+    ensures call { CallFollows }
+{}
+
+/// The answers of a legal list, each for the step that its leg was at, are well-formed and one a step; and over them
+/// the list is lawful.
+pub fn records_are_lawful()
+    ensures script { RecordsAreScripts }
+    ensures lawful { RecordsAreLawful }
+{}

@@ -1,0 +1,20 @@
+//! step_host: what the answer to a step's call comes from.
+//!
+//! A host means a relation, `admits`: which answers it admits for a call. The trait `StepHost` promises that an admitted
+//! answer is well-formed, and that `play` answers only what is admitted; `DecidedHost`, that a call admits one answer at
+//! most. What it means that a list of entries is lawful over a host, so that each call of a step is answered as the host
+//! admits, is in `specs/Lawful.antt`, and what follows from that in `laws`.
+//!
+//! The crate stands on `status_table`, whose table says which call a step makes, on `flow_model`, and on `thiserror` for
+//! its errors.
+
+#![tactic(auto)]
+
+pub mod fault;
+pub mod host;
+pub mod laws;
+pub mod script;
+
+pub use fault::{HostFault, ScriptFault};
+pub use host::{DecidedHost, StepHost};
+pub use script::ScriptHost;
