@@ -1,0 +1,7 @@
+pub mod Alone
+pub mod Answers
+pub mod Entries
+pub mod Fault
+pub mod Hand
+pub mod History
+pub mod Stop

@@ -1,0 +1,16 @@
+//! worker_pool: plays a plan to its end, with one thread, with many workers, or by a recorded list.
+//!
+//! What a player promises rests on the table of `status_table`: its history is a list of entries that the table accepts.
+//! `play_alone` plays by one thread, and `play_entries` replays a list; both ask a host of `step_host` for the answers
+//! to the calls.
+
+#![tactic(auto)]
+
+mod answers;
+pub mod fault;
+mod play;
+pub mod played;
+mod stop;
+
+pub use fault::PoolFault;
+pub use played::{Ending, Played};

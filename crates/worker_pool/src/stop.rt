@@ -1,0 +1,50 @@
+//! Why a play goes no further, apart from what was played.
+
+ghost use Rattle.std.specs.Prelude.{◌≡◌};
+ghost use Rattle.worker_pool.specs.Stop.{fault_after};
+
+use crate::fault::PoolFault;
+use flow_model::{Entry, Sequence};
+use std::alloc::AllocError;
+use step_host::HostFault;
+
+/// Why a play goes no further.
+#[derive(Clone, Copy)]
+pub(crate) enum Stop {
+    /// The host declined the call of a leg's step.
+    NoAnswer { leg: u64, step: u64 },
+    /// The next entry is not what the table and the host say.
+    Mismatch,
+    /// There is no memory.
+    Memory,
+}
+
+impl Stop {
+    /// The fault, with what was played.
+    pub(crate) fn after(self, history: Vec<Entry>) -> PoolFault
+        ensures { result ≡ fault_after self history.items }
+    {
+        let history = Sequence::new(history);
+        match self {
+            Stop::NoAnswer { leg, step } => PoolFault::Host {
+                leg,
+                step,
+                fault: HostFault::NoAnswer,
+                history,
+            },
+            Stop::Mismatch => PoolFault::Mismatch { history },
+            Stop::Memory => PoolFault::Memory { history },
+        }
+    }
+}
+
+impl From<AllocError> for Stop {
+    ghost use Rattle.std.specs.Prelude.{◌≡◌};
+    ghost use Rattle.worker_pool.specs.declared.stop.Stop.TheVariants.{Memory};
+
+    ghost from_gives = { λ _ e. e ≡ Memory };
+
+    fn from(_: AllocError) -> Stop {
+        Stop::Memory
+    }
+}
