@@ -2,7 +2,7 @@
 -- state without a worker.
 use Rattle.std.proofs.Common.{◌≡◌, ◌≢◌, ℕ, Bool, true, false, not, ◌||◌, List, ◌∷◌, ◌++◌, Option, Some, None, Result, Ok, Err, slice_get, nat_le, if◌then◌else◌, inl, inr, ap, subst, sym, refl, ◌∙◌}
 use Rattle.std.specs.List.{flat_map}
-use Rattle.std.proofs.lemmas.Bool.{cases_eq}
+use Rattle.std.proofs.lemmas.Bool.{true≢false, cases_eq}
 use Rattle.board_decisions.specs.declared.entrance.Entrance.{Entrance}
 use Rattle.board_decisions.specs.declared.place.JobPlace.{JobPlace}
 use Rattle.board_decisions.specs.Decisions.{is_stopping, run_entrance, leg_entrance}
@@ -67,6 +67,19 @@ EachLeg Q b = EachAt (λ k leg. Q k leg.state) (board_legs b)
 abbrev pub EachLegThen : (ℕ → LegState → Type 0) → rows.Row → Type 0
 EachLegThen Q (Ok x) = EachLeg Q x.0
 EachLegThen Q (Err f) = Unit {0}
+
+-- whether an event is one of a clerk's
+abbrev pub is_clerks : Event → Bool
+is_clerks (event.Open r) = true
+is_clerks (event.Judge j) = true
+is_clerks (event.Ask l) = true
+is_clerks (event.Drop l) = true
+is_clerks (event.Take l) = false
+is_clerks (event.Begin l) = false
+is_clerks (event.End l a) = false
+is_clerks (event.Finish l) = false
+is_clerks (event.Close r) = true
+is_clerks (event.Cancel r) = false
 
 same_legs : (Q : ℕ → LegState → Type 0) (b c : Board) → board_legs c ≡ board_legs b → EachLeg Q b → EachLeg Q c
 same_legs Q b c same each = subst (EachAt (λ k leg. Q k leg.state)) (sym same) each
@@ -224,11 +237,15 @@ module _ (Q : ℕ → LegState → Type 0) (rest : (k : ℕ) (s : LegState) → 
       found None = tt
       found (Some at) = by_state at.run at.run.state
 
-  cancel_legs : (p : Plan) (b : Board) (r : ℕ) → EachLeg Q b → EachLegThen Q (rows.cancel_row p b r)
-  cancel_legs p b r each = found (run_at p b r)
-    where
-      found : (o : Option RunAt) → EachLegThen Q (rows.cancel_found b r o)
-      found None = tt
-      found (Some at) =
-          by_test (EachLegThen Q) (is_closed at.run.state || at.run.stop) (Err fault.WrongState) (Ok (stopped b true (member.Run r), moved)) tt
-          (of_stopped b true (member.Run r) each)
+  -- an event of a clerk
+  pub clerk_legs : (p : Plan) (b : Board) (e : Event) → is_clerks e ≡ true → EachLeg Q b → EachLegThen Q (rows.row p b 0 e)
+  clerk_legs p b (event.Open r) h = open_legs p b r
+  clerk_legs p b (event.Judge j) h = judge_legs p b j
+  clerk_legs p b (event.Ask l) h = ask_legs p b l
+  clerk_legs p b (event.Drop l) h = drop_legs p b l
+  clerk_legs p b (event.Take l) h = absurd (true≢false (sym h))
+  clerk_legs p b (event.Begin l) h = absurd (true≢false (sym h))
+  clerk_legs p b (event.End l a) h = absurd (true≢false (sym h))
+  clerk_legs p b (event.Finish l) h = absurd (true≢false (sym h))
+  clerk_legs p b (event.Close r) h = close_legs p b r
+  clerk_legs p b (event.Cancel r) h = absurd (true≢false (sym h))

@@ -1,2 +1,5 @@
 pub mod Grows
+pub mod Hands
 pub mod Legs
+pub mod Moved
+pub mod Refused

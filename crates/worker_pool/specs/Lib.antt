@@ -5,3 +5,4 @@ pub mod Fault
 pub mod Hand
 pub mod History
 pub mod Stop
+pub mod Lowest

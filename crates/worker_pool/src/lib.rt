@@ -6,8 +6,10 @@
 
 #![tactic(auto)]
 
+mod alone;
 mod answers;
 pub mod fault;
+mod lowest;
 mod play;
 pub mod played;
 mod stop;
