@@ -1,5 +1,11 @@
-pub mod Grows
-pub mod Hands
-pub mod Legs
-pub mod Moved
-pub mod Refused
+mod Accepted
+mod Grows
+mod Hands
+mod Holding
+mod Keeping
+mod Legs
+mod Moved
+mod NoMoves
+mod Numbered
+mod Refused
+mod Stuck

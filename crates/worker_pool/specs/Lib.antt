@@ -4,5 +4,6 @@ pub mod Entries
 pub mod Fault
 pub mod Hand
 pub mod History
-pub mod Stop
 pub mod Lowest
+pub mod Stalls
+pub mod Stop

@@ -2,7 +2,7 @@
 //!
 //! What a player promises rests on the table of `status_table`: its history is a list of entries that the table accepts.
 //! `play_alone` plays by one thread, and `play_entries` replays a list; both ask a host of `step_host` for the answers
-//! to the calls.
+//! to the calls. `stalls` has what keeps such a list from going on to the end.
 
 #![tactic(auto)]
 
@@ -12,6 +12,7 @@ pub mod fault;
 mod lowest;
 mod play;
 pub mod played;
+pub mod stalls;
 mod stop;
 
 pub use fault::PoolFault;
