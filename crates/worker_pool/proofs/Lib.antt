@@ -1,5 +1,11 @@
-mod Numbered
-mod NoMoves
+mod Accepted
+mod Grows
+mod Hands
 mod Holding
 mod Keeping
+mod Legs
+mod Moved
+mod NoMoves
+mod Numbered
+mod Refused
 mod Stuck

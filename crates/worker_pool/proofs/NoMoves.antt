@@ -89,11 +89,11 @@ idle p b h =
 
 -- ---- rows by a test
 
-first : (c : Bool) (r s : rows.Row) → c ≡ true → is_accepted (if c then r else s) ≡ is_accepted r
+pub first : (c : Bool) (r s : rows.Row) → c ≡ true → is_accepted (if c then r else s) ≡ is_accepted r
 first true r s h = refl
 first false r s h = absurd (true≢false (sym h))
 
-second : (c : Bool) (r s : rows.Row) → c ≡ false → is_accepted (if c then r else s) ≡ is_accepted s
+pub second : (c : Bool) (r s : rows.Row) → c ≡ false → is_accepted (if c then r else s) ≡ is_accepted s
 second true r s h = absurd (true≢false h)
 second false r s h = refl
 

@@ -1,1 +1,9 @@
+pub mod Alone
+pub mod Answers
+pub mod Entries
+pub mod Fault
+pub mod Hand
+pub mod History
+pub mod Lowest
 pub mod Stalls
+pub mod Stop

@@ -1,0 +1,251 @@
+-- What the events of a board make of its legs: what is known of each leg by its state stays so, where it holds of each
+-- state without a worker.
+use Rattle.std.proofs.Common.{◌≡◌, ◌≢◌, ℕ, Bool, true, false, not, ◌||◌, List, ◌∷◌, ◌++◌, Option, Some, None, Result, Ok, Err, slice_get, nat_le, if◌then◌else◌, inl, inr, ap, subst, sym, refl, ◌∙◌}
+use Rattle.std.specs.List.{flat_map}
+use Rattle.std.proofs.lemmas.Bool.{true≢false, cases_eq}
+use Rattle.board_decisions.specs.declared.entrance.Entrance.{Entrance}
+use Rattle.board_decisions.specs.declared.place.JobPlace.{JobPlace}
+use Rattle.board_decisions.specs.Decisions.{is_stopping, run_entrance, leg_entrance}
+use Rattle.board_decisions.specs.Derived.{is_closed, is_full, jobs_have_ended, run_result}
+use Rattle.board_decisions.specs.Place.{RunAt, JobAt, LegAt, run_at, job_at, leg_at}
+use Rattle.flow_model.specs.Numbers.{board_legs}
+use Rattle.flow_model.specs.declared.plan.Plan.{Plan}
+use Rattle.flow_model.specs.declared.board.Board.{Board}
+use Rattle.flow_model.specs.declared.board.Run.{Run}
+use Rattle.flow_model.specs.declared.board.RunState.{RunState}
+use Rattle.flow_model.specs.declared.board.RunState.TheVariants as run_state
+use Rattle.flow_model.specs.declared.board.Job.{Job}
+use Rattle.flow_model.specs.declared.board.JobState.{JobState}
+use Rattle.flow_model.specs.declared.board.Leg.{Leg}
+use Rattle.flow_model.specs.declared.board.LegState.{LegState}
+use Rattle.flow_model.specs.declared.board.LegState.TheVariants as leg_state
+use Rattle.flow_model.specs.declared.event.Event.{Event}
+use Rattle.flow_model.specs.declared.event.Event.TheVariants as event
+use Rattle.flow_model.specs.declared.event.Member.{Member}
+use Rattle.flow_model.specs.declared.event.Member.TheVariants as member
+use Rattle.flow_model.specs.declared.event.Outcome.{Outcome}
+use Rattle.flow_model.specs.declared.event.Outcome.TheVariants as outcome
+use Rattle.flow_model.specs.declared.reply.ValueFault.{ValueFault}
+use Rattle.status_table.specs.declared.fault.EventFault.{EventFault}
+use Rattle.status_table.specs.declared.fault.EventFault.TheVariants as fault
+use Rattle.status_table.specs.Change.{put, changed, with_run, with_leg, with_numbered_leg}
+use Rattle.status_table.specs.Groups.{Done, Standing, run_standing, leg_standing, holder, waiter, next_after, closed, dropped, admitted, waits, passed_on, cancelled, displaced, stopped, stop_told, told, moved, is_own, enters_held, enters, leaves}
+use Rattle.status_table.specs.Row as rows
+use Rattle.status_table.proofs.Decided.{by_test}
+use Rattle.status_table.proofs.Lists.{same_some, changed-there, changed-elsewhere, flat_map-kept, flat_map-twice}
+use Rattle.status_table.proofs.Numbers.{board_legs-changed, numbered_leg-changed}
+use Rattle.status_table.proofs.Turns.{run_legs}
+use Rattle.worker_pool.specs.Alone.{is_running}
+
+-- ---- an item changed
+
+-- what holds of each item at its place
+abbrev pub EachAt : {T : Type 0} → (ℕ → T → Type 0) → List T → Type 0
+EachAt {T} P xs = (k : ℕ) (x : T) → slice_get xs k ≡ Some x → P k x
+
+pub each-changed : {T : Type 0} (P : ℕ → T → Type 0) (xs : List T) (i : ℕ) (f : T → T) → ((x : T) → slice_get xs i ≡ Some x → P i (f x)) → EachAt P xs
+    → EachAt P (changed xs i f)
+each-changed {T} P xs i f new each k x h =
+    elim (cases_eq k i) as (λ _. P k x) [
+      | inl e ↦ subst (λ n. P n x) (sym e) (here (slice_get xs i) refl (sym (ap (slice_get (changed xs i f)) e) ∙ h))
+      | inr n ↦ each k x (sym (changed-elsewhere xs i f k n) ∙ h)
+    ]
+  where
+    here : (o : Option T) → slice_get xs i ≡ o → slice_get (changed xs i f) i ≡ Some x → P i x
+    here None is there = each i x (sym (ap (λ ys. slice_get ys i) (none is)) ∙ there)
+      where
+        none : slice_get xs i ≡ None → changed xs i f ≡ xs
+        none is' = ap (put xs i f) is'
+    here (Some y) is there = subst (P i) (same_some (f y) x (sym (changed-there xs i f y is) ∙ there)) (new y is)
+
+-- ---- what is known of each leg by its state
+
+abbrev pub EachLeg : (ℕ → LegState → Type 0) → Board → Type 0
+EachLeg Q b = EachAt (λ k leg. Q k leg.state) (board_legs b)
+
+-- the same of the board of a row, if it is accepted
+abbrev pub EachLegThen : (ℕ → LegState → Type 0) → rows.Row → Type 0
+EachLegThen Q (Ok x) = EachLeg Q x.0
+EachLegThen Q (Err f) = Unit {0}
+
+-- whether an event is one of a clerk's
+abbrev pub is_clerks : Event → Bool
+is_clerks (event.Open r) = true
+is_clerks (event.Judge j) = true
+is_clerks (event.Ask l) = true
+is_clerks (event.Drop l) = true
+is_clerks (event.Take l) = false
+is_clerks (event.Begin l) = false
+is_clerks (event.End l a) = false
+is_clerks (event.Finish l) = false
+is_clerks (event.Close r) = true
+is_clerks (event.Cancel r) = false
+
+same_legs : (Q : ℕ → LegState → Type 0) (b c : Board) → board_legs c ≡ board_legs b → EachLeg Q b → EachLeg Q c
+same_legs Q b c same each = subst (EachAt (λ k leg. Q k leg.state)) (sym same) each
+
+module _ (Q : ℕ → LegState → Type 0) (rest : (k : ℕ) (s : LegState) → is_running s ≡ false → Q k s) where
+  -- ---- the changes of a member
+
+  -- a leg comes to a state without a worker
+  put_down : (b : Board) (l : ℕ) (f : Leg → Leg) → ((leg : Leg) → is_running (f leg).state ≡ false) → EachLeg Q b → EachLeg Q (with_numbered_leg b l f)
+  put_down b l f down each =
+      subst (EachAt (λ k leg. Q k leg.state)) (sym (numbered_leg-changed b l f))
+      (each-changed (λ k leg. Q k leg.state) (board_legs b) l f (λ leg there. rest l (f leg).state (down leg)) each)
+
+  of_run : (b : Board) (r : ℕ) (f : Run → Run) → ((run : Run) → (f run).jobs ≡ run.jobs) → EachLeg Q b → EachLeg Q (with_run b r f)
+  of_run b r f jobs = same_legs Q b (with_run b r f) (run_legs b r f jobs)
+
+  of_closed : (b : Board) (r : ℕ) (result : Outcome) → EachLeg Q b → EachLeg Q (closed b r result)
+  of_closed b r result = of_run b r (λ run. record run { state = run_state.Closed result }) (λ run. refl)
+
+  of_dropped : (b : Board) (l : ℕ) (result : Outcome) → EachLeg Q b → EachLeg Q (dropped b l result)
+  of_dropped b l result = put_down b l (λ leg. record leg { state = leg_state.Ended result false }) (λ leg. refl)
+
+  of_admitted : (b : Board) (name : Option (List ℕ)) (m : Member) → EachLeg Q b → EachLeg Q (admitted b name m)
+  of_admitted b name (member.Run r) = of_run b r (λ run. record run { state = run_state.Going; group = name }) (λ run. refl)
+  of_admitted b name (member.Leg l) = put_down b l (λ leg. record leg { state = leg_state.Admitted; group = name }) (λ leg. refl)
+
+  of_waits : (b : Board) (name : List ℕ) (m : Member) → EachLeg Q b → EachLeg Q (waits b name m)
+  of_waits b name (member.Run r) = of_run b r (λ run. record run { state = run_state.Waiting; group = Some name }) (λ run. refl)
+  of_waits b name (member.Leg l) = put_down b l (λ leg. record leg { state = leg_state.Waiting; group = Some name }) (λ leg. refl)
+
+  of_passed : (b : Board) (next : Option Member) → EachLeg Q b → EachLeg Q (passed_on b next)
+  of_passed b None each = each
+  of_passed b (Some (member.Run r)) each = of_run b r (λ run. record run { state = run_state.Going }) (λ run. refl) each
+  of_passed b (Some (member.Leg l)) each = put_down b l (λ leg. record leg { state = leg_state.Admitted }) (λ leg. refl) each
+
+  of_cancelled : (b : Board) (m : Member) → EachLeg Q b → EachLeg Q (cancelled b m)
+  of_cancelled b (member.Run r) = of_closed b r outcome.Cancelled
+  of_cancelled b (member.Leg l) = of_dropped b l outcome.Cancelled
+
+  of_displaced : (b : Board) (waited : Option Member) → EachLeg Q b → EachLeg Q (displaced b waited)
+  of_displaced b None each = each
+  of_displaced b (Some w) each = of_cancelled b w each
+
+  of_stopped : (b : Board) (wanted : Bool) (m : Member) → EachLeg Q b → EachLeg Q (stopped b wanted m)
+  of_stopped b false m each = each
+  of_stopped b true (member.Run r) each = of_run b r (λ run. record run { stop = true }) (λ run. refl) each
+  of_stopped b true (member.Leg l) each =
+      subst (EachAt (λ k leg. Q k leg.state)) (sym (numbered_leg-changed b l (λ leg. record leg { stop = true })))
+      (each-changed (λ k leg. Q k leg.state) (board_legs b) l (λ leg. record leg { stop = true }) (λ leg there. each l leg there) each)
+
+  -- ---- entering and leaving
+
+  of_either : (c : Bool) (x y : Done) → EachLeg Q x.0 → EachLeg Q y.0 → EachLeg Q (if c then x else y).0
+  of_either true x y first second = first
+  of_either false x y first second = second
+
+  of_held : (b : Board) (m : Member) (own : Option ℕ) (group : Entrance) (held waited : Option Member) → EachLeg Q b → EachLeg Q (enters_held b m own group held waited).0
+  of_held b m own group None waited each = of_admitted b (Some group.name) m each
+  of_held b m own group (Some holds) waited each =
+      of_either (is_own own holds) (cancelled b m, moved)
+      (stopped (displaced (waits b group.name m) waited) group.cancel holds, told None waited (stop_told group.cancel holds))
+      (of_cancelled b m each)
+      (of_stopped (displaced (waits b group.name m) waited) group.cancel holds (of_displaced (waits b group.name m) waited (of_waits b group.name m each)))
+
+  of_enters : (b : Board) (m : Member) (own : Option ℕ) (group : Option Entrance) → EachLeg Q b → EachLeg Q (enters b m own group).0
+  of_enters b m own None each = of_admitted b None m each
+  of_enters b m own (Some group) each = of_held b m own group (holder b group.name) (waiter b group.name) each
+
+  pub of_leaves : (b after : Board) (stood : Standing) → EachLeg Q after → EachLeg Q (leaves b stood after).0
+  of_leaves b after stood = of_passed after (next_after b stood)
+
+  -- ---- the events of a clerk
+
+  of_judged : (b : Board) (place : JobPlace) (state : JobState) → EachLeg Q b → EachLeg Q (rows.job_state_set b place state)
+  of_judged b place state =
+      let in_job : Job → Job = λ job. record job { state = state } in
+      let in_run : Run → Run = λ run. record run { jobs = changed run.jobs place.job in_job } in
+      same_legs Q b (rows.job_state_set b place state)
+      (flat_map-twice (λ (run : Run). run.jobs) (λ (job : Job). job.legs) (changed b.runs place.run in_run)
+      ∙ flat_map-kept (λ (run : Run). flat_map (λ (job : Job). job.legs) run.jobs) b.runs place.run in_run (λ run. flat_map-kept (λ (job : Job). job.legs) run.jobs place.job in_job (λ job. refl))
+      ∙ sym (flat_map-twice (λ (run : Run). run.jobs) (λ (job : Job). job.legs) b.runs))
+
+  open_legs : (p : Plan) (b : Board) (r : ℕ) → EachLeg Q b → EachLegThen Q (rows.open_row p b r)
+  open_legs p b r each = found (run_at p b r)
+    where
+      entered : (x : Result (Option Entrance) ValueFault) → EachLegThen Q (rows.run_enters b r x)
+      entered (Ok group) = of_enters b (member.Run r) None group each
+      entered (Err f) = of_closed b r outcome.Failure each
+
+      opened : (at : RunAt) (s : RunState) (stop : Bool) → EachLegThen Q (rows.open_run b r at s stop)
+      opened at run_state.New false = entered (run_entrance at)
+      opened at run_state.New true = tt
+      opened at run_state.Waiting stop = tt
+      opened at run_state.Going stop = tt
+      opened at (run_state.Closed result) stop = tt
+
+      found : (o : Option RunAt) → EachLegThen Q (rows.open_found b r o)
+      found None = tt
+      found (Some at) = opened at at.run.state at.run.stop
+
+  judge_legs : (p : Plan) (b : Board) (j : ℕ) → EachLeg Q b → EachLegThen Q (rows.judge_row p b j)
+  judge_legs p b j each = found (job_at p b j)
+    where
+      judged : (place : JobPlace) (x : Result JobState EventFault) → EachLegThen Q (rows.judge_job b place x)
+      judged place (Ok state) = of_judged b place state each
+      judged place (Err f) = tt
+
+      found : (o : Option JobAt) → EachLegThen Q (rows.judge_found b j o)
+      found None = tt
+      found (Some at) = judged at.place (rows.judgement j at)
+
+  ask_legs : (p : Plan) (b : Board) (l : ℕ) → EachLeg Q b → EachLegThen Q (rows.ask_row p b l)
+  ask_legs p b l each = found (leg_at p b l)
+    where
+      entered : (at : LegAt) (x : Result (Option Entrance) ValueFault) → EachLegThen Q (rows.leg_enters b l at x)
+      entered at (Ok group) = of_enters b (member.Leg l) (Some at.place.run) group each
+      entered at (Err f) = of_dropped b l outcome.Failure each
+
+      found : (o : Option LegAt) → EachLegThen Q (rows.ask_found b l o)
+      found None = tt
+      found (Some at) =
+          by_test (EachLegThen Q) (not (rows.may_ask at)) (Err fault.WrongState)
+          (if is_full at.job_plan at.job then Err fault.SlotsFull else (if is_stopping at then Err fault.Stopping else rows.leg_enters b l at (leg_entrance at))) tt
+          (by_test (EachLegThen Q) (is_full at.job_plan at.job) (Err fault.SlotsFull) (if is_stopping at then Err fault.Stopping else rows.leg_enters b l at (leg_entrance at)) tt
+          (by_test (EachLegThen Q) (is_stopping at) (Err fault.Stopping) (rows.leg_enters b l at (leg_entrance at)) tt (entered at (leg_entrance at))))
+
+  drop_legs : (p : Plan) (b : Board) (l : ℕ) → EachLeg Q b → EachLegThen Q (rows.drop_row p b l)
+  drop_legs p b l each = found (leg_at p b l)
+    where
+      found : (o : Option LegAt) → EachLegThen Q (rows.drop_found b l o)
+      found None = tt
+      found (Some at) =
+          by_test (EachLegThen Q) (not (rows.may_drop at)) (Err fault.WrongState)
+          (if is_stopping at then Ok (leaves b (leg_standing at.leg) (dropped b l outcome.Cancelled)) else Err fault.NotStopping) tt
+          (by_test (EachLegThen Q) (is_stopping at) (Ok (leaves b (leg_standing at.leg) (dropped b l outcome.Cancelled))) (Err fault.NotStopping)
+          (of_leaves b (dropped b l outcome.Cancelled) (leg_standing at.leg) (of_dropped b l outcome.Cancelled each)) tt)
+
+  close_legs : (p : Plan) (b : Board) (r : ℕ) → EachLeg Q b → EachLegThen Q (rows.close_row p b r)
+  close_legs p b r each = found (run_at p b r)
+    where
+      ended : (run : Run) (result : Outcome) → EachLegThen Q (rows.run_closes b r run result)
+      ended run result = of_leaves b (closed b r result) (run_standing run) (of_closed b r result each)
+
+      waited : (run : Run) (stop : Bool) → EachLegThen Q (rows.close_waiting b r run stop)
+      waited run true = ended run outcome.Cancelled
+      waited run false = tt
+
+      by_state : (run : Run) (s : RunState) → EachLegThen Q (rows.close_run b r run s)
+      by_state run run_state.New = waited run run.stop
+      by_state run run_state.Waiting = waited run run.stop
+      by_state run run_state.Going = by_test (EachLegThen Q) (jobs_have_ended run) (rows.run_closes b r run (run_result run)) (Err fault.NeedsOpen) (ended run (run_result run)) tt
+      by_state run (run_state.Closed result) = tt
+
+      found : (o : Option RunAt) → EachLegThen Q (rows.close_found b r o)
+      found None = tt
+      found (Some at) = by_state at.run at.run.state
+
+  -- an event of a clerk
+  pub clerk_legs : (p : Plan) (b : Board) (e : Event) → is_clerks e ≡ true → EachLeg Q b → EachLegThen Q (rows.row p b 0 e)
+  clerk_legs p b (event.Open r) h = open_legs p b r
+  clerk_legs p b (event.Judge j) h = judge_legs p b j
+  clerk_legs p b (event.Ask l) h = ask_legs p b l
+  clerk_legs p b (event.Drop l) h = drop_legs p b l
+  clerk_legs p b (event.Take l) h = absurd (true≢false (sym h))
+  clerk_legs p b (event.Begin l) h = absurd (true≢false (sym h))
+  clerk_legs p b (event.End l a) h = absurd (true≢false (sym h))
+  clerk_legs p b (event.Finish l) h = absurd (true≢false (sym h))
+  clerk_legs p b (event.Close r) h = close_legs p b r
+  clerk_legs p b (event.Cancel r) h = absurd (true≢false (sym h))

@@ -1,0 +1,43 @@
+-- What is refused, and why.
+use Rattle.std.proofs.Common.{◌≡◌, Bool, true, false, List, [], ◌∷◌, None, Result, Ok, Err, slice_get, ap, sym, refl, ◌∙◌}
+use Rattle.std.proofs.lemmas.Bool.{true≢false}
+use Rattle.flow_model.specs.declared.event.Event.{Event}
+use Rattle.status_table.specs.declared.fault.EventFault.{EventFault}
+use Rattle.status_table.specs.declared.fault.EventFault.TheVariants as fault
+use Rattle.status_table.specs.Answers.{Refuses}
+use Rattle.status_table.specs.Moves.{is_accepted}
+use Rattle.status_table.specs.Row.{Row}
+use Rattle.worker_pool.specs.Stop.{is_memory}
+
+no_refusal : (r : Row) (f : EventFault) → is_accepted r ≡ true → r ≡ Err f → ⊥
+no_refusal r f held is = true≢false (sym held ∙ ap is_accepted is)
+
+-- what the table accepts is refused for want of memory alone
+pub only_memory : (r : Row) (f : EventFault) → is_accepted r ≡ true → Refuses r f → f ≡ fault.Memory
+only_memory r fault.NoSuch held h = absurd (no_refusal r fault.NoSuch held h)
+only_memory r fault.WrongState held h = absurd (no_refusal r fault.WrongState held h)
+only_memory r fault.OtherWorker held h = absurd (no_refusal r fault.OtherWorker held h)
+only_memory r fault.NeedsOpen held h = absurd (no_refusal r fault.NeedsOpen held h)
+only_memory r fault.SlotsFull held h = absurd (no_refusal r fault.SlotsFull held h)
+only_memory r fault.Stopping held h = absurd (no_refusal r fault.Stopping held h)
+only_memory r fault.NotStopping held h = absurd (no_refusal r fault.NotStopping held h)
+only_memory r fault.StepsLeft held h = absurd (no_refusal r fault.StepsLeft held h)
+only_memory r fault.BadAnswer held h = absurd (no_refusal r fault.BadAnswer held h)
+only_memory r fault.Memory held h = refl
+
+-- any other refusal is the row's
+pub refused : (r : Row) (f : EventFault) → is_memory f ≡ false → Refuses r f → r ≡ Err f
+refused r fault.NoSuch other h = h
+refused r fault.WrongState other h = h
+refused r fault.OtherWorker other h = h
+refused r fault.NeedsOpen other h = h
+refused r fault.SlotsFull other h = h
+refused r fault.Stopping other h = h
+refused r fault.NotStopping other h = h
+refused r fault.StepsLeft other h = h
+refused r fault.BadAnswer other h = h
+refused r fault.Memory other h = absurd (true≢false other)
+
+pub no_first : (es : List Event) → slice_get es 0 ≡ None → es ≡ []
+no_first [] h = refl
+no_first (e ∷ es) h = absurd (cc)

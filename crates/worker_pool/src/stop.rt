@@ -1,0 +1,81 @@
+//! Why a play goes no further, apart from what was played.
+
+ghost use Rattle.std.specs.Prelude.{◌≡◌};
+ghost use Rattle.status_table.specs.declared.fault.EventFault.TheVariants as event_fault;
+ghost use Rattle.worker_pool.specs.Stop.{fault_after};
+ghost use Rattle.worker_pool.specs.Stop as spec;
+
+use crate::fault::PoolFault;
+use flow_model::{Entry, Sequence};
+use status_table::EventFault;
+use std::alloc::AllocError;
+use step_host::HostFault;
+
+/// Why a play goes no further.
+#[derive(Clone, Copy)]
+pub(crate) enum Stop {
+    /// The host declined the call of a leg's step.
+    NoAnswer { leg: u64, step: u64 },
+    /// The next entry is not what the table and the host say.
+    Mismatch,
+    /// There is no memory.
+    Memory,
+}
+
+/// Whether a refusal is for want of memory.
+pub(crate) fn is_memory(fault: EventFault) -> bool
+    ensures { result ≡ spec.is_memory fault }
+{
+    match fault {
+        EventFault::NoSuch => false,
+        EventFault::WrongState => false,
+        EventFault::OtherWorker => false,
+        EventFault::NeedsOpen => false,
+        EventFault::SlotsFull => false,
+        EventFault::Stopping => false,
+        EventFault::NotStopping => false,
+        EventFault::StepsLeft => false,
+        EventFault::BadAnswer => false,
+        EventFault::Memory => true,
+    }
+}
+
+impl Stop {
+    /// Why a play goes no further where an entry is refused that the table accepts: there is no memory.
+    pub(crate) fn of_accepted(fault: EventFault) -> Stop
+        requires { fault ≡ event_fault.Memory }
+        ensures { result ≡ Stop.Memory }
+    {
+        let wants_memory = is_memory(fault);
+        prove!(wants_memory);
+        Stop::Memory
+    }
+
+    /// The fault, with what was played.
+    pub(crate) fn after(self, history: Vec<Entry>) -> PoolFault
+        ensures { result ≡ fault_after self history.items }
+    {
+        let history = Sequence::new(history);
+        match self {
+            Stop::NoAnswer { leg, step } => PoolFault::Host {
+                leg,
+                step,
+                fault: HostFault::NoAnswer,
+                history,
+            },
+            Stop::Mismatch => PoolFault::Mismatch { history },
+            Stop::Memory => PoolFault::Memory { history },
+        }
+    }
+}
+
+impl From<AllocError> for Stop {
+    ghost use Rattle.std.specs.Prelude.{◌≡◌};
+    ghost use Rattle.worker_pool.specs.declared.stop.Stop.TheVariants.{Memory};
+
+    ghost from_gives = { λ _ e. e ≡ Memory };
+
+    fn from(_: AllocError) -> Stop {
+        Stop::Memory
+    }
+}
