@@ -5,5 +5,6 @@ pub mod Known
 pub mod Lines
 pub mod OneAnswer
 pub mod Reading
+pub mod Replayed
 pub mod Told
 pub mod Unplanned

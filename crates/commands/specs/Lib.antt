@@ -5,6 +5,7 @@ pub mod List
 pub mod Plan
 pub mod Planning
 pub mod Play
+pub mod Replay
 pub mod Stream
 pub mod Table
 pub mod Tell

@@ -23,11 +23,11 @@ answer_seen (Err trouble) = Err trouble
 abbrev pub Says : Stream → Stream → List ℕ → Type 0
 Says old new text = IsWritten old new text ⊎ IsCutOff old new text
 
--- The text stands on out and nothing on err, with status 0.
-pub record TellsText (text : List ℕ) (out out' err err' : Stream) (status : ℕ) : Type 0 where
+-- The text stands on out and nothing on err, with this status.
+pub record TellsText (text : List ℕ) (done : ℕ) (out out' err err' : Stream) (status : ℕ) : Type 0 where
   pub written : IsWritten out out' text
   pub silent : IsKept err err'
-  pub done : status ≡ 0
+  pub is : status ≡ done
 
 -- Nothing stands on out, and the trouble's line on err, as far as err takes it, with the trouble's status.
 pub record TellsTrouble (trouble : Trouble) (out out' err err' : Stream) (status : ℕ) : Type 0 where
@@ -41,10 +41,14 @@ pub record BreaksOff (text : List ℕ) (out out' err err' : Stream) (status : �
   pub said : Says err err' (line Io)
   pub is : status ≡ trouble_status Io
 
--- What is left of an answer.
+-- What is left of an answer, where a text has this status.
+abbrev pub TellsBy : ℕ → Answer → Stream → Stream → Stream → Stream → ℕ → Type 0
+TellsBy done (Ok text) out out' err err' status = TellsText text done out out' err err' status ⊎ BreaksOff text out out' err err' status
+TellsBy done (Err trouble) out out' err err' status = TellsTrouble trouble out out' err err' status
+
+-- What is left of an answer, where a text has the status 0.
 abbrev pub Tells : Answer → Stream → Stream → Stream → Stream → ℕ → Type 0
-Tells (Ok text) out out' err err' status = TellsText text out out' err err' status ⊎ BreaksOff text out out' err err' status
-Tells (Err trouble) out out' err err' status = TellsTrouble trouble out out' err err' status
+Tells answer out out' err err' status = TellsBy 0 answer out out' err err' status
 
 -- ---- what is told of an input
 

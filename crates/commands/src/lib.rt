@@ -16,6 +16,7 @@ pub mod list;
 pub mod plan;
 mod planning;
 mod play;
+pub mod replay;
 pub mod stream;
 pub mod table;
 mod tell;

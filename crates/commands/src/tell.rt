@@ -1,7 +1,7 @@
 //! What a command leaves of its answer: a text on `out`, or one line on `err`, and an exit status.
 
 ghost use Rattle.std.specs.Prelude.{◌≡◌};
-ghost use Rattle.commands.specs.Tell.{Says, Tells, answer_seen};
+ghost use Rattle.commands.specs.Tell.{Says, Tells, TellsBy, answer_seen};
 ghost use Rattle.commands.specs.Trouble.{line, source_trouble, trouble_status};
 
 use crate::stream::{Sink, SourceFault};
@@ -27,7 +27,8 @@ pub(crate) fn refuse_source<E: Sink>(err: &mut E, fault: SourceFault) -> u8
     }
 }
 
-/// Writes the text of an answer to `out`, or the line of its trouble to `err`, and gives the exit status.
+/// Writes the text of an answer to `out`, or the line of its trouble to `err`, and gives the exit status: that of a text
+/// is 0.
 pub(crate) fn tell<O: Sink, E: Sink>(
     answer: Result<String, Trouble>,
     out: &mut O,
@@ -36,10 +37,23 @@ pub(crate) fn tell<O: Sink, E: Sink>(
     ensures { Tells (answer_seen answer)
         (O.seen out.old) (O.seen out.new) (E.seen err.old) (E.seen err.new) result }
 {
+    tell_by(DONE, answer, out, err)
+}
+
+/// The same, where that of a text is `done`.
+pub(crate) fn tell_by<O: Sink, E: Sink>(
+    done: u8,
+    answer: Result<String, Trouble>,
+    out: &mut O,
+    err: &mut E,
+) -> u8
+    ensures { TellsBy done (answer_seen answer)
+        (O.seen out.old) (O.seen out.new) (E.seen err.old) (E.seen err.new) result }
+{
     match answer {
         Ok(text) => {
             if out.put(text.as_bytes()) {
-                return DONE;
+                return done;
             }
             refuse(err, &Trouble::Io)
         },

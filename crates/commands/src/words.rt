@@ -10,6 +10,7 @@ use crate::eval::eval;
 use crate::files::NamedSource;
 use crate::list::list;
 use crate::plan::plan;
+use crate::replay::replay;
 use crate::stream::{Input, Sink, Source};
 use crate::table::table;
 use crate::tell::refuse;
@@ -45,6 +46,11 @@ fn plan_command<'a>(alloc: Global) -> Result<Command<'a>, AllocError> {
         .arg(flow_words(alloc))
 }
 
+/// A command over the file of a record.
+fn record_command<'a>(alloc: Global, name: &'a str) -> Result<Command<'a>, AllocError> {
+    Command::new(alloc, name).arg(Arg::new(alloc, "record").required(true))
+}
+
 /// The commands, one level deep.
 fn known_commands<'a>(alloc: Global) -> Result<Command<'a>, AllocError> {
     let table = Command::new(alloc, "table");
@@ -56,7 +62,8 @@ fn known_commands<'a>(alloc: Global) -> Result<Command<'a>, AllocError> {
         .subcommand(table)?
         .subcommand(eval)?
         .subcommand(plan_command(alloc)?)?
-        .subcommand(Command::new(alloc, "list").arg(flow_words(alloc))?)
+        .subcommand(Command::new(alloc, "list").arg(flow_words(alloc))?)?
+        .subcommand(record_command(alloc, "replay")?)
 }
 
 /// Runs `eval` over a file of contexts.
@@ -274,6 +281,24 @@ fn run_list<F: Folder, O: Sink, E: Sink>(
     }
 }
 
+/// Runs `replay` with its word.
+fn run_replay<F: Folder, O: Sink, E: Sink>(
+    alloc: Global,
+    words: &ArgMatches,
+    folder: &F,
+    out: &mut O,
+    err: &mut E,
+) -> u8
+    ensures { spec.RunsReplay (O.seen out.old) (O.seen out.new)
+        (E.seen err.old) (E.seen err.new) result }
+{
+    let name = words.get_str("record").unwrap_or("");
+    match folder.open(name) {
+        Some(mut record) => replay(alloc, &mut record, out, err),
+        None => refuse(err, &Trouble::Io),
+    }
+}
+
 /// Runs the command that was found in the words.
 fn perform<F: Folder, I: Source, O: Sink, E: Sink>(
     alloc: Global,
@@ -291,6 +316,7 @@ fn perform<F: Folder, I: Source, O: Sink, E: Sink>(
         Some(("eval", inner)) => run_eval(alloc, inner, folder, out, err),
         Some(("plan", inner)) => run_plan(alloc, inner, folder, out, err),
         Some(("list", inner)) => run_list(alloc, inner, folder, out, err),
+        Some(("replay", inner)) => run_replay(alloc, inner, folder, out, err),
         _ => refuse(err, &Trouble::Words),
     }
 }

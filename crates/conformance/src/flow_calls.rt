@@ -9,7 +9,7 @@
 //!
 //! A fault is told by its name and the key, path or text that it names. Values are told as compact JSON.
 
-use crate::documents;
+use crate::host_calls;
 use crate::verbs::word;
 use flow_model::{Combo, Flow, Mapping, Matrix, Roots, Value, json_of};
 use flow_reader::{FlowFault, read_flow, read_roots};
@@ -50,7 +50,7 @@ pub fn told(
         "roots" => lines_told(alloc, Reading::Roots, input),
         "legs" => lines_told(alloc, Reading::Legs, input),
         "flow" => sweep_told(alloc, word(words, 1), input),
-        _ => documents::told(alloc, words, file, input),
+        _ => host_calls::told(alloc, words, file, input),
     }
 }
 

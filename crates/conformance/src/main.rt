@@ -27,8 +27,8 @@
 //!   \           the line has no newline
 //!
 //! There are no escapes: a text goes to the end of its line. The verbs stand at the heads of `documents`, `expressions`,
-//! `flow_calls`, `group_calls`, `pattern_sweeps`, `plan_calls` and `record_sweeps`. The program stands on `commands` and the
-//! libraries below it, and proves nothing of its own; what it wants stands in `data/`.
+//! `flow_calls`, `group_calls`, `host_calls`, `pattern_sweeps`, `plan_calls` and `record_sweeps`. The program stands on
+//! `commands` and the libraries below it, and proves nothing of its own; what it wants stands in `data/`.
 
 #![tactic(auto)]
 
@@ -37,6 +37,7 @@ mod documents;
 mod expressions;
 mod flow_calls;
 mod group_calls;
+mod host_calls;
 mod members;
 mod pattern_sweeps;
 mod plan_calls;

@@ -1,0 +1,146 @@
+//! `actrun replay`: the board after a record, which is played again.
+
+ghost use Rattle.std.specs.Prelude.{◌≡◌, ◌+◌, ◌^◌, ◌<◌};
+ghost use Rattle.commands.specs.Replay as spec;
+ghost use Rattle.commands.specs.Tell.{TellsBy};
+ghost use Rattle.commands.specs.Replay.{GivesBoard, GivesEntries, GivesReplay, ReplayTells};
+
+use crate::stream::{Sink, Source};
+use crate::tell::{refuse_source, tell_by};
+use crate::trouble::{DONE, Trouble};
+use board_decisions::derived::is_closed;
+use flow_model::{Board, CheckedPlan, Entry, Outcome, RunState};
+use plan_text::{LoadFault, board_text, load_record};
+use status_table::EventFault;
+use status_table::board_laws::legal_lists_are_short;
+use std::alloc::Global;
+use step_host::ReplayHost;
+use worker_pool::play_entries;
+
+/// The exit status where a run failed or was cancelled.
+pub(crate) const UNSUCCESSFUL: u8 = 1;
+
+/// The exit status where a run is not closed.
+pub(crate) const UNCLOSED: u8 = 4;
+
+/// Whether a run is closed with success.
+fn has_succeeded(state: RunState) -> bool
+    ensures { result ≡ spec.has_succeeded state }
+{
+    match state {
+        RunState::New => false,
+        RunState::Waiting => false,
+        RunState::Going => false,
+        RunState::Closed(outcome) => match outcome {
+            Outcome::Success => true,
+            Outcome::Failure => false,
+            Outcome::Cancelled => false,
+            Outcome::Skipped => false,
+        },
+    }
+}
+
+/// The exit status that tells how the runs of a board ended.
+fn runs_status(board: &Board) -> u8
+    ensures { result ≡ spec.runs_status board.now }
+{
+    if !board.runs.iter().all(|run| is_closed(run.state)) {
+        return UNCLOSED;
+    }
+    if board.runs.iter().all(|run| has_succeeded(run.state)) {
+        return DONE;
+    }
+    UNSUCCESSFUL
+}
+
+/// Why a text is no record.
+fn load_trouble(fault: LoadFault) -> Trouble
+    ensures { result ≡ spec.load_trouble fault }
+{
+    match fault {
+        LoadFault::NotJson => Trouble::NoPlan(LoadFault::NotJson),
+        LoadFault::Version => Trouble::NoPlan(LoadFault::Version),
+        LoadFault::NotPlan(path) => Trouble::NoPlan(LoadFault::NotPlan(path)),
+        LoadFault::NotEntry(number) => Trouble::NoEntry(number),
+        LoadFault::Memory => Trouble::Memory,
+    }
+}
+
+/// Why there is no board, where the entry at a place, from 0, stops a list; its line is the second after the plan's.
+fn stop_trouble(place: usize, fault: EventFault) -> Trouble
+    requires { place + 2 < 2 ^ 64 }
+    ensures { result ≡ spec.stop_trouble place fault }
+{
+    match fault {
+        EventFault::Memory => Trouble::Memory,
+        _ => Trouble::Refused(place as u64 + 2, fault),
+    }
+}
+
+/// The board after entries, which are played again: each End by the answer that its call has in the list.
+fn played_again(alloc: Global, plan: &CheckedPlan, entries: &[Entry]) -> Result<Board, Trouble>
+    ensures { GivesEntries plan.now entries.now result }
+{
+    legal_lists_are_short();
+    match ReplayHost::new(alloc, plan, entries) {
+        Ok(host) => match play_entries(alloc, plan, entries, &host) {
+            Ok(board) => Ok(board),
+            Err(_) => Err(Trouble::Memory),
+        },
+        Err((place, fault)) => Err(stop_trouble(place, fault)),
+    }
+}
+
+/// The board after a record.
+fn replayed(alloc: Global, text: &[u8]) -> Result<Board, Trouble>
+    ensures { GivesBoard text.now result }
+{
+    match load_record(alloc, text) {
+        Ok((plan, entries)) => played_again(alloc, &plan, entries.as_slice()),
+        Err(fault) => Err(load_trouble(fault)),
+    }
+}
+
+/// The text of the board after a record, and the exit status that tells how its runs ended.
+fn shown_replay(alloc: Global, text: &[u8]) -> Result<(String, u8), Trouble>
+    ensures { GivesReplay text.now result }
+{
+    let board = replayed(alloc, text)?;
+    match board_text(alloc, &board) {
+        Ok(shown) => Ok((shown, runs_status(&board))),
+        Err(_) => Err(Trouble::Memory),
+    }
+}
+
+/// Writes the text of a board to `out`, with its status, or the line of a trouble to `err`.
+fn tell_replay<O: Sink, E: Sink>(
+    answer: Result<(String, u8), Trouble>,
+    out: &mut O,
+    err: &mut E,
+) -> u8
+    ensures { TellsBy (spec.status_of answer) (spec.text_of answer)
+        (O.seen out.old) (O.seen out.new) (E.seen err.old) (E.seen err.new) result }
+{
+    match answer {
+        Ok((shown, done)) => tell_by(done, Ok(shown), out, err),
+        Err(trouble) => tell_by(DONE, Err(trouble), out, err),
+    }
+}
+
+/// Reads a record to its end, plays its entries again, each call answered as the record answers it, and writes the text of
+/// the board after them to `out`; or writes why there is none to `err`, in one line. The answer is the exit status: of a
+/// board 0 where all runs succeeded, 4 where some run is not closed, and else 1.
+pub fn replay<I: Source, O: Sink, E: Sink>(
+    alloc: Global,
+    input: &mut I,
+    out: &mut O,
+    err: &mut E,
+) -> u8
+    ensures { ReplayTells (I.seen input.old) (I.seen input.new)
+        (O.seen out.old) (O.seen out.new) (E.seen err.old) (E.seen err.new) result }
+{
+    match input.read_all(alloc) {
+        Ok(text) => tell_replay(shown_replay(alloc, text.as_slice()), out, err),
+        Err(fault) => refuse_source(err, fault),
+    }
+}
