@@ -1,0 +1,7 @@
+pub mod Following
+pub mod Marked
+pub mod Nearest
+pub mod Played
+pub mod Stops
+pub mod Tellings
+pub mod Trails
