@@ -4,4 +4,5 @@ pub mod Nearest
 pub mod Played
 pub mod Stops
 pub mod Tellings
+pub mod Together
 pub mod Trails

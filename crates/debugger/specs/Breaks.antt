@@ -1,5 +1,5 @@
 -- Breaks: when one holds of an entry, and the set of those that are set.
-use Rattle.std.specs.Prelude.{ℕ, ◌==◌, ◌++◌, ◌&&◌, Bool, true, false, not, List, [], ◌∷◌, length, filter, option_map, Option, Some, None, slice_get, if◌then◌else◌}
+use Rattle.std.specs.Prelude.{◌≡◌, ℕ, ◌==◌, ◌++◌, ◌&&◌, ◌||◌, Bool, true, false, not, List, [], ◌∷◌, length, filter, option_map, Option, Some, None, slice_get, if◌then◌else◌}
 use Rattle.std.specs.List.{list_any}
 use Rattle.board_decisions.specs.Derived.{is_ended, is_failure}
 use Rattle.flow_model.specs.Numbers.{board_legs}
@@ -110,3 +110,11 @@ with_break added breaks = if is_set added breaks then breaks else breaks ++ adde
 -- the breaks without one
 abbrev pub without_break : Break → List Break → List Break
 without_break cleared breaks = filter (λ b. not (same_break b cleared)) breaks
+
+-- a break is set besides those that were
+abbrev pub AddsAlone : Break → List Break → List Break → Type 0
+AddsAlone added old new = (b : Break) → is_set b new ≡ (same_break added b || is_set b old)
+
+-- of the breaks that were set this one is no more
+abbrev pub ClearsAlone : Break → List Break → List Break → Type 0
+ClearsAlone cleared old new = (b : Break) → is_set b new ≡ (not (same_break b cleared) && is_set b old)

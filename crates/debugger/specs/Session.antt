@@ -1,5 +1,5 @@
 -- A record under the debugger, and its moves.
-use Rattle.std.specs.Prelude.{◌≡◌, ◌≤◌, ◌<◌, ◌+◌, ◌-◌, ◌==◌, ℕ, Bool, true, false, List, [], length, nat_le, Option, Result, Ok, Err, if◌then◌else◌}
+use Rattle.std.specs.Prelude.{◌≡◌, ◌≤◌, ◌<◌, ◌+◌, ◌-◌, ◌==◌, ℕ, Bool, true, false, List, [], length, nat_le, Option, Result, Ok, Err, is_ok, if◌then◌else◌}
 use Rattle.std.specs.List.{list_any}
 use Rattle.flow_model.specs.declared.plan.Plan.{Plan}
 use Rattle.flow_model.specs.declared.board.Board.{Board}
@@ -56,7 +56,8 @@ moved s (Err refusal) = s
 abbrev pub Moves : Result ℕ DebugFault → Session → Result ℕ DebugFault → Session → Type 0
 Moves target old result new = (result ≡ target) × (new ≡ moved old target)
 
--- The same for a move that may find no memory, and then changes nothing.
+-- The same for a move that may find no memory: it is looked for last, where the move leads somewhere, and nothing is changed
+-- without it.
 abbrev pub MovesInMemory : Result ℕ DebugFault → Session → Result ℕ DebugFault → Session → Type 0
 MovesInMemory target old (Ok k) new = (target ≡ Ok k) × (new ≡ at_place old k)
 MovesInMemory target old (Err fault.AtStart) new = (target ≡ Err fault.AtStart) × (new ≡ old)
@@ -64,7 +65,7 @@ MovesInMemory target old (Err fault.AtEnd) new = (target ≡ Err fault.AtEnd) ×
 MovesInMemory target old (Err fault.NoPlace) new = (target ≡ Err fault.NoPlace) × (new ≡ old)
 MovesInMemory target old (Err fault.NoBreak) new = (target ≡ Err fault.NoBreak) × (new ≡ old)
 MovesInMemory target old (Err (fault.BadRecord i refusal)) new = (target ≡ Err (fault.BadRecord i refusal)) × (new ≡ old)
-MovesInMemory target old (Err fault.Memory) new = new ≡ old
+MovesInMemory target old (Err fault.Memory) new = (is_ok target ≡ true) × (new ≡ old)
 
 -- ---- moves to the nearest break
 
@@ -94,11 +95,11 @@ abbrev pub NoPreviousStop : Session → Type 0
 NoPreviousStop s = (j : ℕ) → j < s.place → stops_at s j ≡ false
 
 -- Going on leads to the nearest later stop and answers it; where there is none it is refused, and nothing is changed; nor
--- is it where there was no memory.
+-- is anything where there is one, and no memory.
 abbrev pub GoesOn : Session → Result ℕ DebugFault → Session → Type 0
 GoesOn old (Ok k) new = NextStop old k × (new ≡ at_place old k)
 GoesOn old (Err fault.NoBreak) new = NoNextStop old × (new ≡ old)
-GoesOn old (Err fault.Memory) new = new ≡ old
+GoesOn old (Err fault.Memory) new = ((k : ℕ) × NextStop old k) × (new ≡ old)
 GoesOn old (Err fault.AtStart) new = ⊥
 GoesOn old (Err fault.AtEnd) new = ⊥
 GoesOn old (Err fault.NoPlace) new = ⊥

@@ -49,6 +49,7 @@ pub(crate) fn is_set(breaks: &[Break], wanted: Break) -> bool
 /// Sets a break, if it is not set.
 pub(crate) fn set(breaks: &mut Vec<Break>, added: Break) -> Result<(), AllocError>
     ensures ok { OnOk result (breaks.new.items ≡ spec.with_break added breaks.old.items) }
+    ensures alone { OnOk result (spec.AddsAlone added breaks.old.items breaks.new.items) }
     ensures err { OnErr result (breaks.new.items ≡ breaks.old.items) }
 {
     if is_set(breaks.as_slice(), added) {
@@ -62,6 +63,7 @@ pub(crate) fn set(breaks: &mut Vec<Break>, added: Break) -> Result<(), AllocErro
 pub(crate) fn clear(breaks: &mut Vec<Break>, cleared: Break) -> bool
     ensures was { result ≡ spec.is_set cleared breaks.old.items }
     ensures left { breaks.new.items ≡ spec.without_break cleared breaks.old.items }
+    ensures alone { spec.ClearsAlone cleared breaks.old.items breaks.new.items }
 {
     let was = is_set(breaks.as_slice(), cleared);
     breaks.retain(|one| !is_same(*one, cleared));
