@@ -1,10 +1,10 @@
 //! debugger: goes forwards and backwards through a recorded list of entries.
 //!
-//! A `Debugger` over any `Reversible` board is opened on a record that the table accepts whole, and is told where it is
-//! refused. At place k it shows the board after the first k entries (`specs/Places.antt`), however it came there: one
-//! step on or back, to a place that is asked for, or to the nearest place, later or earlier, where a break that is set
-//! holds (`specs/Session.antt`). When a break holds is said in `specs/Breaks.antt`, by the entry and the boards before and
-//! after it.
+//! `Debugger::open` plays a record on any `Reversible` board, or tells the first entry that the table refuses, and goes
+//! back to the start. At place k a debugger shows the board after the first k entries (`specs/Places.antt`), however it
+//! came there: one step on or back, to a place that is asked for, or to the nearest place, later or earlier, where a break
+//! that is set holds (`specs/Session.antt`). When a break holds is said in `specs/Breaks.antt`, by the entry and the boards
+//! before and after it.
 //!
 //! Inside, a `Walk` keeps the undos of the entries that were played, and so goes back without memory (`specs/Trail.antt`);
 //! a `Mark` keeps of each entry what its breaks ask, so that no board is needed to find them (`specs/Marks.antt`). The
