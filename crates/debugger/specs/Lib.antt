@@ -1,0 +1,6 @@
+pub mod Breaks
+pub mod Fault
+pub mod Marks
+pub mod Places
+pub mod Session
+pub mod Trail

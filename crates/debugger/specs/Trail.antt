@@ -1,0 +1,115 @@
+-- The way that a board came: the boards before it, each of which can be gone back to.
+use Rattle.std.specs.Prelude.{◌≡◌, ◌≤◌, ◌<◌, ◌++◌, ℕ, suc, List, [], ◌∷◌, length, Option, Some, Result, Ok, Err, slice_get}
+use Rattle.flow_model.specs.declared.plan.Plan.{Plan}
+use Rattle.flow_model.specs.declared.board.Board.{Board}
+use Rattle.flow_model.specs.declared.event.Entry.{Entry}
+use Rattle.status_table.specs.declared.fault.EventFault.{EventFault}
+use Rattle.status_table.specs.declared.fault.EventFault.TheVariants as refusal
+use Rattle.status_table.specs.Answers.{Refuses}
+use Rattle.status_table.specs.Row.{Row, row}
+use Rattle.status_table.specs.Runs.{after_from}
+use Rattle.debugger.specs.declared.fault.DebugFault.{DebugFault}
+use Rattle.debugger.specs.declared.fault.DebugFault.TheVariants as fault
+use Rattle.debugger.specs.declared.looks.Look.{Look}
+use Rattle.debugger.specs.declared.marks.Mark.{Mark}
+use Rattle.debugger.specs.Marks.{looks_of, mark_between, mark_of}
+use Rattle.debugger.specs.Places.{IsLegalFrom, board_at}
+
+-- a plan, the boards that were gone through, the first of them first, and the board now
+pub record Trail : Type 0 where
+  pub plan : Plan
+  pub past : List Board
+  pub now : Board
+
+-- the first board of all
+abbrev pub first_of : List Board → Board → Board
+first_of [] now = now
+first_of (b ∷ bs) now = b
+
+-- all boards, the last one last
+abbrev pub boards_of : Trail → List Board
+boards_of t = t.past ++ t.now ∷ []
+
+-- One more entry: it leads to a new board; or the table refuses it, or there was no memory, and nothing is changed.
+abbrev pub Advances : Trail → Entry → Result (Unit {0}) EventFault → Trail → Type 0
+Advances old e (Ok done) new =
+    (after_from old.plan old.now (e ∷ []) ≡ Some new.now) × (new.past ≡ old.past ++ old.now ∷ []) × (new.plan ≡ old.plan)
+Advances old e (Err f) new = Refuses (row old.plan old.now e.worker e.event) f × (new ≡ old)
+
+-- ---- what undos lead back through
+
+module _ {U : Type 0} (before : U → Board → Board) where
+  -- the board to which all undos lead back, the first of them last
+  abbrev pub undone : List U → Board → Board
+  undone [] now = now
+  undone (u ∷ us) now = before u (undone us now)
+
+  -- the boards that they lead back to
+  abbrev pub past_of : List U → Board → List Board
+  past_of [] now = []
+  past_of (u ∷ us) now = undone (u ∷ us) now ∷ past_of us now
+
+  -- each undo fits the board to which those after it lead back
+  abbrev pub AllFit : (U → Plan → Board → Type 0) → Plan → List U → Board → Type 0
+  AllFit fits p [] now = Unit {0}
+  AllFit fits p (u ∷ us) now = fits u p (undone us now) × AllFit fits p us now
+
+-- ---- what a debugger keeps
+
+-- a list has what is told at each of its places
+abbrev pub Tells : {A : Type 0} → List A → (ℕ → Option A) → Type 0
+Tells xs told = (i : ℕ) → i < length xs → slice_get xs i ≡ told i
+
+-- what is kept of the entry at a place
+abbrev pub mark_at : Plan → Board → List Entry → ℕ → Option Mark
+mark_at p b es i = mark_between (slice_get es i) (board_at p b es i) (board_at p b es (suc i))
+
+-- From a first board, the boards gone through are those at the places so far, which are of the record; no entry of it is
+-- refused; and what is kept of each entry is so.
+pub record Follows (p : Plan) (b : Board) (past : List Board) (now : Board) (es : List Entry) (kept : List Mark) : Type 0 where
+  pub boards : Tells (past ++ now ∷ []) (board_at p b es)
+  pub within : length past ≤ length es
+  pub legal : IsLegalFrom p b es
+  pub many : length kept ≡ length es
+  pub told : Tells kept (mark_at p b es)
+
+-- ---- the first way through a record
+
+-- why an entry of a record is not played, by its place and its row
+abbrev pub NotPlayed : Row → ℕ → DebugFault → Type 0
+NotPlayed r k fault.AtStart = ⊥
+NotPlayed r k fault.AtEnd = ⊥
+NotPlayed r k fault.NoPlace = ⊥
+NotPlayed r k fault.NoBreak = ⊥
+NotPlayed r k (fault.BadRecord i why) = (i ≡ k) × (r ≡ Err why)
+NotPlayed r k fault.Memory = Unit {0}
+
+-- the refusal of the entry at a place
+abbrev pub refused_at : ℕ → EventFault → DebugFault
+refused_at k refusal.NoSuch = fault.BadRecord k refusal.NoSuch
+refused_at k refusal.WrongState = fault.BadRecord k refusal.WrongState
+refused_at k refusal.OtherWorker = fault.BadRecord k refusal.OtherWorker
+refused_at k refusal.NeedsOpen = fault.BadRecord k refusal.NeedsOpen
+refused_at k refusal.SlotsFull = fault.BadRecord k refusal.SlotsFull
+refused_at k refusal.Stopping = fault.BadRecord k refusal.Stopping
+refused_at k refusal.NotStopping = fault.BadRecord k refusal.NotStopping
+refused_at k refusal.StepsLeft = fault.BadRecord k refusal.StepsLeft
+refused_at k refusal.BadAnswer = fault.BadRecord k refusal.BadAnswer
+refused_at k refusal.Memory = fault.Memory
+
+-- An entry was played, and what is kept of it was made, with what is looked at after it.
+pub record Recorded (old : Trail) (e : Entry) (new : Trail) (looks : List Look) (mark : Mark) : Type 0 where
+  pub led : after_from old.plan old.now (e ∷ []) ≡ Some new.now
+  pub past : new.past ≡ old.past ++ old.now ∷ []
+  pub plan : new.plan ≡ old.plan
+  pub looks_are : looks ≡ looks_of new.now
+  pub mark_is : mark ≡ mark_of e.event (looks_of old.now) looks
+
+-- So many of the first entries were played: the boards are those at the places so far, and what is kept of each entry so far
+-- is so.
+pub record IsPlayed (p : Plan) (b : Board) (es : List Entry) (k : ℕ) (t : Trail) (kept : List Mark) : Type 0 where
+  pub plan : t.plan ≡ p
+  pub boards : Tells (boards_of t) (board_at p b es)
+  pub place : length t.past ≡ k
+  pub many : length kept ≡ k
+  pub told : Tells kept (mark_at p b es)

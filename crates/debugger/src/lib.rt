@@ -1,0 +1,25 @@
+//! debugger: goes forwards and backwards through a recorded list of entries.
+//!
+//! `Debugger::open` plays a record on any `Reversible` board, or tells the first entry that the table refuses, and goes
+//! back to the start. At place k a debugger shows the board after the first k entries (`specs/Places.antt`), however it
+//! came there: one step on or back, to a place that is asked for, or to the nearest place, later or earlier, where a break
+//! that is set holds (`specs/Session.antt`). When a break holds is said in `specs/Breaks.antt`, by the entry and the boards
+//! before and after it.
+//!
+//! Inside, a `Walk` keeps the undos of the entries that were played, and so goes back without memory (`specs/Trail.antt`);
+//! a `Mark` keeps of each entry what its breaks ask, so that no board is needed to find them (`specs/Marks.antt`). The
+//! crate stands on `status_table`, and knows the board by its two traits alone.
+
+#![tactic(auto)]
+
+pub mod breaks;
+pub mod debugger;
+pub mod fault;
+mod looks;
+mod marks;
+mod playing;
+mod walk;
+
+pub use breaks::Break;
+pub use debugger::Debugger;
+pub use fault::DebugFault;
