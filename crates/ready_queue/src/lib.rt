@@ -9,6 +9,7 @@
 #![tactic(auto)]
 
 pub mod count;
+pub mod laws;
 pub mod pass;
 pub mod queue;
 pub mod record;
