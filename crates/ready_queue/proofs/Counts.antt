@@ -1,16 +1,15 @@
 -- What each step of a pass does to its numbers.
 use Rattle.std.proofs.Common.{◌≡◌, ℕ, ◌+◌, ◌<◌, ◌^◌, List, [], ◌∷◌, ◌++◌, length, refl, sym, ap, subst, arith, length-append}
 use Rattle.ready_queue.specs.Names.{Name}
-use Rattle.ready_queue.specs.Bags.{SameBag}
-use Rattle.ready_queue.specs.Records.{all_put, all_taken, tickets, IsWhole, GoesWith}
+use Rattle.ready_queue.specs.Records.{all_put, all_taken, tickets, IsWhole}
 use Rattle.ready_queue.specs.Steps.{with_put, with_taken, after_split, split_off, joined, Closes}
-use Rattle.ready_queue.specs.Tally.{counted, Counts}
+use Rattle.ready_queue.specs.Tally.{Counts}
 use Rattle.ready_queue.specs.Passes.{IsCountOf}
 use Rattle.ready_queue.specs.declared.record.Record.{Record}
 use Rattle.ready_queue.specs.declared.tally.Tally.{Tally}
 use Rattle.ready_queue.proofs.Words.{ahead_is}
-use Rattle.ready_queue.proofs.Totals.{put_append, taken_append, tickets_append, weigh_length}
-use Rattle.ready_queue.proofs.Moves.{whole_goes, bag_length}
+use Rattle.ready_queue.proofs.Totals.{put_append, taken_append, tickets_append, weigh_length, length_tickets}
+use Rattle.ready_queue.proofs.Whole.{whole_bag, whole_length}
 
 -- The numbers of equal counts.
 pub recount : (puts takes puts' takes' : ℕ) (t : Tally) → puts' ≡ puts → takes' ≡ takes → Counts puts takes t → Counts puts' takes' t
@@ -97,12 +96,12 @@ both_takes v w =
 -- The numbers of a pass count its records, when no other pass is out.
 pub closed : (v : List Record) (items : List ℕ) (t : Tally) → Counts (length (all_put v)) (length (all_taken v)) t → IsWhole v → Closes v items → IsCountOf v (record { put = t.put; taken = t.taken; left = t.ahead })
 closed v items t counts whole closes =
-    let bag = whole_goes v items whole closes.0 in
-    let sum = bag_length (all_put v) (all_taken v ++ items) bag in
-    let parts = length-append (all_taken v) items in
+    let queued = closes.0.0 in
+    let moment = closes.0.2 in
+    let both = whole_length v queued moment whole in
     let ahead = counts.2 in
     let word = counts.3 in
-    let few = closes.1 in
-    let both : length (all_put v) ≡ length (all_taken v) + length items = omega arith in
-    let left : t.ahead ≡ length items = ahead_is (length (all_taken v)) (length items) t.ahead word few (rw both at ahead) in
-    record { left = items; bag = bag; put_count = counts.0; taken_count = counts.1; left_count = omega arith }
+    let same = length_tickets queued in
+    let few : length (tickets queued) < 2 ^ 64 = rw closes.0.1 closes.1 in
+    let left : t.ahead ≡ length queued = ahead_is (length (all_taken v)) (length queued) t.ahead word (omega arith) (rw both at ahead) in
+    record { left = tickets queued; bag = whole_bag v queued moment whole; put_count = counts.0; taken_count = counts.1; left_count = omega arith }

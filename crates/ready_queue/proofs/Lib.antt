@@ -3,5 +3,7 @@ pub mod Naming
 pub mod Totals
 pub mod Orders
 pub mod Moves
+pub mod Whole
 pub mod Counts
 pub mod Sharing
+pub mod Lawful

@@ -1,5 +1,5 @@
 -- Each step of a pass keeps the rule of the queue.
-use Rattle.std.proofs.Common.{◌≡◌, ◌≢◌, ℕ, zero, suc, ◌+◌, ◌<◌, ◌≤◌, ◌^◌, Bool, true, false, List, [], ◌∷◌, ◌++◌, length, map, set, refl, sym, ap, ◌∙◌, subst, inl, inr, ⊎_elim, arith, length-append, append_assoc, append-nil}
+use Rattle.std.proofs.Common.{◌≡◌, ◌≢◌, ℕ, zero, suc, ◌+◌, ◌<◌, ◌^◌, Bool, true, false, List, [], ◌∷◌, ◌++◌, length, map, set, refl, sym, ap, ◌∙◌, subst, ⊎_elim, arith, length-append, append_assoc, append-nil}
 use Rattle.std.specs.Prelude.{if◌then◌else◌}
 use mathlib.Core.Option.{some, some-injective, some-ne-none}
 use lib.ListN.{get_elem?}
@@ -7,9 +7,10 @@ use Rattle.crossbeam_queue.specs.Fifo.{Pushes, Pops, Forks, Merges, Learns}
 use Rattle.crossbeam_queue.proofs.Lists.{at_set, at_snoc}
 use Rattle.ready_queue.specs.Names.{Name, same_name, keeps, under}
 use Rattle.ready_queue.specs.Bags.{weigh, SameBag}
-use Rattle.ready_queue.specs.Records.{newcomer, Each, all_put, all_taken, tickets, keepers, IsWhole, Put, puts_of, IsMoment, GoesWith, AllInOrder}
+use Rattle.ready_queue.specs.Records.{newcomer, Each, all_put, all_taken, tickets, keepers, IsWhole, AllInOrder}
+use Rattle.ready_queue.specs.History.{Put, puts_of, IsMoment, GoesWith}
 use Rattle.ready_queue.specs.Rule.{Fits, total, Kept}
-use Rattle.ready_queue.specs.Steps.{with_put, Puts, with_taken, Takes, after_split, split_off, joined, Closes}
+use Rattle.ready_queue.specs.Steps.{Puts, Takes, after_split, split_off, joined, Closes}
 use Rattle.ready_queue.specs.declared.record.Record.{Record}
 use Rattle.ready_queue.proofs.Naming.{keeps_own, keeps_all, keeps_split, under_append, under_own, under_other, not_kept, same_is}
 use Rattle.ready_queue.proofs.Totals.{total_set, total_snoc, one_part, two_parts, others_of, total_others, weigh_append, weigh_length, keepers_append, nobody, put_append, taken_append, tickets_append, sum_of_keepers, sum_of_put, sum_of_taken, each_apart, each_append, each_others, length_tickets}
@@ -320,19 +321,3 @@ joins port v other w items views kept at two at' =
           (λ t. ⊎_elim (λ s. subst (Each (Fits kept.done kept.queued)) s.1 fit') (λ s. kept.fits j u s.1) (at_set views port j both u t.1))
           (at_set vs other j [] u e);
     }
-
--- ---- what is left when no other pass is out
-
-whole_bag : (v : List Record) (items : List ℕ) (others : List Record) → others ≡ [] → SameBag (all_put (v ++ others)) (all_taken (v ++ others) ++ items) → SameBag (all_put v) (all_taken v ++ items)
-whole_bag v items others none bag = subst (λ (rs : List Record). SameBag (all_put rs) (all_taken rs ++ items)) (ap (λ l. v ++ l) none ∙ append-nil v) bag
-
--- With no other pass out, what was put is what was taken and what the queue holds.
-pub whole_goes : (v : List Record) (items : List ℕ) → IsWhole v → GoesWith v items → SameBag (all_put v) (all_taken v ++ items)
-whole_goes v items whole goes =
-    let at = goes.2 in
-    let none : (name : Name) → keepers name at.others ≡ 0 = λ name. (let a = whole name in let b = at.whole name in let c = keepers_append name v at.others in omega arith) in
-    subst (λ l. SameBag (all_put v) (all_taken v ++ l)) goes.1 (whole_bag v (tickets goes.0) at.others (nobody at.others none) at.bag)
-
--- One bag has one length.
-pub bag_length : (xs ys : List ℕ) → SameBag xs ys → length xs ≡ length ys
-bag_length xs ys bag = let a = bag (λ _. 1) in let b = weigh_length xs in let c = weigh_length ys in omega arith

@@ -1,9 +1,10 @@
 -- Records that fit one history: each name has its part, and each pass took of each in the order of the puts.
-use Rattle.std.proofs.Common.{◌≡◌, ℕ, Bool, true, false, List, [], ◌∷◌, ◌++◌, refl, sym, ap, ◌∙◌, subst, zero, suc, ◌+◌, true≢false, inl, inr, ⊎_elim, arith, ◌<◌, ◌⊎◌, append-nil}
+use Rattle.std.proofs.Common.{◌≡◌, ℕ, Bool, true, false, List, [], ◌∷◌, ◌++◌, refl, sym, ap, ◌∙◌, subst, zero, suc, ◌+◌, inl, inr, ⊎_elim, arith, ◌<◌, ◌⊎◌, append-nil}
 use Rattle.std.specs.Prelude.{if◌then◌else◌}
 use Rattle.ready_queue.specs.Names.{Name, same_name, keeps, under}
 use Rattle.ready_queue.specs.Bags.{InOrder}
-use Rattle.ready_queue.specs.Records.{Each, TakesInOrder, AllInOrder, keepers, put_by, taken_by, Put, puts_of}
+use Rattle.ready_queue.specs.Records.{Each, TakesInOrder, AllInOrder, keepers, put_by, taken_by}
+use Rattle.ready_queue.specs.History.{Put, puts_of}
 use Rattle.ready_queue.specs.Rule.{Fits}
 use Rattle.ready_queue.specs.declared.record.Record.{Record}
 use Rattle.ready_queue.proofs.Naming.{same_refl, same_is, keeps_own}
@@ -14,7 +15,7 @@ in_more [] ys y h = tt
 in_more (x ∷ xs) ys y h = inr h
 
 -- In the history each pass took of each in the order of the puts.
-in_history : (m n : Name) (done : List (Put × Name)) (queued : List Put) → InOrder (under m (under n done)) (under m (puts_of done queued))
+pub in_history : (m n : Name) (done : List (Put × Name)) (queued : List Put) → InOrder (under m (under n done)) (under m (puts_of done queued))
 in_history m n [] queued = tt
 in_history m n (e ∷ es) queued =
     let more = in_history m n es queued in

@@ -1,6 +1,5 @@
 -- No name is lost: a split divides the names between both passes, and a join puts them together.
-use Rattle.std.proofs.Common.{◌≡◌, ℕ, ◌+◌, List, [], ◌∷◌, refl, sym, ap, ◌∙◌, subst, arith}
-use Rattle.ready_queue.specs.Names.{Name}
+use Rattle.std.proofs.Common.{◌≡◌, List, [], ◌∷◌, refl, sym, ap, ◌∙◌, subst, arith}
 use Rattle.ready_queue.specs.Records.{keepers, DividesNames}
 use Rattle.ready_queue.specs.Steps.{after_split, split_off, joined}
 use Rattle.ready_queue.specs.declared.record.Record.{Record}

@@ -1,5 +1,5 @@
 -- Counts that stop at the greatest word, and differences that wrap.
-use Rattle.std.proofs.Common.{◌≡◌, ℕ, ◌+◌, ◌-◌, ◌*◌, ◌/◌, ◌%◌, ◌^◌, ◌<◌, min, arith}
+use Rattle.std.proofs.Common.{◌≡◌, ℕ, ◌+◌, ◌-◌, ◌%◌, ◌^◌, ◌<◌, min, arith}
 use Rattle.ready_queue.specs.Tally.{counted, IsAhead}
 
 pub counted_more : (n k : ℕ) → min (counted n + counted k) (2 ^ 64 - 1) ≡ counted (n + k)

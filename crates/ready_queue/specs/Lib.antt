@@ -1,7 +1,9 @@
 pub mod Names
 pub mod Bags
 pub mod Records
+pub mod History
 pub mod Rule
 pub mod Steps
 pub mod Tally
 pub mod Passes
+pub mod Laws

@@ -1,5 +1,5 @@
 -- The names of passes, which say by which splits a pass was made.
-use Rattle.std.specs.Prelude.{ℕ, ◌+◌, Bool, true, false, ◌&&◌, ◌==◌, nat_le, List, [], ◌∷◌, ◌++◌, if◌then◌else◌}
+use Rattle.std.specs.Prelude.{ℕ, Bool, true, false, ◌&&◌, ◌==◌, nat_le, List, [], ◌∷◌, if◌then◌else◌}
 
 -- The first pass has the empty name. What a pass of the name n splits off, after it has split k times, has the name n ++ k ∷ [].
 abbrev pub Name : Type 0

@@ -1,10 +1,11 @@
 -- The rule of the queue: one history of all puts and takes, of which each pass has its own part.
-use Rattle.std.specs.Prelude.{◌≡◌, ℕ, ◌+◌, ◌<◌, ◌^◌, List, [], ◌∷◌, ◌++◌, length, map, if◌then◌else◌}
+use Rattle.std.specs.Prelude.{◌≡◌, ℕ, ◌+◌, ◌<◌, ◌^◌, List, [], ◌∷◌, length, if◌then◌else◌}
 use mathlib.Core.Option.{some}
 use lib.ListN.{get_elem?}
 use Rattle.ready_queue.specs.Names.{Name, same_name, keeps, under}
 use Rattle.ready_queue.specs.Bags.{weigh}
-use Rattle.ready_queue.specs.Records.{Each, all_put, all_taken, tickets, keepers, Put, puts_of}
+use Rattle.ready_queue.specs.Records.{Each, all_put, all_taken, tickets, keepers}
+use Rattle.ready_queue.specs.History.{Put, puts_of}
 use Rattle.ready_queue.specs.declared.record.Record.{Record}
 
 -- The history has of the pass itself what its record says, and nothing of a name that is still to be given.

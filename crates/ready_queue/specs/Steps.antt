@@ -2,7 +2,8 @@
 use Rattle.std.specs.Prelude.{◌≡◌, ℕ, ◌+◌, ◌<◌, ◌^◌, List, [], ◌∷◌, ◌++◌, length, Option, Some, None, Result, Ok, Err}
 use Rattle.crossbeam_queue.specs.Fifo.{Held}
 use Rattle.ready_queue.specs.Names.{Name}
-use Rattle.ready_queue.specs.Records.{newcomer, AllInOrder, Put, IsMoment, GoesWith}
+use Rattle.ready_queue.specs.Records.{newcomer, AllInOrder}
+use Rattle.ready_queue.specs.History.{Put, IsMoment, GoesWith}
 use Rattle.ready_queue.specs.declared.record.Record.{Record}
 
 -- ---- an accepted put

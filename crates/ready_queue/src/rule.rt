@@ -40,7 +40,7 @@ impl<N: Room> Outcome<u64, Records> for Put<N> {
 }
 
 impl<N: Room> Lesson<u64, Records> for Put<N> {
-    ghost use Rattle.ready_queue.specs.Records.{GoesWith};
+    ghost use Rattle.ready_queue.specs.History.{GoesWith};
 
     ghost fact = { λ v items. GoesWith v items };
 }
@@ -55,7 +55,7 @@ impl Outcome<u64, Records> for Take {
 }
 
 impl Lesson<u64, Records> for Take {
-    ghost use Rattle.ready_queue.specs.Records.{GoesWith};
+    ghost use Rattle.ready_queue.specs.History.{GoesWith};
 
     ghost fact = { λ v items. GoesWith v items };
 }

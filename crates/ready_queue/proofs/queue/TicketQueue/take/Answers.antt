@@ -1,4 +1,4 @@
-use Rattle.std.proofs.Common.{◌<◌, ap, subst, sym, ◌∙◌, length, refl}
+use Rattle.std.proofs.Common.{◌<◌, ap, subst, sym, ◌∙◌, length}
 use Rattle.crossbeam_queue.specs.Passes.{view}
 use Rattle.ready_queue.specs.Records.{all_put, all_taken}
 use Rattle.ready_queue.proofs.Moves.{takes, goes}
