@@ -1,1 +1,6 @@
 pub mod Lawfulness
+mod Kept
+mod Quiet
+mod Recorded
+mod Scripts
+mod Turns

@@ -7,8 +7,10 @@ use Rattle.flow_model.specs.declared.event.Entry.{Entry}
 use Rattle.flow_model.specs.declared.reply.Reply.{Reply}
 use Rattle.flow_model.specs.declared.reply.StepCall.{StepCall}
 use Rattle.status_table.specs.Row.{row}
-use Rattle.status_table.specs.Runs.{after}
+use Rattle.status_table.specs.Runs.{after, IsLegal}
 use Rattle.step_host.specs.Lawful.{open_call, call_after, EndsAdmitted, Lawful}
+use Rattle.step_host.specs.Replay.{recorded, IsRecorded}
+use Rattle.step_host.specs.Script.{IsScript}
 
 -- No entries are lawful.
 abbrev pub NoneIsLawful : (StepCall → Answer → Type 0) → Type 0
@@ -30,3 +32,11 @@ abbrev pub CallFollows : Type 0
 CallFollows =
     (p : Plan) (es : List Entry) (b new : Board) (e : Entry) (reply : Reply) (l : ℕ) → after p es ≡ Some b
     → row p b e.worker e.event ≡ Ok (new, reply) → open_call p (es ++ e ∷ []) l ≡ call_after l (open_call p es l) e.event reply.what
+
+-- What a legal list records is a script.
+abbrev pub RecordsAreScripts : Type 0
+RecordsAreScripts = (p : Plan) (es : List Entry) → IsLegal p es → IsScript (recorded p es)
+
+-- A legal list is lawful over what it records.
+abbrev pub RecordsAreLawful : Type 0
+RecordsAreLawful = (p : Plan) (es : List Entry) → IsLegal p es → Lawful (IsRecorded p es) p es

@@ -1,6 +1,6 @@
 //! Laws of lists that are lawful over a host, each a clause of a function that does nothing.
 
-ghost use Rattle.step_host.specs.Laws.{CallFollows, LawfulBegins, LawfulGrows, NoneIsLawful};
+ghost use Rattle.step_host.specs.Laws.{CallFollows, LawfulBegins, LawfulGrows, NoneIsLawful, RecordsAreLawful, RecordsAreScripts};
 
 use crate::host::StepHost;
 
@@ -11,4 +11,11 @@ pub fn lawful_lists_grow<H: StepHost>()
     ensures last { (host : H) → LawfulGrows (H.admits host) }
     ensures first { (host : H) → LawfulBegins (H.admits host) }
     ensures call { CallFollows }
+{}
+
+/// The answers of a legal list, each for the step that its leg was at, are well-formed and one a step; and over them
+/// the list is lawful.
+pub fn records_are_lawful()
+    ensures script { RecordsAreScripts }
+    ensures lawful { RecordsAreLawful }
 {}

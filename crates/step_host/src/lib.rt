@@ -13,6 +13,10 @@
 pub mod fault;
 pub mod host;
 pub mod laws;
+pub mod replay;
+pub mod script;
 
-pub use fault::HostFault;
+pub use fault::{HostFault, ScriptFault};
 pub use host::{DecidedHost, StepHost};
+pub use replay::ReplayHost;
+pub use script::ScriptHost;

@@ -1,0 +1,335 @@
+-- What each event does to the steps of the legs.
+use Rattle.std.proofs.Common.{◌≡◌, ◌≢◌, ℕ, suc, ◌==◌, ◌++◌, ◌||◌, Bool, true, false, not, List, [], ◌∷◌, Option, Some, None, Result, Ok, Err, length, slice_get, nat_lt, if◌then◌else◌, ap, subst, sym, refl, ◌∙◌, arith}
+use Rattle.std.proofs.lemmas.Bool.{true≢false}
+use Rattle.std.proofs.lemmas.List.{length-append}
+use Rattle.board_decisions.specs.declared.entrance.Entrance.{Entrance}
+use Rattle.board_decisions.specs.declared.place.JobPlace.{JobPlace}
+use Rattle.board_decisions.specs.Decisions.{then_value, step_env, called_if, is_stopping, leg_result, step_decision, leg_outputs, leg_entrance, run_entrance}
+use Rattle.board_decisions.specs.Derived.{is_closed, is_full, jobs_have_ended, run_result}
+use Rattle.board_decisions.specs.Place.{RunAt, JobAt, LegAt, run_at, job_at, leg_at}
+use Rattle.flow_model.specs.Answer.{is_well_formed}
+use Rattle.flow_model.specs.Numbers.{board_legs}
+use Rattle.flow_model.specs.declared.plan.Plan.{Plan}
+use Rattle.flow_model.specs.declared.plan.StepPlan.{StepPlan}
+use Rattle.flow_model.specs.declared.board.Board.{Board}
+use Rattle.flow_model.specs.declared.board.DoneStep.{DoneStep}
+use Rattle.flow_model.specs.declared.board.Run.{Run}
+use Rattle.flow_model.specs.declared.board.RunState.{RunState}
+use Rattle.flow_model.specs.declared.board.RunState.TheVariants as run_state
+use Rattle.flow_model.specs.declared.board.JobState.{JobState}
+use Rattle.flow_model.specs.declared.board.Leg.{Leg}
+use Rattle.flow_model.specs.declared.board.LegState.{LegState}
+use Rattle.flow_model.specs.declared.board.LegState.TheVariants as leg_state
+use Rattle.flow_model.specs.declared.event.Answer.{Answer}
+use Rattle.flow_model.specs.declared.event.Member.TheVariants as member
+use Rattle.flow_model.specs.declared.event.Outcome.{Outcome}
+use Rattle.flow_model.specs.declared.event.Outcome.TheVariants as outcome
+use Rattle.flow_model.specs.declared.reply.CallWork.{CallWork}
+use Rattle.flow_model.specs.declared.reply.StepCall.{StepCall}
+use Rattle.flow_model.specs.declared.reply.ValueFault.{ValueFault}
+use Rattle.flow_model.specs.declared.reply.What.{What}
+use Rattle.flow_model.specs.declared.reply.What.TheVariants as what
+use Rattle.status_table.specs.declared.fault.EventFault.{EventFault}
+use Rattle.status_table.specs.declared.fault.EventFault.TheVariants as fault
+use Rattle.status_table.specs.Change.{with_leg}
+use Rattle.status_table.specs.Groups.{run_standing, leg_standing, closed, dropped, stopped, moved, leaves}
+use Rattle.status_table.specs.Row as rows
+use Rattle.status_table.specs.Row.{Row, Beginning, calls, skips, faults, job_state_set, leg_state_set, step_done, skipped_step, failed_step, decided}
+use Rattle.status_table.proofs.Decided.{by_test}
+use Rattle.status_table.proofs.Found.{leg_stands, leg_item}
+use Rattle.status_table.proofs.Lists.{no_some, changed-there, changed-elsewhere}
+use Rattle.status_table.proofs.Numbers.{board_legs-changed}
+use Rattle.step_host.proofs.Quiet.{is_calling, QuietAt, quiet_at-same, leg_of, Quieted, quiet-leg, quiet-job, quiet-state, quiet-closed, quiet-dropped, quiet-stopped, quiet-enters, quiet-leaves}
+
+-- ---- events that begin and end no step
+
+unfoldable pub QuietRow : Board → Row → Type 0
+QuietRow b (Ok x) = Quieted b x.0
+QuietRow b (Err refusal) = Unit {0}
+
+pub open-quiet : (p : Plan) (b : Board) (r : ℕ) → QuietRow b (rows.open_row p b r)
+unfolding QuietRow
+open-quiet p b r = found (run_at p b r)
+  where
+    entered : (x : Result (Option Entrance) ValueFault) → QuietRow b (rows.run_enters b r x)
+    entered (Ok group) = quiet-enters b (member.Run r) None group
+    entered (Err f) = quiet-closed b r outcome.Failure
+
+    by_state : (at : RunAt) (s : RunState) (stop : Bool) → QuietRow b (rows.open_run b r at s stop)
+    by_state at run_state.New false = entered (run_entrance at)
+    by_state at run_state.New true = tt
+    by_state at run_state.Waiting stop = tt
+    by_state at run_state.Going stop = tt
+    by_state at (run_state.Closed result) stop = tt
+
+    found : (o : Option RunAt) → QuietRow b (rows.open_found b r o)
+    found None = tt
+    found (Some at) = by_state at at.run.state at.run.stop
+
+pub judge-quiet : (p : Plan) (b : Board) (j : ℕ) → QuietRow b (rows.judge_row p b j)
+unfolding QuietRow
+judge-quiet p b j = found (job_at p b j)
+  where
+    judged : (place : JobPlace) (x : Result JobState EventFault) → QuietRow b (rows.judge_job b place x)
+    judged place (Ok state) = quiet-job b place state
+    judged place (Err f) = tt
+
+    found : (o : Option JobAt) → QuietRow b (rows.judge_found b j o)
+    found None = tt
+    found (Some at) = judged at.place (rows.judgement j at)
+
+pub ask-quiet : (p : Plan) (b : Board) (l : ℕ) → QuietRow b (rows.ask_row p b l)
+unfolding QuietRow
+ask-quiet p b l = found (leg_at p b l)
+  where
+    entered : (at : LegAt) (x : Result (Option Entrance) ValueFault) → QuietRow b (rows.leg_enters b l at x)
+    entered at (Ok group) = quiet-enters b (member.Leg l) (Some at.place.run) group
+    entered at (Err f) = quiet-dropped b l outcome.Failure
+
+    found : (o : Option LegAt) → QuietRow b (rows.ask_found b l o)
+    found None = tt
+    found (Some at) =
+        by_test (QuietRow b) (not (rows.may_ask at)) (Err fault.WrongState) _ tt
+        (by_test (QuietRow b) (is_full at.job_plan at.job) (Err fault.SlotsFull) _ tt
+        (by_test (QuietRow b) (is_stopping at) (Err fault.Stopping) _ tt (entered at (leg_entrance at))))
+
+pub drop-quiet : (p : Plan) (b : Board) (l : ℕ) → QuietRow b (rows.drop_row p b l)
+unfolding QuietRow
+drop-quiet p b l = found (leg_at p b l)
+  where
+    found : (o : Option LegAt) → QuietRow b (rows.drop_found b l o)
+    found None = tt
+    found (Some at) =
+        by_test (QuietRow b) (not (rows.may_drop at)) (Err fault.WrongState) _ tt
+        (by_test (QuietRow b) (is_stopping at) (Ok (leaves b (leg_standing at.leg) (dropped b l outcome.Cancelled))) (Err fault.NotStopping)
+        (quiet-leaves b (leg_standing at.leg) (dropped b l outcome.Cancelled) (quiet-dropped b l outcome.Cancelled)) tt)
+
+pub take-quiet : (p : Plan) (b : Board) (worker l : ℕ) → QuietRow b (rows.take_row p b worker l)
+unfolding QuietRow
+take-quiet p b worker l = found (leg_at p b l) refl
+  where
+    taken : (at : LegAt) → leg_at p b l ≡ Some at → (s : LegState) → QuietRow b (rows.take_leg b worker at s)
+    taken at is leg_state.Fresh = tt
+    taken at is leg_state.Waiting = tt
+    taken at is leg_state.Admitted =
+        by_test (QuietRow b) (is_stopping at) (Err fault.Stopping) (Ok (leg_state_set b at.place (leg_state.Running worker false), moved)) tt
+        (quiet-leg b l at.place (λ leg. record leg { state = leg_state.Running worker false }) (leg_stands p b l at is).place (quiet-state (leg_state.Running worker false) refl))
+    taken at is (leg_state.Running other in_call) = tt
+    taken at is (leg_state.Ended result tolerated) = tt
+
+    found : (o : Option LegAt) → leg_at p b l ≡ o → QuietRow b (rows.take_found b worker o)
+    found None is = tt
+    found (Some at) is = taken at is at.leg.state
+
+pub finish-quiet : (p : Plan) (b : Board) (worker l : ℕ) → QuietRow b (rows.finish_row p b worker l)
+unfolding QuietRow
+finish-quiet p b worker l = found (leg_at p b l) refl
+  where
+    ended : (at : LegAt) → leg_at p b l ≡ Some at → (result : Outcome) (tolerated : Bool) → QuietRow b (rows.finish_leg b l at (Ok (leg_state.Ended result tolerated)))
+    ended at is result tolerated =
+        quiet-leaves b (leg_standing at.leg) (rows.leg_ended b at.place l (leg_state.Ended result tolerated) (leg_outputs at))
+        (quiet-leg b l at.place (λ leg. record leg { state = leg_state.Ended result tolerated; outputs = leg_outputs at }) (leg_stands p b l at is).place
+        (λ leg. record { steps = refl; call = λ h. absurd (true≢false (sym h)) }))
+
+    by_owner : (at : LegAt) → leg_at p b l ≡ Some at → (owner : Option ℕ) → QuietRow b (rows.finish_leg b l at (rows.finishing_by worker at owner))
+    by_owner at is None = tt
+    by_owner at is (Some owner) = tests (not (worker == owner)) (nat_lt (length at.leg.steps) (length at.job_plan.steps))
+      where
+        tests : (c d : Bool) → QuietRow b (rows.finish_leg b l at (if c then Err fault.OtherWorker else (if d then Err fault.StepsLeft else Ok (rows.ended_state at (leg_result at)))))
+        tests true d = tt
+        tests false true = tt
+        tests false false = ended at is _ _
+
+    found : (o : Option LegAt) → leg_at p b l ≡ o → QuietRow b (rows.finish_found b worker l o)
+    found None is = tt
+    found (Some at) is = by_owner at is (rows.idle_owner at.leg.state)
+
+pub close-quiet : (p : Plan) (b : Board) (r : ℕ) → QuietRow b (rows.close_row p b r)
+unfolding QuietRow
+close-quiet p b r = found (run_at p b r)
+  where
+    closes : (run : Run) (result : Outcome) → QuietRow b (rows.run_closes b r run result)
+    closes run result = quiet-leaves b (run_standing run) (closed b r result) (quiet-closed b r result)
+
+    waiting : (run : Run) (stop : Bool) → QuietRow b (rows.close_waiting b r run stop)
+    waiting run true = closes run outcome.Cancelled
+    waiting run false = tt
+
+    by_state : (run : Run) (s : RunState) → QuietRow b (rows.close_run b r run s)
+    by_state run run_state.New = waiting run run.stop
+    by_state run run_state.Waiting = waiting run run.stop
+    by_state run run_state.Going = by_test (QuietRow b) (jobs_have_ended run) (rows.run_closes b r run (run_result run)) (Err fault.NeedsOpen) (closes run (run_result run)) tt
+    by_state run (run_state.Closed result) = tt
+
+    found : (o : Option RunAt) → QuietRow b (rows.close_found b r o)
+    found None = tt
+    found (Some at) = by_state at.run at.run.state
+
+pub cancel-quiet : (p : Plan) (b : Board) (r : ℕ) → QuietRow b (rows.cancel_row p b r)
+unfolding QuietRow
+cancel-quiet p b r = found (run_at p b r)
+  where
+    found : (o : Option RunAt) → QuietRow b (rows.cancel_found b r o)
+    found None = tt
+    found (Some at) =
+        by_test (QuietRow b) (is_closed at.run.state || at.run.stop) (Err fault.WrongState) (Ok (stopped b true (member.Run r), moved)) tt (quiet-stopped b true (member.Run r))
+
+-- ---- the call of a step names its leg and its place
+
+abbrev PlacedCall : ℕ → ℕ → Result (Option StepCall) ValueFault → Type 0
+PlacedCall l s (Ok None) = Unit {0}
+PlacedCall l s (Ok (Some call)) = (call.leg ≡ l) × (call.step ≡ s)
+PlacedCall l s (Err f) = Unit {0}
+
+then-placed : {A : Type 0} (l s : ℕ) (r : Result A ValueFault) (next : A → Result (Option StepCall) ValueFault) → ((x : A) → PlacedCall l s (next x))
+    → PlacedCall l s (then_value r next)
+then-placed l s (Ok x) next h = h x
+then-placed l s (Err f) next h = tt
+
+decision_placed : (l : ℕ) (at : LegAt) (step : StepPlan) → PlacedCall l (length at.leg.steps) (step_decision l at step)
+unfolding step_decision
+decision_placed l at step =
+    then-placed l (length at.leg.steps) (step_env at step) _ (λ env. then-placed l (length at.leg.steps) _ (called_if l at step env) (held env))
+  where
+    made : List (List ℕ × List ℕ) → CallWork → StepCall
+    made env given = record { leg = l; step = length at.leg.steps; work = given; env = env }
+
+    held : (env : List (List ℕ × List ℕ)) (c : Bool) → PlacedCall l (length at.leg.steps) (called_if l at step env c)
+    held env true = then-placed l (length at.leg.steps) _ (λ given. Ok (Some (made env given))) (λ given. (refl, refl))
+    held env false = tt
+
+-- ---- a step of leg l begins or ends
+
+-- each other leg keeps its steps, and is in no call in which it was not
+abbrev pub QuietElsewhere : ℕ → Board → Board → Type 0
+QuietElsewhere l b c = (k : ℕ) → k ≢ l → QuietAt (leg_of b k) (leg_of c k)
+
+-- one more step is done, and the leg is in no call
+pub record OneMore (old new : Leg) : Type 0 where
+  pub steps : length new.steps ≡ suc (length old.steps)
+  pub idle : is_calling new.state ≡ false
+
+-- by the reply, the leg is in that call of its next step, or it has done one more
+abbrev pub Begun : ℕ → What → Leg → Leg → Type 0
+Begun l what.Moved old new = ⊥
+Begun l (what.Call call) old new = (call.leg ≡ l) × (call.step ≡ length old.steps) × (new.steps ≡ old.steps)
+Begun l what.Skipped old new = OneMore old new
+Begun l (what.Faulted f) old new = OneMore old new
+
+pub record BeginTurns (b c : Board) (l : ℕ) (told : What) : Type 0 where
+  pub old : Leg
+  pub new : Leg
+  pub was : leg_of b l ≡ Some old
+  pub is : leg_of c l ≡ Some new
+  pub begun : Begun l told old new
+  pub others : QuietElsewhere l b c
+
+pub record EndTurns (b c : Board) (l : ℕ) (a : Answer) : Type 0 where
+  pub old : Leg
+  pub new : Leg
+  pub was : leg_of b l ≡ Some old
+  pub is : leg_of c l ≡ Some new
+  pub more : OneMore old new
+  pub others : QuietElsewhere l b c
+  pub calling : is_calling old.state ≡ true
+  pub well_formed : is_well_formed a ≡ true
+
+unfoldable pub BeginRow : Board → ℕ → Row → Type 0
+BeginRow b l (Ok x) = BeginTurns b x.0 l x.1.what
+BeginRow b l (Err refusal) = Unit {0}
+
+unfoldable pub EndRow : Board → ℕ → Answer → Row → Type 0
+EndRow b l a (Ok x) = EndTurns b x.0 l a
+EndRow b l a (Err refusal) = Unit {0}
+
+module _ (p : Plan) (b : Board) (l : ℕ) (at : LegAt) (found : leg_at p b l ≡ Some at) where
+  was_there : leg_of b l ≡ Some at.leg
+  was_there = leg_item p b l at (leg_stands p b l at found)
+
+  is_there : (f : Leg → Leg) → leg_of (with_leg b at.place f) l ≡ Some (f at.leg)
+  is_there f = ap (λ legs. slice_get legs l) (board_legs-changed b l at.place f (leg_stands p b l at found).place) ∙ changed-there (board_legs b) l f at.leg was_there
+
+  elsewhere : (f : Leg → Leg) → QuietElsewhere l b (with_leg b at.place f)
+  elsewhere f k apart =
+      let same : leg_of (with_leg b at.place f) k ≡ leg_of b k =
+      ap (λ legs. slice_get legs k) (board_legs-changed b l at.place f (leg_stands p b l at found).place) ∙ changed-elsewhere (board_legs b) l f k apart in
+      subst (QuietAt (leg_of b k)) (sym same) (quiet_at-same (leg_of b k))
+
+  one_more : (worker : ℕ) (done : DoneStep) → OneMore at.leg (record at.leg { state = leg_state.Running worker false; steps = at.leg.steps ++ done ∷ [] })
+  one_more worker done = let more = length-append at.leg.steps (done ∷ []) in record { steps = omega (arith, more); idle = refl }
+
+  step_turns : (worker : ℕ) (done : DoneStep) (told : What) → (OneMore at.leg (record at.leg { state = leg_state.Running worker false; steps = at.leg.steps ++ done ∷ [] })
+      → Begun l told at.leg (record at.leg { state = leg_state.Running worker false; steps = at.leg.steps ++ done ∷ [] })) → BeginTurns b (step_done b at.place worker done) l told
+  step_turns worker done told how =
+      let f : Leg → Leg = λ leg. record leg { state = leg_state.Running worker false; steps = leg.steps ++ done ∷ [] } in
+      record { old = at.leg; new = f at.leg; was = was_there; is = is_there f; begun = how (one_more worker done); others = elsewhere f }
+
+  call_turns : (worker : ℕ) (call : StepCall) → call.leg ≡ l → call.step ≡ length at.leg.steps
+      → BeginTurns b (leg_state_set b at.place (leg_state.Running worker true)) l (what.Call call)
+  call_turns worker call of_leg of_step =
+      let f : Leg → Leg = λ leg. record leg { state = leg_state.Running worker true } in
+      record { old = at.leg; new = f at.leg; was = was_there; is = is_there f; begun = (of_leg, of_step, refl); others = elsewhere f }
+
+  begun_turns : (worker : ℕ) (step : StepPlan) (x : Result (Option StepCall) ValueFault) → step_decision l at step ≡ x → BeginRow b l (rows.begin_leg b worker at (Ok (decided x)))
+  unfolding BeginRow
+  begun_turns worker step (Ok None) is = step_turns worker skipped_step what.Skipped (λ h. h)
+  begun_turns worker step (Ok (Some call)) is =
+      let made = subst (PlacedCall l (length at.leg.steps)) is (decision_placed l at step) in
+      call_turns worker call made.0 made.1
+  begun_turns worker step (Err f) is = step_turns worker (failed_step at) (what.Faulted f) (λ h. h)
+
+  begin_by : (worker : ℕ) (owner : Option ℕ) (step : Option StepPlan) → BeginRow b l (rows.begin_leg b worker at (rows.beginning_by worker l at owner step))
+  unfolding BeginRow
+  begin_by worker None step = tt
+  begin_by worker (Some owner) None = tt
+  begin_by worker (Some owner) (Some step) = tests (worker == owner)
+    where
+      tests : (c : Bool) → BeginRow b l (rows.begin_leg b worker at (if c then Ok (decided (step_decision l at step)) else Err fault.OtherWorker))
+      tests true = begun_turns worker step (step_decision l at step) refl
+      tests false = tt
+
+  end_by : (worker : ℕ) (a : Answer) (owner : Option ℕ) → rows.calling_owner at.leg.state ≡ owner → EndRow b l a (rows.end_leg b worker at (rows.ending_by worker at a owner))
+  unfolding EndRow
+  end_by worker a None is = tt
+  end_by worker a (Some owner) is = tests (not (worker == owner)) (is_well_formed a) refl
+    where
+      calling : (s : LegState) → rows.calling_owner s ≡ Some owner → is_calling s ≡ true
+      calling leg_state.Fresh h = absurd (no_some owner h)
+      calling leg_state.Waiting h = absurd (no_some owner h)
+      calling leg_state.Admitted h = absurd (no_some owner h)
+      calling (leg_state.Running worker' true) h = refl
+      calling (leg_state.Running worker' false) h = absurd (no_some owner h)
+      calling (leg_state.Ended result tolerated) h = absurd (no_some owner h)
+
+      tests : (c d : Bool) → is_well_formed a ≡ d → EndRow b l a (rows.end_leg b worker at (if c then Err fault.OtherWorker else (if not d then Err fault.BadAnswer else Ok (rows.answered_step at a))))
+      tests true d good = tt
+      tests false false good = tt
+      tests false true good =
+          let done = rows.answered_step at a in
+          let f : Leg → Leg = λ leg. record leg { state = leg_state.Running worker false; steps = leg.steps ++ done ∷ [] } in
+          record {
+            old = at.leg;
+            new = f at.leg;
+            was = was_there;
+            is = is_there f;
+            more = one_more worker done;
+            others = elsewhere f;
+            calling = calling at.leg.state is;
+            well_formed = good;
+          }
+
+pub begin_turns : (p : Plan) (b : Board) (worker l : ℕ) → BeginRow b l (rows.begin_row p b worker l)
+unfolding BeginRow
+begin_turns p b worker l = found (leg_at p b l) refl
+  where
+    found : (o : Option LegAt) → leg_at p b l ≡ o → BeginRow b l (rows.begin_found b worker l o)
+    found None is = tt
+    found (Some at) is = begin_by p b l at is worker (rows.idle_owner at.leg.state) (rows.next_step at)
+
+pub end_turns : (p : Plan) (b : Board) (worker l : ℕ) (a : Answer) → EndRow b l a (rows.end_row p b worker l a)
+unfolding EndRow
+end_turns p b worker l a = found (leg_at p b l) refl
+  where
+    found : (o : Option LegAt) → leg_at p b l ≡ o → EndRow b l a (rows.end_found b worker a o)
+    found None is = tt
+    found (Some at) is = end_by p b l at is worker a (rows.calling_owner at.leg.state) refl
