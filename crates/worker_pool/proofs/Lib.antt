@@ -1,4 +1,5 @@
 mod Accepted
+mod Fresh
 mod Grows
 mod Hands
 mod Holding
@@ -9,3 +10,4 @@ mod NoMoves
 mod Numbered
 mod Refused
 mod Stuck
+mod Turned

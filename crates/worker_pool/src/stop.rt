@@ -8,7 +8,7 @@ ghost use Rattle.worker_pool.specs.Stop as spec;
 use crate::fault::PoolFault;
 use flow_model::{Entry, Sequence};
 use status_table::EventFault;
-use std::alloc::AllocError;
+use std::alloc::{AllocError, AllocFailed};
 use step_host::HostFault;
 
 /// Why a play goes no further.
@@ -76,6 +76,17 @@ impl From<AllocError> for Stop {
     ghost from_gives = { λ _ e. e ≡ Memory };
 
     fn from(_: AllocError) -> Stop {
+        Stop::Memory
+    }
+}
+
+impl<T: Drop> From<AllocFailed<T>> for Stop {
+    ghost use Rattle.std.specs.Prelude.{◌≡◌};
+    ghost use Rattle.worker_pool.specs.declared.stop.Stop.TheVariants.{Memory};
+
+    ghost from_gives = { λ _ e. e ≡ Memory };
+
+    fn from(_: AllocFailed<T>) -> Stop {
         Stop::Memory
     }
 }
