@@ -1,3 +1,4 @@
+mod LastCalls
 pub mod Lawfulness
 mod Kept
 mod Quiet
