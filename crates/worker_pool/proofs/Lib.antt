@@ -9,5 +9,7 @@ mod Moved
 mod NoMoves
 mod Numbered
 mod Refused
+mod Replays
+mod SameAnswers
 mod Stuck
 mod Turned

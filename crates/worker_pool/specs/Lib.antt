@@ -5,5 +5,6 @@ pub mod Fault
 pub mod Hand
 pub mod History
 pub mod Lowest
+pub mod Replaying
 pub mod Stalls
 pub mod Stop
