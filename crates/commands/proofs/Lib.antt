@@ -6,5 +6,6 @@ pub mod Lines
 pub mod OneAnswer
 pub mod Reading
 pub mod Replayed
+pub mod Stopped
 pub mod Told
 pub mod Unplanned

@@ -66,18 +66,19 @@ fn load_trouble(fault: LoadFault) -> Trouble
     }
 }
 
-/// Why there is no board, where the entry at a place, from 0, stops a list; its line is the second after the plan's.
+/// Why there is no board, where the entry at a place, from 0, stops a list; its line comes after the plan's, which is line 1.
 fn stop_trouble(place: usize, fault: EventFault) -> Trouble
-    requires { place + 2 < 2 ^ 64 }
+    requires { spec.HasLine place fault }
     ensures { result ≡ spec.stop_trouble place fault }
 {
-    match fault {
-        EventFault::Memory => Trouble::Memory,
-        _ => Trouble::Refused(place as u64 + 2, fault),
+    if let EventFault::Memory = fault {
+        return Trouble::Memory;
     }
+    Trouble::Refused(place as u64 + 2, fault)
 }
 
-/// The board after entries, which are played again: each End by the answer that its call has in the list.
+/// The board after entries, which are played again: each call is answered as the list answers it.
+#[tactic(auto, using(crate::proofs::Stopped::has_line, crate::proofs::Stopped::stops))]
 fn played_again(alloc: Global, plan: &CheckedPlan, entries: &[Entry]) -> Result<Board, Trouble>
     ensures { GivesEntries plan.now entries.now result }
 {
