@@ -1,9 +1,8 @@
 -- One thread's leg, from its Take to its Finish.
-use Rattle.std.proofs.Common.{◌≡◌, ◌≢◌, ℕ, ◌==◌, Bool, true, false, not, List, [], ◌∷◌, ◌++◌, Option, Some, None, Result, Ok, Err, length, slice_get, nat_lt, if◌then◌else◌, inl, inr, ap, subst, sym, refl, ◌∙◌}
-use Rattle.std.proofs.lemmas.Bool.{true≢false, cases_eq}
-use Rattle.board_decisions.specs.Decisions.{then_value, is_stopping, leg_status, leg_result, leg_outputs, seen_from, step_env, work_value, call_value, called_if, step_decision}
+use Rattle.std.proofs.Common.{◌≡◌, ◌≢◌, ℕ, ◌==◌, Bool, true, false, not, [], ◌∷◌, ◌++◌, Option, Some, None, Result, Ok, Err, length, slice_get, nat_lt, if◌then◌else◌, inl, inr, ap, subst, sym, refl, ◌∙◌}
+use Rattle.std.proofs.lemmas.Bool.{cases_eq}
+use Rattle.board_decisions.specs.Decisions.{then_value, is_stopping, leg_status, leg_result, leg_outputs, seen_from, step_env, work_value, called_if, step_decision}
 use Rattle.board_decisions.specs.Place.{LegAt, leg_at}
-use Rattle.flow_model.specs.Answer.{is_well_formed}
 use Rattle.flow_model.specs.Numbers.{board_legs}
 use Rattle.flow_model.specs.declared.plan.Plan.{Plan}
 use Rattle.flow_model.specs.declared.plan.StepPlan.{StepPlan}
@@ -24,19 +23,19 @@ use Rattle.flow_model.specs.declared.reply.What.TheVariants as what
 use Rattle.status_table.specs.declared.fault.EventFault.{EventFault}
 use Rattle.status_table.specs.declared.fault.EventFault.TheVariants as fault
 use Rattle.status_table.specs.Change.{changed, with_leg}
-use Rattle.status_table.specs.Groups.{leg_standing, leaves, moved}
+use Rattle.status_table.specs.Groups.{leg_standing, moved}
 use Rattle.status_table.specs.Moves.{moves}
 use Rattle.status_table.specs.Row as rows
 use Rattle.status_table.proofs.Decided.{by_test}
 use Rattle.status_table.proofs.Found.{LegStands, leg_stands, leg_item}
-use Rattle.status_table.proofs.Lists.{same_some, no_some, changed-there, changed-elsewhere}
+use Rattle.status_table.proofs.Lists.{same_some, changed-there, changed-elsewhere}
 use Rattle.status_table.proofs.Numbers.{board_legs-changed}
 use Rattle.text_values.specs.Texts.{condition_value}
 use Rattle.text_values.specs.Values.{Env}
 use Rattle.text_values.specs.declared.place.Place.TheVariants as place
 use Rattle.worker_pool.specs.Alone.{is_running, NobodyRuns}
 use Rattle.worker_pool.specs.Hand.{Holds}
-use Rattle.worker_pool.proofs.Legs.{EachLeg, EachLegThen, is_clerks, of_leaves, clerk_legs}
+use Rattle.worker_pool.proofs.Legs.{EachLegThen, of_leaves, clerk_legs}
 use Rattle.worker_pool.proofs.Moved.{first_is_clerks}
 
 -- what follows of the board and the reply of a row, if it is accepted

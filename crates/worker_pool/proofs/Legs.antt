@@ -1,12 +1,12 @@
 -- What the events of a board make of its legs: what is known of each leg by its state stays so, where it holds of each
 -- state without a worker.
-use Rattle.std.proofs.Common.{◌≡◌, ◌≢◌, ℕ, Bool, true, false, not, ◌||◌, List, ◌∷◌, ◌++◌, Option, Some, None, Result, Ok, Err, slice_get, nat_le, if◌then◌else◌, inl, inr, ap, subst, sym, refl, ◌∙◌}
+use Rattle.std.proofs.Common.{◌≡◌, ℕ, Bool, true, false, not, List, Option, Some, None, Result, Ok, Err, slice_get, if◌then◌else◌, inl, inr, ap, subst, sym, refl, ◌∙◌}
 use Rattle.std.specs.List.{flat_map}
 use Rattle.std.proofs.lemmas.Bool.{true≢false, cases_eq}
 use Rattle.board_decisions.specs.declared.entrance.Entrance.{Entrance}
 use Rattle.board_decisions.specs.declared.place.JobPlace.{JobPlace}
 use Rattle.board_decisions.specs.Decisions.{is_stopping, run_entrance, leg_entrance}
-use Rattle.board_decisions.specs.Derived.{is_closed, is_full, jobs_have_ended, run_result}
+use Rattle.board_decisions.specs.Derived.{is_full, jobs_have_ended, run_result}
 use Rattle.board_decisions.specs.Place.{RunAt, JobAt, LegAt, run_at, job_at, leg_at}
 use Rattle.flow_model.specs.Numbers.{board_legs}
 use Rattle.flow_model.specs.declared.plan.Plan.{Plan}
@@ -28,12 +28,12 @@ use Rattle.flow_model.specs.declared.event.Outcome.TheVariants as outcome
 use Rattle.flow_model.specs.declared.reply.ValueFault.{ValueFault}
 use Rattle.status_table.specs.declared.fault.EventFault.{EventFault}
 use Rattle.status_table.specs.declared.fault.EventFault.TheVariants as fault
-use Rattle.status_table.specs.Change.{put, changed, with_run, with_leg, with_numbered_leg}
+use Rattle.status_table.specs.Change.{put, changed, with_run, with_numbered_leg}
 use Rattle.status_table.specs.Groups.{Done, Standing, run_standing, leg_standing, holder, waiter, next_after, closed, dropped, admitted, waits, passed_on, cancelled, displaced, stopped, stop_told, told, moved, is_own, enters_held, enters, leaves}
 use Rattle.status_table.specs.Row as rows
 use Rattle.status_table.proofs.Decided.{by_test}
 use Rattle.status_table.proofs.Lists.{same_some, changed-there, changed-elsewhere, flat_map-kept, flat_map-twice}
-use Rattle.status_table.proofs.Numbers.{board_legs-changed, numbered_leg-changed}
+use Rattle.status_table.proofs.Numbers.{numbered_leg-changed}
 use Rattle.status_table.proofs.Turns.{run_legs}
 use Rattle.worker_pool.specs.Alone.{is_running}
 

@@ -1,7 +1,6 @@
 -- The first of what a clerk may do is a clerk's event, which the table accepts.
-use Rattle.std.proofs.Common.{◌≡◌, ℕ, zero, suc, Bool, true, false, ◌&&◌, List, [], ◌∷◌, ◌++◌, Some, Result, Ok, Err, length, map, filter, cond, slice_get, ap, sym, refl, ◌∙◌}
+use Rattle.std.proofs.Common.{◌≡◌, Bool, true, false, List, [], ◌∷◌, ◌++◌, Some, length, map, filter, cond, slice_get, refl, ◌∙◌}
 use Rattle.std.specs.List.{list_all}
-use Rattle.std.proofs.lemmas.Bool.{true≢false}
 use Rattle.std.proofs.lemmas.List.Folds.{list_all-append}
 use Rattle.board_decisions.proofs.Lists.{and-left, and-right, and-both}
 use Rattle.flow_model.specs.Numbers.{board_jobs, board_legs}

@@ -1,5 +1,5 @@
 -- What is refused, and why.
-use Rattle.std.proofs.Common.{◌≡◌, Bool, true, false, List, [], ◌∷◌, None, Result, Ok, Err, slice_get, ap, sym, refl, ◌∙◌}
+use Rattle.std.proofs.Common.{◌≡◌, true, false, List, [], ◌∷◌, None, Err, slice_get, ap, sym, refl, ◌∙◌}
 use Rattle.std.proofs.lemmas.Bool.{true≢false}
 use Rattle.flow_model.specs.declared.event.Event.{Event}
 use Rattle.status_table.specs.declared.fault.EventFault.{EventFault}

@@ -1,5 +1,6 @@
 pub mod Alone
 pub mod Answers
+pub mod Asking
 pub mod Entries
 pub mod Fault
 pub mod Hand

@@ -8,6 +8,7 @@
 
 pub mod alone;
 mod answers;
+mod asking;
 pub mod entries;
 pub mod fault;
 mod lowest;

@@ -3,7 +3,7 @@
 use flow_model::{Entry, Sequence};
 
 /// How a play ended.
-#[derive(Clone, Copy, Debug, PartialEq, Eq)]
+#[derive(Clone, Copy)]
 pub enum Ending {
     /// Every run is closed.
     Done,
