@@ -1,7 +1,7 @@
-mod LastCalls
+pub mod LastCalls
 pub mod Lawfulness
-mod Kept
-mod Quiet
-mod Recorded
-mod Scripts
-mod Turns
+pub mod Kept
+pub mod Quiet
+pub mod Recorded
+pub mod Scripts
+pub mod Turns

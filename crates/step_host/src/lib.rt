@@ -5,8 +5,11 @@
 //! most. What it means that a list of entries is lawful over a host, so that each call of a step is answered as the host
 //! admits, is in `specs/Lawful.antt`, and what follows from that in `laws`.
 //!
-//! The crate stands on `status_table`, whose table says which call a step makes, on `flow_model`, and on `thiserror` for
-//! its errors.
+//! Two hosts are decided, and look at the leg and the step of a call alone: `ScriptHost` admits the answers of a list, and
+//! `ReplayHost` those that a legal list of entries gave, which is lawful over it.
+//!
+//! The crate stands on `status_table`, whose table says which call a step makes, on `board_decisions` for where a leg
+//! stands, on `flow_model`, and on `thiserror` for its errors.
 
 #![tactic(auto)]
 
