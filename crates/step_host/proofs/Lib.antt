@@ -1,6 +1,10 @@
-pub mod Lawfulness
+mod Gathering
 mod Kept
+pub mod Lawfulness
 mod Quiet
 mod Recorded
+mod Replacing
 mod Scripts
+mod Splitting
+mod Standing
 mod Turns

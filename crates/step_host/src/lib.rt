@@ -13,8 +13,18 @@
 pub mod fault;
 pub mod host;
 pub mod laws;
+pub mod masks;
+pub mod output_fault;
+pub mod output_file;
+mod replace;
 pub mod script;
+pub mod shell;
+mod splits;
 
 pub use fault::{HostFault, ScriptFault};
 pub use host::{DecidedHost, StepHost};
+pub use masks::mask;
+pub use output_fault::OutputFault;
+pub use output_file::read_output_file;
 pub use script::ScriptHost;
+pub use shell::shell_words;
