@@ -1,5 +1,6 @@
 mod Gathering
 mod Kept
+mod LastCalls
 pub mod Lawfulness
 mod Quiet
 mod Recorded

@@ -1,14 +1,17 @@
 -- What holds of lists that are lawful over a host.
-use Rattle.std.specs.Prelude.{◌≡◌, ℕ, List, [], ◌∷◌, ◌++◌, Some, Ok}
+use Rattle.std.specs.Prelude.{◌≡◌, ℕ, true, List, [], ◌∷◌, ◌++◌, length, Some, Ok, slice_get}
 use Rattle.flow_model.specs.declared.plan.Plan.{Plan}
+use Rattle.flow_model.specs.Numbers.{board_legs}
 use Rattle.flow_model.specs.declared.board.Board.{Board}
+use Rattle.flow_model.specs.declared.board.Leg.{Leg}
+use Rattle.flow_model.specs.declared.board.LegState.TheVariants as leg_state
 use Rattle.flow_model.specs.declared.event.Answer.{Answer}
 use Rattle.flow_model.specs.declared.event.Entry.{Entry}
 use Rattle.flow_model.specs.declared.reply.Reply.{Reply}
 use Rattle.flow_model.specs.declared.reply.StepCall.{StepCall}
 use Rattle.status_table.specs.Row.{row}
-use Rattle.status_table.specs.Runs.{after, IsLegal}
-use Rattle.step_host.specs.Lawful.{open_call, call_after, EndsAdmitted, Lawful}
+use Rattle.status_table.specs.Runs.{after, new_board, IsLegal}
+use Rattle.step_host.specs.Lawful.{open_call, call_after, IsLastCalled, EndsAdmitted, Lawful}
 use Rattle.step_host.specs.Replay.{recorded, IsRecorded}
 use Rattle.step_host.specs.Script.{IsScript}
 
@@ -32,6 +35,21 @@ abbrev pub CallFollows : Type 0
 CallFollows =
     (p : Plan) (es : List Entry) (b new : Board) (e : Entry) (reply : Reply) (l : ℕ) → after p es ≡ Some b
     → row p b e.worker e.event ≡ Ok (new, reply) → open_call p (es ++ e ∷ []) l ≡ call_after l (open_call p es l) e.event reply.what
+
+-- An open call is that of the last Begin of its leg.
+abbrev pub OpenCallsAreLast : Type 0
+OpenCallsAreLast =
+    (p : Plan) (es : List Entry) (l : ℕ) (call : StepCall) → open_call p es l ≡ Some call → IsLastCalled p (new_board p) es l call
+
+-- the leg has an open call, which is that of its next step
+abbrev pub HasOpenCall : Plan → List Entry → ℕ → Leg → Type 0
+HasOpenCall p es l leg = (call : StepCall) × (open_call p es l ≡ Some call) × (call.leg ≡ l) × (call.step ≡ length leg.steps)
+
+-- Each leg that is in a call after a legal list has an open call.
+abbrev pub CalledLegsHaveCalls : Type 0
+CalledLegsHaveCalls =
+    (p : Plan) (es : List Entry) (b : Board) (l worker : ℕ) (leg : Leg) → after p es ≡ Some b → slice_get (board_legs b) l ≡ Some leg
+    → leg.state ≡ leg_state.Running worker true → HasOpenCall p es l leg
 
 -- What a legal list records is a script.
 abbrev pub RecordsAreScripts : Type 0

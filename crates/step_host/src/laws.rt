@@ -1,6 +1,6 @@
 //! Laws of lists that are lawful over a host, each a clause of a function that does nothing.
 
-ghost use Rattle.step_host.specs.Laws.{CallFollows, LawfulBegins, LawfulGrows, NoneIsLawful, RecordsAreLawful, RecordsAreScripts};
+ghost use Rattle.step_host.specs.Laws.{CalledLegsHaveCalls, OpenCallsAreLast, CallFollows, LawfulBegins, LawfulGrows, NoneIsLawful, RecordsAreLawful, RecordsAreScripts};
 
 use crate::host::StepHost;
 
@@ -11,6 +11,13 @@ pub fn lawful_lists_grow<H: StepHost>()
     ensures last { (host : H) → LawfulGrows (H.admits host) }
     ensures first { (host : H) → LawfulBegins (H.admits host) }
     ensures call { CallFollows }
+{}
+
+/// A call that is open is the one that the last Begin of its leg replied with, with no End since; and each leg that is in
+/// a call has one, of its next step.
+pub fn open_calls_are_last()
+    ensures last { OpenCallsAreLast }
+    ensures called { CalledLegsHaveCalls }
 {}
 
 /// The answers of a legal list, each for the step that its leg was at, are well-formed and one a step; and over them
