@@ -1,3 +1,4 @@
+mod Commanding
 mod Gathering
 mod Kept
 mod LastCalls
@@ -6,6 +7,7 @@ mod Quiet
 mod Recorded
 mod Replacing
 mod Scripts
+mod ShownLines
 mod Splitting
 mod Standing
 mod Turns

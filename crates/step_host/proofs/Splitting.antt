@@ -7,7 +7,7 @@ use Rattle.std.specs.Option.{option_map, MatchOption}
 use Rattle.std.specs.Borrow.{Bor}
 use Rattle.std.specs.List.{starts_with}
 use Rattle.std.specs.Str.Pattern.{FindsText, LacksTextAt, SplitsAroundMatch}
-use Rattle.step_host.specs.Splits.{split_first, onto_front, onto_first, lines_of}
+use Rattle.step_host.specs.Splits.{split_first, onto_front, onto_first, lines_of, fields_of}
 
 lacks_front : (mark text : List ℕ) → LacksTextAt mark text 0 → (t : Bool) → starts_with nat_eq text mark ≡ t → t ≡ false
 lacks_front mark text lacks true is = absurd (lacks (drop (length mark) text) ((starts_is Decides-eqb text mark (starts_with nat_eq text mark) refl).0 is))
@@ -41,37 +41,73 @@ split_first-at mark (b ∷ text) (suc i) (suc j) some ends within lacks at =
 
 -- ---- lines
 
-begins_newline : (b : ℕ) (text : List ℕ) → starts_with nat_eq (b ∷ text) (10 ∷ []) ≡ (b == 10)
-begins_newline b text = same (10 == b) (b == 10) refl refl
+begins_byte : (c b : ℕ) (text : List ℕ) → starts_with nat_eq (b ∷ text) (c ∷ []) ≡ (b == c)
+begins_byte c b text = same (c == b) (b == c) refl refl
   where
-    same : (t u : Bool) → (10 == b) ≡ t → (b == 10) ≡ u → (t && true) ≡ u
+    same : (t u : Bool) → (c == b) ≡ t → (b == c) ≡ u → (t && true) ≡ u
     same true true h k = refl
     same true false h k = absurd (grind (arith, nat_tests))
     same false true h k = absurd (grind (arith, nat_tests))
     same false false h k = refl
 
--- the first line of a text that has a newline
-pub lines_of-split : (text line rest : List ℕ) → split_first (10 ∷ []) text ≡ Some (line, rest) → lines_of text ≡ line ∷ lines_of rest
-lines_of-split [] line rest h = cc
-lines_of-split (b ∷ text) line rest h =
-    by_test (starts_with nat_eq (b ∷ text) (10 ∷ [])) (b == 10) refl refl h
-    (λ k. later (split_first (10 ∷ []) text) refl k (λ x is. lines_of-split text x.0 x.1 is))
+begins_newline : (b : ℕ) (text : List ℕ) → starts_with nat_eq (b ∷ text) (10 ∷ []) ≡ (b == 10)
+begins_newline b text = begins_byte 10 b text
+
+-- how the parts of a text between bytes c go on
+abbrev CutsAt : ℕ → (List ℕ → List (List ℕ)) → Type 0
+CutsAt c parts = (b : ℕ) (text : List ℕ) → parts (b ∷ text) ≡ cond (b == c) ([] ∷ parts text) (onto_first b (parts text))
+
+-- the first part of a text that has the byte
+parts_split : (c : ℕ) (parts : List ℕ → List (List ℕ)) → CutsAt c parts → (text part rest : List ℕ) → split_first (c ∷ []) text ≡ Some (part, rest)
+    → parts text ≡ part ∷ parts rest
+parts_split c parts cuts [] part rest h = cc
+parts_split c parts cuts (b ∷ text) part rest h =
+    cuts b text
+    ∙ by_test (starts_with nat_eq (b ∷ text) (c ∷ [])) (b == c) refl refl h
+    (λ k. later (split_first (c ∷ []) text) refl k (λ x is. parts_split c parts cuts text x.0 x.1 is))
   where
-    later : (o : Option (List ℕ × List ℕ)) → split_first (10 ∷ []) text ≡ o → onto_front b o ≡ Some (line, rest)
-        → ((x : List ℕ × List ℕ) → split_first (10 ∷ []) text ≡ Some (x.0, x.1) → lines_of text ≡ x.0 ∷ lines_of x.1)
-        → onto_first b (lines_of text) ≡ line ∷ lines_of rest
+    later : (o : Option (List ℕ × List ℕ)) → split_first (c ∷ []) text ≡ o → onto_front b o ≡ Some (part, rest)
+        → ((x : List ℕ × List ℕ) → split_first (c ∷ []) text ≡ Some (x.0, x.1) → parts text ≡ x.0 ∷ parts x.1)
+        → onto_first b (parts text) ≡ part ∷ parts rest
     later None is k more = cc
     later (Some x) is k more =
-        let p : (b ∷ x.0, x.1) ≡ (line, rest) = cc in
-        ap (onto_first b) (more x is) ∙ ap (λ (y : List ℕ × List ℕ). y.0 ∷ lines_of y.1) p
+        let p : (b ∷ x.0, x.1) ≡ (part, rest) = cc in
+        ap (onto_first b) (more x is) ∙ ap (λ (y : List ℕ × List ℕ). y.0 ∷ parts y.1) p
 
-    by_test : (t u : Bool) → starts_with nat_eq (b ∷ text) (10 ∷ []) ≡ t → (b == 10) ≡ u
-        → cond t (Some ([], drop 1 (b ∷ text))) (onto_front b (split_first (10 ∷ []) text)) ≡ Some (line, rest)
-        → (onto_front b (split_first (10 ∷ []) text) ≡ Some (line, rest) → onto_first b (lines_of text) ≡ line ∷ lines_of rest)
-        → cond u ([] ∷ lines_of text) (onto_first b (lines_of text)) ≡ line ∷ lines_of rest
-    by_test true true is here k more = let p : ([], text) ≡ (line, rest) = cc in ap (λ (y : List ℕ × List ℕ). y.0 ∷ lines_of y.1) p
-    by_test true false is here k more = absurd (cc (begins_newline b text))
-    by_test false true is here k more = absurd (cc (begins_newline b text))
+    by_test : (t u : Bool) → starts_with nat_eq (b ∷ text) (c ∷ []) ≡ t → (b == c) ≡ u
+        → cond t (Some ([], text)) (onto_front b (split_first (c ∷ []) text)) ≡ Some (part, rest)
+        → (onto_front b (split_first (c ∷ []) text) ≡ Some (part, rest) → onto_first b (parts text) ≡ part ∷ parts rest)
+        → cond u ([] ∷ parts text) (onto_first b (parts text)) ≡ part ∷ parts rest
+    by_test true true is here k more = let p : ([], text) ≡ (part, rest) = cc in ap (λ (y : List ℕ × List ℕ). y.0 ∷ parts y.1) p
+    by_test true false is here k more = absurd (cc (begins_byte c b text))
+    by_test false true is here k more = absurd (cc (begins_byte c b text))
+    by_test false false is here k more = more k
+
+-- the first line of a text that has a newline, and the first field of one that has a comma
+pub lines_of-split : (text line rest : List ℕ) → split_first (10 ∷ []) text ≡ Some (line, rest) → lines_of text ≡ line ∷ lines_of rest
+lines_of-split text line rest h = parts_split 10 lines_of (λ b t. refl) text line rest h
+
+pub fields_of-split : (text field rest : List ℕ) → split_first (44 ∷ []) text ≡ Some (field, rest) → fields_of text ≡ field ∷ fields_of rest
+fields_of-split text field rest h = parts_split 44 fields_of (λ b t. refl) text field rest h
+
+-- a text without a comma is one field
+pub fields_of-one : (text : List ℕ) → split_first (44 ∷ []) text ≡ None → fields_of text ≡ text ∷ []
+fields_of-one [] h = refl
+fields_of-one (b ∷ text) h =
+    by_test (starts_with nat_eq (b ∷ text) (44 ∷ [])) (b == 44) refl refl h
+    (λ k. later (split_first (44 ∷ []) text) refl k (λ is. fields_of-one text is))
+  where
+    later : (o : Option (List ℕ × List ℕ)) → split_first (44 ∷ []) text ≡ o → onto_front b o ≡ None
+        → (split_first (44 ∷ []) text ≡ None → fields_of text ≡ text ∷ []) → onto_first b (fields_of text) ≡ (b ∷ text) ∷ []
+    later (Some x) is k more = cc
+    later None is k more = ap (onto_first b) (more is)
+
+    by_test : (t u : Bool) → starts_with nat_eq (b ∷ text) (44 ∷ []) ≡ t → (b == 44) ≡ u
+        → cond t (Some ([], text)) (onto_front b (split_first (44 ∷ []) text)) ≡ None
+        → (onto_front b (split_first (44 ∷ []) text) ≡ None → onto_first b (fields_of text) ≡ (b ∷ text) ∷ [])
+        → cond u ([] ∷ fields_of text) (onto_first b (fields_of text)) ≡ (b ∷ text) ∷ []
+    by_test true u is here k more = absurd (cc)
+    by_test false true is here k more = absurd (cc (begins_byte 44 b text))
     by_test false false is here k more = more k
 
 -- a text without a newline is one line

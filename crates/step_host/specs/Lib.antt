@@ -1,4 +1,5 @@
 pub mod Blocks
+pub mod CommandTexts
 pub mod Entries
 pub mod Faults
 pub mod Host
@@ -11,4 +12,5 @@ pub mod Replace
 pub mod Replay
 pub mod Script
 pub mod Shell
+pub mod Shown
 pub mod Splits

@@ -1,6 +1,6 @@
 -- Texts split at marks, and into lines.
-use Rattle.std.specs.Prelude.{ℕ, nat_eq, ◌==◌, if◌then◌else◌, List, [], ◌∷◌, length, drop, Option, Some, None}
-use Rattle.std.specs.List.{starts_with}
+use Rattle.std.specs.Prelude.{ℕ, Bool, nat_eq, ◌==◌, ◌||◌, if◌then◌else◌, List, [], ◌∷◌, length, drop, Option, Some, None}
+use Rattle.std.specs.List.{starts_with, prefix_len}
 
 -- a byte before the front of a text that is split
 abbrev pub onto_front : ℕ → Option (List ℕ × List ℕ) → Option (List ℕ × List ℕ)
@@ -27,3 +27,20 @@ onto_first b (part ∷ parts) = (b ∷ part) ∷ parts
 abbrev pub lines_of : List ℕ → List (List ℕ)
 lines_of [] = []
 lines_of (b ∷ text) = if b == newline then [] ∷ lines_of text else onto_first b (lines_of text)
+
+-- what follows this front of a text, if it has it
+abbrev pub after_front : List ℕ → List ℕ → Option (List ℕ)
+after_front front text = if starts_with nat_eq text front then Some (drop (length front) text) else None
+
+-- a space or a tab
+abbrev pub is_blank : ℕ → Bool
+is_blank b = b == 32 || b == 9
+
+-- a text from its first byte on that is no space and no tab
+abbrev pub from_text : List ℕ → List ℕ
+from_text text = drop (prefix_len is_blank text) text
+
+-- the parts of a text between commas
+abbrev pub fields_of : List ℕ → List (List ℕ)
+fields_of [] = [] ∷ []
+fields_of (b ∷ text) = if b == 44 then [] ∷ fields_of text else onto_first b (fields_of text)

@@ -4,18 +4,17 @@ ghost use Rattle.std.specs.Prelude.{◌≡◌, ◌<◌, ◌≤◌, IfOk, length,
 ghost use Rattle.std.specs.Str.{IsUtf8};
 ghost use Rattle.step_host.specs.Mask.{standing as standing_of, longest as longest_of, masked};
 
-use crate::replace::{Rule, replace};
+use crate::replace::{Rule, begins, replace};
 use flow_model::Text;
 use std::alloc::{AllocError, Global};
 
 /// How many bytes the mask has, if it stands at the front of the text; else 0.
-#[tactic(auto, using(crate::proofs::Standing::front_is, crate::proofs::Standing::front_text))]
 fn standing(mask: &str, text: &[u8]) -> usize
     ensures exact { result ≡ standing_of mask.now text.now }
     ensures within { result ≤ length text.now }
     ensures text { IsUtf8 (take result text.now) }
 {
-    if text.starts_with(mask.as_bytes()) {
+    if begins(text, mask) {
         return mask.len();
     }
     0

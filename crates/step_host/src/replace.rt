@@ -1,6 +1,7 @@
 //! Texts in which something is replaced.
 
-ghost use Rattle.std.specs.Prelude.{◌≡◌, ◌+◌, ◌<◌, ◌≤◌, ◌++◌, IfOk, IfSome, MatchOption, length, take, drop, List, ℕ};
+ghost use Rattle.std.specs.Prelude.{◌≡◌, ◌+◌, ◌<◌, ◌≤◌, ◌++◌, IfOk, IfSome, MatchOption, length, take, drop, List, ℕ, nat_eq, IsTrue};
+ghost use Rattle.std.specs.List.{starts_with};
 ghost use Rattle.std.specs.Option.{option_map};
 ghost use Rattle.std.specs.Str.{IsUtf8};
 ghost use Rattle.step_host.specs.Replace.{replaced};
@@ -21,6 +22,16 @@ pub(crate) trait Rule {
         ensures some { IfSome result (λ x. 0 < x.1) }
         ensures within { IfSome result (λ x. x.1 ≤ length text.now) }
         ensures text { IfSome result (λ x. IsUtf8 (take x.1 text.now)) };
+}
+
+/// Whether a text begins with this one.
+#[tactic(auto, using(crate::proofs::Standing::front_text))]
+pub(crate) fn begins(text: &[u8], front: &str) -> bool
+    ensures value { result ≡ starts_with nat_eq text.now front.now }
+    ensures within { IsTrue result → length front.now ≤ length text.now }
+    ensures text { IsTrue result → IsUtf8 (take (length front.now) text.now) }
+{
+    text.starts_with(front.as_bytes())
 }
 
 /// What follows the bytes before a place.
