@@ -1,7 +1,16 @@
+pub mod Blocks
+pub mod CommandTexts
 pub mod Entries
 pub mod Faults
 pub mod Host
 pub mod Lawful
 pub mod Laws
+pub mod Mask
+pub mod OutputFaults
+pub mod Outputs
+pub mod Replace
 pub mod Replay
 pub mod Script
+pub mod Shell
+pub mod Shown
+pub mod Splits

@@ -13,13 +13,30 @@
 
 #![tactic(auto)]
 
+pub mod command_lines;
+mod escapes;
 pub mod fault;
 pub mod host;
 pub mod laws;
+pub mod line;
+pub mod masks;
+pub mod output_fault;
+pub mod output_file;
+mod replace;
 pub mod replay;
 pub mod script;
+pub mod shell;
+pub mod showing;
+mod splits;
 
+pub use command_lines::read_commands;
 pub use fault::{HostFault, ScriptFault};
 pub use host::{DecidedHost, StepHost};
+pub use line::Line;
+pub use masks::mask;
+pub use output_fault::OutputFault;
+pub use output_file::read_output_file;
 pub use replay::ReplayHost;
 pub use script::ScriptHost;
+pub use shell::shell_words;
+pub use showing::shown;
