@@ -44,10 +44,15 @@ fn has_succeeded(state: RunState) -> bool
 fn runs_status(board: &Board) -> u8
     ensures { result ≡ spec.runs_status board.now }
 {
-    if !board.runs.iter().all(|run| is_closed(run.state)) {
+    if !board.runs.as_slice().iter().all(|run| is_closed(run.state)) {
         return UNCLOSED;
     }
-    if board.runs.iter().all(|run| has_succeeded(run.state)) {
+    if board
+        .runs
+        .as_slice()
+        .iter()
+        .all(|run| has_succeeded(run.state))
+    {
         return DONE;
     }
     UNSUCCESSFUL
