@@ -1,13 +1,13 @@
-mod Commanding
-mod Gathering
-mod Kept
-mod LastCalls
+pub mod Commanding
+pub mod Gathering
+pub mod LastCalls
 pub mod Lawfulness
-mod Quiet
-mod Recorded
-mod Replacing
-mod Scripts
-mod ShownLines
-mod Splitting
-mod Standing
-mod Turns
+pub mod Kept
+pub mod Quiet
+pub mod Recorded
+pub mod Replacing
+pub mod Scripts
+pub mod ShownLines
+pub mod Splitting
+pub mod Standing
+pub mod Turns

@@ -9,8 +9,7 @@ ghost use Rattle.step_host.specs.Host.{Responds};
 use crate::fault::HostFault;
 use flow_model::{Answer, StepCall};
 
-/// What plays a step and says what became of it. A host keeps the memory's allocator, and may be asked by several
-/// threads at once.
+/// What plays a step and says what became of it. A host keeps its allocator, and may be asked by several threads at once.
 pub trait StepHost: Sync {
     /// Which answers it admits for a call.
     ghost admits: { Self → StepCall → Answer → Type 0 };
