@@ -84,7 +84,8 @@ fn read_named(
 
 /// The command of what stands between the first `::` and the next, and of the message.
 fn read_head(alloc: Global, head: &str, message: &str) -> Result<Option<Line>, AllocError>
-    ensures { IfOk result (λ found. found ≡ headed (split_first_of (codes " ") head.now) head.now message.now) }
+    ensures { IfOk result (λ found.
+        found ≡ headed (split_first_of (codes " ") head.now) head.now message.now) }
 {
     let Some((name, fields)) = split_first(head, " ") else {
         return read_named(alloc, head, Sequence::empty(alloc), message);
@@ -138,7 +139,8 @@ fn stopped_by(alloc: Global, line: &Line) -> Result<Option<Text>, AllocError>
 
 /// A line where commands are read, and the word that stops them from it on.
 fn read_open(alloc: Global, line: &str) -> Result<(Line, Option<Text>), AllocError>
-    ensures { IfOk result (λ x. (lines : List (List ℕ)) → read_from None (line.now ∷ lines) ≡ x.0 ∷ read_from x.1 lines) }
+    ensures { IfOk result (λ x. (lines : List (List ℕ))
+        → read_from None (line.now ∷ lines) ≡ x.0 ∷ read_from x.1 lines) }
 {
     let read = match read_command(alloc, line)? {
         Some(command) => command,
@@ -150,7 +152,8 @@ fn read_open(alloc: Global, line: &str) -> Result<(Line, Option<Text>), AllocErr
 
 /// A line where commands are stopped by a word, and the word that stops them from it on.
 fn read_stopped(alloc: Global, line: &str, word: Text) -> Result<(Line, Option<Text>), AllocError>
-    ensures { IfOk result (λ x. (lines : List (List ℕ)) → read_from (Some word) (line.now ∷ lines) ≡ x.0 ∷ read_from x.1 lines) }
+    ensures { IfOk result (λ x. (lines : List (List ℕ))
+        → read_from (Some word) (line.now ∷ lines) ≡ x.0 ∷ read_from x.1 lines) }
 {
     if is_resuming(word.as_str(), line) {
         return Ok((Line::Resume, None));
@@ -165,7 +168,8 @@ fn read_line(
     line: &str,
     stop: Option<Text>,
 ) -> Result<(Line, Option<Text>), AllocError>
-    ensures { IfOk result (λ x. (lines : List (List ℕ)) → read_from stop (line.now ∷ lines) ≡ x.0 ∷ read_from x.1 lines) }
+    ensures { IfOk result (λ x. (lines : List (List ℕ))
+        → read_from stop (line.now ∷ lines) ≡ x.0 ∷ read_from x.1 lines) }
 {
     match stop {
         Some(word) => read_stopped(alloc, line, word),

@@ -8,8 +8,12 @@
 //! Two hosts are decided, and look at the leg and the step of a call alone: `ScriptHost` admits the answers of a list, and
 //! `ReplayHost` those that a legal list of entries gave, which is lawful over it.
 //!
+//! The texts of programs are read and made exactly as `specs/` says: the words of a shell (`shell_words`), what a file of
+//! outputs gives (`read_output_file`), the commands in what a step prints (`read_commands`), what is shown of it (`shown`),
+//! and masked texts (`mask`).
+//!
 //! The crate stands on `status_table`, whose table says which call a step makes, on `board_decisions` for where a leg
-//! stands, on `flow_model`, and on `thiserror` for its errors.
+//! stands, on `flow_model`, on `expr_reader`, which folds texts, and on `thiserror` for its errors.
 
 #![tactic(auto)]
 

@@ -84,7 +84,8 @@ fn read_head(line: &str) -> Option<Head<'_>>
 
 /// Adds a line to the value of a block, of which it may be the first.
 fn add_line(value: &mut String, first: bool, line: &str) -> Result<(), AllocError>
-    ensures { OnOk result (string_bytes value.new ≡ string_bytes value.old ++ added first line.now) }
+    ensures { OnOk result
+        (string_bytes value.new ≡ string_bytes value.old ++ added first line.now) }
 {
     if !first {
         value.push_str("\n")?;
@@ -98,9 +99,11 @@ fn read_block<'t>(
     text: &'t str,
     delimiter: &str,
 ) -> Result<(Text, &'t str), OutputFault>
-    ensures read { IfOk result (λ x. block_value delimiter.now (lines_of text.now) ≡ Some (x.0, lines_of x.1.now)) }
+    ensures read { IfOk result (λ x.
+        block_value delimiter.now (lines_of text.now) ≡ Some (x.0, lines_of x.1.now)) }
     ensures shorter { IfOk result (λ x. length x.1.now ≤ length text.now) }
-    ensures open { IfErr result (λ fault. Opens fault (block_value delimiter.now (lines_of text.now))) }
+    ensures open { IfErr result (λ fault.
+        Opens fault (block_value delimiter.now (lines_of text.now))) }
 {
     let mut value = String::new(alloc);
     let mut first = true;
@@ -125,7 +128,8 @@ fn read_item<'t>(
 ) -> Result<&'t str, OutputFault>
     requires { 0 < length text.now }
     ensures read { IfOk result (λ rest.
-        then_with found.old (pairs_of (lines_of text.now)) ≡ then_with found.new (pairs_of (lines_of rest.now))) }
+        then_with found.old (pairs_of (lines_of text.now))
+        ≡ then_with found.new (pairs_of (lines_of rest.now))) }
     ensures shorter { IfOk result (λ rest. length rest.now < length text.now) }
     ensures refused { IfErr result (λ fault. Refuses fault (pairs_of (lines_of text.now))) }
 {

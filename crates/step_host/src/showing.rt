@@ -66,7 +66,8 @@ fn show(
     masks: &[Text],
     texts: &mut Sequence<Text>,
 ) -> Result<(), AllocError>
-    ensures { OnOk result (texts.new ≡ texts.old ++ masked_line masks.now (line_shown_of line.now)) }
+    ensures { OnOk result
+        (texts.new ≡ texts.old ++ masked_line masks.now (line_shown_of line.now)) }
 {
     match line_shown(alloc, line)? {
         Some(text) => texts.push(mask(alloc, text.as_str(), masks)?),
