@@ -34,8 +34,8 @@ stops_on p es i f b named stop = record {
   board = b;
   entry = stop.1.0;
   legal = stop.0;
-  there = stop.1.1.0;
-  refused = refused f named stop.1.1.1;
+  there = stop.1.1;
+  refused = refused f named stop.1.2;
   counted = refl;
 }
 
@@ -53,7 +53,7 @@ pub has_line : ((p : Plan) → IsPlan p → (es : List Entry) (b : Board) → af
     → (p : Plan) → IsPlan p → (es : List Entry) (i : ℕ) (f : EventFault) → IsRefusedAt p es (i, f) → HasLine i f
 has_line short p rules es i f at named =
     let stop = at (not_memory f named) in
-    let inside : i < length es = slice_get_within es i stop.1.1.0 stop.1.1.1.0 in
+    let inside : i < length es = slice_get_within es i stop.1.1.0 stop.1.1.1 in
     let few : length (take i es) ≤ 2113728 = short p rules (take i es) stop.0 stop.1.0 in
     let same : length (take i es) ≡ i = length-take-le i es (omega (arith, inside)) in
     omega (arith, few, same)

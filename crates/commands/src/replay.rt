@@ -1,6 +1,9 @@
 //! `actrun replay`: the board after a record, which is played again.
 
 ghost use Rattle.std.specs.Prelude.{◌≡◌, ◌+◌, ◌^◌, ◌<◌};
+ghost use Rattle.std.specs.List.{list_all};
+ghost use Rattle.board_decisions.specs.Derived.{is_closed};
+ghost use Rattle.worker_pool.specs.Entries.{IsMemory};
 ghost use Rattle.commands.specs.Replay as spec;
 ghost use Rattle.commands.specs.Tell.{TellsBy};
 ghost use Rattle.commands.specs.Replay.{GivesBoard, GivesEntries, GivesReplay, ReplayTells};
@@ -9,13 +12,13 @@ use crate::stream::{Sink, Source};
 use crate::tell::{refuse_source, tell_by};
 use crate::trouble::{DONE, Trouble};
 use board_decisions::derived::is_closed;
-use flow_model::{Board, CheckedPlan, Entry, Outcome, RunState};
+use flow_model::{Board, CheckedPlan, Entry, Outcome, Run, RunState};
 use plan_text::{LoadFault, board_text, load_record};
 use status_table::EventFault;
 use status_table::board_laws::legal_lists_are_short;
 use std::alloc::Global;
 use step_host::ReplayHost;
-use worker_pool::play_entries;
+use worker_pool::{PoolFault, play_entries};
 
 /// The exit status where a run failed or was cancelled.
 pub(crate) const UNSUCCESSFUL: u8 = 1;
@@ -40,19 +43,28 @@ fn has_succeeded(state: RunState) -> bool
     }
 }
 
+/// Whether all runs are closed.
+fn are_closed(runs: &[Run]) -> bool
+    ensures { result ≡ list_all (λ run. is_closed run.state) runs.now }
+{
+    runs.iter().all(|run| is_closed(run.state))
+}
+
+/// Whether all runs are closed with success.
+fn have_succeeded(runs: &[Run]) -> bool
+    ensures { result ≡ list_all (λ run. spec.has_succeeded run.state) runs.now }
+{
+    runs.iter().all(|run| has_succeeded(run.state))
+}
+
 /// The exit status that tells how the runs of a board ended.
 fn runs_status(board: &Board) -> u8
     ensures { result ≡ spec.runs_status board.now }
 {
-    if !board.runs.as_slice().iter().all(|run| is_closed(run.state)) {
+    if !are_closed(board.runs.as_slice()) {
         return UNCLOSED;
     }
-    if board
-        .runs
-        .as_slice()
-        .iter()
-        .all(|run| has_succeeded(run.state))
-    {
+    if have_succeeded(board.runs.as_slice()) {
         return DONE;
     }
     UNSUCCESSFUL
@@ -82,6 +94,14 @@ fn stop_trouble(place: usize, fault: EventFault) -> Trouble
     Trouble::Refused(place as u64 + 2, fault)
 }
 
+/// Why entries are not played again over the host of their own answers: there is no memory.
+fn replay_trouble(_fault: &PoolFault) -> Trouble
+    requires { IsMemory _fault.now }
+    ensures { result ≡ Trouble.Memory }
+{
+    Trouble::Memory
+}
+
 /// The board after entries, which are played again: each call is answered as the list answers it.
 #[tactic(auto, using(crate::proofs::Stopped::has_line, crate::proofs::Stopped::stops))]
 fn played_again(alloc: Global, plan: &CheckedPlan, entries: &[Entry]) -> Result<Board, Trouble>
@@ -91,7 +111,7 @@ fn played_again(alloc: Global, plan: &CheckedPlan, entries: &[Entry]) -> Result<
     match ReplayHost::new(alloc, plan, entries) {
         Ok(host) => match play_entries(alloc, plan, entries, &host) {
             Ok(board) => Ok(board),
-            Err(_) => Err(Trouble::Memory),
+            Err(fault) => Err(replay_trouble(&fault)),
         },
         Err((place, fault)) => Err(stop_trouble(place, fault)),
     }
