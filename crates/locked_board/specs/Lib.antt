@@ -1,0 +1,7 @@
+pub mod Begun
+pub mod Calls
+pub mod Clerk
+pub mod Course
+pub mod Ended
+pub mod Fault
+pub mod OpenCalls

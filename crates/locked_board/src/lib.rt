@@ -1,0 +1,14 @@
+//! locked_board: a board and its history under one lock, lent to several workers.
+
+#![tactic(auto)]
+
+mod calls;
+pub mod clerk;
+pub mod fault;
+pub mod held;
+pub mod journal;
+mod same;
+
+pub use clerk::Clerk;
+pub use fault::PostFault;
+pub use held::{Begun, Held};
