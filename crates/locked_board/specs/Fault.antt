@@ -30,3 +30,16 @@ post_fault fault.NotStopping = post.Event fault.NotStopping
 post_fault fault.StepsLeft = post.Event fault.StepsLeft
 post_fault fault.BadAnswer = post.Event fault.BadAnswer
 post_fault fault.Memory = post.Memory
+
+-- the same for an End whose call is not the open one of its leg
+abbrev pub fault_of_other : EventFault → PostFault
+fault_of_other fault.NoSuch = post.Event fault.NoSuch
+fault_of_other fault.WrongState = post.Event fault.WrongState
+fault_of_other fault.OtherWorker = post.Event fault.WrongState
+fault_of_other fault.NeedsOpen = post.Event fault.WrongState
+fault_of_other fault.SlotsFull = post.Event fault.WrongState
+fault_of_other fault.Stopping = post.Event fault.WrongState
+fault_of_other fault.NotStopping = post.Event fault.WrongState
+fault_of_other fault.StepsLeft = post.Event fault.WrongState
+fault_of_other fault.BadAnswer = post.Event fault.WrongState
+fault_of_other fault.Memory = post.Memory

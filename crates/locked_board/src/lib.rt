@@ -6,7 +6,8 @@ mod calls;
 pub mod clerk;
 pub mod fault;
 pub mod held;
-pub mod journal;
+mod journal;
+mod playing;
 mod same;
 
 pub use clerk::Clerk;
