@@ -1,5 +1,5 @@
 -- The first of a clerk's moves is an event of a clerk, and is accepted of any worker.
-use Rattle.std.proofs.Common.{◌≡◌, ℕ, ◌≤◌, ◌++◌, ◌&&◌, Bool, true, false, List, [], ◌∷◌, map, filter, length, slice_get, Option, Some, None, Ok, Err, nat_le, if◌then◌else◌, refl, ap, sym, subst, ◌∙◌}
+use Rattle.std.proofs.Common.{◌≡◌, ℕ, ◌≤◌, ◌++◌, Bool, true, false, List, [], ◌∷◌, map, filter, length, slice_get, Some, None, Err, if◌then◌else◌, refl, ap, sym, subst, ◌∙◌}
 use Rattle.std.specs.List.{list_all}
 use Rattle.std.proofs.lemmas.Bool.{le-leb}
 use Rattle.std.proofs.lemmas.List.Folds.{list_all-append}
@@ -15,7 +15,6 @@ use Rattle.locked_board.specs.declared.fault.PostFault.{PostFault}
 use Rattle.locked_board.specs.declared.fault.PostFault.TheVariants as post
 use Rattle.status_table.specs.Moves.{numbers, clerk_events, is_accepted, accepts, moves}
 use Rattle.status_table.specs.Row.{Row, row, event_row}
-use Rattle.status_table.specs.declared.fault.EventFault.{EventFault}
 use Rattle.status_table.specs.declared.fault.EventFault.TheVariants as fault
 
 -- whether an event is one that a clerk reports

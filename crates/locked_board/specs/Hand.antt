@@ -1,5 +1,5 @@
 -- What a worker's share counts.
-use Rattle.std.specs.Prelude.{◌≡◌, ◌+◌, ◌++◌, ℕ, List, [], ◌∷◌, map, sum_by, Result, Ok, Err}
+use Rattle.std.specs.Prelude.{◌≡◌, ◌+◌, ℕ, List, map, sum_by, Result, Ok, Err}
 use Rattle.locked_board.specs.declared.clerk.Clerk.{Clerk}
 use Rattle.locked_board.specs.declared.clerk.Clerk.TheVariants as clerk
 use Rattle.locked_board.specs.declared.fault.PostFault.{PostFault}
