@@ -1,0 +1,8 @@
+pub mod Begun
+pub mod Calls
+pub mod Clerk
+pub mod Course
+pub mod Ended
+pub mod Fault
+pub mod Hand
+pub mod OpenCalls
