@@ -84,10 +84,18 @@ fn script_of(alloc: Global, text: &[u8]) -> Result<Result<ScriptHost, ScriptFaul
     Ok(ScriptHost::new(alloc, lines))
 }
 
+/// Why there is no host of a script.
+fn script_fault_told(alloc: Global, fault: ScriptFault) -> Result<String, AllocError> {
+    match fault {
+        ScriptFault::BadScript => String::from_str(alloc, "BadScript"),
+        ScriptFault::Memory => String::from_str(alloc, "Memory"),
+    }
+}
+
 fn script_told(alloc: Global, input: &[u8]) -> Result<String, AllocError> {
     match script_of(alloc, input)? {
         Ok(_) => String::from_str(alloc, "script"),
-        Err(fault) => String::from_str(alloc, fault.name()),
+        Err(fault) => script_fault_told(alloc, fault),
     }
 }
 
@@ -122,7 +130,7 @@ fn alone_told(alloc: Global, input: &[u8]) -> Result<String, AllocError> {
     match load_plan(alloc, line) {
         Ok(plan) => match script_of(alloc, script)? {
             Ok(host) => play_told(alloc, &plan, &host),
-            Err(fault) => String::from_str(alloc, fault.name()),
+            Err(fault) => script_fault_told(alloc, fault),
         },
         Err(fault) => documents::fault_text(alloc, &fault),
     }
@@ -190,7 +198,7 @@ fn again_told(alloc: Global, script: &[u8], input: &[u8]) -> Result<String, Allo
     match load_record(alloc, input) {
         Ok((plan, entries)) => match script_of(alloc, script)? {
             Ok(host) => replay_told(alloc, &plan, entries.as_slice(), &host),
-            Err(fault) => String::from_str(alloc, fault.name()),
+            Err(fault) => script_fault_told(alloc, fault),
         },
         Err(fault) => documents::fault_text(alloc, &fault),
     }
