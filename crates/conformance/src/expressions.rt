@@ -155,17 +155,12 @@ fn json_text(alloc: Global, value: &Value) -> Result<String, AllocError> {
 }
 
 fn template_told(alloc: Global, text: &str, file: &[u8]) -> Result<String, AllocError> {
-    match read_template(alloc, text) {
-        Ok(template) => template_value(alloc, &template, file),
-        Err(fault) => fault.to_string(alloc),
-    }
-}
-
-/// The value of a template over the contexts of the file, or its fault.
-fn template_value(alloc: Global, template: &Template, file: &[u8]) -> Result<String, AllocError> {
     let contexts = contexts_of(alloc, file)?;
-    match eval_text(alloc, template, &contexts) {
-        Ok(value) => json_text(alloc, &value),
+    match read_template(alloc, text) {
+        Ok(template) => match eval_text(alloc, &template, &contexts) {
+            Ok(value) => json_text(alloc, &value),
+            Err(fault) => fault.to_string(alloc),
+        },
         Err(fault) => fault.to_string(alloc),
     }
 }

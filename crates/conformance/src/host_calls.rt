@@ -126,6 +126,9 @@ fn alone_recorded(alloc: Global, input: &[u8]) -> Result<String, AllocError> {
 
 /// A play by one thread, over a script.
 fn alone_told(alloc: Global, input: &[u8]) -> Result<String, AllocError> {
+    if input.is_empty() {
+        return String::from_str(alloc, "NotJson");
+    }
     let (line, script) = first_line(input);
     match load_plan(alloc, line) {
         Ok(plan) => match script_of(alloc, script)? {
