@@ -13,7 +13,7 @@ use Rattle.status_table.specs.declared.fault.EventFault.{EventFault}
 use Rattle.status_table.specs.declared.fault.EventFault.TheVariants as event_fault
 use Rattle.step_host.specs.Replay.{IsRefusedAt}
 use Rattle.commands.specs.declared.trouble.Trouble.TheVariants.{Memory, Refused}
-use Rattle.commands.specs.Replay.{GivesEntries, HasLine, StopsOn, is_memory, stop_trouble}
+use Rattle.commands.specs.Records.{HasLine, IsStopped, StopsOn, is_memory, stop_trouble}
 
 -- a refusal that is no want of memory is the row's
 refused : {r : Row} (f : EventFault) → is_memory f ≡ false → Refuses r f → r ≡ Err f
@@ -42,10 +42,10 @@ stops_on p es i f b named stop = record {
 not_memory : (f : EventFault) → is_memory f ≡ false → f ≡ event_fault.Memory → ⊥
 not_memory f named is = let same : is_memory f ≡ true = subst (λ (x : EventFault). is_memory x ≡ true) (sym is) refl in absurd (cc)
 
-pub stops : (p : Plan) (es : List Entry) (i : ℕ) (f : EventFault) → IsRefusedAt p es (i, f) → GivesEntries p es (Err (stop_trouble i f))
+pub stops : (p : Plan) (es : List Entry) (i : ℕ) (f : EventFault) → IsRefusedAt p es (i, f) → IsStopped p es (stop_trouble i f)
 stops p es i f at = by_kind (is_memory f) refl
   where
-    by_kind : (kind : Bool) → is_memory f ≡ kind → GivesEntries p es (Err (if kind then Memory else Refused (i + 2) f))
+    by_kind : (kind : Bool) → is_memory f ≡ kind → IsStopped p es (if kind then Memory else Refused (i + 2) f)
     by_kind true h = tt
     by_kind false h = let stop = at (not_memory f h) in stops_on p es i f stop.0 h stop.1
 

@@ -1,11 +1,14 @@
 pub mod Contexts
+pub mod Debug
 pub mod Eval
 pub mod Files
 pub mod List
 pub mod Plan
 pub mod Planning
 pub mod Play
+pub mod Records
 pub mod Replay
+pub mod Requests
 pub mod Stream
 pub mod Table
 pub mod Tell

@@ -4,6 +4,7 @@ use Rattle.std.specs.declared.io.ErrorKind.{ErrorKind}
 use Rattle.std.specs.declared.io.ErrorKind.TheVariants.{InvalidData, OutOfMemory}
 use Rattle.plan_assembler.specs.declared.choice.Choice.{Choice}
 use Rattle.plan_assembler.specs.declared.choice.Choice.TheVariants.{Event, Job, All}
+use Rattle.commands.specs.Debug.{DebugTells}
 use Rattle.commands.specs.Eval.{EvalTells}
 use Rattle.commands.specs.Files.{File}
 use Rattle.commands.specs.List.{ListTells}
@@ -42,12 +43,19 @@ abbrev pub RunsReplay : Stream → Stream → Stream → Stream → ℕ → Type
 RunsReplay out out' err err' status =
     ((input input' : Stream) × ReplayTells input input' out out' err err' status) ⊎ Refuses out out' err err' status
 
--- What `table` tells of the input, or what `eval`, `plan`, `list` or `replay` tells, or a trouble.
+-- What `debug` tells of some record and of the input; or a trouble is told.
+abbrev pub RunsDebug : Stream → Stream → Stream → Stream → Stream → Stream → ℕ → Type 0
+RunsDebug input input' out out' err err' status =
+    ((file file' : Stream) × DebugTells file file' input input' out out' err err' status) ⊎ Refuses out out' err err' status
+
+-- What `table` or `debug` tells of the input, or what `eval`, `plan`, `list` or `replay` tells, or a trouble.
 abbrev pub RunTells : Stream → Stream → Stream → Stream → Stream → Stream → ℕ → Type 0
 RunTells input input' out out' err err' status =
     TableTells input input' out out' err err' status
     ⊎ (RunsEval out out' err err' status
-    ⊎ (RunsPlan out out' err err' status ⊎ (RunsList out out' err err' status ⊎ RunsReplay out out' err err' status)))
+    ⊎ (RunsPlan out out' err err' status
+    ⊎ (RunsList out out' err err' status
+    ⊎ (RunsReplay out out' err err' status ⊎ RunsDebug input input' out out' err err' status))))
 
 -- That is found; want of memory may be answered besides.
 abbrev pub FindsIt : {A : Type 0} → A → Result A Trouble → Type 0

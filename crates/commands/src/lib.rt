@@ -10,13 +10,16 @@
 #![tactic(auto)]
 
 pub mod contexts;
+pub mod debug;
 pub mod eval;
 pub mod files;
 pub mod list;
 pub mod plan;
 mod planning;
 mod play;
+mod records;
 pub mod replay;
+mod requests;
 pub mod stream;
 pub mod table;
 mod tell;

@@ -1,6 +1,6 @@
 //! `actrun replay`: the board after a record, which is played again.
 
-ghost use Rattle.std.specs.Prelude.{◌≡◌, ◌+◌, ◌^◌, ◌<◌};
+ghost use Rattle.std.specs.Prelude.{◌≡◌};
 ghost use Rattle.std.specs.List.{list_all};
 ghost use Rattle.board_decisions.specs.Derived.{is_closed};
 ghost use Rattle.worker_pool.specs.Entries.{IsMemory};
@@ -8,13 +8,13 @@ ghost use Rattle.commands.specs.Replay as spec;
 ghost use Rattle.commands.specs.Tell.{TellsBy};
 ghost use Rattle.commands.specs.Replay.{GivesBoard, GivesEntries, GivesReplay, ReplayTells};
 
+use crate::records::{load_trouble, stop_trouble};
 use crate::stream::{Sink, Source};
 use crate::tell::{refuse_source, tell_by};
 use crate::trouble::{DONE, Trouble};
 use board_decisions::derived::is_closed;
 use flow_model::{Board, CheckedPlan, Entry, Outcome, Run, RunState};
-use plan_text::{LoadFault, board_text, load_record};
-use status_table::EventFault;
+use plan_text::{board_text, load_record};
 use status_table::board_laws::legal_lists_are_short;
 use std::alloc::Global;
 use step_host::ReplayHost;
@@ -68,30 +68,6 @@ fn runs_status(board: &Board) -> u8
         return DONE;
     }
     UNSUCCESSFUL
-}
-
-/// Why a text is no record.
-fn load_trouble(fault: LoadFault) -> Trouble
-    ensures { result ≡ spec.load_trouble fault }
-{
-    match fault {
-        LoadFault::NotJson => Trouble::NoPlan(LoadFault::NotJson),
-        LoadFault::Version => Trouble::NoPlan(LoadFault::Version),
-        LoadFault::NotPlan(path) => Trouble::NoPlan(LoadFault::NotPlan(path)),
-        LoadFault::NotEntry(number) => Trouble::NoEntry(number),
-        LoadFault::Memory => Trouble::Memory,
-    }
-}
-
-/// Why there is no board, where the entry at a place, from 0, stops a list; its line comes after the plan's, which is line 1.
-fn stop_trouble(place: usize, fault: EventFault) -> Trouble
-    requires { spec.HasLine place fault }
-    ensures { result ≡ spec.stop_trouble place fault }
-{
-    if let EventFault::Memory = fault {
-        return Trouble::Memory;
-    }
-    Trouble::Refused(place as u64 + 2, fault)
 }
 
 /// Why entries are not played again over the host of their own answers: there is no memory.

@@ -6,6 +6,7 @@ ghost use Rattle.std.specs.IoError.{error_kind};
 ghost use Rattle.commands.specs.Words as spec;
 ghost use Rattle.commands.specs.Words.{RunTells};
 
+use crate::debug::debug;
 use crate::eval::eval;
 use crate::files::NamedSource;
 use crate::list::list;
@@ -63,7 +64,8 @@ fn known_commands<'a>(alloc: Global) -> Result<Command<'a>, AllocError> {
         .subcommand(eval)?
         .subcommand(plan_command(alloc)?)?
         .subcommand(Command::new(alloc, "list").arg(flow_words(alloc))?)?
-        .subcommand(record_command(alloc, "replay")?)
+        .subcommand(record_command(alloc, "replay")?)?
+        .subcommand(record_command(alloc, "debug")?)
 }
 
 /// Runs `eval` over a file of contexts.
@@ -299,6 +301,25 @@ fn run_replay<F: Folder, O: Sink, E: Sink>(
     }
 }
 
+/// Runs `debug` with its word over the lines of the input.
+fn run_debug<F: Folder, I: Source, O: Sink, E: Sink>(
+    alloc: Global,
+    words: &ArgMatches,
+    folder: &F,
+    input: &mut I,
+    out: &mut O,
+    err: &mut E,
+) -> u8
+    ensures { spec.RunsDebug (I.seen input.old) (I.seen input.new) (O.seen out.old) (O.seen out.new)
+        (E.seen err.old) (E.seen err.new) result }
+{
+    let name = words.get_str("record").unwrap_or("");
+    match folder.open(name) {
+        Some(mut record) => debug(alloc, &mut record, input, out, err),
+        None => refuse(err, &Trouble::Io),
+    }
+}
+
 /// Runs the command that was found in the words.
 fn perform<F: Folder, I: Source, O: Sink, E: Sink>(
     alloc: Global,
@@ -317,6 +338,7 @@ fn perform<F: Folder, I: Source, O: Sink, E: Sink>(
         Some(("plan", inner)) => run_plan(alloc, inner, folder, out, err),
         Some(("list", inner)) => run_list(alloc, inner, folder, out, err),
         Some(("replay", inner)) => run_replay(alloc, inner, folder, out, err),
+        Some(("debug", inner)) => run_debug(alloc, inner, folder, input, out, err),
         _ => refuse(err, &Trouble::Words),
     }
 }
