@@ -17,7 +17,8 @@ use Rattle.status_table.specs.declared.fault.EventFault.{EventFault}
 use Rattle.plan_text.specs.BoardText.{Adds}
 use Rattle.plan_text.specs.Lines.{lines_of}
 use Rattle.commands.specs.Debug.{AddsSome, HasOpenLine, IsMove, TellsGo, TellsLines, TellsMove, TellsOneLine, TellsRequest, move_line, open_trouble}
-use Rattle.commands.specs.Records.{HasLine, IsStopped, is_memory}
+use Rattle.commands.specs.Records.{HasLine, IsStopped}
+use Rattle.status_table.specs.Fault.{is_memory}
 use Rattle.commands.specs.Requests.{Asks, FindsOne}
 use Rattle.commands.specs.declared.requests.Request.{Request}
 use Rattle.commands.specs.declared.requests.Request.TheVariants.{Set, Clear}

@@ -6,27 +6,14 @@ use Rattle.flow_model.specs.Rules.{IsPlan}
 use Rattle.flow_model.specs.declared.board.Board.{Board}
 use Rattle.flow_model.specs.declared.event.Entry.{Entry}
 use Rattle.flow_model.specs.declared.plan.Plan.{Plan}
-use Rattle.status_table.specs.Answers.{Refuses}
-use Rattle.status_table.specs.Row.{Row}
+use Rattle.status_table.proofs.Refusals.{refused}
+use Rattle.status_table.specs.Fault.{is_memory}
 use Rattle.status_table.specs.Runs.{StopsAt, after, new_board}
 use Rattle.status_table.specs.declared.fault.EventFault.{EventFault}
 use Rattle.status_table.specs.declared.fault.EventFault.TheVariants as event_fault
 use Rattle.step_host.specs.Replay.{IsRefusedAt}
 use Rattle.commands.specs.declared.trouble.Trouble.TheVariants.{Memory, Refused}
-use Rattle.commands.specs.Records.{HasLine, IsStopped, StopsOn, is_memory, stop_trouble}
-
--- a refusal that is no want of memory is the row's
-refused : {r : Row} (f : EventFault) → is_memory f ≡ false → Refuses r f → r ≡ Err f
-refused event_fault.NoSuch h is = is
-refused event_fault.WrongState h is = is
-refused event_fault.OtherWorker h is = is
-refused event_fault.NeedsOpen h is = is
-refused event_fault.SlotsFull h is = is
-refused event_fault.Stopping h is = is
-refused event_fault.NotStopping h is = is
-refused event_fault.StepsLeft h is = is
-refused event_fault.BadAnswer h is = is
-refused event_fault.Memory h is = absurd (cc)
+use Rattle.commands.specs.Records.{HasLine, IsStopped, StopsOn, stop_trouble}
 
 stops_on : (p : Plan) (es : List Entry) (i : ℕ) (f : EventFault) (b : Board) → is_memory f ≡ false → StopsAt p (new_board p) es i f b → StopsOn p es (i + 2) f
 stops_on p es i f b named stop = record {
@@ -35,7 +22,7 @@ stops_on p es i f b named stop = record {
   entry = stop.1.0;
   legal = stop.0;
   there = stop.1.1;
-  refused = refused f named stop.1.2;
+  refused = refused _ f named stop.1.2;
   counted = refl;
 }
 

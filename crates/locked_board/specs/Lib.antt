@@ -1,5 +1,4 @@
 pub mod Begun
-pub mod Calls
 pub mod Clerk
 pub mod Course
 pub mod Ended

@@ -16,6 +16,7 @@ pub mod Legal
 pub mod Lists
 pub mod Numbers
 pub mod Planned
+pub mod Refusals
 pub mod Rows
 pub mod RunRows
 pub mod RunsLemmas

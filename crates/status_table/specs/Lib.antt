@@ -1,6 +1,7 @@
 pub mod Admissions
 pub mod Answers
 pub mod CallLaws
+pub mod Calls
 pub mod Change
 pub mod Ends
 pub mod Fault

@@ -1,6 +1,7 @@
 //! Why an event is refused.
 
 ghost use Rattle.std.specs.Prelude.{◌≡◌};
+ghost use Rattle.status_table.specs.Fault as spec;
 ghost use Rattle.status_table.specs.Fault.{event_fault_name};
 
 use std::alloc::{AllocError, AllocFailed};
@@ -49,6 +50,24 @@ impl EventFault {
             EventFault::StepsLeft => "StepsLeft",
             EventFault::BadAnswer => "BadAnswer",
             EventFault::Memory => "Memory",
+        }
+    }
+
+    /// Whether the event is not at fault: no memory was left.
+    pub fn is_memory(self) -> bool
+        ensures { result ≡ spec.is_memory self }
+    {
+        match self {
+            EventFault::NoSuch => false,
+            EventFault::WrongState => false,
+            EventFault::OtherWorker => false,
+            EventFault::NeedsOpen => false,
+            EventFault::SlotsFull => false,
+            EventFault::Stopping => false,
+            EventFault::NotStopping => false,
+            EventFault::StepsLeft => false,
+            EventFault::BadAnswer => false,
+            EventFault::Memory => true,
         }
     }
 }

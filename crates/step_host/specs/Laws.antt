@@ -11,7 +11,8 @@ use Rattle.flow_model.specs.declared.reply.Reply.{Reply}
 use Rattle.flow_model.specs.declared.reply.StepCall.{StepCall}
 use Rattle.status_table.specs.Row.{row}
 use Rattle.status_table.specs.Runs.{after, new_board, IsLegal}
-use Rattle.step_host.specs.Lawful.{open_call, call_after, IsLastCalled, EndsAdmitted, Lawful}
+use Rattle.step_host.specs.Lawful.{IsLastCalled, EndsAdmitted, Lawful}
+use Rattle.status_table.specs.Calls.{open_call, call_after}
 use Rattle.step_host.specs.Replay.{recorded, IsRecorded}
 use Rattle.step_host.specs.Script.{IsScript}
 

@@ -13,7 +13,8 @@ use Rattle.flow_model.specs.declared.reply.StepCall.{StepCall}
 use Rattle.status_table.specs.Runs.{after, new_board}
 use Rattle.status_table.proofs.Lists.{get-right, no_some, same_some}
 use Rattle.status_table.proofs.RunsLemmas.{after_from-last}
-use Rattle.step_host.specs.Lawful.{open_call, EndsAdmitted}
+use Rattle.step_host.specs.Lawful.{EndsAdmitted}
+use Rattle.status_table.specs.Calls.{open_call}
 use Rattle.step_host.proofs.Lawfulness.{none_is_lawful, lawful_grows}
 use Rattle.worker_pool.specs.Alone.{IsNext, PlayedAlone}
 use Rattle.worker_pool.specs.Hand.{Playing}

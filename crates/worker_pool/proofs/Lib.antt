@@ -8,7 +8,6 @@ mod Legs
 mod Moved
 mod NoMoves
 mod Numbered
-mod Refused
 mod Replays
 mod SameAnswers
 mod Stuck

@@ -1,5 +1,5 @@
 -- What a board is like on which nothing that a clerk may do is accepted.
-use Rattle.std.proofs.Common.{◌≡◌, ◌⊎◌, inl, inr, ℕ, zero, suc, ◌<◌, ◌&&◌, Bool, true, false, not, List, [], ◌∷◌, ◌++◌, Some, Ok, Err, is_some, length, map, filter, cond, nat_lt, if◌then◌else◌, ap, sym, refl, ◌∙◌, arith}
+use Rattle.std.proofs.Common.{◌≡◌, ◌⊎◌, inl, inr, ℕ, zero, suc, ◌<◌, ◌&&◌, Bool, true, false, not, List, [], ◌∷◌, ◌++◌, None, Some, Ok, Err, is_some, length, slice_get, map, filter, cond, nat_lt, if◌then◌else◌, ap, sym, refl, ◌∙◌, arith}
 use Rattle.std.specs.List.{list_all}
 use Rattle.std.proofs.lemmas.Bool.{true≢false, cases_eq}
 use Rattle.std.proofs.lemmas.Bool.Decides.{nat_tests}
@@ -208,3 +208,7 @@ module _ (p : Plan) (b : Board) (none : Idle p b) (l : ℕ) (at : LegAt) (found 
           ∙ second (is_stopping at) (Err fault.Stopping) (rows.leg_enters b l at (leg_entrance at)) stops
           ∙ leg_enters_accepted b l at (leg_entrance at) in
           true≢false (sym accepted ∙ no-ask)
+
+pub no_first : (es : List Event) → slice_get es 0 ≡ None → es ≡ []
+no_first [] h = refl
+no_first (e ∷ es) h = absurd (cc)

@@ -9,7 +9,7 @@ use Rattle.flow_model.specs.declared.event.Answer.{Answer}
 use Rattle.flow_model.specs.declared.event.Entry.{Entry}
 use Rattle.flow_model.specs.declared.reply.StepCall.{StepCall}
 use Rattle.status_table.specs.Runs.{after}
-use Rattle.step_host.specs.Lawful.{open_call}
+use Rattle.status_table.specs.Calls.{open_call}
 use Rattle.step_host.specs.declared.fault.HostFault.TheVariants as host_fault
 use Rattle.worker_pool.specs.Alone.{PlayedAlone}
 use Rattle.worker_pool.specs.declared.fault.PoolFault.{PoolFault}

@@ -18,7 +18,7 @@ use Rattle.status_table.specs.InPlay.{InPlay}
 use Rattle.status_table.specs.Moves.{moves}
 use Rattle.status_table.specs.Row.{next_step}
 use Rattle.status_table.specs.Runs.{after}
-use Rattle.step_host.specs.Lawful.{open_call}
+use Rattle.status_table.specs.Calls.{open_call}
 use Rattle.worker_pool.specs.Alone.{is_running, NobodyRuns, NobodyWaitsForWorkers, IsLowestAdmitted, EndsSo, PlayedAlone}
 use Rattle.worker_pool.specs.Fault.{IsUnanswered}
 use Rattle.worker_pool.specs.History.{Added}

@@ -3,7 +3,6 @@
 ghost use Rattle.std.specs.Prelude.{◌≡◌};
 ghost use Rattle.status_table.specs.declared.fault.EventFault.TheVariants as event_fault;
 ghost use Rattle.worker_pool.specs.Stop.{fault_after};
-ghost use Rattle.worker_pool.specs.Stop as spec;
 
 use crate::fault::PoolFault;
 use flow_model::{Entry, Sequence};
@@ -22,31 +21,13 @@ pub(crate) enum Stop {
     Memory,
 }
 
-/// Whether a refusal is for want of memory.
-pub(crate) fn is_memory(fault: EventFault) -> bool
-    ensures { result ≡ spec.is_memory fault }
-{
-    match fault {
-        EventFault::NoSuch => false,
-        EventFault::WrongState => false,
-        EventFault::OtherWorker => false,
-        EventFault::NeedsOpen => false,
-        EventFault::SlotsFull => false,
-        EventFault::Stopping => false,
-        EventFault::NotStopping => false,
-        EventFault::StepsLeft => false,
-        EventFault::BadAnswer => false,
-        EventFault::Memory => true,
-    }
-}
-
 impl Stop {
     /// Why a play goes no further where an entry is refused that the table accepts: there is no memory.
     pub(crate) fn of_accepted(fault: EventFault) -> Stop
         requires { fault ≡ event_fault.Memory }
         ensures { result ≡ Stop.Memory }
     {
-        let wants_memory = is_memory(fault);
+        let wants_memory = fault.is_memory();
         prove!(wants_memory);
         Stop::Memory
     }

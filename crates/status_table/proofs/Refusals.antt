@@ -1,13 +1,12 @@
--- What is refused, and why.
-use Rattle.std.proofs.Common.{◌≡◌, true, false, List, [], ◌∷◌, None, Err, slice_get, ap, sym, refl, ◌∙◌}
+-- Refusals that are the row's, and what the table accepts, which is refused for want of memory alone.
+use Rattle.std.proofs.Common.{◌≡◌, true, false, Err, ap, sym, refl, ◌∙◌}
 use Rattle.std.proofs.lemmas.Bool.{true≢false}
-use Rattle.flow_model.specs.declared.event.Event.{Event}
 use Rattle.status_table.specs.declared.fault.EventFault.{EventFault}
 use Rattle.status_table.specs.declared.fault.EventFault.TheVariants as fault
 use Rattle.status_table.specs.Answers.{Refuses}
 use Rattle.status_table.specs.Moves.{is_accepted}
 use Rattle.status_table.specs.Row.{Row}
-use Rattle.worker_pool.specs.Stop.{is_memory}
+use Rattle.status_table.specs.Fault.{is_memory}
 
 no_refusal : (r : Row) (f : EventFault) → is_accepted r ≡ true → r ≡ Err f → ⊥
 no_refusal r f held is = true≢false (sym held ∙ ap is_accepted is)
@@ -37,7 +36,3 @@ refused r fault.NotStopping other h = h
 refused r fault.StepsLeft other h = h
 refused r fault.BadAnswer other h = h
 refused r fault.Memory other h = absurd (true≢false other)
-
-pub no_first : (es : List Event) → slice_get es 0 ≡ None → es ≡ []
-no_first [] h = refl
-no_first (e ∷ es) h = absurd (cc)
