@@ -26,13 +26,14 @@
 //!   - TEXT      the first such part is taken out, and what follows stands in its place
 //!   \           the line has no newline
 //!
-//! There are no escapes: a text goes to the end of its line. The verbs stand at the heads of `documents`, `expressions`,
-//! `flow_calls`, `group_calls`, `host_calls`, `pattern_sweeps`, `plan_calls` and `record_sweeps`. The program stands on
-//! `commands` and the libraries below it, and proves nothing of its own; what it wants stands in `data/`.
+//! There are no escapes: a text goes to the end of its line. The verbs stand at the heads of `debug_sweeps`, `documents`,
+//! `expressions`, `flow_calls`, `group_calls`, `host_calls`, `pattern_sweeps`, `plan_calls` and `record_sweeps`. The
+//! program stands on `commands` and the libraries below it, and proves nothing of its own; what it wants stands in `data/`.
 
 #![tactic(auto)]
 
 mod case;
+mod debug_sweeps;
 mod documents;
 mod expressions;
 mod flow_calls;

@@ -5,8 +5,10 @@
 //!   lines CHANGE   each line in turn `doubled`, `dropped`, or `swapped` with the next
 //!   raised         each digit behind a colon in turn one greater: 0 becomes 1, another 2
 //!
-//! What is told is one line: the status, then the lines of `out`, each behind `>`, and those of `err`, each behind `!`.
+//! What is told is one line: the status, then the lines of `out`, each behind `>`, and those of `err`, each behind `!`. The
+//! sweep over its places stands in `debug_sweeps`.
 
+use crate::debug_sweeps::places_told;
 use crate::streams::Limits;
 use crate::sweep::Sweep;
 use crate::verbs;
@@ -22,12 +24,13 @@ pub fn told(alloc: Global, words: &[&str], input: &[u8]) -> Result<String, Alloc
         "garbled" => garbled_told(alloc, input, word(words, 1)),
         "lines" => lines_told(alloc, input, word(words, 1)),
         "raised" => raised_told(alloc, input),
+        "places" => places_told(alloc, input),
         _ => String::from_str(alloc, "no such verb"),
     }
 }
 
 /// Adds the lines of a text, each behind a sign.
-fn add_lines(told: &mut String, sign: &str, text: &[u8]) -> Result<(), AllocError> {
+pub fn add_lines(told: &mut String, sign: &str, text: &[u8]) -> Result<(), AllocError> {
     for line in str::from_utf8(text).unwrap_or("(no UTF-8)").lines() {
         write!(told, " {sign} {line}")?;
     }
@@ -35,7 +38,7 @@ fn add_lines(told: &mut String, sign: &str, text: &[u8]) -> Result<(), AllocErro
 }
 
 /// What `table` tells of a record.
-fn table_told(alloc: Global, record: &[u8]) -> Result<String, AllocError> {
+pub fn table_told(alloc: Global, record: &[u8]) -> Result<String, AllocError> {
     let files = BTreeMap::new(alloc);
     let asked = Asked {
         is_verb: false,
