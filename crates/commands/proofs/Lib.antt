@@ -3,7 +3,9 @@ pub mod Expressions
 pub mod Flows
 pub mod Known
 pub mod Lines
+pub mod LogLines
 pub mod OneAnswer
+pub mod Played
 pub mod Reading
 pub mod Replayed
 pub mod Stopped

@@ -2,11 +2,14 @@ pub mod Contexts
 pub mod Eval
 pub mod Files
 pub mod List
+pub mod Logs
 pub mod Plan
 pub mod Planning
 pub mod Play
 pub mod Replay
+pub mod Run
 pub mod Stream
+pub mod Stubs
 pub mod Table
 pub mod Tell
 pub mod Trouble

@@ -58,7 +58,7 @@ fn have_succeeded(runs: &[Run]) -> bool
 }
 
 /// The exit status that tells how the runs of a board ended.
-fn runs_status(board: &Board) -> u8
+pub(crate) fn runs_status(board: &Board) -> u8
     ensures { result ≡ spec.runs_status board.now }
 {
     if !are_closed(board.runs.as_slice()) {
@@ -71,7 +71,7 @@ fn runs_status(board: &Board) -> u8
 }
 
 /// Why a text is no record.
-fn load_trouble(fault: LoadFault) -> Trouble
+pub(crate) fn load_trouble(fault: LoadFault) -> Trouble
     ensures { result ≡ spec.load_trouble fault }
 {
     match fault {
@@ -104,7 +104,11 @@ fn replay_trouble(_fault: &PoolFault) -> Trouble
 
 /// The board after entries, which are played again: each call is answered as the list answers it.
 #[tactic(auto, using(crate::proofs::Stopped::has_line, crate::proofs::Stopped::stops))]
-fn played_again(alloc: Global, plan: &CheckedPlan, entries: &[Entry]) -> Result<Board, Trouble>
+pub(crate) fn played_again(
+    alloc: Global,
+    plan: &CheckedPlan,
+    entries: &[Entry],
+) -> Result<Board, Trouble>
     ensures { GivesEntries plan.now entries.now result }
 {
     legal_lists_are_short();
