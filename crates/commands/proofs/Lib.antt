@@ -5,10 +5,12 @@ pub mod Expressions
 pub mod Flows
 pub mod Known
 pub mod Lines
+pub mod LogLines
 pub mod Numerals
 pub mod OneAnswer
 pub mod OneRequest
 pub mod OneSession
+pub mod Played
 pub mod Reading
 pub mod Replayed
 pub mod Stopped

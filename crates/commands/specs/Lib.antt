@@ -3,13 +3,16 @@ pub mod Debug
 pub mod Eval
 pub mod Files
 pub mod List
+pub mod Logs
 pub mod Plan
 pub mod Planning
 pub mod Play
 pub mod Records
 pub mod Replay
 pub mod Requests
+pub mod Run
 pub mod Stream
+pub mod Stubs
 pub mod Table
 pub mod Tell
 pub mod Trouble

@@ -10,6 +10,7 @@ use Rattle.commands.specs.Files.{File}
 use Rattle.commands.specs.List.{ListTells}
 use Rattle.commands.specs.Plan.{PlanTells}
 use Rattle.commands.specs.Replay.{ReplayTells}
+use Rattle.commands.specs.Run as run
 use Rattle.commands.specs.Stream.{Stream}
 use Rattle.commands.specs.Table.{TableTells}
 use Rattle.commands.specs.Tell.{Says, TellsTrouble}
@@ -43,19 +44,25 @@ abbrev pub RunsReplay : Stream → Stream → Stream → Stream → ℕ → Type
 RunsReplay out out' err err' status =
     ((input input' : Stream) × ReplayTells input input' out out' err err' status) ⊎ Refuses out out' err err' status
 
+-- What `run` tells of some plan; or a trouble is told.
+abbrev pub RunsRun : Stream → Stream → Stream → Stream → ℕ → Type 0
+RunsRun out out' err err' status =
+    ((input input' : Stream) × run.RunTells input input' out out' err err' status) ⊎ Refuses out out' err err' status
+
 -- What `debug` tells of some record and of the input; or a trouble is told.
 abbrev pub RunsDebug : Stream → Stream → Stream → Stream → Stream → Stream → ℕ → Type 0
 RunsDebug input input' out out' err err' status =
     ((file file' : Stream) × DebugTells file file' input input' out out' err err' status) ⊎ Refuses out out' err err' status
 
--- What `table` or `debug` tells of the input, or what `eval`, `plan`, `list` or `replay` tells, or a trouble.
+-- What `table` or `debug` tells of the input, or what `eval`, `plan`, `list`, `replay` or `run` tells, or a trouble.
 abbrev pub RunTells : Stream → Stream → Stream → Stream → Stream → Stream → ℕ → Type 0
 RunTells input input' out out' err err' status =
     TableTells input input' out out' err err' status
     ⊎ (RunsEval out out' err err' status
     ⊎ (RunsPlan out out' err err' status
     ⊎ (RunsList out out' err err' status
-    ⊎ (RunsReplay out out' err err' status ⊎ RunsDebug input input' out out' err err' status))))
+    ⊎ (RunsReplay out out' err err' status
+    ⊎ (RunsRun out out' err err' status ⊎ RunsDebug input input' out out' err err' status)))))
 
 -- That is found; want of memory may be answered besides.
 abbrev pub FindsIt : {A : Type 0} → A → Result A Trouble → Type 0

@@ -65,7 +65,7 @@ fn line_of(alloc: Global, value: Value) -> Result<String, AllocError>
 }
 
 /// That the file of that name gives no contexts.
-fn contexts_trouble(alloc: Global, file: &str, fault: ContextsFault) -> Trouble
+pub(crate) fn contexts_trouble(alloc: Global, file: &str, fault: ContextsFault) -> Trouble
     ensures { spec.IsContextsTrouble file.now fault result }
 {
     match Text::from_str(alloc, file) {

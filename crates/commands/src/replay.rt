@@ -58,7 +58,7 @@ fn have_succeeded(runs: &[Run]) -> bool
 }
 
 /// The exit status that tells how the runs of a board ended.
-fn runs_status(board: &Board) -> u8
+pub(crate) fn runs_status(board: &Board) -> u8
     ensures { result ≡ spec.runs_status board.now }
 {
     if !are_closed(board.runs.as_slice()) {
@@ -80,7 +80,11 @@ fn replay_trouble(_fault: &PoolFault) -> Trouble
 
 /// The board after entries, which are played again: each call is answered as the list answers it.
 #[tactic(auto, using(crate::proofs::Stopped::has_line, crate::proofs::Stopped::stops))]
-fn played_again(alloc: Global, plan: &CheckedPlan, entries: &[Entry]) -> Result<Board, Trouble>
+pub(crate) fn played_again(
+    alloc: Global,
+    plan: &CheckedPlan,
+    entries: &[Entry],
+) -> Result<Board, Trouble>
     ensures { GivesEntries plan.now entries.now result }
 {
     legal_lists_are_short();

@@ -110,7 +110,7 @@ fn say_file<S: Sink>(err: &mut S, file: &str, name: &str) -> bool
 }
 
 /// Says a name of a kind.
-fn say_name<S: Sink>(err: &mut S, kind: &str, name: &str) -> bool
+pub(crate) fn say_name<S: Sink>(err: &mut S, kind: &str, name: &str) -> bool
     ensures { Puts (S.seen err.old) (S.seen err.new) (spec.name_line kind.now name.now) result }
 {
     let parts = ["actrun: ", kind, " ", name, "\n"];

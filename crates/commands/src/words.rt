@@ -12,6 +12,7 @@ use crate::files::NamedSource;
 use crate::list::list;
 use crate::plan::plan;
 use crate::replay::replay;
+use crate::run::{Machine, RunWords, run as run_plan_file};
 use crate::stream::{Input, Sink, Source};
 use crate::table::table;
 use crate::tell::refuse;
@@ -29,8 +30,14 @@ pub trait Folder {
     /// A file that is read.
     type File: Source + Drop;
 
+    /// Where programs run.
+    type Machine: Machine;
+
     /// Opens the file of that name, where that can be done.
     fn open(&self, name: &str) -> Option<Self::File>;
+
+    /// Where programs run.
+    fn machine(&self) -> &Self::Machine;
 }
 
 /// The names of workflows' files, at least one.
@@ -52,6 +59,19 @@ fn record_command<'a>(alloc: Global, name: &'a str) -> Result<Command<'a>, Alloc
     Command::new(alloc, name).arg(Arg::new(alloc, "record").required(true))
 }
 
+/// The command `run`.
+fn run_command<'a>(alloc: Global) -> Result<Command<'a>, AllocError> {
+    let workers = Arg::new(alloc, "workers")
+        .long("workers")
+        .value_parser(clap::value_parser!(u64));
+    Command::new(alloc, "run")
+        .arg(workers)?
+        .arg(Arg::new(alloc, "record").long("record"))?
+        .arg(Arg::new(alloc, "work").long("work"))?
+        .arg(Arg::new(alloc, "stubs").long("stubs"))?
+        .arg(Arg::new(alloc, "plan").required(true))
+}
+
 /// The commands, one level deep.
 fn known_commands<'a>(alloc: Global) -> Result<Command<'a>, AllocError> {
     let table = Command::new(alloc, "table");
@@ -65,6 +85,7 @@ fn known_commands<'a>(alloc: Global) -> Result<Command<'a>, AllocError> {
         .subcommand(plan_command(alloc)?)?
         .subcommand(Command::new(alloc, "list").arg(flow_words(alloc))?)?
         .subcommand(record_command(alloc, "replay")?)?
+        .subcommand(run_command(alloc)?)?
         .subcommand(record_command(alloc, "debug")?)
 }
 
@@ -320,6 +341,81 @@ fn run_debug<F: Folder, I: Source, O: Sink, E: Sink>(
     }
 }
 
+/// What the words of `run` say beside the files that are read: one worker where they say nothing.
+fn run_words<'w>(words: &'w ArgMatches) -> RunWords<'w> {
+    let workers = words.get_one::<u64>("workers").unwrap_or(1);
+    let record = words.get_str("record");
+    let work = words.get_str("work");
+    RunWords {
+        workers,
+        record,
+        work,
+    }
+}
+
+/// Runs `run` with its words, over the file of stubs.
+fn run_steps_with<F: Folder, T: Source, O: Sink, E: Sink>(
+    alloc: Global,
+    words: &ArgMatches,
+    stubs: &mut NamedSource<T>,
+    folder: &F,
+    out: &mut O,
+    err: &mut E,
+) -> u8
+    ensures { spec.RunsRun (O.seen out.old) (O.seen out.new)
+        (E.seen err.old) (E.seen err.new) result }
+{
+    let name = words.get_str("plan").unwrap_or("");
+    let options = run_words(words);
+    match folder.open(name) {
+        Some(mut plan) => {
+            let machine = folder.machine();
+            run_plan_file(alloc, machine, &options, stubs, &mut plan, out, err)
+        },
+        None => refuse(err, &Trouble::Io),
+    }
+}
+
+/// The same, over the file of stubs of that name.
+fn run_steps_over<F: Folder, O: Sink, E: Sink>(
+    alloc: Global,
+    words: &ArgMatches,
+    file: &str,
+    folder: &F,
+    out: &mut O,
+    err: &mut E,
+) -> u8
+    ensures { spec.RunsRun (O.seen out.old) (O.seen out.new)
+        (E.seen err.old) (E.seen err.new) result }
+{
+    match open_named(alloc, folder, file) {
+        Ok(mut stubs) => run_steps_with(alloc, words, &mut stubs, folder, out, err),
+        Err(trouble) => refuse(err, &trouble),
+    }
+}
+
+/// Runs `run` with its words. Without `--stubs` no action has a stub.
+fn run_steps<F: Folder, O: Sink, E: Sink>(
+    alloc: Global,
+    words: &ArgMatches,
+    folder: &F,
+    out: &mut O,
+    err: &mut E,
+) -> u8
+    ensures { spec.RunsRun (O.seen out.old) (O.seen out.new)
+        (E.seen err.old) (E.seen err.new) result }
+{
+    match words.get_str("stubs") {
+        Some(file) => run_steps_over(alloc, words, file, folder, out, err),
+        None => {
+            let name = Text::new(String::new(alloc));
+            let source = Input::new("{}".as_bytes());
+            let mut none = NamedSource { name, source };
+            run_steps_with(alloc, words, &mut none, folder, out, err)
+        },
+    }
+}
+
 /// Runs the command that was found in the words.
 fn perform<F: Folder, I: Source, O: Sink, E: Sink>(
     alloc: Global,
@@ -338,6 +434,7 @@ fn perform<F: Folder, I: Source, O: Sink, E: Sink>(
         Some(("plan", inner)) => run_plan(alloc, inner, folder, out, err),
         Some(("list", inner)) => run_list(alloc, inner, folder, out, err),
         Some(("replay", inner)) => run_replay(alloc, inner, folder, out, err),
+        Some(("run", inner)) => run_steps(alloc, inner, folder, out, err),
         Some(("debug", inner)) => run_debug(alloc, inner, folder, input, out, err),
         _ => refuse(err, &Trouble::Words),
     }

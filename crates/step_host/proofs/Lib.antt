@@ -11,3 +11,4 @@ mod ShownLines
 mod Splitting
 mod Standing
 pub mod Turns
+mod Variables

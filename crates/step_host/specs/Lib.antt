@@ -6,8 +6,10 @@ pub mod Host
 pub mod Lawful
 pub mod Laws
 pub mod Mask
+pub mod Masked
 pub mod OutputFaults
 pub mod Outputs
+pub mod Program
 pub mod Replace
 pub mod Replay
 pub mod Script

@@ -1,6 +1,6 @@
 //! What is shown of the lines that a step printed.
 
-ghost use Rattle.std.specs.Prelude.{◌≡◌, ◌++◌, IfOk, OnOk};
+ghost use Rattle.std.specs.Prelude.{◌≡◌, ◌++◌, IfOk, OnOk, flat_map};
 ghost use Rattle.step_host.specs.Shown.{command_shown as command_shown_of, line_shown as line_shown_of, masked_line, masks_added, shown as shown_of};
 
 use crate::line::Line;
@@ -57,6 +57,21 @@ fn add_mask(alloc: Global, line: &Line, masks: &mut Sequence<Text>) -> Result<()
         },
         Line::Plain(_) | Line::Resume => Ok(()),
     }
+}
+
+/// The masks that lines add, in their order.
+///
+/// # Errors
+///
+/// There is no memory.
+pub fn added_masks(alloc: Global, lines: &[Line]) -> Result<Sequence<Text>, AllocError>
+    ensures { IfOk result (λ masks. masks ≡ flat_map masks_added lines.now) }
+{
+    let mut masks = Sequence::empty(alloc);
+    for line in lines {
+        add_mask(alloc, line, &mut masks)?;
+    }
+    Ok(masks)
 }
 
 /// Adds what is shown of a line, masked, if it is shown.

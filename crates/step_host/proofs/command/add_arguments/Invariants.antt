@@ -1,0 +1,13 @@
+-- The words so far are arguments, and nothing else was changed.
+use Rattle.std.proofs.Common.{◌≡◌, ◌++◌, take}
+use Rattle.std.specs.Process.{SameDir, SameEnv, command_args, command_program}
+use Rattle.step_host.proofs.command.add_arguments.Given as goal
+
+abbrev pub invariant-loop-word : goal.invariant-loop-word
+invariant-loop-word l =
+    record {
+      arguments : command_args l.command ≡ command_args l.fn.command ++ take l.word-index l.words;
+      program : command_program l.command ≡ command_program l.fn.command;
+      variables : SameEnv l.fn.command l.command;
+      folder : SameDir l.fn.command l.command;
+    }

@@ -1,0 +1,9 @@
+-- What was set, with the inputs that are left set over it, is all set over the variables.
+use Rattle.std.proofs.Common.{◌≡◌}
+use Rattle.flow_model.specs.Mapping.{pairs_of}
+use Rattle.step_host.specs.Outputs.{with_pairs}
+use Rattle.step_host.specs.Program.{inputs_of}
+use Rattle.step_host.proofs.launch.with_inputs.Given as goal
+
+abbrev pub invariant-loop-name : goal.invariant-loop-name
+invariant-loop-name l = with_pairs l.made (inputs_of (pairs_of l.name-iterator)) ≡ with_pairs l.fn.under (inputs_of l.given)

@@ -1,0 +1,43 @@
+-- Answers whose outputs are masked.
+use Rattle.std.specs.Prelude.{◌≡◌, ℕ, Bool, true, false, if◌then◌else◌, List, refl}
+use Rattle.flow_model.specs.Answer.{is_well_formed}
+use Rattle.flow_model.specs.Mapping.{map_values}
+use Rattle.flow_model.specs.declared.event.Answer.{Answer}
+use Rattle.flow_model.specs.declared.event.Answer.TheVariants.{Exit, NotStarted, BadOutput}
+use Rattle.step_host.specs.Mask.{masked}
+
+-- the answer, if it may end a call; else its outputs are bad
+abbrev pub checked : Answer → Answer
+checked answer = if is_well_formed answer then answer else BadOutput
+
+-- The masked form of an answer: the values of its outputs are masked, and its names are not. A value may grow by that.
+abbrev pub masked_answer : List (List ℕ) → Answer → Answer
+masked_answer masks (Exit code outputs) = checked (Exit code (map_values (masked masks) outputs))
+masked_answer masks NotStarted = NotStarted
+masked_answer masks BadOutput = BadOutput
+
+-- The answer is the masked form of one that is admitted.
+pub record IsMasked (masks : List (List ℕ)) (admits : Answer → Type 0) (answer : Answer) : Type 0 where
+  pub plain : Answer
+  pub admitted : admits plain
+  pub is : answer ≡ masked_answer masks plain
+
+-- ---- masked forms are well-formed, and an answer has one
+
+checked_by : (answer : Answer) (b : Bool) → is_well_formed answer ≡ b → is_well_formed (if b then answer else BadOutput) ≡ true
+checked_by answer true h = h
+checked_by answer false h = refl
+
+pub masked_is_well_formed : (masks : List (List ℕ)) (answer : Answer) → is_well_formed (masked_answer masks answer) ≡ true
+masked_is_well_formed masks (Exit code outputs) = checked_by (Exit code (map_values (masked masks) outputs)) _ refl
+masked_is_well_formed masks NotStarted = refl
+masked_is_well_formed masks BadOutput = refl
+
+-- What is the masked form of an answer is well-formed.
+pub IsMasked-well_formed : (masks : List (List ℕ)) (admits : Answer → Type 0) (answer : Answer) → IsMasked masks admits answer → is_well_formed answer ≡ true
+IsMasked-well_formed masks admits answer h = rw h.is (masked_is_well_formed masks h.plain)
+
+-- Where one answer is admitted, it has one masked form.
+pub IsMasked-one : (masks : List (List ℕ)) (admits : Answer → Type 0) → ((one other : Answer) → admits one → admits other → one ≡ other)
+    → (one other : Answer) → IsMasked masks admits one → IsMasked masks admits other → one ≡ other
+IsMasked-one masks admits alone one other h g = rw (h.is, g.is, alone h.plain g.plain h.admitted g.admitted) refl

@@ -1,0 +1,141 @@
+-- How the program of a step is started, and what its end answers.
+use Rattle.std.specs.Prelude.{◌≡◌, ◌≢◌, ℕ, ℤ, pos, ◌-◌, ◌==◌, true, nat_eq, if◌then◌else◌, List, [], ◌∷◌, ◌++◌, length, map, codes, decimal, slice_get, drop, Option, Some, None, Result, Ok, Err}
+use Rattle.std.specs.Char.{to_ascii_uppercase}
+use Rattle.std.specs.List.{starts_with}
+use Rattle.std.specs.Str.{bytes_eq}
+use Rattle.std.specs.Process.{command_program, command_args, command_var, command_dir, clears_env}
+use Rattle.std.specs.IoError.{error_kind}
+use Rattle.std.specs.declared.alloc.AllocError.{AllocError}
+use Rattle.std.specs.declared.io.Error.{Error}
+use Rattle.std.specs.declared.io.ErrorKind.TheVariants.{OutOfMemory}
+use Rattle.std.specs.declared.process.command.Command.{Command}
+use Rattle.std.specs.declared.alloc.Global.{Global}
+use Rattle.flow_model.specs.Mapping.{with_pair}
+use Rattle.flow_model.specs.declared.event.Answer.{Answer}
+use Rattle.flow_model.specs.declared.event.Answer.TheVariants.{Exit, BadOutput}
+use Rattle.flow_model.specs.declared.plan.Shell.{Shell}
+use Rattle.flow_model.specs.declared.plan.Shell.TheVariants.{Default, Sh, Bash}
+use Rattle.flow_model.specs.declared.reply.StepCall.{StepCall}
+use Rattle.step_host.specs.Outputs.{Pair, outputs, with_pairs}
+use Rattle.step_host.specs.Replace.{replaced}
+use Rattle.step_host.specs.Shell.{words}
+use Rattle.step_host.specs.Splits.{newline}
+use Rattle.step_host.specs.declared.launch.Launch.{Launch}
+use Rattle.step_host.specs.declared.output_fault.OutputFault.{OutputFault}
+
+-- ---- files and folders
+
+-- the file of a step of a leg in the work folder, by how its name ends
+abbrev pub step_file : List ℕ → ℕ → ℕ → List ℕ → List ℕ
+step_file work leg step ending = work ++ (codes "/step-" ++ (decimal leg ++ (codes "-" ++ (decimal step ++ ending))))
+
+-- the file of its outputs, that of its script, and that of what it printed
+abbrev pub out_file : List ℕ → StepCall → List ℕ
+out_file work call = step_file work call.leg call.step (codes ".out")
+
+abbrev pub script_file : List ℕ → StepCall → List ℕ
+script_file work call = step_file work call.leg call.step (codes ".sh")
+
+abbrev pub log_file : List ℕ → ℕ → ℕ → List ℕ
+log_file work leg step = step_file work leg step (codes ".log")
+
+-- the folder in which a script starts: the work folder, or the one that is named below it
+abbrev pub folder_of : List ℕ → Option (List ℕ) → List ℕ
+folder_of work None = work
+folder_of work (Some dir) = work ++ (codes "/" ++ dir)
+
+-- ---- variables
+
+-- a space is replaced by `_`
+abbrev pub space_by : List ℕ → Option (List ℕ × ℕ)
+space_by text = if starts_with nat_eq text (codes " ") then Some (codes "_", 1) else None
+
+-- the variable of an input: `INPUT_` and its name in large letters, with `_` for spaces
+abbrev pub input_name : List ℕ → List ℕ
+input_name name = codes "INPUT_" ++ map to_ascii_uppercase (replaced space_by name)
+
+-- the variables of inputs
+abbrev pub inputs_of : List Pair → List Pair
+inputs_of given = map (λ p. (input_name p.0, p.1)) given
+
+-- The variables of a program: those of the base, over them those of the call, then its inputs, and last the file of its
+-- outputs.
+abbrev pub variables : List Pair → List Pair → List Pair → List ℕ → List Pair
+variables base env given out = with_pair (codes "GITHUB_OUTPUT") out (with_pairs (with_pairs base env) (inputs_of given))
+
+-- ---- what is started
+
+-- A script is started by the words of a shell, in its folder, without inputs.
+abbrev pub script_launch : List ℕ → List Pair → StepCall → Shell → Option (List ℕ) → Launch
+script_launch work base call shell dir =
+    record {
+      words = words shell (script_file work call);
+      variables = variables base call.env [] (out_file work call);
+      folder = folder_of work dir;
+    }
+
+-- A stub is started without arguments, in the work folder, with the inputs that the step gives.
+abbrev pub stub_launch : List ℕ → List Pair → StepCall → List ℕ → List Pair → Launch
+stub_launch work base call program given =
+    record {
+      words = program ∷ [];
+      variables = variables base call.env given (out_file work call);
+      folder = work;
+    }
+
+-- the shell that stands in where the first cannot be started: sh where none was named
+abbrev pub other_shell : Shell → Option Shell
+other_shell Default = Some Sh
+other_shell Sh = None
+other_shell Bash = None
+
+-- the first of some words, and the others
+abbrev pub first_word : List (List ℕ) → List ℕ
+first_word [] = []
+first_word (word ∷ others) = word
+
+-- what a command says of a variable after pairs are set, where it said this before: the last of one name stands
+abbrev pub said_after : Option (Option (List ℕ)) → List ℕ → List Pair → Option (Option (List ℕ))
+said_after said name [] = said
+said_after said name (p ∷ pairs) = said_after (if bytes_eq name p.0 then Some (Some p.1) else said) name pairs
+
+-- The command starts the program with these words, with these variables and no others, in this folder.
+pub record IsCommandOf (launch : Launch) (command : Command Global) : Type 0 where
+  pub program : command_program command ≡ first_word launch.words
+  pub arguments : command_args command ≡ drop 1 launch.words
+  pub alone : clears_env command ≡ true
+  pub variables : (name : List ℕ) → command_var command name ≡ said_after None name launch.variables
+  pub folder : command_dir command ≡ Some launch.folder
+
+-- ---- how it ended
+
+-- what stands between what a program printed on its two streams: a newline, where the first has not ended its last line
+abbrev pub between : Option ℕ → List ℕ
+between None = []
+between (Some b) = if b == newline then [] else newline ∷ []
+
+-- what a program printed: its standard output, and then its standard error
+abbrev pub logged : List ℕ → List ℕ → List ℕ
+logged out err = out ++ (between (slice_get out (length out - 1)) ++ err)
+
+-- the code of an exit status; without one it counts as 255
+abbrev pub code_of : Option ℤ → ℤ
+code_of (Some code) = code
+code_of None = pos 255
+
+-- the answer of a program that ended with a code, by the outputs that it gave
+abbrev pub with_outputs : ℤ → Result (List Pair) OutputFault → Answer
+with_outputs code (Ok given) = Exit code given
+with_outputs code (Err fault) = BadOutput
+
+-- The answer of a program, by its exit code and the bytes in the file of its outputs.
+abbrev pub ended : Option ℤ → List ℕ → Answer
+ended code bytes = with_outputs (code_of code) (outputs bytes)
+
+-- ---- what may fail
+
+-- What was done; where memory ran out, that is told, and anything else that failed is not.
+abbrev pub Sorts : {A : Type 0} → Result A Error → Result (Option A) AllocError → Type 0
+Sorts (Ok found) answer = answer ≡ Ok (Some found)
+Sorts (Err error) (Ok found) = (found ≡ None) × (error_kind error ≢ OutOfMemory)
+Sorts (Err error) (Err fault) = error_kind error ≡ OutOfMemory

@@ -1,0 +1,95 @@
+//! A host whose answers are masked.
+
+ghost use Rattle.std.specs.Prelude.{◌≡◌, ◌↔◌, IfOk};
+ghost use Rattle.flow_model.specs.Mapping.{map_values};
+ghost use Rattle.flow_model.specs.declared.event.Answer.{Answer};
+ghost use Rattle.flow_model.specs.declared.reply.StepCall.{StepCall};
+ghost use Rattle.step_host.specs.Mask.{masked};
+ghost use Rattle.step_host.specs.Masked.{IsMasked, IsMasked-one, IsMasked-well_formed, checked as checked_of, masked_answer as masked_answer_of};
+
+use crate::fault::HostFault;
+use crate::host::{DecidedHost, StepHost};
+use crate::masks::mask;
+use flow_model::{Answer, Mapping, Sequence, StepCall, Text};
+use std::alloc::{AllocError, Global};
+
+/// The host that gives the answers of another with the values of their outputs masked.
+#[derive(Drop)]
+pub struct Masked<H> {
+    host: H,
+    masks: Sequence<Text>,
+    alloc: Global,
+}
+
+impl<H: StepHost> Masked<H> {
+    /// The host that admits the masked forms of what this one admits: the values of outputs are masked, and where the
+    /// answer is no longer well-formed then, `Answer::BadOutput` stands for it. It declines what this one does. It
+    /// keeps the allocator, and takes no memory.
+    pub fn new(alloc: Global, host: H, masks: Sequence<Text>) -> Masked<H>
+        ensures admits { (call : StepCall) (answer : Answer)
+            → ⟦<Masked<H> as StepHost>⟧.admits result call answer
+            ↔ IsMasked masks (H.admits host call) answer }
+        ensures declines { (call : StepCall)
+            → ⟦<Masked<H> as StepHost>⟧.declines result call ↔ H.declines host call }
+    {
+        Masked { host, masks, alloc }
+    }
+}
+
+/// The outputs, with their values masked.
+fn masked_outputs(
+    alloc: Global,
+    outputs: &Mapping<Text>,
+    masks: &[Text],
+) -> Result<Mapping<Text>, AllocError>
+    ensures { IfOk result (λ made. made ≡ map_values (masked masks.now) outputs.now) }
+{
+    let from = outputs.iter();
+    let mut made = Mapping::empty(alloc);
+    for (name, value) in from {
+        made.set(alloc, name.as_str(), mask(alloc, value.as_str(), masks)?)?;
+    }
+    Ok(made)
+}
+
+/// The answer, if it may end a call; else its outputs are bad.
+fn checked(answer: Answer) -> Answer
+    ensures { result ≡ checked_of answer }
+{
+    if answer.well_formed() {
+        answer
+    } else {
+        Answer::BadOutput
+    }
+}
+
+/// The masked form of an answer.
+fn masked_answer(alloc: Global, answer: Answer, masks: &[Text]) -> Result<Answer, AllocError>
+    ensures { IfOk result (λ made. made ≡ masked_answer_of masks.now answer) }
+{
+    match answer {
+        Answer::Exit { code, outputs } => {
+            let outputs = masked_outputs(alloc, &outputs, masks)?;
+            Ok(checked(Answer::Exit { code, outputs }))
+        },
+        Answer::NotStarted => Ok(Answer::NotStarted),
+        Answer::BadOutput => Ok(Answer::BadOutput),
+    }
+}
+
+impl<H: StepHost> StepHost for Masked<H> {
+    ghost admits = { λ host call. IsMasked host.masks (H.admits host.host call) };
+
+    ghost declines = { λ host call. H.declines host.host call };
+
+    fn play(&self, call: &StepCall) -> Result<Answer, HostFault> {
+        let answer = self.host.play(call)?;
+        Ok(masked_answer(self.alloc, answer, self.masks.as_slice())?)
+    }
+
+    ghost admits_well_formed = { λ host call answer. IsMasked-well_formed host.masks (H.admits host.host call) answer };
+}
+
+impl<H: DecidedHost> DecidedHost for Masked<H> {
+    ghost admits_one = { λ host call. IsMasked-one host.masks (H.admits host.host call) (H.admits_one host.host call) };
+}
