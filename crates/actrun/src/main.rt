@@ -2,26 +2,33 @@
 
 #![tactic(auto)]
 
+use commands::run::Machine;
 use commands::stream::{Input, Output};
 use commands::words::{Folder, run_line};
-use std::fs::{File, Files};
+use std::fs::File;
 use std::process::ExitCode;
 use std::{env, io};
 
-/// The files of the machine.
+/// The files and programs of the machine.
 #[derive(Drop)]
 struct Disk<'a, F> {
     files: &'a F,
 }
 
-impl<F: Files> Folder for Disk<'_, F> {
+impl<F: Machine> Folder for Disk<'_, F> {
     type File = Input<F::File>;
+
+    type Machine = F;
 
     fn open(&self, name: &str) -> Option<Input<F::File>> {
         match File::open(self.files, name) {
             Ok(file) => Some(Input::new(file)),
             Err(_) => None,
         }
+    }
+
+    fn machine(&self) -> &F {
+        self.files
     }
 }
 

@@ -2,6 +2,7 @@
 
 use crate::streams::Limits;
 use crate::verbs::{Asked, CONTEXTS, Files, Found, perform};
+use commands::run::Machine;
 use std::alloc::{AllocError, Global};
 use std::collections::BTreeMap;
 use std::io::Write;
@@ -377,7 +378,7 @@ impl Case {
     }
 
     /// Plays the case, and tells where it differs.
-    fn run<O: Write>(&self, alloc: Global, told: &mut O) -> io::Result<Told> {
+    fn run<R: Machine, O: Write>(&self, rt: &R, alloc: Global, told: &mut O) -> io::Result<Told> {
         let words = self.words(alloc)?;
         let asked = Asked {
             is_verb: self.is_verb,
@@ -386,7 +387,7 @@ impl Case {
             input: self.input.as_slice(),
             limits: self.limits,
         };
-        let found = perform(alloc, &asked)?;
+        let found = perform(rt, alloc, &asked)?;
         self.compare(&found, told)
     }
 
@@ -428,26 +429,36 @@ impl Case {
 }
 
 /// Plays the cases of a text.
-pub fn run_cases<O: Write>(alloc: Global, text: &str, out: &mut O) -> io::Result<Told> {
+pub fn run_cases<R: Machine, O: Write>(
+    rt: &R,
+    alloc: Global,
+    text: &str,
+    out: &mut O,
+) -> io::Result<Told> {
     let mut told = Told::none();
     let mut case = Case::new(alloc);
     case.begin()?;
     begin_file(&mut case.files, alloc, CONTEXTS)?;
     for line in text.lines() {
         if line.is_empty() {
-            told = told.and(end_case(alloc, &mut case, out)?);
+            told = told.and(end_case(rt, alloc, &mut case, out)?);
         } else {
             case.read_line(alloc, line)?;
         }
     }
-    Ok(told.and(end_case(alloc, &mut case, out)?))
+    Ok(told.and(end_case(rt, alloc, &mut case, out)?))
 }
 
 /// Plays the case that ends, if there is one.
-fn end_case<O: Write>(alloc: Global, case: &mut Case, out: &mut O) -> io::Result<Told> {
+fn end_case<R: Machine, O: Write>(
+    rt: &R,
+    alloc: Global,
+    case: &mut Case,
+    out: &mut O,
+) -> io::Result<Told> {
     case.start(alloc, Kind::Prose, "")?;
     let told = if case.is_asked() {
-        case.run(alloc, out)?
+        case.run(rt, alloc, out)?
     } else {
         Told::none()
     };

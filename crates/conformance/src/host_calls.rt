@@ -10,7 +10,7 @@
 //!                   the number of entries before it
 
 use crate::verbs::word;
-use crate::{documents, plays};
+use crate::{documents, plays, program_calls};
 use flow_model::{Answer, CheckedPlan, Entry, Event};
 use plan_text::{first_line, load_plan, load_record, print_entry, read_entry};
 use std::alloc::{AllocError, Global};
@@ -21,7 +21,7 @@ use worker_pool::{Ending, PoolFault, play_alone, play_entries};
 /// A line of a script.
 type Line = (u64, u64, Answer);
 
-/// What a verb of these tells; other words are those of documents.
+/// What a verb of these tells; other words are those of programs' texts.
 pub fn told(
     alloc: Global,
     words: &[&str],
@@ -34,7 +34,20 @@ pub fn told(
         "alone" if word(words, 1) == "recorded" => alone_recorded(alloc, input),
         "alone" => alone_told(alloc, input),
         "again" => again_told(alloc, file, input),
-        _ => documents::told(alloc, words, file, input),
+        _ => texts_told(alloc, words, file, input),
+    }
+}
+
+/// What a verb of programs' texts tells; other words are those of documents.
+fn texts_told(
+    alloc: Global,
+    words: &[&str],
+    file: &[u8],
+    input: &[u8],
+) -> Result<String, AllocError> {
+    match program_calls::told(alloc, words, file, input)? {
+        Some(told) => Ok(told),
+        None => documents::told(alloc, words, file, input),
     }
 }
 
@@ -79,7 +92,10 @@ fn lines_of(alloc: Global, text: &[u8]) -> Result<Vec<Line>, AllocError> {
 }
 
 /// The host of a script.
-fn script_of(alloc: Global, text: &[u8]) -> Result<Result<ScriptHost, ScriptFault>, AllocError> {
+pub fn script_of(
+    alloc: Global,
+    text: &[u8],
+) -> Result<Result<ScriptHost, ScriptFault>, AllocError> {
     let lines = lines_of(alloc, text)?;
     Ok(ScriptHost::new(alloc, lines))
 }

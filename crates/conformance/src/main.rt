@@ -27,8 +27,9 @@
 //!   \           the line has no newline
 //!
 //! There are no escapes: a text goes to the end of its line. The verbs stand at the heads of `debug_sweeps`, `documents`,
-//! `expressions`, `flow_calls`, `group_calls`, `host_calls`, `pattern_sweeps`, `plan_calls` and `record_sweeps`. The
-//! program stands on `commands` and the libraries below it, and proves nothing of its own; what it wants stands in `data/`.
+//! `expressions`, `flow_calls`, `group_calls`, `host_calls`, `pattern_sweeps`, `plan_calls`, `program_calls` and
+//! `record_sweeps`. The program stands on `commands` and the libraries below it, and proves nothing of its own; what it wants
+//! stands in `data/`.
 
 #![tactic(auto)]
 
@@ -43,6 +44,7 @@ mod members;
 mod pattern_sweeps;
 mod plan_calls;
 mod plays;
+mod program_calls;
 mod record_sweeps;
 mod replies;
 mod samples;
@@ -52,10 +54,10 @@ mod tree_text;
 mod verbs;
 
 use case::{Told, run_cases};
+use commands::run::Machine;
 use std::alloc::Global;
 use std::io::Write;
 use std::process::ExitCode;
-use std::rt::Files;
 use std::{env, fs, io};
 
 fn main(rt: HostRuntime) -> io::Result<ExitCode> {
@@ -71,16 +73,16 @@ fn main(rt: HostRuntime) -> io::Result<ExitCode> {
 }
 
 /// Plays the cases of the files that the words after the first name.
-fn run_files<F: Files + Alloc<A = Global>, O: Write>(
-    files: &F,
+fn run_files<R: Machine + Alloc<A = Global>, O: Write>(
+    rt: &R,
     alloc: Global,
     words: &[String],
     out: &mut O,
 ) -> io::Result<Told> {
     let mut told = Told::none();
     for file in words.iter().skip(1) {
-        let text = fs::read_to_string(files, file.as_str())?;
-        told = told.and(run_cases(alloc, text.as_str(), out)?);
+        let text = fs::read_to_string(rt, file.as_str())?;
+        told = told.and(run_cases(rt, alloc, text.as_str(), out)?);
     }
     Ok(told)
 }

@@ -9,12 +9,12 @@
 //! sweep over its places stands in `debug_sweeps`.
 
 use crate::debug_sweeps::places_told;
-use crate::streams::Limits;
+use crate::streams::{Feed, Limits, Page};
 use crate::sweep::Sweep;
-use crate::verbs;
-use crate::verbs::{Asked, word};
+use crate::verbs::word;
+use commands::stream::{Input, Output};
+use commands::table::table;
 use std::alloc::{AllocError, Global};
-use std::collections::BTreeMap;
 use std::str;
 
 /// What a verb of these tells.
@@ -39,18 +39,14 @@ pub fn add_lines(told: &mut String, sign: &str, text: &[u8]) -> Result<(), Alloc
 
 /// What `table` tells of a record.
 pub fn table_told(alloc: Global, record: &[u8]) -> Result<String, AllocError> {
-    let files = BTreeMap::new(alloc);
-    let asked = Asked {
-        is_verb: false,
-        words: &["table"],
-        files: &files,
-        input: record,
-        limits: Limits::none(),
-    };
-    let found = verbs::run(alloc, &asked)?;
-    let mut told = format!(in alloc; "{}", found.status)?;
-    add_lines(&mut told, ">", found.out.text())?;
-    add_lines(&mut told, "!", found.err.text())?;
+    let limits = Limits::none();
+    let mut input = Input::new(Feed::new(record, limits));
+    let mut out = Output::new(Page::new(alloc, limits.step, limits.out));
+    let mut err = Output::new(Page::new(alloc, limits.step, limits.err));
+    let status = table(alloc, &mut input, &mut out, &mut err);
+    let mut told = format!(in alloc; "{}", status)?;
+    add_lines(&mut told, ">", out.into_writer().text())?;
+    add_lines(&mut told, "!", err.into_writer().text())?;
     Ok(told)
 }
 

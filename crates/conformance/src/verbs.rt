@@ -1,7 +1,8 @@
 //! What a case asks for: a command, by the words of the command line, or a verb of this program's own.
 
-use crate::plan_calls;
 use crate::streams::{Feed, Limits, Page};
+use crate::{plan_calls, program_calls};
+use commands::run::Machine;
 use commands::stream::{Input, Output};
 use commands::words;
 use commands::words::Folder;
@@ -43,15 +44,18 @@ pub struct Found {
     pub status: u8,
 }
 
-/// The folder of a case.
+/// The folder of a case, and where its programs run.
 #[derive(Drop)]
-struct Shelf<'a> {
+struct Shelf<'a, R> {
     files: &'a Files,
     limits: Limits,
+    rt: &'a R,
 }
 
-impl<'a> Folder for Shelf<'a> {
+impl<'a, R: Machine> Folder for Shelf<'a, R> {
     type File = Input<Feed<'a>>;
+
+    type Machine = R;
 
     fn open(&self, name: &str) -> Option<Input<Feed<'a>>> {
         match self.files.get(name) {
@@ -59,14 +63,22 @@ impl<'a> Folder for Shelf<'a> {
             None => None,
         }
     }
+
+    fn machine(&self) -> &R {
+        self.rt
+    }
 }
 
 /// Does what is asked. A verb writes its answer to `out`, faults too; its status is 0.
-pub fn perform(alloc: Global, asked: &Asked<'_>) -> Result<Found, AllocError> {
+pub fn perform<R: Machine>(rt: &R, alloc: Global, asked: &Asked<'_>) -> Result<Found, AllocError> {
     if !asked.is_verb {
-        return run(alloc, asked);
+        return run(rt, alloc, asked);
     }
-    let text = plan_calls::told(alloc, asked.words, asked.files, asked.input)?;
+    let text = if word(asked.words, 0) == "program" {
+        program_calls::program_told(rt, alloc, asked.words, asked.input)?
+    } else {
+        plan_calls::told(alloc, asked.words, asked.files, asked.input)?
+    };
     let mut out = Page::new(alloc, usize::MAX, usize::MAX);
     let err = Page::new(alloc, usize::MAX, usize::MAX);
     out.put_line(text.as_str())?;
@@ -85,20 +97,20 @@ fn command_line(alloc: Global, words: &[&str]) -> Result<Vec<String>, AllocError
 }
 
 /// Runs the command that the words ask for.
-pub fn run(alloc: Global, asked: &Asked<'_>) -> Result<Found, AllocError> {
+fn run<R: Machine>(rt: &R, alloc: Global, asked: &Asked<'_>) -> Result<Found, AllocError> {
     let line = command_line(alloc, asked.words)?;
-    Ok(run_words(alloc, line.as_slice(), asked))
+    Ok(run_words(rt, alloc, line.as_slice(), asked))
 }
 
 /// Runs the command that these words ask for, or none where they are no UTF-8.
-fn run_words(alloc: Global, line: &[String], asked: &Asked<'_>) -> Found {
+fn run_words<R: Machine>(rt: &R, alloc: Global, line: &[String], asked: &Asked<'_>) -> Found {
     let Asked {
         files,
         input,
         limits,
         ..
     } = *asked;
-    let folder = Shelf { files, limits };
+    let folder = Shelf { files, limits, rt };
     let mut input = Input::new(Feed::new(input, limits));
     let mut out = Output::new(Page::new(alloc, limits.step, limits.out));
     let mut err = Output::new(Page::new(alloc, limits.step, limits.err));
