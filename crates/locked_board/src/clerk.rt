@@ -22,13 +22,13 @@ pub enum Clerk {
 }
 
 /// Whether all runs are closed.
-pub(crate) fn is_finished(board: &Board) -> bool
+pub fn is_finished(board: &Board) -> bool
     ensures { result ≡ spec.finished board.now }
 {
     board.runs.as_slice().iter().all(|run| is_closed(run.state))
 }
 
-/// Whether a leg has a worker, or may be taken by one.
+/// Whether a leg in this state has a worker, or may be taken by one.
 fn is_active(state: LegState) -> bool
     ensures { result ≡ spec.is_active state }
 {
@@ -68,8 +68,8 @@ fn any_of_runs(runs: &[Run]) -> bool
     false
 }
 
-/// Whether one of all legs is.
-pub(crate) fn any_active(board: &Board) -> bool
+/// Whether a leg has a worker, or may be taken by one.
+pub fn any_active(board: &Board) -> bool
     ensures { result ≡ list_any (λ leg. spec.is_active leg.state) (board_legs board.now) }
 {
     any_of_runs(board.runs.as_slice())

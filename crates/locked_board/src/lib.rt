@@ -20,7 +20,7 @@ pub mod held;
 mod journal;
 pub mod kept;
 mod playing;
-mod same;
+pub mod same;
 pub mod share;
 pub mod shared_board;
 

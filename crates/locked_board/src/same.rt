@@ -81,7 +81,7 @@ fn is_same_work(one: &CallWork, other: &CallWork) -> bool
 }
 
 /// Whether two calls are equal.
-pub(crate) fn is_same_call(one: &StepCall, other: &StepCall) -> bool
+pub fn is_same_call(one: &StepCall, other: &StepCall) -> bool
     ensures { IsTrue result ↔ (one.now ≡ other.now) }
 {
     one.leg == other.leg

@@ -1,14 +1,17 @@
 mod Accepted
+mod Agreeing
 mod Fresh
 mod Grows
 mod Hands
 mod Holding
 mod Keeping
 mod Legs
+mod Logging
 mod Moved
 mod NoMoves
 mod Numbered
 mod Replays
+mod Reviews
 mod SameAnswers
 mod Stuck
 mod Turned

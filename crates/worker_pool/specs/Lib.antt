@@ -1,3 +1,4 @@
+pub mod Agree
 pub mod Alone
 pub mod Answers
 pub mod Asking
@@ -5,7 +6,11 @@ pub mod Entries
 pub mod Fault
 pub mod Hand
 pub mod History
+pub mod Log
+pub mod Logs
 pub mod Lowest
+pub mod Many
 pub mod Replaying
+pub mod Review
 pub mod Stalls
 pub mod Stop

@@ -1,4 +1,3 @@
-//! worker_pool: plays a plan to its end, with one thread, with many workers, or by a recorded list.
 //!
 //! What a player promises rests on the table of `status_table`: its history is a list of entries that the table accepts.
 //! `play_alone` plays by one thread, and `play_entries` replays a list; both ask a host of `step_host` for the answers
@@ -6,17 +5,25 @@
 
 #![tactic(auto)]
 
+pub mod agreement;
 pub mod alone;
 mod answers;
 mod asking;
+mod bell;
 pub mod entries;
 pub mod fault;
+mod halt;
+mod log;
+mod logs;
 mod lowest;
-mod play;
 pub mod played;
+mod playing;
+mod review;
 pub mod stalls;
 mod stop;
+mod worker;
 
+pub use agreement::agree;
 pub use alone::play_alone;
 pub use entries::play_entries;
 pub use fault::PoolFault;

@@ -11,7 +11,7 @@ use flow_model::{Board, Leg, LegState};
 use status_table::laws::numbers_are_places;
 
 /// The leg with a number.
-fn numbered_leg(board: &Board, number: usize) -> Option<&Leg>
+pub(crate) fn numbered_leg(board: &Board, number: usize) -> Option<&Leg>
     ensures { option_copied result ≡ slice_get (board_legs board.now) number }
 {
     numbers_are_places();
