@@ -1,0 +1,5 @@
+pub mod Changes
+pub mod Counters
+pub mod Index
+pub mod Sound
+pub mod Stands
