@@ -6,6 +6,7 @@ pub mod Kept
 pub mod Lists
 pub mod Named
 pub mod Needs
+pub mod Placed
 pub mod Playing
 pub mod Reached
 pub mod Tallies

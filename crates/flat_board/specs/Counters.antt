@@ -11,7 +11,9 @@ use Rattle.flow_model.specs.declared.board.LegState.{LegState}
 use Rattle.flow_model.specs.declared.plan.Plan.{Plan}
 use Rattle.flow_model.specs.declared.plan.RunPlan.{RunPlan}
 use Rattle.flow_model.specs.declared.plan.JobPlan.{JobPlan}
+use Rattle.board_decisions.specs.declared.place.LegPlace.{LegPlace}
 use Rattle.flat_board.specs.Index.{IsNamed}
+use Rattle.flat_board.specs.Places.{leg_places}
 use Rattle.flat_board.specs.declared.tally.Counter.{Counter}
 use Rattle.flat_board.specs.declared.tally.Counter.TheVariants as counter
 use Rattle.flat_board.specs.declared.tally.Tally.{Tally}
@@ -112,8 +114,10 @@ needs_none (Some need) = need.pending == 0
 
 -- ---- all of them
 
--- The counters are what follows from the plan and the board, and the names on the board are such as a group may have.
-pub record IsCounted (p : Plan) (b : Board) (tallies : List (List Tally)) (needs : List (List Need)) : Type 0 where
+-- The counters and the places of the legs are what follows from the plan and the board, and the names on the board are such as a
+-- group may have.
+pub record IsCounted (p : Plan) (b : Board) (tallies : List (List Tally)) (needs : List (List Need)) (legs : List LegPlace) : Type 0 where
   pub tallied : tallies ≡ tallies_of b
   pub needed : needs ≡ needs_of p.runs b.runs
   pub named : IsNamed b
+  pub placed : legs ≡ leg_places b

@@ -7,6 +7,7 @@ ghost use Rattle.flat_board.specs.Counters.{needs_none, needs_there, needs_of as
 ghost use Rattle.status_table.specs.Change.{with_leg, with_run};
 
 use crate::need::{Need, are_settled, is_settled_at, needs_of, recount};
+use crate::places::leg_places;
 use crate::tally::{Tally, moved, tally_of};
 use board_decisions::place::{JobPlace, LegPlace, leg_there};
 use flow_model::laws::needs_point_back;
@@ -216,6 +217,16 @@ fn without_last(items: Vec<u64>) -> Vec<u64>
     items
 }
 
+/// What stands at a number, if there is one.
+fn place_at(places: &[LegPlace], number: usize) -> Option<LegPlace>
+    ensures { result ≡ slice_get places.now number }
+{
+    match places.get(number) {
+        Some(place) => Some(*place),
+        None => None,
+    }
+}
+
 /// Whether the job at a place needs none that is open.
 fn needs_none_at(needs: &[Sequence<Need>], place: JobPlace) -> bool
     ensures { result ≡ needs_none (needs_there needs.now place) }
@@ -231,13 +242,15 @@ fn needs_none_at(needs: &[Sequence<Need>], place: JobPlace) -> bool
 
 /// A plan, how far it is, and what is counted of that.
 ///
-/// A job's legs are tallied as they change; what the jobs of a run need is counted again when one of them ends.
+/// A job's legs are tallied as they change; what the jobs of a run need is counted again when one of them ends. The places
+/// of the legs stand in the order of their numbers.
 #[derive(Drop)]
 pub(crate) struct Counted {
     plan: CheckedPlan,
     board: Board,
     tallies: Sequence<Sequence<Tally>>,
     needs: Sequence<Sequence<Need>>,
+    legs: Vec<LegPlace>,
 }
 
 impl Model for Counted {
@@ -253,14 +266,14 @@ impl Model for Counted {
 
     ghost use Rattle.flat_board.specs.Counters.{IsCounted};
 
-    ghost invariant = { λ c. IsCounted c.plan c.board c.tallies c.needs };
+    ghost invariant = { λ c. IsCounted c.plan c.board c.tallies c.needs c.legs.items };
 }
 
 impl Counted {
     ghost use Rattle.flow_model.specs.Rules.{IsPlan};
     ghost use Rattle.flow_model.specs.Sound.{SoundPlan};
     ghost use Rattle.board_decisions.specs.Derived.{is_going, jobs_have_ended, needs_have_ended};
-    ghost use Rattle.board_decisions.specs.Place.{JobAt, job_at};
+    ghost use Rattle.board_decisions.specs.Place.{JobAt, job_at, leg_place};
     ghost use Rattle.flow_model.specs.declared.board.Board.{Board};
     ghost use Rattle.flow_model.specs.declared.board.Job.{Job};
     ghost use Rattle.flow_model.specs.declared.board.Run.{Run as RunOf};
@@ -277,12 +290,14 @@ impl Counted {
         let board = make_board(alloc, plan.plan())?;
         let runs = board.runs.as_slice();
         let tallies = tally_runs(alloc, runs)?;
+        let legs = leg_places(alloc, runs)?;
         let needs = needs_of_each(alloc, plan.plan().runs.as_slice(), runs, tallies.as_slice())?;
         Ok(Counted {
             plan,
             board,
             tallies,
             needs,
+            legs,
         })
     }
 
@@ -301,6 +316,13 @@ impl Counted {
         ensures named { IsNamed self.now.board }
     {
         &self.board
+    }
+
+    /// The place of the leg with a number.
+    pub(crate) fn leg_place(&self, number: u64) -> Option<LegPlace>
+        ensures { result ≡ leg_place self.now.board number }
+    {
+        place_at(self.legs.as_slice(), number as usize)
     }
 
     /// How the legs of the job at a place stand.

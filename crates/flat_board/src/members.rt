@@ -10,7 +10,7 @@ ghost use Rattle.status_table.specs.Row.{leg_ended};
 ghost use Rattle.status_table.specs.Seen.{leg_after, noted, put_out as put_out_of};
 
 use crate::counted::{Counted, RunChange};
-use board_decisions::place::{LegPlace, find_leg_place};
+use board_decisions::place::LegPlace;
 use flow_model::{LegState, Mapping, Member, Outcome, RunState, Text};
 use status_table::change::LegChange;
 use std::alloc::{AllocError, Global};
@@ -21,7 +21,7 @@ fn change_leg(state: &mut Counted, number: u64, how: LegChange)
     ensures plan { state.new.plan ≡ state.old.plan }
     ensures board { state.new.board ≡ with_numbered_leg state.old.board number (leg_after how) }
 {
-    if let Some(place) = find_leg_place(state.board().runs.as_slice(), number as usize) {
+    if let Some(place) = state.leg_place(number) {
         state.change_leg(place, how);
     }
 }

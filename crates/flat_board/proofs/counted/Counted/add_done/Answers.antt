@@ -20,7 +20,7 @@ invariant_of-self-2 c =
     let new = c.add_step.new.board in
     let settled = c.is_settled-settled.result in
     leg_counted c.self.inside.plan b new c.args.place done c.state_there-was.result c.state_there-is.result settled c.self.inside.tallies c.retally.new.tallies
-    c.self.inside.needs c.recount_if.new.needs c.self.invariant (λ leg h. h) c.state_there-was.ensures
+    c.self.inside.needs c.recount_if.new.needs c.self.inside.legs.items c.self.invariant (λ leg h. h) c.state_there-was.ensures
     (c.is_settled-settled.ensures ∙ ap (λ (j : JobPlace). settled_in (slice_get b.runs j.run) j.job) c.job_of-job.ensures)
     c.in_ok-add_step.ensures.ok c.state_there-is.ensures c.retally.ensures
     (c.recount_if.ensures ∙ ap (λ (j : JobPlace). recounted_if settled (settled_in (slice_get new.runs j.run) j.job) (slice_get new.runs j.run) j.run c.self.inside.needs) c.job_of-job.ensures)

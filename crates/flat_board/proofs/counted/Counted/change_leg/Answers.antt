@@ -18,7 +18,7 @@ invariant_of-self c =
     let new = c.change_at.new.board in
     let settled = c.is_settled-settled.result in
     leg_counted c.self.inside.plan b new c.args.place (leg_after c.args.how) c.state_there-was.result c.state_there-is.result settled c.self.inside.tallies c.retally.new.tallies
-    c.self.inside.needs c.recount_if.new.needs c.self.invariant (comes_named c.args.how c.requires) c.state_there-was.ensures
+    c.self.inside.needs c.recount_if.new.needs c.self.inside.legs.items c.self.invariant (comes_named c.args.how c.requires) c.state_there-was.ensures
     (c.is_settled-settled.ensures ∙ ap (λ (j : JobPlace). settled_in (slice_get b.runs j.run) j.job) c.job_of-job.ensures)
     c.change_at.ensures c.state_there-is.ensures c.retally.ensures
     (c.recount_if.ensures ∙ ap (λ (j : JobPlace). recounted_if settled (settled_in (slice_get new.runs j.run) j.job) (slice_get new.runs j.run) j.run c.self.inside.needs) c.job_of-job.ensures)

@@ -11,4 +11,4 @@ recount_if-requires c =
 pub invariant_of-self : goal.invariant_of-self
 invariant_of-self c =
     job_counted c.self.inside.plan c.self.inside.board c.set_job_state.new.board c.args.place c.args.state c.is_settled-settled.result c.self.inside.tallies
-    c.self.inside.needs c.recount_if.new.needs c.self.invariant c.is_settled-settled.ensures c.set_job_state.ensures c.recount_if.ensures
+    c.self.inside.needs c.recount_if.new.needs c.self.inside.legs.items c.self.invariant c.is_settled-settled.ensures c.set_job_state.ensures c.recount_if.ensures
