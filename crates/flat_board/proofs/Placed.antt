@@ -1,6 +1,5 @@
 -- The place of a leg's number is that item of all places.
-use Rattle.std.proofs.Common.{◌≡◌, ℕ, zero, suc, ◌+◌, ◌-◌, ◌<◌, ◌≤◌, Bool, true, false, List, [], ◌∷◌, ◌++◌, Option, Some, None, Result, Ok, Err, length, map, drop, slice_get, nat_lt, if◌then◌else◌, append_assoc, ap, subst, sym, refl, ◌∙◌, arith}
-use Rattle.std.proofs.lemmas.Bool.Decides.{nat_tests}
+use Rattle.std.proofs.Common.{◌≡◌, ℕ, zero, suc, ◌+◌, ◌-◌, ◌<◌, ◌≤◌, Bool, true, false, List, [], ◌∷◌, ◌++◌, Some, Ok, length, map, drop, slice_get, nat_lt, if◌then◌else◌, append_assoc, ap, sym, refl, ◌∙◌, arith}
 use Rattle.std.proofs.lemmas.List.{map-append, length-append, length-map}
 use Rattle.board_decisions.specs.Place.{leg_in_jobs, leg_place, leg_place_from, else_from}
 use Rattle.board_decisions.specs.declared.place.JobPlace.{JobPlace}

@@ -1,4 +1,4 @@
-use Rattle.std.proofs.Common.{◌≡◌, ℕ, ◌++◌, map, ap, ◌∙◌}
+use Rattle.std.proofs.Common.{ℕ, ◌++◌, map, ap, ◌∙◌}
 use Rattle.flow_model.proofs.Conversions.{drop-next}
 use Rattle.flat_board.specs.Places.{leg_of}
 use Rattle.flat_board.proofs.Placed.{jobs_more}

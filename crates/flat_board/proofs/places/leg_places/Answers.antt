@@ -1,4 +1,4 @@
-use Rattle.std.proofs.Common.{◌≡◌, List, ◌++◌, ap, ◌∙◌}
+use Rattle.std.proofs.Common.{List, ◌++◌, ap, ◌∙◌}
 use Rattle.flow_model.proofs.Conversions.{drop-next}
 use Rattle.flow_model.specs.declared.board.Job.{Job}
 use Rattle.flat_board.specs.Places.{sizes, legs_from}

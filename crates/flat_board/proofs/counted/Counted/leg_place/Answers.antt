@@ -1,4 +1,4 @@
-use Rattle.std.proofs.Common.{◌≡◌, ap, subst, ◌∙◌, slice_get}
+use Rattle.std.proofs.Common.{◌≡◌, subst, ◌∙◌, slice_get}
 use Rattle.board_decisions.specs.Place.{leg_place}
 use Rattle.flat_board.proofs.Placed.{leg_placed}
 use Rattle.flat_board.proofs.counted.Counted.leg_place.Goals as goal
