@@ -65,7 +65,7 @@ nobody_new p t none =
     ∙ ap (λ ls. run_or_leg None (first_place 0 (λ leg. t (leg_standing leg)) ls)) (new_legs p)
     ∙ ap (λ o. run_or_leg None o) (none-place 0 (λ leg. t (leg_standing leg)) new_leg (plan_legs p) (λ x. none))
 
-new_kept : (p : Plan) → KeptAsShown [] (new_board p)
+pub new_kept : (p : Plan) → KeptAsShown [] (new_board p)
 unfolding IsStrictlySortedBy
 new_kept p = record {
   shown = record {
@@ -228,7 +228,7 @@ outside laws groups b m kept is = laws.nowhere groups m kept.ordered holds waits
     waits (c ∷ cs) e =
         not_waiting (c ∷ cs) (same_some apart (waiting (Some (c ∷ cs))) (sym is ∙ (a_waiter b (c ∷ cs) m (sym (kept.shown.waiter (c ∷ cs) (filled c cs)) ∙ e)).0))
 
-enters_from_outside : GroupLaws → (p : Plan) (b : Board) (groups : Content) → KeptAsShown groups b → EntersFromOutside p b groups
+pub enters_from_outside : GroupLaws → (p : Plan) (b : Board) (groups : Content) → KeptAsShown groups b → EntersFromOutside p b groups
 enters_from_outside laws p b groups kept = record {
   opener = λ worker r may. outside laws groups b (member.Run r) kept (apart_now b (member.Run r) (row p b worker (event.Open r)) (opener_apart p b worker r) may);
   asker = λ worker l may. outside laws groups b (member.Leg l) kept (apart_now b (member.Leg l) (row p b worker (event.Ask l)) (asker_apart p b worker l) may);
@@ -303,7 +303,7 @@ module _ (laws : GroupLaws) (p : Plan) (b : Board) (worker : ℕ) (groups : Cont
   event_sound (event.Close r) may = run_left_sound r (run_at p b r)
   event_sound (event.Cancel r) may = sound_now
 
-  event_kept : (e : Event) (x : Board × Reply) → row p b worker e ≡ Ok x → KeptAsShown (after_event p b groups e) x.0
+  pub event_kept : (e : Event) (x : Board × Reply) → row p b worker e ≡ Ok x → KeptAsShown (after_event p b groups e) x.0
   event_kept e x is =
       let sound = event_sound e (ap is_accepted is) in
       record {

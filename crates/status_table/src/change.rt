@@ -19,7 +19,7 @@ pub(crate) fn set_run_state(board: &mut Board, place: usize, state: RunState)
 }
 
 /// Puts a job into a state.
-pub(crate) fn set_job_state(board: &mut Board, place: JobPlace, state: JobState)
+pub fn set_job_state(board: &mut Board, place: JobPlace, state: JobState)
     ensures { board.new ≡ row.job_state_set board.old place state }
 {
     if let Some(run) = board.runs.get_mut(place.run) {
@@ -31,7 +31,7 @@ pub(crate) fn set_job_state(board: &mut Board, place: JobPlace, state: JobState)
 
 /// What happens to a leg at once.
 #[derive(Drop)]
-pub(crate) enum LegChange {
+pub enum LegChange {
     /// It comes into a state.
     State(LegState),
     /// It comes into a state, and into a group or none.
@@ -61,7 +61,7 @@ fn change(leg: &mut Leg, change: LegChange)
 }
 
 /// Changes the leg at a place, where there is one.
-fn change_at(board: &mut Board, place: LegPlace, how: LegChange)
+pub fn change_at(board: &mut Board, place: LegPlace, how: LegChange)
     ensures { board.new ≡ with_leg board.old place (leg_after how) }
 {
     if let Some(run) = board.runs.get_mut(place.run) {
@@ -90,7 +90,7 @@ pub(crate) fn set_leg_state(board: &mut Board, place: LegPlace, state: LegState)
 }
 
 /// Adds a done step to a leg, which is idle again; where memory runs out, nothing is changed.
-pub(crate) fn add_step(
+pub fn add_step(
     board: &mut Board,
     place: LegPlace,
     worker: u8,

@@ -35,7 +35,7 @@ use flow_model::{
 use std::alloc::{AllocError, Global};
 
 /// A reply that tells of nothing but what happened.
-fn reply(what: What) -> Reply
+pub fn reply(what: What) -> Reply
     ensures { result ≡ spec.reply what }
 {
     Reply {
@@ -71,7 +71,7 @@ pub(crate) fn open(
 }
 
 /// The state into which a job is judged by its condition.
-fn judged_state(stop: bool, holds: Result<bool, ValueFault>) -> Result<JobState, AllocError>
+pub fn judged_state(stop: bool, holds: Result<bool, ValueFault>) -> Result<JobState, AllocError>
     ensures { (value : Result Bool ValueFaultOf) → Gives (λ holds. holds) holds value
         → IfOk result (λ state. state ≡ spec.judged_state stop value) }
 {
@@ -141,7 +141,7 @@ pub(crate) fn judge(
 }
 
 /// Whether a leg may ask to be admitted.
-pub(crate) fn may_ask(at: &SeenLeg) -> bool
+pub fn may_ask(at: &SeenLeg) -> bool
     ensures { result ≡ spec.may_ask (leg_seen at.now) }
 {
     matches!(at.run.state, RunState::Going)
@@ -177,7 +177,7 @@ pub(crate) fn ask(
 }
 
 /// Whether a leg may be dropped.
-pub(crate) fn may_drop(at: &SeenLeg) -> bool
+pub fn may_drop(at: &SeenLeg) -> bool
     ensures { result ≡ spec.may_drop (leg_seen at.now) }
 {
     matches!(at.run.state, RunState::Going)
@@ -337,7 +337,7 @@ fn next_step<'a>(at: &SeenLeg<'a>) -> Option<&'a StepPlan>
 
 /// What beginning a step comes to.
 #[derive(Drop)]
-pub(crate) enum Begun {
+pub enum Begun {
     Call(StepCall),
     Skips,
     Faults(ValueFault),
@@ -362,7 +362,7 @@ fn told_begun(decision: Result<Option<StepCall>, ValueFault>) -> Result<Begun, E
 }
 
 /// What beginning the next step of a leg comes to, or why it is not begun.
-fn beginning(alloc: Global, worker: u8, number: u64, at: &SeenLeg) -> Result<Begun, EventFault>
+pub fn beginning(alloc: Global, worker: u8, number: u64, at: &SeenLeg) -> Result<Begun, EventFault>
     ensures { DecidesAs begun_seen (spec.beginning worker number (leg_seen at.now)) result }
 {
     let Some(owner) = idle_owner(at.leg.state) else {
@@ -378,7 +378,7 @@ fn beginning(alloc: Global, worker: u8, number: u64, at: &SeenLeg) -> Result<Beg
 }
 
 /// A step that was skipped.
-fn skipped_step(alloc: Global) -> DoneStep
+pub fn skipped_step(alloc: Global) -> DoneStep
     ensures { result ≡ spec.skipped_step }
 {
     let outputs = Mapping::empty(alloc);
@@ -390,7 +390,7 @@ fn skipped_step(alloc: Global) -> DoneStep
 }
 
 /// A step that failed before its call.
-fn failed_step(alloc: Global, at: &SeenLeg) -> Result<DoneStep, AllocError>
+pub fn failed_step(alloc: Global, at: &SeenLeg) -> Result<DoneStep, AllocError>
     ensures { IfOk result (λ done. done ≡ spec.failed_step (leg_seen at.now)) }
 {
     let conclusion = failure_of(alloc, at)?;
@@ -456,7 +456,7 @@ fn outcome_of(answer: &Answer) -> Outcome
 }
 
 /// The outputs of a step: those of its exit.
-fn outputs_of(alloc: Global, answer: Answer) -> Mapping<Text>
+pub fn outputs_of(alloc: Global, answer: Answer) -> Mapping<Text>
     ensures { result ≡ spec.outputs_of answer }
 {
     match answer {
@@ -494,7 +494,7 @@ fn conclusion_of(alloc: Global, at: &SeenLeg, outcome: Outcome) -> Result<Outcom
 }
 
 /// The outcome and conclusion of the step that an answer ends, or why it does not.
-fn ending(
+pub fn ending(
     alloc: Global,
     worker: u8,
     at: &SeenLeg,
@@ -548,7 +548,7 @@ pub(crate) fn end(
 }
 
 /// The state in which a leg ends, or why it does not.
-fn finishing(alloc: Global, worker: u8, at: &SeenLeg) -> Result<LegState, EventFault>
+pub fn finishing(alloc: Global, worker: u8, at: &SeenLeg) -> Result<LegState, EventFault>
     ensures { Decides (spec.finishing worker (leg_seen at.now)) result }
 {
     let Some(owner) = idle_owner(at.leg.state) else {

@@ -22,11 +22,7 @@ use flow_model::{
 };
 
 /// A reply that tells who was admitted, who lost its place, and who is told to stop.
-pub(crate) fn told(
-    admitted: Option<Member>,
-    displaced: Option<Member>,
-    stopped: Option<Member>,
-) -> Reply
+pub fn told(admitted: Option<Member>, displaced: Option<Member>, stopped: Option<Member>) -> Reply
     ensures { result ≡ spec.told admitted displaced stopped }
 {
     Reply {
@@ -38,14 +34,14 @@ pub(crate) fn told(
 }
 
 /// A reply that tells of nobody.
-pub(crate) fn moved() -> Reply
+pub fn moved() -> Reply
     ensures { result ≡ spec.moved }
 {
     told(None, None, None)
 }
 
 /// Whether a holder is the run that the asker is a leg of.
-fn is_own(own: Option<u64>, holder: Member) -> bool
+pub fn is_own(own: Option<u64>, holder: Member) -> bool
     ensures { result ≡ spec.is_own own holder }
 {
     match (own, holder) {
@@ -56,7 +52,7 @@ fn is_own(own: Option<u64>, holder: Member) -> bool
 }
 
 /// The holder, where it is told to stop.
-fn stop_told(cancel: bool, holder: Member) -> Option<Member>
+pub fn stop_told(cancel: bool, holder: Member) -> Option<Member>
     ensures { result ≡ spec.stop_told cancel holder }
 {
     if cancel { Some(holder) } else { None }

@@ -18,14 +18,14 @@
 pub mod admission_laws;
 pub mod board_laws;
 pub mod call_laws;
-mod change;
-mod events;
+pub mod change;
+pub mod events;
 pub mod fault;
-mod groups;
+pub mod groups;
 pub mod laws;
 mod members;
 pub mod moves;
-mod new_board;
+pub mod new_board;
 pub mod plain_board;
 pub mod reversible;
 pub mod runs;

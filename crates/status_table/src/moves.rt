@@ -15,7 +15,7 @@ use std::alloc::{AllocError, Global};
 
 /// The kinds of a clerk's events.
 #[derive(Clone, Copy)]
-pub(crate) enum Kind {
+pub enum Kind {
     Close,
     Open,
     Judge,
@@ -24,7 +24,7 @@ pub(crate) enum Kind {
 }
 
 /// The event of a kind with a number.
-fn event_of(kind: Kind, number: u64) -> Event
+pub fn event_of(kind: Kind, number: u64) -> Event
     ensures { result ≡ spec.event_of kind number }
 {
     match kind {
@@ -53,7 +53,7 @@ fn closes(plan: &Plan, board: &Board, number: u64) -> bool
 
 /// Whether a run may be opened.
 #[tactic(auto, using(crate::proofs::Accepting::run_enters_accepted))]
-fn opens(plan: &Plan, board: &Board, number: u64) -> bool
+pub fn opens(plan: &Plan, board: &Board, number: u64) -> bool
     ensures { result ≡ rule.accepts plan.now board.now (event.Open number) }
 {
     let Some(at) = find_run(plan, board, number as usize) else {
@@ -159,7 +159,7 @@ fn add_moves(
 
 /// How many jobs some runs have.
 #[tactic(auto, using(crate::proofs::Accepting::first_within))]
-fn count_jobs(runs: &[Run]) -> usize
+pub fn count_jobs(runs: &[Run]) -> usize
     requires { sum_by (λ run. length run.jobs) runs.now ≤ 4096 }
     ensures { result ≡ sum_by (λ run. length run.jobs) runs.now }
 {
@@ -185,7 +185,7 @@ fn count_legs_of(jobs: &[Job]) -> usize
 
 /// How many legs some runs have.
 #[tactic(auto, using(crate::proofs::Accepting::first_within))]
-fn count_legs(runs: &[Run]) -> usize
+pub fn count_legs(runs: &[Run]) -> usize
     requires { sum_by (λ run. sum_by (λ job. length job.legs) run.jobs) runs.now ≤ 4096 }
     ensures { result ≡ sum_by (λ run. sum_by (λ job. length job.legs) run.jobs) runs.now }
 {

@@ -74,7 +74,7 @@ impl Played<RunPlan> for Run {
 }
 
 /// A board of a plan on which all is new.
-pub(crate) fn make_board(alloc: Global, plan: &Plan) -> Result<Board, AllocError>
+pub fn make_board(alloc: Global, plan: &Plan) -> Result<Board, AllocError>
     ensures { IfOk result (λ board. board ≡ spec.new_board plan.now) }
 {
     let runs = start_each(alloc, plan.runs.as_slice())?;

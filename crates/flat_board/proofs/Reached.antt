@@ -1,0 +1,71 @@
+-- What is known of a run or a leg that is found.
+use Rattle.std.proofs.Common.{◌≡◌, ℕ, Bool, true, false, not, Some, Ok, Err, slice_get, if◌then◌else◌, ap, sym, refl, ◌∙◌}
+use Rattle.board_decisions.specs.Decisions.{is_stopping, job_condition, run_entrance, leg_entrance}
+use Rattle.board_decisions.specs.Derived.{is_full, job_status, needs_have_ended}
+use Rattle.board_decisions.specs.Numbered.{job_there}
+use Rattle.board_decisions.specs.Place.{◌>>=◌, RunAt, JobAt, LegAt, run_at, job_at, leg_at}
+use Rattle.flow_model.specs.declared.plan.Plan.{Plan}
+use Rattle.flow_model.specs.declared.board.Board.{Board}
+use Rattle.flow_model.specs.declared.board.JobState.TheVariants as job_state
+use Rattle.flow_model.specs.declared.board.RunState.TheVariants as run_state
+use Rattle.flow_model.specs.declared.event.Event.TheVariants as event
+use Rattle.flow_model.specs.declared.event.Member.TheVariants as member
+use Rattle.group_admission.specs.Content.{Content, is_in_group}
+use Rattle.flat_board.specs.Changes.{job_of}
+use Rattle.flat_board.specs.Index.{IsGroup, IsNamed, EntersOnce}
+use Rattle.status_table.specs.declared.fault.EventFault.TheVariants as fault
+use Rattle.status_table.specs.Grouped.{KeptAsShown}
+use Rattle.status_table.specs.Moves.{is_accepted, accepts}
+use Rattle.status_table.specs.Row.{open_run, open_found, first_of, judged_state, judgement_by, judgement, judge_job, judge_found, may_ask, ask_found, leg_enters}
+use Rattle.status_table.proofs.Accepting.{run_enters_accepted, leg_enters_accepted}
+use Rattle.status_table.proofs.Found.{run_stands, leg_stands}
+
+-- the job of a leg that is found
+pub job_found : (p : Plan) (b : Board) (n : ℕ) (at : LegAt) → leg_at p b n ≡ Some at → job_there b (job_of at.place) ≡ Some at.job
+job_found p b n at is =
+    let stands = leg_stands p b n at is in
+    ap (λ o. o >>= λ run. slice_get run.jobs at.place.job) stands.in_board ∙ stands.job
+
+-- the name of its group
+pub leg_found_named : (p : Plan) (b : Board) (n : ℕ) (at : LegAt) → IsNamed b → leg_at p b n ≡ Some at → IsGroup at.leg.group
+leg_found_named p b n at named is =
+    let stands = leg_stands p b n at is in
+    (named at.place.run at.run stands.in_board).jobs at.place.job at.job stands.job at.place.leg at.leg stands.leg
+
+-- and that of a run
+pub run_found_named : (p : Plan) (b : Board) (n : ℕ) (at : RunAt) → IsNamed b → run_at p b n ≡ Some at → IsGroup at.run.group
+run_found_named p b n at named is = (named n at.run (run_stands p b n at is).run).group
+
+-- a run that may be opened is in no group
+pub opens_outside : EntersOnce → (p : Plan) (b : Board) (groups : Content) (r : ℕ) (at : RunAt) → KeptAsShown groups b → run_at p b r ≡ Some at
+    → at.run.state ≡ run_state.New → at.run.stop ≡ false → is_in_group (member.Run r) groups ≡ false
+opens_outside law p b groups r at kept is state stop =
+    (law p b groups kept).opener 0 r (ap (λ o. is_accepted (open_found b r o)) is ∙ (λ i. is_accepted (open_run b r at (state i) (stop i))) ∙ run_enters_accepted b r (run_entrance at))
+
+-- and neither is a leg that may ask
+pub asks_outside : EntersOnce → (p : Plan) (b : Board) (groups : Content) (l : ℕ) (at : LegAt) → KeptAsShown groups b → leg_at p b l ≡ Some at
+    → may_ask at ≡ true → is_full at.job_plan at.job ≡ false → is_stopping at ≡ false → is_in_group (member.Leg l) groups ≡ false
+asks_outside law p b groups l at kept is may full stop =
+    (law p b groups kept).asker 0 l (ap (λ o. is_accepted (ask_found b l o)) is
+    ∙ (λ i. is_accepted (if not (may i) then Err fault.WrongState else (if full i then Err fault.SlotsFull else (if stop i then Err fault.Stopping else leg_enters b l at (leg_entrance at)))))
+    ∙ leg_enters_accepted b l at (leg_entrance at))
+
+-- what a job comes to that is judged, by whether its needs have ended
+pub judged_by : (n : ℕ) (at : JobAt) (ended : Bool) → at.run.state ≡ run_state.Going → at.job.state ≡ job_state.Unjudged
+    → needs_have_ended (first_of n at) at.run at.plan ≡ ended
+    → judgement n at ≡ (if ended then Ok (judged_state at.run.stop (job_condition at (job_status (first_of n at) at))) else Err fault.NeedsOpen)
+judged_by n at ended going unjudged is =
+    (λ i. judgement_by n at (going i) (unjudged i))
+    ∙ ap (λ c. if c then Ok (judged_state at.run.stop (job_condition at (job_status (first_of n at) at))) else Err fault.NeedsOpen) is
+
+-- whether a job may be judged
+pub judge_accepted : (p : Plan) (b : Board) (n : ℕ) (at : JobAt) (ended : Bool) → job_at p b n ≡ Some at → at.run.state ≡ run_state.Going
+    → at.job.state ≡ job_state.Unjudged → needs_have_ended (first_of n at) at.run at.plan ≡ ended → ended ≡ accepts p b (event.Judge n)
+judge_accepted p b n at ended is going unjudged needs =
+    either ended
+    ∙ sym (ap (λ o. is_accepted (judge_found b n o)) is ∙ ap (λ r. is_accepted (judge_job b at.place r)) (judged_by n at ended going unjudged needs))
+  where
+    either : (c : Bool)
+        → c ≡ is_accepted (judge_job b at.place (if c then Ok (judged_state at.run.stop (job_condition at (job_status (first_of n at) at))) else Err fault.NeedsOpen))
+    either true = refl
+    either false = refl

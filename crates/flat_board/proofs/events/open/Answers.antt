@@ -1,0 +1,16 @@
+use Rattle.std.proofs.Common.{sym, ◌∙◌}
+use Rattle.board_decisions.specs.Decisions.{run_entrance}
+use Rattle.board_decisions.specs.Place.{run_at}
+use Rattle.board_decisions.specs.Seen.{run_seen}
+use Rattle.flat_board.proofs.Named.{given_named, run_asks}
+use Rattle.flat_board.proofs.Reached.{opens_outside}
+use Rattle.flat_board.proofs.events.open.Goals as goal
+
+pub enter_run-requires-clause-named : goal.enter_run-requires-clause-named
+enter_run-requires-clause-named c =
+    let at = run_seen c.in-Some.at in given_named c.run_entrance-group.result (run_entrance at) c.run_entrance-group.ensures (run_asks at)
+
+pub enter_run-requires-clause-outside : goal.enter_run-requires-clause-outside
+enter_run-requires-clause-outside c =
+    opens_outside c.who_enters_is_outside.ensures c.args.state.now.plan c.args.state.now.board c.args.groups.now c.args.number (run_seen c.in-Some.at) c.requires
+    ((λ i. run_at (sym c.plan.ensures.same i) (sym c.board.ensures.board i) c.args.number) ∙ sym c.in-Some.ensures) c.in-New-false.is-0 c.in-New-false.is-1

@@ -1,0 +1,16 @@
+use Rattle.std.proofs.Common.{◌&&◌, ◌||◌, nat_lt, ap, sym, ◌∙◌}
+use Rattle.std.specs.List.{list_any}
+use Rattle.board_decisions.specs.Derived.{has_failed}
+use Rattle.flow_model.specs.declared.board.Leg.{Leg}
+use Rattle.flat_board.specs.declared.tally.Tally.{Tally}
+use Rattle.flat_board.proofs.Lists.{any-counted}
+use Rattle.flat_board.proofs.found.stops_anyway.Goals as goal
+
+pub returns-then-leg-2 : goal.returns-then-leg-2
+returns-then-leg-2 c =
+    let leg = c.args.leg.now in
+    let legs = leg.at.job.now.legs in
+    sym (ap (λ s. s || (leg.at.job_plan.now.fail_fast && list_any (λ (x : Leg). has_failed x.state) legs)) c.if-leg.false
+    ∙ ap (λ f. f && list_any (λ (x : Leg). has_failed x.state) legs) c.if-leg-2.true
+    ∙ any-counted (λ (x : Leg). has_failed x.state) legs
+    ∙ ap (λ (t : Tally). nat_lt 0 t.failed) (sym leg.tallied))

@@ -1,0 +1,354 @@
+//! The events of the table, each as a change of a board with its counters and its index of groups.
+//!
+//! Each function looks for a refusal first, makes what room it needs, and only then changes the board.
+
+ghost use Rattle.std.specs.Prelude.{◌≡◌, Some};
+ghost use Rattle.board_decisions.specs.Place.{job_at, leg_at, run_at};
+ghost use Rattle.board_decisions.specs.Seen.{job_seen};
+ghost use Rattle.flat_board.specs.Index.{Goes};
+ghost use Rattle.status_table.specs.Answers.{Answers, Decides};
+ghost use Rattle.status_table.specs.Grouped.{KeptAsShown, leg_asked, leg_left, run_left, run_opened};
+ghost use Rattle.status_table.specs.InPlay.{InPlay};
+ghost use Rattle.status_table.specs.Row as spec;
+
+use crate::counted::Counted;
+use crate::found::{find_leg, is_full, is_stopping};
+use crate::groups::{enter_leg, enter_run, leave, leg_stand, next_after, run_stand};
+use crate::laws::who_enters_is_outside;
+use crate::members::{close_run, drop_leg, pass_on, set_ended, stop_run};
+use board_decisions::ancestors::job_status;
+use board_decisions::decisions::{job_condition, leg_entrance, leg_outputs, run_entrance};
+use board_decisions::derived::{is_closed, run_result};
+use board_decisions::place::{SeenJob, find_job, find_run};
+use flow_model::{Answer, DoneStep, JobState, LegState, Member, Outcome, Reply, RunState, What};
+use group_admission::Groups;
+use status_table::EventFault;
+use status_table::change::LegChange;
+use status_table::events::{
+    Begun, beginning, ending, failed_step, finishing, judged_state, may_ask, may_drop, outputs_of,
+    reply, skipped_step,
+};
+use status_table::groups::{moved, told};
+use std::alloc::Global;
+
+/// Starts a run that is new.
+pub(crate) fn open(
+    alloc: Global,
+    state: &mut Counted,
+    groups: &mut Groups,
+    number: u64,
+) -> Result<Reply, EventFault>
+    requires { KeptAsShown groups.old state.old.board }
+    ensures plan { state.new.plan ≡ state.old.plan }
+    ensures answers { Answers (spec.open_row state.old.plan state.old.board number)
+        state.old.board result state.new.board }
+    ensures groups { Goes result groups.old
+        (run_opened groups.old number (run_at state.old.plan state.old.board number)) groups.new }
+{
+    who_enters_is_outside();
+    let Some(at) = find_run(state.plan(), state.board(), number as usize) else {
+        return Err(EventFault::NoSuch);
+    };
+    match (at.run.state, at.run.stop) {
+        (RunState::New, false) => {},
+        (RunState::New, true) => return Err(EventFault::Stopping),
+        (RunState::Waiting, _) => return Err(EventFault::WrongState),
+        (RunState::Going, _) => return Err(EventFault::WrongState),
+        (RunState::Closed(_), _) => return Err(EventFault::WrongState),
+    }
+    let group = run_entrance(alloc, &at);
+    enter_run(alloc, state, groups, number, group)
+}
+
+/// The state into which a job is judged, or why it is not.
+fn judgement(
+    alloc: Global,
+    state: &Counted,
+    number: u64,
+    at: &SeenJob,
+) -> Result<JobState, EventFault>
+    requires play { InPlay state.now.plan state.now.board }
+    requires found { job_at state.now.plan state.now.board number ≡ Some (job_seen at.now) }
+    ensures { Decides (spec.judgement number (job_seen at.now)) result }
+{
+    match (at.run.state, at.job.state) {
+        (RunState::Going, JobState::Unjudged) => {},
+        (RunState::Going, JobState::Open) => return Err(EventFault::WrongState),
+        (RunState::Going, JobState::Shut(_)) => return Err(EventFault::WrongState),
+        (RunState::New, _) => return Err(EventFault::WrongState),
+        (RunState::Waiting, _) => return Err(EventFault::WrongState),
+        (RunState::Closed(_), _) => return Err(EventFault::WrongState),
+    }
+    if !state.have_needs_ended(at.place) {
+        return Err(EventFault::NeedsOpen);
+    }
+    let first = number.saturating_sub(at.place.job as u64);
+    let status = job_status(alloc, first, at)?;
+    Ok(judged_state(at.run.stop, job_condition(alloc, at, status))?)
+}
+
+/// Opens or shuts a job whose needs have ended.
+pub(crate) fn judge(alloc: Global, state: &mut Counted, number: u64) -> Result<Reply, EventFault>
+    requires { InPlay state.old.plan state.old.board }
+    ensures plan { state.new.plan ≡ state.old.plan }
+    ensures answers { Answers (spec.judge_row state.old.plan state.old.board number)
+        state.old.board result state.new.board }
+{
+    let Some(at) = find_job(state.plan(), state.board(), number as usize) else {
+        return Err(EventFault::NoSuch);
+    };
+    let to = judgement(alloc, state, number, &at)?;
+    let place = at.place;
+    state.set_job(place, to);
+    Ok(moved())
+}
+
+/// A leg asks to be admitted.
+pub(crate) fn ask(
+    alloc: Global,
+    state: &mut Counted,
+    groups: &mut Groups,
+    number: u64,
+) -> Result<Reply, EventFault>
+    requires { KeptAsShown groups.old state.old.board }
+    ensures plan { state.new.plan ≡ state.old.plan }
+    ensures answers { Answers (spec.ask_row state.old.plan state.old.board number)
+        state.old.board result state.new.board }
+    ensures groups { Goes result groups.old
+        (leg_asked groups.old number (leg_at state.old.plan state.old.board number)) groups.new }
+{
+    who_enters_is_outside();
+    let Some(leg) = find_leg(state, number) else {
+        return Err(EventFault::NoSuch);
+    };
+    if !may_ask(&leg.at) {
+        return Err(EventFault::WrongState);
+    }
+    if is_full(&leg) {
+        return Err(EventFault::SlotsFull);
+    }
+    if is_stopping(alloc, &leg)? {
+        return Err(EventFault::Stopping);
+    }
+    let own = leg.at.place.run as u64;
+    let group = leg_entrance(alloc, &leg.at);
+    enter_leg(alloc, state, groups, number, own, group)
+}
+
+/// Drops a leg that is to stop before a worker took it.
+pub(crate) fn discard(
+    alloc: Global,
+    state: &mut Counted,
+    groups: &mut Groups,
+    number: u64,
+) -> Result<Reply, EventFault>
+    requires { KeptAsShown groups.old state.old.board }
+    ensures plan { state.new.plan ≡ state.old.plan }
+    ensures answers { Answers (spec.drop_row state.old.plan state.old.board number)
+        state.old.board result state.new.board }
+    ensures groups { Goes result groups.old
+        (leg_left groups.old number (leg_at state.old.plan state.old.board number)) groups.new }
+{
+    let Some(leg) = find_leg(state, number) else {
+        return Err(EventFault::NoSuch);
+    };
+    if !may_drop(&leg.at) {
+        return Err(EventFault::WrongState);
+    }
+    if !is_stopping(alloc, &leg)? {
+        return Err(EventFault::NotStopping);
+    }
+    let stand = leg_stand(leg.at.leg.state);
+    let next = next_after(groups, stand, &leg.at.leg.group);
+    drop_leg(state, number, Outcome::Cancelled)?;
+    leave(groups, Member::Leg(number), stand);
+    pass_on(state, next);
+    Ok(told(next, None, None))
+}
+
+/// Gives a leg that is admitted to a worker.
+pub(crate) fn take(
+    alloc: Global,
+    state: &mut Counted,
+    worker: u8,
+    number: u64,
+) -> Result<Reply, EventFault>
+    ensures plan { state.new.plan ≡ state.old.plan }
+    ensures answers { Answers (spec.take_row state.old.plan state.old.board worker number)
+        state.old.board result state.new.board }
+{
+    let Some(leg) = find_leg(state, number) else {
+        return Err(EventFault::NoSuch);
+    };
+    match leg.at.leg.state {
+        LegState::Admitted => {},
+        LegState::Fresh => return Err(EventFault::WrongState),
+        LegState::Waiting => return Err(EventFault::WrongState),
+        LegState::Running { .. } => return Err(EventFault::WrongState),
+        LegState::Ended { .. } => return Err(EventFault::WrongState),
+    }
+    if is_stopping(alloc, &leg)? {
+        return Err(EventFault::Stopping);
+    }
+    let place = leg.at.place;
+    state.change_leg(
+        place,
+        LegChange::State(LegState::Running {
+            worker,
+            in_call: false,
+        }),
+    );
+    Ok(moved())
+}
+
+/// Begins the next step of a leg: its call, that it is skipped, or that it failed.
+pub(crate) fn begin(
+    alloc: Global,
+    state: &mut Counted,
+    worker: u8,
+    number: u64,
+) -> Result<Reply, EventFault>
+    ensures plan { state.new.plan ≡ state.old.plan }
+    ensures answers { Answers (spec.begin_row state.old.plan state.old.board worker number)
+        state.old.board result state.new.board }
+{
+    let Some(leg) = find_leg(state, number) else {
+        return Err(EventFault::NoSuch);
+    };
+    let place = leg.at.place;
+    match beginning(alloc, worker, number, &leg.at)? {
+        Begun::Call(call) => {
+            state.change_leg(
+                place,
+                LegChange::State(LegState::Running {
+                    worker,
+                    in_call: true,
+                }),
+            );
+            Ok(reply(What::Call(call)))
+        },
+        Begun::Skips => {
+            state.add_done(place, worker, skipped_step(alloc))?;
+            Ok(reply(What::Skipped))
+        },
+        Begun::Faults(fault) => {
+            let done = failed_step(alloc, &leg.at)?;
+            state.add_done(place, worker, done)?;
+            Ok(reply(What::Faulted(fault)))
+        },
+    }
+}
+
+/// Ends the step of a leg that is in a call.
+pub(crate) fn end(
+    alloc: Global,
+    state: &mut Counted,
+    worker: u8,
+    number: u64,
+    answer: Answer,
+) -> Result<Reply, EventFault>
+    ensures plan { state.new.plan ≡ state.old.plan }
+    ensures answers { Answers (spec.end_row state.old.plan state.old.board worker number answer)
+        state.old.board result state.new.board }
+{
+    let Some(leg) = find_leg(state, number) else {
+        return Err(EventFault::NoSuch);
+    };
+    let place = leg.at.place;
+    let (outcome, conclusion) = ending(alloc, worker, &leg.at, &answer)?;
+    let outputs = outputs_of(alloc, answer);
+    state.add_done(
+        place,
+        worker,
+        DoneStep {
+            outcome,
+            conclusion,
+            outputs,
+        },
+    )?;
+    Ok(moved())
+}
+
+/// Ends a leg whose steps are done.
+pub(crate) fn finish(
+    alloc: Global,
+    state: &mut Counted,
+    groups: &mut Groups,
+    worker: u8,
+    number: u64,
+) -> Result<Reply, EventFault>
+    requires { KeptAsShown groups.old state.old.board }
+    ensures plan { state.new.plan ≡ state.old.plan }
+    ensures answers { Answers (spec.finish_row state.old.plan state.old.board worker number)
+        state.old.board result state.new.board }
+    ensures groups { Goes result groups.old
+        (leg_left groups.old number (leg_at state.old.plan state.old.board number)) groups.new }
+{
+    let Some(leg) = find_leg(state, number) else {
+        return Err(EventFault::NoSuch);
+    };
+    let place = leg.at.place;
+    let to = finishing(alloc, worker, &leg.at)?;
+    let outputs = leg_outputs(alloc, &leg.at)?;
+    let stand = leg_stand(leg.at.leg.state);
+    let next = next_after(groups, stand, &leg.at.leg.group);
+    set_ended(state, place, number, to, outputs)?;
+    leave(groups, Member::Leg(number), stand);
+    pass_on(state, next);
+    Ok(told(next, None, None))
+}
+
+/// Ends a run whose jobs have ended, or that never went.
+pub(crate) fn close(
+    state: &mut Counted,
+    groups: &mut Groups,
+    number: u64,
+) -> Result<Reply, EventFault>
+    requires { KeptAsShown groups.old state.old.board }
+    ensures plan { state.new.plan ≡ state.old.plan }
+    ensures answers { Answers (spec.close_row state.old.plan state.old.board number)
+        state.old.board result state.new.board }
+    ensures groups { Goes result groups.old
+        (run_left groups.old number (run_at state.old.plan state.old.board number)) groups.new }
+{
+    let Some(at) = find_run(state.plan(), state.board(), number as usize) else {
+        return Err(EventFault::NoSuch);
+    };
+    let how = match at.run.state {
+        RunState::New | RunState::Waiting => {
+            if !at.run.stop {
+                return Err(EventFault::NotStopping);
+            }
+            Outcome::Cancelled
+        },
+        RunState::Going => {
+            if !state.have_jobs_ended(number as usize) {
+                return Err(EventFault::NeedsOpen);
+            }
+            run_result(at.run)
+        },
+        RunState::Closed(_) => return Err(EventFault::WrongState),
+    };
+    let stand = run_stand(at.run.state);
+    let next = next_after(groups, stand, &at.run.group);
+    close_run(state, number, how);
+    leave(groups, Member::Run(number), stand);
+    pass_on(state, next);
+    Ok(told(next, None, None))
+}
+
+/// Tells a run to stop.
+pub(crate) fn cancel(state: &mut Counted, number: u64) -> Result<Reply, EventFault>
+    ensures plan { state.new.plan ≡ state.old.plan }
+    ensures answers { Answers (spec.cancel_row state.old.plan state.old.board number)
+        state.old.board result state.new.board }
+{
+    let Some(at) = find_run(state.plan(), state.board(), number as usize) else {
+        return Err(EventFault::NoSuch);
+    };
+    if is_closed(at.run.state) || at.run.stop {
+        return Err(EventFault::WrongState);
+    }
+    stop_run(state, number);
+    Ok(moved())
+}

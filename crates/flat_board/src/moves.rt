@@ -1,0 +1,131 @@
+//! What a clerk may do: those of its events that the table accepts, by the counters.
+
+ghost use Rattle.std.specs.Prelude.{◌≡◌, ◌++◌, IfOk, filter};
+ghost use Rattle.flow_model.specs.declared.event.Event.TheVariants as event;
+ghost use Rattle.status_table.specs.InPlay.{InPlay};
+ghost use Rattle.status_table.specs.Kinds as spec;
+ghost use Rattle.status_table.specs.Moves as rule;
+
+use crate::counted::Counted;
+use crate::found::{find_leg, is_full, is_stopping};
+use board_decisions::place::{find_job, find_run};
+use flow_model::{Event, JobState, RunState};
+use status_table::events::{may_ask, may_drop};
+use status_table::moves::{Kind, count_jobs, count_legs, event_of, opens};
+use std::alloc::{AllocError, Global};
+
+/// Whether a run may be closed.
+fn closes(state: &Counted, number: u64) -> bool
+    ensures { result ≡ rule.accepts state.now.plan state.now.board (event.Close number) }
+{
+    let Some(at) = find_run(state.plan(), state.board(), number as usize) else {
+        return false;
+    };
+    match at.run.state {
+        RunState::New => at.run.stop,
+        RunState::Waiting => at.run.stop,
+        RunState::Going => state.have_jobs_ended(number as usize),
+        RunState::Closed(_) => false,
+    }
+}
+
+/// Whether a job may be judged.
+fn judges(state: &Counted, number: u64) -> bool
+    requires { InPlay state.now.plan state.now.board }
+    ensures { result ≡ rule.accepts state.now.plan state.now.board (event.Judge number) }
+{
+    let Some(at) = find_job(state.plan(), state.board(), number as usize) else {
+        return false;
+    };
+    match (at.run.state, at.job.state) {
+        (RunState::Going, JobState::Unjudged) => state.have_needs_ended(at.place),
+        (RunState::Going, JobState::Open) => false,
+        (RunState::Going, JobState::Shut(_)) => false,
+        (RunState::New, _) => false,
+        (RunState::Waiting, _) => false,
+        (RunState::Closed(_), _) => false,
+    }
+}
+
+/// Whether a leg may be dropped.
+fn drops(alloc: Global, state: &Counted, number: u64) -> Result<bool, AllocError>
+    ensures { IfOk result
+        (λ yes. yes ≡ rule.accepts state.now.plan state.now.board (event.Drop number)) }
+{
+    let Some(leg) = find_leg(state, number) else {
+        return Ok(false);
+    };
+    if !may_drop(&leg.at) {
+        return Ok(false);
+    }
+    is_stopping(alloc, &leg)
+}
+
+/// Whether a leg may ask.
+#[tactic(auto, using(crate::proofs::Accepting::leg_enters_accepted))]
+fn asks(alloc: Global, state: &Counted, number: u64) -> Result<bool, AllocError>
+    ensures { IfOk result
+        (λ yes. yes ≡ rule.accepts state.now.plan state.now.board (event.Ask number)) }
+{
+    let Some(leg) = find_leg(state, number) else {
+        return Ok(false);
+    };
+    if !may_ask(&leg.at) || is_full(&leg) {
+        return Ok(false);
+    }
+    let stops = is_stopping(alloc, &leg)?;
+    Ok(!stops)
+}
+
+/// Whether the table accepts a clerk's event.
+fn accepts(alloc: Global, state: &Counted, kind: Kind, number: u64) -> Result<bool, AllocError>
+    requires { InPlay state.now.plan state.now.board }
+    ensures { IfOk result
+        (λ yes. yes ≡ rule.accepts state.now.plan state.now.board (spec.event_of kind number)) }
+{
+    match kind {
+        Kind::Close => Ok(closes(state, number)),
+        Kind::Open => Ok(opens(state.plan(), state.board(), number)),
+        Kind::Judge => Ok(judges(state, number)),
+        Kind::Drop => drops(alloc, state, number),
+        Kind::Ask => asks(alloc, state, number),
+    }
+}
+
+/// The events of a kind that the table accepts, by ascending number, after others.
+#[tactic(auto, using(crate::proofs::Accepting::one_more, crate::proofs::Accepting::none_more))]
+fn add_moves(
+    alloc: Global,
+    state: &Counted,
+    kind: Kind,
+    count: usize,
+    events: Vec<Event>,
+) -> Result<Vec<Event>, AllocError>
+    requires { InPlay state.now.plan state.now.board }
+    ensures { IfOk result (λ all. all.items ≡ events.items
+        ++ filter (rule.accepts state.now.plan state.now.board) (spec.events_of kind count)) }
+{
+    let mut all = events;
+    for number in 0..count {
+        if accepts(alloc, state, kind, number as u64)? {
+            all.push(event_of(kind, number as u64))?;
+        }
+    }
+    Ok(all)
+}
+
+/// The clerk's events that the table accepts on a board.
+pub(crate) fn find_moves(alloc: Global, state: &Counted) -> Result<Vec<Event>, AllocError>
+    requires { InPlay state.now.plan state.now.board }
+    ensures { IfOk result (λ all. all.items ≡ rule.moves state.now.plan state.now.board) }
+{
+    let _plan = state.plan();
+    let runs = state.board().runs.as_slice();
+    let jobs = count_jobs(runs);
+    let legs = count_legs(runs);
+    let closed = add_moves(alloc, state, Kind::Close, runs.len(), Vec::new(alloc))?;
+    let opened = add_moves(alloc, state, Kind::Open, runs.len(), closed)?;
+    let judged = add_moves(alloc, state, Kind::Judge, jobs, opened)?;
+    let dropped = add_moves(alloc, state, Kind::Drop, legs, judged)?;
+    add_moves(alloc, state, Kind::Ask, legs, dropped)
+}
