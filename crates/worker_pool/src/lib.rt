@@ -1,3 +1,4 @@
+//! worker_pool: plays a plan to its end by one thread, or by a recorded list, and has what several workers do.
 //!
 //! What a player promises rests on the table of `status_table`: its history is a list of entries that the table accepts.
 //! `play_alone` plays by one thread, and `play_entries` replays a list; both ask a host of `step_host` for the answers
