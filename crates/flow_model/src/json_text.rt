@@ -2,7 +2,7 @@
 
 ghost use Rattle.std.specs.Prelude.{◌≡◌, IfOk, option_map};
 ghost use Rattle.serde_json.specs.View.{view};
-ghost use Rattle.plan_text.specs.Load.{json_read};
+ghost use Rattle.flow_model.specs.JsonText.{json_read};
 
 use serde_json::Value;
 use std::alloc::{AllocError, Global};

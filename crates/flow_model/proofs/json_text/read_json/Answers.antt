@@ -1,6 +1,6 @@
 use Rattle.std.proofs.Common.{sym, ◌∙◌, true≢false}
-use Rattle.plan_text.proofs.LoadLemmas.{json_read-some, json_read-none}
-use Rattle.plan_text.proofs.json_text.read_json.Goals as goal
+use Rattle.flow_model.proofs.JsonTexts.{json_read-some, json_read-none}
+use Rattle.flow_model.proofs.json_text.read_json.Goals as goal
 
 pub returns-in-Ok : goal.returns-in-Ok
 returns-in-Ok c = sym (json_read-some c.args.bytes.now _ c.in-Ok.ensures.ok.0 c.in-Ok.ensures.ok.1)
