@@ -30,7 +30,16 @@ abbrev pub leg_at_place : Plan → Board → LegPlace → Option LegAt
 leg_at_place p b place = do
   at ← job_placed p b (record { run = place.run; job = place.job })
   leg ← slice_get at.job.legs place.leg
-  Some (record { board = b; place = place; run_plan = at.run_plan; job_plan = at.plan; run = at.run; job = at.job; leg = leg })
+  Some
+      (record {
+        board = b;
+        place = place;
+        run_plan = at.run_plan;
+        job_plan = at.plan;
+        run = at.run;
+        job = at.job;
+        leg = leg;
+      })
 
 -- the job of a leg, by their places
 abbrev pub job_of : LegPlace → JobPlace
