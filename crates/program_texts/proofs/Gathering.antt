@@ -12,7 +12,7 @@ use Rattle.program_texts.specs.declared.output_fault.OutputFault.TheVariants.{No
 -- ---- blocks
 
 -- the pairs from inside a block on, by the lines that it has and those after it
-abbrev after_block : List ℕ → List (List ℕ) → Option (List (List ℕ) × List (List ℕ)) → Result (List Pair) OutputFault
+abbrev pub after_block : List ℕ → List (List ℕ) → Option (List (List ℕ) × List (List ℕ)) → Result (List Pair) OutputFault
 after_block name passed None = Err OpenBlock
 after_block name passed (Some x) = then_pairs (name, joined (passed ++ x.0)) (pairs_of x.1)
 
@@ -21,7 +21,7 @@ onto_passed : (name : List ℕ) (passed : List (List ℕ)) (line : List ℕ) (o 
 onto_passed name passed line None = refl
 onto_passed name passed line (Some x) = ap (λ ls. then_pairs (name, joined ls) (pairs_of x.1)) (append_assoc passed (line ∷ []) x.0)
 
-inside_is : (name delimiter : List ℕ) (passed lines : List (List ℕ))
+pub inside_is : (name delimiter : List ℕ) (passed lines : List (List ℕ))
     → pairs_inside name delimiter passed lines ≡ after_block name passed (block_lines delimiter lines)
 inside_is name delimiter passed [] = refl
 inside_is name delimiter passed (line ∷ lines) =

@@ -1,5 +1,9 @@
 mod Commanding
+mod Covering
+mod FirstPlaces
 mod Gathering
+mod Heads
+mod Items
 mod LogLines
 mod Replacing
 mod ShownLines

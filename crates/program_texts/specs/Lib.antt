@@ -1,5 +1,6 @@
 pub mod Blocks
 pub mod CommandTexts
+pub mod Laws
 pub mod Logs
 pub mod Mask
 pub mod OutputFaults

@@ -2,7 +2,8 @@
 //!
 //! They are read and made exactly as `specs/` says: the words of a shell (`shell_words`), what a file of outputs gives
 //! (`read_output_file`), the commands in what a step prints (`read_commands`), what is shown of it (`shown`) and which masks
-//! it adds (`added_masks`), masked texts (`mask`), and what is shown of logs, one after the other (`logs_text`).
+//! it adds (`added_masks`), masked texts (`mask`), and what is shown of logs, one after the other (`logs_text`). What these
+//! definitions mean as grammars is said in `laws`.
 //!
 //! The crate knows no board and no table. It stands on `flow_model` for texts and for which outputs an answer may have, on
 //! `expr_reader`, which folds texts, and on `thiserror` for its error.
@@ -11,6 +12,7 @@
 
 pub mod command_lines;
 mod escapes;
+pub mod laws;
 pub mod line;
 pub mod logs;
 pub mod masks;
