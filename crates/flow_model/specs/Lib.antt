@@ -5,6 +5,7 @@ pub mod Flow
 pub mod Found
 pub mod Json
 pub mod Laws
+pub mod Lines
 pub mod Mapping
 pub mod Name
 pub mod Numbers

@@ -4,7 +4,7 @@ use Rattle.std.specs.Str.{bytes_eq, is_utf8, IsUtf8}
 use Rattle.std.proofs.lemmas.Str.{is_utf8-from_IsUtf8, IsUtf8-from_is_utf8}
 use Rattle.flow_model.specs.Mapping.{with_pair}
 use Rattle.program_texts.specs.Outputs.{Pair, block, head_of, preceded, joined, then_pairs, headed, pairs_of, pairs_inside, then_with, limited, outputs, Refuses, Gives}
-use Rattle.program_texts.specs.Splits.{lines_of}
+use Rattle.flow_model.specs.Lines.{lines_of}
 use Rattle.program_texts.specs.Blocks.{onto_lines, block_lines, added, value_from, block_value, Opens}
 use Rattle.program_texts.specs.declared.output_fault.OutputFault.{OutputFault}
 use Rattle.program_texts.specs.declared.output_fault.OutputFault.TheVariants.{NotUtf8, NoName, OpenBlock, TooMany, Memory}

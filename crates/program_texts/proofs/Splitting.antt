@@ -7,7 +7,8 @@ use Rattle.std.specs.Option.{option_map, MatchOption}
 use Rattle.std.specs.Borrow.{Bor}
 use Rattle.std.specs.List.{starts_with}
 use Rattle.std.specs.Str.Pattern.{FindsText, LacksTextAt, SplitsAroundMatch}
-use Rattle.program_texts.specs.Splits.{split_first, onto_front, onto_first, lines_of, fields_of}
+use Rattle.flow_model.specs.Lines.{onto_first, lines_of}
+use Rattle.program_texts.specs.Splits.{split_first, onto_front, fields_of}
 
 lacks_front : (mark text : List ℕ) → LacksTextAt mark text 0 → (t : Bool) → starts_with nat_eq text mark ≡ t → t ≡ false
 lacks_front mark text lacks true is = absurd (lacks (drop (length mark) text) ((starts_is Decides-eqb text mark (starts_with nat_eq text mark) refl).0 is))

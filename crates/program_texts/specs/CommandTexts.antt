@@ -4,7 +4,8 @@ use Rattle.std.specs.List.{starts_with}
 use Rattle.std.specs.Str.{bytes_eq}
 use Rattle.expr_reader.specs.Fold.{fold}
 use Rattle.program_texts.specs.Replace.{replaced}
-use Rattle.program_texts.specs.Splits.{split_first, after_front, from_text, fields_of, lines_of}
+use Rattle.flow_model.specs.Lines.{lines_of}
+use Rattle.program_texts.specs.Splits.{split_first, after_front, from_text, fields_of}
 use Rattle.program_texts.specs.declared.escapes.Escapes.{Escapes}
 use Rattle.program_texts.specs.declared.escapes.Escapes.TheVariants.{Message, Value}
 use Rattle.program_texts.specs.declared.line.Line.{Line}

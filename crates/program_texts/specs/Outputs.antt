@@ -5,7 +5,8 @@ use Rattle.flow_model.specs.Answer.{is_well_formed}
 use Rattle.flow_model.specs.declared.event.Answer.TheVariants.{Exit}
 use Rattle.flow_model.specs.Mapping.{with_pair}
 use Rattle.flow_model.specs.Name.{are_name_bytes}
-use Rattle.program_texts.specs.Splits.{newline, split_first, lines_of}
+use Rattle.flow_model.specs.Lines.{newline, lines_of}
+use Rattle.program_texts.specs.Splits.{split_first}
 use Rattle.program_texts.specs.declared.output_fault.OutputFault.{OutputFault}
 use Rattle.program_texts.specs.declared.output_fault.OutputFault.TheVariants.{NotUtf8, NoName, OpenBlock, TooMany, Memory}
 

@@ -4,7 +4,7 @@ ghost use Rattle.std.specs.Prelude.{◌≡◌, ◌<◌, ◌≤◌, ◌++◌, IfO
 ghost use Rattle.std.specs.Option.{option_map};
 ghost use Rattle.program_texts.specs.Outputs.{Gives, Refuses, are_within, head_of, is_name as is_name_of, limited as limited_of, named_block as named_block_of, named_pair as named_pair_of, outputs, pairs_of, then_with};
 ghost use Rattle.program_texts.specs.Blocks.{Opens, added, block_value, head_seen};
-ghost use Rattle.program_texts.specs.Splits.{lines_of};
+ghost use Rattle.flow_model.specs.Lines.{lines_of};
 ghost use Rattle.flow_model.specs.Name as name_spec;
 
 use crate::output_fault::OutputFault;

@@ -3,7 +3,8 @@
 ghost use Rattle.std.specs.Prelude.{◌≡◌, ◌<◌, ◌∷◌, ◌++◌, length};
 ghost use Rattle.std.specs.List.{prefix_len};
 ghost use Rattle.std.specs.Option.{option_map};
-ghost use Rattle.program_texts.specs.Splits.{after_front as after_front_of, from_text as from_text_of, is_blank as is_blank_of, lines_of, split_first as split_first_of};
+ghost use Rattle.flow_model.specs.Lines.{lines_of};
+ghost use Rattle.program_texts.specs.Splits.{after_front as after_front_of, from_text as from_text_of, is_blank as is_blank_of, split_first as split_first_of};
 
 /// What stands before the first place of a mark in a text, and what follows the mark there.
 pub(crate) fn split_first<'t>(text: &'t str, mark: &str) -> Option<(&'t str, &'t str)>

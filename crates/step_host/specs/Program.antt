@@ -19,7 +19,7 @@ use Rattle.flow_model.specs.declared.reply.StepCall.{StepCall}
 use Rattle.program_texts.specs.Outputs.{Pair, outputs, with_pairs}
 use Rattle.program_texts.specs.Replace.{replaced}
 use Rattle.program_texts.specs.Shell.{words}
-use Rattle.program_texts.specs.Splits.{newline}
+use Rattle.flow_model.specs.Lines.{newline}
 use Rattle.program_texts.specs.declared.output_fault.OutputFault.{OutputFault}
 use Rattle.step_host.specs.declared.launch.Launch.{Launch}
 

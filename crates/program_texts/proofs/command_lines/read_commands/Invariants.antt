@@ -2,7 +2,7 @@
 use Rattle.std.proofs.Common.{◌≡◌, ◌++◌, length}
 use denote.Shadow.{shadow}
 use denote.Text.{Utf8}
-use Rattle.program_texts.specs.Splits.{lines_of}
+use Rattle.flow_model.specs.Lines.{lines_of}
 use Rattle.program_texts.specs.CommandTexts.{read_from, commands}
 use Rattle.program_texts.proofs.command_lines.read_commands.Given as goal
 

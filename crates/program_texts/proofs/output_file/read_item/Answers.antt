@@ -1,6 +1,6 @@
 -- A line that begins a block is read with it.
 use Rattle.std.proofs.lemmas.Result.{err_from_is_err_and}
-use Rattle.program_texts.specs.Splits.{lines_of}
+use Rattle.flow_model.specs.Lines.{lines_of}
 use Rattle.program_texts.proofs.Gathering.{block_refused, block_set}
 use Rattle.program_texts.proofs.output_file.read_item.Goals as goal
 

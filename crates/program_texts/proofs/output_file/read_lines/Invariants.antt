@@ -2,7 +2,7 @@
 use Rattle.std.proofs.Common.{◌≡◌, [], length}
 use denote.Shadow.{shadow}
 use denote.Text.{Utf8}
-use Rattle.program_texts.specs.Splits.{lines_of}
+use Rattle.flow_model.specs.Lines.{lines_of}
 use Rattle.program_texts.specs.Outputs.{pairs_of, then_with}
 use Rattle.program_texts.proofs.output_file.read_lines.Given as goal
 

@@ -1,7 +1,7 @@
 -- The bytes are text, and its lines are read.
 use Rattle.std.proofs.Common.{[], sym, ap, subst, ◌∙◌}
 use Rattle.std.proofs.lemmas.Result.{err_from_is_err_and}
-use Rattle.program_texts.specs.Splits.{lines_of}
+use Rattle.flow_model.specs.Lines.{lines_of}
 use Rattle.program_texts.specs.Outputs.{pairs_of, then_with, Refuses}
 use Rattle.program_texts.proofs.Gathering.{not_utf8, lines_refused, lines_given}
 use Rattle.program_texts.proofs.output_file.read_output_file.Goals as goal
