@@ -6,6 +6,7 @@ use Rattle.std.proofs.lemmas.Slice.Eq.{starts_is}
 use Rattle.std.specs.List.{starts_with, Contains}
 use Rattle.program_texts.specs.Laws.{Stands, StandsLongest, Covers, end, as_it_is, covered, OneCovering}
 use Rattle.program_texts.specs.Mask.{standing, longest, stars, masking, masked}
+use Rattle.program_texts.proofs.Members.{later, first_or_later}
 use Rattle.program_texts.proofs.Replacing.{replaced_here, replaced_past}
 
 -- ---- how long a mask stands
@@ -29,14 +30,6 @@ begins_it mask text h = by_test (starts_with nat_eq text mask) refl h
 
 -- ---- the longest mask
 
--- what one of more masks is
-first_or_later : (mask other : List ℕ) (masks : List (List ℕ)) → Contains (mask ∷ masks) other → (other ≡ mask) ⊎ Contains masks other
-first_or_later mask other masks (zero, within, at) = inl (sym at)
-first_or_later mask other masks (suc k, within, at) = inr (k, omega arith, at)
-
-later : (mask other : List ℕ) (masks : List (List ℕ)) → Contains masks other → Contains (mask ∷ masks) other
-later mask other masks there = (suc there.0, omega (arith, there.1), there.2)
-
 -- no mask that stands is longer than the longest
 above : (masks : List (List ℕ)) (mask text : List ℕ) → Stands masks mask text → length mask ≤ longest masks text
 above masks mask text h = go masks h.listed
@@ -48,8 +41,8 @@ above masks mask text h = go masks h.listed
     go [] there = absurd (omega (arith, there.1))
     go (m ∷ ms) there = by (first_or_later m mask ms there) (go ms)
       where
-        by : (mask ≡ m) ⊎ Contains ms mask → (Contains ms mask → length mask ≤ longest ms text) → length mask ≤ max (standing m text) (longest ms text)
-        by (inl same) more = let here : standing m text ≡ length mask = ap (λ (x : List ℕ). standing x text) (sym same) ∙ stands in omega (arith, here)
+        by : (m ≡ mask) ⊎ Contains ms mask → (Contains ms mask → length mask ≤ longest ms text) → length mask ≤ max (standing m text) (longest ms text)
+        by (inl same) more = let here : standing m text ≡ length mask = ap (λ (x : List ℕ). standing x text) same ∙ stands in omega (arith, here)
         by (inr there) more = omega (arith, more there)
 
 -- it is the length of one that stands

@@ -8,10 +8,12 @@ use Rattle.program_texts.specs.Laws.{Lacks, IsCutFirst}
 use Rattle.program_texts.specs.Splits.{split_first, onto_front}
 use Rattle.program_texts.proofs.Standing.{front_parts}
 
-later_same : (b c : ℕ) (text other : List ℕ) → b ∷ text ≡ c ∷ other → text ≡ other
+-- texts that begin alike go on alike
+pub later_same : (b c : ℕ) (text other : List ℕ) → b ∷ text ≡ c ∷ other → text ≡ other
 later_same b c text other h = cc
 
-begins : (text front rest : List ℕ) → text ≡ front ++ rest → starts_with nat_eq text front ≡ true
+-- a text that is a front and a rest begins with the front
+pub begins : (text front rest : List ℕ) → text ≡ front ++ rest → starts_with nat_eq text front ≡ true
 begins text front rest h = (starts_is Decides-eqb text front (starts_with nat_eq text front) refl).1 rest h
 
 -- a text that is split is cut at the first place of the mark

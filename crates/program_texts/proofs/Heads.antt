@@ -1,28 +1,25 @@
 -- What a line of a file of outputs is, by how it is spelled.
 use Rattle.std.proofs.Common.{◌≡◌, ℕ, ◌<◌, ◌≤◌, Bool, true, false, cond, ◌&&◌, nat_le, Option, Some, None, is_some, List, [], ◌∷◌, ◌++◌, length, codes, refl, sym, ap, subst, ◌∙◌, arith, length-append, append-nil}
 use Rattle.std.proofs.lemmas.Bool.Decides.{nat_tests}
+use Rattle.flow_model.proofs.Tests.{both}
 use Rattle.flow_model.specs.Name.{is_name_byte, are_name_bytes}
 use Rattle.program_texts.specs.Laws.{IsCutFirst, IsPairLine, IsBlockLine, IsNoLine}
 use Rattle.program_texts.specs.Outputs.{Pair, Head, blank, pair, block, is_name, named_pair, named_block, at_arrows, at_equals, head_of}
 use Rattle.program_texts.specs.Splits.{split_first}
-use Rattle.program_texts.proofs.FirstPlaces.{split_cuts, unsplit_lacks, lacks_unsplit, cut_splits}
-
-both : (s t : Bool) → (s && t) ≡ true → (s ≡ true) × (t ≡ true)
-both true true h = (refl, refl)
-both true false h = cc
-both false t h = cc
+use Rattle.program_texts.proofs.FirstPlaces.{later_same, split_cuts, unsplit_lacks, lacks_unsplit, cut_splits}
 
 first_same : (b c : ℕ) (text other : List ℕ) → b ∷ text ≡ c ∷ other → b ≡ c
 first_same b c text other h = cc
-
-later_same : (b c : ℕ) (text other : List ℕ) → b ∷ text ≡ c ∷ other → text ≡ other
-later_same b c text other h = cc
 
 bytes_of : (name : List ℕ) → is_name name ≡ true → are_name_bytes name ≡ true
 bytes_of name h = (both (nat_le 1 (length name)) (are_name_bytes name) h).1
 
 some_of : (name : List ℕ) → is_name name ≡ true → 0 < length name
 some_of name h = let some = (both (nat_le 1 (length name)) (are_name_bytes name) h).0 in grind (arith, nat_tests, some)
+
+-- one at least
+pub at_least : (n : ℕ) → 0 < n → nat_le 1 n ≡ true
+at_least n some = grind (arith, nat_tests)
 
 -- ---- where a name ends
 
@@ -99,9 +96,6 @@ block_is_head line name delimiter h =
   where
     named : are_name_bytes name ≡ true
     named = bytes_of name h.named
-
-    at_least : (n : ℕ) → 0 < n → nat_le 1 n ≡ true
-    at_least n some = grind (arith, nat_tests)
 
     passes : (is_name name && nat_le 1 (length delimiter)) ≡ true
     passes = ap (λ (t : Bool). t && nat_le 1 (length delimiter)) h.named ∙ at_least (length delimiter) h.some

@@ -1,5 +1,5 @@
 -- Lines of a file of outputs, and the items that they give.
-use Rattle.std.proofs.Common.{◌≡◌, ℕ, zero, suc, ◌≤◌, Bool, true, false, cond, Option, Some, None, Result, Ok, Err, List, [], ◌∷◌, ◌++◌, length, refl, sym, ap, subst, ◌∙◌, arith, length-append, append_assoc, append-nil}
+use Rattle.std.proofs.Common.{◌≡◌, ⊎_elim, ℕ, zero, suc, ◌≤◌, Bool, true, false, cond, Option, Some, None, Result, Ok, Err, List, [], ◌∷◌, ◌++◌, length, refl, sym, ap, subst, ◌∙◌, arith, length-append, append_assoc, append-nil}
 use Rattle.std.proofs.lemmas.Slice.Eq.{bytes_eq-Decides}
 use Rattle.std.specs.List.{Contains}
 use Rattle.std.specs.Str.{bytes_eq}
@@ -9,12 +9,10 @@ use Rattle.program_texts.specs.Outputs.{Pair, Head, blank, pair, block, head_of,
 use Rattle.program_texts.specs.declared.output_fault.OutputFault.{OutputFault}
 use Rattle.program_texts.specs.declared.output_fault.OutputFault.TheVariants.{NotUtf8, NoName, OpenBlock, TooMany, Memory}
 use Rattle.program_texts.proofs.Gathering.{after_block, inside_is}
+use Rattle.program_texts.proofs.Members.{later, first_or_later}
 use Rattle.program_texts.proofs.Heads.{pair_is_head, block_is_head, head_is_blank, head_is_pair, head_is_block, head_is_none, none_is_head}
 
 -- ---- where a block ends
-
-later : (delimiter line : List ℕ) (lines : List (List ℕ)) → Contains lines delimiter → Contains (line ∷ lines) delimiter
-later delimiter line lines there = (suc there.0, omega (arith, there.1), there.2)
 
 -- the lines of a block and those after it
 block_ends : (delimiter : List ℕ) (inner lines : List (List ℕ)) → (Contains inner delimiter → ⊥)
@@ -23,7 +21,7 @@ block_ends delimiter [] lines lacks =
     ap (λ (t : Bool). cond t (Some ([], lines)) (onto_lines delimiter (block_lines delimiter lines))) ((bytes_eq-Decides delimiter delimiter).1 refl)
 block_ends delimiter (line ∷ inner) lines lacks =
     by_test (bytes_eq line delimiter) refl
-    ∙ ap (onto_lines line) (block_ends delimiter inner lines (λ there. lacks (later delimiter line inner there)))
+    ∙ ap (onto_lines line) (block_ends delimiter inner lines (λ there. lacks (later line delimiter inner there)))
   where
     by_test : (t : Bool) → bytes_eq line delimiter ≡ t
         → cond t (Some ([], inner ++ delimiter ∷ lines)) (onto_lines line (block_lines delimiter (inner ++ delimiter ∷ lines)))
@@ -36,19 +34,17 @@ abbrev Ended : List ℕ → List (List ℕ) → Option (List (List ℕ) × List 
 Ended delimiter all None = Contains all delimiter → ⊥
 Ended delimiter all (Some x) = (Contains x.0 delimiter → ⊥) × (all ≡ x.0 ++ delimiter ∷ x.1)
 
-first_or_later : (delimiter line : List ℕ) (lines : List (List ℕ)) → (line ≡ delimiter → ⊥) → (Contains lines delimiter → ⊥)
-    → Contains (line ∷ lines) delimiter → ⊥
-first_or_later delimiter line lines other lacks (zero, within, at) = other at
-first_or_later delimiter line lines other lacks (suc k, within, at) = lacks (k, omega (arith, within), at)
+no_later : (delimiter line : List ℕ) (lines : List (List ℕ)) → (line ≡ delimiter → ⊥) → (Contains lines delimiter → ⊥) → Contains (line ∷ lines) delimiter → ⊥
+no_later delimiter line lines other lacks there = ⊎_elim other lacks (first_or_later line delimiter lines there)
 
 block_is : (delimiter : List ℕ) (all : List (List ℕ)) → Ended delimiter all (block_lines delimiter all)
 block_is delimiter [] = λ there. omega (arith, there.1)
 block_is delimiter (line ∷ lines) = by_test (bytes_eq line delimiter) refl (block_is delimiter lines)
   where
     onto : (line ≡ delimiter → ⊥) → (o : Option (List (List ℕ) × List (List ℕ))) → Ended delimiter lines o → Ended delimiter (line ∷ lines) (onto_lines line o)
-    onto other None lacks = first_or_later delimiter line lines other lacks
+    onto other None lacks = no_later delimiter line lines other lacks
     onto other (Some x) ended =
-        (first_or_later delimiter line x.0 other ended.0, ap (λ (ls : List (List ℕ)). line ∷ ls) ended.1)
+        (no_later delimiter line x.0 other ended.0, ap (λ (ls : List (List ℕ)). line ∷ ls) ended.1)
 
     by_test : (t : Bool) → bytes_eq line delimiter ≡ t → Ended delimiter lines (block_lines delimiter lines)
         → Ended delimiter (line ∷ lines) (cond t (Some ([], lines)) (onto_lines line (block_lines delimiter lines)))
@@ -211,7 +207,7 @@ open_refused lines h =
       where
         at_end : (inner rest : List (List ℕ)) → Contains (inner ++ h.delimiter ∷ rest) h.delimiter
         at_end [] rest = (zero, omega arith, refl)
-        at_end (l ∷ inner) rest = later h.delimiter l (inner ++ h.delimiter ∷ rest) (at_end inner rest)
+        at_end (l ∷ inner) rest = later l h.delimiter (inner ++ h.delimiter ∷ rest) (at_end inner rest)
 
 pub one_reading : OneReading
 one_reading lines = (
