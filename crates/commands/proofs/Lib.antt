@@ -5,7 +5,6 @@ pub mod Expressions
 pub mod Flows
 pub mod Known
 pub mod Lines
-pub mod LogLines
 pub mod Numerals
 pub mod OneAnswer
 pub mod OneRequest

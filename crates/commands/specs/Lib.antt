@@ -3,7 +3,6 @@ pub mod Debug
 pub mod Eval
 pub mod Files
 pub mod List
-pub mod Logs
 pub mod Plan
 pub mod Planning
 pub mod Play

@@ -13,13 +13,13 @@ use Rattle.flow_model.specs.declared.plan.Plan.{Plan}
 use Rattle.flow_model.specs.declared.plan.RunPlan.{RunPlan}
 use Rattle.plan_text.specs.BoardText.{outcome_word}
 use Rattle.plan_text.specs.Load.{load}
+use Rattle.program_texts.specs.Logs.{Log, logs_text}
 use Rattle.status_table.specs.Runs.{after}
 use Rattle.step_host.specs.Replay.{recorded}
 use Rattle.step_host.specs.Script.{Line}
 use Rattle.worker_pool.specs.History.{AreOf, NoCancel}
 use Rattle.worker_pool.specs.declared.fault.PoolFault.{PoolFault}
 use Rattle.worker_pool.specs.declared.fault.PoolFault.TheVariants as pool
-use Rattle.commands.specs.Logs.{Log, logs_text}
 use Rattle.commands.specs.Replay.{runs_status}
 use Rattle.commands.specs.Stream.{Stream, IsKept, IsRead, IsWritten, Puts}
 use Rattle.commands.specs.Tell.{BreaksOff, Says, TellsTrouble}

@@ -7,7 +7,7 @@
 //! none; each answers an exit status always. The crate stands on `plan_text`, which reads records and prints boards and
 //! plans, on `status_table`, which plays records, on `expr_reader` and `expr_value`, which read expressions and evaluate
 //! them, on `flow_reader` and `plan_assembler`, which read workflows and plan them, on `step_host` and `worker_pool`, which
-//! play plans, and on `debugger`, which goes through records.
+//! play plans, on `program_texts`, which shows what programs printed, and on `debugger`, which goes through records.
 
 #![tactic(auto)]
 
@@ -16,7 +16,6 @@ pub mod debug;
 pub mod eval;
 pub mod files;
 pub mod list;
-mod logs;
 pub mod plan;
 mod planning;
 mod play;

@@ -6,6 +6,7 @@ pub mod Found
 pub mod Json
 pub mod JsonText
 pub mod Laws
+pub mod Lines
 pub mod Mapping
 pub mod Name
 pub mod Numbers

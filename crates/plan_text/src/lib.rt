@@ -30,4 +30,4 @@ pub use board::board_text;
 pub use entry::{print_entry, read_entry};
 pub use fault::LoadFault;
 pub use plan::{load_plan, print_plan};
-pub use record::{first_line, load_record, print_record};
+pub use record::{load_record, print_record};
