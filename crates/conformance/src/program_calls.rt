@@ -15,7 +15,7 @@
 use crate::host_calls::script_of;
 use crate::sweep::Sweep;
 use crate::verbs::word;
-use commands::run::Machine;
+use run_command::run::Machine;
 use flow_model::{Answer, CallWork, Entry, Event, Mapping, Sequence, Shell, StepCall, Text};
 use plan_text::print_entry;
 use std::alloc::{AllocError, Global};
