@@ -18,11 +18,10 @@ use crate::verbs::word;
 use run_command::run::Machine;
 use flow_model::{Answer, CallWork, Entry, Event, Mapping, Sequence, Shell, StepCall, Text};
 use plan_text::print_entry;
+use program_texts::{Line, mask, read_commands, read_output_file, shell_words, shown};
 use std::alloc::{AllocError, Global};
 use std::str;
-use step_host::{
-    HostFault, Line, Masked, StepHost, mask, read_commands, read_output_file, shell_words, shown,
-};
+use step_host::{HostFault, Masked, StepHost};
 
 /// What a verb of texts tells, if it is one.
 pub fn told(

@@ -1,2 +1,1 @@
-pub mod LogLines
 pub mod Played

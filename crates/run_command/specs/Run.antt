@@ -13,13 +13,13 @@ use Rattle.flow_model.specs.declared.plan.Plan.{Plan}
 use Rattle.flow_model.specs.declared.plan.RunPlan.{RunPlan}
 use Rattle.plan_text.specs.BoardText.{outcome_word}
 use Rattle.plan_text.specs.Load.{load}
+use Rattle.program_texts.specs.Logs.{Log, logs_text}
 use Rattle.status_table.specs.Runs.{after}
 use Rattle.step_host.specs.Replay.{recorded}
 use Rattle.step_host.specs.Script.{Line}
 use Rattle.worker_pool.specs.History.{AreOf, NoCancel}
 use Rattle.worker_pool.specs.declared.fault.PoolFault.{PoolFault}
 use Rattle.worker_pool.specs.declared.fault.PoolFault.TheVariants as pool
-use Rattle.run_command.specs.Logs.{Log, logs_text}
 use Rattle.command_io.specs.Runs.{runs_status}
 use Rattle.command_io.specs.Stop.{SaysStop}
 use Rattle.command_io.specs.Stream.{Stream, IsKept, IsRead, IsWritten, Puts}

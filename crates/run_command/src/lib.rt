@@ -3,11 +3,10 @@
 //! `run` writes what the steps of a plan printed, as it is shown, and how the runs ended, or one line that says why there is
 //! nothing to tell or why the play stopped; it answers an exit status always. Its contract says what is told of some
 //! history that the table accepts. The crate stands on `command_io`, which reads, tells and refuses, on `plan_text`, which
-//! reads plans and prints records, on `step_host`, which starts programs, on `worker_pool`, which plays plans, and on
-//! `status_table`, whose board says how the runs ended.
+//! reads plans and prints records, on `step_host`, which starts programs, on `program_texts`, which shows what they printed,
+//! on `worker_pool`, which plays plans, and on `status_table`, whose board says how the runs ended.
 
 #![tactic(auto)]
 
-mod logs;
 pub mod run;
 mod stubs;

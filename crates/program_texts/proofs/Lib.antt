@@ -1,0 +1,7 @@
+mod Commanding
+mod Gathering
+mod LogLines
+mod Replacing
+mod ShownLines
+mod Splitting
+mod Standing
