@@ -3,8 +3,9 @@
 #![tactic(auto)]
 
 use command_io::stream::{Input, Output};
-use command_words::words::{Folder, run_line};
-use run_command::run::Machine;
+use command_words::folder::Folder;
+use command_words::words::run_line;
+use run_command::machine::Machine;
 use std::fs::File;
 use std::process::ExitCode;
 use std::{env, io};

@@ -1,7 +1,9 @@
 -- Files as the words name them: what their sources show, and what is read of them.
-use Rattle.std.specs.Prelude.{◌≡◌, ℕ, ◌⊎◌, codes, List, [], ◌∷◌, ◌++◌, Result, Ok, Err}
+use Rattle.std.specs.Prelude.{◌≡◌, ℕ, false, ◌⊎◌, codes, List, [], ◌∷◌, ◌++◌, Some, Result, Ok, Err}
 use Rattle.command_io.specs.Stream.{Stream, IsRead}
 use Rattle.command_io.specs.declared.files.NamedSource.{NamedSource}
+use Rattle.command_io.specs.declared.files.OptionalFile.{OptionalFile}
+use Rattle.command_io.specs.declared.files.OptionalFile.TheVariants.{Named, Absent}
 use Rattle.command_io.specs.declared.stream.SourceFault.{SourceFault}
 
 -- A file's name, and what its source shows.
@@ -18,9 +20,17 @@ pub record Content : Type 0 where
   pub name : List ℕ
   pub bytes : List ℕ
 
--- What is handed over where no file of contexts is named: an empty object.
+-- What is read where no file is named: an empty JSON object, and of it as of a file.
+abbrev pub no_file : List ℕ
+no_file = codes "{}"
+
 abbrev pub no_contexts : Content
-no_contexts = record { name = []; bytes = codes "{}" }
+no_contexts = record { name = []; bytes = no_file }
+
+-- What a file shows that words may name.
+abbrev pub optional_seen : {S : Type 0} → (S → Stream) → OptionalFile S → Stream
+optional_seen seen (Named file) = seen file
+optional_seen seen Absent = record { bytes = Some no_file; failed = false }
 
 -- A file was read to its end.
 pub record IsContent (old new : File) (content : Content) : Type 0 where

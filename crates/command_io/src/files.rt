@@ -15,6 +15,32 @@ pub struct NamedSource<S> {
     pub source: S,
 }
 
+/// What is read where no file is named: an empty JSON object.
+const NO_FILE: &[u8] = b"{}";
+
+/// A file that words may name.
+#[derive(Drop)]
+pub enum OptionalFile<S> {
+    /// The file that is named.
+    Named(S),
+    /// None is named, which is as a file of an empty JSON object.
+    Absent,
+}
+
+impl<S: Source> Source for OptionalFile<S> {
+    ghost seen = { spec.optional_seen S.seen };
+
+    fn read_all(&mut self, alloc: Global) -> Result<Vec<u8>, SourceFault> {
+        match self {
+            OptionalFile::Named(file) => file.read_all(alloc),
+            OptionalFile::Absent => match Vec::from_slice(alloc, NO_FILE) {
+                Ok(bytes) => Ok(bytes),
+                Err(_) => Err(SourceFault::Memory),
+            },
+        }
+    }
+}
+
 /// The name of a file, and its bytes.
 #[derive(Drop)]
 pub struct Content {
@@ -52,16 +78,19 @@ impl Content {
     }
 }
 
-/// What is handed over where no file of contexts is named: an empty object.
+/// What is read of contexts where no file of them is named.
 pub fn no_contexts(alloc: Global) -> Result<Content, AllocError>
     ensures { IfOk result (λ contexts. contexts ≡ spec.no_contexts) }
 {
-    let bytes = Vec::from_slice(alloc, b"{}")?;
+    let bytes = Vec::from_slice(alloc, NO_FILE)?;
     Ok(Content::new(Text::new(String::new(alloc)), bytes))
 }
 
 /// Reads a file to its end.
-fn read_file<S: Source>(alloc: Global, file: &mut NamedSource<S>) -> Result<Content, SourceFault>
+pub fn read_file<S: Source>(
+    alloc: Global,
+    file: &mut NamedSource<S>,
+) -> Result<Content, SourceFault>
     ensures { spec.ReadsFile (spec.file_seen S.seen file.old)
         (spec.file_seen S.seen file.new) result }
 {

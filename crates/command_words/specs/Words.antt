@@ -1,9 +1,8 @@
 -- What the program leaves, whatever its words ask for.
-use Rattle.std.specs.Prelude.{◌≡◌, ℕ, ◌⊎◌, List, Option, Some, None, Result, Ok, Err}
+use Rattle.std.specs.Prelude.{◌≡◌, ℕ, ◌⊎◌, List}
 use Rattle.std.specs.declared.io.ErrorKind.{ErrorKind}
 use Rattle.std.specs.declared.io.ErrorKind.TheVariants.{InvalidData, OutOfMemory}
 use Rattle.plan_assembler.specs.declared.choice.Choice.{Choice}
-use Rattle.plan_assembler.specs.declared.choice.Choice.TheVariants.{Event, Job, All}
 use Rattle.debug_session.specs.Debug.{DebugTells}
 use Rattle.commands.specs.Eval.{EvalTells}
 use Rattle.command_io.specs.Files.{File}
@@ -59,19 +58,6 @@ RunTells input input' out out' err err' status =
     ⊎ (RunsList out out' err err' status
     ⊎ (RunsReplay out out' err err' status
     ⊎ (RunsRun out out' err err' status ⊎ RunsDebug input input' out out' err err' status)))))
-
--- That is found; want of memory may be answered besides.
-abbrev pub FindsIt : {A : Type 0} → A → Result A Trouble → Type 0
-FindsIt it (Ok found) = found ≡ it
-FindsIt it (Err trouble) = trouble ≡ Memory
-
--- The choice that the words of two options make: the workflows of an event, those with a job, or all. Both at once are
--- refused.
-abbrev pub Chooses : Option (List ℕ) → Option (List ℕ) → Result Choice Trouble → Type 0
-Chooses None None result = result ≡ Ok All
-Chooses (Some event) None result = FindsIt (Event event) result
-Chooses None (Some job) result = FindsIt (Job job) result
-Chooses (Some event) (Some job) result = result ≡ Err Words
 
 -- A command line that cannot be had is told by its kind: one that is no UTF-8 asks for no command.
 pub record TellsLine (kind : ErrorKind) (out out' err err' : Stream) (status : ℕ) : Type 0 where

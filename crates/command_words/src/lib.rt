@@ -6,4 +6,8 @@
 
 #![tactic(auto)]
 
+mod asked;
+mod choice;
+pub mod folder;
+mod known;
 pub mod words;

@@ -15,7 +15,7 @@
 use crate::host_calls::script_of;
 use crate::sweep::Sweep;
 use crate::verbs::word;
-use run_command::run::Machine;
+use run_command::machine::Machine;
 use flow_model::{Answer, CallWork, Entry, Event, Mapping, Sequence, Shell, StepCall, Text};
 use plan_text::print_entry;
 use program_texts::{Line, mask, read_commands, read_output_file, shell_words, shown};

@@ -10,7 +10,7 @@ use Rattle.worker_pool.specs.Fault.{StopsAlone}
 use Rattle.worker_pool.specs.declared.fault.PoolFault.{PoolFault}
 use Rattle.worker_pool.specs.declared.fault.PoolFault.TheVariants as pool
 use Rattle.worker_pool.specs.declared.played.Played.{Played}
-use Rattle.run_command.specs.Run.{IsPlayed, StopsPlayed}
+use Rattle.run_command.specs.Playing.{IsPlayed, StopsPlayed}
 
 pub alone_is_played : (admits : StepCall → Answer → Type 0) (p : Plan) (es : List Entry) → PlayedAlone admits p es → IsPlayed p es
 alone_is_played admits p es h =

@@ -1,116 +1,23 @@
 -- What `actrun run` tells: what was shown of the steps that it played, how the runs ended, and why it stopped.
-use Rattle.std.specs.Prelude.{◌≡◌, ℕ, suc, ◌⊎◌, Bool, true, false, if◌then◌else◌, List, [], ◌∷◌, ◌++◌, flat_map, map, codes, decimal, Option, Some, None, Result, Ok, Err}
-use Rattle.std.specs.declared.alloc.AllocError.{AllocError}
-use Rattle.flow_model.specs.Plain.{Plain, null, truth, whole, text, list, map as plain_map}
-use Rattle.flow_model.specs.declared.board.Board.{Board}
-use Rattle.flow_model.specs.declared.board.Run.{Run}
-use Rattle.flow_model.specs.declared.board.RunState.{RunState}
-use Rattle.flow_model.specs.declared.board.RunState.TheVariants.{New, Waiting, Going, Closed}
-use Rattle.flow_model.specs.declared.event.Answer.{Answer}
-use Rattle.flow_model.specs.declared.event.Answer.TheVariants.{Exit, NotStarted, BadOutput}
-use Rattle.flow_model.specs.declared.event.Entry.{Entry}
-use Rattle.flow_model.specs.declared.plan.Plan.{Plan}
-use Rattle.flow_model.specs.declared.plan.RunPlan.{RunPlan}
-use Rattle.plan_text.specs.BoardText.{outcome_word}
-use Rattle.plan_text.specs.Load.{load}
-use Rattle.program_texts.specs.Logs.{Log, logs_text}
-use Rattle.status_table.specs.Runs.{after}
-use Rattle.step_host.specs.Replay.{recorded}
-use Rattle.step_host.specs.Script.{Line}
-use Rattle.worker_pool.specs.History.{AreOf, NoCancel}
-use Rattle.worker_pool.specs.declared.fault.PoolFault.{PoolFault}
-use Rattle.worker_pool.specs.declared.fault.PoolFault.TheVariants as pool
+use Rattle.std.specs.Prelude.{◌≡◌, ℕ, ◌⊎◌, List, ◌++◌, Option, Some, None, Ok}
 use Rattle.command_io.specs.Runs.{runs_status}
 use Rattle.command_io.specs.Stop.{SaysStop}
-use Rattle.command_io.specs.Stream.{Stream, IsKept, IsRead, IsWritten, Puts}
+use Rattle.command_io.specs.Stream.{Stream, IsKept, IsRead, IsWritten}
 use Rattle.command_io.specs.Tell.{BreaksOff, Says, TellsSome}
 use Rattle.command_io.specs.Trouble.{line, trouble_status}
 use Rattle.command_io.specs.declared.stop.Stop.{Stop}
 use Rattle.command_io.specs.declared.stop.Stop.TheVariants.{Workers}
 use Rattle.command_io.specs.declared.trouble.Trouble.{Trouble}
-
--- ---- masks
-
--- the text, if it has a byte
-abbrev pub some_text : List ℕ → List (List ℕ)
-some_text [] = []
-some_text (b ∷ bytes) = (b ∷ bytes) ∷ []
-
--- the mask that a secret is, if it is a text that has a byte
-abbrev pub secret_mask : Plain → List (List ℕ)
-secret_mask null = []
-secret_mask (truth b) = []
-secret_mask (whole z) = []
-secret_mask (text bytes) = some_text bytes
-secret_mask (list vs) = []
-secret_mask (plain_map ms) = []
-
--- the masks that secrets are, and those of the secrets of runs
-abbrev pub secret_masks : List (List ℕ × Plain) → List (List ℕ)
-secret_masks secrets = flat_map (λ p. secret_mask p.1) secrets
-
-abbrev pub run_masks : RunPlan → List (List ℕ)
-run_masks run = secret_masks run.roots.secrets
-
-abbrev pub plan_masks : Plan → List (List ℕ)
-plan_masks plan = flat_map run_masks plan.runs
-
--- ---- what is shown
-
--- a program was started
-abbrev pub was_started : Answer → Bool
-was_started (Exit code outputs) = true
-was_started NotStarted = false
-was_started BadOutput = true
-
--- the leg of an answer, if a program was started for it
-abbrev pub started_leg : Line → List ℕ
-started_leg answered = if was_started answered.2 then answered.0 ∷ [] else []
-
--- The logs are those of the steps that were started, in the order in which they ended. What they hold is not known.
-abbrev pub AreLogsOf : Plan → List Entry → List Log → Type 0
-AreLogsOf plan history logs = map (λ log. log.0) logs ≡ flat_map started_leg (recorded plan history)
-
--- ---- how runs ended
-
--- how a run ended, or that nothing goes on
-abbrev pub state_word : RunState → List ℕ
-state_word New = codes "stalled"
-state_word Waiting = codes "stalled"
-state_word Going = codes "stalled"
-state_word (Closed outcome) = outcome_word outcome
-
-abbrev pub run_line : ℕ → RunState → List ℕ
-run_line n state = codes "run " ++ (decimal n ++ (codes " " ++ (state_word state ++ codes "\n")))
-
--- The lines of runs, of which the first has this number.
-abbrev pub run_lines : ℕ → List Run → List ℕ
-run_lines n [] = []
-run_lines n (run ∷ runs) = run_line n run.state ++ run_lines (suc n) runs
-
--- ---- what was played
-
--- A history that the table accepts, of worker 0, in which no run is told to stop.
-pub record IsPlayed (plan : Plan) (history : List Entry) : Type 0 where
-  pub board : Board
-  pub leads : after plan history ≡ Some board
-  pub worker : AreOf 0 history
-  pub uncancelled : NoCancel history
-
--- What was played until a play was stopped: where there are not so many workers, nothing was.
-abbrev pub StopsPlayed : Plan → PoolFault → Type 0
-StopsPlayed plan pool.Workers = Unit {0}
-StopsPlayed plan (pool.Host leg step fault history) = IsPlayed plan history
-StopsPlayed plan (pool.Mismatch history) = IsPlayed plan history
-StopsPlayed plan (pool.Memory history) = IsPlayed plan history
+use Rattle.flow_model.specs.declared.board.Board.{Board}
+use Rattle.flow_model.specs.declared.event.Entry.{Entry}
+use Rattle.flow_model.specs.declared.plan.Plan.{Plan}
+use Rattle.plan_text.specs.Load.{load}
+use Rattle.run_command.specs.Playing.{IsPlayed}
+use Rattle.run_command.specs.RunLines.{run_lines}
+use Rattle.run_command.specs.StepLogs.{ShowsLogs}
+use Rattle.status_table.specs.Runs.{after}
 
 -- ---- the text of a history
-
--- What is shown of the logs of a history.
-pub record ShowsLogs (plan : Plan) (history : List Entry) (shown : List ℕ) : Type 0 where
-  pub logs : List Log
-  pub of : AreLogsOf plan history logs
-  pub is : shown ≡ logs_text (plan_masks plan) [] logs
 
 -- After that a play that came to its end tells how its runs ended, by lines and by its status.
 pub record ShowsEnd (plan : Plan) (history : List Entry) (logs shown : List ℕ) (done : ℕ) : Type 0 where
@@ -193,10 +100,3 @@ pub record HasRead (input input' : Stream) (bytes : List ℕ) : Type 0 where
 abbrev pub RunTells : Stream → Stream → Stream → Stream → Stream → Stream → ℕ → Type 0
 RunTells input input' out out' err err' status =
     ((bytes : List ℕ) × HasRead input input' bytes × RunsText bytes out out' err err' status) ⊎ TellsSome out out' err err' status
-
--- ---- the record
-
--- The text of a record was written, or a beginning of it, or, without memory for it, nothing.
-abbrev pub WritesRecord : List ℕ → Stream → Stream → Result Bool AllocError → Type 0
-WritesRecord entries old new (Ok all) = Puts old new entries all
-WritesRecord entries old new (Err fault) = IsKept old new

@@ -1,10 +1,14 @@
 -- The programs that stand for actions: a JSON object whose members are texts.
-use Rattle.std.specs.Prelude.{ℕ, Option, Some, None, Result, Ok, Err, List, []}
+use Rattle.std.specs.Prelude.{◌≡◌, ℕ, ◌⊎◌, Option, Some, None, Result, Ok, Err, List, []}
 use Rattle.serde_json.specs.Data.{Data, null, boolean, number, string, array, object, Members, no_members, member}
 use Rattle.flow_model.specs.Mapping.{with_pair}
 use Rattle.plan_text.specs.Load.{json_read}
+use Rattle.command_io.specs.Files.{Content}
+use Rattle.command_io.specs.Trouble.{IsContextsTrouble}
 use Rattle.command_io.specs.declared.contexts.ContextsFault.{ContextsFault}
 use Rattle.command_io.specs.declared.contexts.ContextsFault.TheVariants.{NotJson, WrongShape}
+use Rattle.command_io.specs.declared.trouble.Trouble.{Trouble}
+use Rattle.command_io.specs.declared.trouble.Trouble.TheVariants.{Memory}
 
 -- programs, each after the action that it stands for
 abbrev pub Stubs : Type 0
@@ -46,3 +50,9 @@ stubs_read (Some d) = document_stubs d
 -- The stubs of a file.
 abbrev pub file_stubs : List ℕ → Result Stubs ContextsFault
 file_stubs bytes = stubs_read (json_read bytes)
+
+-- The stubs of a file, or why it gives none; want of memory may be answered besides.
+abbrev pub HasStubs : Content → Result Stubs Trouble → Type 0
+HasStubs file (Ok stubs) = file_stubs file.bytes ≡ Ok stubs
+HasStubs file (Err trouble) =
+    ((fault : ContextsFault) × (file_stubs file.bytes ≡ Err fault) × IsContextsTrouble file.name fault trouble) ⊎ (trouble ≡ Memory)

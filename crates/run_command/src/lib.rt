@@ -8,5 +8,12 @@
 
 #![tactic(auto)]
 
+pub mod machine;
+mod place;
+mod plan_masks;
+mod playing;
+mod record_file;
 pub mod run;
+mod run_lines;
+mod step_logs;
 mod stubs;

@@ -6,6 +6,8 @@ ghost use Rattle.command_io.specs.Contexts.{Gives};
 ghost use Rattle.run_command.specs.Stubs as spec;
 
 use command_io::contexts::{ContextsFault, Unread};
+use command_io::files::Content;
+use command_io::trouble::{Trouble, contexts_trouble};
 use flow_model::{Mapping, Text};
 use plan_text::read_json;
 use std::alloc::Global;
@@ -55,11 +57,22 @@ fn document_stubs(alloc: Global, json: serde_json::Value) -> Result<Mapping<Text
 }
 
 /// The stubs that the bytes of a file give: a program for each of some actions, by the text of its `uses`.
-pub(crate) fn file_stubs(alloc: Global, bytes: &[u8]) -> Result<Mapping<Text>, Unread>
+fn file_stubs(alloc: Global, bytes: &[u8]) -> Result<Mapping<Text>, Unread>
     ensures { Gives (λ stubs. stubs) result (spec.file_stubs bytes.now) }
 {
     match read_json(alloc, bytes)? {
         Some(json) => document_stubs(alloc, json),
         None => Err(Unread::Fault(ContextsFault::NotJson)),
+    }
+}
+
+/// The stubs that a file gives, or why it gives none.
+pub(crate) fn stubs_of_file(alloc: Global, file: &Content) -> Result<Mapping<Text>, Trouble>
+    ensures { spec.HasStubs file.now result }
+{
+    match file_stubs(alloc, file.bytes()) {
+        Ok(stubs) => Ok(stubs),
+        Err(Unread::Fault(fault)) => Err(contexts_trouble(alloc, file.name(), fault)),
+        Err(Unread::Memory) => Err(Trouble::Memory),
     }
 }
