@@ -1,17 +1,8 @@
-pub mod Asked
 pub mod BoardAnswers
-pub mod Debugged
 pub mod Expressions
 pub mod Flows
-pub mod Known
 pub mod Lines
-pub mod Numerals
 pub mod OneAnswer
-pub mod OneRequest
-pub mod OneSession
-pub mod Played
-pub mod Reading
 pub mod Replayed
 pub mod Stopped
-pub mod Told
 pub mod Unplanned
