@@ -12,7 +12,7 @@ use Rattle.flow_model.specs.Json.{value_of}
 use Rattle.flow_model.specs.Mapping.{with_pair}
 use Rattle.flow_model.specs.Plain.{Plain}
 use Rattle.flow_model.specs.Rules.{is_within}
-use Rattle.plan_text.specs.Load.{json_read}
+use Rattle.flow_model.specs.JsonText.{json_read}
 use Rattle.command_io.specs.declared.contexts.ContextsFault.{ContextsFault}
 use Rattle.command_io.specs.declared.contexts.ContextsFault.TheVariants.{NotJson, NotWhole, WrongShape}
 use Rattle.command_io.specs.declared.contexts.Unread.{Unread}

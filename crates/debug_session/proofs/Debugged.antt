@@ -15,7 +15,7 @@ use Rattle.flow_model.specs.declared.plan.Plan.{Plan}
 use Rattle.status_table.specs.Runs.{after, new_board}
 use Rattle.status_table.specs.declared.fault.EventFault.{EventFault}
 use Rattle.plan_text.specs.BoardText.{Adds}
-use Rattle.plan_text.specs.Lines.{lines_of}
+use Rattle.flow_model.specs.Lines.{lines_of}
 use Rattle.debug_session.specs.Debug.{AddsSome, HasOpenLine, IsMove, TellsGo, TellsLines, TellsMove, TellsOneLine, TellsRequest, move_line, open_trouble}
 use Rattle.command_io.specs.Records.{HasLine, IsStopped}
 use Rattle.status_table.specs.Fault.{is_memory}

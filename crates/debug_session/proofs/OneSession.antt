@@ -6,7 +6,7 @@ use Rattle.debugger.specs.declared.fault.DebugFault.TheVariants as fault
 use Rattle.flow_model.specs.declared.event.Entry.{Entry}
 use Rattle.flow_model.specs.declared.plan.Plan.{Plan}
 use Rattle.plan_text.specs.BoardText.{board_text}
-use Rattle.plan_text.specs.Lines.{lines_of}
+use Rattle.flow_model.specs.Lines.{lines_of}
 use Rattle.plan_text.specs.Record.{load_lines}
 use Rattle.debug_session.specs.Debug.{IsMove, OneTold, TellsGo, TellsLines, TellsOneLine, TellsRequest, TellsSession, move_line}
 use Rattle.debug_session.specs.declared.requests.Request.{Request}

@@ -10,7 +10,7 @@ use Rattle.flow_model.specs.declared.board.Board.{Board}
 use Rattle.flow_model.specs.declared.event.Entry.{Entry}
 use Rattle.flow_model.specs.declared.plan.Plan.{Plan}
 use Rattle.plan_text.specs.BoardText.{board_text}
-use Rattle.plan_text.specs.Lines.{lines_of}
+use Rattle.flow_model.specs.Lines.{lines_of}
 use Rattle.status_table.specs.Runs.{IsLegal, new_board}
 use Rattle.command_io.specs.Records.{HasLine, IsNotPlayed, IsStopped, OfRecord, stop_trouble}
 use Rattle.debug_session.specs.Requests.{Asks, FindsOne}

@@ -2,7 +2,7 @@
 use Rattle.std.specs.Prelude.{◌≡◌, ℕ, ◌⊎◌, Option, Some, None, Result, Ok, Err, List, []}
 use Rattle.serde_json.specs.Data.{Data, null, boolean, number, string, array, object, Members, no_members, member}
 use Rattle.flow_model.specs.Mapping.{with_pair}
-use Rattle.plan_text.specs.Load.{json_read}
+use Rattle.flow_model.specs.JsonText.{json_read}
 use Rattle.command_io.specs.Files.{Content}
 use Rattle.command_io.specs.Trouble.{IsContextsTrouble}
 use Rattle.command_io.specs.declared.contexts.ContextsFault.{ContextsFault}

@@ -8,8 +8,7 @@ ghost use Rattle.run_command.specs.Stubs as spec;
 use command_io::contexts::{ContextsFault, Unread};
 use command_io::files::Content;
 use command_io::trouble::{Trouble, contexts_trouble};
-use flow_model::{Mapping, Text};
-use plan_text::read_json;
+use flow_model::{Mapping, Text, read_json};
 use std::alloc::Global;
 use std::collections::BTreeMap;
 

@@ -1,6 +1,6 @@
 -- Lines are answered one after the other.
 use Rattle.std.proofs.Common.{◌≡◌, ℕ, List, ◌++◌, length, string_bytes, sym, subst, rules}
-use Rattle.plan_text.specs.Lines.{lines_of}
+use Rattle.flow_model.specs.Lines.{lines_of}
 use Rattle.debug_session.proofs.Debugged.{all_told, line_more, no_lines}
 use Rattle.debug_session.specs.Debug.{TellsLines}
 use Rattle.debug_session.proofs.debug.lines_told.Goals as goal

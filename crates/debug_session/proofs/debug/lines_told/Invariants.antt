@@ -1,5 +1,5 @@
 use Rattle.std.proofs.Common.{length, string_bytes}
-use Rattle.plan_text.specs.Lines.{lines_of}
+use Rattle.flow_model.specs.Lines.{lines_of}
 use Rattle.debug_session.proofs.Debugged.{GoesOnTo}
 use Rattle.debug_session.proofs.debug.lines_told.Given as goal
 
