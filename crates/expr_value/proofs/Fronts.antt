@@ -1,9 +1,18 @@
 -- What a loop has found before what is left of a list.
-use Rattle.std.proofs.Common.{◌≡◌, Bool, true, false, List, [], ◌∷◌, ◌++◌, Result, Ok, Err, refl, sym, ap, ◌∙◌, append_assoc}
+use Rattle.std.proofs.Common.{◌≡◌, ℕ, ◌+◌, ◌<◌, Bool, true, false, List, [], ◌∷◌, ◌++◌, Result, Ok, Err, length, get_or, drop, refl, sym, ap, ◌∙◌, append_assoc}
 use mathlib.Core.Bool.{beq}
 use Rattle.std.proofs.lemmas.Bool.{cond-true, cond-false}
-use Rattle.expr_value.specs.Evaluate.{Answer, all_values, conjunction, disjunction, is_truthy, with_value}
+use Rattle.std.proofs.lemmas.List.{map-append}
+use Rattle.expr_reader.specs.Expr.{exprs_of}
+use Rattle.expr_reader.specs.View.{views, view as tree_view}
+use Rattle.expr_reader.specs.declared.tree.Tree.{Tree}
+use Rattle.expr_value.specs.Context.{Contexts}
+use Rattle.expr_value.specs.Evaluate.{Answer, all_values, answers, conjunction, disjunction, is_truthy, value, with_value}
 use Rattle.expr_value.specs.Evaluating.{first_of}
+use Rattle.expr_value.specs.Seen.{item_seen, items_seen}
+use Rattle.expr_value.specs.declared.item.Item.{Item}
+use Rattle.expr_value.specs.declared.status.Status.{Status}
+use Rattle.flow_model.proofs.Conversions.{drop-next}
 use Rattle.flow_model.specs.Plain.{Plain}
 use Rattle.flow_model.specs.declared.reply.ValueFault.{ValueFault}
 
@@ -40,3 +49,24 @@ decided_by true false v w left other is = sym (cond-false (is_truthy v) (Ok v) (
 pub decided_step : (truth b : Bool) (v w : Plain) (a : Answer) (left : List Answer) → beq b truth ≡ false → is_truthy v ≡ b → a ≡ Ok w → first_of truth w left ≡ first_of truth v (a ∷ left)
 decided_step truth b v w a left other so is =
     decided_by truth b v w left other so ∙ ap (λ (c : Answer). first_of truth v (c ∷ left)) (sym is)
+
+-- The value of one tree more, before those of what is left.
+pub evaluated_more : (at : Contexts) (status : Status) (trees : List Tree) (i : ℕ) (tree : Tree) (found grown : List Item) (v : Item) (all : Result (List Plain) ValueFault)
+    → i < length trees → tree ≡ get_or trees i tree → grown ≡ found ++ v ∷ [] → value at status (tree_view tree) ≡ Ok (item_seen v)
+    → with_front (items_seen found) (all_values (answers at status (exprs_of (views (drop i trees))))) ≡ all
+    → with_front (items_seen grown) (all_values (answers at status (exprs_of (views (drop (i + 1) trees))))) ≡ all
+evaluated_more at status trees i tree found grown v all inside here grew is so_far =
+    let left = answers at status (exprs_of (views (drop (i + 1) trees))) in
+    ap (λ (items : List Item). with_front (items_seen items) (all_values left)) grew
+    ∙ ap (λ (vs : List Plain). with_front vs (all_values left)) (map-append item_seen found (v ∷ []))
+    ∙ values_step (items_seen found) (value at status (tree_view tree)) (item_seen v) left is
+    ∙ ap (λ (ts : List Tree). with_front (items_seen found) (all_values (answers at status (exprs_of (views ts))))) (sym (drop-next trees i tree inside here)) ∙ so_far
+
+-- The same of the first value that is so true as is asked for.
+pub decided_more : (at : Contexts) (status : Status) (trees : List Tree) (i : ℕ) (tree : Tree) (truth b : Bool) (v w : Item) (all : Answer)
+    → i < length trees → tree ≡ get_or trees i tree → beq b truth ≡ false → is_truthy (item_seen v) ≡ b → value at status (tree_view tree) ≡ Ok (item_seen w)
+    → first_of truth (item_seen v) (answers at status (exprs_of (views (drop i trees)))) ≡ all
+    → first_of truth (item_seen w) (answers at status (exprs_of (views (drop (i + 1) trees)))) ≡ all
+decided_more at status trees i tree truth b v w all inside here other so is so_far =
+    decided_step truth b (item_seen v) (item_seen w) (value at status (tree_view tree)) (answers at status (exprs_of (views (drop (i + 1) trees)))) other so is
+    ∙ ap (λ (ts : List Tree). first_of truth (item_seen v) (answers at status (exprs_of (views ts)))) (sym (drop-next trees i tree inside here)) ∙ so_far
