@@ -104,10 +104,9 @@ job_at p b n = do
   place ← job_place b n
   job_placed p b place
 
--- the leg with a number
-abbrev pub leg_at : Plan → Board → ℕ → Option LegAt
-leg_at p b n = do
-  place ← leg_place b n
+-- the leg at a place
+abbrev pub leg_placed : Plan → Board → LegPlace → Option LegAt
+leg_placed p b place = do
   at ← job_placed p b (record { run = place.run; job = place.job })
   leg ← slice_get at.job.legs place.leg
   Some
@@ -120,3 +119,9 @@ leg_at p b n = do
         job = at.job;
         leg = leg;
       })
+
+-- the leg with a number
+abbrev pub leg_at : Plan → Board → ℕ → Option LegAt
+leg_at p b n = do
+  place ← leg_place b n
+  leg_placed p b place

@@ -175,11 +175,10 @@ pub fn find_job<'a>(plan: &'a Plan, board: &'a Board, number: usize) -> Option<S
     find_placed(plan, board, place)
 }
 
-/// The leg with a number.
-pub fn find_leg<'a>(plan: &'a Plan, board: &'a Board, number: usize) -> Option<SeenLeg<'a>>
-    ensures { option_map leg_seen result ≡ spec.leg_at plan.now board.now number }
+/// The leg at a place.
+pub fn find_placed_leg<'a>(plan: &'a Plan, board: &'a Board, place: LegPlace) -> Option<SeenLeg<'a>>
+    ensures { option_map leg_seen result ≡ spec.leg_placed plan.now board.now place }
 {
-    let place = find_leg_place(board.runs.as_slice(), number)?;
     let in_run = JobPlace {
         run: place.run,
         job: place.job,
@@ -195,4 +194,12 @@ pub fn find_leg<'a>(plan: &'a Plan, board: &'a Board, number: usize) -> Option<S
         job: at.job,
         leg,
     })
+}
+
+/// The leg with a number.
+pub fn find_leg<'a>(plan: &'a Plan, board: &'a Board, number: usize) -> Option<SeenLeg<'a>>
+    ensures { option_map leg_seen result ≡ spec.leg_at plan.now board.now number }
+{
+    let place = find_leg_place(board.runs.as_slice(), number)?;
+    find_placed_leg(plan, board, place)
 }
