@@ -5,15 +5,13 @@ ghost use Rattle.board_decisions.specs.Decisions as decision;
 ghost use Rattle.board_decisions.specs.Derived as derived;
 ghost use Rattle.board_decisions.specs.Place.{leg_at};
 ghost use Rattle.board_decisions.specs.Seen.{leg_seen};
-ghost use Rattle.flat_board.specs.Changes.{leg_at_place};
 ghost use Rattle.flat_board.specs.Counters.{tally_of};
 ghost use Rattle.flat_board.specs.Index.{IsNamed};
 
 use crate::counted::{Counted, job_of};
 use crate::tally::Tally;
 use board_decisions::decisions::is_stopping_given;
-use board_decisions::place::{LegPlace, SeenLeg, find_run};
-use flow_model::{Board, Plan};
+use board_decisions::place::{SeenLeg, find_placed_leg};
 use std::alloc::{AllocError, Global};
 
 /// A leg in play, with the tally of its job.
@@ -24,25 +22,6 @@ pub(crate) struct TalliedLeg<'a> {
     ghost tallied: { tally ≡ tally_of at.job.now },
 }
 
-/// The leg at a place.
-fn seen_at<'a>(plan: &'a Plan, board: &'a Board, place: LegPlace) -> Option<SeenLeg<'a>>
-    ensures { option_map leg_seen result ≡ leg_at_place plan.now board.now place }
-{
-    let at = find_run(plan, board, place.run)?;
-    let job_plan = at.plan.jobs.as_slice().get(place.job)?;
-    let job = at.run.jobs.as_slice().get(place.job)?;
-    let leg = job.legs.as_slice().get(place.leg)?;
-    Some(SeenLeg {
-        board,
-        place,
-        run_plan: at.plan,
-        job_plan,
-        run: at.run,
-        job,
-        leg,
-    })
-}
-
 /// The leg with a number.
 pub(crate) fn find_leg(state: &Counted, number: u64) -> Option<TalliedLeg<'_>>
     ensures found { option_map (λ found. leg_seen found.at) result
@@ -51,7 +30,7 @@ pub(crate) fn find_leg(state: &Counted, number: u64) -> Option<TalliedLeg<'_>>
 {
     let board = state.board();
     let place = state.leg_place(number)?;
-    let at = seen_at(state.plan(), board, place)?;
+    let at = find_placed_leg(state.plan(), board, place)?;
     let tally = state.tally(job_of(at.place));
     Some(TalliedLeg { at, tally })
 }
