@@ -49,13 +49,13 @@ pub(crate) enum Asked<'w, S> {
 
 /// The words of a command, and where the files are that they name.
 #[derive(Drop)]
-struct Asking<'w, F> {
+struct Asking<'m, 'w, F> {
     alloc: Global,
-    words: &'w ArgMatches,
-    folder: &'w F,
+    words: &'m ArgMatches<'w>,
+    folder: &'m F,
 }
 
-impl<'w, F: Folder> Asking<'w, F> {
+impl<'m, 'w, F: Folder> Asking<'m, 'w, F> {
     /// Opens the file of that name.
     fn open(&self, name: &str) -> Result<F::File, Trouble> {
         match self.folder.open(name) {
@@ -171,10 +171,10 @@ impl<'w, F: Folder> Asking<'w, F> {
 /// # Errors
 ///
 /// `Trouble::Words` where they ask for no command, `Trouble::Io` where a file cannot be opened, and `Trouble::Memory`.
-pub(crate) fn asked<'w, F: Folder>(
+pub(crate) fn asked_by<'w, F: Folder>(
     alloc: Global,
-    words: &'w ArgMatches,
-    folder: &'w F,
+    words: &ArgMatches<'w>,
+    folder: &F,
 ) -> Result<Asked<'w, F::File>, Trouble> {
     match words.subcommand() {
         Some((name, words)) => {

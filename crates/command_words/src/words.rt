@@ -5,7 +5,7 @@ ghost use Rattle.std.specs.IoError.{error_kind};
 ghost use Rattle.command_words.specs.Words as spec;
 ghost use Rattle.command_words.specs.Words.{RunTells};
 
-use crate::asked::{Asked, AskedEval, AskedPlan, AskedRun, asked};
+use crate::asked::{Asked, AskedEval, AskedPlan, AskedRun, asked_by};
 use crate::folder::Folder;
 use crate::known::known_commands;
 use clap::{ArgMatches, Error};
@@ -29,36 +29,37 @@ use std::io::ErrorKind;
 /// Runs `eval`.
 fn perform_eval<S: Source + Drop, O: Sink, E: Sink>(
     alloc: Global,
-    mut asked: AskedEval<'_, S>,
+    asked: AskedEval<'_, S>,
     out: &mut O,
     err: &mut E,
 ) -> u8
     ensures { spec.RunsEval (O.seen out.old) (O.seen out.new)
         (E.seen err.old) (E.seen err.new) result }
 {
-    let file = asked.contexts.name.as_str();
-    eval(
-        alloc,
-        file,
-        &mut asked.contexts.source,
-        asked.expression,
-        out,
-        err,
-    )
+    let AskedEval {
+        contexts,
+        expression,
+    } = asked;
+    let NamedSource { name, mut source } = contexts;
+    eval(alloc, name.as_str(), &mut source, expression, out, err)
 }
 
 /// Runs `plan`.
 fn perform_plan<S: Source + Drop, O: Sink, E: Sink>(
     alloc: Global,
-    mut asked: AskedPlan<S>,
+    asked: AskedPlan<S>,
     out: &mut O,
     err: &mut E,
 ) -> u8
     ensures { spec.RunsPlan (O.seen out.old) (O.seen out.new)
         (E.seen err.old) (E.seen err.new) result }
 {
-    let flows = asked.flows.as_mut_slice();
-    plan(alloc, &asked.choice, &mut asked.contexts, flows, out, err)
+    let AskedPlan {
+        choice,
+        mut contexts,
+        mut flows,
+    } = asked;
+    plan(alloc, &choice, &mut contexts, flows.as_mut_slice(), out, err)
 }
 
 /// Runs `list`.
@@ -91,22 +92,19 @@ fn perform_replay<S: Source + Drop, O: Sink, E: Sink>(
 fn perform_run<M: Machine, S: Source + Drop, O: Sink, E: Sink>(
     alloc: Global,
     machine: &M,
-    mut asked: AskedRun<'_, S>,
+    asked: AskedRun<'_, S>,
     out: &mut O,
     err: &mut E,
 ) -> u8
     ensures { spec.RunsRun (O.seen out.old) (O.seen out.new)
         (E.seen err.old) (E.seen err.new) result }
 {
-    run_plan(
-        alloc,
-        machine,
-        &asked.words,
-        &mut asked.stubs,
-        &mut asked.plan,
-        out,
-        err,
-    )
+    let AskedRun {
+        words,
+        mut stubs,
+        mut plan,
+    } = asked;
+    run_plan(alloc, machine, &words, &mut stubs, &mut plan, out, err)
 }
 
 /// Runs `debug` over the lines of the input.
@@ -155,7 +153,7 @@ fn words_trouble(error: &Error) -> Trouble {
 }
 
 /// The words, as far as the program knows them.
-fn known_words(alloc: Global, words: &[String]) -> Result<ArgMatches, Trouble> {
+fn known_words<'w>(alloc: Global, words: &'w [String]) -> Result<ArgMatches<'w>, Trouble> {
     let Ok(known) = known_commands(alloc) else {
         return Err(Trouble::Memory);
     };
@@ -177,7 +175,7 @@ fn run_known<F: Folder, I: Source, O: Sink, E: Sink>(
     ensures { RunTells (I.seen input.old) (I.seen input.new)
         (O.seen out.old) (O.seen out.new) (E.seen err.old) (E.seen err.new) result }
 {
-    match asked(alloc, words, folder) {
+    match asked_by(alloc, words, folder) {
         Ok(asked) => perform(alloc, folder.machine(), asked, input, out, err),
         Err(trouble) => refuse(err, &trouble),
     }
