@@ -108,18 +108,16 @@ fn quoted(alloc: Global, inside: &str) -> Result<(Token, &str), Refusal>
     let mut text = Vec::new(alloc);
     let mut after_quote = false;
     for (place, byte) in bytes.iter().enumerate() {
-        if *byte != b'\'' {
-            if after_quote {
-                let (_, rest) = inside.split_at(place);
-                return Ok(quoted_token(text, rest));
-            }
-        } else {
-            after_quote = !after_quote;
-            if after_quote {
-                continue;
-            }
+        if after_quote && *byte != b'\'' {
+            let (_, rest) = inside.split_at(place);
+            return Ok(quoted_token(text, rest));
         }
-        text.push(*byte)?;
+        if after_quote || *byte != b'\'' {
+            text.push(*byte)?;
+            after_quote = false;
+        } else {
+            after_quote = true;
+        }
     }
     if after_quote {
         let (_, rest) = inside.split_at(inside.len());

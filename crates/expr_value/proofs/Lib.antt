@@ -15,4 +15,3 @@ mod Runs
 mod Searches
 mod JoinedTexts
 mod Statuses
-mod Steps

@@ -4,9 +4,7 @@ pub mod Faults
 pub mod Flow
 pub mod Found
 pub mod Json
-pub mod JsonText
 pub mod Laws
-pub mod Lines
 pub mod Mapping
 pub mod Name
 pub mod Numbers

@@ -25,13 +25,7 @@ pub enum Clerk {
 pub fn is_finished(board: &Board) -> bool
     ensures { result ≡ spec.finished board.now }
 {
-    let runs = board.runs.as_slice();
-    for run in runs {
-        if !is_closed(run.state) {
-            return false;
-        }
-    }
-    true
+    board.runs.as_slice().iter().all(|run| is_closed(run.state))
 }
 
 /// Whether a leg in this state has a worker, or may be taken by one.
@@ -45,12 +39,7 @@ fn is_active(state: LegState) -> bool
 fn any_leg(legs: &[Leg]) -> bool
     ensures { result ≡ list_any (λ leg. spec.is_active leg.state) legs.now }
 {
-    for leg in legs {
-        if is_active(leg.state) {
-            return true;
-        }
-    }
-    false
+    legs.iter().any(|leg| is_active(leg.state))
 }
 
 /// Whether one of the legs of some jobs is.

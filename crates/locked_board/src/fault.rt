@@ -5,13 +5,16 @@ ghost use Rattle.locked_board.specs.Fault as spec;
 
 use status_table::EventFault;
 use std::alloc::{AllocError, AllocFailed};
+use thiserror::Error;
 
 /// A refusal of what is under the lock.
-#[derive(Clone, Copy)]
+#[derive(Clone, Copy, Debug, Error)]
 pub enum PostFault {
     /// The table refuses the event.
+    #[error("{0}")]
     Event(EventFault),
     /// There is no memory.
+    #[error("Memory")]
     Memory,
 }
 

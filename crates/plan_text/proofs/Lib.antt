@@ -2,6 +2,7 @@ mod BoardLaws
 pub mod EntryLaws
 pub mod Fitting
 pub mod Laws
+mod LineLemmas
 mod LoadLemmas
 mod Numerals
 mod OneLine

@@ -1,6 +1,5 @@
 mod Accepted
 mod Agreeing
-mod Fit
 mod Fresh
 mod Grows
 mod Hands
@@ -13,5 +12,6 @@ mod NoMoves
 mod Numbered
 mod Replays
 mod Reviews
+mod SameAnswers
 mod Stuck
 mod Turned

@@ -1,5 +1,6 @@
 pub mod Agree
 pub mod Alone
+pub mod Answers
 pub mod Asking
 pub mod Entries
 pub mod Fault
@@ -13,4 +14,3 @@ pub mod Replaying
 pub mod Review
 pub mod Stalls
 pub mod Stop
-pub mod Worker

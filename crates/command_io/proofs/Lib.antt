@@ -1,4 +1,0 @@
-pub mod Known
-pub mod PlanFaults
-pub mod Reading
-pub mod Told

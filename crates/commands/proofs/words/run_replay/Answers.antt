@@ -1,0 +1,10 @@
+use Rattle.std.proofs.Common.{inl, inr}
+use Rattle.commands.proofs.Told.{refused}
+use Rattle.commands.specs.declared.trouble.Trouble.TheVariants.{Io}
+use Rattle.commands.proofs.words.run_replay.Goals as goal
+
+pub returns-in-Some : goal.returns-in-Some
+returns-in-Some g c = inl (_, _, c.replay.ensures)
+
+pub returns-in-None : goal.returns-in-None
+returns-in-None g c = inr (refused Io _ _ _ _ c.refuse.ensures.line c.refuse.ensures.status)

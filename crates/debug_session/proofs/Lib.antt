@@ -1,5 +1,0 @@
-pub mod Asked
-pub mod Debugged
-pub mod Numerals
-pub mod OneRequest
-pub mod OneSession

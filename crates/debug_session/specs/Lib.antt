@@ -1,2 +1,0 @@
-pub mod Debug
-pub mod Requests
