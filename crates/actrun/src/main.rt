@@ -1,10 +1,11 @@
-//! actrun: the program. `main` hands words, files and streams to `commands`, and gives the exit status back.
+//! actrun: the program. `main` hands words, files and streams to `command_words`, and gives the exit status back.
 
 #![tactic(auto)]
 
-use commands::run::Machine;
-use commands::stream::{Input, Output};
-use commands::words::{Folder, run_line};
+use command_io::stream::{Input, Output};
+use command_words::folder::Folder;
+use command_words::words::run_line;
+use run_command::machine::Machine;
 use std::fs::File;
 use std::process::ExitCode;
 use std::{env, io};

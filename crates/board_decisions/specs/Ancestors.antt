@@ -10,11 +10,12 @@ use Rattle.expr_value.specs.declared.status.Status.TheVariants as status
 use Rattle.flow_model.specs.declared.plan.JobPlan.{JobPlan}
 use Rattle.flow_model.specs.declared.event.Outcome.{Outcome}
 
--- An ancestor of a job is a job that it needs, or an ancestor of one. Both are told by their places in the run, whose
--- first job has the number `first`.
+-- An ancestor of a job is a job that it needs, or an ancestor of one. Both are told by their places in the
+-- run, whose first job has the number `first`.
 pub data IsAncestor (first : ℕ) (jobs : List JobPlan) : ℕ → ℕ → Type 0 where
   need : {a k : ℕ} → Contains (needs_at first jobs k) a → IsAncestor first jobs a k
-  of_need : {a n k : ℕ} → Contains (needs_at first jobs k) n → IsAncestor first jobs a n → IsAncestor first jobs a k
+  of_need : {a n k : ℕ} → Contains (needs_at first jobs k) n → IsAncestor first jobs a n
+      → IsAncestor first jobs a k
 
 -- some ancestor of a job has a result that passes a test
 abbrev pub SomeAncestor : ℕ → JobAt → (Outcome → Bool) → Type 0
@@ -28,8 +29,8 @@ EachAncestor first at test =
     (a : ℕ) (result : Outcome) → IsAncestor first at.run_plan.jobs a at.place.job
     → slice_get (job_results at.run) a ≡ Some result → test result ≡ true
 
--- What a status says of a job: its run was told to stop; else an ancestor failed; else each ancestor succeeded; else some
--- did not succeed, and none failed.
+-- What a status says of a job: its run was told to stop; else an ancestor failed; else each ancestor
+-- succeeded; else some did not succeed, and none failed.
 abbrev pub SaysOf : ℕ → JobAt → Status → Type 0
 SaysOf first at status.Cancelled = at.run.stop ≡ true
 SaysOf first at status.Failure = (at.run.stop ≡ false) × SomeAncestor first at is_failure

@@ -3,7 +3,7 @@ use Rattle.std.specs.Prelude.{ℕ, pos, ◌-◌, ◌==◌, ◌&&◌, List, [], �
 use Rattle.std.specs.List.{zip, filter_map}
 use Rattle.board_decisions.specs.Derived.{job_result}
 use Rattle.board_decisions.specs.Numbered.{leg_there}
-use Rattle.board_decisions.specs.Place.{◌>>=◌, JobAt, LegAt, leg_place}
+use Rattle.board_decisions.specs.Place.{◌>>=◌, JobAt, LegAt, job_in_run, leg_place}
 use Rattle.board_decisions.specs.declared.place.JobPlace.{JobPlace}
 use Rattle.board_decisions.specs.declared.place.LegPlace.{LegPlace}
 use Rattle.expr_reader.specs.declared.tree.Context.TheVariants as context
@@ -46,7 +46,8 @@ with_event (Some event) pairs = with_pair (codes "event_name") (text event) pair
 
 -- What the run was handed, with the workflow's name over it, and the event's where there is one.
 unfoldable pub github_value : RunPlan → Plain
-github_value plan = object (with_event plan.event (with_pair (codes "workflow") (text plan.flow) plan.roots.github))
+github_value plan =
+    object (with_event plan.event (with_pair (codes "workflow") (text plan.flow) plan.roots.github))
 
 -- ---- needs
 
@@ -77,10 +78,7 @@ first_number at = at.plan.number - at.place.job
 
 -- The job at a place of the run that a job is in.
 abbrev pub job_beside : JobAt → ℕ → Option JobAt
-job_beside at k = do
-  plan ← slice_get at.run_plan.jobs k
-  job ← slice_get at.run.jobs k
-  Some (record { board = at.board; place = record { run = at.place.run; job = k }; run_plan = at.run_plan; plan = plan; run = at.run; job = job })
+job_beside at k = job_in_run at.board at.run_plan at.run (record { run = at.place.run; job = k })
 
 -- The job with a number that a job needs.
 abbrev pub needed_job : JobAt → ℕ → Option JobAt
@@ -89,7 +87,8 @@ needed_job at need = job_beside at (need - first_number at)
 -- What is seen of a job that is needed: its outputs and its result.
 abbrev pub need_value : JobAt → Plain
 need_value need =
-    object ((codes "outputs", env_context (job_outputs need.board need.place)) ∷ (codes "result", text (result_name (job_result need.run need.job))) ∷ [])
+    object ((codes "outputs", env_context (job_outputs need.board need.place))
+    ∷ (codes "result", text (result_name (job_result need.run need.job))) ∷ [])
 
 -- The same at the job's id.
 abbrev pub need_pair : JobAt → List ℕ × Plain
@@ -142,7 +141,14 @@ job_values at context.Matrix = run_values at.run_plan context.Matrix
 -- The job of a leg.
 abbrev pub job_of : LegAt → JobAt
 job_of at =
-    record { board = at.board; place = record { run = at.place.run; job = at.place.job }; run_plan = at.run_plan; plan = at.job_plan; run = at.run; job = at.job }
+    record {
+      board = at.board;
+      place = record { run = at.place.run; job = at.place.job };
+      run_plan = at.run_plan;
+      plan = at.job_plan;
+      run = at.run;
+      job = at.job;
+    }
 
 -- How many legs of a job may be under way at once: all where it says nothing.
 abbrev pub most_at_once : JobPlan → ℕ

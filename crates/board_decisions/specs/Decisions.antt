@@ -1,5 +1,5 @@
--- What is decided by the texts of a plan: conditions, environments, the texts of a call, flags, outputs and groups. The
--- rows of the table say only what follows from it.
+-- What is decided by the texts of a plan: conditions, environments, the texts of a call, flags, outputs and
+-- groups. The rows of the table say only what follows from it.
 use Rattle.std.specs.Prelude.{ℕ, ◌&&◌, ◌||◌, Bool, true, false, not, List, [], ◌∷◌, length, Option, Some, None, Result, Ok, Err, if◌then◌else◌}
 use Rattle.std.specs.List.{list_any}
 use Rattle.board_decisions.specs.Contexts.{run_values, job_values, job_of, leg_values_by}
@@ -36,28 +36,31 @@ then_value (Err f) next = Err f
 
 -- The value of a job's condition under a status.
 unfoldable pub job_condition : JobAt → Status → Result Bool ValueFault
-job_condition at s = condition_value (contexts_at place.JobCondition (with_env [] (job_values at))) s at.plan.condition
+job_condition at s =
+    condition_value (contexts_at place.JobCondition (with_env [] (job_values at))) s at.plan.condition
 
 -- A condition that gives true; a fault does not.
 abbrev pub is_true : Result Bool ValueFault → Bool
 is_true (Ok b) = b
 is_true (Err fault) = false
 
--- A leg is to stop whatever its job's condition where it was told to, or where its job fails fast and a leg of it has
--- failed.
+-- A leg is to stop whatever its job's condition where it was told
+-- to, or where its job fails fast and a leg of it has failed.
 abbrev pub stops_anyway : LegAt → Bool
 stops_anyway at = at.leg.stop || (at.job_plan.fail_fast && list_any (λ leg. has_failed leg.state) at.job.legs)
 
--- A leg is to stop so; or where its run was told to and the job's condition does not give true as that of a cancelled
--- one.
+-- A leg is to stop so; or where its run was told to and the
+-- job's condition does not give true as that of a cancelled one.
 abbrev pub is_stopping : LegAt → Bool
-is_stopping at = stops_anyway at || (at.run.stop && not (is_true (job_condition (job_of at) status.Cancelled)))
+is_stopping at =
+    stops_anyway at || (at.run.stop && not (is_true (job_condition (job_of at) status.Cancelled)))
 
 -- How a leg counts so far: cancelled where it is to stop, else failure where a done step counts as one.
 abbrev pub leg_result : LegAt → Outcome
 leg_result at =
     if is_stopping at then outcome.Cancelled
-    else (if list_any (λ step. is_failure step.conclusion) at.leg.steps then outcome.Failure else outcome.Success)
+    else (if list_any (λ step. is_failure step.conclusion) at.leg.steps then outcome.Failure
+    else outcome.Success)
 
 -- A result as a status.
 abbrev pub status_of : Outcome → Status
@@ -87,7 +90,8 @@ flow_env at = env_value (seen_from at place.WorkflowEnv []) at.run_plan.env
 -- The variables of the job over others.
 abbrev pub job_env_over : LegAt → Env → Result Env ValueFault
 job_env_over at below =
-    then_value (env_value (seen_from at place.JobEnv []) at.job_plan.env) (λ above. Ok (laid_over above below))
+    then_value (env_value (seen_from at place.JobEnv []) at.job_plan.env) (λ above.
+    Ok (laid_over above below))
 
 -- The variables of the workflow, and those of the job over them.
 unfoldable pub job_env : LegAt → Result Env ValueFault
@@ -111,11 +115,14 @@ abbrev pub directory_value : Contexts → Option (List ℕ) → Result (Option (
 directory_value c None = Ok None
 directory_value c (Some dir) = then_value (text_text c dir) (λ bytes. Ok (Some bytes))
 
--- What a call asks for: the script and then its directory, or the inputs of an action in the order of their names.
+-- What a call asks for: the script and then its directory,
+-- or the inputs of an action in the order of their names.
 unfoldable pub work_value : Contexts → Work → Result CallWork ValueFault
 work_value c (work.Run dir run shell) =
-    then_value (text_text c run) (λ script. then_value (directory_value c dir) (λ there. Ok (call_work.Script script shell there)))
-work_value c (work.Uses uses given) = then_value (env_value c given) (λ inputs. Ok (call_work.Uses uses inputs))
+    then_value (text_text c run) (λ script.
+    then_value (directory_value c dir) (λ there. Ok (call_work.Script script shell there)))
+work_value c (work.Uses uses given) =
+    then_value (env_value c given) (λ inputs. Ok (call_work.Uses uses inputs))
 
 -- The call of a step, whose variables are these.
 abbrev pub call_value : ℕ → LegAt → StepPlan → Env → Result (Option StepCall) ValueFault
@@ -128,12 +135,13 @@ abbrev pub called_if : ℕ → LegAt → StepPlan → Env → Bool → Result (O
 called_if l at step env true = call_value l at step env
 called_if l at step env false = Ok None
 
--- The call of a step, or none where it is skipped: the variables first, then its condition with the status of the
--- leg, and then the texts of the call. The first fault is the answer.
+-- The call of a step, or none where it is skipped: the variables first, then its condition with the status of
+-- the leg, and then the texts of the call. The first fault is the answer.
 unfoldable pub step_decision : ℕ → LegAt → StepPlan → Result (Option StepCall) ValueFault
 step_decision l at step =
     then_value (step_env at step) (λ env.
-    then_value (condition_value (seen_from at place.StepCondition env) (leg_status at) step.condition) (called_if l at step env))
+    then_value (condition_value (seen_from at place.StepCondition env) (leg_status at) step.condition)
+    (called_if l at step env))
 
 -- ---- continue-on-error, and the outputs of a leg
 
@@ -156,14 +164,17 @@ abbrev pub entrance : List ℕ → Bool → Option Entrance
 entrance [] cancel = None
 entrance (c ∷ cs) cancel = Some (record { name = c ∷ cs; cancel = cancel })
 
--- How a group is entered, if there is one: by the name that its text gives, with A to Z as a to z, and its cancel flag.
+-- How a group is entered, if there is one: by the name that
+-- its text gives, with A to Z as a to z, and its cancel flag.
 abbrev pub entrance_value : Contexts → Option Group → Result (Option Entrance) ValueFault
 entrance_value c None = Ok None
-entrance_value c (Some group) = then_value (text_text c group.name) (λ name. Ok (entrance (fold name) (flag_value c group.cancel)))
+entrance_value c (Some group) =
+    then_value (text_text c group.name) (λ name. Ok (entrance (fold name) (flag_value c group.cancel)))
 
 -- How a run enters its workflow's group, if there is one.
 unfoldable pub run_entrance : RunAt → Result (Option Entrance) ValueFault
-run_entrance at = entrance_value (contexts_at place.WorkflowGroup (with_env [] (run_values at.plan))) at.plan.group
+run_entrance at =
+    entrance_value (contexts_at place.WorkflowGroup (with_env [] (run_values at.plan))) at.plan.group
 
 -- How a leg enters its job's group, if there is one.
 unfoldable pub leg_entrance : LegAt → Result (Option Entrance) ValueFault

@@ -162,7 +162,8 @@ is_any_job_failed run = list_any (λ job. is_failure (job_result run job)) run.j
 abbrev pub is_any_job_cancelled : Run → Bool
 is_any_job_cancelled run = list_any (λ job. is_cancelled (job_result run job)) run.jobs
 
--- the result of a run that is Going: a job's failure, else that it was told to stop or a job was cancelled, else success
+-- the result of a run that is Going: a job's failure, else that
+-- it was told to stop or a job was cancelled, else success
 abbrev pub run_result : Run → Outcome
 run_result run =
     if is_any_job_failed run then outcome.Failure
@@ -188,8 +189,8 @@ places_needed first (Some job) = map (λ need. need - first) job.needs
 abbrev pub needs_at : ℕ → List JobPlan → ℕ → List ℕ
 needs_at first jobs k = places_needed first (slice_get jobs k)
 
--- Whether an ancestor of the job at place k passes a test that was made of each job: a job that it needs, or an
--- ancestor of one, over a chain of at most n needs.
+-- Whether an ancestor of the job at place k passes a test that was made of each job: a job that it needs, or
+-- an ancestor of one, over a chain of at most n needs.
 abbrev pub some_ancestor : ℕ → List JobPlan → List Bool → ℕ → ℕ → Bool
 some_ancestor first jobs tests zero k = false
 some_ancestor first jobs tests (suc n) k =
@@ -201,7 +202,8 @@ any_ancestor first jobs tests k = some_ancestor first jobs tests (length jobs) k
 
 -- whether all that a job needs has ended
 abbrev pub needs_have_ended : ℕ → Run → JobPlan → Bool
-needs_have_ended first run plan = list_all (λ need. holds_at (map (job_has_ended run) run.jobs) (need - first)) plan.needs
+needs_have_ended first run plan =
+    list_all (λ need. holds_at (map (job_has_ended run) run.jobs) (need - first)) plan.needs
 
 -- ---- statuses
 
@@ -220,7 +222,8 @@ ancestors_status first jobs results k =
 -- the status of a job: cancelled where its run is told to stop, else by the results of its ancestors
 abbrev pub job_status : ℕ → JobAt → Status
 job_status first at =
-    if at.run.stop then status.Cancelled else ancestors_status first at.run_plan.jobs (job_results at.run) at.place.job
+    if at.run.stop then status.Cancelled
+    else ancestors_status first at.run_plan.jobs (job_results at.run) at.place.job
 
 -- whether the job has as many legs under way as it may have at once
 abbrev pub is_full : JobPlan → Job → Bool

@@ -15,7 +15,12 @@ job_there b at = slice_get b.runs at.run >>= λ run. slice_get run.jobs at.job
 
 -- the leg that stands at a place
 abbrev pub leg_there : Board → LegPlace → Option Leg
-leg_there b at = slice_get b.runs at.run >>= λ run. slice_get run.jobs at.job >>= λ job. slice_get job.legs at.leg
+leg_there b at =
+    slice_get b.runs at.run >>= λ run. slice_get run.jobs at.job >>= λ job. slice_get job.legs at.leg
+
+-- the leg at the place of a number
+abbrev pub numbered_leg : Board → ℕ → Option Leg
+numbered_leg b n = leg_place b n >>= leg_there b
 
 -- The numbers with a place are those of the jobs, and at the place of number n stands item n of all jobs.
 pub record JobsAreNumbered (b : Board) : Type 0 where

@@ -1,4 +1,5 @@
--- Where the runs, jobs and legs with a number stand. Jobs are numbered through all runs, and legs through all jobs.
+-- Where the runs, jobs and legs with a number stand. Jobs
+-- are numbered through all runs, and legs through all jobs.
 use Rattle.std.specs.Prelude.{ℕ, suc, ◌-◌, List, [], ◌∷◌, length, nat_lt, Option, Some, None, Result, Ok, Err, slice_get, if◌then◌else◌}
 use Rattle.board_decisions.specs.declared.place.JobPlace.{JobPlace}
 use Rattle.board_decisions.specs.declared.place.LegPlace.{LegPlace}
@@ -20,17 +21,20 @@ None >>= f = None
 abbrev pub job_place_from : ℕ → List Run → ℕ → Option JobPlace
 job_place_from k [] n = None
 job_place_from k (run ∷ runs) n =
-    if nat_lt n (length run.jobs) then Some (record { run = k; job = n }) else job_place_from (suc k) runs (n - length run.jobs)
+    if nat_lt n (length run.jobs) then Some (record { run = k; job = n })
+    else job_place_from (suc k) runs (n - length run.jobs)
 
 -- the place of the job with this number
 abbrev pub job_place : Board → ℕ → Option JobPlace
 job_place b n = job_place_from 0 b.runs n
 
--- the place of the leg with this number, counted through a run's jobs from place k on; else what is left of the number
+-- the place of the leg with this number, counted through a
+-- run's jobs from place k on; else what is left of the number
 abbrev pub leg_in_jobs : ℕ → ℕ → List Job → ℕ → Result LegPlace ℕ
 leg_in_jobs r k [] n = Err n
 leg_in_jobs r k (job ∷ jobs) n =
-    if nat_lt n (length job.legs) then Ok (record { run = r; job = k; leg = n }) else leg_in_jobs r (suc k) jobs (n - length job.legs)
+    if nat_lt n (length job.legs) then Ok (record { run = r; job = k; leg = n })
+    else leg_in_jobs r (suc k) jobs (n - length job.legs)
 
 -- the place, or what comes of the number that is left
 abbrev pub else_from : Result LegPlace ℕ → (ℕ → Option LegPlace) → Option LegPlace
@@ -40,7 +44,8 @@ else_from (Err left) later = later left
 -- the same, counted through the runs from place k on
 abbrev pub leg_place_from : ℕ → List Run → ℕ → Option LegPlace
 leg_place_from k [] n = None
-leg_place_from k (run ∷ runs) n = else_from (leg_in_jobs k 0 run.jobs n) (λ left. leg_place_from (suc k) runs left)
+leg_place_from k (run ∷ runs) n =
+    else_from (leg_in_jobs k 0 run.jobs n) (λ left. leg_place_from (suc k) runs left)
 
 -- the place of the leg with this number
 abbrev pub leg_place : Board → ℕ → Option LegPlace
@@ -80,13 +85,18 @@ run_at p b n = do
   run ← slice_get b.runs n
   Some (record { board = b; plan = plan; run = run })
 
+-- the job at a place, whose run is given
+abbrev pub job_in_run : Board → RunPlan → Run → JobPlace → Option JobAt
+job_in_run b run_plan run place = do
+  plan ← slice_get run_plan.jobs place.job
+  job ← slice_get run.jobs place.job
+  Some (record { board = b; place = place; run_plan = run_plan; plan = plan; run = run; job = job })
+
 -- the job at a place
 abbrev pub job_placed : Plan → Board → JobPlace → Option JobAt
 job_placed p b place = do
   run ← run_at p b place.run
-  plan ← slice_get run.plan.jobs place.job
-  job ← slice_get run.run.jobs place.job
-  Some (record { board = b; place = place; run_plan = run.plan; plan = plan; run = run.run; job = job })
+  job_in_run b run.plan run.run place
 
 -- the job with a number
 abbrev pub job_at : Plan → Board → ℕ → Option JobAt
@@ -94,10 +104,24 @@ job_at p b n = do
   place ← job_place b n
   job_placed p b place
 
+-- the leg at a place
+abbrev pub leg_placed : Plan → Board → LegPlace → Option LegAt
+leg_placed p b place = do
+  at ← job_placed p b (record { run = place.run; job = place.job })
+  leg ← slice_get at.job.legs place.leg
+  Some
+      (record {
+        board = b;
+        place = place;
+        run_plan = at.run_plan;
+        job_plan = at.plan;
+        run = at.run;
+        job = at.job;
+        leg = leg;
+      })
+
 -- the leg with a number
 abbrev pub leg_at : Plan → Board → ℕ → Option LegAt
 leg_at p b n = do
   place ← leg_place b n
-  at ← job_placed p b (record { run = place.run; job = place.job })
-  leg ← slice_get at.job.legs place.leg
-  Some (record { board = b; place = place; run_plan = at.run_plan; job_plan = at.plan; run = at.run; job = at.job; leg = leg })
+  leg_placed p b place

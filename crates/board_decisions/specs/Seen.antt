@@ -13,11 +13,28 @@ run_seen x = record { board = x.board.now; plan = x.plan.now; run = x.run.now }
 
 -- a job with its plan and run
 abbrev pub job_seen : SeenJob → JobAt
-job_seen x = record { board = x.board.now; place = x.place; run_plan = x.run_plan.now; plan = x.plan.now; run = x.run.now; job = x.job.now }
+job_seen x =
+    record {
+      board = x.board.now;
+      place = x.place;
+      run_plan = x.run_plan.now;
+      plan = x.plan.now;
+      run = x.run.now;
+      job = x.job.now;
+    }
 
 -- a leg with its job and run
 abbrev pub leg_seen : SeenLeg → LegAt
-leg_seen x = record { board = x.board.now; place = x.place; run_plan = x.run_plan.now; job_plan = x.job_plan.now; run = x.run.now; job = x.job.now; leg = x.leg.now }
+leg_seen x =
+    record {
+      board = x.board.now;
+      place = x.place;
+      run_plan = x.run_plan.now;
+      job_plan = x.job_plan.now;
+      run = x.run.now;
+      job = x.job.now;
+      leg = x.leg.now;
+    }
 
 -- what the texts of a run see
 abbrev pub run_scene : SeenRun → Values

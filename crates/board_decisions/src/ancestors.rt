@@ -87,7 +87,8 @@ fn has_ancestor(
     Ok(holds_at(marks.as_slice(), place))
 }
 
-/// Whether a job, whose run's first job has the number `first`, has an ancestor with a result that is looked for.
+/// Whether a job, whose run's first job has the number
+/// `first`, has an ancestor with a result that is looked for.
 fn has_ancestor_with(
     alloc: Global,
     first: u64,

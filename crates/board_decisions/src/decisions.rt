@@ -1,13 +1,14 @@
 //! What is decided by the texts of a plan: conditions, environments, the texts of a call, flags and outputs.
 
-ghost use Rattle.std.specs.Prelude.{◌≡◌, [], not, Some, IfOk, OnOk, string_bytes};
+ghost use Rattle.std.specs.Prelude.{◌≡◌, [], not, Some, IfOk, OnOk, Result, string_bytes};
 ghost use Rattle.board_decisions.specs.Decisions as spec;
 ghost use Rattle.board_decisions.specs.Seen.{job_seen, leg_scene, leg_seen, run_seen};
 ghost use Rattle.expr_value.specs.Answer.{Gives};
 ghost use Rattle.expr_value.specs.declared.status.Status.TheVariants as status;
+ghost use Rattle.flow_model.specs.declared.reply.ValueFault.{ValueFault as ValueFaultOf};
 ghost use Rattle.text_values.specs.Known.{IsKnownOf, known_env};
 ghost use Rattle.text_values.specs.Texts.{condition_value};
-ghost use Rattle.text_values.specs.Values.{contexts_at, with_env};
+ghost use Rattle.text_values.specs.Values.{Env, Values, contexts_at, with_env};
 ghost use Rattle.text_values.specs.declared.place.Place.TheVariants as place;
 
 use crate::contexts::job_of;
@@ -64,17 +65,25 @@ fn stops_anyway(at: &SeenLeg) -> bool
     at.leg.stop || (at.job_plan.fail_fast && is_any_failed(at.job.legs.as_slice()))
 }
 
-/// Whether a leg is to stop.
-pub fn is_stopping(alloc: Global, at: &SeenLeg) -> Result<bool, AllocError>
+/// Whether a leg is to stop, of which it is known whether it is whatever its job's condition.
+pub fn is_stopping_given(alloc: Global, at: &SeenLeg, anyway: bool) -> Result<bool, AllocError>
+    requires { anyway ≡ spec.stops_anyway (leg_seen at.now) }
     ensures { IfOk result (λ stops. stops ≡ spec.is_stopping (leg_seen at.now)) }
 {
-    if stops_anyway(at) {
+    if anyway {
         return Ok(true);
     }
     if !at.run.stop {
         return Ok(false);
     }
     ends_cancelled(alloc, &job_of(at))
+}
+
+/// Whether a leg is to stop.
+pub fn is_stopping(alloc: Global, at: &SeenLeg) -> Result<bool, AllocError>
+    ensures { IfOk result (λ stops. stops ≡ spec.is_stopping (leg_seen at.now)) }
+{
+    is_stopping_given(alloc, at, stops_anyway(at))
 }
 
 /// How a leg counts that is to stop, or is not.
@@ -162,44 +171,17 @@ fn know_step_env(
     Ok(())
 }
 
-/// Lets texts see the variables of the workflow and the job, or none where there is a fault.
-fn know_job_env_or_none(alloc: Global, at: &SeenLeg, known: &mut Known) -> Result<(), AllocError>
-    requires known { IsKnownOf (leg_scene at.now) known.old }
-    requires env { known_env known.old ≡ [] }
-    ensures ok { OnOk result
-        (known_env known.new ≡ spec.or_none (spec.job_env (leg_seen at.now))) }
-    ensures known { IsKnownOf (leg_scene at.now) known.new }
-{
-    match know_job_env(alloc, at, known) {
-        Ok(()) => Ok(()),
-        Err(ValueFault::Memory) => Err(AllocError),
-        Err(
-            ValueFault::NotWhole
-            | ValueFault::NoIdentity
-            | ValueFault::BadFormat
-            | ValueFault::BadJson
-            | ValueFault::TooLarge,
-        ) => {
-            known.set_env(Mapping::empty(alloc));
-            Ok(())
-        },
-    }
-}
-
-/// Lets texts see the variables of the workflow, the job and a step, or none where there is a fault.
-fn know_step_env_or_none(
+/// Lets texts see the variables that were evaluated, or none where there was a fault.
+fn known_or_none(
     alloc: Global,
-    at: &SeenLeg,
     known: &mut Known,
-    step: &StepPlan,
+    evaluated: Result<(), ValueFault>,
 ) -> Result<(), AllocError>
-    requires known { IsKnownOf (leg_scene at.now) known.old }
-    requires env { known_env known.old ≡ [] }
-    ensures ok { OnOk result
-        (known_env known.new ≡ spec.or_none (spec.step_env (leg_seen at.now) step.now)) }
-    ensures known { IsKnownOf (leg_scene at.now) known.new }
+    ensures env { (value : Result Env ValueFaultOf) → Gives (λ _. known_env known.old) evaluated value
+        → OnOk result (known_env known.new ≡ spec.or_none value) }
+    ensures known { (values : Values) → IsKnownOf values known.old → IsKnownOf values known.new }
 {
-    match know_step_env(alloc, at, known, step) {
+    match evaluated {
         Ok(()) => Ok(()),
         Err(ValueFault::Memory) => Err(AllocError),
         Err(
@@ -281,8 +263,8 @@ fn call_value(
         (spec.call_value number (leg_seen at.now) step.now (known_env known.old)) }
     ensures known { IsKnownOf (leg_scene at.now) known.new }
 {
-    let work = work_value(alloc, at, known, &step.work)?;
     let env = known.env().copy(alloc)?;
+    let work = work_value(alloc, at, known, &step.work)?;
     Ok(StepCall {
         leg: number,
         step: at.leg.steps.len() as u64,
@@ -316,8 +298,8 @@ fn step_condition(
     )
 }
 
-/// The call of a step, or none where it is skipped: its variables first, then its condition, then the texts of the
-/// call.
+/// The call of a step, or none where it is skipped: its variables
+/// first, then its condition, then the texts of the call.
 #[tactic(auto, unfolding(crate::specs::Decisions::step_decision))]
 fn decide_step(
     alloc: Global,
@@ -358,7 +340,8 @@ pub fn step_tolerates(alloc: Global, at: &SeenLeg, step: &StepPlan) -> Result<bo
         (λ tolerates. tolerates ≡ spec.step_tolerates (leg_seen at.now) step.now) }
 {
     let mut known = Known::empty(alloc);
-    know_step_env_or_none(alloc, at, &mut known, step)?;
+    let evaluated = know_step_env(alloc, at, &mut known, step);
+    known_or_none(alloc, &mut known, evaluated)?;
     flag_at(alloc, at, &mut known, Place::StepText, &step.tolerate)
 }
 
@@ -383,7 +366,8 @@ pub fn leg_outputs(alloc: Global, at: &SeenLeg) -> Result<Mapping<Text>, AllocEr
     ensures { IfOk result (λ outputs. outputs ≡ spec.leg_outputs (leg_seen at.now)) }
 {
     let mut known = Known::empty(alloc);
-    know_job_env_or_none(alloc, at, &mut known)?;
+    let evaluated = know_job_env(alloc, at, &mut known);
+    known_or_none(alloc, &mut known, evaluated)?;
     outputs_at(alloc, at, &mut known, Place::StepEnv, &at.job_plan.outputs)
 }
 
@@ -400,26 +384,39 @@ fn entrance(name: String, cancel: bool) -> Option<Entrance>
     })
 }
 
-/// How a group is entered, if there is one.
-fn entrance_at<S: Scene>(
+/// How a group is entered: its flag has no faults, and so it may be looked at before its name.
+fn entrance_known<S: Scene>(
     alloc: Global,
     scene: &S,
     known: &mut Known,
     place: Place,
-    group: &Option<Group>,
+    group: &Group,
 ) -> Result<Option<Entrance>, ValueFault>
     requires { IsKnownOf (S.values scene.now) known.old }
     ensures { Gives (λ group. group) result (spec.entrance_value
         (contexts_at place (with_env (known_env known.old) (S.values scene.now)))
-        group.now) }
+        (Some group.now)) }
 {
-    let Some(group) = group else {
-        return Ok(None);
-    };
+    let cancel = flag_at(alloc, scene, known, place, &group.cancel)?;
     let text = text_at(alloc, scene, known, place, group.name.as_str())?;
     let name = fold(alloc, text.as_str())?;
-    let cancel = flag_at(alloc, scene, known, place, &group.cancel)?;
     Ok(entrance(name, cancel))
+}
+
+/// How a group is entered, if there is one.
+fn entrance_at<S: Scene>(
+    alloc: Global,
+    scene: &S,
+    place: Place,
+    group: &Option<Group>,
+) -> Result<Option<Entrance>, ValueFault>
+    ensures { Gives (λ group. group) result
+        (spec.entrance_value (contexts_at place (with_env [] (S.values scene.now))) group.now) }
+{
+    match group {
+        Some(group) => entrance_known(alloc, scene, &mut Known::empty(alloc), place, group),
+        None => Ok(None),
+    }
 }
 
 /// How a run enters its workflow's group, if there is one.
@@ -427,9 +424,7 @@ fn entrance_at<S: Scene>(
 pub fn run_entrance(alloc: Global, at: &SeenRun) -> Result<Option<Entrance>, ValueFault>
     ensures { Gives (λ group. group) result (spec.run_entrance (run_seen at.now)) }
 {
-    let mut known = Known::empty(alloc);
-    let group = &at.plan.group;
-    entrance_at(alloc, at, &mut known, Place::WorkflowGroup, group)
+    entrance_at(alloc, at, Place::WorkflowGroup, &at.plan.group)
 }
 
 /// How a leg enters its job's group, if there is one.
@@ -437,7 +432,5 @@ pub fn run_entrance(alloc: Global, at: &SeenRun) -> Result<Option<Entrance>, Val
 pub fn leg_entrance(alloc: Global, at: &SeenLeg) -> Result<Option<Entrance>, ValueFault>
     ensures { Gives (λ group. group) result (spec.leg_entrance (leg_seen at.now)) }
 {
-    let mut known = Known::empty(alloc);
-    let group = &at.job_plan.group;
-    entrance_at(alloc, at, &mut known, Place::JobGroup, group)
+    entrance_at(alloc, at, Place::JobGroup, &at.job_plan.group)
 }

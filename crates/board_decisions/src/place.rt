@@ -1,12 +1,12 @@
 //! Where runs, jobs and legs stand, and what stands there.
 
-ghost use Rattle.std.specs.Prelude.{◌≡◌, option_map};
+ghost use Rattle.std.specs.Prelude.{◌≡◌, option_map, slice_get};
 ghost use Rattle.std.specs.Option.{option_copied};
-ghost use Rattle.board_decisions.specs.Numbered.{leg_there as leg_there_of};
+ghost use Rattle.board_decisions.specs.Numbered.{leg_there as leg_there_of, numbered_leg as numbered_leg_of};
 ghost use Rattle.board_decisions.specs.Place as spec;
 ghost use Rattle.board_decisions.specs.Seen.{run_seen, job_seen, leg_seen};
 
-use flow_model::{Board, Job, JobPlan, Leg, Plan, Run, RunPlan};
+use flow_model::{Board, Job, JobPlan, Leg, Plan, Run, RunPlan, Sequence};
 
 /// A job by its run's place and its own in the run.
 #[derive(Clone, Copy)]
@@ -52,6 +52,13 @@ pub struct SeenLeg<'a> {
     pub run: &'a Run,
     pub job: &'a Job,
     pub leg: &'a Leg,
+}
+
+/// The item at a place of a list, if there is one.
+pub fn item_at<T>(items: &Sequence<T>, place: usize) -> Option<&T>
+    ensures { option_copied result ≡ slice_get items.now place }
+{
+    items.as_slice().get(place)
 }
 
 /// The place of the job with a number.
@@ -109,18 +116,47 @@ pub fn find_leg_place(runs: &[Run], number: usize) -> Option<LegPlace>
 pub fn leg_there(board: &Board, place: LegPlace) -> Option<&Leg>
     ensures { option_copied result ≡ leg_there_of board.now place }
 {
-    let run = board.runs.as_slice().get(place.run)?;
-    let job = run.jobs.as_slice().get(place.job)?;
-    job.legs.as_slice().get(place.leg)
+    let run = item_at(&board.runs, place.run)?;
+    let job = item_at(&run.jobs, place.job)?;
+    item_at(&job.legs, place.leg)
+}
+
+/// The leg with a number, if there is one.
+pub fn numbered_leg(board: &Board, number: usize) -> Option<&Leg>
+    ensures { option_copied result ≡ numbered_leg_of board.now number }
+{
+    let place = find_leg_place(board.runs.as_slice(), number)?;
+    leg_there(board, place)
 }
 
 /// The run with a number.
 pub fn find_run<'a>(plan: &'a Plan, board: &'a Board, number: usize) -> Option<SeenRun<'a>>
     ensures { option_map run_seen result ≡ spec.run_at plan.now board.now number }
 {
-    let plan = plan.runs.as_slice().get(number)?;
-    let run = board.runs.as_slice().get(number)?;
+    let plan = item_at(&plan.runs, number)?;
+    let run = item_at(&board.runs, number)?;
     Some(SeenRun { board, plan, run })
+}
+
+/// The job at a place, whose run is given.
+pub(crate) fn job_in_run<'a>(
+    board: &'a Board,
+    run_plan: &'a RunPlan,
+    run: &'a Run,
+    place: JobPlace,
+) -> Option<SeenJob<'a>>
+    ensures { option_map job_seen result ≡ spec.job_in_run board.now run_plan.now run.now place }
+{
+    let plan = item_at(&run_plan.jobs, place.job)?;
+    let job = item_at(&run.jobs, place.job)?;
+    Some(SeenJob {
+        board,
+        place,
+        run_plan,
+        plan,
+        run,
+        job,
+    })
 }
 
 /// The job at a place.
@@ -128,16 +164,7 @@ fn find_placed<'a>(plan: &'a Plan, board: &'a Board, place: JobPlace) -> Option<
     ensures { option_map job_seen result ≡ spec.job_placed plan.now board.now place }
 {
     let at = find_run(plan, board, place.run)?;
-    let plan = at.plan.jobs.as_slice().get(place.job)?;
-    let job = at.run.jobs.as_slice().get(place.job)?;
-    Some(SeenJob {
-        board,
-        place,
-        run_plan: at.plan,
-        plan,
-        run: at.run,
-        job,
-    })
+    job_in_run(board, at.plan, at.run, place)
 }
 
 /// The job with a number.
@@ -148,17 +175,16 @@ pub fn find_job<'a>(plan: &'a Plan, board: &'a Board, number: usize) -> Option<S
     find_placed(plan, board, place)
 }
 
-/// The leg with a number.
-pub fn find_leg<'a>(plan: &'a Plan, board: &'a Board, number: usize) -> Option<SeenLeg<'a>>
-    ensures { option_map leg_seen result ≡ spec.leg_at plan.now board.now number }
+/// The leg at a place.
+pub fn find_placed_leg<'a>(plan: &'a Plan, board: &'a Board, place: LegPlace) -> Option<SeenLeg<'a>>
+    ensures { option_map leg_seen result ≡ spec.leg_placed plan.now board.now place }
 {
-    let place = find_leg_place(board.runs.as_slice(), number)?;
     let in_run = JobPlace {
         run: place.run,
         job: place.job,
     };
     let at = find_placed(plan, board, in_run)?;
-    let leg = at.job.legs.as_slice().get(place.leg)?;
+    let leg = item_at(&at.job.legs, place.leg)?;
     Some(SeenLeg {
         board,
         place,
@@ -168,4 +194,12 @@ pub fn find_leg<'a>(plan: &'a Plan, board: &'a Board, number: usize) -> Option<S
         job: at.job,
         leg,
     })
+}
+
+/// The leg with a number.
+pub fn find_leg<'a>(plan: &'a Plan, board: &'a Board, number: usize) -> Option<SeenLeg<'a>>
+    ensures { option_map leg_seen result ≡ spec.leg_at plan.now board.now number }
+{
+    let place = find_leg_place(board.runs.as_slice(), number)?;
+    find_placed_leg(plan, board, place)
 }

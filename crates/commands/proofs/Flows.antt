@@ -2,9 +2,9 @@
 use Rattle.std.proofs.Common.{◌≡◌, ◌∙◌, ◌<◌, ◌≤◌, ◌+◌, ℕ, List, [], ◌∷◌, ◌++◌, length, drop, get_or, ap, sym, subst, inl, inr, append-nil, append_assoc}
 use Rattle.std.proofs.lemmas.List.{drop_more, drop_all}
 use Rattle.flow_model.specs.declared.flow.Workflow.{Workflow}
-use Rattle.commands.specs.Files.{Content}
+use Rattle.command_io.specs.Files.{Content}
 use Rattle.commands.specs.Planning.{GivesFlow, GiveFlows, GivesNoFlow, GiveNoFlows}
-use Rattle.commands.specs.declared.trouble.Trouble.{Trouble}
+use Rattle.command_io.specs.declared.trouble.Trouble.{Trouble}
 
 -- The first i files stand for these workflows: what the others stand for is what all do.
 pub record GoingFlows (files : List Content) (i : ℕ) (flows : List Workflow) : Type 0 where

@@ -8,7 +8,7 @@ use Rattle.plan_assembler.specs.Plans.{Assembles}
 use Rattle.plan_assembler.specs.Stages.{stage_after}
 use Rattle.plan_assembler.specs.Staging.{AreStageLists, plan_graph, run_jobs, stage_lists}
 use Rattle.plan_assembler.specs.declared.choice.Choice.{Choice}
-use Rattle.commands.specs.Files.{Content}
+use Rattle.command_io.specs.Files.{Content}
 use Rattle.commands.specs.List.{IsListing, listing}
 use Rattle.commands.specs.Planning.{ComesTo, GivesFlow, GiveFlows}
 

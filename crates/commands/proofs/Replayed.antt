@@ -1,13 +1,13 @@
 -- A replay is told as its answer.
 use Rattle.std.proofs.Common.{◌≡◌, ℕ, List, Result, Ok, Err, String, Global, refl}
-use Rattle.commands.proofs.Told.{IsKept-same}
+use Rattle.command_io.proofs.Told.{IsKept-same}
 use Rattle.commands.specs.Replay.{GivesReplay, IsReplayAnswer, ReplayTells, status_of, text_of}
-use Rattle.commands.specs.Stream.{Stream, IsRead}
-use Rattle.commands.specs.Tell.{Answer, OrMemory, Says, TellsBy}
-use Rattle.commands.specs.Trouble.{line, source_trouble, trouble_status}
-use Rattle.commands.specs.declared.stream.SourceFault.{SourceFault}
-use Rattle.commands.specs.declared.stream.SourceFault.TheVariants as source_fault
-use Rattle.commands.specs.declared.trouble.Trouble.{Trouble}
+use Rattle.command_io.specs.Stream.{Stream, IsRead}
+use Rattle.command_io.specs.Tell.{Answer, OrMemory, Says, TellsBy}
+use Rattle.command_io.specs.Trouble.{line, source_trouble, trouble_status}
+use Rattle.command_io.specs.declared.stream.SourceFault.{SourceFault}
+use Rattle.command_io.specs.declared.stream.SourceFault.TheVariants as source_fault
+use Rattle.command_io.specs.declared.trouble.Trouble.{Trouble}
 
 -- what the code answers is an answer
 pub answered : (text : List ℕ) (result : Result (String Global × ℕ) Trouble) → GivesReplay text result

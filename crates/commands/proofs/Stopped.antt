@@ -12,8 +12,8 @@ use Rattle.status_table.specs.Runs.{StopsAt, after, new_board}
 use Rattle.status_table.specs.declared.fault.EventFault.{EventFault}
 use Rattle.status_table.specs.declared.fault.EventFault.TheVariants as event_fault
 use Rattle.step_host.specs.Replay.{IsRefusedAt}
-use Rattle.commands.specs.declared.trouble.Trouble.TheVariants.{Memory, Refused}
-use Rattle.commands.specs.Records.{HasLine, IsStopped, StopsOn, stop_trouble}
+use Rattle.command_io.specs.declared.trouble.Trouble.TheVariants.{Memory, Refused}
+use Rattle.command_io.specs.Records.{HasLine, IsStopped, StopsOn, stop_trouble}
 
 stops_on : (p : Plan) (es : List Entry) (i : ℕ) (f : EventFault) (b : Board) → is_memory f ≡ false → StopsAt p (new_board p) es i f b → StopsOn p es (i + 2) f
 stops_on p es i f b named stop = record {

@@ -16,12 +16,12 @@ use Rattle.flow_model.specs.Json.{json_of}
 use Rattle.flow_model.specs.Plain.{Plain}
 use Rattle.flow_model.specs.declared.reply.ValueFault.{ValueFault}
 use Rattle.flow_model.specs.declared.reply.ValueFault.TheVariants as value_fault
-use Rattle.commands.specs.Contexts.{file_contexts}
-use Rattle.commands.specs.Stream.{Stream, IsRead}
-use Rattle.commands.specs.Tell.{Answer, OrMemory, TellsOf, answer_seen}
-use Rattle.commands.specs.declared.contexts.ContextsFault.{ContextsFault}
-use Rattle.commands.specs.declared.trouble.Trouble.{Trouble}
-use Rattle.commands.specs.declared.trouble.Trouble.TheVariants.{NoExpression, NoValue, NoContexts, NoFlow, NotPlanned, NoPlan, NoEntry, Refused, Words, Io, Memory}
+use Rattle.command_io.specs.Contexts.{file_contexts}
+use Rattle.command_io.specs.Stream.{Stream, IsRead}
+use Rattle.command_io.specs.Tell.{Answer, OrMemory, TellsOf, answer_seen}
+use Rattle.command_io.specs.declared.contexts.ContextsFault.{ContextsFault}
+use Rattle.command_io.specs.declared.trouble.Trouble.{Trouble}
+use Rattle.command_io.specs.declared.trouble.Trouble.TheVariants.{NoExpression, NoValue, NoContexts, NoFlow, NotPlanned, NoPlan, NoEntry, Refused, Words, Io, Memory}
 
 -- The text is an expression, whose evaluation where the status is success answers this.
 pub record Evaluates (contexts : Contexts) (expression : List ℕ) (answer : Result Plain ValueFault) : Type 0 where
@@ -143,20 +143,6 @@ ContextsTrouble file bytes (Refused n fault) = ⊥
 ContextsTrouble file bytes Words = ⊥
 ContextsTrouble file bytes Io = ⊥
 ContextsTrouble file bytes Memory = Unit {0}
-
--- That trouble with a file of that name, unless memory runs out.
-abbrev pub IsContextsTrouble : List ℕ → ContextsFault → Trouble → Type 0
-IsContextsTrouble file fault (NoContexts name named) = (name ≡ file) × (named ≡ fault)
-IsContextsTrouble file fault (NoExpression other) = ⊥
-IsContextsTrouble file fault (NoValue other) = ⊥
-IsContextsTrouble file fault (NoFlow name other) = ⊥
-IsContextsTrouble file fault (NotPlanned other) = ⊥
-IsContextsTrouble file fault (NoPlan other) = ⊥
-IsContextsTrouble file fault (NoEntry n) = ⊥
-IsContextsTrouble file fault (Refused n other) = ⊥
-IsContextsTrouble file fault Words = ⊥
-IsContextsTrouble file fault Io = ⊥
-IsContextsTrouble file fault Memory = Unit {0}
 
 -- The contexts of a file, or why there are none.
 abbrev pub HasContexts : List ℕ → List ℕ → Result Contexts Trouble → Type 0

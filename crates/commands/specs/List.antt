@@ -6,11 +6,11 @@ use Rattle.flow_model.specs.declared.plan.Plan.{Plan}
 use Rattle.flow_model.specs.declared.plan.RunPlan.{RunPlan}
 use Rattle.plan_assembler.specs.Staging.{AreStageLists}
 use Rattle.plan_assembler.specs.declared.choice.Choice.TheVariants.{All}
-use Rattle.commands.specs.Files.{File, Content, AreRead}
-use Rattle.commands.specs.Planning.{ComesTo, ComesToNone, no_contexts}
-use Rattle.commands.specs.Stream.{Stream}
-use Rattle.commands.specs.Tell.{Answer, OrMemory, TellsOf, answer_seen}
-use Rattle.commands.specs.declared.trouble.Trouble.{Trouble}
+use Rattle.command_io.specs.Files.{File, Content, AreRead, no_contexts}
+use Rattle.commands.specs.Planning.{ComesTo, ComesToNone}
+use Rattle.command_io.specs.Stream.{Stream}
+use Rattle.command_io.specs.Tell.{Answer, OrMemory, TellsOf, answer_seen}
+use Rattle.command_io.specs.declared.trouble.Trouble.{Trouble}
 
 -- The id of the job with this number.
 abbrev pub id_in : List JobPlan → ℕ → List ℕ

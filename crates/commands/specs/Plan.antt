@@ -6,11 +6,11 @@ use Rattle.flow_model.specs.declared.plan.Plan.{Plan}
 use Rattle.plan_assembler.specs.declared.choice.Choice.{Choice}
 use Rattle.plan_text.specs.Document.{document}
 use Rattle.plan_text.specs.Load.{load}
-use Rattle.commands.specs.Files.{File, Content, AreRead}
+use Rattle.command_io.specs.Files.{File, Content, AreRead}
 use Rattle.commands.specs.Planning.{ComesTo, ComesToNone}
-use Rattle.commands.specs.Stream.{Stream}
-use Rattle.commands.specs.Tell.{Answer, OrMemory, TellsOf, answer_seen}
-use Rattle.commands.specs.declared.trouble.Trouble.{Trouble}
+use Rattle.command_io.specs.Stream.{Stream}
+use Rattle.command_io.specs.Tell.{Answer, OrMemory, TellsOf, answer_seen}
+use Rattle.command_io.specs.declared.trouble.Trouble.{Trouble}
 
 -- The compact text of a plan's document, and a newline.
 abbrev pub plan_line : Plan → List ℕ

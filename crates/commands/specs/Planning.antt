@@ -1,5 +1,5 @@
 -- The plan that files come to: contexts and workflows are read of them, and a choice of the workflows is planned.
-use Rattle.std.specs.Prelude.{◌≡◌, ℕ, ◌⊎◌, codes, List, [], ◌∷◌, Option, Some, Result, Ok, Err}
+use Rattle.std.specs.Prelude.{◌≡◌, ℕ, ◌⊎◌, List, [], ◌∷◌, Option, Some, Result, Ok, Err}
 use Rattle.flow_model.specs.Rules.{IsPlan}
 use Rattle.flow_model.specs.declared.flow.Workflow.{Workflow}
 use Rattle.flow_model.specs.declared.plan.Plan.{Plan}
@@ -13,10 +13,10 @@ use Rattle.plan_assembler.specs.Refusals.{Refuses}
 use Rattle.plan_assembler.specs.declared.choice.Choice.{Choice}
 use Rattle.plan_assembler.specs.declared.fault.PlanFault.{PlanFault}
 use Rattle.plan_assembler.specs.declared.fault.PlanFault.TheVariants as plan_fault
-use Rattle.commands.specs.Files.{Content}
-use Rattle.commands.specs.Trouble.{UnlessMemory}
-use Rattle.commands.specs.declared.trouble.Trouble.{Trouble}
-use Rattle.commands.specs.declared.trouble.Trouble.TheVariants.{NoFlow, NotPlanned, Memory}
+use Rattle.command_io.specs.Files.{Content}
+use Rattle.command_io.specs.Trouble.{UnlessMemory}
+use Rattle.command_io.specs.declared.trouble.Trouble.{Trouble}
+use Rattle.command_io.specs.declared.trouble.Trouble.TheVariants.{NoFlow, NotPlanned, Memory}
 
 -- ---- what files stand for
 
@@ -81,10 +81,6 @@ FlowsFail choice roots files trouble =
 abbrev pub ComesToNone : Choice → Content → List Content → Trouble → Type 0
 ComesToNone choice contexts files trouble =
     GivesNoRoots contexts trouble ⊎ ((roots : Roots) × GivesRoots contexts roots × FlowsFail choice roots files trouble)
-
--- What is handed over where no file of contexts is named: an empty object.
-abbrev pub no_contexts : Content
-no_contexts = record { name = []; bytes = codes "{}" }
 
 -- ---- what the code answers
 

@@ -7,13 +7,13 @@ ghost use Rattle.flow_model.specs.Json.{json_of as json_of_value};
 ghost use Rattle.commands.specs.Eval as spec;
 ghost use Rattle.commands.specs.Eval.{EvalTells};
 
-use crate::contexts::{ContextsFault, Unread, file_contexts};
-use crate::stream::{Sink, Source};
-use crate::tell::{refuse_source, tell};
-use crate::trouble::Trouble;
+use command_io::contexts::{Unread, file_contexts};
+use command_io::stream::{Sink, Source};
+use command_io::tell::{refuse_source, tell};
+use command_io::trouble::{Trouble, contexts_trouble};
 use expr_reader::{ExprFault, Tree, read_expr};
 use expr_value::Status;
-use flow_model::{Mapping, Text, Value, ValueFault, into_json};
+use flow_model::{Mapping, Value, ValueFault, into_json};
 use std::alloc::{AllocError, Global};
 
 /// A fault of an expression's text, or want of memory.
@@ -62,16 +62,6 @@ fn line_of(alloc: Global, value: Value) -> Result<String, AllocError>
     let mut line = compact_json(alloc, value)?;
     line.push_str("\n")?;
     Ok(line)
-}
-
-/// That the file of that name gives no contexts.
-pub(crate) fn contexts_trouble(alloc: Global, file: &str, fault: ContextsFault) -> Trouble
-    ensures { spec.IsContextsTrouble file.now fault result }
-{
-    match Text::from_str(alloc, file) {
-        Ok(name) => Trouble::NoContexts(name, fault),
-        Err(_) => Trouble::Memory,
-    }
 }
 
 /// The contexts that the bytes of the file of that name give.

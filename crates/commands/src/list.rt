@@ -3,16 +3,16 @@
 ghost use Rattle.std.specs.Prelude.{◌≡◌, IfOk, OnOk, flat_map, map, slice_get, string_bytes};
 ghost use Rattle.plan_text.specs.BoardText.{Adds};
 ghost use Rattle.plan_assembler.specs.declared.choice.Choice.TheVariants.{All};
-ghost use Rattle.commands.specs.Files.{file_seen};
+ghost use Rattle.command_io.specs.Files.{file_seen, no_contexts as no_contexts_of};
 ghost use Rattle.commands.specs.List as spec;
 ghost use Rattle.commands.specs.List.{ListTells, OneListing};
-ghost use Rattle.commands.specs.Planning.{ComesTo, ComesToNone, Finds, no_contexts as no_contexts_of};
+ghost use Rattle.commands.specs.Planning.{ComesTo, ComesToNone, Finds};
 
-use crate::files::{Content, NamedSource, no_contexts, read_files};
 use crate::planning::plan_of;
-use crate::stream::{Sink, Source};
-use crate::tell::{refuse_source, tell};
-use crate::trouble::Trouble;
+use command_io::files::{Content, NamedSource, no_contexts, read_files};
+use command_io::stream::{Sink, Source};
+use command_io::tell::{refuse_source, tell};
+use command_io::trouble::Trouble;
 use flow_model::{CheckedPlan, JobPlan, Plan, Sequence};
 use plan_assembler::Choice;
 use plan_assembler::laws::{one_plan, one_staging};

@@ -1,15 +1,15 @@
 //! `actrun plan`: the plan that workflows come to.
 
 ghost use Rattle.std.specs.Prelude.{◌≡◌, IfOk, map, string_bytes};
-ghost use Rattle.commands.specs.Files.{file_seen};
+ghost use Rattle.command_io.specs.Files.{file_seen};
 ghost use Rattle.commands.specs.Plan as spec;
 ghost use Rattle.commands.specs.Plan.{OnePlanText, PlanTells};
 
-use crate::files::{Content, NamedSource, read_first};
 use crate::planning::plan_of;
-use crate::stream::{Sink, Source};
-use crate::tell::{refuse_source, tell};
-use crate::trouble::Trouble;
+use command_io::files::{Content, NamedSource, read_first};
+use command_io::stream::{Sink, Source};
+use command_io::tell::{refuse_source, tell};
+use command_io::trouble::Trouble;
 use flow_model::CheckedPlan;
 use plan_assembler::Choice;
 use plan_assembler::laws::one_plan;

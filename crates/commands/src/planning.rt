@@ -6,8 +6,8 @@ ghost use Rattle.plan_assembler.specs.Refusals.{Plans};
 ghost use Rattle.commands.specs.Planning as spec;
 ghost use Rattle.commands.specs.Planning.{Finds};
 
-use crate::files::Content;
-use crate::trouble::Trouble;
+use command_io::files::Content;
+use command_io::trouble::Trouble;
 use flow_model::{CheckedPlan, Flow, Roots, Sequence, Text};
 use flow_reader::{FlowFault, read_flow, read_roots};
 use plan_assembler::{Choice, PlanFault, Planner};

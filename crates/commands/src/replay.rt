@@ -1,74 +1,22 @@
 //! `actrun replay`: the board after a record, which is played again.
 
 ghost use Rattle.std.specs.Prelude.{◌≡◌};
-ghost use Rattle.std.specs.List.{list_all};
-ghost use Rattle.board_decisions.specs.Derived.{is_closed};
 ghost use Rattle.worker_pool.specs.Entries.{IsMemory};
 ghost use Rattle.commands.specs.Replay as spec;
-ghost use Rattle.commands.specs.Tell.{TellsBy};
+ghost use Rattle.command_io.specs.Tell.{TellsBy};
 ghost use Rattle.commands.specs.Replay.{GivesBoard, GivesEntries, GivesReplay, ReplayTells};
 
-use crate::records::{load_trouble, stop_trouble};
-use crate::stream::{Sink, Source};
-use crate::tell::{refuse_source, tell_by};
-use crate::trouble::{DONE, Trouble};
-use board_decisions::derived::is_closed;
-use flow_model::{Board, CheckedPlan, Entry, Outcome, Run, RunState};
+use command_io::records::{load_trouble, stop_trouble};
+use command_io::runs::runs_status;
+use command_io::stream::{Sink, Source};
+use command_io::tell::{refuse_source, tell_by};
+use command_io::trouble::{DONE, Trouble};
+use flow_model::{Board, CheckedPlan, Entry};
 use plan_text::{board_text, load_record};
 use status_table::board_laws::legal_lists_are_short;
 use std::alloc::Global;
 use step_host::ReplayHost;
 use worker_pool::{PoolFault, play_entries};
-
-/// The exit status where a run failed or was cancelled.
-pub(crate) const UNSUCCESSFUL: u8 = 1;
-
-/// The exit status where a run is not closed.
-pub(crate) const UNCLOSED: u8 = 4;
-
-/// Whether a run is closed with success.
-fn has_succeeded(state: RunState) -> bool
-    ensures { result ≡ spec.has_succeeded state }
-{
-    match state {
-        RunState::New => false,
-        RunState::Waiting => false,
-        RunState::Going => false,
-        RunState::Closed(outcome) => match outcome {
-            Outcome::Success => true,
-            Outcome::Failure => false,
-            Outcome::Cancelled => false,
-            Outcome::Skipped => false,
-        },
-    }
-}
-
-/// Whether all runs are closed.
-fn are_closed(runs: &[Run]) -> bool
-    ensures { result ≡ list_all (λ run. is_closed run.state) runs.now }
-{
-    runs.iter().all(|run| is_closed(run.state))
-}
-
-/// Whether all runs are closed with success.
-fn have_succeeded(runs: &[Run]) -> bool
-    ensures { result ≡ list_all (λ run. spec.has_succeeded run.state) runs.now }
-{
-    runs.iter().all(|run| has_succeeded(run.state))
-}
-
-/// The exit status that tells how the runs of a board ended.
-pub(crate) fn runs_status(board: &Board) -> u8
-    ensures { result ≡ spec.runs_status board.now }
-{
-    if !are_closed(board.runs.as_slice()) {
-        return UNCLOSED;
-    }
-    if have_succeeded(board.runs.as_slice()) {
-        return DONE;
-    }
-    UNSUCCESSFUL
-}
 
 /// Why entries are not played again over the host of their own answers: there is no memory.
 fn replay_trouble(_fault: &PoolFault) -> Trouble
@@ -80,11 +28,7 @@ fn replay_trouble(_fault: &PoolFault) -> Trouble
 
 /// The board after entries, which are played again: each call is answered as the list answers it.
 #[tactic(auto, using(crate::proofs::Stopped::has_line, crate::proofs::Stopped::stops))]
-pub(crate) fn played_again(
-    alloc: Global,
-    plan: &CheckedPlan,
-    entries: &[Entry],
-) -> Result<Board, Trouble>
+fn played_again(alloc: Global, plan: &CheckedPlan, entries: &[Entry]) -> Result<Board, Trouble>
     ensures { GivesEntries plan.now entries.now result }
 {
     legal_lists_are_short();

@@ -5,9 +5,9 @@ ghost use Rattle.commands.specs.Play as spec;
 ghost use Rattle.commands.specs.Table.{OneBoardAnswer, SomeBoardAnswer, TableTells};
 
 use crate::play::record_played;
-use crate::stream::{Sink, Source};
-use crate::tell::{refuse_source, tell};
-use crate::trouble::Trouble;
+use command_io::stream::{Sink, Source};
+use command_io::tell::{refuse_source, tell};
+use command_io::trouble::Trouble;
 use plan_text::board_text;
 use std::alloc::Global;
 

@@ -2,7 +2,7 @@
 
 use crate::streams::Limits;
 use crate::verbs::{Asked, CONTEXTS, Files, Found, perform};
-use commands::run::Machine;
+use run_command::machine::Machine;
 use std::alloc::{AllocError, Global};
 use std::collections::BTreeMap;
 use std::io::Write;

@@ -18,8 +18,7 @@ use expr_reader::{
     same_text,
 };
 use expr_value::{Status, eval_condition, eval_text, loose_eq, to_text, truthy};
-use flow_model::{Duplicate, Mapping, Node, Value, ValueFault, json_of, value_of};
-use plan_text::read_json;
+use flow_model::{Duplicate, Mapping, Node, Value, ValueFault, json_of, read_json, value_of};
 use std::alloc::{AllocError, Global};
 use std::collections::BTreeMap;
 

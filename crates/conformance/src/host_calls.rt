@@ -11,8 +11,8 @@
 
 use crate::verbs::word;
 use crate::{documents, plays, program_calls};
-use flow_model::{Answer, CheckedPlan, Entry, Event};
-use plan_text::{first_line, load_plan, load_record, print_entry, read_entry};
+use flow_model::{Answer, CheckedPlan, Entry, Event, first_line};
+use plan_text::{load_plan, load_record, print_entry, read_entry};
 use std::alloc::{AllocError, Global};
 use std::str;
 use step_host::{HostFault, ReplayHost, ScriptFault, ScriptHost, StepHost};

@@ -54,7 +54,7 @@ mod tree_text;
 mod verbs;
 
 use case::{Told, run_cases};
-use commands::run::Machine;
+use run_command::machine::Machine;
 use std::alloc::Global;
 use std::io::Write;
 use std::process::ExitCode;

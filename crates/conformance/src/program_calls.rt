@@ -15,14 +15,13 @@
 use crate::host_calls::script_of;
 use crate::sweep::Sweep;
 use crate::verbs::word;
-use commands::run::Machine;
 use flow_model::{Answer, CallWork, Entry, Event, Mapping, Sequence, Shell, StepCall, Text};
 use plan_text::print_entry;
+use program_texts::{Line, mask, read_commands, read_output_file, shell_words, shown};
+use run_command::machine::Machine;
 use std::alloc::{AllocError, Global};
 use std::str;
-use step_host::{
-    HostFault, Line, Masked, StepHost, mask, read_commands, read_output_file, shell_words, shown,
-};
+use step_host::{HostFault, Masked, StepHost};
 
 /// What a verb of texts tells, if it is one.
 pub fn told(

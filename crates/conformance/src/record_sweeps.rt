@@ -12,7 +12,7 @@ use crate::debug_sweeps::places_told;
 use crate::streams::{Feed, Limits, Page};
 use crate::sweep::Sweep;
 use crate::verbs::word;
-use commands::stream::{Input, Output};
+use command_io::stream::{Input, Output};
 use commands::table::table;
 use std::alloc::{AllocError, Global};
 use std::str;

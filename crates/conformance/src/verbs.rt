@@ -2,10 +2,10 @@
 
 use crate::streams::{Feed, Limits, Page};
 use crate::{plan_calls, program_calls};
-use commands::run::Machine;
-use commands::stream::{Input, Output};
-use commands::words;
-use commands::words::Folder;
+use command_io::stream::{Input, Output};
+use command_words::folder::Folder;
+use command_words::words;
+use run_command::machine::Machine;
 use std::alloc::{AllocError, Global};
 use std::collections::BTreeMap;
 use std::io;

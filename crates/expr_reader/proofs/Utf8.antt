@@ -1,5 +1,5 @@
 -- What stands in quotes is text, and what follows too.
-use Rattle.std.proofs.Common.{◌≡◌, ◌≢◌, ℕ, zero, suc, ◌+◌, ◌<◌, ◌≤◌, Bool, true, false, cond, nat_eq, Some, List, [], ◌∷◌, ◌++◌, length, get_or, drop, refl, sym, ap, subst, ◌∙◌, append_assoc, append-nil, length-append, arith}
+use Rattle.std.proofs.Common.{◌≡◌, ◌≢◌, ℕ, zero, suc, ◌+◌, ◌<◌, ◌≤◌, Bool, true, false, not, cond, nat_eq, Option, None, Some, List, [], ◌∷◌, ◌++◌, length, get_or, drop, refl, sym, ap, subst, ◌∙◌, append_assoc, append-nil, length-append, arith}
 use Rattle.std.proofs.Math.Seq.{take-append_seam, drop-append_seam, get_or-append_seam, drop-cons, drop-length}
 use Rattle.std.proofs.lemmas.Bool.{cond-false, eqb-true}
 use Rattle.std.proofs.lemmas.Bool.Decides.{nat_tests}
@@ -83,3 +83,34 @@ pub closed_end : (out bs : List ℕ) (quote : Bool) (i : ℕ) → quote ≡ true
 closed_end out bs true i h at so_far =
     sym so_far ∙ ap (λ (k : ℕ). with_front out (after_quote (drop k bs))) at ∙ ap (λ (z : List ℕ). with_front out (after_quote z)) (drop-length bs) ∙ ap (λ (z : List ℕ). Some (z, [])) (append-nil out)
 closed_end out bs false i h at so_far = cc
+
+byte_left : (bs : List ℕ) (i : ℕ) → i < length bs → drop i bs ≡ get_or bs i 0 ∷ drop (i + 1) bs
+byte_left bs i inside =
+    let later : suc i ≡ i + 1 = omega arith in
+    drop-cons bs i 0 inside ∙ ap (λ (n : ℕ). get_or bs i 0 ∷ drop n bs) later
+
+front_more : (out more : List ℕ) (r : Option (List ℕ × List ℕ)) → with_front (out ++ more) r ≡ with_front out (with_front more r)
+front_more out more None = refl
+front_more out more (Some x) = ap (λ (z : List ℕ). Some (z, x.1)) (append_assoc out more x.0)
+
+-- A byte that is no quote is text where no quote came before it.
+pub other_taken : (out bs : List ℕ) (quote next : Bool) (i : ℕ) → i < length bs → get_or bs i 0 ≢ 39 → quote ≡ false → next ≡ quote → with_front out (cond quote (after_quote (drop i bs)) (unquoted (drop i bs))) ≡ unquoted bs → with_front (out ++ get_or bs i 0 ∷ []) (cond next (after_quote (drop (i + 1) bs)) (unquoted (drop (i + 1) bs))) ≡ unquoted bs
+other_taken out bs true next i inside other h k so_far = cc
+other_taken out bs false true i inside other h k so_far = cc
+other_taken out bs false false i inside other h k so_far =
+    let b = get_or bs i 0 in
+    let left = drop (i + 1) bs in
+    let test : nat_eq b 39 ≡ false = grind (arith, nat_tests) in
+    front_more out (b ∷ []) (unquoted left)
+    ∙ ap (with_front out) (sym (cond-false (nat_eq b 39) (after_quote left) (with_front (b ∷ []) (unquoted left)) test))
+    ∙ ap (λ (z : List ℕ). with_front out (unquoted z)) (sym (byte_left bs i inside)) ∙ so_far
+
+-- Of two quotes one is text.
+pub quote_taken : (out bs : List ℕ) (quote next : Bool) (i : ℕ) → i < length bs → get_or bs i 0 ≡ 39 → quote ≡ true → next ≡ not quote → with_front out (cond quote (after_quote (drop i bs)) (unquoted (drop i bs))) ≡ unquoted bs → with_front (out ++ get_or bs i 0 ∷ []) (cond next (after_quote (drop (i + 1) bs)) (unquoted (drop (i + 1) bs))) ≡ unquoted bs
+quote_taken out bs false next i inside same h k so_far = cc
+quote_taken out bs true true i inside same h k so_far = cc
+quote_taken out bs true false i inside same h k so_far =
+    let left = drop (i + 1) bs in
+    let here : drop i bs ≡ 39 ∷ left = byte_left bs i inside ∙ ap (λ (b : ℕ). b ∷ left) same in
+    ap (λ (b : ℕ). with_front (out ++ b ∷ []) (unquoted left)) same ∙ front_more out (39 ∷ []) (unquoted left)
+    ∙ ap (λ (z : List ℕ). with_front out (after_quote z)) (sym here) ∙ so_far

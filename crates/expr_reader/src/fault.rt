@@ -10,7 +10,7 @@ use thiserror::Error;
 
 /// Why a text is no expression, template or condition, with the byte from the start of the text at
 /// which the fault stands.
-#[derive(Clone, Copy, PartialEq, Eq, Error)]
+#[derive(Clone, Copy, Error)]
 pub enum ExprFault {
     /// A text without its closing quote; the offset is that of its first quote.
     UnclosedText(usize),

@@ -108,16 +108,18 @@ fn quoted(alloc: Global, inside: &str) -> Result<(Token, &str), Refusal>
     let mut text = Vec::new(alloc);
     let mut after_quote = false;
     for (place, byte) in bytes.iter().enumerate() {
-        if after_quote && *byte != b'\'' {
-            let (_, rest) = inside.split_at(place);
-            return Ok(quoted_token(text, rest));
-        }
-        if after_quote || *byte != b'\'' {
-            text.push(*byte)?;
-            after_quote = false;
+        if *byte != b'\'' {
+            if after_quote {
+                let (_, rest) = inside.split_at(place);
+                return Ok(quoted_token(text, rest));
+            }
         } else {
-            after_quote = true;
+            after_quote = !after_quote;
+            if after_quote {
+                continue;
+            }
         }
+        text.push(*byte)?;
     }
     if after_quote {
         let (_, rest) = inside.split_at(inside.len());

@@ -1,6 +1,6 @@
 //! Trees on their way, with their depths.
 
-ghost use Rattle.std.specs.Prelude.{◌≡◌, ◌≤◌, suc, ◌≢◌, ◌∷◌, ◌++◌, [], IfOk, IfErr, MatchBool, string_bytes};
+ghost use Rattle.std.specs.Prelude.{◌≡◌, ◌≤◌, suc, max, ◌≢◌, ◌∷◌, ◌++◌, [], IfOk, IfErr, MatchBool, string_bytes};
 ghost use Rattle.expr_reader.specs.Expr.{depth as depth_of, deepest as deepest_of, exprs_of, literal as literal_of, context as context_of, call as call_of, group as group_of, property as property_of, index as index_of, wildcard as wildcard_of, opposite, relation as relation_of, equality as equality_of};
 ghost use Rattle.expr_reader.specs.Grammar.{takes as takes_of};
 ghost use Rattle.expr_reader.specs.Machine.{limits, node, called_with, completed};
@@ -50,6 +50,16 @@ struct Part {
     tree: Box<Tree>,
     height: usize,
     ghost measured: { height ≡ suc (depth_of (view tree.value)) },
+    ghost shallow: { height ≤ 50 },
+}
+
+/// The two parts of a node, on the heap, with the depth of the node.
+#[derive(Drop)]
+struct Sides {
+    left: Box<Tree>,
+    right: Box<Tree>,
+    height: usize,
+    ghost measured: { height ≡ suc (max (depth_of (view left.value)) (depth_of (view right.value))) },
     ghost shallow: { height ≤ 50 },
 }
 
@@ -134,6 +144,22 @@ impl Operand {
         Ok(Part { tree, height })
     }
 
+    // Two operands as the parts of a node.
+    fn into_sides(self, alloc: Global, right: Operand) -> Result<Sides, Refusal>
+        ensures left { IfOk result (λ sides. view sides.left.value ≡ tree_of self) }
+        ensures right { IfOk result (λ sides. view sides.right.value ≡ tree_of right) }
+        ensures err { IfErr result
+            (IsRefused (max (depth_of (tree_of self)) (depth_of (tree_of right)))) }
+    {
+        let left = self.into_part(alloc)?;
+        let right = right.into_part(alloc)?;
+        Ok(Sides {
+            left: left.tree,
+            right: right.tree,
+            height: left.height.max(right.height),
+        })
+    }
+
     pub(crate) fn group(alloc: Global, inner: Operand) -> Result<Operand, Refusal>
         ensures { Gives tree_of result (node limits (group_of (tree_of inner))) }
     {
@@ -158,11 +184,10 @@ impl Operand {
     pub(crate) fn index(alloc: Global, base: Operand, index: Operand) -> Result<Operand, Refusal>
         ensures { Gives tree_of result (node limits (index_of (tree_of base) (tree_of index))) }
     {
-        let base = base.into_part(alloc)?;
-        let index = index.into_part(alloc)?;
+        let sides = base.into_sides(alloc, index)?;
         Ok(Operand {
-            tree: Tree::Index(base.tree, index.tree),
-            height: base.height.max(index.height),
+            tree: Tree::Index(sides.left, sides.right),
+            height: sides.height,
         })
     }
 
@@ -199,11 +224,10 @@ impl Operand {
         ensures { Gives tree_of result
             (node limits (relation_of relation (tree_of left) (tree_of right))) }
     {
-        let left = left.into_part(alloc)?;
-        let right = right.into_part(alloc)?;
+        let sides = left.into_sides(alloc, right)?;
         Ok(Operand {
-            tree: Tree::Relation(relation, left.tree, right.tree),
-            height: left.height.max(right.height),
+            tree: Tree::Relation(relation, sides.left, sides.right),
+            height: sides.height,
         })
     }
 
@@ -216,11 +240,10 @@ impl Operand {
         ensures { Gives tree_of result
             (node limits (equality_of equality (tree_of left) (tree_of right))) }
     {
-        let left = left.into_part(alloc)?;
-        let right = right.into_part(alloc)?;
+        let sides = left.into_sides(alloc, right)?;
         Ok(Operand {
-            tree: Tree::Equality(equality, left.tree, right.tree),
-            height: left.height.max(right.height),
+            tree: Tree::Equality(equality, sides.left, sides.right),
+            height: sides.height,
         })
     }
 

@@ -15,3 +15,4 @@ mod Runs
 mod Searches
 mod JoinedTexts
 mod Statuses
+mod Steps

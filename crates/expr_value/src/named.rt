@@ -24,19 +24,14 @@ pub fn names_context(tree: &Tree, context: Context) -> bool
         Tree::Literal(_) => false,
         Tree::Context(named) => is_same_context(context, *named),
         Tree::Call(_, arguments) => any_names_context(arguments.as_slice(), context),
-        Tree::Group(inner) => names_context(inner, context),
-        Tree::Property(base, _) => names_context(base, context),
+        Tree::Group(part) | Tree::Property(part, _) | Tree::Wildcard(_, part) | Tree::Not(part) => {
+            names_context(part, context)
+        },
         Tree::Index(base, index) => names_context(base, context) || names_context(index, context),
-        Tree::Wildcard(_, base) => names_context(base, context),
-        Tree::Not(operand) => names_context(operand, context),
-        Tree::Relation(_, left, right) => {
+        Tree::Relation(_, left, right) | Tree::Equality(_, left, right) => {
             names_context(left, context) || names_context(right, context)
         },
-        Tree::Equality(_, left, right) => {
-            names_context(left, context) || names_context(right, context)
-        },
-        Tree::Both(parts) => any_names_context(parts.as_slice(), context),
-        Tree::Either(parts) => any_names_context(parts.as_slice(), context),
+        Tree::Both(parts) | Tree::Either(parts) => any_names_context(parts.as_slice(), context),
     }
 }
 

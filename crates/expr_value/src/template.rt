@@ -1,11 +1,11 @@
 //! The values of expressions, templates and conditions, as the crates above ask for them.
 
-ghost use Rattle.std.specs.Prelude.{◌≡◌, false, map};
+ghost use Rattle.std.specs.Prelude.{◌≡◌, false, Ok, map};
 ghost use Rattle.expr_reader.specs.Template.{names_status as names_status_of};
 ghost use Rattle.expr_reader.specs.TemplateView.{template_of, piece_of};
 ghost use Rattle.expr_reader.specs.View.{view as tree_view};
 ghost use Rattle.expr_value.specs.Answer.{Gives};
-ghost use Rattle.expr_value.specs.Condition.{condition_holds};
+ghost use Rattle.expr_value.specs.Condition.{condition_holds, truth_value};
 ghost use Rattle.expr_value.specs.Evaluate.{evaluated as evaluated_of, value};
 ghost use Rattle.expr_value.specs.Joined.{grown_answer, is_too_large as is_too_large_of};
 ghost use Rattle.expr_value.specs.Limit.{last_value as last_value_of};
@@ -60,6 +60,15 @@ fn evaluated<'a, C: Context>(
     last_value(item)
 }
 
+// Adds the text of an item.
+fn push_item(alloc: Global, item: &Item<'_>, text: &mut Bounded) -> Result<(), ValueFault>
+    ensures { Gives (λ done. text.new) result
+        (grown_answer text.old (text_answer (Ok (item_seen item.now)))) }
+{
+    push_kind(text, alloc, item.kind())?;
+    Ok(())
+}
+
 // Adds the text of an expression's value.
 fn push_value<C: Context>(
     alloc: Global,
@@ -73,7 +82,14 @@ fn push_value<C: Context>(
         (text_answer (value (C.contexts contexts.now) status (tree_view tree.now)))) }
 {
     let item = evaluate(alloc, tree, contexts, status)?;
-    push_kind(text, alloc, item.kind())?;
+    push_item(alloc, &item, text)
+}
+
+// Adds a text that stands in a template.
+fn push_plain(plain: &str, text: &mut Bounded) -> Result<(), ValueFault>
+    ensures { Gives (λ done. text.new) result (grown_answer text.old (Ok plain.now)) }
+{
+    text.push_str(plain)?;
     Ok(())
 }
 
@@ -89,10 +105,7 @@ fn push_piece<C: Context>(
         (grown_answer text.old (piece_text (C.contexts contexts.now) status (piece_of piece.now))) }
 {
     match piece {
-        Piece::Text(plain) => {
-            text.push_str(plain.as_str())?;
-            Ok(())
-        },
+        Piece::Text(plain) => push_plain(plain.as_str(), text),
         Piece::Expression(tree) => push_value(alloc, tree, contexts, status, text),
     }
 }
@@ -114,6 +127,19 @@ fn joined<C: Context>(
     text.finish()
 }
 
+// The join of the pieces' texts, as an item.
+fn joined_item<'a, C: Context>(
+    alloc: Global,
+    pieces: &[Piece],
+    contexts: &C,
+    status: Status,
+) -> Result<Item<'a>, ValueFault>
+    ensures { Gives item_seen result
+        (limited_text (pieces_text (C.contexts contexts.now) status (map piece_of pieces.now))) }
+{
+    Ok(Item::Made(joined(alloc, pieces, contexts, status)?))
+}
+
 // The value of a template.
 fn template_value<'a, C: Context>(
     alloc: Global,
@@ -124,9 +150,12 @@ fn template_value<'a, C: Context>(
     ensures { Gives item_seen result
         (template_value_of (C.contexts contexts.now) status (template_of template.now)) }
 {
-    match template.pieces.as_slice() {
+    let pieces = template.pieces.as_slice();
+    match pieces {
         [Piece::Expression(tree)] => evaluated(alloc, tree, contexts, status),
-        pieces => Ok(Item::Made(joined(alloc, pieces, contexts, status)?)),
+        [] | [Piece::Text(_), ..] | [Piece::Expression(_), _, ..] => {
+            joined_item(alloc, pieces, contexts, status)
+        },
     }
 }
 
@@ -182,6 +211,20 @@ pub fn eval_text<C: Context>(
     owned_value(alloc, template, contexts, Status::Success)
 }
 
+// Whether the value of a template is true.
+fn template_holds<C: Context>(
+    alloc: Global,
+    template: &Template,
+    contexts: &C,
+    status: Status,
+) -> Result<bool, ValueFault>
+    ensures { Gives (λ holds. holds) result
+        (truth_value (template_value_of (C.contexts contexts.now) status (template_of template.now))) }
+{
+    let item = template_value(alloc, template, contexts, status)?;
+    Ok(truth_of(item.kind()))
+}
+
 /// Whether a condition holds: the truth of its value. One that names no status function does not hold, and is not
 /// evaluated, where the status is not success (GitHub Docs, "Evaluate expressions in workflows and actions": status
 /// check functions).
@@ -201,6 +244,5 @@ pub fn eval_condition<C: Context>(
     if !names_status(template) && !status.is_success() {
         return Ok(false);
     }
-    let item = template_value(alloc, template, contexts, status)?;
-    Ok(truth_of(item.kind()))
+    template_holds(alloc, template, contexts, status)
 }

@@ -1,9 +1,8 @@
 -- Changes of a board, and what is counted after them.
-use Rattle.std.specs.Prelude.{ℕ, Bool, true, false, List, [], ◌∷◌, ◌++◌, map, Option, Some, None, slice_get}
+use Rattle.std.specs.Prelude.{ℕ, Bool, true, false, List, [], ◌∷◌, ◌++◌, map, Option, Some, None}
 use Rattle.std.specs.List.{list_all}
 use Rattle.board_decisions.specs.Derived.{holds_at}
 use Rattle.board_decisions.specs.Numbered.{leg_there}
-use Rattle.board_decisions.specs.Place.{◌>>=◌, LegAt, job_placed}
 use Rattle.board_decisions.specs.declared.place.JobPlace.{JobPlace}
 use Rattle.board_decisions.specs.declared.place.LegPlace.{LegPlace}
 use Rattle.flow_model.specs.declared.board.Board.{Board}
@@ -11,7 +10,6 @@ use Rattle.flow_model.specs.declared.board.Run.{Run}
 use Rattle.flow_model.specs.declared.board.Leg.{Leg}
 use Rattle.flow_model.specs.declared.board.LegState.{LegState}
 use Rattle.flow_model.specs.declared.board.LegState.TheVariants as leg_state
-use Rattle.flow_model.specs.declared.plan.Plan.{Plan}
 use Rattle.status_table.specs.Change.{changed}
 use Rattle.flat_board.specs.Counters.{is_settled, moved, recounted, settled_jobs}
 use Rattle.flat_board.specs.declared.counted.RunChange.{RunChange}
@@ -24,13 +22,6 @@ abbrev pub run_after : RunChange → Run → Run
 run_after (run_change.State state) run = record run { state = state }
 run_after (run_change.Group state group) run = record run { state = state; group = group }
 run_after run_change.Stop run = record run { stop = true }
-
--- the leg that stands at a place, with what was planned for it
-abbrev pub leg_at_place : Plan → Board → LegPlace → Option LegAt
-leg_at_place p b place = do
-  at ← job_placed p b (record { run = place.run; job = place.job })
-  leg ← slice_get at.job.legs place.leg
-  Some (record { board = b; place = place; run_plan = at.run_plan; job_plan = at.plan; run = at.run; job = at.job; leg = leg })
 
 -- the job of a leg, by their places
 abbrev pub job_of : LegPlace → JobPlace

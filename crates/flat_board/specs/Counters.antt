@@ -1,4 +1,5 @@
--- What is counted beside a board: the legs of each job by how they stand, and how many of the jobs that a job needs are open.
+-- What is counted beside a board: the legs of each job by how
+-- they stand, and how many of the jobs that a job needs are open.
 use Rattle.std.specs.Prelude.{◌≡◌, ℕ, suc, ◌-◌, ◌==◌, ◌||◌, Bool, true, false, not, List, [], ◌∷◌, map, length, nat_lt, count_by, Option, Some, None, slice_get, if◌then◌else◌}
 use Rattle.board_decisions.specs.Derived.{is_shut, is_ended, is_under_way, has_failed, holds_at}
 use Rattle.board_decisions.specs.Place.{◌>>=◌}
@@ -34,7 +35,12 @@ counted what legs = count_by (λ leg. counts what leg.state) legs
 -- how the legs of a job stand
 abbrev pub tally_of : Job → Tally
 tally_of job =
-    record { legs = length job.legs; pending = counted counter.Open job.legs; used = counted counter.Used job.legs; failed = counted counter.Failed job.legs }
+    record {
+      legs = length job.legs;
+      pending = counted counter.Open job.legs;
+      used = counted counter.Used job.legs;
+      failed = counted counter.Failed job.legs;
+    }
 
 -- the same for each job of each run
 abbrev pub tallies_of : Board → List (List Tally)
@@ -87,7 +93,8 @@ places_of first plan = map (λ need. need - first) plan.needs
 
 -- these places, and how many of the jobs there are open
 abbrev pub need_of : ℕ → List Bool → JobPlan → Need
-need_of first settled plan = record { places = places_of first plan; pending = open_among settled (places_of first plan) }
+need_of first settled plan =
+    record { places = places_of first plan; pending = open_among settled (places_of first plan) }
 
 -- the same for each job of a run
 abbrev pub run_needs : RunPlan → Run → List Need
@@ -114,9 +121,10 @@ needs_none (Some need) = need.pending == 0
 
 -- ---- all of them
 
--- The counters and the places of the legs are what follows from the plan and the board, and the names on the board are such as a
--- group may have.
-pub record IsCounted (p : Plan) (b : Board) (tallies : List (List Tally)) (needs : List (List Need)) (legs : List LegPlace) : Type 0 where
+-- The counters and the places of the legs are what follows from the plan and the board, and the names on the
+-- board are such as a group may have.
+pub record IsCounted (p : Plan) (b : Board) (tallies : List (List Tally)) (needs : List (List Need))
+    (legs : List LegPlace) : Type 0 where
   pub tallied : tallies ≡ tallies_of b
   pub needed : needs ≡ needs_of p.runs b.runs
   pub named : IsNamed b

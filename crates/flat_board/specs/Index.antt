@@ -1,4 +1,5 @@
--- The index of groups beside a board: names as they stand on the board, and the groups after what a member asks of them.
+-- The index of groups beside a board: names as they stand on
+-- the board, and the groups after what a member asks of them.
 use Rattle.std.specs.Prelude.{◌≡◌, ◌≢◌, ℕ, List, [], Option, Some, None, Result, Ok, Err}
 use Rattle.board_decisions.specs.declared.entrance.Entrance.{Entrance}
 use Rattle.expr_reader.specs.Fold.{fold}
@@ -84,9 +85,10 @@ abbrev pub Goes : {T E : Type 0} → Result T E → Content → Content → Cont
 Goes (Ok x) old to new = new ≡ to
 Goes (Err f) old to new = new ≡ old
 
--- An event that a worker from 0 to 15 reports is answered as its row, the plan stays, and the groups are after it what the
--- event asks of them.
-pub record Follows (old new : Play) (before after : Content) (worker : ℕ) (e : Event) (result : Result Reply EventFault) : Type 0 where
+-- An event that a worker from 0 to 15 reports is answered as its row, the plan stays, and the groups are
+-- after it what the event asks of them.
+pub record Follows (old new : Play) (before after : Content) (worker : ℕ) (e : Event)
+    (result : Result Reply EventFault) : Type 0 where
   pub plan : new.plan ≡ old.plan
   pub answers : Answers (event_row old.plan old.board worker e) old.board result new.board
   pub groups : Goes result before (after_event old.plan old.board before e) after
@@ -96,7 +98,8 @@ pub record Follows (old new : Play) (before after : Content) (worker : ℕ) (e :
 -- Where a lawful board shows the groups, it does so after each event that is accepted.
 abbrev pub EventsKeep : Type 0
 EventsKeep =
-    (p : Plan) (b : Board) (worker : ℕ) (groups : Content) (e : Event) (x : Board × Reply) → Lawful p b → KeptAsShown groups b
+    (p : Plan) (b : Board) (worker : ℕ) (groups : Content) (e : Event) (x : Board × Reply)
+    → Lawful p b → KeptAsShown groups b
     → row p b worker e ≡ Ok x → KeptAsShown (after_event p b groups e) x.0
 
 -- Whoever may enter a group is in none.

@@ -1,4 +1,5 @@
--- The places of all jobs and legs, in the order of their numbers. They follow from how many legs each job has.
+-- The places of all jobs and legs, in the order of their
+-- numbers. They follow from how many legs each job has.
 use Rattle.std.specs.Prelude.{ℕ, suc, List, [], ◌∷◌, ◌++◌, map, length}
 use Rattle.board_decisions.specs.declared.place.LegPlace.{LegPlace}
 use Rattle.flow_model.specs.declared.board.Board.{Board}

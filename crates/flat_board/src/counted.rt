@@ -242,8 +242,8 @@ fn needs_none_at(needs: &[Sequence<Need>], place: JobPlace) -> bool
 
 /// A plan, how far it is, and what is counted of that.
 ///
-/// A job's legs are tallied as they change; what the jobs of a run need is counted again when one of them ends. The places
-/// of the legs stand in the order of their numbers.
+/// A job's legs are tallied as they change; what the jobs of a run need is counted again when one of them
+/// ends. The places of the legs stand in the order of their numbers.
 #[derive(Drop)]
 pub(crate) struct Counted {
     plan: CheckedPlan,

@@ -10,7 +10,8 @@ use crate::tally::Tally;
 use flow_model::{Job, JobPlan, JobState, Run, Sequence};
 use std::alloc::{AllocError, Global};
 
-/// The places in its run of the jobs that a job needs, and how many of these jobs have not ended by themselves.
+/// The places in its run of the jobs that a job needs, and
+/// how many of these jobs have not ended by themselves.
 #[derive(Drop)]
 pub(crate) struct Need {
     pub(crate) places: Sequence<usize>,

@@ -4,7 +4,9 @@ pub mod Faults
 pub mod Flow
 pub mod Found
 pub mod Json
+pub mod JsonText
 pub mod Laws
+pub mod Lines
 pub mod Mapping
 pub mod Name
 pub mod Numbers

@@ -1,24 +1,10 @@
 -- What is answered of bytes, from what is read of their JSON.
-use Rattle.std.proofs.Common.{◌≡◌, ◌<◌, ℕ, zero, suc, List, [], ◌∷◌, Bool, true, false, cond, length, get_or, Some, None, Ok, Err, refl, sym, arith, true≢false}
-use Rattle.std.proofs.lemmas.Str.{is_utf8-from_IsUtf8, IsUtf8-from_is_utf8}
+use Rattle.std.proofs.Common.{◌≡◌, ◌<◌, ℕ, zero, suc, List, [], ◌∷◌, length, get_or, Some, Ok, Err, refl, sym, arith, true≢false}
 use Rattle.std.specs.List.{Contains}
-use Rattle.std.specs.Str.{IsUtf8, is_utf8}
-use Rattle.serde_json.specs.Data.{Data}
-use Rattle.serde_json.specs.Read.{read}
 use Rattle.flow_reader.specs.Checked.{Checked, Stands}
-use Rattle.flow_reader.specs.Load.{json_read, IsFaultIn, Tells}
+use Rattle.flow_reader.specs.Load.{IsFaultIn, Tells}
 use Rattle.flow_reader.specs.declared.fault.FlowFault.{FlowFault}
 use Rattle.flow_reader.specs.declared.fault.FlowFault.TheVariants.{NotJson, NotWhole, Missing, WrongShape, BadId, LeftOut, UnknownShell, Memory}
-
-pub json_read-some : (bytes : List ℕ) (d : Data) → IsUtf8 bytes → read bytes ≡ Some d → json_read bytes ≡ Some d
-json_read-some bytes d utf8 e = rw (is_utf8-from_IsUtf8 bytes utf8) e
-
-pub json_read-none : (bytes : List ℕ) → (IsUtf8 bytes → read bytes ≡ None) → json_read bytes ≡ None
-json_read-none bytes h = by_test (is_utf8 bytes) refl
-  where
-    by_test : (b : Bool) → is_utf8 bytes ≡ b → cond b (read bytes) None ≡ None
-    by_test true e = h (IsUtf8-from_is_utf8 bytes e)
-    by_test false e = refl
 
 -- what is not the first stands among the others
 not_first : (g : FlowFault) (fs : List FlowFault) (f : FlowFault) (k : ℕ) → k < length (g ∷ fs) → get_or (g ∷ fs) k f ≡ f → (g ≡ f → ⊥) → Contains fs f

@@ -1,13 +1,12 @@
 -- What bytes stand for: a workflow, or contexts, or the faults in them.
-use Rattle.std.specs.Prelude.{◌≡◌, ℕ, List, if◌then◌else◌, Option, Some, None, option_map, Result, Ok, Err}
+use Rattle.std.specs.Prelude.{◌≡◌, ℕ, List, Option, Some, None, option_map, Result, Ok, Err}
 use Rattle.std.specs.List.{Contains}
-use Rattle.std.specs.Str.{is_utf8}
 use Rattle.std.specs.Cmp.Lexicographic.{slice_cmp}
 use Rattle.std.specs.List.Sorted.{IsStrictlySortedBy}
 use Rattle.std.specs.Ordering.{nat_cmp}
 use Rattle.serde_json.specs.Data.{Data, Members}
 use Rattle.serde_json.specs.Find.{as_object}
-use Rattle.serde_json.specs.Read.{read}
+use Rattle.flow_model.specs.JsonText.{json_read}
 use Rattle.flow_model.specs.declared.flow.Workflow.{Workflow}
 use Rattle.flow_model.specs.declared.plan.Roots.{Roots}
 use Rattle.flow_reader.specs.Checked.{Checked, keys_in}
@@ -15,10 +14,6 @@ use Rattle.flow_reader.specs.Parts.{roots_of}
 use Rattle.flow_reader.specs.Workflow.{workflow_of}
 use Rattle.flow_reader.specs.declared.fault.FlowFault.{FlowFault}
 use Rattle.flow_reader.specs.declared.fault.FlowFault.TheVariants.{NotJson, NotWhole, Missing, WrongShape, BadId, LeftOut, UnknownShell, Memory}
-
--- the JSON that bytes read as (RFC 8259): they are UTF-8, and nest to 127
-abbrev pub json_read : List ℕ → Option Data
-json_read bytes = if is_utf8 bytes then read bytes else None
 
 -- the workflow that the bytes of a file stand for, or the faults in it, where they are JSON
 abbrev pub flow_read : List ℕ → List ℕ → Option (Checked Workflow)

@@ -43,6 +43,27 @@ job_from id (_, (_, (_, (name, (needs, (condition, (strategy, (group, (tolerate,
   steps = filled_steps defaults steps;
 }
 
+-- the parts of a job besides its steps and the defaults of their scripts
+abbrev pub JobRest : Type 0
+JobRest = Option (List ℕ) × (List (List ℕ) × (Option (List ℕ) × (Strategy × (Option Group × (Flag × (List (List ℕ × Plain) × List (List ℕ × List ℕ)))))))
+
+-- the job that has these steps and parts
+abbrev pub job_with : List ℕ → List StepPlan → JobRest → FlowJob
+job_with id steps (name, (needs, (condition, (strategy, (group, (tolerate, (env, outputs))))))) = record {
+  id = id;
+  name = name;
+  needs = needs;
+  condition = condition;
+  fail_fast = strategy.fail_fast;
+  matrix = strategy.matrix;
+  max_parallel = strategy.max_parallel;
+  group = group;
+  tolerate = tolerate;
+  env = env;
+  outputs = outputs;
+  steps = steps;
+}
+
 -- the keys of a job: those that are left out, and the others
 unfoldable pub job_parts_of : Data → Checked (⊤ × (⊤ × (⊤ × JobParts)))
 job_parts_of d =

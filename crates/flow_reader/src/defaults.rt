@@ -1,12 +1,12 @@
 //! The shell and the directory that scripts have by default.
 
-ghost use Rattle.std.specs.Prelude.{◌≡◌, IfOk, OnOk, map};
+ghost use Rattle.std.specs.Prelude.{◌≡◌, OnOk, map};
 ghost use Rattle.flow_reader.specs.Defaults as spec;
 
 use crate::fault::FlowFault;
 use crate::parts::{Part, read_object, read_or};
 use crate::reading::FromJson;
-use flow_model::{Duplicate, FlowJob, Sequence, Shell, StepPlan, Text, Work};
+use flow_model::{Duplicate, FlowJob, Sequence, Shell, StepPlan, Text, Work, Workflow};
 use serde_json::Value;
 use std::alloc::{AllocError, Global};
 use std::marker::Model;
@@ -95,18 +95,14 @@ impl Part for Defaults {
     }
 }
 
-/// The directory that is named, or else the default.
-fn dir_or(
-    alloc: Global,
-    dir: Option<Text>,
-    default: &Option<Text>,
-) -> Result<Option<Text>, AllocError>
-    ensures { IfOk result (λ found. found ≡ spec.dir_or dir default.now) }
+/// Names the default directory where none is named.
+fn fill_dir(alloc: Global, default: &Option<Text>, dir: &mut Option<Text>) -> Result<(), AllocError>
+    ensures { OnOk result (dir.new ≡ spec.dir_or dir.old default.now) }
 {
-    match dir {
-        Some(dir) => Ok(Some(dir)),
-        None => default.copy(alloc),
+    if dir.is_none() {
+        *dir = default.copy(alloc)?;
     }
+    Ok(())
 }
 
 /// The shell that is named, or else the default.
@@ -144,17 +140,16 @@ pub(crate) fn own_work(own: Defaults, work: Work) -> Work
     }
 }
 
-/// What a step does, with the defaults where its script names no shell or directory.
-fn fill_work(alloc: Global, defaults: &Defaults, work: Work) -> Result<Work, AllocError>
-    ensures { IfOk result (λ filled. filled ≡ spec.filled_work defaults.now work) }
+/// Gives a step's work the defaults where its script names no shell or directory.
+fn fill_work(alloc: Global, defaults: &Defaults, work: &mut Work) -> Result<(), AllocError>
+    ensures { OnOk result (work.new ≡ spec.filled_work defaults.now work.old) }
 {
     match work {
-        Work::Run { dir, run, shell } => {
-            let dir = dir_or(alloc, dir, &defaults.dir)?;
-            let shell = shell_or(shell, defaults.shell);
-            Ok(Work::Run { dir, run, shell })
+        Work::Run { dir, run: _, shell } => {
+            *shell = shell_or(*shell, defaults.shell);
+            fill_dir(alloc, &defaults.dir, dir)
         },
-        Work::Uses { uses, given } => Ok(Work::Uses { uses, given }),
+        Work::Uses { uses: _, given: _ } => Ok(()),
     }
 }
 
@@ -164,11 +159,9 @@ pub(crate) trait Fill {
 
     ghost filled: { Defaults → Self → Self };
 
-    /// The same with these defaults where its scripts name no shell or directory.
-    fn fill(self, alloc: Global, defaults: &Defaults) -> Result<Self, AllocError>
-    where
-        Self: Sized,
-        ensures { IfOk result (λ made. made ≡ filled defaults.now self) };
+    /// Gives its scripts these defaults where they name no shell or directory.
+    fn fill(&mut self, alloc: Global, defaults: &Defaults) -> Result<(), AllocError>
+        ensures { OnOk result (self.new ≡ filled defaults.now self.old) };
 }
 
 impl Fill for StepPlan {
@@ -176,24 +169,8 @@ impl Fill for StepPlan {
 
     ghost filled = { filled_step };
 
-    fn fill(self, alloc: Global, defaults: &Defaults) -> Result<StepPlan, AllocError> {
-        let StepPlan {
-            condition,
-            env,
-            id,
-            name,
-            tolerate,
-            work,
-        } = self;
-        let work = fill_work(alloc, defaults, work)?;
-        Ok(StepPlan {
-            condition,
-            env,
-            id,
-            name,
-            tolerate,
-            work,
-        })
+    fn fill(&mut self, alloc: Global, defaults: &Defaults) -> Result<(), AllocError> {
+        fill_work(alloc, defaults, &mut self.work)
     }
 }
 
@@ -202,10 +179,18 @@ impl Fill for FlowJob {
 
     ghost filled = { filled_job };
 
-    fn fill(self, alloc: Global, defaults: &Defaults) -> Result<FlowJob, AllocError> {
-        let mut filled = self;
-        fill_each(alloc, defaults, &mut filled.steps)?;
-        Ok(filled)
+    fn fill(&mut self, alloc: Global, defaults: &Defaults) -> Result<(), AllocError> {
+        fill_each(alloc, defaults, &mut self.steps)
+    }
+}
+
+impl Fill for Workflow {
+    ghost use Rattle.flow_reader.specs.Defaults.{filled_workflow};
+
+    ghost filled = { filled_workflow };
+
+    fn fill(&mut self, alloc: Global, defaults: &Defaults) -> Result<(), AllocError> {
+        fill_each(alloc, defaults, &mut self.jobs)
     }
 }
 
@@ -219,7 +204,9 @@ pub(crate) fn fill_each<T: Fill + Drop>(
 {
     let left = mem::replace(items, Sequence::empty(alloc));
     for item in left.into_vec() {
-        items.push(item.fill(alloc, defaults)?)?;
+        let mut filled = item;
+        filled.fill(alloc, defaults)?;
+        items.push(filled)?;
     }
     Ok(())
 }

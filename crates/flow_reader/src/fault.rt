@@ -5,34 +5,27 @@ ghost use Rattle.flow_reader.specs.Fault.{flow_fault_name};
 
 use flow_model::Text;
 use std::alloc::{AllocError, AllocFailed};
+use std::fmt;
 use thiserror::Error;
 
 /// Why a text stands for no workflow, or for no contexts.
 #[derive(Debug, Drop, Error)]
 pub enum FlowFault {
     /// It is no JSON (RFC 8259).
-    #[error("{}", self.name())]
     NotJson,
     /// A number in it has a fraction or an exponent, or is out of range.
-    #[error("{}", self.name())]
     NotWhole,
     /// Something that has to be there is missing at this key.
-    #[error("{name}({0:?})", name = self.name())]
     Missing(Text),
     /// What stands at this path is of the wrong kind, or nested too deep: keys and places from the root, joined by dots.
-    #[error("{name}({0:?})", name = self.name())]
     WrongShape(Text),
     /// This text is no id or name, or is the id of two steps of one job.
-    #[error("{name}({0:?})", name = self.name())]
     BadId(Text),
     /// What stands at this key is left out of what workflows may say here.
-    #[error("{name}({0:?})", name = self.name())]
     LeftOut(Text),
     /// A shell is neither `sh` nor `bash`.
-    #[error("{}", self.name())]
     UnknownShell,
     /// There is no memory.
-    #[error("{}", self.name())]
     Memory,
 }
 
@@ -50,6 +43,30 @@ impl FlowFault {
             FlowFault::LeftOut(_) => "LeftOut",
             FlowFault::UnknownShell => "UnknownShell",
             FlowFault::Memory => "Memory",
+        }
+    }
+
+    /// The key, path or name that is at fault, if there is one.
+    fn place(&self) -> Option<&Text> {
+        match self {
+            FlowFault::Missing(text)
+            | FlowFault::WrongShape(text)
+            | FlowFault::BadId(text)
+            | FlowFault::LeftOut(text) => Some(text),
+            FlowFault::NotJson
+            | FlowFault::NotWhole
+            | FlowFault::UnknownShell
+            | FlowFault::Memory => None,
+        }
+    }
+}
+
+/// The name, and in brackets the key, path or name that is at fault.
+impl fmt::Display for FlowFault {
+    fn fmt<W: fmt::Write>(&self, f: &mut fmt::Formatter<W>) -> fmt::Result {
+        match self.place() {
+            Some(place) => write!(f, "{}({place:?})", self.name()),
+            None => f.write_str(self.name()),
         }
     }
 }

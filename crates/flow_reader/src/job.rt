@@ -1,12 +1,12 @@
 //! The jobs of a workflow.
 
-ghost use Rattle.std.specs.Prelude.{◌≡◌, ◌==◌, IfOk, length};
+ghost use Rattle.std.specs.Prelude.{◌≡◌, ◌==◌, ℕ, List, IfOk, length};
 ghost use Rattle.serde_json.specs.View.{view, members_view};
 ghost use Rattle.flow_reader.specs.Checked.{Gives, members_checked};
-ghost use Rattle.flow_reader.specs.Defaults.{filled_job};
-ghost use Rattle.flow_reader.specs.Workflow.{job_from, job_parts_of, job_of, job_at, some_jobs};
+ghost use Rattle.flow_reader.specs.Defaults.{filled_steps};
+ghost use Rattle.flow_reader.specs.Workflow.{job_from, job_with, job_parts_of, job_of, job_at, some_jobs};
 
-use crate::defaults::{Defaults, Fill};
+use crate::defaults::{Defaults, fill_each};
 use crate::fault::FlowFault;
 use crate::maps::{Env, Outputs};
 use crate::parts::{Required, read_object};
@@ -15,7 +15,7 @@ use crate::refusal::{at, bad_id, wrong_shape};
 use crate::step::Steps;
 use crate::strategy::Strategy;
 use crate::texts::{Condition, Needs};
-use flow_model::{Flag, FlowJob, Group, Sequence, Text, is_id};
+use flow_model::{Flag, FlowJob, Group, Sequence, StepPlan, Text, is_id};
 use serde_json::Value;
 use std::alloc::{AllocError, Global};
 use std::collections::BTreeMap;
@@ -59,14 +59,37 @@ fn read_parts(alloc: Global, json: &Value) -> Result<JobParts, FlowFault>
     read_object::<JobParts>(alloc, json, &keys)
 }
 
-/// The defaults of a job, and the job whose steps do not have them yet.
-fn spelled_job(id: Text, parts: JobParts) -> (Defaults, FlowJob)
-    ensures { filled_job result.0 result.1 ≡ job_from id parts }
+/// What a job says besides its steps and the defaults of their scripts.
+type JobRest = (
+    Option<Text>,
+    (
+        Needs,
+        (
+            Condition,
+            (Strategy, (Option<Group>, (Flag, (Env, Outputs)))),
+        ),
+    ),
+);
+
+/// The defaults of a job, its steps, which do not have them yet, and its other parts.
+fn split_steps(parts: JobParts) -> (Defaults, (Sequence<StepPlan>, JobRest))
+    ensures { (id : List ℕ)
+        → job_with id (filled_steps result.0 result.1.0) result.1.1 ≡ job_from id parts }
 {
     let (_, (_, (_, (name, (needs, (condition, (strategy, (group, (tolerate, others))))))))) =
         parts;
     let (env, (defaults, (outputs, (steps, ())))) = others;
-    let job = FlowJob {
+    let rest = (group, (tolerate, (env, outputs)));
+    let rest = (name, (needs, (condition, (strategy, rest))));
+    (defaults, (steps.part.steps, rest))
+}
+
+/// The job that has these steps and parts.
+fn job_with(id: Text, steps: Sequence<StepPlan>, rest: JobRest) -> FlowJob
+    ensures { result ≡ job_with id steps rest }
+{
+    let (name, (needs, (condition, (strategy, (group, (tolerate, (env, outputs))))))) = rest;
+    FlowJob {
         condition: condition.text,
         env: env.pairs,
         fail_fast: strategy.fail_fast,
@@ -77,18 +100,18 @@ fn spelled_job(id: Text, parts: JobParts) -> (Defaults, FlowJob)
         name,
         needs: needs.ids,
         outputs: outputs.pairs,
-        steps: steps.part.steps,
+        steps,
         tolerate,
-    };
-    (defaults, job)
+    }
 }
 
 /// The job that has these parts.
 fn job_from(alloc: Global, id: Text, parts: JobParts) -> Result<FlowJob, AllocError>
     ensures { IfOk result (λ job. job ≡ job_from id parts) }
 {
-    let (defaults, job) = spelled_job(id, parts);
-    job.fill(alloc, &defaults)
+    let (defaults, (mut steps, rest)) = split_steps(parts);
+    fill_each(alloc, &defaults, &mut steps)?;
+    Ok(job_with(id, steps, rest))
 }
 
 /// The job that has this id.

@@ -1,6 +1,6 @@
 //! Workflows and contexts from bytes.
 
-ghost use Rattle.std.specs.Prelude.{◌≡◌, Some, None, IfOk, codes, option_map};
+ghost use Rattle.std.specs.Prelude.{◌≡◌, Some, None, IfOk, codes};
 ghost use Rattle.std.specs.Cmp.Lexicographic.{slice_cmp};
 ghost use Rattle.std.specs.List.Sorted.{IsStrictlySortedBy};
 ghost use Rattle.std.specs.Ordering.{nat_cmp};
@@ -8,33 +8,17 @@ ghost use Rattle.flow_model.specs.Rules.{roots_rules};
 ghost use Rattle.serde_json.specs.Find.{get};
 ghost use Rattle.serde_json.specs.View.{view, members_view};
 ghost use Rattle.flow_reader.specs.Checked.{keys_in};
-ghost use Rattle.flow_reader.specs.Load.{json_read, flow_read, roots_read, KeysAscend, Tells};
+ghost use Rattle.flow_reader.specs.Load.{flow_read, roots_read, KeysAscend, Tells};
 ghost use Rattle.flow_reader.specs.Parts.{roots_of};
 ghost use Rattle.flow_reader.specs.Workflow.{workflow_of};
 
 use crate::fault::FlowFault;
 use crate::group::roots_from_json;
 use crate::workflow::read_workflow;
-use flow_model::{Flow, Roots};
+use flow_model::{Flow, Roots, read_json};
 use serde_json::Value;
-use std::alloc::{AllocError, Global};
+use std::alloc::Global;
 use std::collections::BTreeMap;
-
-/// The value that bytes read as, if they are JSON.
-fn read_json(alloc: Global, bytes: &[u8]) -> Result<Option<Value>, AllocError>
-    ensures { IfOk result (λ json. option_map view json ≡ json_read bytes.now) }
-{
-    match Value::from_slice(alloc, bytes) {
-        Ok(json) => Ok(Some(json)),
-        Err(error) => {
-            if error.is_memory() {
-                Err(AllocError)
-            } else {
-                Ok(None)
-            }
-        },
-    }
-}
 
 /// The keys of a map ascend.
 fn keys_ascend(members: &BTreeMap<String, Value>)

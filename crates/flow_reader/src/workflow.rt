@@ -6,7 +6,7 @@ ghost use Rattle.flow_reader.specs.Checked.{Gives};
 ghost use Rattle.flow_reader.specs.Defaults.{filled_workflow};
 ghost use Rattle.flow_reader.specs.Workflow.{workflow_of, workflow_parts_of, workflow_from};
 
-use crate::defaults::{Defaults, fill_each};
+use crate::defaults::{Defaults, Fill};
 use crate::fault::FlowFault;
 use crate::job::Jobs;
 use crate::maps::Env;
@@ -115,17 +115,13 @@ fn spelled_workflow(name: Text, others: BodyParts) -> (Defaults, Workflow)
     (defaults, workflow)
 }
 
-/// A workflow whose jobs have these defaults where they have none.
-fn fill_workflow(
-    alloc: Global,
-    defaults: &Defaults,
-    workflow: Workflow,
-) -> Result<Workflow, AllocError>
-    ensures { IfOk result (λ filled. filled ≡ filled_workflow defaults.now workflow) }
+/// The workflow of this name that has these other parts.
+fn named_workflow(alloc: Global, name: Text, others: BodyParts) -> Result<Workflow, AllocError>
+    ensures { IfOk result (λ workflow. workflow ≡ workflow_from [] (Some name, others)) }
 {
-    let mut filled = workflow;
-    fill_each(alloc, defaults, &mut filled.jobs)?;
-    Ok(filled)
+    let (defaults, mut workflow) = spelled_workflow(name, others);
+    workflow.fill(alloc, &defaults)?;
+    Ok(workflow)
 }
 
 /// The workflow that has these parts.
@@ -133,9 +129,7 @@ fn workflow_from(alloc: Global, path: &str, parts: WorkflowParts) -> Result<Work
     ensures { IfOk result (λ workflow. workflow ≡ workflow_from path.now parts) }
 {
     let (name, others) = parts;
-    let name = name_or(alloc, name, path)?;
-    let (defaults, workflow) = spelled_workflow(name, others);
-    fill_workflow(alloc, &defaults, workflow)
+    named_workflow(alloc, name_or(alloc, name, path)?, others)
 }
 
 /// The workflow that a value stands for, where the file is this one.

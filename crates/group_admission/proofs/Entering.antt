@@ -2,7 +2,7 @@
 use Rattle.std.proofs.Common.{◌≡◌, ℕ, Bool, true, false, List, [], ◌∷◌, Option, Some, None, option_map, option_and_then, if◌then◌else◌, refl, ap, ◌∙◌}
 use Rattle.flow_model.specs.Mapping.{value_at, with_pair, Ascends}
 use Rattle.flow_model.specs.declared.event.Member.{Member}
-use Rattle.group_admission.proofs.Lookups.{found_same, found_other, Ascends-with_pair}
+use Rattle.flow_model.proofs.Lookups.{found_same, found_other, Ascends-with_pair}
 use Rattle.group_admission.specs.Content.{Content, after_at, after_enter, answer_at, is_own, stopped_by}
 use Rattle.group_admission.specs.Laws.{Becomes, FirstHolds, NextDisplaces, OwnRunChangesNothing}
 use Rattle.group_admission.specs.declared.entered.Entered.TheVariants as answer

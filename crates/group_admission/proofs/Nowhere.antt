@@ -5,7 +5,7 @@ use Rattle.std.specs.List.{list_any}
 use Rattle.std.specs.List.Sorted.{IsStrictlySortedBy}
 use Rattle.flow_model.specs.Mapping.{value_at, Ascends}
 use Rattle.flow_model.specs.declared.event.Member.{Member}
-use Rattle.group_admission.proofs.Lookups.{name_itself, none_below, same_below}
+use Rattle.flow_model.proofs.Lookups.{name_itself, none_below, same_below}
 use Rattle.group_admission.proofs.Members.{one_member}
 use Rattle.group_admission.specs.Content.{Content, holds, is_member, waits}
 use Rattle.group_admission.specs.Laws.{NowhereIsNoGroup}

@@ -7,7 +7,7 @@ use Rattle.std.specs.List.Sorted.{IsStrictlySortedBy}
 use Rattle.std.specs.Ordering.{match_ordering}
 use Rattle.flow_model.specs.Mapping.{value_at, with_pair, Ascends}
 use Rattle.flow_model.specs.declared.event.Member.{Member}
-use Rattle.group_admission.proofs.Lookups.{below_more, none_below}
+use Rattle.flow_model.proofs.Lookups.{below_more, none_below}
 use Rattle.group_admission.proofs.Members.{one_member, there}
 use Rattle.group_admission.specs.Content.{Content, EachOnce, after_at, after_enter, each_held, holds, is_in_group, is_member, is_own, next_after, one, passed_on, places_of, released, same_member, stands_in, waits, with_held, withdrawn}
 use Rattle.group_admission.specs.Laws.{OnceStays, WaiterIsTold}

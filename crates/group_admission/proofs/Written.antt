@@ -6,7 +6,7 @@ use Rattle.std.specs.Cmp.Lexicographic.{slice_cmp}
 use Rattle.std.specs.List.Sorted.{IsStrictlySortedBy}
 use Rattle.std.specs.Ordering.{match_ordering, ordering_reverse, is_gt}
 use Rattle.flow_model.specs.Mapping.{with_pair}
-use Rattle.group_admission.proofs.Lookups.{one_name}
+use Rattle.flow_model.proofs.Lookups.{one_name}
 use Rattle.group_admission.proofs.Kept.{IsBelowAll, below_more, same_below}
 use Rattle.group_admission.specs.Cells.{Ascend, count_below, held_in, is_of, set_here, set_there, with_cell}
 use Rattle.group_admission.specs.Content.{Content, with_held}

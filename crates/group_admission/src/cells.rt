@@ -14,18 +14,13 @@ use crate::member::{is_member, same_member};
 use expr_reader::fold;
 use flow_model::{Duplicate, Member, Text};
 use std::alloc::{AllocError, Global};
-use std::cmp::Ordering;
 
 /// Whether a name is above that of the cell at a place.
 fn is_above(cells: &[Cell], place: usize, name: &str) -> bool
     ensures { result ≡ spec.is_above (fold name.now) (slice_get cells.now place) }
 {
     match cells.get(place) {
-        Some(cell) => match folded_order(name, cell.name.as_str()) {
-            Ordering::Greater => true,
-            Ordering::Equal => false,
-            Ordering::Less => false,
-        },
+        Some(cell) => folded_order(name, cell.name.as_str()).is_gt(),
         None => false,
     }
 }
@@ -35,11 +30,7 @@ fn is_of(cells: &[Cell], place: usize, name: &str) -> bool
     ensures { result ≡ spec.is_of (fold name.now) (slice_get cells.now place) }
 {
     match cells.get(place) {
-        Some(cell) => match folded_order(name, cell.name.as_str()) {
-            Ordering::Equal => true,
-            Ordering::Greater => false,
-            Ordering::Less => false,
-        },
+        Some(cell) => folded_order(name, cell.name.as_str()).is_eq(),
         None => false,
     }
 }
@@ -68,10 +59,12 @@ fn held_here(cells: &[Cell], place: usize, name: &str) -> Option<Held>
     ensures { result ≡ spec.held_here (fold name.now) (slice_get cells.now place) }
 {
     match cells.get(place) {
-        Some(cell) => match folded_order(name, cell.name.as_str()) {
-            Ordering::Equal => cell.held,
-            Ordering::Greater => None,
-            Ordering::Less => None,
+        Some(cell) => {
+            if folded_order(name, cell.name.as_str()).is_eq() {
+                cell.held
+            } else {
+                None
+            }
         },
         None => None,
     }

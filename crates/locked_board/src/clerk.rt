@@ -25,7 +25,13 @@ pub enum Clerk {
 pub fn is_finished(board: &Board) -> bool
     ensures { result ≡ spec.finished board.now }
 {
-    board.runs.as_slice().iter().all(|run| is_closed(run.state))
+    let runs = board.runs.as_slice();
+    for run in runs {
+        if !is_closed(run.state) {
+            return false;
+        }
+    }
+    true
 }
 
 /// Whether a leg in this state has a worker, or may be taken by one.
@@ -39,7 +45,12 @@ fn is_active(state: LegState) -> bool
 fn any_leg(legs: &[Leg]) -> bool
     ensures { result ≡ list_any (λ leg. spec.is_active leg.state) legs.now }
 {
-    legs.iter().any(|leg| is_active(leg.state))
+    for leg in legs {
+        if is_active(leg.state) {
+            return true;
+        }
+    }
+    false
 }
 
 /// Whether one of the legs of some jobs is.

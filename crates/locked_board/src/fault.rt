@@ -5,16 +5,13 @@ ghost use Rattle.locked_board.specs.Fault as spec;
 
 use status_table::EventFault;
 use std::alloc::{AllocError, AllocFailed};
-use thiserror::Error;
 
 /// A refusal of what is under the lock.
-#[derive(Clone, Copy, Debug, Error)]
+#[derive(Clone, Copy)]
 pub enum PostFault {
     /// The table refuses the event.
-    #[error("{0}")]
     Event(EventFault),
     /// There is no memory.
-    #[error("Memory")]
     Memory,
 }
 

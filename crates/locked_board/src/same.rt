@@ -35,7 +35,7 @@ fn is_same_directory(one: &Option<Text>, other: &Option<Text>) -> bool
 }
 
 /// Whether two mappings have the same pairs.
-fn is_same_mapping(one: &Mapping<Text>, other: &Mapping<Text>) -> bool
+pub fn is_same_mapping(one: &Mapping<Text>, other: &Mapping<Text>) -> bool
     ensures { IsTrue result ↔ (one.now ≡ other.now) }
 {
     let left = one.iter();

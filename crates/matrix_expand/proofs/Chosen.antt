@@ -5,7 +5,7 @@ use Rattle.std.proofs.lemmas.Option.{get_or_from_slice_get, slice_get_read}
 use Rattle.std.proofs.lemmas.Map.Text.{is_eq-slice_cmp}
 use Rattle.std.specs.Borrow.{Bor}
 use Rattle.std.specs.Str.{bytes_eq}
-use Rattle.flow_model.specs.Mapping.{value_at}
+use Rattle.flow_model.specs.Mapping.{Ascends, keys_of, value_at}
 use Rattle.flow_model.specs.Plain.{Plain, null}
 use Rattle.matrix_expand.specs.Choices.{choice, row_pairs}
 use Rattle.matrix_expand.specs.Combos.{Pairs, Variables}
@@ -24,7 +24,7 @@ read_at xs v i j x s p h e =
 abbrev pub Named : Type 0
 Named = Bor (List ℕ) × Bor Plain
 
-first_left : (row : List Named) (i : ℕ) (p : Named) → i < length row → p ≡ get_or row i p → drop i row ≡ p ∷ drop (i + 1) row
+pub first_left : (row : List Named) (i : ℕ) (p : Named) → i < length row → p ≡ get_or row i p → drop i row ≡ p ∷ drop (i + 1) row
 first_left row i p w e = drop_more row i p w ∙ ap (λ (x : Named). x ∷ drop (i + 1) row) (sym e)
 
 -- the value of the first pair that is left, where it has the name
@@ -43,6 +43,14 @@ passed_here name row i p all w e s k =
 pub row_next : (row : List Named) (p : Named) → row_pairs (row ++ p ∷ []) ≡ row_pairs row ++ (p.0.now, p.1.now) ∷ []
 row_next [] p = refl
 row_next (q ∷ row) p = ap (λ (c : Pairs). (q.0.now, q.1.now) ∷ c) (row_next row p)
+
+keys_of-choice : (vs : Variables) (n : ℕ) → keys_of (choice vs n) ≡ keys_of vs
+keys_of-choice [] n = refl
+keys_of-choice (v ∷ vs) n = ap (λ (ks : List (List ℕ)). v.0 ∷ ks) (keys_of-choice vs (n % size vs))
+
+-- the names of a choice ascend, as those of the variables do
+pub Ascends-choice : (vs : Variables) (n : ℕ) (c : Pairs) → c ≡ choice vs n → Ascends vs → Ascends c
+Ascends-choice vs n c e h = rw (e, keys_of-choice vs n) h
 
 -- one pair more of a choice
 pub chosen_next : (done : Pairs) (k : List ℕ) (v : List Plain) (x : Plain) (vs : Variables) (rest r : ℕ) (all : Pairs) → x ≡ get_or v (rest / size vs) null → r ≡ rest % size vs

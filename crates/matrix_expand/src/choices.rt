@@ -3,7 +3,7 @@
 ghost use Rattle.std.specs.Prelude.{◌≡◌, ◌<◌, ◌/◌, true, length, get_or, IfOk};
 ghost use Rattle.std.specs.Option.{option_copied};
 ghost use Rattle.std.specs.List.{list_any};
-ghost use Rattle.flow_model.specs.Mapping.{value_at};
+ghost use Rattle.flow_model.specs.Mapping.{Ascends, value_at};
 ghost use Rattle.flow_model.specs.Plain.{null};
 ghost use Rattle.matrix_expand.specs.Choices as spec;
 ghost use Rattle.matrix_expand.specs.Combos.{is_value, stands_in, takes_out};
@@ -34,7 +34,9 @@ pub(crate) fn row<'a>(
     requires full { have_values variables.now ≡ true }
     requires sized { size ≡ size_of variables.now }
     requires within { number < size }
-    ensures { IfOk result (λ row. spec.row_pairs row.items ≡ spec.choice variables.now number) }
+    ensures pairs { IfOk result
+        (λ row. spec.row_pairs row.items ≡ spec.choice variables.now number) }
+    ensures ascends { IfOk result (λ row. Ascends (spec.row_pairs row.items)) }
 {
     let from = variables.iter();
     let mut row = Vec::new(alloc);
@@ -104,6 +106,18 @@ pub(crate) fn is_taken_out<'a>(excludes: &Sequence<Combo>, row: &[(&'a str, &'a 
     false
 }
 
+/// The combination that has the pairs of a row, whose names ascend.
+fn combo_of<'a>(alloc: Global, row: &[(&'a str, &'a Value)]) -> Result<Combo, AllocError>
+    requires { Ascends (spec.row_pairs row.now) }
+    ensures { IfOk result (λ combo. combo ≡ spec.row_pairs row.now) }
+{
+    let mut combo = Mapping::empty(alloc);
+    for (key, item) in row {
+        combo.set(alloc, *key, item.copy(alloc)?)?;
+    }
+    Ok(combo)
+}
+
 /// The combination of a choice.
 pub(crate) fn choice(
     alloc: Global,
@@ -116,15 +130,6 @@ pub(crate) fn choice(
     requires within { number < size }
     ensures { IfOk result (λ combo. combo ≡ spec.choice variables.now number) }
 {
-    let from = variables.iter();
-    let mut combo = Mapping::empty(alloc);
-    let mut block = size;
-    let mut rest = number;
-    for (key, values) in from {
-        block = block / values.len();
-        let item = chosen_item(values, block, rest);
-        combo.set(alloc, key.as_str(), item.copy(alloc)?)?;
-        rest = rest % block;
-    }
-    Ok(combo)
+    let row = row(alloc, variables, size, number)?;
+    combo_of(alloc, row.as_slice())
 }

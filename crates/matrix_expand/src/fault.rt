@@ -4,22 +4,19 @@ ghost use Rattle.std.specs.Prelude.{◌≡◌};
 ghost use Rattle.matrix_expand.specs.Faults.{matrix_fault_name};
 
 use std::alloc::{AllocError, AllocFailed};
+use std::fmt;
 use thiserror::Error;
 
 /// Why a matrix has no combinations.
-#[derive(Clone, Copy, Debug, PartialEq, Eq, Error)]
+#[derive(Clone, Copy, Debug, Error)]
 pub enum MatrixFault {
     /// A variable has no value.
-    #[error("EmptyVariable")]
     EmptyVariable,
     /// There is no combination.
-    #[error("NoCombination")]
     NoCombination,
     /// There are more than 256 combinations, or more than 65,536 before any is taken out.
-    #[error("TooMany")]
     TooMany,
     /// There is no memory.
-    #[error("Memory")]
     Memory,
 }
 
@@ -34,6 +31,13 @@ impl MatrixFault {
             MatrixFault::TooMany => "TooMany",
             MatrixFault::Memory => "Memory",
         }
+    }
+}
+
+/// The name.
+impl fmt::Display for MatrixFault {
+    fn fmt<W: fmt::Write>(&self, f: &mut fmt::Formatter<W>) -> fmt::Result {
+        f.write_str(self.name())
     }
 }
 

@@ -2,7 +2,6 @@ mod BoardLaws
 pub mod EntryLaws
 pub mod Fitting
 pub mod Laws
-mod LineLemmas
 mod LoadLemmas
 mod Numerals
 mod OneLine

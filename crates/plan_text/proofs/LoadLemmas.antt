@@ -1,18 +1,19 @@
 -- A text that was printed of a document is read as it.
 use Rattle.std.proofs.Common.{◌≡◌, ◌≤◌, ℕ, List, Bool, true, false, IsTrue, cond, String, Global, string_bytes, Option, Some, None, Result, Ok, Err, refl, sym, ap, subst, ◌∙◌}
-use Rattle.std.proofs.lemmas.Str.{IsUtf8-string_bytes, is_utf8-from_IsUtf8, IsUtf8-from_is_utf8}
+use Rattle.std.proofs.lemmas.Str.{IsUtf8-string_bytes}
 use Rattle.std.specs.Result.{IfOk, result_ok}
-use Rattle.std.specs.Str.{IsUtf8, is_utf8}
 use Rattle.serde_json.specs.Data.{Data, depth}
 use Rattle.serde_json.specs.Read.{read}
 use Rattle.serde_json.specs.Written.{has_float, compact_text}
+use Rattle.flow_model.specs.JsonText.{json_read}
 use Rattle.flow_model.specs.Rules.{IsPlan, plan_rules}
 use Rattle.flow_model.specs.declared.plan.Plan.{Plan}
 use Rattle.flow_model.specs.declared.event.Entry.{Entry}
+use Rattle.flow_model.proofs.JsonTexts.{json_read-some}
 use Rattle.plan_text.specs.Document.{document, IsPlanDocument}
 use Rattle.plan_text.specs.EntryDocument.{entry_document, IsEntryDocument, entry_of, is_entry}
 use Rattle.plan_text.specs.Record.{entry_in, line_entry, on_line}
-use Rattle.plan_text.specs.Load.{json_read, IsTextOf, has_other_version, accepted, checked, loaded, load, Gives}
+use Rattle.plan_text.specs.Load.{IsTextOf, has_other_version, accepted, checked, loaded, load, Gives}
 use Rattle.plan_text.specs.Parts.{Reading}
 use Rattle.plan_text.specs.Reading.{plan_of}
 use Rattle.plan_text.specs.declared.fault.LoadFault.{LoadFault}
@@ -23,16 +24,6 @@ use Rattle.plan_text.proofs.Laws.{Ok-inj}
 use Rattle.plan_text.proofs.PlanLaws.{plan_reads}
 
 -- ---- JSON texts
-
-pub json_read-some : (bytes : List ℕ) (d : Data) → IsUtf8 bytes → read bytes ≡ Some d → json_read bytes ≡ Some d
-json_read-some bytes d utf8 e = rw (is_utf8-from_IsUtf8 bytes utf8) e
-
-pub json_read-none : (bytes : List ℕ) → (IsUtf8 bytes → read bytes ≡ None) → json_read bytes ≡ None
-json_read-none bytes h = by_test (is_utf8 bytes) refl
-  where
-    by_test : (b : Bool) → is_utf8 bytes ≡ b → cond b (read bytes) None ≡ None
-    by_test true e = h (IsUtf8-from_is_utf8 bytes e)
-    by_test false e = refl
 
 -- the text of a value without floats
 pub compact_of : (s : List ℕ) (d e : Data) → (has_float d ≡ false → s ≡ compact_text d) → d ≡ e → has_float e ≡ false → s ≡ compact_text e

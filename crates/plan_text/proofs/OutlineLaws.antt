@@ -1,6 +1,5 @@
 -- What the outline of a text stands for, part by part.
 use Rattle.std.proofs.Common.{◌≡◌, ◌≤◌, ℕ, Bool, List, [], ◌∷◌, ◌++◌, Option, Some, None, map, option_and_then, Ok, refl, sym, ap, ◌∙◌, append-nil, arith}
-use Rattle.std.proofs.lemmas.Str.{is_utf8-from_IsUtf8}
 use Rattle.std.specs.Str.{IsUtf8}
 use Rattle.json.specs.Lex.{tokens}
 use Rattle.json.specs.Json as json
@@ -14,9 +13,10 @@ use Rattle.serde_json.specs.Data.{Data}
 use Rattle.serde_json.specs.Read.{of_json, of_items, read}
 use Rattle.serde_json.specs.View.{items_of}
 use Rattle.flow_model.specs.declared.plan.Plan.{Plan}
+use Rattle.flow_model.proofs.JsonTexts.{json_read-utf8}
 use Rattle.plan_text.specs.Document.{document}
 use Rattle.flow_model.specs.Rules.{IsPlan}
-use Rattle.plan_text.specs.Load.{json_read, load}
+use Rattle.plan_text.specs.Load.{load}
 use Rattle.plan_text.specs.Outline.{IsOutlineOf, StandsFor, EachStandsFor, IsReadOf}
 use Rattle.plan_text.specs.Parts.{Reading}
 use Rattle.plan_text.proofs.Laws.{Reads}
@@ -29,9 +29,6 @@ pub read-printed : (j : Json) → HasNumbers j → depth j ≤ 127 → read (pri
 read-printed j numbers low =
     ap (λ r. option_and_then of_json (option_and_then (λ p. if_last p.0 p.1) r))
     (ap (value 127) (tokens-print (json_tokens j) (ArePrintable-json_tokens j numbers) ∙ sym (append-nil (json_tokens j))) ∙ value-json_tokens j 127 [] low)
-
-json_read-utf8 : (bytes : List ℕ) → IsUtf8 bytes → json_read bytes ≡ read bytes
-json_read-utf8 bytes utf8 = rw (is_utf8-from_IsUtf8 bytes utf8) refl
 
 number-text : (s : List ℕ) → print (json_tokens (json.number s)) ≡ s
 unfolding print_from

@@ -1,19 +1,14 @@
 -- The plan that a text loads as, and the fault where there is none.
 use Rattle.std.specs.Prelude.{◌≡◌, ℕ, List, codes, Bool, not, false, ◌&&◌, ◌==◌, is_some, if◌then◌else◌, Option, Some, None, option_map, option_and_then, unwrap_or, Result, Ok, Err}
-use Rattle.std.specs.Str.{is_utf8}
 use Rattle.serde_json.specs.Data.{Data}
 use Rattle.serde_json.specs.Find.{get, as_object, as_number, as_u64}
-use Rattle.serde_json.specs.Read.{read}
+use Rattle.flow_model.specs.JsonText.{json_read}
 use Rattle.flow_model.specs.Rules.{plan_rules}
 use Rattle.flow_model.specs.declared.plan.Plan.{Plan}
 use Rattle.plan_text.specs.Parts.{Reading}
 use Rattle.plan_text.specs.Reading.{plan_of}
 use Rattle.plan_text.specs.declared.fault.LoadFault.{LoadFault}
 use Rattle.plan_text.specs.declared.fault.LoadFault.TheVariants.{NotJson, Version, NotPlan, NotEntry, Memory}
-
--- the JSON that bytes read as (RFC 8259): they are UTF-8, and nest to 127
-abbrev pub json_read : List ℕ → Option Data
-json_read bytes = if is_utf8 bytes then read bytes else None
 
 -- the bytes read as JSON that is a document of this
 abbrev pub IsTextOf : {A : Type 0} → (A → Data → Type 0) → List ℕ → A → Type 0

@@ -5,26 +5,22 @@ ghost use Rattle.plan_text.specs.Fault.{load_fault_name};
 
 use flow_model::Text;
 use std::alloc::{AllocError, AllocFailed};
+use std::fmt;
 use thiserror::Error;
 
 /// Why a text stands for no plan, no entry or no record.
 #[derive(Debug, Drop, Error)]
 pub enum LoadFault {
     /// It is no JSON (RFC 8259).
-    #[error("{}", self.name())]
     NotJson,
     /// It is an object whose `version` is missing or not 1.
-    #[error("{}", self.name())]
     Version,
     /// It is no plan's document, or the plan breaks a rule: the path from the root, keys and places
     /// joined by dots.
-    #[error("{name}({0:?})", name = self.name())]
     NotPlan(Text),
     /// This line, from 1, is no entry.
-    #[error("{name}({0})", name = self.name())]
     NotEntry(u64),
     /// There is no memory.
-    #[error("{}", self.name())]
     Memory,
 }
 
@@ -39,6 +35,17 @@ impl LoadFault {
             LoadFault::NotPlan(_) => "NotPlan",
             LoadFault::NotEntry(_) => "NotEntry",
             LoadFault::Memory => "Memory",
+        }
+    }
+}
+
+/// The name, and in brackets the path or the line.
+impl fmt::Display for LoadFault {
+    fn fmt<W: fmt::Write>(&self, f: &mut fmt::Formatter<W>) -> fmt::Result {
+        match self {
+            LoadFault::NotPlan(path) => write!(f, "NotPlan({path:?})"),
+            LoadFault::NotEntry(line) => write!(f, "NotEntry({line})"),
+            LoadFault::NotJson | LoadFault::Version | LoadFault::Memory => f.write_str(self.name()),
         }
     }
 }

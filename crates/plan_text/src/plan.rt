@@ -3,17 +3,17 @@
 ghost use Rattle.std.specs.Prelude.{◌≡◌, IfOk, Some, Ok, string_bytes};
 ghost use Rattle.serde_json.specs.View.{view};
 ghost use Rattle.serde_json.specs.Written.{compact_text};
+ghost use Rattle.flow_model.specs.JsonText.{json_read};
 ghost use Rattle.flow_model.specs.Rules.{IsPlan, plan_rules};
 ghost use Rattle.flow_model.specs.declared.plan.Plan.{Plan};
 ghost use Rattle.plan_text.specs.Document.{document, IsPlanDocument};
-ghost use Rattle.plan_text.specs.Load.{json_read, IsTextOf, is_version_one, has_other_version, loaded, load, accepted, Gives};
+ghost use Rattle.plan_text.specs.Load.{IsTextOf, is_version_one, has_other_version, loaded, load, accepted, Gives};
 
 use crate::fault::LoadFault;
-use crate::json_text::read_json;
 use crate::outline::read_printed;
 use crate::reading::{FromJson, Unread};
 use crate::writing::ToJson;
-use flow_model::{Broken, CheckedPlan, Plan};
+use flow_model::{Broken, CheckedPlan, Plan, read_json};
 use serde_json::Value;
 use std::alloc::{AllocError, Global};
 

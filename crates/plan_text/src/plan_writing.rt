@@ -26,7 +26,7 @@ impl ToJson for Group {
     fn to_json(&self, alloc: Global) -> Result<Value, AllocError> {
         let keys = ["cancel", "name"];
         let parts = (&self.cancel, (&self.name, ()));
-        object(alloc, &keys, parts)
+        object(alloc, &keys, &parts)
     }
 }
 
@@ -41,7 +41,7 @@ impl ToJson for Roots {
             &self.github,
             (&self.inputs, (&self.secrets, (&self.vars, ()))),
         );
-        object(alloc, &keys, parts)
+        object(alloc, &keys, &parts)
     }
 }
 
@@ -69,11 +69,11 @@ impl ToJson for Work {
         match self {
             Work::Run { dir, run, shell } => {
                 let keys = ["dir", "kind", "run", "shell"];
-                object(alloc, &keys, (dir, (&Word("run"), (run, (shell, ())))))
+                object(alloc, &keys, &(dir, (&Word("run"), (run, (shell, ())))))
             },
             Work::Uses { uses, given } => {
                 let keys = ["kind", "uses", "with"];
-                object(alloc, &keys, (&Word("uses"), (uses, (given, ()))))
+                object(alloc, &keys, &(&Word("uses"), (uses, (given, ()))))
             },
         }
     }
@@ -93,7 +93,7 @@ impl ToJson for StepPlan {
                 (&self.id, (&self.name, (&self.tolerate, (&self.work, ())))),
             ),
         );
-        object(alloc, &keys, parts)
+        object(alloc, &keys, &parts)
     }
 }
 
@@ -125,7 +125,7 @@ impl ToJson for JobPlan {
             &self.condition,
             (&self.env, (&self.fail_fast, (&self.group, tail))),
         );
-        object(alloc, &keys, parts)
+        object(alloc, &keys, &parts)
     }
 }
 
@@ -143,7 +143,7 @@ impl ToJson for RunPlan {
                 (&self.flow, (&self.group, (&self.jobs, (&self.roots, ())))),
             ),
         );
-        object(alloc, &keys, parts)
+        object(alloc, &keys, &parts)
     }
 }
 
@@ -155,6 +155,6 @@ impl ToJson for Plan {
     fn to_json(&self, alloc: Global) -> Result<Value, AllocError> {
         let keys = ["runs", "version"];
         let parts = (&self.runs, (&1u64, ()));
-        object(alloc, &keys, parts)
+        object(alloc, &keys, &parts)
     }
 }

@@ -170,8 +170,7 @@ fn read_items<T: FromJson + Drop>(alloc: Global, items: &[Value]) -> Result<Sequ
 {
     let mut read = Sequence::empty(alloc);
     for (place, item) in items.iter().enumerate() {
-        let key = number_text(alloc, place)?;
-        read.push(part(alloc, key.as_str(), item)?)?;
+        read.push(part_at(alloc, place, item)?)?;
     }
     Ok(read)
 }
@@ -229,6 +228,14 @@ fn part<T: FromJson>(alloc: Global, key: &str, json: &Value) -> Result<T, Unread
         Ok(part) => Ok(part),
         Err(unread) => Err(at(alloc, key, unread)),
     }
+}
+
+/// The part that stands at a place.
+fn part_at<T: FromJson>(alloc: Global, place: usize, json: &Value) -> Result<T, Unread>
+    ensures { GivesIt result (within (decimal place) (T.reading (view json.now))) }
+{
+    let key = number_text(alloc, place)?;
+    part(alloc, key.as_str(), json)
 }
 
 /// The part at the next key.

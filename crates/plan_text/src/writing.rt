@@ -145,7 +145,7 @@ fn put<T: ToJson>(
 }
 
 /// Members of an object that are to be written: a part and the members after it, or none.
-pub(crate) trait Members: Copy {
+pub(crate) trait Members {
     ghost use Rattle.std.specs.Prelude.{ℕ, List, map};
     ghost use Rattle.serde_json.specs.Data.{Data};
     ghost use Rattle.plan_text.specs.Fields.{put_each};
@@ -154,13 +154,14 @@ pub(crate) trait Members: Copy {
     ghost documents: { List (List ℕ) → Self → List (List ℕ × Data) };
 
     fn put_all(
-        self,
+        &self,
         alloc: Global,
         members: &mut Map<String, Value>,
         keys: &[&str],
     ) -> Result<(), AllocError>
         ensures { OnOk result (members_view members.new.entries ≡ put_each
-            (documents (map (λ key. key.now) keys.now) self) (members_view members.old.entries)) };
+            (documents (map (λ key. key.now) keys.now) self.now)
+            (members_view members.old.entries)) };
 }
 
 impl Members for () {
@@ -169,7 +170,7 @@ impl Members for () {
     ghost documents = { λ keys parts. [] };
 
     fn put_all(
-        self,
+        &self,
         _alloc: Global,
         _: &mut Map<String, Value>,
         _: &[&str],
@@ -184,7 +185,7 @@ impl<'a, A: ToJson, R: Members> Members for (&'a A, R) {
     ghost documents = { documents_at (λ part. A.writing part.now) R.documents };
 
     fn put_all(
-        self,
+        &self,
         alloc: Global,
         members: &mut Map<String, Value>,
         keys: &[&str],
@@ -192,9 +193,8 @@ impl<'a, A: ToJson, R: Members> Members for (&'a A, R) {
         let [key, keys @ ..] = keys else {
             return Ok(());
         };
-        let (part, others) = self;
-        put(alloc, members, key, part)?;
-        others.put_all(alloc, members, keys)
+        put(alloc, members, key, self.0)?;
+        self.1.put_all(alloc, members, keys)
     }
 }
 
@@ -202,10 +202,10 @@ impl<'a, A: ToJson, R: Members> Members for (&'a A, R) {
 pub(crate) fn object<M: Members>(
     alloc: Global,
     keys: &[&str],
-    parts: M,
+    parts: &M,
 ) -> Result<Value, AllocError>
     ensures { IfOk result (λ json. view json
-        ≡ object (put_each (M.documents (map (λ key. key.now) keys.now) parts) no_members)) }
+        ≡ object (put_each (M.documents (map (λ key. key.now) keys.now) parts.now) no_members)) }
 {
     let mut members = Map::new(alloc);
     parts.put_all(alloc, &mut members, keys)?;

@@ -77,11 +77,12 @@ pub record CallInOrder (call : StepCall) : Type 0 where
 -- Each call that a legal Begin makes is one such.
 abbrev pub CallsAreInOrder : Type 0
 CallsAreInOrder =
-    (p : Plan) (b : Board) (worker l : ℕ) → PlanInOrder p → IfCalled CallInOrder (row p b worker (event.Begin l))
+    (p : Plan) (b : Board) (worker l : ℕ)
+    → PlanInOrder p → IfCalled CallInOrder (row p b worker (event.Begin l))
 
--- The variables of a call are those of three levels: of the workflow, which see no variables, of the job, which see none,
--- and of the step, which see those of the two. The most specific level that has a name gives its value, and a name that
--- none of them has is not there.
+-- The variables of a call are those of three levels: of the workflow, which see no variables, of the job,
+-- which see none, and of the step, which see those of the two. The most specific level that has a name gives
+-- its value, and a name that none of them has is not there.
 pub record MostSpecificIsGiven (at : LegAt) (step : StepPlan) (call : StepCall) : Type 0 where
   pub workflow : Env
   pub job : Env
@@ -89,10 +90,13 @@ pub record MostSpecificIsGiven (at : LegAt) (step : StepPlan) (call : StepCall) 
   pub workflow_is : env_value (seen_from at place.WorkflowEnv []) at.run_plan.env ≡ Ok workflow
   pub job_is : env_value (seen_from at place.JobEnv []) at.job_plan.env ≡ Ok job
   pub own_is : env_value (seen_from at place.StepEnv (laid_over job workflow)) step.env ≡ Ok own
-  pub given : (name : List ℕ) → value_at name call.env ≡ or_below (value_at name own) (or_below (value_at name job) (value_at name workflow))
+  pub given : (name : List ℕ)
+      → value_at name call.env
+      ≡ or_below (value_at name own) (or_below (value_at name job) (value_at name workflow))
 
 -- That is so of each call that a legal Begin makes of the next step of a leg.
 abbrev pub CallsAreMostSpecific : Type 0
 CallsAreMostSpecific =
-    (p : Plan) (b : Board) (worker l : ℕ) (at : LegAt) (step : StepPlan) → PlanInOrder p → leg_at p b l ≡ Some at → next_step at ≡ Some step
+    (p : Plan) (b : Board) (worker l : ℕ) (at : LegAt) (step : StepPlan)
+    → PlanInOrder p → leg_at p b l ≡ Some at → next_step at ≡ Some step
     → IfCalled (MostSpecificIsGiven at step) (row p b worker (event.Begin l))

@@ -27,13 +27,16 @@ with_job b at f = with_run b at.run (λ run. record run { jobs = changed run.job
 
 -- the board with a leg changed
 abbrev pub with_leg : Board → LegPlace → (Leg → Leg) → Board
-with_leg b at f = with_run b at.run (λ run. record run { jobs = changed run.jobs at.job (λ job. record job { legs = changed job.legs at.leg f }) })
+with_leg b at f =
+    with_run b at.run (λ run.
+    record run { jobs = changed run.jobs at.job (λ job. record job { legs = changed job.legs at.leg f }) })
 
 -- the runs with the leg at a place changed, where a place was found
 abbrev pub leg_changed : List Run → Option LegPlace → (Leg → Leg) → List Run
 leg_changed runs None f = runs
 leg_changed runs (Some at) f =
-    changed runs at.run (λ run. record run { jobs = changed run.jobs at.job (λ job. record job { legs = changed job.legs at.leg f }) })
+    changed runs at.run (λ run.
+    record run { jobs = changed run.jobs at.job (λ job. record job { legs = changed job.legs at.leg f }) })
 
 -- the board with the leg of a number changed, where there is one
 abbrev pub with_numbered_leg : Board → ℕ → (Leg → Leg) → Board

@@ -5,7 +5,8 @@ use Rattle.flow_model.specs.declared.board.Board.{Board}
 use Rattle.flow_model.specs.declared.board.Leg.{Leg}
 use Rattle.flow_model.specs.Numbers.{board_legs}
 
--- how often the number of a leg stands among the ends: once where there is such a leg and it is Ended, and else not
+-- how often the number of a leg stands among the ends: once
+-- where there is such a leg and it is Ended, and else not
 abbrev pub times_ended : Option Leg → ℕ
 times_ended None = 0
 times_ended (Some leg) = if is_ended leg.state then 1 else 0

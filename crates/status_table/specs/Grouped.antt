@@ -1,5 +1,5 @@
--- The concurrency groups as they are kept by names, after whole lists of entries: each entry asks of them what its event asks
--- on the board before it.
+-- The concurrency groups as they are kept by names, after whole lists of entries: each entry asks of them
+-- what its event asks on the board before it.
 use Rattle.std.specs.Prelude.{◌≡◌, ℕ, true, false, List, [], ◌∷◌, Option, Some, None, Ok, Err}
 use Rattle.board_decisions.specs.Decisions.{run_entrance, leg_entrance}
 use Rattle.board_decisions.specs.Place.{RunAt, LegAt, run_at, leg_at}
@@ -63,7 +63,8 @@ then_groups (Err refusal) groups rest = groups
 abbrev pub groups_from : Plan → Board → Content → List Entry → Content
 groups_from p b groups [] = groups
 groups_from p b groups (e ∷ es) =
-    then_groups (row p b e.worker e.event) groups (λ next. groups_from p next (after_event p b groups e.event) es)
+    then_groups (row p b e.worker e.event) groups (λ next.
+    groups_from p next (after_event p b groups e.event) es)
 
 -- The groups after entries on the board on which all is new, where nobody is in a group.
 abbrev pub groups_after : Plan → List Entry → Content
@@ -80,5 +81,7 @@ pub record KeptAsShown (groups : Content) (b : Board) : Type 0 where
 
 -- Whoever may enter a group on a board is in none: a run that may be opened, and a leg that may ask.
 pub record EntersFromOutside (p : Plan) (b : Board) (groups : Content) : Type 0 where
-  pub opener : (worker r : ℕ) → is_accepted (row p b worker (event.Open r)) ≡ true → is_in_group (member.Run r) groups ≡ false
-  pub asker : (worker l : ℕ) → is_accepted (row p b worker (event.Ask l)) ≡ true → is_in_group (member.Leg l) groups ≡ false
+  pub opener : (worker r : ℕ) → is_accepted (row p b worker (event.Open r)) ≡ true
+      → is_in_group (member.Run r) groups ≡ false
+  pub asker : (worker l : ℕ) → is_accepted (row p b worker (event.Ask l)) ≡ true
+      → is_in_group (member.Leg l) groups ≡ false

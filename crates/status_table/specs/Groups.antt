@@ -1,5 +1,6 @@
--- Concurrency groups on a board (GitHub Docs, workflow syntax: `concurrency`): who holds a name, who waits for it, and
--- what comes of entering a group and of leaving it. Nothing of this is kept beside the board: it is looked for.
+-- Concurrency groups on a board (GitHub Docs, workflow syntax: `concurrency`):
+-- who holds a name, who waits for it, and what comes of entering a group and
+-- of leaving it. Nothing of this is kept beside the board: it is looked for.
 use Rattle.std.specs.Prelude.{ℕ, suc, ◌==◌, ◌++◌, Bool, true, false, List, [], ◌∷◌, Option, Some, None, if◌then◌else◌}
 use Rattle.std.specs.Str.{bytes_eq}
 use Rattle.board_decisions.specs.declared.entrance.Entrance.{Entrance}
@@ -108,17 +109,21 @@ closed b r result = with_run b r (λ run. record run { state = run_state.Closed 
 -- the leg has ended without a worker, last of all
 abbrev pub dropped : Board → ℕ → Outcome → Board
 dropped b l result =
-    record (with_numbered_leg b l (λ leg. record leg { state = leg_state.Ended result false })) { ends = b.ends ++ l ∷ [] }
+    record (with_numbered_leg b l (λ leg. record leg { state = leg_state.Ended result false }))
+    { ends = b.ends ++ l ∷ [] }
 
 -- the member is Going or Admitted, in the group with a name or in none
 abbrev pub admitted : Board → Option (List ℕ) → Member → Board
 admitted b name (member.Run r) = with_run b r (λ run. record run { state = run_state.Going; group = name })
-admitted b name (member.Leg l) = with_numbered_leg b l (λ leg. record leg { state = leg_state.Admitted; group = name })
+admitted b name (member.Leg l) =
+    with_numbered_leg b l (λ leg. record leg { state = leg_state.Admitted; group = name })
 
 -- the member waits for a name
 abbrev pub waits : Board → List ℕ → Member → Board
-waits b name (member.Run r) = with_run b r (λ run. record run { state = run_state.Waiting; group = Some name })
-waits b name (member.Leg l) = with_numbered_leg b l (λ leg. record leg { state = leg_state.Waiting; group = Some name })
+waits b name (member.Run r) =
+    with_run b r (λ run. record run { state = run_state.Waiting; group = Some name })
+waits b name (member.Leg l) =
+    with_numbered_leg b l (λ leg. record leg { state = leg_state.Waiting; group = Some name })
 
 -- who waited is Going or Admitted, whether or not it is to stop; it has its group's name already
 abbrev pub passed_on : Board → Option Member → Board
@@ -167,13 +172,16 @@ abbrev pub stop_told : Bool → Member → Option Member
 stop_told false holder = None
 stop_told true holder = Some holder
 
--- The member waits, in the place of one that waited, and the holder is told to stop where the cancel flag holds.
+-- The member waits, in the place of one that waited, and
+-- the holder is told to stop where the cancel flag holds.
 abbrev pub queued : Board → Member → Entrance → Member → Option Member → Done
-queued b m group holds waited =
-    (stopped (displaced (waits b group.name m) waited) group.cancel holds, told None waited (stop_told group.cancel holds))
+queued b m group holds waited = (
+  stopped (displaced (waits b group.name m) waited) group.cancel holds,
+  told None waited (stop_told group.cancel holds),
+)
 
--- What comes of a member that enters a group, by who holds its name and who waits for it. With no holder the member
--- is admitted. A leg whose own run is the holder ends cancelled. Else the member waits.
+-- What comes of a member that enters a group, by who holds its name and who waits for it. With no holder the
+-- member is admitted. A leg whose own run is the holder ends cancelled. Else the member waits.
 abbrev pub enters_held : Board → Member → Option ℕ → Entrance → Option Member → Option Member → Done
 enters_held b m own group None waited = (admitted b (Some group.name) m, told (Some m) None None)
 enters_held b m own group (Some holds) waited =
@@ -190,7 +198,7 @@ next_after b apart = None
 next_after b (waiting name) = None
 next_after b (holding name) = waiter_of b name
 
--- A member that stood so has ended, after which the board is as said, and so it leaves its group: what it held passes
--- to who waits for it; one that waited just waits no longer.
+-- A member that stood so has ended, after which the board is as said, and so it leaves its group: what it
+-- held passes to who waits for it; one that waited just waits no longer.
 abbrev pub leaves : Board → Standing → Board → Done
 leaves b standing after = (passed_on after (next_after b standing), told (next_after b standing) None None)

@@ -17,7 +17,8 @@ use Rattle.status_table.specs.Row.{first_of}
 
 -- whether a leg that waits, is admitted or runs is of a Going run, and does not wait for its own run
 abbrev pub goes_rightly : RunState → Option (List ℕ) → Leg → Bool
-goes_rightly run group leg = not (is_under_way leg.state) || (is_going run && not (is_waiting leg.state && share_name group leg.group))
+goes_rightly run group leg =
+    not (is_under_way leg.state) || (is_going run && not (is_waiting leg.state && share_name group leg.group))
 
 -- whether a leg is Fresh; or is of an Open job, and goes rightly
 abbrev pub leg_stands_right : RunState → Option (List ℕ) → JobState → Leg → Bool
@@ -32,8 +33,8 @@ Within (Some most) n = n ≤ most
 abbrev pub under_way : List Leg → ℕ
 under_way legs = count_by (λ leg. is_under_way leg.state) legs
 
--- A job of a run that is in a state and a group, as planned: each of its legs stands rightly, and no more of them than
--- `max_parallel` are under way. It has legs, and no more than 256 steps.
+-- A job of a run that is in a state and a group, as planned: each of its legs stands rightly, and no more of
+-- them than `max_parallel` are under way. It has legs, and no more than 256 steps.
 pub record JobFits (run : RunState) (group : Option (List ℕ)) (plan : JobPlan) (job : Job) : Type 0 where
   pub legs : list_all (leg_stands_right run group job.state) job.legs ≡ true
   pub slots : Within plan.max_parallel (under_way job.legs)
@@ -51,10 +52,11 @@ MembersFit p b = AllZip RunFits p.runs b.runs
 -- What an Open job needs has ended.
 abbrev pub NeedsEnded : Plan → Board → Type 0
 NeedsEnded p b =
-    (j : ℕ) (at : JobAt) → job_at p b j ≡ Some at → is_open at.job.state ≡ true → needs_have_ended (first_of j at) at.run at.plan ≡ true
+    (j : ℕ) (at : JobAt) → job_at p b j ≡ Some at → is_open at.job.state ≡ true
+    → needs_have_ended (first_of j at) at.run at.plan ≡ true
 
--- A group name has one holder and one waiter at most, and no waiter without a holder; each member stands rightly; and
--- what an Open job needs has ended.
+-- A group name has one holder and one waiter at most, and no waiter without a holder; each member stands
+-- rightly; and what an Open job needs has ended.
 pub record Lawful (p : Plan) (b : Board) : Type 0 where
   pub one : OneHolder b
   pub fits : MembersFit p b

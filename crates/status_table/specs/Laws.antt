@@ -41,7 +41,8 @@ CallsNothing (Err refusal) = Unit {0}
 -- After a step that counts as a failure, a step whose condition names no status function is never in a call.
 abbrev pub NoCallAfterFailure : Type 0
 NoCallAfterFailure =
-    (p : Plan) (b : Board) (worker l : ℕ) (at : LegAt) (step : StepPlan) → leg_at p b l ≡ Some at → next_step at ≡ Some step
+    (p : Plan) (b : Board) (worker l : ℕ) (at : LegAt) (step : StepPlan)
+    → leg_at p b l ≡ Some at → next_step at ≡ Some step
     → NamesNoStatus step.condition → HasFailedStep at → CallsNothing (row p b worker (event.Begin l))
 
 -- The step that is done failed, and the leg's next step may fail by its continue-on-error.
@@ -51,10 +52,12 @@ pub record IsPassedOver (at : LegAt) (done : DoneStep) : Type 0 where
   pub next : next_step at ≡ Some step
   pub passed : step_tolerates at step ≡ true
 
--- The leg has one more step done, whose conclusion differs from its outcome only where a failure was passed over.
+-- The leg has one more step done, whose conclusion differs
+-- from its outcome only where a failure was passed over.
 abbrev pub EndsStep : Board → ℕ → LegAt → Board → Type 0
 EndsStep b worker at new =
-    (done : DoneStep) × (new ≡ step_done b at.place worker done) × ((done.conclusion ≡ done.outcome → ⊥) → IsPassedOver at done)
+    (done : DoneStep) × (new ≡ step_done b at.place worker done)
+    × ((done.conclusion ≡ done.outcome → ⊥) → IsPassedOver at done)
 
 -- The same, but where a call is carried: then no step is done.
 abbrev pub EndsUncalled : What → Board → ℕ → LegAt → Board → Type 0
@@ -68,9 +71,10 @@ abbrev pub Concludes : Board → ℕ → LegAt → Row → Type 0
 Concludes b worker at (Ok x) = EndsUncalled x.1.what b worker at x.0
 Concludes b worker at (Err refusal) = Unit {0}
 
--- Where a step is done, by Begin or by End, its conclusion differs from its outcome only where the outcome is failure
--- and its continue-on-error holds.
+-- Where a step is done, by Begin or by End, its conclusion differs from its outcome only where the outcome is
+-- failure and its continue-on-error holds.
 abbrev pub OnlyFailuresArePassedOver : Type 0
 OnlyFailuresArePassedOver =
     (p : Plan) (b : Board) (worker l : ℕ) (at : LegAt) → leg_at p b l ≡ Some at
-    → Concludes b worker at (row p b worker (event.Begin l)) × ((a : Answer) → Concludes b worker at (row p b worker (event.End l a)))
+    → Concludes b worker at (row p b worker (event.Begin l))
+    × ((a : Answer) → Concludes b worker at (row p b worker (event.End l a)))

@@ -8,7 +8,9 @@ use Rattle.status_table.specs.Groups.{Standing, run_standing, leg_standing, hold
 
 -- how many runs and legs stand as a test says
 abbrev pub count_members : (Standing → Bool) → Board → ℕ
-count_members test b = count_by (λ run. test (run_standing run)) b.runs + count_by (λ leg. test (leg_standing leg)) (board_legs b)
+count_members test b =
+    count_by (λ run. test (run_standing run)) b.runs
+    + count_by (λ leg. test (leg_standing leg)) (board_legs b)
 
 -- how many hold a name
 abbrev pub holders : Board → List ℕ → ℕ
@@ -18,7 +20,8 @@ holders b name = count_members (holds_name name) b
 abbrev pub waiters : Board → List ℕ → ℕ
 waiters b name = count_members (waits_name name) b
 
--- A name has at most one holder, and no more waiters than holders: so at most one, and none where nobody holds it.
+-- A name has at most one holder, and no more waiters than
+-- holders: so at most one, and none where nobody holds it.
 pub record OneHolder (b : Board) : Type 0 where
   pub holder : (name : List ℕ) → holders b name ≤ 1
   pub waiter : (name : List ℕ) → waiters b name ≤ holders b name

@@ -55,4 +55,6 @@ is_none_left (e ∷ es) = false
 
 -- Not all runs are Closed, and yet there is nothing that a clerk may do and no leg for a worker.
 abbrev pub stalled : Plan → Board → Bool
-stalled p b = not (finished b) && (is_none_left (moves p b) && not (list_any (λ leg. is_active leg.state) (board_legs b)))
+stalled p b =
+    not (finished b)
+    && (is_none_left (moves p b) && not (list_any (λ leg. is_active leg.state) (board_legs b)))

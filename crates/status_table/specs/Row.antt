@@ -55,7 +55,9 @@ leg_state_set b place state = with_leg b place (λ leg. record leg { state = sta
 
 -- the leg is idle again, with one more step done
 abbrev pub step_done : Board → LegPlace → ℕ → DoneStep → Board
-step_done b place worker done = with_leg b place (λ leg. record leg { state = leg_state.Running worker false; steps = leg.steps ++ done ∷ [] })
+step_done b place worker done =
+    with_leg b place (λ leg.
+    record leg { state = leg_state.Running worker false; steps = leg.steps ++ done ∷ [] })
 
 -- ---- Open: a run that is New, and was not told to stop, enters its workflow's group
 
@@ -169,7 +171,8 @@ may_drop at = is_going at.run.state && is_open at.job.state && is_untaken at.leg
 abbrev pub drop_leg : Board → ℕ → LegAt → Row
 drop_leg b l at =
     if not (may_drop at) then Err fault.WrongState
-    else (if is_stopping at then Ok (leaves b (leg_standing at.leg) (dropped b l outcome.Cancelled)) else Err fault.NotStopping)
+    else (if is_stopping at then Ok (leaves b (leg_standing at.leg) (dropped b l outcome.Cancelled))
+    else Err fault.NotStopping)
 
 -- the same, where there is such a leg
 abbrev pub drop_found : Board → ℕ → Option LegAt → Row
@@ -216,7 +219,8 @@ idle_owner (leg_state.Ended result tolerated) = None
 abbrev pub next_step : LegAt → Option StepPlan
 next_step at = slice_get at.job_plan.steps (length at.leg.steps)
 
--- What beginning a step comes to: a call, a step that is skipped, or one that failed since a text has no value.
+-- What beginning a step comes to: a call, a step that is
+-- skipped, or one that failed since a text has no value.
 pub data Beginning : Type 0 where
   calls : StepCall → Beginning
   skips : Beginning
@@ -254,9 +258,11 @@ failed_step at = record { outcome = outcome.Failure; conclusion = failure_of at 
 
 -- the leg is in a call, or has one more step done
 abbrev pub begin_leg : Board → ℕ → LegAt → Result Beginning EventFault → Row
-begin_leg b worker at (Ok (calls call)) = Ok (leg_state_set b at.place (leg_state.Running worker true), reply (what.Call call))
+begin_leg b worker at (Ok (calls call)) =
+    Ok (leg_state_set b at.place (leg_state.Running worker true), reply (what.Call call))
 begin_leg b worker at (Ok skips) = Ok (step_done b at.place worker skipped_step, reply what.Skipped)
-begin_leg b worker at (Ok (faults f)) = Ok (step_done b at.place worker (failed_step at), reply (what.Faulted f))
+begin_leg b worker at (Ok (faults f)) =
+    Ok (step_done b at.place worker (failed_step at), reply (what.Faulted f))
 begin_leg b worker at (Err f) = Err f
 
 -- the same, where there is such a leg
@@ -302,7 +308,8 @@ conclusion_of at outcome.Skipped = outcome.Skipped
 
 -- the step that an answer ends
 abbrev pub answered_step : LegAt → Answer → DoneStep
-answered_step at a = record { outcome = outcome_of a; conclusion = conclusion_of at (outcome_of a); outputs = outputs_of a }
+answered_step at a =
+    record { outcome = outcome_of a; conclusion = conclusion_of at (outcome_of a); outputs = outputs_of a }
 
 -- the step that is done by an answer, or why it is not, by the worker whose call is open
 abbrev pub ending_by : ℕ → LegAt → Answer → Option ℕ → Result DoneStep EventFault
@@ -340,7 +347,8 @@ abbrev pub finishing_by : ℕ → LegAt → Option ℕ → Result LegState Event
 finishing_by worker at None = Err fault.WrongState
 finishing_by worker at (Some owner) =
     if not (worker == owner) then Err fault.OtherWorker
-    else (if nat_lt (length at.leg.steps) (length at.job_plan.steps) then Err fault.StepsLeft else Ok (ended_state at (leg_result at)))
+    else (if nat_lt (length at.leg.steps) (length at.job_plan.steps) then Err fault.StepsLeft
+    else Ok (ended_state at (leg_result at)))
 
 -- the state in which a leg ends, or why it does not
 abbrev pub finishing : ℕ → LegAt → Result LegState EventFault
@@ -356,7 +364,8 @@ leg_ended b place l state outputs = record (leg_set b place state outputs) { end
 
 -- the leg has ended, last of all, and leaves its group
 abbrev pub finish_leg : Board → ℕ → LegAt → Result LegState EventFault → Row
-finish_leg b l at (Ok state) = Ok (leaves b (leg_standing at.leg) (leg_ended b at.place l state (leg_outputs at)))
+finish_leg b l at (Ok state) =
+    Ok (leaves b (leg_standing at.leg) (leg_ended b at.place l state (leg_outputs at)))
 finish_leg b l at (Err f) = Err f
 
 -- the same, where there is such a leg
@@ -368,7 +377,7 @@ finish_found b worker l (Some at) = finish_leg b l at (finishing worker at)
 abbrev pub finish_row : Plan → Board → ℕ → ℕ → Row
 finish_row p b worker l = finish_found b worker l (leg_at p b l)
 
--- ---- Close: a run whose jobs have all ended, or that was told to stop before it was Going, ends and leaves its group
+-- ---- Close: a run whose jobs have ended, or that is to stop before it was Going, ends and leaves its group
 
 -- the run has ended, and leaves its group
 abbrev pub run_closes : Board → ℕ → Run → Outcome → Row
@@ -383,7 +392,8 @@ close_waiting b r run false = Err fault.NotStopping
 abbrev pub close_run : Board → ℕ → Run → RunState → Row
 close_run b r run run_state.New = close_waiting b r run run.stop
 close_run b r run run_state.Waiting = close_waiting b r run run.stop
-close_run b r run run_state.Going = if jobs_have_ended run then run_closes b r run (run_result run) else Err fault.NeedsOpen
+close_run b r run run_state.Going =
+    if jobs_have_ended run then run_closes b r run (run_result run) else Err fault.NeedsOpen
 close_run b r run (run_state.Closed result) = Err fault.WrongState
 
 -- the same, where there is such a run
@@ -400,7 +410,8 @@ close_row p b r = close_found b r (run_at p b r)
 -- what comes of cancelling a run
 abbrev pub cancel_run : Board → ℕ → Run → Row
 cancel_run b r run =
-    if is_closed run.state || run.stop then Err fault.WrongState else Ok (stopped b true (member.Run r), moved)
+    if is_closed run.state || run.stop then Err fault.WrongState
+    else Ok (stopped b true (member.Run r), moved)
 
 -- the same, where there is such a run
 abbrev pub cancel_found : Board → ℕ → Option RunAt → Row

@@ -1,7 +1,6 @@
 -- What values of the code stand for.
 use Rattle.std.specs.Prelude.{ℕ, Bool, true, false, List, [], ◌∷◌, ◌++◌, Option, Some, None, Result}
-use Rattle.board_decisions.specs.Numbered.{leg_there}
-use Rattle.board_decisions.specs.Place.{◌>>=◌, LegAt, leg_place}
+use Rattle.board_decisions.specs.Place.{LegAt}
 use Rattle.flow_model.specs.declared.board.Board.{Board}
 use Rattle.flow_model.specs.declared.board.DoneStep.{DoneStep}
 use Rattle.flow_model.specs.declared.board.Leg.{Leg}
@@ -37,10 +36,6 @@ ended_step x a = record { outcome = x.0; conclusion = x.1; outputs = outputs_of 
 abbrev pub DecidesEnding : ℕ → LegAt → Answer → Result (Outcome × Outcome) EventFault → Type 0
 DecidesEnding worker at a r = DecidesAs (λ x. ended_step x a) (ending worker at a) r
 
--- the leg at the place of a number
-abbrev pub numbered_leg : Board → ℕ → Option Leg
-numbered_leg b n = leg_place b n >>= leg_there b
-
 -- whether one that stands so has the role that is looked for, at a name
 abbrev pub has_role : Role → List ℕ → Standing → Bool
 has_role role.Holder = holds_name
@@ -56,7 +51,8 @@ noted b (Some (member.Leg l)) = record b { ends = b.ends ++ l ∷ [] }
 abbrev pub put_out : Board → Option Member → Board
 put_out b None = b
 put_out b (Some (member.Run r)) = closed b r outcome.Cancelled
-put_out b (Some (member.Leg l)) = with_numbered_leg b l (λ leg. record leg { state = leg_state.Ended outcome.Cancelled false })
+put_out b (Some (member.Leg l)) =
+    with_numbered_leg b l (λ leg. record leg { state = leg_state.Ended outcome.Cancelled false })
 
 -- a leg after a change
 abbrev pub leg_after : LegChange → Leg → Leg

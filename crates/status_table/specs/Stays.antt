@@ -11,8 +11,8 @@ use Rattle.flow_model.specs.declared.board.Leg.{Leg}
 abbrev pub LegStays : Leg → Leg → Type 0
 LegStays old new = is_ended old.state ≡ true → new ≡ old
 
--- A job that is Shut is as it was, and so is each of its legs that is Ended. If it has ended, so it has later, with the
--- same result.
+-- A job that is Shut is as it was, and so is each of its legs that
+-- is Ended. If it has ended, so it has later, with the same result.
 pub record JobStays (old_run new_run : Run) (old new : Job) : Type 0 where
   pub legs : AllZip LegStays old.legs new.legs
   pub shut : is_shut old.state ≡ true → new ≡ old
@@ -24,7 +24,7 @@ pub record RunStays (old new : Run) : Type 0 where
   pub jobs : AllZip (JobStays old new) old.jobs new.jobs
   pub closed : is_closed old.state ≡ true → new ≡ old
 
--- Each leg that is Ended, each job that is Shut and each run that is Closed is as it was, and so is the result of each job
--- that has ended.
+-- Each leg that is Ended, each job that is Shut and each run that is Closed is as it was, and so is the
+-- result of each job that has ended.
 abbrev pub Stays : Board → Board → Type 0
 Stays old new = AllZip RunStays old.runs new.runs

@@ -17,7 +17,8 @@ use group_admission::laws::{
     withdrawing_leaves_the_holder,
 };
 
-/// Where a lawful board shows what the groups keep, it does after a run is opened or a leg asks, which enters its group.
+/// Where a lawful board shows what the groups keep, it does
+/// after a run is opened or a leg asks, which enters its group.
 pub fn entering_is_shown()
     ensures open { OpensAsEntered }
     ensures ask { AsksAsEntered }
@@ -25,8 +26,8 @@ pub fn entering_is_shown()
     entering_displaces_the_waiter();
 }
 
-/// Where a lawful board shows what the groups keep, it does after a run is closed, or a leg dropped or finished, which
-/// releases what it held or leaves its wait.
+/// Where a lawful board shows what the groups keep, it does after a run is closed, or a leg dropped or
+/// finished, which releases what it held or leaves its wait.
 pub fn leaving_is_shown()
     ensures close { ClosesAsLeft }
     ensures drop { DropsAsLeft }
@@ -45,9 +46,10 @@ pub fn others_ask_nothing()
     ensures cancel { (r : ℕ) → StaysShown (event.Cancel r) }
 {}
 
-/// Where the groups begin with nobody, and are entered and left as the entries of a legal list of a plan that breaks no rule
-/// ask, the board after the list shows what they keep: who holds each name, and who waits for it. No member stands in two
-/// places then, and a run that may be opened next, or a leg that may ask, is in no group.
+/// Where the groups begin with nobody, and are entered and left as the entries of a
+/// legal list of a plan that breaks no rule ask, the board after the list shows what
+/// they keep: who holds each name, and who waits for it. No member stands in two places
+/// then, and a run that may be opened next, or a leg that may ask, is in no group.
 pub fn legal_lists_are_shown()
     ensures kept { (p : Plan) → IsPlan p → (es : List Entry) (b : Board) → after p es ≡ Some b
         → KeptAsShown (groups_after p es) b }

@@ -1,5 +1,5 @@
-//! What holds of every legal list of entries of a plan that breaks no rule, each the contract of a function that does
-//! nothing.
+//! What holds of every legal list of entries of a plan that breaks
+//! no rule, each the contract of a function that does nothing.
 
 ghost use Rattle.std.specs.Prelude.{◌≡◌, ◌≤◌, ℕ, List, Some, length};
 ghost use Rattle.flow_model.specs.Rules.{IsPlan};
@@ -12,9 +12,9 @@ ghost use Rattle.status_table.specs.Stays.{Stays};
 
 use flow_model::laws::rules_hold;
 
-/// On the board after a legal list a group name has one holder and one waiter at most, and no waiter without a holder;
-/// no leg waits for its own run; no more legs of a job are under way than it may have; and a leg that is not Fresh is of
-/// an Open job, whose needs have ended.
+/// On the board after a legal list a group name has one holder and one waiter at most, and no waiter without
+/// a holder; no leg waits for its own run; no more legs of a job are under way than it may have; and a leg
+/// that is not Fresh is of an Open job, whose needs have ended.
 pub fn legal_lists_are_lawful()
     ensures { (p : Plan) → IsPlan p → (es : List Entry) (b : Board)
         → after p es ≡ Some b → Lawful p b }
@@ -30,8 +30,8 @@ pub fn what_has_ended_stays()
     rules_hold();
 }
 
-/// A legal list has at most 2,113,728 entries: 3 for each of 64 runs, 1 for each of 4,096 jobs, and 515 for each of
-/// 4,096 legs.
+/// A legal list has at most 2,113,728 entries: 3 for each of 64
+/// runs, 1 for each of 4,096 jobs, and 515 for each of 4,096 legs.
 pub fn legal_lists_are_short()
     ensures { (p : Plan) → IsPlan p → (es : List Entry) (b : Board)
         → after p es ≡ Some b → length es ≤ 2113728 }

@@ -17,8 +17,8 @@ ghost use Rattle.status_table.specs.Shape.{HasShape};
 
 use text_values::waits_for_success;
 
-/// Jobs and legs stand where their numbers say: number n is that of item n of all of them, on the board and in the plan,
-/// and a job's plan has it too.
+/// Jobs and legs stand where their numbers say: number n is that of item n of all of them, on the board and
+/// in the plan, and a job's plan has it too.
 pub fn numbers_are_places()
     ensures jobs { (b : Board) → JobsAreNumbered b }
     ensures legs { (b : Board) → LegsAreNumbered b }
@@ -29,21 +29,23 @@ pub fn numbers_are_places()
     ensures as_many { (p : Plan) (b : Board) → HasShape p b → HasAsMany p b }
 {}
 
-/// A legal list of entries leaves a board of its plan's shape, on which each leg that ended stands once among the
-/// ends.
+/// A legal list of entries leaves a board of its plan's shape,
+/// on which each leg that ended stands once among the ends.
 pub fn legal_lists_keep_order()
     ensures shape { (p : Plan) (es : List Entry) (b : Board) → after p es ≡ Some b → HasShape p b }
     ensures ends { (p : Plan) (es : List Entry) (b : Board) → after p es ≡ Some b → EndOnce b }
 {}
 
-/// The status by which a job is judged says how its ancestors ended: the jobs that it needs, and their ancestors.
+/// The status by which a job is judged says how its ancestors
+/// ended: the jobs that it needs, and their ancestors.
 pub fn statuses_tell_of_ancestors()
     ensures { (p : Plan) (b : Board) (j : ℕ) (at : JobAt)
         → InPlay p b → job_at p b j ≡ Some at
         → SaysOf (first_of j at) at (job_status (first_of j at) at) }
 {}
 
-/// After a step of a leg that counts as a failure, a step whose condition names no status function is never in a call.
+/// After a step of a leg that counts as a failure, a step whose
+/// condition names no status function is never in a call.
 pub fn no_call_after_failure()
     ensures { NoCallAfterFailure }
 {

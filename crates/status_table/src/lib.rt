@@ -1,17 +1,19 @@
 //! status_table: the table of events, and the plain board that follows it.
 //!
-//! The table is a definition: `specs/Row.antt` says, event by event and case by case, what an event does to a board,
-//! what is replied, and when it is refused. The trait `Table` promises that a board answers each event by its row, that
-//! a refusal changes nothing, and that the plan was accepted and the board has its shape; the trait `Reversible` promises
-//! besides that an entry can be taken back. `PlainBoard` is the plain body of both, and `run_entries` plays a list of
-//! entries on any table, up to the first that is refused. `laws` and `board_laws` have what holds of every legal list.
-//! Who holds a concurrency group, who waits for it, and what comes of entering and leaving one, is in
-//! `specs/Groups.antt`; what a clerk may do, in `specs/Moves.antt`; what is true of each board in play, in
-//! `specs/Lawful.antt`. `call_laws` has what holds of each call that a step makes, and `admission_laws` that a board
-//! shows what the map of `group_admission` keeps.
+//! The table is a definition: `specs/Row.antt` says, event by event and case by case, what an event
+//! does to a board, what is replied, and when it is refused. The trait `Table` promises that a
+//! board answers each event by its row, that a refusal changes nothing, and that the plan was
+//! accepted and the board has its shape; the trait `Reversible` promises besides that an entry can
+//! be taken back. `PlainBoard` is the plain body of both, and `run_entries` plays a list of entries
+//! on any table, up to the first that is refused. `laws` and `board_laws` have what holds of every
+//! legal list. Who holds a concurrency group, who waits for it, and what comes of entering and
+//! leaving one, is in `specs/Groups.antt`; what a clerk may do, in `specs/Moves.antt`; what is true
+//! of each board in play, in `specs/Lawful.antt`. `call_laws` has what holds of each call that a
+//! step makes, and `admission_laws` that a board shows what the map of `group_admission` keeps.
 //!
-//! What stands at a number, what follows from a board, and what the texts of the plan decide are words of
-//! `board_decisions` (`Place`, `Derived`, `Ancestors`, `Decisions`), on which the crate stands, with `flow_model` below it.
+//! What stands at a number, what follows from a board, and what the texts of the
+//! plan decide are words of `board_decisions` (`Place`, `Derived`, `Ancestors`,
+//! `Decisions`), on which the crate stands, with `flow_model` below it.
 
 #![tactic(auto)]
 

@@ -1,16 +1,15 @@
 //! The members of concurrency groups: who holds a name, who waits for it, and the changes of one member.
 
 ghost use Rattle.std.specs.Prelude.{◌≡◌, true, OnOk, OnErr};
-ghost use Rattle.std.specs.Option.{option_copied};
 ghost use Rattle.flow_model.specs.Numbers.{board_legs};
 ghost use Rattle.flow_model.specs.declared.event.Member.TheVariants as member;
 ghost use Rattle.status_table.specs.Groups as spec;
 ghost use Rattle.status_table.specs.Change.{with_numbered_leg};
-ghost use Rattle.status_table.specs.Seen.{has_role, noted, numbered_leg as numbered_leg_of, put_out as put_out_of};
+ghost use Rattle.status_table.specs.Seen.{has_role, noted, put_out as put_out_of};
 ghost use Rattle.status_table.specs.Shape.{HasFewLegs};
 
 use crate::change::{LegChange, change_leg, set_run_state};
-use board_decisions::place::{find_leg_place, leg_there};
+use board_decisions::place::numbered_leg;
 use flow_model::{Board, Leg, LegState, Member, Outcome, Run, RunState, Text};
 use std::alloc::AllocError;
 
@@ -75,14 +74,6 @@ fn find_run(runs: &[Run], role: Role, name: &str) -> Option<u64>
         }
     }
     None
-}
-
-/// The leg of a number, if there is one.
-fn numbered_leg(board: &Board, number: usize) -> Option<&Leg>
-    ensures { option_copied result ≡ numbered_leg_of board.now number }
-{
-    let place = find_leg_place(board.runs.as_slice(), number)?;
-    leg_there(board, place)
 }
 
 /// The first leg that has a role at a name.

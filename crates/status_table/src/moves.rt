@@ -1,4 +1,5 @@
-//! What a clerk may do on a board: those of its events that the table accepts, found by the tests that the rows make.
+//! What a clerk may do on a board: those of its events that
+//! the table accepts, found by the tests that the rows make.
 
 ghost use Rattle.std.specs.Prelude.{◌≡◌, ◌≤◌, ◌++◌, IfOk, filter, length, sum_by};
 ghost use Rattle.flow_model.specs.Numbers.{board_jobs, board_legs};

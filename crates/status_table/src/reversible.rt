@@ -14,8 +14,8 @@ use flow_model::{Entry, Reply};
 
 /// A plan in play whose entries can be taken back, the last one first.
 pub trait Reversible: Table {
-    /// What takes one entry back. It stands for two boards: the one that it fits, which the entry led to, and the one
-    /// before it.
+    /// What takes one entry back. It stands for two boards: the one
+    /// that it fits, which the entry led to, and the one before it.
     type Undo: Drop;
 
     /// Whether an undo takes this board of a plan back.

@@ -37,8 +37,8 @@ pub trait Table {
         ensures copy { IfOk result (λ b. b ≡ board self.now) }
         ensures in_play { InPlay (plan self.now) (board self.now) };
 
-    /// The events of a clerk that the table accepts now: Close, Open, Judge, Drop and Ask, in this order, each by
-    /// ascending number.
+    /// The events of a clerk that the table accepts now: Close, Open,
+    /// Judge, Drop and Ask, in this order, each by ascending number.
     ///
     /// # Errors
     ///

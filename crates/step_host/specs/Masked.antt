@@ -4,7 +4,7 @@ use Rattle.flow_model.specs.Answer.{is_well_formed}
 use Rattle.flow_model.specs.Mapping.{map_values}
 use Rattle.flow_model.specs.declared.event.Answer.{Answer}
 use Rattle.flow_model.specs.declared.event.Answer.TheVariants.{Exit, NotStarted, BadOutput}
-use Rattle.step_host.specs.Mask.{masked}
+use Rattle.program_texts.specs.Mask.{masked}
 
 -- the answer, if it may end a call; else its outputs are bad
 abbrev pub checked : Answer → Answer

@@ -16,12 +16,12 @@ use Rattle.flow_model.specs.declared.event.Answer.TheVariants.{Exit, BadOutput}
 use Rattle.flow_model.specs.declared.plan.Shell.{Shell}
 use Rattle.flow_model.specs.declared.plan.Shell.TheVariants.{Default, Sh, Bash}
 use Rattle.flow_model.specs.declared.reply.StepCall.{StepCall}
-use Rattle.step_host.specs.Outputs.{Pair, outputs, with_pairs}
-use Rattle.step_host.specs.Replace.{replaced}
-use Rattle.step_host.specs.Shell.{words}
-use Rattle.step_host.specs.Splits.{newline}
+use Rattle.program_texts.specs.Outputs.{Pair, outputs, with_pairs}
+use Rattle.program_texts.specs.Replace.{replaced}
+use Rattle.program_texts.specs.Shell.{words}
+use Rattle.flow_model.specs.Lines.{newline}
+use Rattle.program_texts.specs.declared.output_fault.OutputFault.{OutputFault}
 use Rattle.step_host.specs.declared.launch.Launch.{Launch}
-use Rattle.step_host.specs.declared.output_fault.OutputFault.{OutputFault}
 
 -- ---- files and folders
 

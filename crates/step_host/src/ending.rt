@@ -5,9 +5,8 @@ ghost use Rattle.std.specs.Process.{exit_code};
 ghost use Rattle.flow_model.specs.Answer.{is_exit_code, is_well_formed};
 ghost use Rattle.step_host.specs.Program as spec;
 
-use crate::output_fault::OutputFault;
-use crate::output_file::read_output_file;
 use flow_model::Answer;
+use program_texts::{OutputFault, read_output_file};
 use std::alloc::{AllocError, Global};
 use std::process::ExitStatus;
 

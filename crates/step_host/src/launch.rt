@@ -2,12 +2,12 @@
 
 ghost use Rattle.std.specs.Prelude.{◌≡◌, [], ◌∷◌, IfOk, codes};
 ghost use Rattle.flow_model.specs.Mapping.{with_pair};
-ghost use Rattle.step_host.specs.Outputs.{with_pairs};
+ghost use Rattle.program_texts.specs.Outputs.{with_pairs};
 ghost use Rattle.step_host.specs.Program as spec;
 
-use crate::replace::{Rule, begins, replace};
-use crate::shell::shell_words;
 use flow_model::{Duplicate, Mapping, Sequence, Shell, StepCall, Text};
+use program_texts::replace::{Rule, begins, replace};
+use program_texts::shell_words;
 use std::alloc::{AllocError, Global};
 use std::fmt::Write;
 

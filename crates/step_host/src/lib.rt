@@ -10,47 +10,27 @@
 //! the values of their outputs masked. `ProgramHost` starts a program for each step, and admits every well-formed answer: how a
 //! program is started and what its end answers is said of values (`specs/Program.antt`).
 //!
-//! The texts of programs are read and made exactly as `specs/` says: the words of a shell (`shell_words`), what a file of
-//! outputs gives (`read_output_file`), the commands in what a step prints (`read_commands`), what is shown of it (`shown`) and
-//! which masks it adds (`added_masks`), and masked texts (`mask`).
-//!
 //! The crate stands on `status_table`, whose table says which call a step makes, on `board_decisions` for where a leg
-//! stands, on `flow_model`, on `expr_reader`, which folds texts, and on `thiserror` for its errors.
+//! stands, on `program_texts`, which reads and makes the texts of programs, on `flow_model`, and on `thiserror` for its
+//! errors.
 
 #![tactic(auto)]
 
 mod command;
-pub mod command_lines;
 mod ending;
-mod escapes;
 pub mod fault;
 pub mod host;
 mod launch;
 pub mod laws;
-pub mod line;
 pub mod masked;
-pub mod masks;
-pub mod output_fault;
-pub mod output_file;
 pub mod program;
-mod replace;
 pub mod replay;
 pub mod script;
-pub mod shell;
-pub mod showing;
-mod splits;
 
-pub use command_lines::read_commands;
 pub use fault::{HostFault, ScriptFault};
 pub use host::{DecidedHost, StepHost};
 pub use launch::log_file;
-pub use line::Line;
 pub use masked::Masked;
-pub use masks::mask;
-pub use output_fault::OutputFault;
-pub use output_file::read_output_file;
 pub use program::ProgramHost;
 pub use replay::{ReplayHost, record_all};
 pub use script::ScriptHost;
-pub use shell::shell_words;
-pub use showing::{added_masks, shown};

@@ -28,7 +28,8 @@ with_env_value v known = record { env = known.env; env_value = Some v; made = kn
 
 -- The same with the value of another context made.
 abbrev pub with_made : Context → Plain → Known → Known
-with_made x v known = record { env = known.env; env_value = known.env_value; made = with_pair (context_name x) v known.made }
+with_made x v known =
+    record { env = known.env; env_value = known.env_value; made = with_pair (context_name x) v known.made }
 
 -- The same with one more value made.
 abbrev pub with_value : Context → Plain → Known → Known

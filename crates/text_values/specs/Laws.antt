@@ -29,7 +29,8 @@ PlaceGivesWhatItSees =
 abbrev pub MostSpecificWins : Type 0
 MostSpecificWins =
     (workflow job step : Env) (name : List ℕ) → Ascends job → Ascends step
-    → value_at name (laid_over step (laid_over job workflow)) ≡ or_below (value_at name step) (or_below (value_at name job) (value_at name workflow))
+    → value_at name (laid_over step (laid_over job workflow))
+    ≡ or_below (value_at name step) (or_below (value_at name job) (value_at name workflow))
 
 -- Levels that are laid over one another have their names in order, each once.
 abbrev pub LevelsStayInOrder : Type 0
@@ -44,14 +45,16 @@ EnvHasItsNames =
 -- An output that faults takes out itself alone.
 abbrev pub FaultTakesOutItsOutput : Type 0
 FaultTakesOutItsOutput =
-    (c : Contexts) (before after : Env) (name bytes : List ℕ) (fault : ValueFault) → text_text c bytes ≡ Err fault
+    (c : Contexts) (before after : Env) (name bytes : List ℕ) (fault : ValueFault)
+    → text_text c bytes ≡ Err fault
     → outputs_value c (before ++ (name, bytes) ∷ after) ≡ outputs_value c (before ++ after)
 
 -- An output with a value stands between those before it and those after it.
 abbrev pub OutputStandsInItsPlace : Type 0
 OutputStandsInItsPlace =
     (c : Contexts) (before after : Env) (name from bytes : List ℕ) → text_text c from ≡ Ok bytes
-    → outputs_value c (before ++ (name, from) ∷ after) ≡ outputs_value c before ++ (name, bytes) ∷ outputs_value c after
+    → outputs_value c (before ++ (name, from) ∷ after)
+    ≡ outputs_value c before ++ (name, bytes) ∷ outputs_value c after
 
 -- A text that stands for itself is its own value.
 abbrev pub TextIsItself : Type 0
@@ -64,11 +67,13 @@ AlwaysHolds =
     (c : Contexts) (s : Status) (bytes : List ℕ) → SpellsCondition (marked (call Always none) ∷ []) bytes
     → condition_value c s (Some bytes) ≡ Ok true
 
--- A condition that names no status function does not hold where the status is not success, and neither does none.
+-- A condition that names no status function does not hold
+-- where the status is not success, and neither does none.
 abbrev pub WaitsForSuccess : Type 0
 WaitsForSuccess =
     (c : Contexts) (s : Status) → is_success s ≡ false
-    → ((bytes : List ℕ) (ps : List Piece) → condition_read bytes ≡ Some ps → names_status ps ≡ false → condition_value c s (Some bytes) ≡ Ok false)
+    → ((bytes : List ℕ) (ps : List Piece) → condition_read bytes ≡ Some ps → names_status ps ≡ false
+    → condition_value c s (Some bytes) ≡ Ok false)
     × (condition_value c s None ≡ Ok false)
 
 -- A flag that is a truth value is that.

@@ -38,8 +38,8 @@ fn env_text_at<S: Scene>(
     }
 }
 
-/// The variables of an `env` at a place: each name with the text of its value, in the order of the names. The inputs
-/// of an action, its `with`, are evaluated in the same way.
+/// The variables of an `env` at a place: each name with the text of its value, in the order of the names. The
+/// inputs of an action, its `with`, are evaluated in the same way.
 ///
 /// # Errors
 ///

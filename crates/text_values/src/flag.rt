@@ -52,9 +52,9 @@ fn text_says_true<S: Scene>(
     }
 }
 
-/// Whether a flag holds at a place: a truth value is itself; a text holds where its value is `true`, or a text equal
-/// to `true` ignoring case, and does not where it faults (GitHub Docs, workflow syntax: `continue-on-error`,
-/// `cancel-in-progress`).
+/// Whether a flag holds at a place: a truth value is itself; a text holds where its value is `true`, or a
+/// text equal to `true` ignoring case, and does not where it faults (GitHub Docs, workflow syntax:
+/// `continue-on-error`, `cancel-in-progress`).
 ///
 /// # Errors
 ///

@@ -12,7 +12,8 @@ pub fn place_gives_what_it_sees()
     ensures { PlaceGivesWhatItSees }
 {}
 
-/// A text that stands for itself (no expression stands in it, and it is no longer than a template) is its own value.
+/// A text that stands for itself (no expression stands in it,
+/// and it is no longer than a template) is its own value.
 pub fn text_is_itself()
     ensures { TextIsItself }
 {
@@ -26,7 +27,8 @@ pub fn always_holds()
     condition_reading();
 }
 
-/// A condition that names no status function does not hold where the status is not success, and neither does none.
+/// A condition that names no status function does not hold
+/// where the status is not success, and neither does none.
 pub fn waits_for_success()
     ensures { WaitsForSuccess }
 {}

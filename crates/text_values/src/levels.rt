@@ -6,8 +6,8 @@ ghost use Rattle.text_values.specs.Env.{laid_over};
 use flow_model::{Duplicate, Mapping};
 use std::alloc::{AllocError, Global};
 
-/// The pairs of one level over those below it: of two values of one name the upper level's stands. Memory apart, it
-/// has no error.
+/// The pairs of one level over those below it: of two values of one
+/// name the upper level's stands. Memory apart, it has no error.
 #[tactic(auto, unfolding(crate::specs::Env::laid_over))]
 pub fn lay_over<V: Duplicate + Drop>(
     alloc: Global,

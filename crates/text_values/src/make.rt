@@ -24,8 +24,8 @@ fn text_node(alloc: Global, text: &Text) -> Result<Node, AllocError>
     Ok(Node::Text(text.copy(alloc)?))
 }
 
-// Variables as the context `env`.
-fn env_value(alloc: Global, env: &Mapping<Text>) -> Result<Value, AllocError>
+/// Variables as the context `env`: a map from their names to their texts.
+pub fn env_value(alloc: Global, env: &Mapping<Text>) -> Result<Value, AllocError>
     ensures { IfOk result (λ value. value ≡ env_context env.now) }
 {
     let mut members = Mapping::empty(alloc);

@@ -43,8 +43,8 @@ fn set_output<S: Scene>(
     }
 }
 
-/// The outputs of a job at a place: each name with the value of its text turned to text, in the order of the names;
-/// one that faults is left out.
+/// The outputs of a job at a place: each name with the value of its text turned to text, in the order of the
+/// names; one that faults is left out.
 ///
 /// # Errors
 ///

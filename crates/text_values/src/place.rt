@@ -5,8 +5,8 @@ ghost use Rattle.text_values.specs.Places.{seen_at};
 
 use expr_reader::Context;
 
-/// Where in a plan a text stands, which decides what contexts it sees (GitHub Docs, "Contexts reference": context
-/// availability).
+/// Where in a plan a text stands, which decides what contexts it
+/// sees (GitHub Docs, "Contexts reference": context availability).
 #[derive(Clone, Copy)]
 pub enum Place {
     /// The name and the cancel flag of a workflow's group.
@@ -23,7 +23,8 @@ pub enum Place {
     StepEnv,
     /// A step's condition, which sees `env` of all three levels.
     StepCondition,
-    /// A step's `run`, `with` and working directory, and its continue-on-error, which see `env` of all three levels.
+    /// A step's `run`, `with` and working directory, and its
+    /// continue-on-error, which see `env` of all three levels.
     StepText,
 }
 

@@ -111,8 +111,8 @@ pub fn text_at<S: Scene>(
     Ok(to_text(alloc, &value)?)
 }
 
-/// Whether a condition holds at a place under a status; no condition is `success()` (GitHub Docs, workflow syntax:
-/// `if`).
+/// Whether a condition holds at a place under a status; no
+/// condition is `success()` (GitHub Docs, workflow syntax: `if`).
 ///
 /// # Errors
 ///

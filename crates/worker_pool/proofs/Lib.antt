@@ -1,5 +1,6 @@
 mod Accepted
 mod Agreeing
+mod Fit
 mod Fresh
 mod Grows
 mod Hands
@@ -12,6 +13,5 @@ mod NoMoves
 mod Numbered
 mod Replays
 mod Reviews
-mod SameAnswers
 mod Stuck
 mod Turned

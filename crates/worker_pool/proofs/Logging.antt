@@ -1,5 +1,5 @@
 -- A log, one entry more.
-use Rattle.std.proofs.Common.{◌≡◌, ℕ, zero, suc, ◌<◌, List, [], ◌∷◌, ◌++◌, Ok, length, append-nil, refl, ap, ◌∙◌, arith}
+use Rattle.std.proofs.Common.{◌≡◌, ℕ, zero, suc, List, [], ◌∷◌, ◌++◌, Ok, length, append-nil, refl, ap, ◌∙◌, arith}
 use Rattle.flow_model.specs.declared.event.Answer.{Answer}
 use Rattle.flow_model.specs.declared.event.Entry.{Entry}
 use Rattle.flow_model.specs.declared.event.Event.{Event}

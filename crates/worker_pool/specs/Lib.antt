@@ -1,6 +1,5 @@
 pub mod Agree
 pub mod Alone
-pub mod Answers
 pub mod Asking
 pub mod Entries
 pub mod Fault
@@ -14,3 +13,4 @@ pub mod Replaying
 pub mod Review
 pub mod Stalls
 pub mod Stop
+pub mod Worker

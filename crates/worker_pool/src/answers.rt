@@ -1,40 +1,22 @@
 //! Equality of answers.
 
 ghost use Rattle.std.specs.Prelude.{◌≡◌, ◌↔◌, IsTrue};
-ghost use Rattle.worker_pool.specs.Answers as spec;
 
-use flow_model::{Answer, Mapping, Text};
-
-/// Whether two lists of outputs are equal, name by name and value by value.
-fn same_outputs(left: &Mapping<Text>, right: &Mapping<Text>) -> bool
-    ensures { result ≡ spec.same_outputs left.now right.now }
-{
-    let mut others = right.iter();
-    for (name, value) in left.iter() {
-        match others.next() {
-            Some((other, given)) => {
-                if name.as_str() != other.as_str() || value.as_str() != given.as_str() {
-                    return false;
-                }
-            },
-            None => return false,
-        }
-    }
-    others.next().is_none()
-}
+use flow_model::Answer;
+use locked_board::same::is_same_mapping;
 
 /// Whether two answers are equal.
-pub(crate) fn same_answer(left: &Answer, right: &Answer) -> bool
-    ensures { result ≡ spec.same_answer left.now right.now }
+pub(crate) fn is_same_answer(one: &Answer, other: &Answer) -> bool
+    ensures { IsTrue result ↔ (one.now ≡ other.now) }
 {
-    match (left, right) {
+    match (one, other) {
         (
             Answer::Exit { code, outputs },
             Answer::Exit {
-                code: other,
-                outputs: others,
+                code: twin,
+                outputs: given,
             },
-        ) => *code == *other && same_outputs(outputs, others),
+        ) => *code == *twin && is_same_mapping(outputs, given),
         (Answer::Exit { .. }, _) => false,
         (Answer::NotStarted, Answer::NotStarted) => true,
         (Answer::NotStarted, _) => false,

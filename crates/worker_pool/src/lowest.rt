@@ -6,19 +6,16 @@ ghost use Rattle.flow_model.specs.Numbers.{board_legs};
 ghost use Rattle.worker_pool.specs.Alone as spec;
 ghost use Rattle.worker_pool.specs.Lowest.{IsFirstAdmitted};
 
-use board_decisions::place::{find_leg_place, leg_there};
+use board_decisions::place::numbered_leg;
 use flow_model::{Board, Leg, LegState};
 use status_table::laws::numbers_are_places;
 
-/// The leg with a number.
-pub(crate) fn numbered_leg(board: &Board, number: usize) -> Option<&Leg>
-    ensures { option_copied result ≡ slice_get (board_legs board.now) number }
+/// The leg at a place among all legs, which is its number.
+pub(crate) fn leg_at(board: &Board, place: usize) -> Option<&Leg>
+    ensures { option_copied result ≡ slice_get (board_legs board.now) place }
 {
     numbers_are_places();
-    match find_leg_place(board.runs.as_slice(), number) {
-        Some(place) => leg_there(board, place),
-        None => None,
-    }
+    numbered_leg(board, place)
 }
 
 /// Whether a leg may be taken.
@@ -40,7 +37,7 @@ pub(crate) fn lowest_admitted(board: &Board) -> Option<u64>
     ensures { IsFirstAdmitted board.now result }
 {
     for number in 0..4096usize {
-        let Some(leg) = numbered_leg(board, number) else {
+        let Some(leg) = leg_at(board, number) else {
             return None;
         };
         if is_admitted(leg.state) {

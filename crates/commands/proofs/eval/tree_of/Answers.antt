@@ -1,7 +1,7 @@
 use Rattle.std.proofs.Common.{Err, sym, subst}
 use Rattle.commands.proofs.Expressions.{tree_fault}
 use Rattle.commands.specs.Eval.{IsTree}
-use Rattle.commands.specs.declared.trouble.Trouble.{Trouble}
+use Rattle.command_io.specs.declared.trouble.Trouble.{Trouble}
 use Rattle.commands.proofs.eval.tree_of.Goals as goal
 
 pub returns-in-Err : goal.returns-in-Err

@@ -1,8 +1,8 @@
 use Rattle.std.proofs.Common.{List, subst}
-use Rattle.commands.proofs.Told.{read_told, unread_told}
-use Rattle.commands.specs.Files.{Content}
+use Rattle.command_io.proofs.Told.{read_told, unread_told}
+use Rattle.command_io.specs.Files.{Content}
 use Rattle.commands.specs.List.{IsListAnswer}
-use Rattle.commands.specs.Tell.{OrMemory, answer_seen}
+use Rattle.command_io.specs.Tell.{OrMemory, answer_seen}
 use Rattle.commands.proofs.list.list.Goals as goal
 
 pub returns-in-Ok : goal.returns-in-Ok

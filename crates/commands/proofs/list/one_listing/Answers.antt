@@ -1,5 +1,5 @@
 use Rattle.plan_assembler.specs.declared.choice.Choice.TheVariants.{All}
-use Rattle.commands.specs.Planning.{no_contexts}
+use Rattle.command_io.specs.Files.{no_contexts}
 use Rattle.commands.proofs.OneAnswer.{same_plan, same_listing}
 use Rattle.commands.proofs.list.one_listing.Goals as goal
 

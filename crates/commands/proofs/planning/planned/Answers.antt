@@ -3,8 +3,8 @@ use Rattle.flow_model.specs.declared.flow.Workflow.{Workflow}
 use Rattle.flow_model.specs.declared.plan.Roots.{Roots}
 use Rattle.plan_assembler.specs.Refusals.{Answered, Refuses}
 use Rattle.commands.specs.Planning.{IsUnplanned}
-use Rattle.commands.specs.Trouble.{UnlessMemory}
-use Rattle.commands.specs.declared.trouble.Trouble.{Trouble}
+use Rattle.command_io.specs.Trouble.{UnlessMemory}
+use Rattle.command_io.specs.declared.trouble.Trouble.{Trouble}
 use Rattle.commands.proofs.Unplanned.{unplanned}
 use Rattle.commands.proofs.planning.planned.Goals as goal
 

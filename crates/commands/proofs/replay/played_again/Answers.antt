@@ -1,7 +1,7 @@
 use Rattle.std.proofs.Common.{subst, sym}
 use Rattle.commands.proofs.Stopped.{stops}
-use Rattle.commands.specs.Records.{IsStopped}
-use Rattle.commands.specs.declared.trouble.Trouble.{Trouble}
+use Rattle.command_io.specs.Records.{IsStopped}
+use Rattle.command_io.specs.declared.trouble.Trouble.{Trouble}
 use Rattle.commands.proofs.replay.played_again.Goals as goal
 
 pub returns : goal.returns

@@ -1,7 +1,7 @@
 use Rattle.std.proofs.Common.{ℕ, List, subst}
 use Rattle.commands.proofs.Replayed.{answered, replay_told, unread_replay}
 use Rattle.commands.specs.Replay.{IsReplayAnswer, status_of, text_of}
-use Rattle.commands.specs.Tell.{OrMemory}
+use Rattle.command_io.specs.Tell.{OrMemory}
 use Rattle.commands.proofs.replay.replay.Goals as goal
 
 pub returns-in-Ok : goal.returns-in-Ok

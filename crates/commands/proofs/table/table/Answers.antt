@@ -1,8 +1,8 @@
 use Rattle.std.proofs.Common.{ℕ, List, subst}
 use Rattle.commands.proofs.BoardAnswers.{shown_answer}
-use Rattle.commands.proofs.Told.{read_told, unread_told}
+use Rattle.command_io.proofs.Told.{read_told, unread_told}
 use Rattle.commands.specs.Table.{IsBoardAnswer}
-use Rattle.commands.specs.Tell.{OrMemory, answer_seen}
+use Rattle.command_io.specs.Tell.{OrMemory, answer_seen}
 use Rattle.commands.proofs.table.table.Goals as goal
 
 pub returns-in-Ok : goal.returns-in-Ok

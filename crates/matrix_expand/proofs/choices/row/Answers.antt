@@ -1,10 +1,11 @@
 use Rattle.std.proofs.Common.{◌≡◌, ◌∙◌, ◌/◌, ◌%◌, ◌∷◌, ◌++◌, ap, sym, string_bytes, true, get_or}
+use Rattle.std.proofs.lemmas.List.{append-nil}
 use Rattle.flow_model.specs.Mapping.{pairs_of}
 use Rattle.flow_model.specs.Plain.{null}
 use Rattle.matrix_expand.specs.Choices.{choice, row_pairs}
 use Rattle.matrix_expand.specs.Combos.{Variables}
 use Rattle.matrix_expand.specs.Expands.{have_values, size}
-use Rattle.matrix_expand.proofs.Chosen.{row_next, chosen_next}
+use Rattle.matrix_expand.proofs.Chosen.{row_next, chosen_next, Ascends-choice}
 use Rattle.matrix_expand.proofs.Numbers.{have_first, block_after, place_in, rest_within}
 use Rattle.matrix_expand.proofs.choices.row.Goals as goal
 
@@ -35,3 +36,10 @@ pub chosen_item-item-requires-clause-within : goal.chosen_item-item-requires-cla
 chosen_item-item-requires-clause-within c =
     place_in (string_bytes c.in-Some.key.now, c.in-Some.values.now) (pairs_of c.next.new.self) (pairs_of c.loop-key.key-iterator) c.loop-key.block c.loop-key.rest
     c.len-block.result (ap pairs_of c.in-Some.ensures.steps) c.loop-key.invariant.full c.loop-key.invariant.sized c.loop-key.invariant.within c.len-block.ensures
+
+pub returns-clause-ascends : goal.returns-clause-ascends
+returns-clause-ascends c =
+    let done = row_pairs c.loop-key.row.items in
+    let is : done ≡ choice c.args.variables.now c.args.number =
+    sym (append-nil done) ∙ ap (λ es. done ++ choice (pairs_of es) c.loop-key.rest) (sym c.in-None.ensures.steps.0) ∙ c.loop-key.invariant.gives in
+    Ascends-choice c.args.variables.now c.args.number done is c.iter-from.ensures.ascends

@@ -1,7 +1,7 @@
 -- The outputs that were set and those that are left are all.
 use Rattle.std.proofs.Common.{◌≡◌, ◌++◌}
 use Rattle.flow_model.specs.Mapping.{pairs_of, map_values}
-use Rattle.step_host.specs.Mask.{masked}
+use Rattle.program_texts.specs.Mask.{masked}
 use Rattle.step_host.proofs.masked.masked_outputs.Given as goal
 
 abbrev pub invariant-loop-name : goal.invariant-loop-name

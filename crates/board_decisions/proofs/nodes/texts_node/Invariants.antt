@@ -1,9 +1,0 @@
-use Rattle.std.proofs.Common.{◌≡◌, ◌++◌}
-use Rattle.flow_model.specs.Mapping.{pairs_of, map_values}
-use Rattle.flow_model.specs.Plain.{text}
-use Rattle.flow_model.specs.Value.{viewed}
-use Rattle.board_decisions.proofs.nodes.texts_node.Given as goal
-
--- The texts that were set and those that are left are all.
-abbrev pub invariant-loop-name : goal.invariant-loop-name
-invariant-loop-name l = viewed l.made ++ map_values text (pairs_of l.name-iterator) ≡ map_values text l.texts

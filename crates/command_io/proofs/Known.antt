@@ -1,0 +1,49 @@
+-- Texts that are appended to known bytes one after the other.
+use Rattle.std.proofs.Common.{◌≡◌, ℕ, suc, ◌-◌, ◌<◌, List, [], ◌++◌, take, drop, length, get_or, flat_map, Option, Some, None, sym, ap, ◌∙◌, append_assoc, append-nil, take-append-drop}
+use Rattle.std.proofs.Math.Seq.{drop-cons}
+use Rattle.std.proofs.lemmas.Grind.{flat_map-append}
+use Rattle.std.proofs.lemmas.List.{take_rest}
+use Rattle.command_io.specs.Stream.{Stream, IsWritten, IsCutOff}
+use Rattle.std.specs.Io.KnownBytes.{Appends, Keeps}
+
+pub Appends-nothing : (known : Option (List ℕ)) → Appends known known []
+Appends-nothing None = tt
+Appends-nothing (Some held) = sym (append-nil held)
+
+pub Appends-then : (a b c : Option (List ℕ)) (x y : List ℕ) → Appends a b x → Appends b c y → Appends a c (x ++ y)
+Appends-then None b c x y first next = tt
+Appends-then (Some held) (Some more) (Some most) x y first next = next ∙ ap (λ (l : List ℕ). l ++ y) first ∙ append_assoc held x y
+Appends-then (Some held) (Some more) None x y first next = next
+Appends-then (Some held) None c x y first next = absurd first
+
+pub Appends-kept : (a b c : Option (List ℕ)) (x : List ℕ) → Appends a b x → Keeps b c → Appends a c x
+Appends-kept None b c x first kept = tt
+Appends-kept (Some held) (Some more) (Some most) x first kept = kept ∙ first
+Appends-kept (Some held) (Some more) None x first kept = kept
+Appends-kept (Some held) None c x first kept = absurd first
+
+-- a text of which a part was written, after one more piece
+pub piece_more : (text done rest : List ℕ) (n : ℕ) → text ≡ done ++ rest → text ≡ (done ++ take n rest) ++ take (length rest - n) (drop n rest)
+piece_more text done rest n whole =
+    whole ∙ ap (λ (l : List ℕ). done ++ l) (sym (take-append-drop n rest)) ∙ sym (append_assoc done (take n rest) (drop n rest))
+    ∙ ap (λ (l : List ℕ). (done ++ take n rest) ++ l) (sym (take_rest rest n))
+
+-- the texts of parts are those of the first i, of the next, and of the others
+flat_map-at : {X : Type 0} (f : X → List ℕ) (xs : List X) (i : ℕ) (d : X) → i < length xs
+    → flat_map f xs ≡ flat_map f (take i xs) ++ (f (get_or xs i d) ++ flat_map f (drop (suc i) xs))
+flat_map-at f xs i d within =
+    ap (flat_map f) (sym (take-append-drop i xs)) ∙ flat_map-append f (take i xs) (drop i xs)
+    ∙ ap (λ ys. flat_map f (take i xs) ++ flat_map f ys) (drop-cons xs i d within)
+
+-- where the writing of a part is cut off after others, that of all of them is
+pub part_cut_off : {X : Type 0} (f : X → List ℕ) (xs : List X) (i : ℕ) (d : X) (a b c : Stream) (piece : List ℕ) → i < length xs
+    → IsWritten a b (flat_map f (take i xs)) → piece ≡ f (get_or xs i d) → IsCutOff b c piece → IsCutOff a c (flat_map f xs)
+part_cut_off f xs i d a b c piece within written is cut =
+    let (kept, failed) = cut in
+    let before = flat_map f (take i xs) in
+    let after = flat_map f (drop (suc i) xs) in
+    let whole : piece ≡ kept.part ++ kept.rest = kept.whole in
+    let all : flat_map f xs ≡ (before ++ kept.part) ++ (kept.rest ++ after) =
+    flat_map-at f xs i d within ∙ ap (λ (l : List ℕ). before ++ (l ++ after)) (sym is ∙ whole)
+    ∙ ap (λ (l : List ℕ). before ++ l) (append_assoc kept.part kept.rest after) ∙ sym (append_assoc before kept.part (kept.rest ++ after)) in
+    (record { part = before ++ kept.part; rest = kept.rest ++ after; whole = all; appended = Appends-then _ _ _ before kept.part written.0 kept.appended }, failed)

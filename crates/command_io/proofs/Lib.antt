@@ -1,0 +1,4 @@
+pub mod Known
+pub mod PlanFaults
+pub mod Reading
+pub mod Told

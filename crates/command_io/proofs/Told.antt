@@ -1,0 +1,53 @@
+-- What was said is told, and a source that failed is told.
+use Rattle.std.proofs.Common.{◌≡◌, ℕ, Bool, true, false, List, Option, Some, None, Result, Ok, Err, inl, inr, refl, subst}
+use Rattle.std.specs.Io.KnownBytes.{Keeps}
+use Rattle.command_io.specs.Stream.{Stream, IsKept, Puts}
+use Rattle.command_io.specs.Tell.{Answer, OrMemory, Says, Tells, TellsOf, TellsSome}
+use Rattle.command_io.specs.Trouble.{line, source_trouble, trouble_status}
+use Rattle.command_io.specs.declared.stream.SourceFault.{SourceFault}
+use Rattle.command_io.specs.declared.stream.SourceFault.TheVariants as source_fault
+use Rattle.command_io.specs.declared.trouble.Trouble.{Trouble}
+
+-- the same line under another form
+pub Puts-as : (a b : Stream) (x y : List ℕ) (whole : Bool) → Puts a b x whole → x ≡ y → Puts a b y whole
+Puts-as a b x y whole done is = subst (λ (text : List ℕ). Puts a b text whole) is done
+
+pub Says-puts : (a b : Stream) (text : List ℕ) (whole : Bool) → Puts a b text whole → Says a b text
+Says-puts a b text true done = inl done
+Says-puts a b text false done = inr done
+
+bytes_kept : (known : Option (List ℕ)) → Keeps known known
+bytes_kept None = tt
+bytes_kept (Some held) = refl
+
+pub IsKept-same : (s : Stream) → IsKept s s
+IsKept-same s = (bytes_kept s.bytes, refl)
+
+-- what was read is answered
+pub read_told : {A : Type 0} (Is : A → Answer → Type 0) (Reads : Result A SourceFault → Type 0) (out out' err err' : Stream) (read : A) (answer : Answer) (status : ℕ)
+    → Reads (Ok read) → OrMemory answer (Is read answer) → Tells answer out out' err err' status → TellsOf Is Reads out out' err err' status
+read_told Is Reads out out' err err' read answer status reads answers told =
+    record { read = Ok read; reads = reads; answer = answer; answers = answers; told = told }
+
+-- what was not read is told as its trouble
+pub unread_told : {A : Type 0} (Is : A → Answer → Type 0) (Reads : Result A SourceFault → Type 0) (out err err' : Stream) (fault : SourceFault) (status : ℕ)
+    → Reads (Err fault) → Says err err' (line (source_trouble fault)) → status ≡ trouble_status (source_trouble fault)
+    → TellsOf Is Reads out out err err' status
+unread_told Is Reads out err err' source_fault.Failed status reads said is = record {
+  read = Err source_fault.Failed;
+  reads = reads;
+  answer = Err (source_trouble source_fault.Failed);
+  answers = refl;
+  told = record { kept = IsKept-same out; said = said; is = is };
+}
+unread_told Is Reads out err err' source_fault.Memory status reads said is = record {
+  read = Err source_fault.Memory;
+  reads = reads;
+  answer = Err (source_trouble source_fault.Memory);
+  answers = refl;
+  told = record { kept = IsKept-same out; said = said; is = is };
+}
+
+-- a trouble that is said is told, and out is as it was
+pub refused : (trouble : Trouble) (out err err' : Stream) (status : ℕ) → Says err err' (line trouble) → status ≡ trouble_status trouble → TellsSome out out err err' status
+refused trouble out err err' status said is = (trouble, record { kept = IsKept-same out; said = said; is = is })

@@ -1,0 +1,98 @@
+-- The troubles of all commands: the line of each, and its exit status.
+use Rattle.std.specs.Prelude.{◌≡◌, ℕ, ◌++◌, codes, decimal, List}
+use Rattle.expr_reader.specs.Faults.{fault_name, fault_place}
+use Rattle.flow_model.specs.Faults.{value_fault_name}
+use Rattle.flow_reader.specs.Fault.{flow_fault_name}
+use Rattle.plan_assembler.specs.Faults.{plan_fault_text}
+use Rattle.plan_assembler.specs.declared.fault.PlanFault.{PlanFault}
+use Rattle.plan_text.specs.Fault.{load_fault_name}
+use Rattle.status_table.specs.Fault.{event_fault_name}
+use Rattle.command_io.specs.Contexts.{contexts_fault_name}
+use Rattle.command_io.specs.declared.contexts.ContextsFault.{ContextsFault}
+use Rattle.command_io.specs.declared.stream.SourceFault.{SourceFault}
+use Rattle.command_io.specs.declared.stream.SourceFault.TheVariants as source_fault
+use Rattle.command_io.specs.declared.trouble.Trouble.{Trouble}
+use Rattle.command_io.specs.declared.trouble.Trouble.TheVariants.{NoExpression, NoValue, NoContexts, NoFlow, NotPlanned, NoPlan, NoEntry, Refused, Words, Io, Memory}
+
+-- The lines that tell of a name: of that kind, at that place of an expression, of that file, and of the line of that
+-- number.
+abbrev pub name_line : List ℕ → List ℕ → List ℕ
+name_line kind name = codes "actrun: " ++ (kind ++ (codes " " ++ (name ++ codes "\n")))
+
+abbrev pub placed_line : List ℕ → ℕ → List ℕ
+placed_line name place = codes "actrun: expr " ++ (name ++ (codes " at " ++ (decimal place ++ codes "\n")))
+
+abbrev pub file_line : List ℕ → List ℕ → List ℕ
+file_line file name = codes "actrun: flow " ++ (file ++ (codes " " ++ (name ++ codes "\n")))
+
+abbrev pub numbered_line : ℕ → List ℕ → List ℕ
+numbered_line n name = codes "actrun: line " ++ (decimal n ++ (codes " " ++ (name ++ codes "\n")))
+
+-- The line that tells why workflows come to no plan, by the name of the fault and what is inside it.
+abbrev pub unplanned_line : PlanFault → List ℕ
+unplanned_line fault = name_line (codes "plan") (plan_fault_text fault)
+
+-- That of a text in a workflow, at that place of it.
+abbrev pub unread_line : List ℕ → ℕ → List ℕ
+unread_line name place = codes "actrun: plan Expr " ++ (name ++ (codes " at " ++ (decimal place ++ codes "\n")))
+
+-- The one line that tells of a trouble.
+abbrev pub line : Trouble → List ℕ
+line (NoExpression fault) = placed_line (fault_name fault) (fault_place fault)
+line (NoValue fault) = name_line (codes "value") (value_fault_name fault)
+line (NoContexts file fault) = file_line file (contexts_fault_name fault)
+line (NoFlow file fault) = file_line file (flow_fault_name fault)
+line (NotPlanned fault) = unplanned_line fault
+line (NoPlan fault) = name_line (codes "load") (load_fault_name fault)
+line (NoEntry n) = numbered_line n (codes "NotEntry")
+line (Refused n fault) = numbered_line n (event_fault_name fault)
+line Words = codes "actrun: words\n"
+line Io = codes "actrun: io\n"
+line Memory = codes "actrun: memory\n"
+
+-- The exit status of a trouble: 2 where words or texts are refused, 3 where memory, files or streams fail.
+abbrev pub trouble_status : Trouble → ℕ
+trouble_status (NoExpression fault) = 2
+trouble_status (NoValue fault) = 2
+trouble_status (NoContexts file fault) = 2
+trouble_status (NoFlow file fault) = 2
+trouble_status (NotPlanned fault) = 2
+trouble_status (NoPlan fault) = 2
+trouble_status (NoEntry n) = 2
+trouble_status (Refused n fault) = 2
+trouble_status Words = 2
+trouble_status Io = 3
+trouble_status Memory = 3
+
+-- The trouble of a source that was not read to its end.
+abbrev pub source_trouble : SourceFault → Trouble
+source_trouble source_fault.Failed = Io
+source_trouble source_fault.Memory = Memory
+
+-- The fact holds, unless the trouble is want of memory.
+abbrev pub UnlessMemory : Trouble → Type 0 → Type 0
+UnlessMemory (NoExpression fault) fact = fact
+UnlessMemory (NoValue fault) fact = fact
+UnlessMemory (NoContexts file fault) fact = fact
+UnlessMemory (NoFlow file fault) fact = fact
+UnlessMemory (NotPlanned fault) fact = fact
+UnlessMemory (NoPlan fault) fact = fact
+UnlessMemory (NoEntry n) fact = fact
+UnlessMemory (Refused n fault) fact = fact
+UnlessMemory Words fact = fact
+UnlessMemory Io fact = fact
+UnlessMemory Memory fact = Unit {0}
+
+-- That trouble with a file of that name, unless memory runs out.
+abbrev pub IsContextsTrouble : List ℕ → ContextsFault → Trouble → Type 0
+IsContextsTrouble file fault (NoContexts name named) = (name ≡ file) × (named ≡ fault)
+IsContextsTrouble file fault (NoExpression other) = ⊥
+IsContextsTrouble file fault (NoValue other) = ⊥
+IsContextsTrouble file fault (NoFlow name other) = ⊥
+IsContextsTrouble file fault (NotPlanned other) = ⊥
+IsContextsTrouble file fault (NoPlan other) = ⊥
+IsContextsTrouble file fault (NoEntry n) = ⊥
+IsContextsTrouble file fault (Refused n other) = ⊥
+IsContextsTrouble file fault Words = ⊥
+IsContextsTrouble file fault Io = ⊥
+IsContextsTrouble file fault Memory = Unit {0}

@@ -1,0 +1,75 @@
+-- What the program leaves, whatever its words ask for.
+use Rattle.std.specs.Prelude.{◌≡◌, ℕ, ◌⊎◌, List}
+use Rattle.std.specs.declared.io.ErrorKind.{ErrorKind}
+use Rattle.std.specs.declared.io.ErrorKind.TheVariants.{InvalidData, OutOfMemory}
+use Rattle.plan_assembler.specs.declared.choice.Choice.{Choice}
+use Rattle.debug_session.specs.Debug.{DebugTells}
+use Rattle.commands.specs.Eval.{EvalTells}
+use Rattle.command_io.specs.Files.{File}
+use Rattle.commands.specs.List.{ListTells}
+use Rattle.commands.specs.Plan.{PlanTells}
+use Rattle.commands.specs.Replay.{ReplayTells}
+use Rattle.run_command.specs.Run as run
+use Rattle.command_io.specs.Stream.{Stream}
+use Rattle.commands.specs.Table.{TableTells}
+use Rattle.command_io.specs.Tell.{Says, TellsSome, TellsTrouble}
+use Rattle.command_io.specs.Trouble.{line, trouble_status}
+use Rattle.command_io.specs.declared.trouble.Trouble.{Trouble}
+use Rattle.command_io.specs.declared.trouble.Trouble.TheVariants.{Words, Memory}
+
+-- What `eval` tells of some file of contexts and some expression; or a trouble is told.
+abbrev pub RunsEval : Stream → Stream → Stream → Stream → ℕ → Type 0
+RunsEval out out' err err' status =
+    ((file expression : List ℕ) × (contexts contexts' : Stream) × EvalTells file expression contexts contexts' out out' err err' status)
+    ⊎ TellsSome out out' err err' status
+
+-- What `plan` tells of some choice, some file of contexts and some files of workflows; or a trouble is told.
+abbrev pub RunsPlan : Stream → Stream → Stream → Stream → ℕ → Type 0
+RunsPlan out out' err err' status =
+    ((choice : Choice) × (contexts contexts' : File) × (flows flows' : List File) × PlanTells choice contexts contexts' flows flows' out out' err err' status)
+    ⊎ TellsSome out out' err err' status
+
+-- What `list` tells of some files of workflows; or a trouble is told.
+abbrev pub RunsList : Stream → Stream → Stream → Stream → ℕ → Type 0
+RunsList out out' err err' status =
+    ((flows flows' : List File) × ListTells flows flows' out out' err err' status) ⊎ TellsSome out out' err err' status
+
+-- What `replay` tells of some record; or a trouble is told.
+abbrev pub RunsReplay : Stream → Stream → Stream → Stream → ℕ → Type 0
+RunsReplay out out' err err' status =
+    ((input input' : Stream) × ReplayTells input input' out out' err err' status) ⊎ TellsSome out out' err err' status
+
+-- What `run` tells of some plan; or a trouble is told.
+abbrev pub RunsRun : Stream → Stream → Stream → Stream → ℕ → Type 0
+RunsRun out out' err err' status =
+    ((input input' : Stream) × run.RunTells input input' out out' err err' status) ⊎ TellsSome out out' err err' status
+
+-- What `debug` tells of some record and of the input; or a trouble is told.
+abbrev pub RunsDebug : Stream → Stream → Stream → Stream → Stream → Stream → ℕ → Type 0
+RunsDebug input input' out out' err err' status =
+    ((file file' : Stream) × DebugTells file file' input input' out out' err err' status) ⊎ TellsSome out out' err err' status
+
+-- What `table` or `debug` tells of the input, or what `eval`, `plan`, `list`, `replay` or `run` tells, or a trouble.
+abbrev pub RunTells : Stream → Stream → Stream → Stream → Stream → Stream → ℕ → Type 0
+RunTells input input' out out' err err' status =
+    TableTells input input' out out' err err' status
+    ⊎ (RunsEval out out' err err' status
+    ⊎ (RunsPlan out out' err err' status
+    ⊎ (RunsList out out' err err' status
+    ⊎ (RunsReplay out out' err err' status
+    ⊎ (RunsRun out out' err err' status ⊎ RunsDebug input input' out out' err err' status)))))
+
+-- A command line that cannot be had is told by its kind: one that is no UTF-8 asks for no command.
+pub record TellsLine (kind : ErrorKind) (out out' err err' : Stream) (status : ℕ) : Type 0 where
+  pub trouble : Trouble
+  pub told : TellsTrouble trouble out out' err err' status
+  pub no_text : kind ≡ InvalidData → trouble ≡ Words
+  pub memory : kind ≡ OutOfMemory → trouble ≡ Memory
+
+-- The same of the line on err alone.
+pub record SaysLine (kind : ErrorKind) (err err' : Stream) (status : ℕ) : Type 0 where
+  pub trouble : Trouble
+  pub said : Says err err' (line trouble)
+  pub is : status ≡ trouble_status trouble
+  pub no_text : kind ≡ InvalidData → trouble ≡ Words
+  pub memory : kind ≡ OutOfMemory → trouble ≡ Memory

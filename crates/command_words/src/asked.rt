@@ -1,0 +1,190 @@
+//! What words ask for: a command, with the files that they name, opened.
+
+ghost use Rattle.std.specs.Prelude.{◌≡◌, IfOk, map};
+
+use crate::choice::{choice_of, text_of};
+use crate::folder::Folder;
+use clap::ArgMatches;
+use command_io::files::{NamedSource, OptionalFile};
+use command_io::trouble::Trouble;
+use flow_model::Text;
+use plan_assembler::Choice;
+use run_command::run::RunWords;
+use std::alloc::Global;
+
+/// What `eval` is asked for.
+#[derive(Drop)]
+pub(crate) struct AskedEval<'w, S> {
+    pub(crate) contexts: NamedSource<OptionalFile<S>>,
+    pub(crate) expression: &'w str,
+}
+
+/// What `plan` is asked for.
+#[derive(Drop)]
+pub(crate) struct AskedPlan<S> {
+    pub(crate) choice: Choice,
+    pub(crate) contexts: NamedSource<OptionalFile<S>>,
+    pub(crate) flows: Vec<NamedSource<S>>,
+}
+
+/// What `run` is asked for.
+#[derive(Drop)]
+pub(crate) struct AskedRun<'w, S> {
+    pub(crate) words: RunWords<'w>,
+    pub(crate) stubs: NamedSource<OptionalFile<S>>,
+    pub(crate) plan: S,
+}
+
+/// A command that is asked for.
+#[derive(Drop)]
+pub(crate) enum Asked<'w, S> {
+    Table,
+    Eval(AskedEval<'w, S>),
+    Plan(AskedPlan<S>),
+    List(Vec<NamedSource<S>>),
+    Replay(S),
+    Run(AskedRun<'w, S>),
+    Debug(S),
+}
+
+/// The words of a command, and where the files are that they name.
+#[derive(Drop)]
+struct Asking<'m, 'w, F> {
+    alloc: Global,
+    words: &'m ArgMatches<'w>,
+    folder: &'m F,
+}
+
+impl<'m, 'w, F: Folder> Asking<'m, 'w, F> {
+    /// Opens the file of that name.
+    fn open(&self, name: &str) -> Result<F::File, Trouble> {
+        match self.folder.open(name) {
+            Some(file) => Ok(file),
+            None => Err(Trouble::Io),
+        }
+    }
+
+    /// The same, with its name.
+    fn open_named(&self, name: &str) -> Result<NamedSource<F::File>, Trouble>
+        ensures { IfOk result (λ file. file.name ≡ name.now) }
+    {
+        let text = text_of(self.alloc, name)?;
+        let source = self.open(name)?;
+        Ok(NamedSource { name: text, source })
+    }
+
+    /// The same of files, one after the other.
+    fn open_all(&self, names: &[&str]) -> Result<Vec<NamedSource<F::File>>, Trouble>
+        ensures { IfOk result
+            (λ files. map (λ file. file.name) files.items ≡ map (λ name. name.now) names.now) }
+    {
+        let mut files = Vec::new(self.alloc);
+        for name in names {
+            let file = self.open_named(*name)?;
+            if files.push(file).is_err() {
+                return Err(Trouble::Memory);
+            }
+        }
+        Ok(files)
+    }
+
+    /// Opens the file that a word names which is always there.
+    fn open_required(&self, id: &str) -> Result<F::File, Trouble> {
+        self.open(self.words.get_str(id).unwrap_or(""))
+    }
+
+    /// Opens the file that an option names, if it is there.
+    fn open_optional(&self, id: &str) -> Result<NamedSource<OptionalFile<F::File>>, Trouble> {
+        let Some(name) = self.words.get_str(id) else {
+            return Ok(NamedSource {
+                name: Text::new(String::new(self.alloc)),
+                source: OptionalFile::Absent,
+            });
+        };
+        let file = self.open_named(name)?;
+        Ok(NamedSource {
+            name: file.name,
+            source: OptionalFile::Named(file.source),
+        })
+    }
+
+    /// Opens the files of workflows.
+    fn open_flows(&self) -> Result<Vec<NamedSource<F::File>>, Trouble> {
+        match self.words.get_strs("flow") {
+            Some(names) => self.open_all(names),
+            None => Err(Trouble::Words),
+        }
+    }
+
+    /// What `eval` is asked for.
+    fn asked_eval(&self) -> Result<AskedEval<'w, F::File>, Trouble> {
+        let contexts = self.open_optional("contexts")?;
+        let expression = self.words.get_str("expression").unwrap_or("");
+        Ok(AskedEval {
+            contexts,
+            expression,
+        })
+    }
+
+    /// What `plan` is asked for.
+    fn asked_plan(&self) -> Result<AskedPlan<F::File>, Trouble> {
+        let words = self.words;
+        let choice = choice_of(self.alloc, words.get_str("event"), words.get_str("job"))?;
+        let contexts = self.open_optional("contexts")?;
+        let flows = self.open_flows()?;
+        Ok(AskedPlan {
+            choice,
+            contexts,
+            flows,
+        })
+    }
+
+    /// What `run` is asked for: one worker where the words say nothing of them.
+    fn asked_run(&self) -> Result<AskedRun<'w, F::File>, Trouble> {
+        let words = RunWords {
+            workers: self.words.get_one::<u64>("workers").unwrap_or(1),
+            record: self.words.get_str("record"),
+            work: self.words.get_str("work"),
+        };
+        let stubs = self.open_optional("stubs")?;
+        let plan = self.open_required("plan")?;
+        Ok(AskedRun { words, stubs, plan })
+    }
+
+    /// What the words ask for after the name of their command.
+    fn asked(&self, name: &str) -> Result<Asked<'w, F::File>, Trouble> {
+        match name {
+            "table" => Ok(Asked::Table),
+            "eval" => Ok(Asked::Eval(self.asked_eval()?)),
+            "plan" => Ok(Asked::Plan(self.asked_plan()?)),
+            "list" => Ok(Asked::List(self.open_flows()?)),
+            "replay" => Ok(Asked::Replay(self.open_required("record")?)),
+            "run" => Ok(Asked::Run(self.asked_run()?)),
+            "debug" => Ok(Asked::Debug(self.open_required("record")?)),
+            _ => Err(Trouble::Words),
+        }
+    }
+}
+
+/// What words ask for, with the files opened that they name.
+///
+/// # Errors
+///
+/// `Trouble::Words` where they ask for no command, `Trouble::Io` where a file cannot be opened, and `Trouble::Memory`.
+pub(crate) fn asked_by<'w, F: Folder>(
+    alloc: Global,
+    words: &ArgMatches<'w>,
+    folder: &F,
+) -> Result<Asked<'w, F::File>, Trouble> {
+    match words.subcommand() {
+        Some((name, words)) => {
+            let asking = Asking {
+                alloc,
+                words,
+                folder,
+            };
+            asking.asked(name)
+        },
+        None => Err(Trouble::Words),
+    }
+}

@@ -1,0 +1,68 @@
+//! The commands and their words, as `clap` is told them.
+
+use clap::{Arg, Command};
+use std::alloc::{AllocError, Global};
+
+/// The names of workflows' files, at least one.
+fn flow_words<'a>(alloc: Global) -> Arg<'a> {
+    Arg::new(alloc, "flow").required(true).num_args(1..)
+}
+
+/// The command `eval`.
+fn known_eval<'a>(alloc: Global) -> Result<Command<'a>, AllocError> {
+    Command::new(alloc, "eval")
+        .arg(Arg::new(alloc, "contexts").long("contexts"))?
+        .arg(Arg::new(alloc, "expression").required(true))
+}
+
+/// The command `plan`.
+fn known_plan<'a>(alloc: Global) -> Result<Command<'a>, AllocError> {
+    Command::new(alloc, "plan")
+        .arg(Arg::new(alloc, "event").long("event"))?
+        .arg(Arg::new(alloc, "job").long("job"))?
+        .arg(Arg::new(alloc, "contexts").long("contexts"))?
+        .arg(flow_words(alloc))
+}
+
+/// The command `list`.
+fn known_list<'a>(alloc: Global) -> Result<Command<'a>, AllocError> {
+    Command::new(alloc, "list").arg(flow_words(alloc))
+}
+
+/// A command over the file of a record.
+fn known_record<'a>(alloc: Global, name: &'a str) -> Result<Command<'a>, AllocError> {
+    Command::new(alloc, name).arg(Arg::new(alloc, "record").required(true))
+}
+
+/// The command `run`.
+fn known_run<'a>(alloc: Global) -> Result<Command<'a>, AllocError> {
+    let workers = Arg::new(alloc, "workers")
+        .long("workers")
+        .value_parser(clap::value_parser!(u64));
+    Command::new(alloc, "run")
+        .arg(workers)?
+        .arg(Arg::new(alloc, "record").long("record"))?
+        .arg(Arg::new(alloc, "work").long("work"))?
+        .arg(Arg::new(alloc, "stubs").long("stubs"))?
+        .arg(Arg::new(alloc, "plan").required(true))
+}
+
+/// The commands with one more.
+fn with<'a>(
+    known: Command<'a>,
+    added: Result<Command<'a>, AllocError>,
+) -> Result<Command<'a>, AllocError> {
+    known.subcommand(added?)
+}
+
+/// The commands, one level deep.
+pub(crate) fn known_commands<'a>(alloc: Global) -> Result<Command<'a>, AllocError> {
+    let known = Command::new(alloc, "actrun").subcommand_required(true);
+    let known = with(known, Ok(Command::new(alloc, "table")))?;
+    let known = with(known, known_eval(alloc))?;
+    let known = with(known, known_plan(alloc))?;
+    let known = with(known, known_list(alloc))?;
+    let known = with(known, known_record(alloc, "replay"))?;
+    let known = with(known, known_run(alloc))?;
+    with(known, known_record(alloc, "debug"))
+}

@@ -1,0 +1,239 @@
+//! The command line: which command its words ask for, and what it leaves.
+
+ghost use Rattle.std.specs.Prelude.{◌≡◌, IfErr};
+ghost use Rattle.std.specs.IoError.{error_kind};
+ghost use Rattle.command_words.specs.Words as spec;
+ghost use Rattle.command_words.specs.Words.{RunTells};
+
+use crate::asked::{Asked, AskedEval, AskedPlan, AskedRun, asked_by};
+use crate::folder::Folder;
+use crate::known::known_commands;
+use clap::{ArgMatches, Error};
+use command_io::files::NamedSource;
+use command_io::stream::{Sink, Source};
+use command_io::tell::refuse;
+use command_io::trouble::Trouble;
+use commands::eval::eval;
+use commands::list::list;
+use commands::plan::plan;
+use commands::replay::replay;
+use commands::table::table;
+use debug_session::debug::debug;
+use run_command::machine::Machine;
+use run_command::run::run as run_plan;
+use std::alloc::Global;
+use std::env::Args;
+use std::io;
+use std::io::ErrorKind;
+
+/// Runs `eval`.
+fn perform_eval<S: Source + Drop, O: Sink, E: Sink>(
+    alloc: Global,
+    asked: AskedEval<'_, S>,
+    out: &mut O,
+    err: &mut E,
+) -> u8
+    ensures { spec.RunsEval (O.seen out.old) (O.seen out.new)
+        (E.seen err.old) (E.seen err.new) result }
+{
+    let AskedEval {
+        contexts,
+        expression,
+    } = asked;
+    let NamedSource { name, mut source } = contexts;
+    eval(alloc, name.as_str(), &mut source, expression, out, err)
+}
+
+/// Runs `plan`.
+fn perform_plan<S: Source + Drop, O: Sink, E: Sink>(
+    alloc: Global,
+    asked: AskedPlan<S>,
+    out: &mut O,
+    err: &mut E,
+) -> u8
+    ensures { spec.RunsPlan (O.seen out.old) (O.seen out.new)
+        (E.seen err.old) (E.seen err.new) result }
+{
+    let AskedPlan {
+        choice,
+        mut contexts,
+        mut flows,
+    } = asked;
+    plan(alloc, &choice, &mut contexts, flows.as_mut_slice(), out, err)
+}
+
+/// Runs `list`.
+fn perform_list<S: Source + Drop, O: Sink, E: Sink>(
+    alloc: Global,
+    mut flows: Vec<NamedSource<S>>,
+    out: &mut O,
+    err: &mut E,
+) -> u8
+    ensures { spec.RunsList (O.seen out.old) (O.seen out.new)
+        (E.seen err.old) (E.seen err.new) result }
+{
+    list(alloc, flows.as_mut_slice(), out, err)
+}
+
+/// Runs `replay`.
+fn perform_replay<S: Source + Drop, O: Sink, E: Sink>(
+    alloc: Global,
+    mut record: S,
+    out: &mut O,
+    err: &mut E,
+) -> u8
+    ensures { spec.RunsReplay (O.seen out.old) (O.seen out.new)
+        (E.seen err.old) (E.seen err.new) result }
+{
+    replay(alloc, &mut record, out, err)
+}
+
+/// Runs `run`.
+fn perform_run<M: Machine, S: Source + Drop, O: Sink, E: Sink>(
+    alloc: Global,
+    machine: &M,
+    asked: AskedRun<'_, S>,
+    out: &mut O,
+    err: &mut E,
+) -> u8
+    ensures { spec.RunsRun (O.seen out.old) (O.seen out.new)
+        (E.seen err.old) (E.seen err.new) result }
+{
+    let AskedRun {
+        words,
+        mut stubs,
+        mut plan,
+    } = asked;
+    run_plan(alloc, machine, &words, &mut stubs, &mut plan, out, err)
+}
+
+/// Runs `debug` over the lines of the input.
+fn perform_debug<S: Source + Drop, I: Source, O: Sink, E: Sink>(
+    alloc: Global,
+    mut record: S,
+    input: &mut I,
+    out: &mut O,
+    err: &mut E,
+) -> u8
+    ensures { spec.RunsDebug (I.seen input.old) (I.seen input.new) (O.seen out.old) (O.seen out.new)
+        (E.seen err.old) (E.seen err.new) result }
+{
+    debug(alloc, &mut record, input, out, err)
+}
+
+/// Runs the command that is asked for.
+fn perform<M: Machine, S: Source + Drop, I: Source, O: Sink, E: Sink>(
+    alloc: Global,
+    machine: &M,
+    asked: Asked<'_, S>,
+    input: &mut I,
+    out: &mut O,
+    err: &mut E,
+) -> u8
+    ensures { RunTells (I.seen input.old) (I.seen input.new)
+        (O.seen out.old) (O.seen out.new) (E.seen err.old) (E.seen err.new) result }
+{
+    match asked {
+        Asked::Table => table(alloc, input, out, err),
+        Asked::Eval(asked) => perform_eval(alloc, asked, out, err),
+        Asked::Plan(asked) => perform_plan(alloc, asked, out, err),
+        Asked::List(flows) => perform_list(alloc, flows, out, err),
+        Asked::Replay(record) => perform_replay(alloc, record, out, err),
+        Asked::Run(asked) => perform_run(alloc, machine, asked, out, err),
+        Asked::Debug(record) => perform_debug(alloc, record, input, out, err),
+    }
+}
+
+/// Why words are none that the program knows: there is no memory, or they ask for no command.
+fn words_trouble(error: &Error) -> Trouble {
+    if matches!(error.kind(), clap::error::ErrorKind::OutOfMemory) {
+        return Trouble::Memory;
+    }
+    Trouble::Words
+}
+
+/// The words, as far as the program knows them.
+fn known_words<'w>(alloc: Global, words: &'w [String]) -> Result<ArgMatches<'w>, Trouble> {
+    let Ok(known) = known_commands(alloc) else {
+        return Err(Trouble::Memory);
+    };
+    match known.try_get_matches_from(words) {
+        Ok(known) => Ok(known),
+        Err(error) => Err(words_trouble(&error)),
+    }
+}
+
+/// Runs the command that known words ask for.
+fn run_known<F: Folder, I: Source, O: Sink, E: Sink>(
+    alloc: Global,
+    words: &ArgMatches,
+    folder: &F,
+    input: &mut I,
+    out: &mut O,
+    err: &mut E,
+) -> u8
+    ensures { RunTells (I.seen input.old) (I.seen input.new)
+        (O.seen out.old) (O.seen out.new) (E.seen err.old) (E.seen err.new) result }
+{
+    match asked_by(alloc, words, folder) {
+        Ok(asked) => perform(alloc, folder.machine(), asked, input, out, err),
+        Err(trouble) => refuse(err, &trouble),
+    }
+}
+
+/// Runs the command that the words ask for, of which the first names the program; `folder` has the files that they may
+/// name. The answer is the exit status.
+pub fn run<F: Folder, I: Source, O: Sink, E: Sink>(
+    alloc: Global,
+    words: &[String],
+    folder: &F,
+    input: &mut I,
+    out: &mut O,
+    err: &mut E,
+) -> u8
+    ensures { RunTells (I.seen input.old) (I.seen input.new)
+        (O.seen out.old) (O.seen out.new) (E.seen err.old) (E.seen err.new) result }
+{
+    match known_words(alloc, words) {
+        Ok(known) => run_known(alloc, &known, folder, input, out, err),
+        Err(trouble) => refuse(err, &trouble),
+    }
+}
+
+/// Why the words of a command line cannot be had: they are no UTF-8, or there is no memory.
+fn refuse_line<E: Sink>(err: &mut E, error: io::Error) -> u8
+    ensures { spec.SaysLine (error_kind error) (E.seen err.old) (E.seen err.new) result }
+{
+    match error.kind() {
+        ErrorKind::InvalidData => refuse(err, &Trouble::Words),
+        ErrorKind::OutOfMemory => refuse(err, &Trouble::Memory),
+        _ => refuse(err, &Trouble::Io),
+    }
+}
+
+/// Runs the command that a command line asks for, as it was read. One that is no UTF-8 asks for none. The answer is the
+/// exit status.
+pub fn run_line<F: Folder, I: Source, O: Sink, E: Sink>(
+    alloc: Global,
+    line: io::Result<Args>,
+    folder: &F,
+    input: &mut I,
+    out: &mut O,
+    err: &mut E,
+) -> u8
+    ensures tells { RunTells (I.seen input.old) (I.seen input.new)
+        (O.seen out.old) (O.seen out.new) (E.seen err.old) (E.seen err.new) result }
+    ensures unread { IfErr line (λ e. spec.TellsLine (error_kind e)
+        (O.seen out.old) (O.seen out.new) (E.seen err.old) (E.seen err.new) result) }
+{
+    match line {
+        Ok(words) => {
+            let words: Vec<String> = match words.collect(alloc) {
+                Ok(words) => words,
+                Err(_) => return refuse(err, &Trouble::Memory),
+            };
+            run(alloc, words.as_slice(), folder, input, out, err)
+        },
+        Err(error) => refuse_line(err, error),
+    }
+}

@@ -1,7 +1,0 @@
-use Rattle.commands.specs.Files.{file_seen}
-use Rattle.commands.proofs.Reading.{GoingFiles}
-use Rattle.commands.proofs.files.read_files.Given as goal
-
--- what is left comes to what all files come to
-abbrev pub invariant-loop-file : goal.invariant-loop-file
-invariant-loop-file g l = GoingFiles (file_seen g.S.Source.seen) l.fn.files l.files l.file-index l.contents.items

@@ -1,8 +1,0 @@
-use Rattle.std.proofs.Common.{ℕ, List, ◌++◌, ap, codes}
-use Rattle.commands.proofs.Told.{Puts-as}
-use Rattle.commands.proofs.trouble.say_placed.Goals as goal
-
-pub returns : goal.returns
-returns g c =
-    Puts-as _ _ _ _ _ c.put_parts.ensures
-    (ap (λ (digits : List ℕ). codes "actrun: expr " ++ (c.args.name.now ++ (codes " at " ++ (digits ++ codes "\n")))) c.format.ensures.text)

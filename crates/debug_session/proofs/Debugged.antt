@@ -1,0 +1,153 @@
+-- What the debugger answers, as it is told.
+use Rattle.std.proofs.Common.{◌≡◌, ◌<◌, ◌≤◌, ℕ, ◌+◌, Bool, true, false, List, [], ◌∷◌, ◌++◌, take, length, codes, String, Global, string_bytes, Some, None, Result, Ok, Err, OnOk, if◌then◌else◌, inl, inr, refl, sym, ap, ◌∙◌, subst, append_assoc, append-nil, arith}
+use Rattle.std.proofs.lemmas.Option.{slice_get_within}
+use Rattle.std.proofs.lemmas.List.{length-take-le}
+use Rattle.debugger.specs.Breaks.{is_set, with_break, without_break}
+use Rattle.debugger.specs.Places.{NotOpened, RefusedAt}
+use Rattle.debugger.specs.Session.{Moves, MovesInMemory, Session, moved, with_breaks}
+use Rattle.debugger.specs.declared.breaks.Break.{Break}
+use Rattle.debugger.specs.declared.fault.DebugFault.{DebugFault}
+use Rattle.debugger.specs.declared.fault.DebugFault.TheVariants as fault
+use Rattle.flow_model.specs.Rules.{IsPlan}
+use Rattle.flow_model.specs.declared.board.Board.{Board}
+use Rattle.flow_model.specs.declared.event.Entry.{Entry}
+use Rattle.flow_model.specs.declared.plan.Plan.{Plan}
+use Rattle.status_table.specs.Runs.{after, new_board}
+use Rattle.status_table.specs.declared.fault.EventFault.{EventFault}
+use Rattle.plan_text.specs.BoardText.{Adds}
+use Rattle.flow_model.specs.Lines.{lines_of}
+use Rattle.debug_session.specs.Debug.{AddsSome, HasOpenLine, IsMove, TellsGo, TellsLines, TellsMove, TellsOneLine, TellsRequest, move_line, open_trouble}
+use Rattle.command_io.specs.Records.{HasLine, IsStopped}
+use Rattle.status_table.specs.Fault.{is_memory}
+use Rattle.debug_session.specs.Requests.{Asks, FindsOne}
+use Rattle.debug_session.specs.declared.requests.Request.{Request}
+use Rattle.debug_session.specs.declared.requests.Request.TheVariants.{Set, Clear}
+use Rattle.command_io.specs.declared.trouble.Trouble.TheVariants.{Memory, Refused}
+
+-- ---- moves
+
+-- a move that is no want of memory leads where it is asked
+pub moved_there : (target : Result ℕ DebugFault) (s : Session) (found : Result ℕ DebugFault) (next : Session) → MovesInMemory target s found next → IsMove found
+    → Moves target s found next
+moved_there target s (Ok k) next h is = (sym h.0, h.1 ∙ ap (moved s) (sym h.0))
+moved_there target s (Err fault.AtStart) next h is = (sym h.0, h.1 ∙ ap (moved s) (sym h.0))
+moved_there target s (Err fault.AtEnd) next h is = (sym h.0, h.1 ∙ ap (moved s) (sym h.0))
+moved_there target s (Err fault.NoPlace) next h is = (sym h.0, h.1 ∙ ap (moved s) (sym h.0))
+moved_there target s (Err fault.NoBreak) next h is = (sym h.0, h.1 ∙ ap (moved s) (sym h.0))
+moved_there target s (Err (fault.BadRecord i f)) next h is = (sym h.0, h.1 ∙ ap (moved s) (sym h.0))
+moved_there target s (Err fault.Memory) next h is = absurd is
+
+-- so the line of what it answers is that of the move
+pub move_told : (target : Result ℕ DebugFault) (s : Session) (found : Result ℕ DebugFault) (next : Session) → Moves target s found next
+    → TellsMove s target (move_line (length s.entries) found) next
+move_told target s found next h = (ap (move_line (length s.entries)) h.0, h.1)
+
+-- ---- records that are opened
+
+stops_by : (p : Plan) (es : List Entry) (i : ℕ) (f : EventFault) (kind : Bool) → RefusedAt p (new_board p) es i f → is_memory f ≡ kind
+    → IsStopped p es (if kind then Memory else Refused (i + 2) f)
+stops_by p es i f true w is = tt
+stops_by p es i f false w is = record {
+  place = i;
+  board = w.0;
+  entry = w.2.0;
+  legal = w.1;
+  there = w.2.1;
+  refused = w.2.2;
+  counted = refl;
+}
+
+-- a record that is not opened stops there
+pub stopped : (p : Plan) (es : List Entry) (why : DebugFault) → NotOpened p (new_board p) es why → IsStopped p es (open_trouble why)
+stopped p es (fault.BadRecord i f) w = stops_by p es i f (is_memory f) w refl
+stopped p es fault.AtStart w = absurd w
+stopped p es fault.AtEnd w = absurd w
+stopped p es fault.NoPlace w = absurd w
+stopped p es fault.NoBreak w = absurd w
+stopped p es fault.Memory w = tt
+
+line_by : ((p : Plan) → IsPlan p → (es : List Entry) (b : Board) → after p es ≡ Some b → length es ≤ 2113728)
+    → (p : Plan) → IsPlan p → (es : List Entry) (i : ℕ) (f : EventFault) → RefusedAt p (new_board p) es i f → HasLine i f
+line_by short p rules es i f w named =
+    let inside : i < length es = slice_get_within es i w.2.0 w.2.1 in
+    let few : length (take i es) ≤ 2113728 = short p rules (take i es) w.0 w.1 in
+    let same : length (take i es) ≡ i = length-take-le i es (omega (arith, inside)) in
+    omega (arith, few, same)
+
+pub has_open_line : ((p : Plan) → IsPlan p → (es : List Entry) (b : Board) → after p es ≡ Some b → length es ≤ 2113728)
+    → (p : Plan) → IsPlan p → (es : List Entry) (why : DebugFault) → NotOpened p (new_board p) es why → HasOpenLine why
+has_open_line short p rules es (fault.BadRecord i f) w = line_by short p rules es i f w
+has_open_line short p rules es fault.AtStart w = tt
+has_open_line short p rules es fault.AtEnd w = tt
+has_open_line short p rules es fault.NoPlace w = tt
+has_open_line short p rules es fault.NoBreak w = tt
+has_open_line short p rules es fault.Memory w = tt
+
+-- ---- what is added to a text
+
+module _ {E : Type 0} (s next : Session) (old new : String Global) where
+  -- the line of a move
+  pub adds_moved : (target found : Result ℕ DebugFault) (last : ℕ) (r : Result (Unit {0}) E) → last ≡ length s.entries → Moves target s found next
+      → OnOk r (Adds old new (move_line last found)) → OnOk r (AddsSome (λ words. TellsMove s target words next) old new)
+  adds_moved target found last (Ok done) many h adds =
+      (move_line (length s.entries) found, move_told target s found next h, adds ∙ ap (λ (n : ℕ). string_bytes old ++ move_line n found) many)
+  adds_moved target found last (Err e) many h adds = tt
+
+  -- that of a move that may find no memory
+  pub adds_move : (target found : Result ℕ DebugFault) (last : ℕ) (r : Result (Unit {0}) E) → last ≡ length s.entries → MovesInMemory target s found next
+      → OnOk r (IsMove found) → OnOk r (Adds old new (move_line last found)) → OnOk r (AddsSome (λ words. TellsMove s target words next) old new)
+  adds_move target found last (Ok done) many h is adds = adds_moved target found last (Ok done) many (moved_there target s found next h is) adds
+  adds_move target found last (Err e) many h is adds = tt
+
+  -- that of a move to the nearest break
+  pub adds_go : (Goes : Session → Result ℕ DebugFault → Session → Type 0) (found : Result ℕ DebugFault) (last : ℕ) (r : Result (Unit {0}) E) → last ≡ length s.entries
+      → Goes s found next → OnOk r (IsMove found) → OnOk r (Adds old new (move_line last found)) → OnOk r (AddsSome (λ words. TellsGo Goes s words next) old new)
+  adds_go Goes found last (Ok done) many h is adds =
+      (move_line (length s.entries) found, (found, is, h, refl), adds ∙ ap (λ (n : ℕ). string_bytes old ++ move_line n found) many)
+  adds_go Goes found last (Err e) many h is adds = tt
+
+  -- the line of a break that is set
+  pub adds_set : (wanted : Break) (r : Result (Unit {0}) E) → OnOk r (next ≡ with_breaks s (with_break wanted s.breaks))
+      → OnOk r (Adds old new (codes "break set\n")) → OnOk r (AddsSome (λ words. TellsRequest s (Set wanted) words next) old new)
+  adds_set wanted (Ok done) left adds = (codes "break set\n", (refl, left), adds)
+  adds_set wanted (Err e) left adds = tt
+
+  -- that of a break that is cleared, or is not there
+  pub adds_clear : (wanted : Break) (r : Result (Unit {0}) E) → next ≡ with_breaks s (without_break wanted s.breaks)
+      → OnOk r (Adds old new (if is_set wanted s.breaks then codes "cleared\n" else codes "no such break\n"))
+      → OnOk r (AddsSome (λ words. TellsRequest s (Clear wanted) words next) old new)
+  adds_clear wanted (Ok done) left adds = ((if is_set wanted s.breaks then codes "cleared\n" else codes "no such break\n"), (refl, left), adds)
+  adds_clear wanted (Err e) left adds = tt
+
+  -- what is told of a request is told of the line that asks for it
+  pub adds_asked : (line : List ℕ) (request : Request) (r : Result (Unit {0}) E) → Asks line request → OnOk r (AddsSome (λ words. TellsRequest s request words next) old new)
+      → OnOk r (AddsSome (λ words. TellsOneLine s line words next) old new)
+  adds_asked line request (Ok done) asks told = (told.0, inl (request, asks, told.1), told.2)
+  adds_asked line request (Err e) asks told = tt
+
+-- that a line is no command is told
+pub adds_unknown : {E : Type 0} (s : Session) (old new : String Global) (line : List ℕ) (r : Result (Unit {0}) E) → FindsOne (Asks line) None
+    → OnOk r (Adds old new (codes "unknown command\n")) → OnOk r (AddsSome (λ words. TellsOneLine s line words s) old new)
+adds_unknown s old new line (Ok done) none adds = (codes "unknown command\n", inr (none, refl, refl), adds)
+adds_unknown s old new line (Err e) none adds = tt
+
+-- ---- line after line
+
+-- a text of no bytes has no lines
+pub no_lines : (text : List ℕ) → length text ≡ 0 → lines_of text ≡ []
+no_lines [] h = refl
+no_lines (b ∷ text) h = absurd (omega arith)
+
+-- what is told of the lines that are left goes on what was told of all
+abbrev pub GoesOnTo : Session → List (List ℕ) → List ℕ → Session → List (List ℕ) → Type 0
+GoesOnTo first lines told now left = (more : List ℕ) → TellsLines now left more → TellsLines first lines (told ++ more)
+
+pub line_more : (first now next : Session) (lines left others : List (List ℕ)) (line told new : List ℕ) → left ≡ line ∷ others
+    → ((words : List ℕ) × TellsOneLine now line words next × (new ≡ told ++ words)) → GoesOnTo first lines told now left → GoesOnTo first lines new next others
+line_more first now next lines left others line told new is (words, one, whole) goes more rest =
+    subst (λ (text : List ℕ). TellsLines first lines text) (sym (append_assoc told words more) ∙ ap (λ (l : List ℕ). l ++ more) (sym whole))
+    (goes (words ++ more) (subst (λ (ls : List (List ℕ)). TellsLines now ls (words ++ more)) (sym is) (next, words, more, one, rest, refl)))
+
+pub all_told : (first now : Session) (lines left : List (List ℕ)) (told : List ℕ) → left ≡ [] → GoesOnTo first lines told now left → TellsLines first lines told
+all_told first now lines left told is goes =
+    subst (λ (text : List ℕ). TellsLines first lines text) (append-nil told) (goes [] (subst (λ (ls : List (List ℕ)). TellsLines now ls []) (sym is) refl))

@@ -1,0 +1,5 @@
+pub mod Asked
+pub mod Debugged
+pub mod Numerals
+pub mod OneRequest
+pub mod OneSession

@@ -1,0 +1,15 @@
+mod CommandForms
+mod Commanding
+mod Covering
+mod FirstPlaces
+mod Gathering
+mod Heads
+mod HeardLines
+mod Items
+mod LastItems
+mod LogLines
+mod Members
+mod Replacing
+mod ShownLines
+mod Splitting
+mod Standing

@@ -1,0 +1,223 @@
+-- Laws of the texts of programs, each the contract of a function of the module `laws`.
+use Rattle.std.specs.Prelude.{◌≡◌, ◌≢◌, ◌<◌, ◌≤◌, ◌↔◌, ℕ, true, List, [], ◌∷◌, ◌++◌, length, map, codes, Some, Ok, Err}
+use Rattle.std.specs.List.{list_all, AllByRecursion, Contains}
+use Rattle.std.specs.Str.{is_utf8}
+use Rattle.expr_reader.specs.Fold.{fold}
+use Rattle.flow_model.specs.Lines.{lines_of}
+use Rattle.flow_model.specs.Mapping.{value_at, Ascends}
+use Rattle.program_texts.specs.CommandTexts.{command_of, commands, decoded, is_command}
+use Rattle.program_texts.specs.Mask.{masked}
+use Rattle.program_texts.specs.Outputs.{Pair, is_name, joined, pairs_of, are_within, outputs}
+use Rattle.program_texts.specs.Splits.{is_blank, split_first}
+use Rattle.program_texts.specs.declared.escapes.Escapes.TheVariants.{Message, Value}
+use Rattle.program_texts.specs.declared.line.Line.{Line}
+use Rattle.program_texts.specs.declared.line.Line.TheVariants.{Plain, Command, Resume}
+use Rattle.program_texts.specs.declared.output_fault.OutputFault.TheVariants.{NoName, OpenBlock}
+
+-- ---- marks
+
+-- the mark stands nowhere in a text
+abbrev pub Lacks : List ℕ → List ℕ → Type 0
+Lacks mark text = (before after : List ℕ) → text ≢ before ++ (mark ++ after)
+
+-- a text is cut at the first place of the mark
+pub record IsCutFirst (mark text front rest : List ℕ) : Type 0 where
+  pub cut : text ≡ front ++ (mark ++ rest)
+  pub first : (before after : List ℕ) → text ≡ before ++ (mark ++ after) → length front ≤ length before
+
+-- A text is split at the first place of a mark.
+abbrev pub OneCut : Type 0
+OneCut =
+    (mark text front rest : List ℕ) → 0 < length mark
+    → (split_first mark text ≡ Some (front, rest)) ↔ IsCutFirst mark text front rest
+
+-- ---- masks
+
+-- one of the masks, which has a byte, stands at the front of a text
+pub record Stands (masks : List (List ℕ)) (mask text : List ℕ) : Type 0 where
+  pub listed : Contains masks mask
+  pub some : 0 < length mask
+  pub rest : List ℕ
+  pub begins : text ≡ mask ++ rest
+
+-- the mask stands at the front of a text, and none that is longer does
+pub record StandsLongest (masks : List (List ℕ)) (mask text : List ℕ) : Type 0 where
+  pub stands : Stands masks mask text
+  pub longest : (other : List ℕ) → Stands masks other text → length other ≤ length mask
+
+-- A text and what covers it, from the left: a byte as it is where no mask stands, and three stars for the longest mask
+-- where one does.
+pub data Covers (masks : List (List ℕ)) : List ℕ → List ℕ → Type 0 where
+  end : Covers masks [] []
+  as_it_is : {b : ℕ} {text shown : List ℕ} → ((mask : List ℕ) → Stands masks mask (b ∷ text) → ⊥) → Covers masks text shown
+      → Covers masks (b ∷ text) (b ∷ shown)
+  covered : {mask text shown : List ℕ} → StandsLongest masks mask (mask ++ text) → Covers masks text shown
+      → Covers masks (mask ++ text) (codes "***" ++ shown)
+
+-- The masked text covers the text, and nothing else does.
+abbrev pub OneCovering : Type 0
+OneCovering = (masks : List (List ℕ)) (text shown : List ℕ) → Covers masks text shown ↔ (shown ≡ masked masks text)
+
+-- ---- files of outputs
+
+-- a line is a name, `=` and a value; no name has an `=` or a `<`, so the `=` is the first, with no `<<` before it
+pub record IsPairLine (line name value : List ℕ) : Type 0 where
+  pub named : is_name name ≡ true
+  pub spelled : line ≡ name ++ (codes "=" ++ value)
+
+-- a line is a name, `<<` and a delimiter, which has a byte: a block begins there
+pub record IsBlockLine (line name delimiter : List ℕ) : Type 0 where
+  pub named : is_name name ≡ true
+  pub some : 0 < length delimiter
+  pub spelled : line ≡ name ++ (codes "<<" ++ delimiter)
+
+-- a line is not empty, and neither of these
+pub record IsNoLine (line : List ℕ) : Type 0 where
+  pub some : 0 < length line
+  pub no_pair : (name value : List ℕ) → IsPairLine line name value → ⊥
+  pub no_block : (name delimiter : List ℕ) → IsBlockLine line name delimiter → ⊥
+
+-- Lines, and the items that they give. A block ends at the first line that is its delimiter, and its value is the lines
+-- before that one, joined by newlines.
+pub data Give : List (List ℕ) → List Pair → Type 0 where
+  nothing : Give [] []
+  empty_line : {lines : List (List ℕ)} {items : List Pair} → Give lines items → Give ([] ∷ lines) items
+  pair_line : {line name value : List ℕ} {lines : List (List ℕ)} {items : List Pair} → IsPairLine line name value
+      → Give lines items → Give (line ∷ lines) ((name, value) ∷ items)
+  whole_block : (inner : List (List ℕ)) {line name delimiter : List ℕ} {lines : List (List ℕ)} {items : List Pair}
+      → IsBlockLine line name delimiter → (Contains inner delimiter → ⊥) → Give lines items
+      → Give (line ∷ (inner ++ delimiter ∷ lines)) ((name, joined inner) ∷ items)
+
+-- after lines that give items stands one that gives none
+pub record HasNoLine (lines : List (List ℕ)) : Type 0 where
+  pub before : List (List ℕ)
+  pub items : List Pair
+  pub line : List ℕ
+  pub after : List (List ℕ)
+  pub given : Give before items
+  pub bad : IsNoLine line
+  pub whole : lines ≡ before ++ line ∷ after
+
+-- after lines that give items a block begins, and no later line is its delimiter
+pub record StaysOpen (lines : List (List ℕ)) : Type 0 where
+  pub before : List (List ℕ)
+  pub items : List Pair
+  pub line : List ℕ
+  pub name : List ℕ
+  pub delimiter : List ℕ
+  pub after : List (List ℕ)
+  pub given : Give before items
+  pub begins : IsBlockLine line name delimiter
+  pub lacks : Contains after delimiter → ⊥
+  pub whole : lines ≡ before ++ line ∷ after
+
+-- Lines are read as the items that they give, and refused where they give none: for the first line that is none, or for
+-- the block that stays open.
+abbrev pub OneReading : Type 0
+OneReading =
+    (lines : List (List ℕ))
+    → ((items : List Pair) → (pairs_of lines ≡ Ok items) ↔ Give lines items)
+    × ((pairs_of lines ≡ Err NoName) ↔ HasNoLine lines)
+    × ((pairs_of lines ≡ Err OpenBlock) ↔ StaysOpen lines)
+
+-- the last item of a name has this value
+pub record IsLast (items : List Pair) (name value : List ℕ) : Type 0 where
+  pub before : List Pair
+  pub after : List Pair
+  pub whole : items ≡ before ++ (name, value) ∷ after
+  pub last : (other : List ℕ) → Contains after (name, other) → ⊥
+
+-- What the bytes of a file give: in the order of their names, for each name that an item has, the value of its last item.
+pub record AreOutputs (bytes : List ℕ) (found : List Pair) : Type 0 where
+  pub text : is_utf8 bytes ≡ true
+  pub items : List Pair
+  pub given : Give (lines_of bytes) items
+  pub ordered : Ascends found
+  pub stand : (name value : List ℕ) → (value_at name found ≡ Some value) ↔ IsLast items name value
+  pub within : are_within found ≡ true
+
+-- The outputs of a file are those and no others.
+abbrev pub OneGiving : Type 0
+OneGiving = (bytes : List ℕ) (found : List Pair) → (outputs bytes ≡ Ok found) ↔ AreOutputs bytes found
+
+-- ---- commands
+
+-- a field is a key, which has a byte, `=` and a value
+pub record IsField (field key value : List ℕ) : Type 0 where
+  pub cut : IsCutFirst (codes "=") field key value
+  pub some : 0 < length key
+
+-- A text has these fields between its commas: of each its key in small letters and its decoded value.
+pub data HasFields : List ℕ → List Pair → Type 0 where
+  one_field : {text key value : List ℕ} → Lacks (codes ",") text → IsField text key value
+      → HasFields text ((fold key, decoded Value value) ∷ [])
+  first_field : {text field rest key value : List ℕ} {pairs : List Pair} → IsCutFirst (codes ",") text field rest
+      → IsField field key value → HasFields rest pairs → HasFields text ((fold key, decoded Value value) ∷ pairs)
+
+-- what stands between two colons and the next two: a name, or a name, a space and fields
+pub data HasHead : List ℕ → List ℕ → List Pair → Type 0 where
+  bare : {head : List ℕ} → Lacks (codes " ") head → HasHead head head []
+  with_fields : {head name fields : List ℕ} {pairs : List Pair} → IsCutFirst (codes " ") head name fields
+      → HasFields fields pairs → HasHead head name pairs
+
+-- A line is a command: behind spaces and tabs two colons, a head, two colons, and what is said. Its name is one of the
+-- commands' in small letters, and its message is what is said, decoded.
+pub record IsCommand (line name : List ℕ) (pairs : List Pair) (message : List ℕ) : Type 0 where
+  pub blanks : List ℕ
+  pub text : List ℕ
+  pub head : List ℕ
+  pub said : List ℕ
+  pub spelled : List ℕ
+  pub indented : list_all is_blank blanks ≡ true
+  pub begins : line ≡ blanks ++ (codes "::" ++ text)
+  pub cut : IsCutFirst (codes "::") text head said
+  pub has : HasHead head spelled pairs
+  pub one : is_command name ≡ true
+  pub folded : name ≡ fold spelled
+  pub decodes : message ≡ decoded Message said
+
+-- A line is read as a command exactly where it is that command.
+abbrev pub OneCommand : Type 0
+OneCommand =
+    (line name : List ℕ) (pairs : List Pair) (message : List ℕ)
+    → (command_of line ≡ Some (Command name pairs message)) ↔ IsCommand line name pairs message
+
+-- a line is no command
+abbrev pub IsNoCommand : List ℕ → Type 0
+IsNoCommand line = (name : List ℕ) (pairs : List Pair) (message : List ℕ) → IsCommand line name pairs message → ⊥
+
+-- a command stops commands by its message
+abbrev pub Stops : List ℕ → List ℕ → Type 0
+Stops name message = (name ≡ codes "stop-commands") × (0 < length message)
+
+-- a line is the one that ends what was stopped by a word: behind spaces and tabs `::word::`
+pub record Resumes (word line : List ℕ) : Type 0 where
+  pub blanks : List ℕ
+  pub indented : list_all is_blank blanks ≡ true
+  pub spelled : line ≡ blanks ++ (codes "::" ++ (word ++ codes "::"))
+
+-- none of the lines does
+abbrev pub NoneResumes : List ℕ → List (List ℕ) → Type 0
+NoneResumes word lines = AllByRecursion (λ line. Resumes word line → ⊥) lines
+
+-- Lines, and what they are read as: a command or a plain line each; but from a command that stops commands to the line
+-- that resumes them, or to the end, all are plain.
+pub data AreRead : List (List ℕ) → List Line → Type 0 where
+  no_lines : AreRead [] []
+  plain_line : {line : List ℕ} {lines : List (List ℕ)} {read : List Line} → IsNoCommand line → AreRead lines read
+      → AreRead (line ∷ lines) (Plain line ∷ read)
+  command_line : {line name message : List ℕ} {pairs : List Pair} {lines : List (List ℕ)} {read : List Line}
+      → IsCommand line name pairs message → (Stops name message → ⊥) → AreRead lines read
+      → AreRead (line ∷ lines) (Command name pairs message ∷ read)
+  stopped_lines : (inner : List (List ℕ)) {line name word resuming : List ℕ} {pairs : List Pair}
+      {lines : List (List ℕ)} {read : List Line} → IsCommand line name pairs word → Stops name word
+      → NoneResumes word inner → Resumes word resuming → AreRead lines read
+      → AreRead (line ∷ (inner ++ resuming ∷ lines))
+      (Command name pairs word ∷ (map (λ text. Plain text) inner ++ Resume ∷ read))
+  stopped_to_end : (inner : List (List ℕ)) {line name word : List ℕ} {pairs : List Pair} → IsCommand line name pairs word
+      → Stops name word → NoneResumes word inner
+      → AreRead (line ∷ inner) (Command name pairs word ∷ map (λ text. Plain text) inner)
+
+-- A text is read as that and as nothing else.
+abbrev pub OneHearing : Type 0
+OneHearing = (text : List ℕ) (read : List Line) → (commands text ≡ read) ↔ AreRead (lines_of text) read

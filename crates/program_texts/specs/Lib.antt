@@ -1,0 +1,11 @@
+pub mod Blocks
+pub mod CommandTexts
+pub mod Laws
+pub mod Logs
+pub mod Mask
+pub mod OutputFaults
+pub mod Outputs
+pub mod Replace
+pub mod Shell
+pub mod Shown
+pub mod Splits

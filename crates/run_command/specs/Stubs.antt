@@ -1,0 +1,58 @@
+-- The programs that stand for actions: a JSON object whose members are texts.
+use Rattle.std.specs.Prelude.{◌≡◌, ℕ, ◌⊎◌, Option, Some, None, Result, Ok, Err, List, []}
+use Rattle.serde_json.specs.Data.{Data, null, boolean, number, string, array, object, Members, no_members, member}
+use Rattle.flow_model.specs.Mapping.{with_pair}
+use Rattle.flow_model.specs.JsonText.{json_read}
+use Rattle.command_io.specs.Files.{Content}
+use Rattle.command_io.specs.Trouble.{IsContextsTrouble}
+use Rattle.command_io.specs.declared.contexts.ContextsFault.{ContextsFault}
+use Rattle.command_io.specs.declared.contexts.ContextsFault.TheVariants.{NotJson, WrongShape}
+use Rattle.command_io.specs.declared.trouble.Trouble.{Trouble}
+use Rattle.command_io.specs.declared.trouble.Trouble.TheVariants.{Memory}
+
+-- programs, each after the action that it stands for
+abbrev pub Stubs : Type 0
+Stubs = List (List ℕ × List ℕ)
+
+-- The program that stands for an action.
+abbrev pub stub_of : Data → Result (List ℕ) ContextsFault
+stub_of null = Err WrongShape
+stub_of (boolean b) = Err WrongShape
+stub_of (number n) = Err WrongShape
+stub_of (string bytes) = Ok bytes
+stub_of (array ds) = Err WrongShape
+stub_of (object ms) = Err WrongShape
+
+-- What follows a program, unless it is a fault.
+abbrev pub then_stub : Result (List ℕ) ContextsFault → (List ℕ → Result Stubs ContextsFault) → Result Stubs ContextsFault
+then_stub (Ok program) next = next program
+then_stub (Err fault) next = Err fault
+
+-- The stubs so far with those of the members; the first fault stands.
+abbrev pub stubs_with : Stubs → Members → Result Stubs ContextsFault
+stubs_with stubs no_members = Ok stubs
+stubs_with stubs (member key d ms) = then_stub (stub_of d) (λ program. stubs_with (with_pair key program stubs) ms)
+
+-- The stubs of a document.
+abbrev pub document_stubs : Data → Result Stubs ContextsFault
+document_stubs null = Err WrongShape
+document_stubs (boolean b) = Err WrongShape
+document_stubs (number n) = Err WrongShape
+document_stubs (string bytes) = Err WrongShape
+document_stubs (array ds) = Err WrongShape
+document_stubs (object ms) = stubs_with [] ms
+
+-- The same of bytes that are JSON, or not.
+abbrev pub stubs_read : Option Data → Result Stubs ContextsFault
+stubs_read None = Err NotJson
+stubs_read (Some d) = document_stubs d
+
+-- The stubs of a file.
+abbrev pub file_stubs : List ℕ → Result Stubs ContextsFault
+file_stubs bytes = stubs_read (json_read bytes)
+
+-- The stubs of a file, or why it gives none; want of memory may be answered besides.
+abbrev pub HasStubs : Content → Result Stubs Trouble → Type 0
+HasStubs file (Ok stubs) = file_stubs file.bytes ≡ Ok stubs
+HasStubs file (Err trouble) =
+    ((fault : ContextsFault) × (file_stubs file.bytes ≡ Err fault) × IsContextsTrouble file.name fault trouble) ⊎ (trouble ≡ Memory)

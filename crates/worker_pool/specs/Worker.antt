@@ -1,0 +1,30 @@
+-- What a worker keeps while it plays: its pass, and what it logs.
+use Rattle.flow_model.specs.declared.event.Answer.{Answer}
+use Rattle.flow_model.specs.declared.reply.StepCall.{StepCall}
+use Rattle.ready_queue.specs.Passes.{IsPassOf, records_of}
+use Rattle.ready_queue.specs.Records.{KeepsNames}
+use Rattle.ready_queue.specs.declared.pass.Pass.{Pass}
+use Rattle.ready_queue.specs.declared.queue.TicketQueue.{TicketQueue}
+use Rattle.worker_pool.specs.Log.{Answered, HasSameCalls}
+use Rattle.worker_pool.specs.declared.worker.Worker.{Worker}
+
+-- A pass is one of the queue, and keeps the names that it had.
+pub record KeepsPass (queue : TicketQueue) (old new : Pass) : Type 0 where
+  pub of_queue : IsPassOf queue new
+  pub names : KeepsNames (records_of old) (records_of new)
+
+module _ {N : Type 0} where
+  -- A worker is fit to play: its pass is one of the queue, and its host admits each answer for the call that it logged beside it.
+  pub record IsFit (admits : StepCall → Answer → Type 0) (queue : TicketQueue) (worker : Worker N) : Type 0 where
+    pub pass : IsPassOf queue worker.pass
+    pub answered : Answered admits worker.log.entries.items worker.log.calls.items
+
+  -- It is so still, and its pass keeps the names that it had.
+  pub record StaysFit (admits : StepCall → Answer → Type 0) (queue : TicketQueue) (old new : Worker N) : Type 0 where
+    pub fit : IsFit admits queue new
+    pub names : KeepsNames (records_of old.pass) (records_of new.pass)
+
+  -- No answer and no call more is logged, and the pass keeps the names that it had.
+  pub record LogsNoCall (queue : TicketQueue) (old new : Worker N) : Type 0 where
+    pub pass : KeepsPass queue old.pass new.pass
+    pub log : HasSameCalls old.log new.log
