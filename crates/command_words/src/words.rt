@@ -59,7 +59,14 @@ fn perform_plan<S: Source + Drop, O: Sink, E: Sink>(
         mut contexts,
         mut flows,
     } = asked;
-    plan(alloc, &choice, &mut contexts, flows.as_mut_slice(), out, err)
+    plan(
+        alloc,
+        &choice,
+        &mut contexts,
+        flows.as_mut_slice(),
+        out,
+        err,
+    )
 }
 
 /// Runs `list`.
