@@ -118,6 +118,10 @@ impl Table for FlatBoard {
         )
     }
 
+    fn lend(&self) -> &Board {
+        self.state.board()
+    }
+
     fn view(&self) -> Result<Board, AllocError> {
         self.state.board().copy(self.alloc)
     }

@@ -106,6 +106,10 @@ impl Table for PlainBoard {
         apply_event(self.alloc, plan, &mut self.board, entry.worker, entry.event)
     }
 
+    fn lend(&self) -> &Board {
+        &self.board
+    }
+
     fn view(&self) -> Result<Board, AllocError> {
         self.board.copy(self.alloc)
     }

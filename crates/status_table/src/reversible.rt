@@ -16,7 +16,7 @@ use flow_model::{Entry, Reply};
 pub trait Reversible: Table {
     /// What takes one entry back. It stands for two boards: the one
     /// that it fits, which the entry led to, and the one before it.
-    type Undo: Drop;
+    type Undo: Drop + Send;
 
     /// Whether an undo takes this board of a plan back.
     ghost fits: { Self.Undo → Plan → Board → Type 0 };

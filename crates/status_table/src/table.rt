@@ -32,6 +32,11 @@ pub trait Table {
         ensures in_play { InPlay (plan self.new) (board self.new) }
         ensures ended_stays { Stays (board self.old) (board self.new) };
 
+    /// The board, without a copy.
+    fn lend(&self) -> &Board
+        ensures board { result.now ≡ board self.now }
+        ensures in_play { InPlay (plan self.now) (board self.now) };
+
     /// A copy of the board.
     fn view(&self) -> Result<Board, AllocError>
         ensures copy { IfOk result (λ b. b ≡ board self.now) }
