@@ -1,9 +1,11 @@
 mod Accepted
 mod Agreeing
+mod Crosses
 mod Fit
 mod Fresh
 mod Grows
 mod Hands
+mod Hired
 mod Holding
 mod Keeping
 mod Legs

@@ -1,8 +1,10 @@
 -- What a worker keeps while it plays: its pass, and what it logs.
+use Rattle.std.specs.Prelude.{ℕ, ◌+◌, List, [], ◌∷◌}
 use Rattle.flow_model.specs.declared.event.Answer.{Answer}
 use Rattle.flow_model.specs.declared.reply.StepCall.{StepCall}
 use Rattle.ready_queue.specs.Passes.{IsPassOf, records_of}
-use Rattle.ready_queue.specs.Records.{KeepsNames}
+use Rattle.ready_queue.specs.Names.{Name}
+use Rattle.ready_queue.specs.Records.{KeepsNames, keepers}
 use Rattle.ready_queue.specs.declared.pass.Pass.{Pass}
 use Rattle.ready_queue.specs.declared.queue.TicketQueue.{TicketQueue}
 use Rattle.worker_pool.specs.Log.{Answered, HasSameCalls}
@@ -28,3 +30,8 @@ module _ {N : Type 0} where
   pub record LogsNoCall (queue : TicketQueue) (old new : Worker N) : Type 0 where
     pub pass : KeepsPass queue old.pass new.pass
     pub log : HasSameCalls old.log new.log
+
+  -- how many passes of some workers keep a name
+  abbrev pub crew_keepers : Name → List (Worker N) → ℕ
+  crew_keepers name [] = 0
+  crew_keepers name (w ∷ ws) = keepers name (records_of w.pass) + crew_keepers name ws

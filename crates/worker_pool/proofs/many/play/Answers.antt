@@ -1,0 +1,11 @@
+use Rattle.std.proofs.Common.{◌≡◌, sym, subst}
+use Rattle.worker_pool.specs.Many.{StopsByMany}
+use Rattle.worker_pool.proofs.Reviews.{none_played}
+use Rattle.worker_pool.proofs.many.play.Goals as goal
+
+pub returns-in-Err-clause-stopped : goal.returns-in-Err-clause-stopped
+returns-in-Err-clause-stopped g c =
+    let p = c.args.plan.now in
+    let admits = g.H.StepHost.admits c.args.host.now in
+    subst (StopsByMany admits (g.H.StepHost.declines c.args.host.now) p c.args.workers) (sym c.after.ensures)
+    (none_played admits p c.args.workers c.new.result.items c.new.ensures.items)

@@ -1,0 +1,264 @@
+//! Several workers play a plan to its end.
+
+ghost use Rattle.std.specs.Prelude.{◌≡◌, ◌≤◌, [], Err, IfOk, IfErr, IfSome, vec_len, vec_capacity};
+ghost use Rattle.std.specs.List.{All};
+ghost use Rattle.ready_queue.specs.Passes.{IsPassOf, records_of};
+ghost use Rattle.ready_queue.specs.Records.{IsWhole};
+ghost use Rattle.status_table.specs.Runs.{new_board};
+ghost use Rattle.worker_pool.specs.Log.{HaltsFor};
+ghost use Rattle.worker_pool.specs.Many.{AreNoWorkers, EndsByMany, StopsByMany};
+ghost use Rattle.worker_pool.specs.Stalls.{HasNoJobGroup};
+ghost use Rattle.worker_pool.specs.Worker.{IsFit, StaysFit, crew_keepers};
+ghost use Rattle.worker_pool.specs.declared.played.Ending.TheVariants as ending;
+
+use crate::bell::Bell;
+use crate::crew::{gather, hire};
+use crate::fault::PoolFault;
+use crate::logs::Logs;
+use crate::played::Played;
+use crate::review::settle;
+use crate::stalls::stalled_only_by_groups;
+use crate::stop::Stop;
+use crate::worker::{Pool, Worker};
+use flow_model::{CheckedPlan, JobPlan, Plan};
+use locked_board::{Names, Share, SharedBoard};
+use ready_queue::{Pass, TicketQueue};
+use status_table::{PlainBoard, Reversible, Table};
+use std::alloc::{AllocError, Global};
+use std::marker::Brand;
+use std::sync::Wait;
+use std::sync::ledger::Blank;
+use std::thread;
+use std::thread::Threads;
+use step_host::StepHost;
+
+/// Has each worker play, in a thread of its own where one can be made: the list of workers is halved at each step.
+#[tactic(auto, using(crate::proofs::Hired::names_kept))]
+fn play_each<
+    N: Names + Send + Sync,
+    T: Reversible + Send + Drop,
+    R: Threads + Wait + Sync,
+    H: StepHost + Sync,
+>(rt: &R, pool: &Pool<N, T>, host: &H, workers: &mut [Worker<N>])
+    requires fit { All (IsFit (H.admits host.now) pool.now.queue) workers.old }
+    ensures fit { All (IsFit (H.admits host.now) pool.now.queue) workers.new }
+    ensures names { (name : _) → crew_keepers name workers.new ≡ crew_keepers name workers.old }
+    ensures halts { All (λ w. IfSome w.halt (HaltsFor (H.declines host.now))) workers.new }
+{
+    let threads = workers.len().max(1);
+    let each = |_: usize, worker: &mut Worker<N>|
+        requires { IsFit (H.admits host.now) pool.now.queue worker.now }
+        ensures { StaysFit (H.admits host.entry.now) pool.entry.now.queue worker.entry.now worker.exit.now
+            × IfSome worker.exit.now.halt (HaltsFor (H.declines host.entry.now)) }
+    { pool.work(rt, host, worker) };
+    thread::for_each_mut(rt, workers, threads, &each);
+}
+
+/// How many legs a plan has.
+fn count_legs(plan: &Plan) -> usize {
+    let mut count = 0usize;
+    for run in plan.runs.as_slice() {
+        count = count.saturating_add(count_legs_of(run.jobs.as_slice()));
+    }
+    count
+}
+
+/// How many legs some jobs have.
+fn count_legs_of(jobs: &[JobPlan]) -> usize {
+    let mut count = 0usize;
+    for job in jobs {
+        count = count.saturating_add(job.legs.len());
+    }
+    count
+}
+
+/// What a play begins with: what its workers have in common and their shares, the first pass, and room for the workers and for
+/// what they log.
+struct Start<N: Names, T: Reversible + Send> {
+    pool: Pool<N, T>,
+    shares: Vec<Share<N>>,
+    pass: Pass,
+    crew: Vec<Worker<N>>,
+    logs: Logs,
+}
+
+/// Takes all memory that is needed before the workers begin.
+#[tactic(auto, using(crate::proofs::Hired::hands_dealt))]
+fn prepare<N: Names, T: Reversible + Send + Drop>(
+    alloc: Global,
+    table: T,
+    legs: usize,
+    blank: Blank,
+    workers: u8,
+) -> Result<Start<N, T>, AllocError>
+    requires fresh { T.board table ≡ new_board (T.plan table) }
+    requires name { blank.name ≡ N.name }
+    requires parts { (blank.parts ≡ N.parts) × (blank.parts ≡ workers) }
+    requires number { (1 ≤ workers) × (workers ≤ 16) }
+    ensures shares { IfOk result (λ made. vec_len made.shares ≡ workers) }
+    ensures pass { IfOk result (λ made. IsPassOf made.pool.queue made.pass) }
+    ensures whole { IfOk result (λ made. IsWhole (records_of made.pass)) }
+    ensures crew { IfOk result (λ made. (made.crew.items ≡ []) × (workers ≤ vec_capacity made.crew)) }
+    ensures entries { IfOk result (λ made. (made.logs.entries.items ≡ []) × (workers ≤ vec_capacity made.logs.entries)) }
+    ensures calls { IfOk result (λ made. (made.logs.calls.items ≡ []) × (workers ≤ vec_capacity made.logs.calls)) }
+{
+    let count = usize::from(workers);
+    let (queue, pass) = TicketQueue::new(alloc, legs.max(1))?;
+    let logs = Logs::with_room(alloc, count)?;
+    let crew = Vec::with_capacity(alloc, count)?;
+    match SharedBoard::new(alloc, table, blank, workers) {
+        Ok((board, shares)) => {
+            let bell = Bell::new();
+            let pool = Pool {
+                board,
+                queue,
+                bell,
+                alloc,
+            };
+            Ok(Start {
+                pool,
+                shares,
+                pass,
+                crew,
+                logs,
+            })
+        },
+        Err(fault) => {
+            crew.destroy_empty();
+            Err(fault)
+        },
+    }
+}
+
+/// Plays by so many workers on a table that they share. The other table plays their history again.
+fn play_start<
+    N: Names + Send + Sync,
+    T: Reversible + Send + Drop,
+    V: Table + Drop,
+    R: Threads + Wait + Sync,
+    H: StepHost + Sync,
+>(rt: &R, start: Start<N, T>, again: V, host: &H, workers: u8) -> Result<Played, PoolFault>
+    requires fresh { V.board again ≡ new_board (V.plan again) }
+    requires number { (1 ≤ workers) × (workers ≤ 16) }
+    requires parts { N.parts ≡ workers }
+    requires shares { vec_len start.shares ≡ workers }
+    requires pass { IsPassOf start.pool.queue start.pass }
+    requires whole { IsWhole (records_of start.pass) }
+    requires crew { (start.crew.items ≡ []) × (workers ≤ vec_capacity start.crew) }
+    requires entries { (start.logs.entries.items ≡ []) × (workers ≤ vec_capacity start.logs.entries) }
+    requires calls { (start.logs.calls.items ≡ []) × (workers ≤ vec_capacity start.logs.calls) }
+    ensures played { IfOk result (EndsByMany (H.admits host.now) (V.plan again) workers) }
+    ensures stopped { IfErr result
+        (StopsByMany (H.admits host.now) (H.declines host.now) (V.plan again) workers) }
+{
+    let Start {
+        pool,
+        mut shares,
+        pass,
+        mut crew,
+        mut logs,
+    } = start;
+    let alloc = pool.alloc;
+    let rest = hire(alloc, host, &pool.queue, pass, &mut shares, &mut crew);
+    play_each(rt, &pool, host, crew.as_mut_slice());
+    let (pass, halt) = gather(host, &pool.queue, rest, crew, &mut shares, &mut logs);
+    let Pool { board, queue, .. } = pool;
+    let tickets = queue.close(pass);
+    let (_, history) = board.close(shares);
+    settle(
+        alloc,
+        again,
+        host,
+        workers,
+        history,
+        &logs,
+        &halt,
+        tickets.put,
+    )
+}
+
+/// Plays by so many workers, whose shares are of the ledger that the type names, on a table that they share. The other table plays
+/// their history again.
+fn play_named<
+    N: Names + Send + Sync,
+    T: Reversible + Send + Drop,
+    R: Threads + Wait + Sync,
+    H: StepHost + Sync,
+>(
+    rt: &R,
+    alloc: Global,
+    tables: (T, T),
+    legs: usize,
+    host: &H,
+    blank: Blank,
+    workers: u8,
+) -> Result<Result<Played, PoolFault>, AllocError>
+    requires fresh { T.board tables.0 ≡ new_board (T.plan tables.0) }
+    requires again { T.board tables.1 ≡ new_board (T.plan tables.1) }
+    requires name { blank.name ≡ N.name }
+    requires parts { (blank.parts ≡ N.parts) × (blank.parts ≡ workers) }
+    requires number { (1 ≤ workers) × (workers ≤ 16) }
+    ensures played { IfOk result (λ come. IfOk come
+        (EndsByMany (H.admits host.now) (T.plan tables.1) workers)) }
+    ensures stopped { IfOk result (λ come. IfErr come
+        (StopsByMany (H.admits host.now) (H.declines host.now) (T.plan tables.1) workers)) }
+{
+    let (table, again) = tables;
+    let start = prepare::<N, T>(alloc, table, legs, blank, workers)?;
+    Ok(play_start(rt, start, again, host, workers))
+}
+
+/// Plays a plan by so many workers, each in a thread of its own where one can be made.
+fn play_counted<R: Threads + Wait + Sync, H: StepHost + Sync>(
+    rt: &R,
+    alloc: Global,
+    plan: &CheckedPlan,
+    host: &H,
+    workers: u8,
+) -> Result<Result<Played, PoolFault>, AllocError>
+    requires number { (1 ≤ workers) × (workers ≤ 16) }
+    ensures played { IfOk result (λ come. IfOk come (EndsByMany (H.admits host.now) plan.now workers)) }
+    ensures stopped { IfOk result (λ come. IfErr come
+        (StopsByMany (H.admits host.now) (H.declines host.now) plan.now workers)) }
+{
+    let tables = (PlainBoard::new(alloc, plan)?, PlainBoard::new(alloc, plan)?);
+    let legs = count_legs(plan.plan());
+    let blank = Blank::new(u64::from(workers));
+    play_named::<Brand, PlainBoard, R, H>(rt, alloc, tables, legs, host, blank, workers)
+}
+
+/// Plays a plan by 1 to 16 workers, each in a thread of its own where one can be made. Each posts what a clerk may, and else takes a
+/// leg that may be taken and plays it to its Finish with the host's answers, of which it may be asked for several at once. At
+/// the end the history is played again on a board of the plan on which all is new, and held against what each worker logged.
+/// A plan without job groups never stalls.
+///
+/// # Errors
+///
+/// `PoolFault::Workers` where there are no workers or more than 16; `PoolFault::Host` where the host has no answer to a call, with
+/// the leg that is in it and its step; `PoolFault::Mismatch` where the history is not what the workers logged, or not one of the
+/// plan; `PoolFault::Memory`. All but the first carry what was played until then, as far as it was checked.
+pub fn play<R: Threads + Wait + Sync, H: StepHost + Sync>(
+    rt: &R,
+    alloc: Global,
+    plan: &CheckedPlan,
+    host: &H,
+    workers: u64,
+) -> Result<Played, PoolFault>
+    ensures number { AreNoWorkers workers → result ≡ Err PoolFault.Workers }
+    ensures played { IfOk result (EndsByMany (H.admits host.now) plan.now workers) }
+    ensures stopped { IfErr result
+        (StopsByMany (H.admits host.now) (H.declines host.now) plan.now workers) }
+    ensures groups { HasNoJobGroup plan.now
+        → IfOk result (λ played. played.ending ≡ ending.Done) }
+{
+    if workers == 0 || workers > 16 {
+        return Err(PoolFault::Workers);
+    }
+    stalled_only_by_groups();
+    // The plan says that it breaks no rule.
+    let _ = plan.plan();
+    match play_counted(rt, alloc, plan, host, workers as u8) {
+        Ok(come) => come,
+        Err(_) => Err(Stop::Memory.after(Vec::new(alloc))),
+    }
+}
