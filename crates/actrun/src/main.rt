@@ -8,6 +8,8 @@ use command_words::words::run_line;
 use run_command::machine::Machine;
 use std::fs::File;
 use std::process::ExitCode;
+use std::sync::Wait;
+use std::thread::Threads;
 use std::{env, io};
 
 /// The files and programs of the machine.
@@ -16,7 +18,7 @@ struct Disk<'a, F> {
     files: &'a F,
 }
 
-impl<F: Machine> Folder for Disk<'_, F> {
+impl<F: Machine + Threads + Wait + Sync> Folder for Disk<'_, F> {
     type File = Input<F::File>;
 
     type Machine = F;

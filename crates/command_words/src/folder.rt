@@ -2,6 +2,8 @@
 
 use command_io::stream::Source;
 use run_command::machine::Machine;
+use std::sync::Wait;
+use std::thread::Threads;
 
 /// Where the files are that words name.
 pub trait Folder {
@@ -9,7 +11,7 @@ pub trait Folder {
     type File: Source + Drop;
 
     /// Where programs run.
-    type Machine: Machine;
+    type Machine: Machine + Threads + Wait + Sync;
 
     /// Opens the file of that name, where that can be done.
     fn open(&self, name: &str) -> Option<Self::File>;

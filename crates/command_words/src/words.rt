@@ -25,6 +25,8 @@ use std::alloc::Global;
 use std::env::Args;
 use std::io;
 use std::io::ErrorKind;
+use std::sync::Wait;
+use std::thread::Threads;
 
 /// Runs `eval`.
 fn perform_eval<S: Source + Drop, O: Sink, E: Sink>(
@@ -96,7 +98,7 @@ fn perform_replay<S: Source + Drop, O: Sink, E: Sink>(
 }
 
 /// Runs `run`.
-fn perform_run<M: Machine, S: Source + Drop, O: Sink, E: Sink>(
+fn perform_run<M: Machine + Threads + Wait + Sync, S: Source + Drop, O: Sink, E: Sink>(
     alloc: Global,
     machine: &M,
     asked: AskedRun<'_, S>,
@@ -129,7 +131,7 @@ fn perform_debug<S: Source + Drop, I: Source, O: Sink, E: Sink>(
 }
 
 /// Runs the command that is asked for.
-fn perform<M: Machine, S: Source + Drop, I: Source, O: Sink, E: Sink>(
+fn perform<M: Machine + Threads + Wait + Sync, S: Source + Drop, I: Source, O: Sink, E: Sink>(
     alloc: Global,
     machine: &M,
     asked: Asked<'_, S>,

@@ -1,5 +1,5 @@
--- What one thread played is what a run tells of, and logs are told one after the other.
-use Rattle.std.proofs.Common.{◌≡◌, List}
+-- What one thread or several workers played is what a run tells of.
+use Rattle.std.proofs.Common.{◌≡◌, ℕ, List, subst, sym, arith}
 use Rattle.flow_model.specs.declared.event.Answer.{Answer}
 use Rattle.flow_model.specs.declared.event.Entry.{Entry}
 use Rattle.flow_model.specs.declared.plan.Plan.{Plan}
@@ -7,22 +7,48 @@ use Rattle.flow_model.specs.declared.reply.StepCall.{StepCall}
 use Rattle.step_host.specs.declared.fault.HostFault.TheVariants as host_fault
 use Rattle.worker_pool.specs.Alone.{EndsAlone, PlayedAlone}
 use Rattle.worker_pool.specs.Fault.{StopsAlone}
+use Rattle.worker_pool.specs.History.{AreOf}
+use Rattle.worker_pool.specs.Many.{AreBelow, EndsByMany, PlayedByMany, StopsByMany}
 use Rattle.worker_pool.specs.declared.fault.PoolFault.{PoolFault}
 use Rattle.worker_pool.specs.declared.fault.PoolFault.TheVariants as pool
 use Rattle.worker_pool.specs.declared.played.Played.{Played}
 use Rattle.run_command.specs.Playing.{IsPlayed, StopsPlayed}
 
-pub alone_is_played : (admits : StepCall → Answer → Type 0) (p : Plan) (es : List Entry) → PlayedAlone admits p es → IsPlayed p es
+below_one : (es : List Entry) → AreOf 0 es → AreBelow 1 es
+below_one es of_zero i e there = let zero = of_zero i e there in omega (arith, zero)
+
+alone_is_played : (admits : StepCall → Answer → Type 0) (p : Plan) (es : List Entry) → PlayedAlone admits p es → IsPlayed p 1 es
 alone_is_played admits p es h =
-    record { board = h.lawful.legal.0; leads = h.lawful.legal.1; worker = h.worker; uncancelled = h.uncancelled }
+    record { board = h.lawful.legal.0; leads = h.lawful.legal.1; of_them = below_one es h.worker; uncancelled = h.uncancelled }
 
-pub ended_is_played : (admits : StepCall → Answer → Type 0) (p : Plan) (played : Played) → EndsAlone admits p played → IsPlayed p played.history
-ended_is_played admits p played h = alone_is_played admits p played.history h.history
+pub ended_is_played : (admits : StepCall → Answer → Type 0) (p : Plan) (workers : ℕ) (played : Played) → workers ≡ 1
+    → EndsAlone admits p played → IsPlayed p workers played.history
+ended_is_played admits p workers played one h = subst (λ n. IsPlayed p n played.history) (sym one) (alone_is_played admits p played.history h.history)
 
-pub stopped_is_played : (admits : StepCall → Answer → Type 0) (declines : StepCall → Type 0) (p : Plan) (fault : PoolFault)
-    → StopsAlone admits declines p fault → StopsPlayed p fault
-stopped_is_played admits declines p pool.Workers h = tt
-stopped_is_played admits declines p (pool.Host l step host_fault.NoAnswer es) h = alone_is_played admits p es h.0
-stopped_is_played admits declines p (pool.Host l step host_fault.Memory es) h = absurd h
-stopped_is_played admits declines p (pool.Mismatch es) h = absurd h
-stopped_is_played admits declines p (pool.Memory es) h = alone_is_played admits p es h
+stopped_alone : (admits : StepCall → Answer → Type 0) (declines : StepCall → Type 0) (p : Plan) (fault : PoolFault)
+    → StopsAlone admits declines p fault → StopsPlayed p 1 fault
+stopped_alone admits declines p pool.Workers h = absurd h
+stopped_alone admits declines p (pool.Host l step host_fault.NoAnswer es) h = alone_is_played admits p es h.0
+stopped_alone admits declines p (pool.Host l step host_fault.Memory es) h = absurd h
+stopped_alone admits declines p (pool.Mismatch es) h = absurd h
+stopped_alone admits declines p (pool.Memory es) h = alone_is_played admits p es h
+
+pub stopped_is_played : (admits : StepCall → Answer → Type 0) (declines : StepCall → Type 0) (p : Plan) (workers : ℕ) (fault : PoolFault) → workers ≡ 1
+    → StopsAlone admits declines p fault → StopsPlayed p workers fault
+stopped_is_played admits declines p workers fault one h = subst (λ n. StopsPlayed p n fault) (sym one) (stopped_alone admits declines p fault h)
+
+by_many : (admits : StepCall → Answer → Type 0) (p : Plan) (workers : ℕ) (es : List Entry) → PlayedByMany admits p workers es → IsPlayed p workers es
+by_many admits p workers es h =
+    record { board = h.lawful.legal.0; leads = h.lawful.legal.1; of_them = h.of_them; uncancelled = h.uncancelled }
+
+pub many_are_played : (admits : StepCall → Answer → Type 0) (p : Plan) (workers : ℕ) (played : Played)
+    → EndsByMany admits p workers played → IsPlayed p workers played.history
+many_are_played admits p workers played h = by_many admits p workers played.history h.history
+
+pub many_stopped : (admits : StepCall → Answer → Type 0) (declines : StepCall → Type 0) (p : Plan) (workers : ℕ) (fault : PoolFault)
+    → StopsByMany admits declines p workers fault → StopsPlayed p workers fault
+many_stopped admits declines p workers pool.Workers h = h
+many_stopped admits declines p workers (pool.Host l step host_fault.NoAnswer es) h = by_many admits p workers es h.0
+many_stopped admits declines p workers (pool.Host l step host_fault.Memory es) h = absurd h
+many_stopped admits declines p workers (pool.Mismatch es) h = by_many admits p workers es h
+many_stopped admits declines p workers (pool.Memory es) h = by_many admits p workers es h

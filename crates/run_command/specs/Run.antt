@@ -16,6 +16,7 @@ use Rattle.run_command.specs.Playing.{IsPlayed}
 use Rattle.run_command.specs.RunLines.{run_lines}
 use Rattle.run_command.specs.StepLogs.{ShowsLogs}
 use Rattle.status_table.specs.Runs.{after}
+use Rattle.worker_pool.specs.Many.{AreNoWorkers}
 
 -- ---- the text of a history
 
@@ -66,37 +67,37 @@ abbrev pub TellsPlaying : Plan → List Entry → Option Stop → Stream → Str
 TellsPlaying plan history stop out out' err err' status =
     TellsHistory plan history stop out out' err err' status ⊎ TellsSome out out' err err' status
 
--- What is told of some play of a plan.
-pub record TellsPlay (plan : Plan) (out out' err err' : Stream) (status : ℕ) : Type 0 where
+-- What is told of some play of a plan by so many workers.
+pub record TellsPlay (plan : Plan) (workers : ℕ) (out out' err err' : Stream) (status : ℕ) : Type 0 where
   pub history : List Entry
   pub stop : Option Stop
-  pub played : IsPlayed plan history
+  pub played : IsPlayed plan workers history
   pub told : TellsHistory plan history stop out out' err err' status
 
 -- Nothing is played, since there are not so many workers.
-abbrev pub TellsWorkers : Stream → Stream → Stream → Stream → ℕ → Type 0
-TellsWorkers out out' err err' status = IsKept out out' × SaysStop Workers err err' status
+abbrev pub TellsWorkers : ℕ → Stream → Stream → Stream → Stream → ℕ → Type 0
+TellsWorkers workers out out' err err' status = AreNoWorkers workers × IsKept out out' × SaysStop Workers err err' status
 
 -- What `run` tells of a plan.
-abbrev pub RunsPlan : Plan → Stream → Stream → Stream → Stream → ℕ → Type 0
-RunsPlan plan out out' err err' status =
-    TellsPlay plan out out' err err' status ⊎ (TellsWorkers out out' err err' status ⊎ TellsSome out out' err err' status)
+abbrev pub RunsPlan : Plan → ℕ → Stream → Stream → Stream → Stream → ℕ → Type 0
+RunsPlan plan workers out out' err err' status =
+    TellsPlay plan workers out out' err err' status ⊎ (TellsWorkers workers out out' err err' status ⊎ TellsSome out out' err err' status)
 
 -- The bytes load as a plan, of which this is told.
-pub record RunsLoaded (bytes : List ℕ) (out out' err err' : Stream) (status : ℕ) : Type 0 where
+pub record RunsLoaded (bytes : List ℕ) (workers : ℕ) (out out' err err' : Stream) (status : ℕ) : Type 0 where
   pub plan : Plan
   pub loads : load bytes ≡ Ok plan
-  pub runs : RunsPlan plan out out' err err' status
+  pub runs : RunsPlan plan workers out out' err err' status
 
 -- The same, or a trouble with the texts.
-abbrev pub RunsText : List ℕ → Stream → Stream → Stream → Stream → ℕ → Type 0
-RunsText bytes out out' err err' status = RunsLoaded bytes out out' err err' status ⊎ TellsSome out out' err err' status
+abbrev pub RunsText : List ℕ → ℕ → Stream → Stream → Stream → Stream → ℕ → Type 0
+RunsText bytes workers out out' err err' status = RunsLoaded bytes workers out out' err err' status ⊎ TellsSome out out' err err' status
 
 -- An input was read to its end, and this is what it held.
 pub record HasRead (input input' : Stream) (bytes : List ℕ) : Type 0 where
   pub read : IsRead input input' (Ok bytes)
 
--- What `run` leaves: it reads the plan to its end, and tells of it; or it tells a trouble.
-abbrev pub RunTells : Stream → Stream → Stream → Stream → Stream → Stream → ℕ → Type 0
-RunTells input input' out out' err err' status =
-    ((bytes : List ℕ) × HasRead input input' bytes × RunsText bytes out out' err err' status) ⊎ TellsSome out out' err err' status
+-- What `run` leaves, by so many workers: it reads the plan to its end, and tells of it; or it tells a trouble.
+abbrev pub RunTells : ℕ → Stream → Stream → Stream → Stream → Stream → Stream → ℕ → Type 0
+RunTells workers input input' out out' err err' status =
+    ((bytes : List ℕ) × HasRead input input' bytes × RunsText bytes workers out out' err err' status) ⊎ TellsSome out out' err err' status

@@ -1,14 +1,16 @@
 //! What is played of a plan.
 
-ghost use Rattle.std.specs.Prelude.{◌≡◌, IfErr, IfOk, IfSome};
+ghost use Rattle.std.specs.Prelude.{◌≡◌, ℕ, IfErr, IfOk};
 ghost use Rattle.flow_model.specs.declared.plan.Plan.{Plan};
 ghost use Rattle.run_command.specs.Playing as spec;
 
 use command_io::stop::Stop;
 use flow_model::{CheckedPlan, Entry, Sequence};
 use std::alloc::Global;
+use std::sync::Wait;
+use std::thread::Threads;
 use step_host::StepHost;
-use worker_pool::{Played, PoolFault, play_alone};
+use worker_pool::{Played, PoolFault, play, play_alone};
 
 /// What was played of a plan, and why it was stopped, if it was.
 #[derive(Drop)]
@@ -17,27 +19,28 @@ pub(crate) struct Playing {
     pub(crate) stop: Option<Stop>,
 }
 
-/// Plays a plan by so many workers. So far only one thread plays.
-#[tactic(auto, using(crate::proofs::Played::ended_is_played, crate::proofs::Played::stopped_is_played))]
-fn play_by<H: StepHost>(
+/// Plays a plan by so many workers. One plays in the thread of the program, so that the same answers make the same history.
+#[tactic(auto, using(crate::proofs::Played::ended_is_played, crate::proofs::Played::stopped_is_played, crate::proofs::Played::many_are_played, crate::proofs::Played::many_stopped))]
+fn play_by<R: Threads + Wait + Sync, H: StepHost>(
+    rt: &R,
     alloc: Global,
     plan: &CheckedPlan,
     host: &H,
     workers: u64,
 ) -> Result<Played, PoolFault>
-    ensures played { IfOk result (λ played. spec.IsPlayed plan.now played.history) }
-    ensures stopped { IfErr result (spec.StopsPlayed plan.now) }
+    ensures played { IfOk result (λ played. spec.IsPlayed plan.now workers played.history) }
+    ensures stopped { IfErr result (spec.StopsPlayed plan.now workers) }
 {
-    if workers != 1 {
-        return Err(PoolFault::Workers);
+    if workers == 1 {
+        return play_alone(alloc, plan, host);
     }
-    play_alone(alloc, plan, host)
+    play(rt, alloc, plan, host, workers)
 }
 
 /// What was played until a play was stopped, if there were so many workers.
 fn stopped(fault: PoolFault) -> Option<Playing>
-    ensures { (plan : Plan) → spec.StopsPlayed plan fault
-        → IfSome result (λ playing. spec.IsPlayed plan playing.history) }
+    ensures { (plan : Plan) (workers : ℕ) → spec.StopsPlayed plan workers fault
+        → spec.ComesTo plan workers result }
 {
     match fault {
         PoolFault::Workers => None,
@@ -57,15 +60,16 @@ fn stopped(fault: PoolFault) -> Option<Playing>
 }
 
 /// What is played of a plan by so many workers, if there are so many.
-pub(crate) fn played_by<H: StepHost>(
+pub(crate) fn played_by<R: Threads + Wait + Sync, H: StepHost>(
+    rt: &R,
     alloc: Global,
     plan: &CheckedPlan,
     host: &H,
     workers: u64,
 ) -> Option<Playing>
-    ensures { IfSome result (λ playing. spec.IsPlayed plan.now playing.history) }
+    ensures { spec.ComesTo plan.now workers result }
 {
-    match play_by(alloc, plan, host, workers) {
+    match play_by(rt, alloc, plan, host, workers) {
         Ok(played) => Some(Playing {
             history: played.history,
             stop: None,
