@@ -1,11 +1,14 @@
 //! The cases of a file: their marks are read, each is played, and what differs is told.
 
+use crate::page::parted;
 use crate::streams::Limits;
 use crate::verbs::{Asked, CONTEXTS, Files, Found, perform};
 use run_command::machine::Machine;
 use std::alloc::{AllocError, Global};
 use std::collections::BTreeMap;
 use std::io::Write;
+use std::sync::Wait;
+use std::thread::Threads;
 use std::{io, str};
 
 /// How many cases agree, and how many differ.
@@ -15,38 +18,12 @@ pub struct Told {
     pub differ: u64,
 }
 
-impl Told {
-    /// Of no cases.
-    pub fn none() -> Told {
-        Told {
-            agree: 0,
-            differ: 0,
-        }
-    }
-
-    /// Of one case.
-    fn one(agrees: bool) -> Told {
-        Told {
-            agree: u64::from(agrees),
-            differ: u64::from(!agrees),
-        }
-    }
-
-    /// Both together.
-    pub fn and(self, other: Told) -> Told {
-        Told {
-            agree: self.agree.saturating_add(other.agree),
-            differ: self.differ.saturating_add(other.differ),
-        }
-    }
-}
-
 /// What the text of a line is.
-#[derive(Clone, Copy, PartialEq, Eq)]
+#[derive(Clone, Copy)]
 enum Kind {
     Prose,
     Name,
-    Word,
+    Words,
     Verb,
     File,
     FileName,
@@ -57,20 +34,20 @@ enum Kind {
     Named,
 }
 
-/// What a mark begins.
-fn kind_of(mark: &str) -> Kind {
-    match mark.as_bytes() {
-        b"#" => Kind::Name,
-        b"$" => Kind::Word,
-        b"?" => Kind::Verb,
-        b"|" => Kind::File,
-        b"/" => Kind::FileName,
-        b"<" => Kind::Input,
-        b">" => Kind::Out,
-        b"!" => Kind::Err,
-        b"=" => Kind::Status,
-        b":" => Kind::Named,
-        _ => Kind::Prose,
+/// What a mark begins, and whether its text is a line.
+fn kind_of(mark: &str) -> (Kind, bool) {
+    match mark {
+        "#" => (Kind::Name, false),
+        "$" => (Kind::Words, false),
+        "?" => (Kind::Verb, false),
+        "|" => (Kind::File, true),
+        "/" => (Kind::FileName, false),
+        "<" => (Kind::Input, true),
+        ">" => (Kind::Out, true),
+        "!" => (Kind::Err, true),
+        "=" => (Kind::Status, false),
+        ":" => (Kind::Named, false),
+        _ => (Kind::Prose, false),
     }
 }
 
@@ -78,7 +55,8 @@ fn kind_of(mark: &str) -> Kind {
 #[derive(Drop)]
 struct Case {
     name: Vec<u8>,
-    words: Vec<Vec<u8>>,
+    /// The words, of which the first names the program, or none.
+    words: Vec<String>,
     /// Whether the words are those of a verb of this program.
     is_verb: bool,
     files: Files,
@@ -88,50 +66,22 @@ struct Case {
     input: Vec<u8>,
     out: Vec<u8>,
     err: Vec<u8>,
-    status: Vec<u8>,
+    status: u8,
     limits: Limits,
     texts: Files,
     /// The text of the line that is being read, what it is, and what stands behind the place of an edit.
     kind: Kind,
     text: Vec<u8>,
     behind: Vec<u8>,
+    /// Whether a newline ends it.
     is_ended: bool,
 }
 
 /// Adds the text of that name.
-fn add_named(texts: &Files, name: &str, text: &mut Vec<u8>) -> Result<(), AllocError> {
+fn add_named(text: &mut Vec<u8>, texts: &Files, name: &str) -> Result<(), AllocError> {
     match texts.get(name) {
         Some(named) => text.extend_from_slice(named.as_slice()),
         None => text.extend_from_slice(b"(no such text)"),
-    }
-}
-
-/// Adds a text, and a newline where it has one.
-fn add_line(lines: &mut Vec<u8>, text: &[u8], is_ended: bool) -> Result<(), AllocError> {
-    lines.extend_from_slice(text)?;
-    if is_ended {
-        lines.push(b'\n')?;
-    }
-    Ok(())
-}
-
-/// A file of that name, of no bytes.
-fn begin_file(files: &mut Files, alloc: Global, name: &str) -> Result<(), AllocError> {
-    let name = String::from_str(alloc, name)?;
-    drop(files.insert(name, Vec::new(alloc))?);
-    Ok(())
-}
-
-/// Adds a line to the file of that name.
-fn add_file_line(
-    files: &mut Files,
-    name: &str,
-    text: &[u8],
-    is_ended: bool,
-) -> Result<(), AllocError> {
-    match files.get_mut(name) {
-        Some(file) => add_line(file, text, is_ended),
-        None => Ok(()),
     }
 }
 
@@ -143,55 +93,37 @@ fn add_times(text: &mut Vec<u8>, part: &[u8], count: &str) -> Result<(), AllocEr
     Ok(())
 }
 
-/// Adds a text so many times, of which the number and the text stand in a line.
-fn add_repeated(text: &mut Vec<u8>, line: &str) -> Result<(), AllocError> {
-    let (count, part) = line.split_once(' ').unwrap_or((line, ""));
-    add_times(text, part.as_bytes(), count)
-}
-
-/// Adds the byte that a hexadecimal word names, as often as stands behind a star.
-fn add_byte(text: &mut Vec<u8>, word: &str) -> Result<(), AllocError> {
-    let (byte, count) = word.split_once('*').unwrap_or((word, "1"));
-    let byte = u8::from_str_radix(byte, 16).unwrap_or(b'?');
-    add_times(text, &[byte], count)
-}
-
-/// Adds the bytes that words name.
+/// Adds the bytes that hexadecimal words name, each as often as stands behind its star.
 fn add_bytes(text: &mut Vec<u8>, line: &str) -> Result<(), AllocError> {
     for word in line.split_whitespace() {
-        add_byte(text, word)?;
+        let (byte, count) = word.split_once('*').unwrap_or((word, "1"));
+        let byte = u8::from_str_radix(byte, 16).unwrap_or(b'?');
+        add_times(text, &[byte], count)?;
     }
     Ok(())
 }
 
-/// Keeps a text by its name, its first word.
-fn keep(texts: &mut Files, alloc: Global, line: &[u8]) -> Result<(), AllocError> {
-    let line = str::from_utf8(line).unwrap_or("");
-    let (name, text) = line.split_once(' ').unwrap_or((line, ""));
-    begin_file(texts, alloc, name)?;
-    add_file_line(texts, name, text.as_bytes(), false)
-}
-
-/// Writes parts one after the other.
-fn put_all<O: Write>(out: &mut O, parts: &[&[u8]]) -> io::Result<()> {
-    for part in parts {
-        out.write_all(part)?;
-    }
+/// Keeps a text by its name, in the place of what had the name.
+fn keep(files: &mut Files, alloc: Global, name: &str, text: &[u8]) -> Result<(), AllocError> {
+    let text = Vec::from_slice(alloc, text)?;
+    let name = String::from_str(alloc, name)?;
+    drop(files.insert(name, text)?);
     Ok(())
 }
 
 /// Adds a word.
-fn add_word(words: &mut Vec<Vec<u8>>, alloc: Global, word: &[u8]) -> Result<(), AllocError> {
-    let word = Vec::from_slice(alloc, word)?;
+fn add_word(words: &mut Vec<String>, alloc: Global, word: &str) -> Result<(), AllocError> {
+    let word = String::from_str(alloc, word)?;
     Ok(words.push(word)?)
 }
 
 /// Adds the words of a line: the first line is parted at its spaces, a further one is one word.
-fn add_words(words: &mut Vec<Vec<u8>>, alloc: Global, line: &[u8]) -> Result<(), AllocError> {
+fn add_words(words: &mut Vec<String>, alloc: Global, line: &str) -> Result<(), AllocError> {
     if !words.is_empty() {
         return add_word(words, alloc, line);
     }
-    for word in line.split(|byte| *byte == b' ') {
+    add_word(words, alloc, "actrun")?;
+    for word in line.split(' ') {
         if !word.is_empty() {
             add_word(words, alloc, word)?;
         }
@@ -212,13 +144,13 @@ impl Case {
             input: Vec::new(alloc),
             out: Vec::new(alloc),
             err: Vec::new(alloc),
-            status: Vec::new(alloc),
+            status: 0,
             limits: Limits::none(),
             texts: BTreeMap::new(alloc),
             kind: Kind::Prose,
             text: Vec::new(alloc),
             behind: Vec::new(alloc),
-            is_ended: true,
+            is_ended: false,
         }
     }
 
@@ -231,42 +163,44 @@ impl Case {
         self.input.clear();
         self.out.clear();
         self.err.clear();
-        self.status.clear();
+        self.status = 0;
         self.limits = Limits::none();
         self.file_name.push_str(CONTEXTS)
     }
 
     /// Whether something is asked or wanted.
     fn is_asked(&self) -> bool {
-        !self.words.is_empty()
-            || !self.out.is_empty()
-            || !self.err.is_empty()
-            || !self.status.is_empty()
-    }
-
-    /// Takes the text of the line that was read.
-    fn finish(&mut self, alloc: Global) -> Result<(), AllocError> {
-        self.text.extend_from_slice(self.behind.as_slice())?;
-        self.behind.clear();
-        self.take_text(alloc)?;
-        self.text.clear();
-        Ok(())
+        !self.words.is_empty() || !self.out.is_empty() || !self.err.is_empty() || self.status != 0
     }
 
     /// Takes the text for what it is.
     fn take_text(&mut self, alloc: Global) -> Result<(), AllocError> {
         let text = self.text.as_slice();
+        let line = str::from_utf8(text).unwrap_or("");
         match self.kind {
             Kind::Prose => Ok(()),
-            Kind::Name => add_line(&mut self.name, text, false),
-            Kind::Word | Kind::Verb => add_words(&mut self.words, alloc, text),
+            Kind::Name => {
+                self.name.clear();
+                self.name.extend_from_slice(text)
+            },
+            Kind::Words => add_words(&mut self.words, alloc, line),
+            Kind::Verb => {
+                self.is_verb = true;
+                add_words(&mut self.words, alloc, line)
+            },
             Kind::File => self.take_file_line(alloc),
             Kind::FileName => self.take_file_name(alloc),
-            Kind::Input => add_line(&mut self.input, text, self.is_ended),
-            Kind::Out => add_line(&mut self.out, text, self.is_ended),
-            Kind::Err => add_line(&mut self.err, text, self.is_ended),
-            Kind::Status => add_line(&mut self.status, text, false),
-            Kind::Named => keep(&mut self.texts, alloc, text),
+            Kind::Input => self.input.extend_from_slice(text),
+            Kind::Out => self.out.extend_from_slice(text),
+            Kind::Err => self.err.extend_from_slice(text),
+            Kind::Status => {
+                self.status = line.parse::<u8>().unwrap_or(u8::MAX);
+                Ok(())
+            },
+            Kind::Named => {
+                let (name, named) = parted(line);
+                keep(&mut self.texts, alloc, name, named.as_bytes())
+            },
         }
     }
 
@@ -274,10 +208,13 @@ impl Case {
     fn take_file_line(&mut self, alloc: Global) -> Result<(), AllocError> {
         let name = self.file_name.as_str();
         if self.is_file_old {
-            begin_file(&mut self.files, alloc, name)?;
+            keep(&mut self.files, alloc, name, b"")?;
         }
         self.is_file_old = false;
-        add_file_line(&mut self.files, name, self.text.as_slice(), self.is_ended)
+        match self.files.get_mut(name) {
+            Some(file) => file.extend_from_slice(self.text.as_slice()),
+            None => Ok(()),
+        }
     }
 
     /// Takes the text as the name of a file, which begins anew.
@@ -286,25 +223,21 @@ impl Case {
         self.file_name.clear();
         self.file_name.push_str(name)?;
         self.is_file_old = false;
-        begin_file(&mut self.files, alloc, name)
+        keep(&mut self.files, alloc, name, b"")
     }
 
-    /// Notes what a mark tells by itself: another name begins, or the words are those of a verb.
-    fn note_kind(&mut self, kind: Kind) {
-        if kind == Kind::Name {
-            self.name.clear();
+    /// Takes the text that was read, and begins another.
+    fn start(&mut self, alloc: Global, mark: &str, text: &str) -> Result<(), AllocError> {
+        self.text.extend_from_slice(self.behind.as_slice())?;
+        self.behind.clear();
+        if self.is_ended {
+            self.text.push(b'\n')?;
         }
-        if kind == Kind::Verb {
-            self.is_verb = true;
-        }
-    }
-
-    /// Begins a text.
-    fn start(&mut self, alloc: Global, kind: Kind, text: &str) -> Result<(), AllocError> {
-        self.finish(alloc)?;
+        self.take_text(alloc)?;
+        self.text.clear();
+        let (kind, is_ended) = kind_of(mark);
         self.kind = kind;
-        self.is_ended = true;
-        self.note_kind(kind);
+        self.is_ended = is_ended;
         self.text.extend_from_slice(text.as_bytes())
     }
 
@@ -326,142 +259,131 @@ impl Case {
     /// Takes the named texts as lines of the input.
     fn take_named(&mut self, alloc: Global, names: &str) -> Result<(), AllocError> {
         for name in names.split_whitespace() {
-            self.start(alloc, Kind::Input, "")?;
-            add_named(&self.texts, name, &mut self.text)?;
+            self.start(alloc, "<", "")?;
+            add_named(&mut self.text, &self.texts, name)?;
         }
         Ok(())
     }
 
     /// Takes a limit.
     fn limit(&mut self, text: &str) {
-        let (what, number) = text.split_once(' ').unwrap_or((text, ""));
+        let (what, number) = parted(text);
         let number = number.parse::<usize>().unwrap_or(usize::MAX);
-        match what.as_bytes() {
-            b"words" => self.limits.words_fail = true,
-            b"in" => self.limits.read_fails = true,
-            b"out" => self.limits.out = number,
-            b"err" => self.limits.err = number,
-            b"step" => self.limits.step = number,
+        match what {
+            "words" => self.limits.words_fail = true,
+            "in" => self.limits.read_fails = true,
+            "out" => self.limits.out = number,
+            "err" => self.limits.err = number,
+            "step" => self.limits.step = number,
             _ => {},
         }
     }
 
     /// Reads a line of a file of cases.
     fn read_line(&mut self, alloc: Global, line: &str) -> Result<(), AllocError> {
-        let (mark, text) = line.split_once(' ').unwrap_or((line, ""));
-        match mark.as_bytes() {
-            b"+" => self.text.extend_from_slice(text.as_bytes()),
-            b"&" => add_named(&self.texts, text, &mut self.text),
-            b"*" => add_repeated(&mut self.text, text),
-            b"@" => add_bytes(&mut self.text, text),
-            b"-" => self.cut(text),
-            b"~" => self.take_named(alloc, text),
-            b"\\" => {
+        let (mark, text) = parted(line);
+        match mark {
+            "+" => self.text.extend_from_slice(text.as_bytes()),
+            "&" => add_named(&mut self.text, &self.texts, text),
+            "*" => {
+                let (count, part) = parted(text);
+                add_times(&mut self.text, part.as_bytes(), count)
+            },
+            "@" => add_bytes(&mut self.text, text),
+            "-" => self.cut(text),
+            "~" => self.take_named(alloc, text),
+            "\\" => {
                 self.is_ended = false;
                 Ok(())
             },
-            b"%" => {
+            "%" => {
                 self.limit(text);
                 Ok(())
             },
-            _ => self.start(alloc, kind_of(mark), text),
+            _ => self.start(alloc, mark, text),
         }
-    }
-
-    /// The words.
-    fn words(&self, alloc: Global) -> Result<Vec<&str>, AllocError> {
-        let mut words = Vec::new(alloc);
-        for word in self.words.as_slice() {
-            words.push(str::from_utf8(word.as_slice()).unwrap_or(""))?;
-        }
-        Ok(words)
     }
 
     /// Plays the case, and tells where it differs.
-    fn run<R: Machine, O: Write>(&self, rt: &R, alloc: Global, told: &mut O) -> io::Result<Told> {
-        let words = self.words(alloc)?;
+    fn play<R: Machine + Threads + Wait + Sync, O: Write>(
+        &self,
+        rt: &R,
+        alloc: Global,
+        told: &mut Told,
+        out: &mut O,
+    ) -> io::Result<()> {
         let asked = Asked {
             is_verb: self.is_verb,
-            words: words.as_slice(),
+            words: self.words.as_slice(),
             files: &self.files,
             input: self.input.as_slice(),
             limits: self.limits,
         };
-        let found = perform(rt, alloc, &asked)?;
-        self.compare(&found, told)
-    }
-
-    /// Tells where what was found differs from what is wanted.
-    fn compare<O: Write>(&self, found: &Found, told: &mut O) -> io::Result<Told> {
-        let agrees = self.agrees(found);
-        if !agrees {
-            self.tell(told, found)?;
+        let found = perform(rt, alloc, &asked);
+        if self.agrees(&found) {
+            told.agree = told.agree.saturating_add(1);
+            return Ok(());
         }
-        Ok(Told::one(agrees))
-    }
-
-    /// The wanted status.
-    fn status(&self) -> &str {
-        if self.status.is_empty() {
-            return "0";
-        }
-        str::from_utf8(self.status.as_slice()).unwrap_or("")
+        told.differ = told.differ.saturating_add(1);
+        self.tell(&found, out)
     }
 
     /// Whether this is what is wanted.
     fn agrees(&self, found: &Found) -> bool {
-        found.out.text() == self.out.as_slice()
-            && found.err.text() == self.err.as_slice()
-            && self.status().parse::<u8>().ok() == Some(found.status)
+        found.out.as_slice() == self.out.as_slice()
+            && found.err.as_slice() == self.err.as_slice()
+            && found.status == self.status
     }
 
     /// Tells what was wanted and what was found.
-    fn tell<O: Write>(&self, told: &mut O, found: &Found) -> io::Result<()> {
-        put_all(told, &[b"differs: ", self.name.as_slice()])?;
+    fn tell<O: Write>(&self, found: &Found, out: &mut O) -> io::Result<()> {
+        out.write_all(b"differs: ")?;
+        out.write_all(self.name.as_slice())?;
         for word in self.words.as_slice() {
-            put_all(told, &[b"\n  ", word.as_slice()])?;
+            write!(out, "\n  {word}")?;
         }
-        writeln!(told, "\nwanted, status {}:", self.status())?;
-        put_all(told, &[self.out.as_slice(), self.err.as_slice()])?;
-        writeln!(told, "found, status {}:", found.status)?;
-        put_all(told, &[found.out.text(), found.err.text(), b"\n"])
+        writeln!(out, "\nwanted, status {}:", self.status)?;
+        out.write_all(self.out.as_slice())?;
+        out.write_all(self.err.as_slice())?;
+        writeln!(out, "found, status {}:", found.status)?;
+        out.write_all(found.out.as_slice())?;
+        out.write_all(found.err.as_slice())?;
+        writeln!(out)
     }
 }
 
 /// Plays the cases of a text.
-pub fn run_cases<R: Machine, O: Write>(
+pub fn run_cases<R: Machine + Threads + Wait + Sync, O: Write>(
     rt: &R,
     alloc: Global,
     text: &str,
+    told: &mut Told,
     out: &mut O,
-) -> io::Result<Told> {
-    let mut told = Told::none();
+) -> io::Result<()> {
     let mut case = Case::new(alloc);
     case.begin()?;
-    begin_file(&mut case.files, alloc, CONTEXTS)?;
+    keep(&mut case.files, alloc, CONTEXTS, b"")?;
     for line in text.lines() {
         if line.is_empty() {
-            told = told.and(end_case(rt, alloc, &mut case, out)?);
+            end_case(rt, alloc, &mut case, told, out)?;
         } else {
             case.read_line(alloc, line)?;
         }
     }
-    Ok(told.and(end_case(rt, alloc, &mut case, out)?))
+    end_case(rt, alloc, &mut case, told, out)
 }
 
 /// Plays the case that ends, if there is one.
-fn end_case<R: Machine, O: Write>(
+fn end_case<R: Machine + Threads + Wait + Sync, O: Write>(
     rt: &R,
     alloc: Global,
     case: &mut Case,
+    told: &mut Told,
     out: &mut O,
-) -> io::Result<Told> {
-    case.start(alloc, Kind::Prose, "")?;
-    let told = if case.is_asked() {
-        case.run(rt, alloc, out)?
-    } else {
-        Told::none()
-    };
-    case.begin()?;
-    Ok(told)
+) -> io::Result<()> {
+    case.start(alloc, "", "")?;
+    if case.is_asked() {
+        case.play(rt, alloc, told, out)?;
+    }
+    Ok(case.begin()?)
 }

@@ -5,90 +5,59 @@
 //!
 //! What is told of a place is whether it was reached `on` or `back`, and `as table`, or both boards where they differ.
 
-use crate::documents;
-use crate::record_sweeps::{add_lines, table_told};
-use crate::sweep::Sweep;
+use crate::page::Page;
+use crate::plays::{shown, tabled};
+use crate::record_sweeps::{put_lines, put_told};
 use debugger::{DebugFault, Debugger};
-use flow_model::{CheckedPlan, Entry};
-use plan_text::{board_text, load_record};
 use status_table::PlainBoard;
-use std::alloc::{AllocError, Global};
 
-/// What the verb tells.
-pub fn places_told(alloc: Global, input: &[u8]) -> Result<String, AllocError> {
-    match load_record(alloc, input) {
-        Ok((plan, entries)) => record_told(alloc, &plan, entries.into_vec(), input),
-        Err(fault) => documents::fault_text(alloc, &fault),
+/// Does what the verb asks.
+pub fn places(page: &mut Page<'_>) {
+    if let Some((table, entries)) = tabled(page) {
+        match Debugger::open(page.alloc, table, entries.into_vec()) {
+            Ok(mut debugger) => walk(page, &mut debugger),
+            Err(DebugFault::BadRecord(entry, fault)) => write!(page, "BadRecord {entry} {fault}"),
+            Err(fault) => write!(page, "{fault}"),
+        }
     }
 }
 
-fn record_told(
-    alloc: Global,
-    plan: &CheckedPlan,
-    entries: Vec<Entry>,
-    input: &[u8],
-) -> Result<String, AllocError> {
-    let board = PlainBoard::new(alloc, plan)?;
-    match Debugger::open(alloc, board, entries) {
-        Ok(mut debugger) => walk_told(alloc, &mut debugger, input),
-        Err(DebugFault::BadRecord(entry, fault)) => {
-            format!(in alloc; "BadRecord {entry} {}", fault.name())
-        },
-        Err(fault) => String::from_str(alloc, fault.name()),
-    }
-}
-
-/// The first lines of a text, so many.
-fn first_lines(text: &[u8], count: usize) -> &[u8] {
+/// The beginning of the input that is so many lines.
+fn first_lines<'a>(page: &mut Page<'a>, count: usize) -> &'a [u8] {
     let mut length = 0usize;
-    for line in text.split_inclusive(|byte| *byte == b'\n').take(count) {
+    for line in page.lines().iter().take(count) {
         length = length.saturating_add(line.len());
     }
-    text.get(..length).unwrap_or(text)
+    page.input.get(..length).unwrap_or(page.input)
 }
 
-/// Whether the board at the place is that of `table`.
-fn place_told(
-    alloc: Global,
-    debugger: &Debugger<PlainBoard>,
-    way: &str,
-    input: &[u8],
-) -> Result<String, AllocError> {
-    let board = debugger.board()?;
-    let text = board_text(alloc, &board)?;
-    let mut shown = String::from_str(alloc, "0")?;
-    add_lines(&mut shown, ">", text.as_bytes())?;
-    let lines = debugger.place().saturating_add(1);
-    let wanted = table_told(alloc, first_lines(input, lines))?;
-    if shown.as_str() == wanted.as_str() {
-        return format!(in alloc; "{way}, as table");
+/// Writes a place of the sweep: whether its board is that of `table`.
+fn put_row(page: &mut Page<'_>, debugger: &Debugger<PlainBoard>, way: &str) {
+    let place = debugger.place();
+    let board = shown(page, debugger.board());
+    let mut told = page.scratch();
+    told.put("0");
+    put_lines(&mut told, ">", board.text().as_bytes());
+    let mut wanted = page.scratch();
+    put_told(&mut wanted, first_lines(page, place.saturating_add(1)));
+    write!(page, "{place} {way}, ");
+    if told.text() == wanted.text() {
+        page.put("as table\n");
+    } else {
+        writeln!(page, "{} and not {}", told.text(), wanted.text());
     }
-    format!(in alloc; "{way}, {shown} and not {wanted}")
 }
 
 /// Goes through all places, on and back.
-fn walk_told(
-    alloc: Global,
-    debugger: &mut Debugger<PlainBoard>,
-    input: &[u8],
-) -> Result<String, AllocError> {
-    let mut sweep = Sweep::new(alloc);
-    sweep.add(0, place_told(alloc, debugger, "on", input)?)?;
+fn walk(page: &mut Page<'_>, debugger: &mut Debugger<PlainBoard>) {
+    put_row(page, debugger, "on");
     for _ in 0..debugger.last_place() {
-        let way = if debugger.step().is_ok() {
-            "on"
-        } else {
-            "no step"
-        };
-        sweep.add(debugger.place(), place_told(alloc, debugger, way, input)?)?;
+        let is_done = debugger.step().is_ok();
+        put_row(page, debugger, if is_done { "on" } else { "no step" });
     }
     for _ in 0..debugger.last_place() {
-        let way = if debugger.back().is_ok() {
-            "back"
-        } else {
-            "no back"
-        };
-        sweep.add(debugger.place(), place_told(alloc, debugger, way, input)?)?;
+        let is_done = debugger.back().is_ok();
+        put_row(page, debugger, if is_done { "back" } else { "no back" });
     }
-    sweep.told()
+    page.fold();
 }

@@ -10,37 +10,37 @@
 //!   equal JSON JSON    whether the values are equal, or the fault
 //!   fold TEXT TEXT     the first folded, and whether the two are the same ignoring case
 
+use crate::page::Page;
 use crate::pattern_sweeps;
-use crate::tree_text::{write_pieces, write_tree};
-use crate::verbs::word;
+use crate::tree_text::{put_pieces, put_tree};
 use expr_reader::{
-    ExprFault, Template, Tree, fold, names_status, read_condition, read_expr, read_template,
-    same_text,
+    ExprFault, Template, fold, names_status, read_condition, read_expr, read_template, same_text,
 };
 use expr_value::{Status, eval_condition, eval_text, loose_eq, to_text, truthy};
-use flow_model::{Duplicate, Mapping, Node, Value, ValueFault, json_of, read_json, value_of};
-use std::alloc::{AllocError, Global};
-use std::collections::BTreeMap;
+use flow_model::{Duplicate, Mapping, Node, Value, json_of, read_json, value_of};
+use std::alloc::Global;
 
-/// What a verb of these tells; other words are those of sweeps.
-pub fn told(
-    alloc: Global,
-    words: &[&str],
-    file: &[u8],
-    input: &[u8],
-) -> Result<String, AllocError> {
-    let (text, other) = (word(words, 1), word(words, 2));
-    match word(words, 0) {
-        "tree" => tree_told(alloc, text),
-        "pieces" => pieces_told(alloc, read_template(alloc, text)),
-        "condition" => pieces_told(alloc, read_condition(alloc, text)),
-        "read" => fault_told(alloc, fault_of(alloc, text, other)),
-        "template" => template_told(alloc, text, file),
-        "holds" => holds_told(alloc, text, other, file),
-        "value" => value_told(alloc, text),
-        "equal" => equal_told(alloc, text, other),
-        "fold" => fold_told(alloc, text, other),
-        _ => pattern_sweeps::told(alloc, words, file, input),
+/// Does what a verb of these asks; other words are those of sweeps.
+pub fn perform(page: &mut Page<'_>) {
+    let (text, other) = (page.word(1), page.word(2));
+    match page.word(0) {
+        "tree" => put_expression(page, text),
+        "pieces" => put_read(page, read_template(page.alloc, text)),
+        "condition" => put_read(page, read_condition(page.alloc, text)),
+        "read" => put_reading(page, text, other),
+        "template" => template(page, text),
+        "holds" => holds(page, text, other),
+        "value" => value(page, text),
+        "equal" => {
+            let left = value_in(page, text);
+            let right = value_in(page, other);
+            page.print(loose_eq(&left, &right));
+        },
+        "fold" => {
+            page.print(fold(page.alloc, text));
+            write!(page, "\n{}", same_text(text, other));
+        },
+        _ => pattern_sweeps::perform(page),
     }
 }
 
@@ -53,114 +53,65 @@ pub fn fault_of(alloc: Global, kind: &str, text: &str) -> Option<ExprFault> {
     }
 }
 
-/// The fault, or that the text is read.
-pub fn fault_told(alloc: Global, fault: Option<ExprFault>) -> Result<String, AllocError> {
-    match fault {
-        Some(fault) => fault.to_string(alloc),
-        None => String::from_str(alloc, "read"),
+/// Writes the fault of a text, or that it is read.
+pub fn put_reading(page: &mut Page<'_>, kind: &str, text: &str) {
+    match fault_of(page.alloc, kind, text) {
+        Some(fault) => write!(page, "{fault}"),
+        None => page.put("read"),
     }
 }
 
-/// The tree of an expression, or its fault.
-pub fn tree_told(alloc: Global, text: &str) -> Result<String, AllocError> {
-    match read_expr(alloc, text) {
-        Ok(tree) => tree_text(alloc, &tree),
-        Err(fault) => fault.to_string(alloc),
+/// Writes the tree of an expression, or its fault.
+pub fn put_expression(page: &mut Page<'_>, text: &str) {
+    if let Some(tree) = page.have(read_expr(page.alloc, text)) {
+        put_tree(page, &tree);
     }
 }
 
-/// A tree.
-fn tree_text(alloc: Global, tree: &Tree) -> Result<String, AllocError> {
-    let mut told = String::new(alloc);
-    write_tree(alloc, &mut told, tree)?;
-    Ok(told)
-}
-
-/// The pieces of a template or condition, or its fault.
-fn pieces_told(alloc: Global, read: Result<Template, ExprFault>) -> Result<String, AllocError> {
-    match read {
-        Ok(template) => pieces_text(alloc, &template),
-        Err(fault) => fault.to_string(alloc),
+/// Writes the pieces of a template or condition and whether they name a status function, or its fault.
+fn put_read(page: &mut Page<'_>, read: Result<Template, ExprFault>) {
+    if let Some(template) = page.have(read) {
+        put_pieces(page, &template);
+        writeln!(page, "{}", names_status(&template));
     }
 }
 
-/// Pieces, and whether they name a status function.
-fn pieces_text(alloc: Global, template: &Template) -> Result<String, AllocError> {
-    let mut told = String::new(alloc);
-    write_pieces(alloc, &mut told, template)?;
-    told.push_str(truth_text(names_status(template)))?;
-    told.push_str("\n")?;
-    Ok(told)
+/// The document that a text is; of any other text null.
+fn json_in(page: &mut Page<'_>, text: &[u8]) -> serde_json::Value {
+    let json = page.have(read_json(page.alloc, text)).flatten();
+    json.unwrap_or(serde_json::Value::Null)
 }
 
-/// A truth value.
-pub fn truth_text(truth: bool) -> &'static str {
-    if truth { "true" } else { "false" }
-}
-
-/// Adds a context, if it has a value.
-fn add_context(
-    alloc: Global,
-    contexts: &mut Mapping<Value>,
-    name: &str,
-    json: &serde_json::Value,
-) -> Result<(), AllocError> {
-    match value_of(alloc, json) {
-        Ok(value) => contexts.set(alloc, name, value),
-        Err(_) => Ok(()),
+/// The contexts that the file gives: those members of its object that have a value.
+fn contexts(page: &mut Page<'_>) -> Mapping<Value> {
+    let json = json_in(page, page.file());
+    let mut contexts = Mapping::empty(page.alloc);
+    if let Some(members) = json.as_object() {
+        for (name, member) in members.iter() {
+            if let Ok(value) = value_of(page.alloc, member) {
+                page.note(contexts.set(page.alloc, name.as_str(), value));
+            }
+        }
     }
-}
-
-/// The contexts among the members of an object.
-fn contexts_among(
-    alloc: Global,
-    members: &BTreeMap<String, serde_json::Value>,
-) -> Result<Mapping<Value>, AllocError> {
-    let mut contexts = Mapping::empty(alloc);
-    for (name, member) in members.iter() {
-        add_context(alloc, &mut contexts, name.as_str(), member)?;
-    }
-    Ok(contexts)
-}
-
-/// The contexts that a document gives.
-fn contexts_in(alloc: Global, json: &serde_json::Value) -> Result<Mapping<Value>, AllocError> {
-    match json {
-        serde_json::Value::Object(members) => contexts_among(alloc, members),
-        _ => Ok(Mapping::empty(alloc)),
-    }
-}
-
-/// The contexts that the file gives.
-fn contexts_of(alloc: Global, file: &[u8]) -> Result<Mapping<Value>, AllocError> {
-    match read_json(alloc, file)? {
-        Some(json) => contexts_in(alloc, &json),
-        None => Ok(Mapping::empty(alloc)),
-    }
+    contexts
 }
 
 /// The value that a text of JSON writes; of any other text null.
-fn value_of_text(alloc: Global, text: &str) -> Result<Value, AllocError> {
-    match read_json(alloc, text.as_bytes())? {
-        Some(json) => Ok(value_of(alloc, &json).unwrap_or(Value::new(Node::Null))),
-        None => Ok(Value::new(Node::Null)),
-    }
+fn value_in(page: &mut Page<'_>, text: &str) -> Value {
+    let json = json_in(page, text.as_bytes());
+    value_of(page.alloc, &json).unwrap_or(Value::new(Node::Null))
 }
 
-/// A value as compact JSON.
-fn json_text(alloc: Global, value: &Value) -> Result<String, AllocError> {
-    let json = json_of(alloc, value)?;
-    json.to_string(alloc)
-}
-
-fn template_told(alloc: Global, text: &str, file: &[u8]) -> Result<String, AllocError> {
-    let contexts = contexts_of(alloc, file)?;
-    match read_template(alloc, text) {
-        Ok(template) => match eval_text(alloc, &template, &contexts) {
-            Ok(value) => json_text(alloc, &value),
-            Err(fault) => fault.to_string(alloc),
+/// The value of a template as JSON.
+fn template(page: &mut Page<'_>, text: &str) {
+    let contexts = contexts(page);
+    match read_template(page.alloc, text) {
+        Ok(template) => {
+            if let Some(value) = page.have(eval_text(page.alloc, &template, &contexts)) {
+                page.print(json_of(page.alloc, &value));
+            }
         },
-        Err(fault) => fault.to_string(alloc),
+        Err(fault) => write!(page, "{fault}"),
     }
 }
 
@@ -174,54 +125,22 @@ fn status_of(name: &str) -> Status {
     }
 }
 
-/// Whether something holds, or why that is not known.
-fn truth_told(alloc: Global, answer: Result<bool, ValueFault>) -> Result<String, AllocError> {
-    match answer {
-        Ok(truth) => String::from_str(alloc, truth_text(truth)),
-        Err(fault) => fault.to_string(alloc),
+/// Whether a condition holds under a status.
+fn holds(page: &mut Page<'_>, status: &str, text: &str) {
+    let contexts = contexts(page);
+    if let Some(condition) = page.have(read_condition(page.alloc, text)) {
+        let status = status_of(status);
+        page.print(eval_condition(page.alloc, &condition, &contexts, status));
     }
 }
 
-fn holds_told(alloc: Global, status: &str, text: &str, file: &[u8]) -> Result<String, AllocError> {
-    match read_condition(alloc, text) {
-        Ok(condition) => condition_holds(alloc, &condition, status_of(status), file),
-        Err(fault) => fault.to_string(alloc),
+/// A copy of a value as JSON, as a text and as a truth value.
+fn value(page: &mut Page<'_>, json: &str) {
+    let value = value_in(page, json);
+    if let Some(twin) = page.have(value.copy(page.alloc)) {
+        page.print(json_of(page.alloc, &twin));
+        if let Some(text) = page.have(to_text(page.alloc, &twin)) {
+            write!(page, "\n{}\n{}", text.as_str(), truthy(&twin));
+        }
     }
-}
-
-/// Whether a condition holds over the contexts of the file.
-fn condition_holds(
-    alloc: Global,
-    condition: &Template,
-    status: Status,
-    file: &[u8],
-) -> Result<String, AllocError> {
-    let contexts = contexts_of(alloc, file)?;
-    truth_told(alloc, eval_condition(alloc, condition, &contexts, status))
-}
-
-fn value_told(alloc: Global, json: &str) -> Result<String, AllocError> {
-    let value = value_of_text(alloc, json)?;
-    let twin = value.copy(alloc)?;
-    value_lines(alloc, &twin)
-}
-
-/// A value as JSON, as a text and as a truth value.
-fn value_lines(alloc: Global, value: &Value) -> Result<String, AllocError> {
-    let json = json_text(alloc, value)?;
-    let text = to_text(alloc, value)?;
-    format!(in alloc; "{json}\n{}\n{}", text.as_str(), truthy(value))
-}
-
-fn equal_told(alloc: Global, left: &str, right: &str) -> Result<String, AllocError> {
-    let left = value_of_text(alloc, left)?;
-    let right = value_of_text(alloc, right)?;
-    truth_told(alloc, loose_eq(&left, &right))
-}
-
-fn fold_told(alloc: Global, text: &str, other: &str) -> Result<String, AllocError> {
-    let mut told = fold(alloc, text)?;
-    told.push_str("\n")?;
-    told.push_str(truth_text(same_text(text, other)))?;
-    Ok(told)
 }

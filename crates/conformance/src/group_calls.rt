@@ -10,103 +10,71 @@
 //!
 //! KIND is `run` or `leg`. A name that is left out is empty.
 
-use crate::expressions::truth_text;
-use crate::verbs::word;
+use crate::members::put_member;
+use crate::page::{Page, parted};
 use flow_model::{Duplicate, Member};
 use group_admission::{Entered, Groups};
-use std::alloc::{AllocError, Global};
+use std::str;
 
 /// The answers to the lines of the input.
-pub fn told(alloc: Global, input: &[u8]) -> Result<String, AllocError> {
-    let mut groups = Groups::new(alloc);
-    let mut told = String::new(alloc);
+pub fn groups(page: &mut Page<'_>) {
+    let input = page.input;
+    let mut groups = Groups::new(page.alloc);
     for line in str::from_utf8(input).unwrap_or("").lines() {
-        add_answer(alloc, &mut groups, line, &mut told)?;
-    }
-    Ok(told)
-}
-
-/// Makes the call of a line and adds its answer.
-fn add_answer(
-    alloc: Global,
-    groups: &mut Groups,
-    line: &str,
-    told: &mut String,
-) -> Result<(), AllocError> {
-    let words: Vec<&str> = line.split(' ').collect(alloc)?;
-    let answer = answer(alloc, groups, words.as_slice())?;
-    writeln!(told, "{answer}")
-}
-
-/// The answer to a call.
-fn answer(alloc: Global, groups: &mut Groups, words: &[&str]) -> Result<String, AllocError> {
-    let member = member(word(words, 1), word(words, 2));
-    match word(words, 0) {
-        "enter" => enter(alloc, groups, member, words),
-        "release" => member_text(alloc, groups.release(member)),
-        "withdraw" => String::from_str(alloc, truth_text(groups.withdraw(member))),
-        "holder" => member_text(alloc, groups.holder(word(words, 1))),
-        "waiting" => member_text(alloc, groups.waiting(word(words, 1))),
-        "copy" => copied(alloc, groups),
-        _ => String::from_str(alloc, "no such call"),
+        answer(page, &mut groups, line);
+        page.put("\n");
     }
 }
 
-/// The number that a word writes, or else 0.
-fn number_of(word: &str) -> u64 {
-    word.parse::<u64>().unwrap_or(0)
+/// Makes the call of a line and writes its answer.
+fn answer(page: &mut Page<'_>, groups: &mut Groups, line: &str) {
+    let (call, rest) = parted(line);
+    let (first, rest) = parted(rest);
+    let (number, rest) = parted(rest);
+    let member = member(first, number);
+    match call {
+        "enter" => enter(page, groups, member, rest),
+        "release" => put_member(page, groups.release(member)),
+        "withdraw" => write!(page, "{}", groups.withdraw(member)),
+        "holder" => put_member(page, groups.holder(first)),
+        "waiting" => put_member(page, groups.waiting(first)),
+        "copy" => {
+            if let Some(twin) = page.have(groups.copy(page.alloc)) {
+                *groups = twin;
+                page.put("copied");
+            }
+        },
+        _ => page.put("no such call"),
+    }
 }
 
 /// The member of that kind and number.
 fn member(kind: &str, number: &str) -> Member {
+    let number = number.parse::<u64>().unwrap_or(0);
     if kind == "run" {
-        Member::Run(number_of(number))
+        Member::Run(number)
     } else {
-        Member::Leg(number_of(number))
+        Member::Leg(number)
     }
 }
 
-/// Enters a member that is in no group yet.
-fn enter(
-    alloc: Global,
-    groups: &mut Groups,
-    member: Member,
-    words: &[&str],
-) -> Result<String, AllocError> {
+/// Enters a member that is in no group yet; the words name the group and how.
+fn enter(page: &mut Page<'_>, groups: &mut Groups, member: Member, words: &str) {
     if groups.is_in_group(member) {
-        return String::from_str(alloc, "is in a group");
+        return page.put("is in a group");
     }
-    let how = word(words, 4);
-    let own_run = (how == "own").then_some(number_of(word(words, 5)));
-    match groups.enter(word(words, 3), member, own_run, how == "cancel")? {
-        Entered::Admitted => String::from_str(alloc, "admitted"),
-        Entered::OwnRun => String::from_str(alloc, "own run"),
-        Entered::Waiting { displaced, stopped } => waiting_text(alloc, displaced, stopped),
-    }
-}
-
-/// That a member waits, and who lost the wait or was asked to stop.
-fn waiting_text(
-    alloc: Global,
-    displaced: Option<Member>,
-    stopped: Option<Member>,
-) -> Result<String, AllocError> {
-    let displaced = member_text(alloc, displaced)?;
-    let stopped = member_text(alloc, stopped)?;
-    format!(in alloc; "waiting, displaced {displaced}, stopped {stopped}")
-}
-
-/// A copy in the place of the groups.
-fn copied(alloc: Global, groups: &mut Groups) -> Result<String, AllocError> {
-    *groups = groups.copy(alloc)?;
-    String::from_str(alloc, "copied")
-}
-
-/// A member, or that there is none.
-pub fn member_text(alloc: Global, member: Option<Member>) -> Result<String, AllocError> {
-    match member {
-        Some(Member::Run(number)) => format!(in alloc; "run {number}"),
-        Some(Member::Leg(number)) => format!(in alloc; "leg {number}"),
-        None => String::from_str(alloc, "none"),
+    let (name, rest) = parted(words);
+    let (how, run) = parted(rest);
+    let own_run = (how == "own").then_some(run.parse::<u64>().unwrap_or(0));
+    match page.have(groups.enter(name, member, own_run, how == "cancel")) {
+        Some(Entered::Admitted) => page.put("admitted"),
+        Some(Entered::OwnRun) => page.put("own run"),
+        Some(Entered::Waiting { displaced, stopped }) => {
+            page.put("waiting, displaced ");
+            put_member(page, displaced);
+            page.put(", stopped ");
+            put_member(page, stopped);
+        },
+        None => {},
     }
 }

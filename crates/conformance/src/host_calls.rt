@@ -9,56 +9,48 @@
 //!   again           the record that the input is, played again over the script in the file: the board, or the fault, with
 //!                   the number of entries before it
 
-use crate::verbs::word;
-use crate::{documents, plays, program_calls};
+use crate::page::{Page, parted};
+use crate::plays::put_board;
+use crate::program_calls;
 use flow_model::{Answer, CheckedPlan, Entry, Event, first_line};
-use plan_text::{load_plan, load_record, print_entry, read_entry};
-use std::alloc::{AllocError, Global};
+use plan_text::{load_plan, print_entry, read_entry};
+use std::alloc::Global;
 use std::str;
-use step_host::{HostFault, ReplayHost, ScriptFault, ScriptHost, StepHost};
+use step_host::{ReplayHost, ScriptHost, StepHost};
 use worker_pool::{Ending, PoolFault, play_alone, play_entries};
 
 /// A line of a script.
 type Line = (u64, u64, Answer);
 
-/// What a verb of these tells; other words are those of programs' texts.
-pub fn told(
-    alloc: Global,
-    words: &[&str],
-    file: &[u8],
-    input: &[u8],
-) -> Result<String, AllocError> {
-    match word(words, 0) {
-        "script" => script_told(alloc, input),
-        "recorded" => recorded_told(alloc, input),
-        "alone" if word(words, 1) == "recorded" => alone_recorded(alloc, input),
-        "alone" => alone_told(alloc, input),
-        "again" => again_told(alloc, file, input),
-        _ => texts_told(alloc, words, file, input),
+/// Does what a verb of these asks; other words are those of programs' texts.
+pub fn perform(page: &mut Page<'_>) {
+    match (page.word(0), page.word(1)) {
+        ("script", _) => {
+            if script_of(page, page.input).is_some() {
+                page.put("script");
+            }
+        },
+        ("recorded", _) => {
+            if replayed(page).is_some() {
+                page.put("recorded");
+            }
+        },
+        ("alone", "recorded") => {
+            if let Some((plan, host)) = replayed(page) {
+                put_play(page, &plan, &host);
+            }
+        },
+        ("alone", _) => alone(page),
+        ("again", _) => again(page),
+        _ => program_calls::perform(page),
     }
 }
 
-/// What a verb of programs' texts tells; other words are those of documents.
-fn texts_told(
-    alloc: Global,
-    words: &[&str],
-    file: &[u8],
-    input: &[u8],
-) -> Result<String, AllocError> {
-    match program_calls::told(alloc, words, file, input)? {
-        Some(told) => Ok(told),
-        None => documents::told(alloc, words, file, input),
-    }
-}
-
-/// The answer that a text is.
-fn answer_of(alloc: Global, text: &str) -> Result<Answer, AllocError> {
-    let mut line = String::from_str(alloc, "{\"answer\":")?;
-    line.push_str(text)?;
-    line.push_str(",\"event\":\"end\",\"leg\":0,\"worker\":0}")?;
-    match read_entry(alloc, line.as_bytes()) {
-        Ok(entry) => Ok(answer_in(entry.event)),
-        Err(_) => Ok(Answer::BadOutput),
+/// The answer that an entry is which a text spells; of any other text a bad output.
+fn answer_of(alloc: Global, text: &str) -> Answer {
+    match read_entry(alloc, text.as_bytes()) {
+        Ok(entry) => answer_in(entry.event),
+        Err(_) => Answer::BadOutput,
     }
 }
 
@@ -71,167 +63,120 @@ fn answer_in(event: Event) -> Answer {
 }
 
 /// The line of a script that a text is.
-fn line_of(alloc: Global, text: &str) -> Result<Line, AllocError> {
-    let (leg, rest) = text.split_once(' ').unwrap_or((text, ""));
-    let (step, answer) = rest.split_once(' ').unwrap_or((rest, ""));
-    let answer = answer_of(alloc, answer)?;
-    Ok((
+fn line_of(page: &Page<'_>, text: &str) -> Line {
+    let (leg, rest) = parted(text);
+    let (step, answer) = parted(rest);
+    let (front, back) = ("{\"answer\":", ",\"event\":\"end\",\"leg\":0,\"worker\":0}");
+    let mut entry = page.scratch();
+    write!(&mut entry, "{front}{answer}{back}");
+    (
         leg.parse::<u64>().unwrap_or(u64::MAX),
         step.parse::<u64>().unwrap_or(u64::MAX),
-        answer,
-    ))
+        answer_of(page.alloc, entry.text()),
+    )
 }
 
-/// The lines of a script.
-fn lines_of(alloc: Global, text: &[u8]) -> Result<Vec<Line>, AllocError> {
-    let mut lines = Vec::new(alloc);
+/// The host of a script, or none where the fault is written.
+pub fn script_of(page: &mut Page<'_>, text: &[u8]) -> Option<ScriptHost> {
+    let mut lines = Vec::new(page.alloc);
     for line in str::from_utf8(text).unwrap_or("").lines() {
-        lines.push(line_of(alloc, line)?)?;
+        let line = line_of(page, line);
+        page.note(lines.push(line));
     }
-    Ok(lines)
+    page.have(ScriptHost::new(page.alloc, lines))
 }
 
-/// The host of a script.
-pub fn script_of(
-    alloc: Global,
-    text: &[u8],
-) -> Result<Result<ScriptHost, ScriptFault>, AllocError> {
-    let lines = lines_of(alloc, text)?;
-    Ok(ScriptHost::new(alloc, lines))
-}
-
-/// Why there is no host of a script.
-fn script_fault_told(alloc: Global, fault: ScriptFault) -> Result<String, AllocError> {
-    match fault {
-        ScriptFault::BadScript => String::from_str(alloc, "BadScript"),
-        ScriptFault::Memory => String::from_str(alloc, "Memory"),
-    }
-}
-
-fn script_told(alloc: Global, input: &[u8]) -> Result<String, AllocError> {
-    match script_of(alloc, input)? {
-        Ok(_) => String::from_str(alloc, "script"),
-        Err(fault) => script_fault_told(alloc, fault),
-    }
-}
-
-fn recorded_told(alloc: Global, input: &[u8]) -> Result<String, AllocError> {
-    match load_record(alloc, input) {
-        Ok((plan, entries)) => host_told(alloc, &plan, entries.as_slice()),
-        Err(fault) => documents::fault_text(alloc, &fault),
-    }
-}
-
-fn host_told(alloc: Global, plan: &CheckedPlan, entries: &[Entry]) -> Result<String, AllocError> {
-    match ReplayHost::new(alloc, plan, entries) {
-        Ok(_) => String::from_str(alloc, "recorded"),
-        Err((place, fault)) => format!(in alloc; "{place} {fault}"),
-    }
-}
-
-/// A play by one thread, over a host of the record that the input is.
-fn alone_recorded(alloc: Global, input: &[u8]) -> Result<String, AllocError> {
-    match load_record(alloc, input) {
-        Ok((plan, entries)) => match ReplayHost::new(alloc, &plan, entries.as_slice()) {
-            Ok(host) => play_told(alloc, &plan, &host),
-            Err((place, fault)) => format!(in alloc; "{place} {fault}"),
+/// The plan of the record that the input is, and its host.
+pub fn replayed(page: &mut Page<'_>) -> Option<(CheckedPlan, ReplayHost)> {
+    let (plan, entries) = page.record()?;
+    match ReplayHost::new(page.alloc, &plan, entries.as_slice()) {
+        Ok(host) => Some((plan, host)),
+        Err((place, fault)) => {
+            write!(page, "{place} {fault}");
+            None
         },
-        Err(fault) => documents::fault_text(alloc, &fault),
     }
 }
 
 /// A play by one thread, over a script.
-fn alone_told(alloc: Global, input: &[u8]) -> Result<String, AllocError> {
+fn alone(page: &mut Page<'_>) {
+    let input = page.input;
     if input.is_empty() {
-        return String::from_str(alloc, "NotJson");
+        return page.put("NotJson");
     }
     let (line, script) = first_line(input);
-    match load_plan(alloc, line) {
-        Ok(plan) => match script_of(alloc, script)? {
-            Ok(host) => play_told(alloc, &plan, &host),
-            Err(fault) => script_fault_told(alloc, fault),
-        },
-        Err(fault) => documents::fault_text(alloc, &fault),
+    if let Some(plan) = page.loaded(load_plan(page.alloc, line)) {
+        if let Some(host) = script_of(page, script) {
+            put_play(page, &plan, &host);
+        }
     }
 }
 
-/// A play by one thread: its history, and how it ended.
-fn play_told<H: StepHost>(
-    alloc: Global,
-    plan: &CheckedPlan,
-    host: &H,
-) -> Result<String, AllocError> {
-    match play_alone(alloc, plan, host) {
+/// Plays by one thread, and writes the history and how it ended.
+fn put_play<H: StepHost>(page: &mut Page<'_>, plan: &CheckedPlan, host: &H) {
+    match play_alone(page.alloc, plan, host) {
         Ok(played) => {
-            let end = match played.ending {
-                Ending::Done => "Done",
-                Ending::Stalled => "Stalled",
-            };
-            history_told(alloc, played.history.as_slice(), end)
+            put_history(page, played.history.as_slice());
+            put_ending(page, played.ending);
         },
-        Err(fault) => stop_told(alloc, &fault),
+        Err(fault) => put_stop(page, &fault),
     }
 }
 
-/// A history, and a last line.
-fn history_told(alloc: Global, history: &[Entry], end: &str) -> Result<String, AllocError> {
-    let mut told = String::new(alloc);
+/// Writes how a play ended.
+pub fn put_ending(page: &mut Page<'_>, ending: Ending) {
+    match ending {
+        Ending::Done => page.put("Done"),
+        Ending::Stalled => page.put("Stalled"),
+    }
+}
+
+/// Writes a history, one entry a line.
+fn put_history(page: &mut Page<'_>, history: &[Entry]) {
     for entry in history {
-        told.push_str(print_entry(alloc, entry)?.as_str())?;
-        told.push_str("\n")?;
+        page.print(print_entry(page.alloc, entry));
+        page.put("\n");
     }
-    told.push_str(end)?;
-    Ok(told)
 }
 
-/// Why a play stopped, after its history.
-fn stop_told(alloc: Global, fault: &PoolFault) -> Result<String, AllocError> {
+/// Writes why a play stopped, after its history.
+fn put_stop(page: &mut Page<'_>, fault: &PoolFault) {
+    put_history(page, history_of(fault));
+    put_fault(page, fault);
+}
+
+/// What was played until a play stopped.
+pub fn history_of(fault: &PoolFault) -> &[Entry] {
     match fault {
-        PoolFault::Workers => String::from_str(alloc, fault.name()),
-        PoolFault::Host {
-            leg,
-            step,
-            fault: inner,
-            history,
-        } => {
-            let end = host_fault_told(alloc, *leg, *step, *inner)?;
-            history_told(alloc, history.as_slice(), end.as_str())
-        },
-        PoolFault::Mismatch { history } => history_told(alloc, history.as_slice(), fault.name()),
-        PoolFault::Memory { history } => history_told(alloc, history.as_slice(), fault.name()),
+        PoolFault::Workers => &[],
+        PoolFault::Host { history, .. }
+        | PoolFault::Mismatch { history }
+        | PoolFault::Memory { history } => history.as_slice(),
     }
 }
 
-/// A host's fault at a step of a leg.
-fn host_fault_told(
-    alloc: Global,
-    leg: u64,
-    step: u64,
-    fault: HostFault,
-) -> Result<String, AllocError> {
-    format!(in alloc; "Host {leg} {step} {}", fault.name())
-}
-
-/// A record, played again over a script.
-fn again_told(alloc: Global, script: &[u8], input: &[u8]) -> Result<String, AllocError> {
-    match load_record(alloc, input) {
-        Ok((plan, entries)) => match script_of(alloc, script)? {
-            Ok(host) => replay_told(alloc, &plan, entries.as_slice(), &host),
-            Err(fault) => script_fault_told(alloc, fault),
-        },
-        Err(fault) => documents::fault_text(alloc, &fault),
+/// Writes why a play stopped.
+pub fn put_fault(page: &mut Page<'_>, fault: &PoolFault) {
+    if let PoolFault::Host {
+        leg,
+        step,
+        fault: inner,
+        ..
+    } = fault
+    {
+        return write!(page, "Host {leg} {step} {inner}");
     }
+    page.put(fault.name());
 }
 
-/// Entries, played again over a host: the board, or why they are not played to their end, after the history.
-fn replay_told<H: StepHost>(
-    alloc: Global,
-    plan: &CheckedPlan,
-    entries: &[Entry],
-    host: &H,
-) -> Result<String, AllocError> {
-    match play_entries(alloc, plan, entries, host) {
-        Ok(board) => plays::board_told(alloc, &board),
-        Err(fault) => stop_told(alloc, &fault),
+/// The record that the input is, played again over the script in the file.
+fn again(page: &mut Page<'_>) {
+    if let Some((plan, entries)) = page.record() {
+        if let Some(host) = script_of(page, page.file()) {
+            match play_entries(page.alloc, &plan, entries.as_slice(), &host) {
+                Ok(board) => put_board(page, Ok(board)),
+                Err(fault) => put_stop(page, &fault),
+            }
+        }
     }
 }

@@ -27,7 +27,7 @@
 //!   \           the line has no newline
 //!
 //! There are no escapes: a text goes to the end of its line. The verbs stand at the heads of `debug_sweeps`, `documents`,
-//! `expressions`, `flow_calls`, `group_calls`, `host_calls`, `pattern_sweeps`, `plan_calls`, `program_calls` and
+//! `expressions`, `flow_calls`, `group_calls`, `host_calls`, `pattern_sweeps`, `plan_calls`, `pool_calls`, `program_calls` and
 //! `record_sweeps`. The program stands on `commands` and the libraries below it, and proves nothing of its own; what it wants
 //! stands in `data/`.
 
@@ -41,15 +41,16 @@ mod flow_calls;
 mod group_calls;
 mod host_calls;
 mod members;
+mod page;
 mod pattern_sweeps;
 mod plan_calls;
 mod plays;
+mod pool_calls;
 mod program_calls;
 mod record_sweeps;
 mod replies;
 mod samples;
 mod streams;
-mod sweep;
 mod tree_text;
 mod verbs;
 
@@ -58,6 +59,8 @@ use run_command::machine::Machine;
 use std::alloc::Global;
 use std::io::Write;
 use std::process::ExitCode;
+use std::sync::Wait;
+use std::thread::Threads;
 use std::{env, fs, io};
 
 fn main(rt: HostRuntime) -> io::Result<ExitCode> {
@@ -73,16 +76,19 @@ fn main(rt: HostRuntime) -> io::Result<ExitCode> {
 }
 
 /// Plays the cases of the files that the words after the first name.
-fn run_files<R: Machine + Alloc<A = Global>, O: Write>(
+fn run_files<R: Machine + Threads + Wait + Sync + Alloc<A = Global>, O: Write>(
     rt: &R,
     alloc: Global,
     words: &[String],
     out: &mut O,
 ) -> io::Result<Told> {
-    let mut told = Told::none();
+    let mut told = Told {
+        agree: 0,
+        differ: 0,
+    };
     for file in words.iter().skip(1) {
         let text = fs::read_to_string(rt, file.as_str())?;
-        told = told.and(run_cases(rt, alloc, text.as_str(), out)?);
+        run_cases(rt, alloc, text.as_str(), &mut told, out)?;
     }
     Ok(told)
 }

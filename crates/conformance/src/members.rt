@@ -1,42 +1,52 @@
 //! What a table names: the members of a reply, and the moves that are open.
 
-use crate::group_calls::member_text;
+use crate::page::Page;
 use flow_model::{Event, Member, Reply};
-use std::alloc::{AllocError, Global};
 
-/// Adds the members that a reply names.
-pub fn add_members(alloc: Global, told: &mut String, reply: &Reply) -> Result<(), AllocError> {
-    add_member(alloc, told, "admitted", reply.admitted)?;
-    add_member(alloc, told, "displaced", reply.displaced)?;
-    add_member(alloc, told, "stopped", reply.stopped)
-}
-
-/// Adds a member, where there is one.
-fn add_member(
-    alloc: Global,
-    told: &mut String,
-    word: &str,
-    member: Option<Member>,
-) -> Result<(), AllocError> {
-    if member.is_none() {
-        return Ok(());
+/// Writes a member, or that there is none.
+pub fn put_member(page: &mut Page<'_>, member: Option<Member>) {
+    match member {
+        Some(Member::Run(number)) => write!(page, "run {number}"),
+        Some(Member::Leg(number)) => write!(page, "leg {number}"),
+        None => page.put("none"),
     }
-    let member = member_text(alloc, member)?;
-    write!(told, ", {word} {member}")
 }
 
-/// Adds a move, in a line; other events are none.
-pub fn add_move(told: &mut String, event: &Event) -> Result<(), AllocError> {
-    match event {
-        Event::Close { run } => writeln!(told, "close {run}"),
-        Event::Open { run } => writeln!(told, "open {run}"),
-        Event::Judge { job } => writeln!(told, "judge {job}"),
-        Event::Drop { leg } => writeln!(told, "drop {leg}"),
-        Event::Ask { leg } => writeln!(told, "ask {leg}"),
-        Event::Take { .. }
-        | Event::Begin { .. }
-        | Event::End { .. }
-        | Event::Finish { .. }
-        | Event::Cancel { .. } => writeln!(told, "no move"),
+/// Writes the members that a reply names, for the verb `replies`.
+pub fn put_members(page: &mut Page<'_>, reply: &Reply) {
+    if page.word(0) != "replies" {
+        return;
+    }
+    let members = [
+        (", admitted ", reply.admitted),
+        (", displaced ", reply.displaced),
+        (", stopped ", reply.stopped),
+    ];
+    for (front, member) in members {
+        if member.is_some() {
+            page.put(front);
+            put_member(page, member);
+        }
+    }
+}
+
+/// Writes moves, one a line, or that there are none; other events are no moves.
+pub fn put_moves(page: &mut Page<'_>, moves: &[Event]) {
+    if moves.is_empty() {
+        page.put("none");
+    }
+    for event in moves {
+        match event {
+            Event::Close { run } => writeln!(page, "close {run}"),
+            Event::Open { run } => writeln!(page, "open {run}"),
+            Event::Judge { job } => writeln!(page, "judge {job}"),
+            Event::Drop { leg } => writeln!(page, "drop {leg}"),
+            Event::Ask { leg } => writeln!(page, "ask {leg}"),
+            Event::Take { .. }
+            | Event::Begin { .. }
+            | Event::End { .. }
+            | Event::Finish { .. }
+            | Event::Cancel { .. } => writeln!(page, "no move"),
+        }
     }
 }

@@ -8,144 +8,122 @@
 //!   slices              how many pieces of the file's lines, from the first byte or to the last, as expressions, templates
 //!                       and conditions, are read or have a fault with a place in them; those that have none are told
 
-use crate::expressions::{fault_of, fault_told, tree_told};
+use crate::expressions::{fault_of, put_expression, put_reading};
+use crate::page::Page;
 use crate::record_sweeps;
-use crate::sweep::Sweep;
-use crate::verbs::word;
-use expr_reader::ExprFault;
-use std::alloc::{AllocError, Global};
 use std::str;
 
-/// What a verb of these tells; other words are those of the sweeps over records.
-pub fn told(
-    alloc: Global,
-    words: &[&str],
-    file: &[u8],
-    input: &[u8],
-) -> Result<String, AllocError> {
-    let lines = str::from_utf8(file).unwrap_or("");
-    let pattern = word(words, 1);
-    match word(words, 0) {
-        "faults" => faults_told(alloc, pattern, lines),
-        "pairs" => pairs_told(alloc, pattern, lines),
-        "bytes" => bytes_told(alloc),
-        "nest" => nest_told(alloc, pattern, word(words, 2)),
-        "slices" => slices_told(alloc, lines),
-        _ => record_sweeps::told(alloc, words, input),
+/// Does what a verb of these asks; other words are those of the sweeps over records.
+pub fn perform(page: &mut Page<'_>) {
+    let lines = str::from_utf8(page.file()).unwrap_or("");
+    let pattern = page.word(1);
+    match page.word(0) {
+        "faults" => faults(page, pattern, lines),
+        "pairs" => pairs(page, pattern, lines),
+        "bytes" => bytes(page),
+        "nest" => nest(page, pattern, page.word(2)),
+        "slices" => slices(page, lines),
+        _ => record_sweeps::perform(page),
     }
 }
 
-/// The pattern with a text in its first place.
-fn filled(alloc: Global, pattern: &str, text: &str) -> Result<String, AllocError> {
+/// Another page, with the pattern on it, the text in its first place.
+fn filled<'a>(page: &Page<'a>, pattern: &str, text: &str) -> Page<'a> {
     let (front, back) = pattern.split_once('?').unwrap_or((pattern, ""));
-    format!(in alloc; "{front}{text}{back}")
+    let mut filled = page.scratch();
+    write!(&mut filled, "{front}{text}{back}");
+    filled
 }
 
-/// Whether a fault has a place in its text.
-fn has_place(fault: ExprFault, text: &str) -> bool {
-    !fault.is_memory() && fault.place() <= text.len()
+/// Whether the fault of a text, if it has one, has a place in it.
+fn has_place(page: &Page<'_>, kind: &str, text: &str) -> Option<bool> {
+    let fault = fault_of(page.alloc, kind, text)?;
+    Some(!fault.is_memory() && fault.place() <= text.len())
 }
 
-fn faults_told(alloc: Global, pattern: &str, lines: &str) -> Result<String, AllocError> {
-    let mut sweep = Sweep::new(alloc);
+/// Writes a place of a sweep: what the expression is read as.
+fn put_row(page: &mut Page<'_>, place: usize, text: &str) {
+    write!(page, "{place} ");
+    put_reading(page, "expression", text);
+    page.put("\n");
+}
+
+/// Each line in the place of the pattern.
+fn faults(page: &mut Page<'_>, pattern: &str, lines: &str) {
     for (place, line) in lines.lines().enumerate() {
-        let text = filled(alloc, pattern, line)?;
-        let fault = fault_of(alloc, "expression", text.as_str());
-        sweep.add(place, fault_told(alloc, fault)?)?;
+        let text = filled(page, pattern, line);
+        put_row(page, place, text.text());
     }
-    sweep.told()
+    page.fold();
 }
 
-fn pairs_told(alloc: Global, pattern: &str, lines: &str) -> Result<String, AllocError> {
-    let mut told = String::new(alloc);
-    let mut others = 0;
-    for first in lines.lines() {
-        let pattern = filled(alloc, pattern, first)?;
-        let refused = pairs_with(alloc, &mut told, (pattern.as_str(), first), lines)?;
-        others = refused.saturating_add(others);
-    }
-    writeln!(&mut told, "{others} others")?;
-    Ok(told)
-}
-
-/// Tells the pairs with one first text, and gives the number of those that are not read.
-fn pairs_with(
-    alloc: Global,
-    told: &mut String,
-    (pattern, first): (&str, &str),
-    lines: &str,
-) -> Result<u64, AllocError> {
-    let mut others = 0u64;
-    for second in lines.lines() {
-        let text = filled(alloc, pattern, second)?;
-        match fault_of(alloc, "expression", text.as_str()) {
-            Some(fault) if has_place(fault, text.as_str()) => {
-                others = others.saturating_add(1);
-            },
-            _ => {
-                let tree = tree_told(alloc, text.as_str())?;
-                writeln!(told, "{first} {second}: {tree}")?;
-            },
-        }
-    }
-    Ok(others)
-}
-
-fn bytes_told(alloc: Global) -> Result<String, AllocError> {
-    let mut sweep = Sweep::new(alloc);
+/// Each byte alone.
+fn bytes(page: &mut Page<'_>) {
     for byte in 0..128u8 {
-        let mut text = String::new(alloc);
-        text.push(char::from(byte))?;
-        let fault = fault_of(alloc, "expression", text.as_str());
-        sweep.add(usize::from(byte), fault_told(alloc, fault)?)?;
+        let mut text = page.scratch();
+        write!(&mut text, "{}", char::from(byte));
+        put_row(page, usize::from(byte), text.text());
     }
-    sweep.told()
+    page.fold();
 }
 
-fn nest_told(alloc: Global, pattern: &str, text: &str) -> Result<String, AllocError> {
-    let mut text = String::from_str(alloc, text)?;
-    for times in 0..100 {
-        if let Some(fault) = fault_of(alloc, "expression", text.as_str()) {
-            return nest_end(alloc, times, fault);
+/// Each pair of lines in the places of the pattern.
+fn pairs(page: &mut Page<'_>, pattern: &str, lines: &str) {
+    let mut others = 0u64;
+    for first in lines.lines() {
+        let pattern = filled(page, pattern, first);
+        for second in lines.lines() {
+            let text = filled(page, pattern.text(), second);
+            if has_place(page, "expression", text.text()) == Some(true) {
+                others = others.saturating_add(1);
+            } else {
+                write!(page, "{first} {second}: ");
+                put_expression(page, text.text());
+                page.put("\n");
+            }
         }
-        text = filled(alloc, pattern, text.as_str())?;
     }
-    String::from_str(alloc, "always read")
+    writeln!(page, "{others} others");
 }
 
-/// That a pattern stood too often.
-fn nest_end(alloc: Global, times: u32, fault: ExprFault) -> Result<String, AllocError> {
-    let fault = format!(in alloc; "{fault}")?;
-    let (name, _) = fault.as_str().split_once(' ').unwrap_or(("", ""));
-    format!(in alloc; "{name} at {times} times")
+/// The pattern round the text, ever more often.
+fn nest(page: &mut Page<'_>, pattern: &str, text: &str) {
+    let mut text = filled(page, "?", text);
+    for times in 0..100 {
+        if let Some(fault) = fault_of(page.alloc, "expression", text.text()) {
+            return write!(page, "{} at {times} times", fault.name());
+        }
+        text = filled(page, pattern, text.text());
+    }
+    page.put("always read");
 }
 
-fn slices_told(alloc: Global, lines: &str) -> Result<String, AllocError> {
-    let mut told = String::new(alloc);
+/// The pieces of the lines, as all kinds of text.
+fn slices(page: &mut Page<'_>, lines: &str) {
     let mut answered = 0u64;
     for line in lines.lines() {
         for length in 0..line.len() {
             if let Some((front, back)) = line.split_at_checked(length) {
-                let fronts = answers(alloc, &mut told, front)?;
-                let backs = answers(alloc, &mut told, back)?;
+                let fronts = answers(page, front);
+                let backs = answers(page, back);
                 answered = answered.saturating_add(fronts).saturating_add(backs);
             }
         }
     }
-    writeln!(&mut told, "{answered} answered")?;
-    Ok(told)
+    writeln!(page, "{answered} answered");
 }
 
 /// How many kinds of text answer a text; those that do not are told.
-fn answers(alloc: Global, told: &mut String, text: &str) -> Result<u64, AllocError> {
+fn answers(page: &mut Page<'_>, text: &str) -> u64 {
     let mut answered = 0u64;
     for kind in ["expression", "template", "condition"] {
-        match fault_of(alloc, kind, text) {
-            Some(fault) if !has_place(fault, text) => {
-                writeln!(told, "{kind} {text}: {fault}")?;
-            },
-            _ => answered = answered.saturating_add(1),
+        if has_place(page, kind, text) == Some(false) {
+            write!(page, "{kind} {text}: ");
+            put_reading(page, kind, text);
+            page.put("\n");
+        } else {
+            answered = answered.saturating_add(1);
         }
     }
-    Ok(answered)
+    answered
 }

@@ -9,233 +9,139 @@
 //!
 //! A file that is no workflow is told by its name and fault.
 
-use crate::verbs::{CONTEXTS, Files};
-use crate::{documents, flow_calls};
-use flow_model::{CheckedPlan, Duplicate, Flow, Mapping, Plan, Roots, RunPlan, Sequence, Text};
-use flow_reader::{FlowFault, read_flow};
+use crate::flow_calls;
+use crate::flow_calls::put_fault;
+use crate::page::Page;
+use flow_model::{CheckedPlan, Duplicate, Flow, Mapping, Roots, RunPlan, Sequence};
+use flow_reader::read_flow;
 use plan_assembler::staging::stages;
 use plan_assembler::{Place, PlanFault, Planner};
 use plan_text::load_plan;
-use std::alloc::{AllocError, Global};
 
-/// What is wanted of a planner.
-#[derive(Clone, Copy)]
-enum Wanted<'a> {
-    Events,
-    All,
-    Event(&'a str),
-    Job(&'a str),
-    Stages,
-}
-
-/// Why there is no planner: what is told of a file, or want of memory.
-#[derive(Drop)]
-enum Refusal {
-    Told(String),
-    Memory,
-}
-
-impl From<AllocError> for Refusal {
-    fn from(_: AllocError) -> Refusal {
-        Refusal::Memory
+/// Does what a verb of these asks; other words are those of workflows.
+pub fn perform(page: &mut Page<'_>) {
+    match page.word(0) {
+        "events" => events(page),
+        "planned" => planned(page),
+        "stages" => staged(page),
+        _ => flow_calls::perform(page),
     }
 }
 
-/// What a verb of these tells; other words are those of workflows.
-pub fn told(
-    alloc: Global,
-    words: &[&str],
-    files: &Files,
-    input: &[u8],
-) -> Result<String, AllocError> {
-    match words {
-        ["events", names @ ..] => answer_told(alloc, files, names, Wanted::Events),
-        ["planned", words @ ..] => planned_told(alloc, files, words),
-        ["stages"] => document_told(alloc, input),
-        ["stages", names @ ..] => answer_told(alloc, files, names, Wanted::Stages),
-        _ => flow_calls::told(alloc, words, contexts(files), input),
-    }
-}
-
-/// The plan of a choice of workflows.
-fn planned_told(alloc: Global, files: &Files, words: &[&str]) -> Result<String, AllocError> {
-    match words {
-        ["event", name, names @ ..] => answer_told(alloc, files, names, Wanted::Event(name)),
-        ["job", id, names @ ..] => answer_told(alloc, files, names, Wanted::Job(id)),
-        [_, names @ ..] => answer_told(alloc, files, names, Wanted::All),
-        [] => String::from_str(alloc, "no such verb"),
-    }
-}
-
-/// The file of contexts.
-fn contexts(files: &Files) -> &[u8] {
-    match files.get(CONTEXTS) {
-        Some(file) => file.as_slice(),
-        None => b"",
-    }
-}
-
-/// What a planner for the workflows of these files answers, or which file is none.
-fn answer_told(
-    alloc: Global,
-    files: &Files,
-    names: &[&str],
-    wanted: Wanted<'_>,
-) -> Result<String, AllocError> {
-    match planner(alloc, files, names) {
-        Ok(planner) => answer(alloc, &planner, wanted),
-        Err(Refusal::Told(text)) => Ok(text),
-        Err(Refusal::Memory) => Err(AllocError),
-    }
-}
-
-/// A planner for the workflows of these files.
-fn planner(alloc: Global, files: &Files, names: &[&str]) -> Result<Planner, Refusal> {
-    let mut flows = Sequence::empty(alloc);
-    for name in names {
-        flows.push(flow_of(alloc, files, name)?)?;
-    }
-    Ok(planner_of(alloc, flows))
-}
-
-/// A planner for workflows whose runs are handed no contexts.
-fn planner_of(alloc: Global, flows: Sequence<Flow>) -> Planner {
-    let roots = Roots {
-        github: Mapping::empty(alloc),
-        inputs: Mapping::empty(alloc),
-        secrets: Mapping::empty(alloc),
-        vars: Mapping::empty(alloc),
+/// A copy of the workflow of a file, or none where it is told why there is none.
+fn flow(page: &mut Page<'_>, name: &str) -> Option<Flow> {
+    let Some(file) = page.files.get(name) else {
+        write!(page, "{name} no such file");
+        return None;
     };
-    Planner::new(alloc, flows, roots)
-}
-
-/// The workflow of a file.
-fn flow_of(alloc: Global, files: &Files, name: &str) -> Result<Flow, Refusal> {
-    match files.get(name) {
-        Some(file) => copied_flow(alloc, name, file.as_slice()),
-        None => Err(Refusal::Told(format!(in alloc; "{name} no such file")?)),
+    match read_flow(page.alloc, name, file.as_slice()) {
+        Ok(flow) => page.have(flow.copy(page.alloc)),
+        Err(fault) => {
+            write!(page, "{name} ");
+            put_fault(page, &fault);
+            None
+        },
     }
 }
 
-/// A copy of the workflow that a text is.
-fn copied_flow(alloc: Global, name: &str, text: &[u8]) -> Result<Flow, Refusal> {
-    match read_flow(alloc, name, text) {
-        Ok(flow) => Ok(flow.copy(alloc)?),
-        Err(fault) => Err(unread(alloc, name, &fault)?),
+/// A planner for the workflows that the words from a place on name, whose runs are handed no contexts.
+fn planner(page: &mut Page<'_>, place: usize) -> Option<Planner> {
+    let mut flows = Sequence::empty(page.alloc);
+    for name in page.words.iter().skip(place) {
+        let flow = flow(page, name.as_str())?;
+        page.note(flows.push(flow));
+    }
+    let roots = Roots {
+        github: Mapping::empty(page.alloc),
+        inputs: Mapping::empty(page.alloc),
+        secrets: Mapping::empty(page.alloc),
+        vars: Mapping::empty(page.alloc),
+    };
+    Some(Planner::new(page.alloc, flows, roots))
+}
+
+/// Writes the events that the workflows name.
+fn events(page: &mut Page<'_>) {
+    if let Some(planner) = planner(page, 1) {
+        if let Some(events) = page.have(planner.events()) {
+            if events.is_empty() {
+                page.put("none");
+            }
+            for event in events.as_slice() {
+                writeln!(page, "{}", event.as_str());
+            }
+        }
     }
 }
 
-/// That a file is no workflow.
-fn unread(alloc: Global, name: &str, fault: &FlowFault) -> Result<Refusal, AllocError> {
-    let fault = flow_calls::fault_text(alloc, fault)?;
-    Ok(Refusal::Told(format!(in alloc; "{name} {fault}")?))
-}
-
-/// The answer of a planner.
-fn answer(alloc: Global, planner: &Planner, wanted: Wanted<'_>) -> Result<String, AllocError> {
-    match wanted {
-        Wanted::Events => events_told(alloc, planner),
-        Wanted::All => outline_told(alloc, planner.plan_all()),
-        Wanted::Event(name) => outline_told(alloc, planner.plan_event(name)),
-        Wanted::Job(id) => outline_told(alloc, planner.plan_job(id)),
-        Wanted::Stages => stages_told(alloc, planner.plan_all()),
+/// The plan that the words ask for, if there is one.
+fn plan(page: &mut Page<'_>) -> Option<CheckedPlan> {
+    match (page.word(0), page.word(1)) {
+        ("stages", "") => page.loaded(load_plan(page.alloc, page.input)),
+        ("stages", _) => {
+            let planner = planner(page, 1)?;
+            have(page, planner.plan_all())
+        },
+        (_, "event") => {
+            let planner = planner(page, 3)?;
+            have(page, planner.plan_event(page.word(2)))
+        },
+        (_, "job") => {
+            let planner = planner(page, 3)?;
+            have(page, planner.plan_job(page.word(2)))
+        },
+        _ => {
+            let planner = planner(page, 2)?;
+            have(page, planner.plan_all())
+        },
     }
 }
 
-fn events_told(alloc: Global, planner: &Planner) -> Result<String, AllocError> {
-    let events = planner.events()?;
-    let mut told = String::new(alloc);
-    for event in events.as_slice() {
-        writeln!(&mut told, "{}", event.as_str())?;
-    }
-    if told.is_empty() {
-        told.push_str("none")?;
-    }
-    Ok(told)
-}
-
-/// A fault, with the number of the run or job where it is.
-fn fault_text(alloc: Global, fault: PlanFault) -> Result<String, AllocError> {
-    match fault {
-        PlanFault::Expr(Place::Run(run), fault) => format!(in alloc; "Expr run {run} {fault}"),
-        PlanFault::Expr(Place::Job(job), fault) => format!(in alloc; "Expr job {job} {fault}"),
-        PlanFault::Matrix(job, fault) => format!(in alloc; "Matrix job {job} {}", fault.name()),
-        PlanFault::UnknownNeed
-        | PlanFault::Cycle
-        | PlanFault::UnknownJob
-        | PlanFault::NoWorkflow
-        | PlanFault::TooMany
-        | PlanFault::Memory => String::from_str(alloc, fault.name()),
-    }
-}
-
-/// The outline of a plan, or why there is none.
-fn outline_told(alloc: Global, plan: Result<CheckedPlan, PlanFault>) -> Result<String, AllocError> {
+/// The plan that was made, or none where the fault is written, with the number of the run or job where it is.
+fn have(page: &mut Page<'_>, plan: Result<CheckedPlan, PlanFault>) -> Option<CheckedPlan> {
     match plan {
-        Ok(plan) => outline(alloc, plan.plan()),
-        Err(fault) => fault_text(alloc, fault),
+        Ok(plan) => return Some(plan),
+        Err(PlanFault::Expr(Place::Run(run), fault)) => write!(page, "Expr run {run} {fault}"),
+        Err(PlanFault::Expr(Place::Job(job), fault)) => write!(page, "Expr job {job} {fault}"),
+        Err(PlanFault::Matrix(job, fault)) => write!(page, "Matrix job {job} {fault}"),
+        Err(fault) => page.put(fault.name()),
+    }
+    None
+}
+
+/// Writes the runs of a plan, each with its jobs.
+fn planned(page: &mut Page<'_>) {
+    if let Some(plan) = plan(page) {
+        for (number, run) in plan.plan().runs.as_slice().iter().enumerate() {
+            put_run(page, number, run);
+        }
     }
 }
 
-/// The runs of a plan.
-fn outline(alloc: Global, plan: &Plan) -> Result<String, AllocError> {
-    let mut told = String::new(alloc);
-    for (number, run) in plan.runs.as_slice().iter().enumerate() {
-        add_run(&mut told, number, run)?;
-    }
-    Ok(told)
-}
-
-/// The name of an event, or `-`.
-fn event_name(event: &Option<Text>) -> &str {
-    match event {
+/// Writes a run and its jobs.
+fn put_run(page: &mut Page<'_>, number: usize, run: &RunPlan) {
+    let event = match &run.event {
         Some(name) => name.as_str(),
         None => "-",
-    }
-}
-
-/// Adds a run and its jobs.
-fn add_run(told: &mut String, number: usize, run: &RunPlan) -> Result<(), AllocError> {
-    let (flow, event) = (run.flow.as_str(), event_name(&run.event));
-    writeln!(told, "run {number} {flow} {event}")?;
+    };
+    writeln!(page, "run {number} {} {event}", run.flow.as_str());
     for job in run.jobs.as_slice() {
         let (id, legs) = (job.id.as_str(), job.legs.len());
-        writeln!(told, "job {} {id} legs {legs}", job.number)?;
-    }
-    Ok(())
-}
-
-/// The stages of a plan, or why there is none.
-fn stages_told(alloc: Global, plan: Result<CheckedPlan, PlanFault>) -> Result<String, AllocError> {
-    match plan {
-        Ok(plan) => stages_text(alloc, &plan),
-        Err(fault) => fault_text(alloc, fault),
+        writeln!(page, "job {} {id} legs {legs}", job.number);
     }
 }
 
-/// The stages of the plan that a text is, or its fault.
-fn document_told(alloc: Global, input: &[u8]) -> Result<String, AllocError> {
-    match load_plan(alloc, input) {
-        Ok(plan) => stages_text(alloc, &plan),
-        Err(fault) => documents::fault_text(alloc, &fault),
+/// Writes the stages of a plan.
+fn staged(page: &mut Page<'_>) {
+    if let Some(plan) = plan(page) {
+        if let Some(stages) = page.have(stages(page.alloc, &plan)) {
+            for (stage, jobs) in stages.as_slice().iter().enumerate() {
+                write!(page, "{stage}:");
+                for (run, job) in jobs.as_slice() {
+                    write!(page, " ({run}, {job})");
+                }
+                page.put("\n");
+            }
+        }
     }
-}
-
-/// The stages of a plan.
-fn stages_text(alloc: Global, plan: &CheckedPlan) -> Result<String, AllocError> {
-    let stages = stages(alloc, plan)?;
-    let mut told = String::new(alloc);
-    for (stage, jobs) in stages.as_slice().iter().enumerate() {
-        write!(&mut told, "{stage}:")?;
-        add_jobs(&mut told, jobs.as_slice())?;
-    }
-    Ok(told)
-}
-
-/// Adds the jobs of a stage, and ends the line.
-fn add_jobs(told: &mut String, jobs: &[(u64, u64)]) -> Result<(), AllocError> {
-    for (run, job) in jobs {
-        write!(told, " ({run}, {job})")?;
-    }
-    told.push_str("\n")
 }

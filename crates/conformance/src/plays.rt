@@ -3,168 +3,101 @@
 //! A reply is followed by `, admitted MEMBER`, `, displaced MEMBER` and `, stopped MEMBER`, where it names one and members
 //! are told. A refusal that changes the board is told as such.
 
-use crate::members::{add_members, add_move};
-use crate::replies::reply_text;
-use crate::verbs::word;
-use flow_model::{Board, CheckedPlan, Duplicate, Entry, Reply};
+use crate::members::put_moves;
+use crate::page::Page;
+use crate::replies::put_reply;
+use flow_model::{Board, Duplicate, Entry, Sequence};
 use plan_text::board_text;
-use status_table::{EventFault, PlainBoard, Table, run_entries};
-use std::alloc::{AllocError, Global};
+use status_table::{PlainBoard, Table, run_entries};
+use std::alloc::AllocError;
 
-/// How a record is played.
-#[derive(Clone, Copy)]
-pub struct Way<'a> {
-    /// The number of the worker that reports, or else it is that of the entry.
-    worker: &'a str,
-    /// Whether an entry that is refused for want of memory is played again.
-    insists: bool,
-    /// Whether the members are told that a reply names.
-    tells_members: bool,
-}
-
-impl<'a> Way<'a> {
-    /// The way of a verb, whose further word names the worker.
-    pub fn of(words: &[&'a str]) -> Way<'a> {
-        let verb = word(words, 0);
-        Way {
-            worker: word(words, 1),
-            insists: verb == "insist",
-            tells_members: verb == "replies",
+/// Writes a copy of a board, if there is one.
+pub fn put_board(page: &mut Page<'_>, board: Result<Board, AllocError>) {
+    if let Some(board) = page.have(board) {
+        if let Some(twin) = page.have(board.copy(page.alloc)) {
+            page.print(board_text(page.alloc, &twin));
         }
     }
 }
 
-/// The text of a copy of the board.
-pub fn board_told(alloc: Global, board: &Board) -> Result<String, AllocError> {
-    let twin = board.copy(alloc)?;
-    board_text(alloc, &twin)
+/// Another page, with a board on it.
+pub fn shown<'a>(page: &Page<'a>, board: Result<Board, AllocError>) -> Page<'a> {
+    let mut shown = page.scratch();
+    put_board(&mut shown, board);
+    shown
 }
 
-/// The text of the board of a table.
-fn shown(alloc: Global, board: &PlainBoard) -> Result<String, AllocError> {
-    let view = board.view()?;
-    board_told(alloc, &view)
+/// The entries of the record that the input is, and a table for its plan.
+pub fn tabled(page: &mut Page<'_>) -> Option<(PlainBoard, Sequence<Entry>)> {
+    let (plan, entries) = page.record()?;
+    let table = page.have(PlainBoard::new(page.alloc, &plan))?;
+    Some((table, entries))
 }
 
-/// The replies to entries, one a line, and the board after them.
-pub fn replies(
-    alloc: Global,
-    plan: &CheckedPlan,
-    entries: &[Entry],
-    way: Way<'_>,
-) -> Result<String, AllocError> {
-    let mut board = PlainBoard::new(alloc, plan)?;
-    let mut told = String::new(alloc);
-    for entry in entries {
-        add_answer(alloc, &mut board, entry, way, &mut told)?;
-    }
-    add_board(alloc, &board, &mut told)?;
-    Ok(told)
+/// A copy of an entry, reported by the worker that the verb names.
+fn reported(page: &mut Page<'_>, entry: &Entry) -> Option<Entry> {
+    let worker = page.word(1).parse::<u8>().unwrap_or(entry.worker);
+    let event = page.have(entry.event.copy(page.alloc))?;
+    Some(Entry { worker, event })
 }
 
-/// Plays an entry, and again where the way says so, and adds each reply.
-fn add_answer(
-    alloc: Global,
-    board: &mut PlainBoard,
-    entry: &Entry,
-    way: Way<'_>,
-    told: &mut String,
-) -> Result<(), AllocError> {
-    let is_answered = add_reply(alloc, board, entry, way, told)?;
-    if way.insists && !is_answered {
-        add_reply(alloc, board, entry, way, told)?;
-    }
-    Ok(())
-}
-
-/// Adds the board of a table.
-fn add_board(alloc: Global, board: &PlainBoard, told: &mut String) -> Result<(), AllocError> {
-    let shown = shown(alloc, board)?;
-    told.push_str(shown.as_str())
-}
-
-/// Plays a copy of the entry and adds the reply. It answers whether there was memory.
-fn add_reply(
-    alloc: Global,
-    board: &mut PlainBoard,
-    entry: &Entry,
-    way: Way<'_>,
-    told: &mut String,
-) -> Result<bool, AllocError> {
-    let worker = way.worker.parse::<u8>().unwrap_or(entry.worker);
-    let event = entry.event.copy(alloc)?;
-    let reply = applied(alloc, board, Entry { worker, event }, way)?;
-    writeln!(told, "{reply}")?;
-    Ok(reply.as_str() != "refused Memory")
-}
-
-/// Plays an entry.
-fn applied(
-    alloc: Global,
-    board: &mut PlainBoard,
-    entry: Entry,
-    way: Way<'_>,
-) -> Result<String, AllocError> {
-    let before = shown(alloc, board)?;
-    match board.apply(entry) {
-        Ok(reply) => reply_told(alloc, &reply, way),
-        Err(fault) => refusal(alloc, fault, board, before.as_str()),
+/// The replies to entries, one a line, and the board after them. One that insists plays an entry again where there was no
+/// memory for it.
+pub fn apply(page: &mut Page<'_>) {
+    if let Some((mut table, entries)) = tabled(page) {
+        for entry in entries.as_slice() {
+            if !play(page, &mut table, entry) && page.word(0) == "insist" {
+                play(page, &mut table, entry);
+            }
+        }
+        put_board(page, table.view());
     }
 }
 
-/// A reply.
-fn reply_told(alloc: Global, reply: &Reply, way: Way<'_>) -> Result<String, AllocError> {
-    let mut told = reply_text(alloc, reply)?;
-    if way.tells_members {
-        add_members(alloc, &mut told, reply)?;
-    }
-    Ok(told)
-}
-
-/// A refusal, and whether the board is another than before.
-fn refusal(
-    alloc: Global,
-    fault: EventFault,
-    board: &PlainBoard,
-    before: &str,
-) -> Result<String, AllocError> {
-    let after = shown(alloc, board)?;
-    if after.as_str() == before {
-        format!(in alloc; "refused {fault}")
-    } else {
-        format!(in alloc; "refused {fault}, and the board is changed")
+/// Plays a copy of an entry and writes the reply. It answers whether there was memory.
+fn play(page: &mut Page<'_>, table: &mut PlainBoard, entry: &Entry) -> bool {
+    let before = shown(page, table.view());
+    let Some(entry) = reported(page, entry) else {
+        return false;
+    };
+    match table.apply(entry) {
+        Ok(reply) => {
+            put_reply(page, &reply);
+            page.put("\n");
+            true
+        },
+        Err(fault) => {
+            write!(page, "refused {fault}");
+            if shown(page, table.view()).text() != before.text() {
+                page.put(", and the board is changed");
+            }
+            page.put("\n");
+            !fault.is_memory()
+        },
     }
 }
 
 /// How far entries can be played, and the board after them.
-pub fn played(alloc: Global, plan: &CheckedPlan, entries: &[Entry]) -> Result<String, AllocError> {
-    let mut board = PlainBoard::new(alloc, plan)?;
-    let outcome = run_entries(alloc, &mut board, entries);
-    let board = shown(alloc, &board)?;
-    match outcome {
-        Ok(()) => format!(in alloc; "played\n{board}"),
-        Err((place, fault)) => format!(in alloc; "refused entry {place} {fault}\n{board}"),
+pub fn run(page: &mut Page<'_>) {
+    if let Some((mut table, entries)) = tabled(page) {
+        match run_entries(page.alloc, &mut table, entries.as_slice()) {
+            Ok(()) => page.put("played\n"),
+            Err((place, fault)) => writeln!(page, "refused entry {place} {fault}"),
+        }
+        put_board(page, table.view());
     }
 }
 
 /// The moves after entries, all of which are played that can be.
-pub fn moves(alloc: Global, plan: &CheckedPlan, entries: &[Entry]) -> Result<String, AllocError> {
-    let mut board = PlainBoard::new(alloc, plan)?;
-    for entry in entries {
-        drop(board.apply(entry.copy(alloc)?));
+pub fn moves(page: &mut Page<'_>) {
+    if let Some((mut table, entries)) = tabled(page) {
+        for entry in entries.as_slice() {
+            if let Some(entry) = reported(page, entry) {
+                drop(table.apply(entry));
+            }
+        }
+        if let Some(moves) = page.have(table.moves()) {
+            put_moves(page, moves.as_slice());
+        }
     }
-    moves_of(alloc, &board)
-}
-
-/// The moves that are open.
-fn moves_of(alloc: Global, board: &PlainBoard) -> Result<String, AllocError> {
-    let moves = board.moves()?;
-    let mut told = String::new(alloc);
-    for event in moves.as_slice() {
-        add_move(&mut told, event)?;
-    }
-    if told.is_empty() {
-        told.push_str("none")?;
-    }
-    Ok(told)
 }

@@ -12,33 +12,36 @@
 //!   program SHELL        the answer to the script that the input is, started as step 0 of leg 0 in this folder
 //!   program uses ACTION  the same of an action without inputs, for which `./stub` stands where it is `stubbed`
 
+use crate::documents;
 use crate::host_calls::script_of;
-use crate::sweep::Sweep;
-use crate::verbs::word;
+use crate::page::Page;
+use crate::samples::pair;
 use flow_model::{Answer, CallWork, Entry, Event, Mapping, Sequence, Shell, StepCall, Text};
 use plan_text::print_entry;
 use program_texts::{Line, mask, read_commands, read_output_file, shell_words, shown};
 use run_command::machine::Machine;
-use std::alloc::{AllocError, Global};
 use std::str;
-use step_host::{HostFault, Masked, StepHost};
+use step_host::{Masked, StepHost};
 
-/// What a verb of texts tells, if it is one.
-pub fn told(
-    alloc: Global,
-    words: &[&str],
-    file: &[u8],
-    input: &[u8],
-) -> Result<Option<String>, AllocError> {
-    let text = str::from_utf8(input).unwrap_or("");
-    match words {
-        ["shell", shell, file] => Ok(Some(words_told(alloc, shell_of(shell), file)?)),
-        ["outputs"] => Ok(Some(outputs_told(alloc, input)?)),
-        ["outputs", what, from, to] => Ok(Some(limits_told(alloc, what, from, to)?)),
-        ["commands"] => Ok(Some(commands_told(alloc, text)?)),
-        ["shown", masks @ ..] => Ok(Some(shown_told(alloc, text, masks)?)),
-        ["masked", masks @ ..] => Ok(Some(masked_told(alloc, file, text, masks)?)),
-        _ => Ok(None),
+/// Does what a verb of texts asks; other words are those of documents.
+pub fn perform(page: &mut Page<'_>) {
+    let text = str::from_utf8(page.input).unwrap_or("");
+    match page.word(0) {
+        "shell" => shell(page),
+        "outputs" if !page.word(1).is_empty() => sizes(page),
+        "outputs" => {
+            if let Some(outputs) = page.have(read_output_file(page.alloc, page.input)) {
+                put_answer(page, Answer::Exit { code: 0, outputs });
+            }
+        },
+        "commands" => {
+            if let Some(lines) = page.have(read_commands(page.alloc, text)) {
+                put_lines(page, lines.as_slice());
+            }
+        },
+        "shown" => show(page, text),
+        "masked" => masked(page, text),
+        _ => documents::perform(page),
     }
 }
 
@@ -51,200 +54,162 @@ fn shell_of(name: &str) -> Shell {
     }
 }
 
-fn words_told(alloc: Global, shell: Shell, file: &str) -> Result<String, AllocError> {
-    let mut told = String::new(alloc);
-    for word in shell_words(alloc, shell, file)?.as_slice() {
-        if !told.is_empty() {
-            told.push_str(" ")?;
+/// The words that start a file in a shell.
+fn shell(page: &mut Page<'_>) {
+    let (shell, file) = (shell_of(page.word(1)), page.word(2));
+    if let Some(words) = page.have(shell_words(page.alloc, shell, file)) {
+        for (place, word) in words.as_slice().iter().enumerate() {
+            page.put(if place == 0 { "" } else { " " });
+            page.put(word.as_str());
         }
-        told.push_str(word.as_str())?;
     }
-    Ok(told)
 }
 
-/// An answer, as the End of leg 0 has it.
-fn answer_told(alloc: Global, answer: Answer) -> Result<String, AllocError> {
+/// Writes an answer, as the End of leg 0 has it.
+fn put_answer(page: &mut Page<'_>, answer: Answer) {
     let event = Event::End { leg: 0, answer };
-    print_entry(alloc, &Entry { worker: 0, event })
-}
-
-fn outputs_told(alloc: Global, input: &[u8]) -> Result<String, AllocError> {
-    match read_output_file(alloc, input) {
-        Ok(outputs) => answer_told(alloc, Answer::Exit { code: 0, outputs }),
-        Err(fault) => String::from_str(alloc, fault.name()),
-    }
-}
-
-/// A file of outputs of so many names, or of a value of so many bytes.
-fn output_file(alloc: Global, what: &str, size: usize) -> Result<String, AllocError> {
-    let mut file = String::new(alloc);
-    if what == "names" {
-        for number in 0..size {
-            writeln!(file, "n{number}=1")?;
-        }
-        return Ok(file);
-    }
-    file.push_str("n=")?;
-    for _ in 0..size {
-        file.push_str("x")?;
-    }
-    Ok(file)
+    page.print(print_entry(page.alloc, &Entry { worker: 0, event }));
 }
 
 /// Whether files of outputs of these sizes are read.
-fn limits_told(alloc: Global, what: &str, from: &str, to: &str) -> Result<String, AllocError> {
-    let mut sweep = Sweep::new(alloc);
-    let from = from.parse::<usize>().unwrap_or(0);
-    for size in from..=to.parse::<usize>().unwrap_or(0) {
-        let file = output_file(alloc, what, size)?;
-        let told = match read_output_file(alloc, file.as_str().as_bytes()) {
-            Ok(_) => "read",
-            Err(fault) => fault.name(),
-        };
-        sweep.add(size, String::from_str(alloc, told)?)?;
+fn sizes(page: &mut Page<'_>) {
+    let from = page.word(2).parse::<usize>().unwrap_or(0);
+    for size in from..=page.word(3).parse::<usize>().unwrap_or(0) {
+        let file = output_file(page, size);
+        write!(page, "{size} ");
+        if page
+            .have(read_output_file(page.alloc, file.text().as_bytes()))
+            .is_some()
+        {
+            page.put("read");
+        }
+        page.put("\n");
     }
-    sweep.told()
+    page.fold();
 }
 
-/// The pairs of a command.
-fn add_pairs(told: &mut String, pairs: &[(Text, Text)]) -> Result<(), AllocError> {
+/// A file of outputs of so many names, or of a value of so many bytes.
+fn output_file<'a>(page: &Page<'a>, size: usize) -> Page<'a> {
+    let mut file = page.scratch();
+    let is_value = page.word(1) == "value";
+    if is_value {
+        file.put("n=");
+    }
+    for number in 0..size {
+        if is_value {
+            file.put("x");
+        } else {
+            writeln!(&mut file, "n{number}=1");
+        }
+    }
+    file
+}
+
+/// Writes what the lines are that a step printed.
+fn put_lines(page: &mut Page<'_>, lines: &[Line]) {
+    for line in lines {
+        match line {
+            Line::Plain(text) => writeln!(page, "plain {}", text.as_str()),
+            Line::Command {
+                name,
+                pairs,
+                message,
+            } => {
+                page.put(name.as_str());
+                put_pairs(page, pairs.as_slice());
+                writeln!(page, ": {}", message.as_str());
+            },
+            Line::Resume => page.put("resume\n"),
+        }
+    }
+}
+
+/// Writes the pairs of a command.
+fn put_pairs(page: &mut Page<'_>, pairs: &[(Text, Text)]) {
     for (place, pair) in pairs.iter().enumerate() {
-        told.push_str(if place == 0 { " " } else { "," })?;
-        told.push_str(pair.0.as_str())?;
-        told.push_str("=")?;
-        told.push_str(pair.1.as_str())?;
-    }
-    Ok(())
-}
-
-fn add_line(told: &mut String, line: &Line) -> Result<(), AllocError> {
-    match line {
-        Line::Plain(text) => writeln!(told, "plain {}", text.as_str()),
-        Line::Command {
-            name,
-            pairs,
-            message,
-        } => {
-            told.push_str(name.as_str())?;
-            add_pairs(told, pairs.as_slice())?;
-            writeln!(told, ": {}", message.as_str())
-        },
-        Line::Resume => writeln!(told, "resume"),
+        page.put(if place == 0 { " " } else { "," });
+        write!(page, "{}={}", pair.0.as_str(), pair.1.as_str());
     }
 }
 
-fn commands_told(alloc: Global, text: &str) -> Result<String, AllocError> {
-    let mut told = String::new(alloc);
-    for line in read_commands(alloc, text)?.as_slice() {
-        add_line(&mut told, line)?;
+/// The masks that the words are.
+fn masks(page: &mut Page<'_>) -> Sequence<Text> {
+    let mut masks = Sequence::empty(page.alloc);
+    for word in page.words.iter().skip(1) {
+        if let Some(word) = page.have(Text::from_str(page.alloc, word.as_str())) {
+            page.note(masks.push(word));
+        }
     }
-    Ok(told)
+    masks
 }
 
-/// The masks that words are.
-fn masks_of(alloc: Global, words: &[&str]) -> Result<Sequence<Text>, AllocError> {
-    let mut masks = Sequence::empty(alloc);
-    for word in words {
-        masks.push(Text::from_str(alloc, *word)?)?;
-    }
-    Ok(masks)
-}
-
-fn shown_told(alloc: Global, text: &str, words: &[&str]) -> Result<String, AllocError> {
-    let masks = masks_of(alloc, words)?;
-    let lines = read_commands(alloc, text)?;
-    let mut told = String::new(alloc);
-    for line in shown(alloc, lines.as_slice(), masks.as_slice())?.as_slice() {
-        writeln!(told, "{}", line.as_str())?;
-    }
-    Ok(told)
-}
-
-/// A text, masked, or the answer of a masked host.
-fn masked_told(
-    alloc: Global,
-    file: &[u8],
-    text: &str,
-    words: &[&str],
-) -> Result<String, AllocError> {
-    let masks = masks_of(alloc, words)?;
-    if text.is_empty() {
-        return masked_answer_told(alloc, file, masks);
-    }
-    let masked = mask(alloc, text, masks.as_slice())?;
-    String::from_str(alloc, masked.as_str())
-}
-
-fn masked_answer_told(
-    alloc: Global,
-    script: &[u8],
-    masks: Sequence<Text>,
-) -> Result<String, AllocError> {
-    match script_of(alloc, script)? {
-        Ok(host) => {
-            let host = Masked::new(alloc, host, masks);
-            let work = script_work(alloc, "", Shell::Default)?;
-            play_told(alloc, &host, work)
-        },
-        Err(_) => String::from_str(alloc, "BadScript"),
+/// The lines that are shown of what a step printed.
+fn show(page: &mut Page<'_>, text: &str) {
+    let masks = masks(page);
+    if let Some(lines) = page.have(read_commands(page.alloc, text)) {
+        if let Some(lines) = page.have(shown(page.alloc, lines.as_slice(), masks.as_slice())) {
+            for line in lines.as_slice() {
+                writeln!(page, "{}", line.as_str());
+            }
+        }
     }
 }
 
-fn script_work(alloc: Global, text: &str, shell: Shell) -> Result<CallWork, AllocError> {
-    let text = Text::from_str(alloc, text)?;
+/// The text, masked, or where there is none the answer of a masked host over the script in the file.
+fn masked(page: &mut Page<'_>, text: &str) {
+    let masks = masks(page);
+    if !text.is_empty() {
+        if let Some(text) = page.have(mask(page.alloc, text, masks.as_slice())) {
+            page.put(text.as_str());
+        }
+    } else if let Some(host) = script_of(page, page.file()) {
+        put_played(page, &Masked::new(page.alloc, host, masks));
+    }
+}
+
+/// Writes what a host answers to what the words and the input ask for, as step 0 of leg 0, with no variables.
+fn put_played<H: StepHost>(page: &mut Page<'_>, host: &H) {
+    if let Some(work) = work(page) {
+        let env = Mapping::empty(page.alloc);
+        let (leg, step) = (0, 0);
+        let call = StepCall {
+            leg,
+            step,
+            work,
+            env,
+        };
+        if let Some(answer) = page.have(host.play(&call)) {
+            put_answer(page, answer);
+        }
+    }
+}
+
+/// A host of programs in this folder, with the stub of the one action that has one.
+fn host<R: Machine>(rt: &R, page: &mut Page<'_>) -> Option<R::Host> {
+    let stubs = page.have(pair(page.alloc, "stubbed", "./stub"))?;
+    let folder = rt.whole_path(".").ok()?;
+    let masks = Sequence::empty(page.alloc);
+    rt.host(page.alloc, folder.as_str(), stubs, masks).ok()
+}
+
+/// The action that the words name, or else the script that the input is.
+fn work(page: &mut Page<'_>) -> Option<CallWork> {
+    if page.word(1) == "uses" {
+        let uses = page.have(Text::from_str(page.alloc, page.word(2)))?;
+        let given = Mapping::empty(page.alloc);
+        return Some(CallWork::Uses { uses, given });
+    }
+    let text = str::from_utf8(page.input).unwrap_or("");
+    let text = page.have(Text::from_str(page.alloc, text))?;
+    let shell = shell_of(page.word(1));
     let dir = None;
-    Ok(CallWork::Script { text, shell, dir })
-}
-
-/// What a host answers to a work as step 0 of leg 0, with no variables.
-fn play_told<H: StepHost>(alloc: Global, host: &H, work: CallWork) -> Result<String, AllocError> {
-    let call = StepCall {
-        leg: 0,
-        step: 0,
-        work,
-        env: Mapping::empty(alloc),
-    };
-    match host.play(&call) {
-        Ok(answer) => answer_told(alloc, answer),
-        Err(HostFault::NoAnswer) => String::from_str(alloc, "NoAnswer"),
-        Err(HostFault::Memory) => String::from_str(alloc, "Memory"),
-    }
-}
-
-/// The stub of the one action that has one.
-fn stubs_of(alloc: Global) -> Result<Mapping<Text>, AllocError> {
-    let mut stubs = Mapping::empty(alloc);
-    stubs.set(alloc, "stubbed", Text::from_str(alloc, "./stub")?)?;
-    Ok(stubs)
-}
-
-fn uses_work(alloc: Global, action: &str) -> Result<CallWork, AllocError> {
-    let uses = Text::from_str(alloc, action)?;
-    let given = Mapping::empty(alloc);
-    Ok(CallWork::Uses { uses, given })
+    Some(CallWork::Script { text, shell, dir })
 }
 
 /// What a host of programs answers, in this folder.
-pub fn program_told<R: Machine>(
-    rt: &R,
-    alloc: Global,
-    words: &[&str],
-    input: &[u8],
-) -> Result<String, AllocError> {
-    let Ok(folder) = rt.whole_path(".") else {
-        return String::from_str(alloc, "no folder");
-    };
-    let Ok(host) = rt.host(
-        alloc,
-        folder.as_str(),
-        stubs_of(alloc)?,
-        Sequence::empty(alloc),
-    ) else {
-        return String::from_str(alloc, "no host");
-    };
-    let work = match word(words, 1) {
-        "uses" => uses_work(alloc, word(words, 2))?,
-        shell => script_work(alloc, str::from_utf8(input).unwrap_or(""), shell_of(shell))?,
-    };
-    play_told(alloc, &host, work)
+pub fn program<R: Machine>(rt: &R, page: &mut Page<'_>) {
+    match host(rt, page) {
+        Some(host) => put_played(page, &host),
+        None => page.put("no host"),
+    }
 }

@@ -8,116 +8,119 @@
 //! What is told is one line: the status, then the lines of `out`, each behind `>`, and those of `err`, each behind `!`. The
 //! sweep over its places stands in `debug_sweeps`.
 
-use crate::debug_sweeps::places_told;
-use crate::streams::{Feed, Limits, Page};
-use crate::sweep::Sweep;
-use crate::verbs::word;
+use crate::debug_sweeps::places;
+use crate::page::Page;
+use crate::streams::{Feed, Limits, Sheet};
 use command_io::stream::{Input, Output};
 use commands::table::table;
-use std::alloc::{AllocError, Global};
 use std::str;
 
-/// What a verb of these tells.
-pub fn told(alloc: Global, words: &[&str], input: &[u8]) -> Result<String, AllocError> {
-    match word(words, 0) {
-        "cut" => cut_told(alloc, input),
-        "garbled" => garbled_told(alloc, input, word(words, 1)),
-        "lines" => lines_told(alloc, input, word(words, 1)),
-        "raised" => raised_told(alloc, input),
-        "places" => places_told(alloc, input),
-        _ => String::from_str(alloc, "no such verb"),
+/// No line.
+const NOTHING: &[u8] = b"";
+
+/// Does what a verb of these asks.
+pub fn perform(page: &mut Page<'_>) {
+    match page.word(0) {
+        "cut" => cut(page),
+        "garbled" => garbled(page),
+        "lines" => lines(page),
+        "raised" => raised(page),
+        "places" => places(page),
+        _ => page.put("no such verb"),
     }
 }
 
-/// Adds the lines of a text, each behind a sign.
-pub fn add_lines(told: &mut String, sign: &str, text: &[u8]) -> Result<(), AllocError> {
+/// Writes the lines of a text, each behind a sign.
+pub fn put_lines(page: &mut Page<'_>, sign: &str, text: &[u8]) {
     for line in str::from_utf8(text).unwrap_or("(no UTF-8)").lines() {
-        write!(told, " {sign} {line}")?;
+        write!(page, " {sign} {line}");
     }
-    Ok(())
 }
 
-/// What `table` tells of a record.
-pub fn table_told(alloc: Global, record: &[u8]) -> Result<String, AllocError> {
+/// Writes what `table` tells of a record.
+pub fn put_told(page: &mut Page<'_>, record: &[u8]) {
     let limits = Limits::none();
     let mut input = Input::new(Feed::new(record, limits));
-    let mut out = Output::new(Page::new(alloc, limits.step, limits.out));
-    let mut err = Output::new(Page::new(alloc, limits.step, limits.err));
-    let status = table(alloc, &mut input, &mut out, &mut err);
-    let mut told = format!(in alloc; "{}", status)?;
-    add_lines(&mut told, ">", out.into_writer().text())?;
-    add_lines(&mut told, "!", err.into_writer().text())?;
-    Ok(told)
+    let mut out = Output::new(Sheet::new(page.alloc, limits.step, limits.out));
+    let mut err = Output::new(Sheet::new(page.alloc, limits.step, limits.err));
+    let status = table(page.alloc, &mut input, &mut out, &mut err);
+    write!(page, "{status}");
+    put_lines(page, ">", out.into_writer().into_bytes().as_slice());
+    put_lines(page, "!", err.into_writer().into_bytes().as_slice());
 }
 
-fn cut_told(alloc: Global, input: &[u8]) -> Result<String, AllocError> {
-    let mut sweep = Sweep::new(alloc);
+/// Writes a place of a sweep: what `table` tells of a record.
+fn put_row(page: &mut Page<'_>, place: usize, record: &[u8]) {
+    write!(page, "{place} ");
+    put_told(page, record);
+    page.put("\n");
+}
+
+/// Each beginning of the input.
+fn cut(page: &mut Page<'_>) {
+    let input = page.input;
     for end in 0..=input.len() {
-        sweep.add(end, table_told(alloc, &input[..end])?)?;
+        put_row(page, end, &input[..end]);
     }
-    sweep.told()
+    page.fold();
 }
 
-fn garbled_told(alloc: Global, input: &[u8], byte: &str) -> Result<String, AllocError> {
-    let byte = u8::from_str_radix(byte, 16).unwrap_or(b'?');
-    let mut sweep = Sweep::new(alloc);
-    let mut text = Vec::from_slice(alloc, input)?;
-    for place in 0..text.len() {
-        let whole = text[place];
-        text[place] = byte;
-        sweep.add(place, table_told(alloc, text.as_slice())?)?;
-        text[place] = whole;
+/// The input with each byte in turn made that which the verb names.
+fn garbled(page: &mut Page<'_>) {
+    let byte = u8::from_str_radix(page.word(1), 16).unwrap_or(b'?');
+    if let Some(mut text) = page.have(Vec::from_slice(page.alloc, page.input)) {
+        for place in 0..text.len() {
+            let whole = text[place];
+            text[place] = byte;
+            put_row(page, place, text.as_slice());
+            text[place] = whole;
+        }
     }
-    sweep.told()
+    page.fold();
+}
+
+/// The input with each digit behind a colon in turn raised.
+fn raised(page: &mut Page<'_>) {
+    if let Some(mut text) = page.have(Vec::from_slice(page.alloc, page.input)) {
+        for place in 1..text.len() {
+            let digit = text[place];
+            if text[place - 1] == b':' && digit.is_ascii_digit() {
+                text[place] = if digit == b'0' { b'1' } else { b'2' };
+                put_row(page, place, text.as_slice());
+                text[place] = digit;
+            }
+        }
+    }
+    page.fold();
+}
+
+/// The input with each line in turn changed.
+fn lines(page: &mut Page<'_>) {
+    let lines = page.lines();
+    for place in 0..lines.len() {
+        let text = changed(page, lines.as_slice(), place);
+        put_row(page, place, text.as_slice());
+    }
+    page.fold();
 }
 
 /// A record with its line at a place changed.
-fn changed(
-    alloc: Global,
-    lines: &[&[u8]],
-    place: usize,
-    change: &str,
-) -> Result<Vec<u8>, AllocError> {
-    let mut text = Vec::new(alloc);
+fn changed(page: &mut Page<'_>, lines: &[&[u8]], place: usize) -> Vec<u8> {
+    let mut text = Vec::new(page.alloc);
     for (number, line) in lines.iter().enumerate() {
-        let is_here = number == place;
-        if change == "swapped" && is_here {
-            text.extend_from_slice(lines.get(place.saturating_add(1)).copied().unwrap_or(b""))?;
-        }
-        let is_moved = change == "swapped" && place.saturating_add(1) == number;
-        if !is_moved && !(change == "dropped" && is_here) {
-            text.extend_from_slice(line)?;
-        }
-        if change == "doubled" && is_here {
-            text.extend_from_slice(line)?;
-        }
+        let next = lines
+            .get(number.saturating_add(1))
+            .copied()
+            .unwrap_or(NOTHING);
+        let (first, second) = match (page.word(1), number.checked_sub(place)) {
+            ("doubled", Some(0)) => (*line, *line),
+            ("dropped", Some(0)) => (NOTHING, NOTHING),
+            ("swapped", Some(0)) => (next, *line),
+            ("swapped", Some(1)) => (NOTHING, NOTHING),
+            _ => (*line, NOTHING),
+        };
+        page.note(text.extend_from_slice(first));
+        page.note(text.extend_from_slice(second));
     }
-    Ok(text)
-}
-
-fn lines_told(alloc: Global, input: &[u8], change: &str) -> Result<String, AllocError> {
-    let mut lines = Vec::new(alloc);
-    for line in input.split_inclusive(|byte| *byte == b'\n') {
-        lines.push(line)?;
-    }
-    let mut sweep = Sweep::new(alloc);
-    for place in 0..lines.len() {
-        let text = changed(alloc, lines.as_slice(), place, change)?;
-        sweep.add(place, table_told(alloc, text.as_slice())?)?;
-    }
-    sweep.told()
-}
-
-fn raised_told(alloc: Global, input: &[u8]) -> Result<String, AllocError> {
-    let mut sweep = Sweep::new(alloc);
-    let mut text = Vec::from_slice(alloc, input)?;
-    for place in 1..text.len() {
-        let digit = text[place];
-        if text[place - 1] == b':' && digit.is_ascii_digit() {
-            text[place] = if digit == b'0' { b'1' } else { b'2' };
-            sweep.add(place, table_told(alloc, text.as_slice())?)?;
-            text[place] = digit;
-        }
-    }
-    sweep.told()
+    text
 }

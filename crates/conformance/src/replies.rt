@@ -3,53 +3,54 @@
 //! A call is told in a line, `leg L step S calls TEXT`, the text of the script or the name of the action. What else it has
 //! follows, each in a line of its own: `in` a directory, `by` a shell, `with` an input, `env` a variable.
 
+use crate::members::put_members;
+use crate::page::Page;
 use flow_model::{CallWork, Duplicate, Mapping, Reply, Shell, StepCall, Text, What};
-use std::alloc::{AllocError, Global};
 
-/// A reply, by its copy.
-pub fn reply_text(alloc: Global, reply: &Reply) -> Result<String, AllocError> {
-    let reply = reply.copy(alloc)?;
-    match &reply.what {
-        What::Moved => String::from_str(alloc, "moved"),
-        What::Skipped => String::from_str(alloc, "skipped"),
-        What::Faulted(fault) => format!(in alloc; "faulted {fault}"),
-        What::Call(call) => call_text(alloc, call),
+/// Writes a copy of a reply.
+pub fn put_reply(page: &mut Page<'_>, reply: &Reply) {
+    if let Some(reply) = page.have(reply.copy(page.alloc)) {
+        match &reply.what {
+            What::Moved => page.put("moved"),
+            What::Skipped => page.put("skipped"),
+            What::Faulted(fault) => write!(page, "faulted {fault}"),
+            What::Call(call) => put_call(page, call),
+        }
     }
+    put_members(page, reply);
 }
 
-/// A call.
-fn call_text(alloc: Global, call: &StepCall) -> Result<String, AllocError> {
-    let mut told = format!(in alloc; "leg {} step {} calls ", call.leg, call.step)?;
+/// Writes a call.
+fn put_call(page: &mut Page<'_>, call: &StepCall) {
+    write!(page, "leg {} step {} calls ", call.leg, call.step);
     match &call.work {
         CallWork::Script { text, shell, dir } => {
-            told.push_str(text.as_str())?;
-            add_place(&mut told, dir, *shell)?;
+            page.put(text.as_str());
+            put_place(page, dir, *shell);
         },
         CallWork::Uses { uses, given } => {
-            told.push_str(uses.as_str())?;
-            add_pairs(&mut told, "with", given)?;
+            page.put(uses.as_str());
+            put_pairs(page, "with", given);
         },
     }
-    add_pairs(&mut told, "env", &call.env)?;
-    Ok(told)
+    put_pairs(page, "env", &call.env);
 }
 
-/// Adds where a script runs and by which shell, where it says so.
-fn add_place(told: &mut String, dir: &Option<Text>, shell: Shell) -> Result<(), AllocError> {
+/// Writes where a script runs and by which shell, where it says so.
+fn put_place(page: &mut Page<'_>, dir: &Option<Text>, shell: Shell) {
     if let Some(dir) = dir {
-        write!(told, "\n  in {}", dir.as_str())?;
+        write!(page, "\n  in {}", dir.as_str());
     }
     match shell {
-        Shell::Default => Ok(()),
-        Shell::Sh => told.push_str("\n  by sh"),
-        Shell::Bash => told.push_str("\n  by bash"),
+        Shell::Default => {},
+        Shell::Sh => page.put("\n  by sh"),
+        Shell::Bash => page.put("\n  by bash"),
     }
 }
 
-/// Adds pairs, each in a line behind a word.
-fn add_pairs(told: &mut String, word: &str, pairs: &Mapping<Text>) -> Result<(), AllocError> {
+/// Writes pairs, each in a line behind a word.
+fn put_pairs(page: &mut Page<'_>, word: &str, pairs: &Mapping<Text>) {
     for (name, text) in pairs.iter() {
-        write!(told, "\n  {word} {}={}", name.as_str(), text.as_str())?;
+        write!(page, "\n  {word} {}={}", name.as_str(), text.as_str());
     }
-    Ok(())
 }

@@ -6,6 +6,14 @@ use flow_model::{
 };
 use std::alloc::{AllocError, Global};
 
+/// A pair alone.
+pub fn pair(alloc: Global, name: &str, text: &str) -> Result<Mapping<Text>, AllocError> {
+    let text = Text::from_str(alloc, text)?;
+    let mut pairs = Mapping::empty(alloc);
+    pairs.set(alloc, name, text)?;
+    Ok(pairs)
+}
+
 /// A leg in a state, with nothing else to tell.
 fn leg(alloc: Global, state: LegState) -> Leg {
     Leg {
@@ -19,50 +27,52 @@ fn leg(alloc: Global, state: LegState) -> Leg {
 
 /// A leg that was told to stop, in a group, with an output.
 fn stopped_leg(alloc: Global) -> Result<Leg, AllocError> {
-    let mut stopped = leg(
-        alloc,
-        LegState::Ended {
-            result: Outcome::Failure,
-            tolerated: true,
-        },
-    );
-    stopped.stop = true;
-    stopped.group = Some(Text::from_str(alloc, "a\"b")?);
-    let name = Text::from_str(alloc, "o")?;
-    stopped.outputs.insert(name, Text::from_str(alloc, "7")?)?;
-    Ok(stopped)
+    let group = Some(Text::from_str(alloc, "a\"b")?);
+    let outputs = pair(alloc, "o", "7")?;
+    let state = LegState::Ended {
+        result: Outcome::Failure,
+        tolerated: true,
+    };
+    Ok(Leg {
+        state,
+        stop: true,
+        group,
+        steps: Sequence::empty(alloc),
+        outputs,
+    })
 }
 
 /// A job with that leg, one in a call and one that was admitted, and a job that was shut.
 fn jobs(alloc: Global) -> Result<Sequence<Job>, AllocError> {
-    let mut legs = Sequence::empty(alloc);
-    legs.push(stopped_leg(alloc)?)?;
+    let stopped = stopped_leg(alloc)?;
     let in_call = LegState::Running {
         worker: 3,
         in_call: true,
     };
-    legs.push(leg(alloc, in_call))?;
-    legs.push(leg(alloc, LegState::Admitted))?;
-    let mut jobs = Sequence::empty(alloc);
-    let state = JobState::Open;
-    jobs.push(Job { state, legs })?;
-    let state = JobState::Shut(Outcome::Skipped);
-    let legs = Sequence::empty(alloc);
-    jobs.push(Job { state, legs })?;
-    Ok(jobs)
+    let in_call = leg(alloc, in_call);
+    let legs = vec![in alloc; stopped, in_call, leg(alloc, LegState::Admitted)]?;
+    let open = Job {
+        state: JobState::Open,
+        legs: Sequence::new(legs),
+    };
+    let shut = Job {
+        state: JobState::Shut(Outcome::Skipped),
+        legs: Sequence::empty(alloc),
+    };
+    Ok(Sequence::new(vec![in alloc; open, shut]?))
 }
 
 /// A board of one run that waits for its group and was told to stop, with these jobs.
 pub fn board(alloc: Global) -> Result<Board, AllocError> {
     let group = Some(Text::from_str(alloc, "g")?);
     let jobs = jobs(alloc)?;
-    let mut runs = Sequence::empty(alloc);
-    runs.push(Run {
+    let run = Run {
         state: RunState::Waiting,
         stop: true,
         group,
         jobs,
-    })?;
+    };
+    let runs = Sequence::new(vec![in alloc; run]?);
     let ends = Sequence::empty(alloc);
     Ok(Board { runs, ends })
 }

@@ -1,6 +1,6 @@
 //! A reader and a writer over memory that may take few bytes a call, or fail.
 
-use std::alloc::{AllocError, Global};
+use std::alloc::Global;
 use std::io;
 use std::io::{ErrorKind, Read, Write};
 
@@ -66,41 +66,32 @@ impl Read for Feed<'_> {
 
 /// A writer that keeps what it takes.
 #[derive(Drop)]
-pub struct Page {
-    text: Vec<u8>,
+pub struct Sheet {
+    bytes: Vec<u8>,
     step: usize,
     room: usize,
 }
 
-impl Page {
-    /// A writer that fails after so many bytes.
-    pub fn new(alloc: Global, step: usize, room: usize) -> Page {
-        let text = Vec::new(alloc);
-        Page { text, step, room }
-    }
-
-    /// Takes a text that ends with a newline, which is added where there is none.
-    pub fn put_line(&mut self, text: &str) -> Result<(), AllocError> {
-        self.text.extend_from_slice(text.as_bytes())?;
-        if !text.ends_with('\n') {
-            self.text.push(b'\n')?;
-        }
-        Ok(())
+impl Sheet {
+    /// A writer that takes so many bytes a call, and fails after so many.
+    pub fn new(alloc: Global, step: usize, room: usize) -> Sheet {
+        let bytes = Vec::new(alloc);
+        Sheet { bytes, step, room }
     }
 
     /// What was written.
-    pub fn text(&self) -> &[u8] {
-        self.text.as_slice()
+    pub fn into_bytes(self) -> Vec<u8> {
+        self.bytes
     }
 }
 
-impl Write for Page {
+impl Write for Sheet {
     fn write(&mut self, buf: &[u8]) -> io::Result<usize> {
         if self.room == 0 {
             return Err(io::Error::from(ErrorKind::Other));
         }
         let count = buf.len().min(self.step).min(self.room);
-        self.text.extend_from_slice(&buf[..count])?;
+        self.bytes.extend_from_slice(&buf[..count])?;
         self.room -= count;
         Ok(count)
     }

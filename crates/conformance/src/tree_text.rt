@@ -2,8 +2,8 @@
 //!
 //! `1 || 2 && !x.y` is `(|| 1 (&& 2 (! (. x "y"))))`; parentheses of the text are `(group ..)`, an index is `([] ..)`.
 
+use crate::page::Page;
 use expr_reader::{Equality, Function, Literal, Piece, Relation, Template, Tree, Wildcard};
-use std::alloc::{AllocError, Global};
 
 /// The name of a function.
 fn function_name(function: Function) -> &'static str {
@@ -22,46 +22,35 @@ fn function_name(function: Function) -> &'static str {
     }
 }
 
-/// The sign of a relation.
-fn relation_sign(relation: Relation) -> &'static str {
-    match relation {
-        Relation::Less => "<",
-        Relation::AtMost => "<=",
-        Relation::Greater => ">",
-        Relation::AtLeast => ">=",
+/// What stands first in a node.
+fn sign_of(tree: &Tree) -> &'static str {
+    match tree {
+        Tree::Literal(_) | Tree::Context(_) => "",
+        Tree::Call(function, _) => function_name(*function),
+        Tree::Both(_) => "&&",
+        Tree::Either(_) => "||",
+        Tree::Group(_) => "group",
+        Tree::Not(_) => "!",
+        Tree::Wildcard(Wildcard::Dotted, _) => ".*",
+        Tree::Wildcard(Wildcard::Bracketed, _) => "[*]",
+        Tree::Property(_, _) => ".",
+        Tree::Index(_, _) => "[]",
+        Tree::Relation(Relation::Less, _, _) => "<",
+        Tree::Relation(Relation::AtMost, _, _) => "<=",
+        Tree::Relation(Relation::Greater, _, _) => ">",
+        Tree::Relation(Relation::AtLeast, _, _) => ">=",
+        Tree::Equality(Equality::Equal, _, _) => "==",
+        Tree::Equality(Equality::NotEqual, _, _) => "!=",
     }
-}
-
-/// The sign of an equality.
-fn equality_sign(equality: Equality) -> &'static str {
-    match equality {
-        Equality::Equal => "==",
-        Equality::NotEqual => "!=",
-    }
-}
-
-/// The sign of the dereference of every item.
-fn wildcard_sign(wildcard: Wildcard) -> &'static str {
-    match wildcard {
-        Wildcard::Dotted => ".*",
-        Wildcard::Bracketed => "[*]",
-    }
-}
-
-/// Writes a text in double quotes.
-fn write_text(out: &mut String, text: &str) -> Result<(), AllocError> {
-    out.push_str("\"")?;
-    out.push_str(text)?;
-    out.push_str("\"")
 }
 
 /// Writes a literal.
-fn write_literal(out: &mut String, literal: &Literal) -> Result<(), AllocError> {
+fn put_literal(page: &mut Page<'_>, literal: &Literal) {
     match literal {
-        Literal::Null => out.push_str("null"),
-        Literal::Truth(truth) => write!(out, "{truth}"),
-        Literal::Whole(number) => write!(out, "{number}"),
-        Literal::Text(text) => write_text(out, text.as_str()),
+        Literal::Null => page.put("null"),
+        Literal::Truth(truth) => write!(page, "{truth}"),
+        Literal::Whole(number) => write!(page, "{number}"),
+        Literal::Text(text) => write!(page, "\"{}\"", text.as_str()),
     }
 }
 
@@ -69,116 +58,75 @@ fn write_literal(out: &mut String, literal: &Literal) -> Result<(), AllocError> 
 #[derive(Clone, Copy)]
 enum Part<'a> {
     Tree(&'a Tree),
-    Sign(&'a str),
-    Quoted(&'a str),
+    Name(&'a str),
+    End,
 }
 
-/// Lays the front of a node, its name, on the parts that are laid already.
-fn lay_front<'a>(rest: &mut Vec<Part<'a>>, name: &'a str) -> Result<(), AllocError> {
-    rest.extend_from_slice(&[Part::Sign(name), Part::Sign("(")])
-}
-
-/// Lays a node: its name and its parts in parentheses.
-fn lay_node<'a>(
-    rest: &mut Vec<Part<'a>>,
-    name: &'a str,
-    parts: &[Part<'a>],
-) -> Result<(), AllocError> {
-    rest.push(Part::Sign(")"))?;
+/// Writes the front of a node, and lays its parts and its end on what is still to be written.
+fn open<'a>(page: &mut Page<'_>, rest: &mut Vec<Part<'a>>, name: &str, parts: &[Part<'a>]) {
+    write!(page, "({name}");
+    page.note(rest.push(Part::End));
     for part in parts.iter().rev() {
-        rest.extend_from_slice(&[*part, Part::Sign(" ")])?;
+        page.note(rest.push(*part));
     }
-    lay_front(rest, name)
 }
 
-/// Lays a node of any number of trees.
-fn lay_all<'a>(
-    rest: &mut Vec<Part<'a>>,
-    name: &'a str,
-    trees: &'a [Tree],
-) -> Result<(), AllocError> {
-    rest.push(Part::Sign(")"))?;
+/// The same of a node of any number of trees.
+fn open_all<'a>(page: &mut Page<'_>, rest: &mut Vec<Part<'a>>, name: &str, trees: &'a [Tree]) {
+    open(page, rest, name, &[]);
     for tree in trees.iter().rev() {
-        rest.extend_from_slice(&[Part::Tree(tree), Part::Sign(" ")])?;
+        page.note(rest.push(Part::Tree(tree)));
     }
-    lay_front(rest, name)
 }
 
-/// Lays the parts of a tree; one without parts is written.
-fn lay_tree<'a>(
-    out: &mut String,
-    rest: &mut Vec<Part<'a>>,
-    tree: &'a Tree,
-) -> Result<(), AllocError> {
+/// Writes the front of a tree, and lays its parts.
+fn put_front<'a>(page: &mut Page<'_>, rest: &mut Vec<Part<'a>>, tree: &'a Tree) {
+    let sign = sign_of(tree);
     match tree {
-        Tree::Literal(literal) => write_literal(out, literal),
-        Tree::Context(context) => out.push_str(context.name()),
-        Tree::Call(function, trees) => lay_all(rest, function_name(*function), trees.as_slice()),
-        Tree::Both(trees) => lay_all(rest, "&&", trees.as_slice()),
-        Tree::Either(trees) => lay_all(rest, "||", trees.as_slice()),
-        Tree::Group(inner) => lay_node(rest, "group", &[Part::Tree(inner)]),
-        Tree::Not(inner) => lay_node(rest, "!", &[Part::Tree(inner)]),
-        Tree::Wildcard(wildcard, base) => {
-            lay_node(rest, wildcard_sign(*wildcard), &[Part::Tree(base)])
+        Tree::Literal(literal) => put_literal(page, literal),
+        Tree::Context(context) => page.put(context.name()),
+        Tree::Call(_, trees) | Tree::Both(trees) | Tree::Either(trees) => {
+            open_all(page, rest, sign, trees.as_slice());
+        },
+        Tree::Group(inner) | Tree::Not(inner) | Tree::Wildcard(_, inner) => {
+            open(page, rest, sign, &[Part::Tree(inner)]);
         },
         Tree::Property(base, name) => {
-            lay_node(rest, ".", &[Part::Tree(base), Part::Quoted(name.as_str())])
+            let parts = [Part::Tree(base), Part::Name(name.as_str())];
+            open(page, rest, sign, &parts);
         },
-        Tree::Index(base, index) => lay_node(rest, "[]", &[Part::Tree(base), Part::Tree(index)]),
-        Tree::Relation(relation, left, right) => {
-            let parts = [Part::Tree(left), Part::Tree(right)];
-            lay_node(rest, relation_sign(*relation), &parts)
+        Tree::Index(left, right)
+        | Tree::Relation(_, left, right)
+        | Tree::Equality(_, left, right) => {
+            open(page, rest, sign, &[Part::Tree(left), Part::Tree(right)]);
         },
-        Tree::Equality(equality, left, right) => {
-            let parts = [Part::Tree(left), Part::Tree(right)];
-            lay_node(rest, equality_sign(*equality), &parts)
-        },
-    }
-}
-
-/// Writes a part, or lays its parts.
-fn write_part<'a>(
-    out: &mut String,
-    rest: &mut Vec<Part<'a>>,
-    part: Part<'a>,
-) -> Result<(), AllocError> {
-    match part {
-        Part::Tree(tree) => lay_tree(out, rest, tree),
-        Part::Sign(sign) => out.push_str(sign),
-        Part::Quoted(text) => write_text(out, text),
     }
 }
 
 /// Writes a tree. What is still to be written is laid on a stack, the next part on top.
-pub fn write_tree(alloc: Global, out: &mut String, tree: &Tree) -> Result<(), AllocError> {
-    let mut rest = Vec::new(alloc);
-    rest.push(Part::Tree(tree))?;
+pub fn put_tree(page: &mut Page<'_>, tree: &Tree) {
+    let mut rest = Vec::new(page.alloc);
+    put_front(page, &mut rest, tree);
     for _ in 0..usize::MAX {
         match rest.pop() {
-            Some(part) => write_part(out, &mut rest, part)?,
-            None => return Ok(()),
+            Some(Part::Tree(tree)) => {
+                page.put(" ");
+                put_front(page, &mut rest, tree);
+            },
+            Some(Part::Name(name)) => write!(page, " \"{name}\""),
+            Some(Part::End) => page.put(")"),
+            None => return,
         }
-    }
-    Ok(())
-}
-
-/// Writes a piece of a template.
-fn write_piece(alloc: Global, out: &mut String, piece: &Piece) -> Result<(), AllocError> {
-    match piece {
-        Piece::Text(text) => write_text(out, text.as_str()),
-        Piece::Expression(tree) => write_tree(alloc, out, tree),
     }
 }
 
 /// Writes the pieces of a template, one a line.
-pub fn write_pieces(
-    alloc: Global,
-    out: &mut String,
-    template: &Template,
-) -> Result<(), AllocError> {
+pub fn put_pieces(page: &mut Page<'_>, template: &Template) {
     for piece in template.pieces.as_slice() {
-        write_piece(alloc, out, piece)?;
-        out.push_str("\n")?;
+        match piece {
+            Piece::Text(text) => write!(page, "\"{}\"", text.as_str()),
+            Piece::Expression(tree) => put_tree(page, tree),
+        }
+        page.put("\n");
     }
-    Ok(())
 }

@@ -1,15 +1,18 @@
 //! What a case asks for: a command, by the words of the command line, or a verb of this program's own.
 
-use crate::streams::{Feed, Limits, Page};
-use crate::{plan_calls, program_calls};
+use crate::page::Page;
+use crate::streams::{Feed, Limits, Sheet};
+use crate::{plan_calls, pool_calls, program_calls};
 use command_io::stream::{Input, Output};
 use command_words::folder::Folder;
 use command_words::words;
 use run_command::machine::Machine;
-use std::alloc::{AllocError, Global};
+use std::alloc::Global;
 use std::collections::BTreeMap;
 use std::io;
 use std::io::ErrorKind;
+use std::sync::Wait;
+use std::thread::Threads;
 
 /// The name of the file whose lines stand without one.
 pub const CONTEXTS: &str = "contexts.json";
@@ -22,25 +25,18 @@ pub type Files = BTreeMap<String, Vec<u8>>;
 pub struct Asked<'a> {
     /// Whether the words are those of a verb of this program, and not of the command line.
     pub is_verb: bool,
-    pub words: &'a [&'a str],
+    /// The words, of which the first names the program.
+    pub words: &'a [String],
     pub files: &'a Files,
     pub input: &'a [u8],
     pub limits: Limits,
 }
 
-/// The word at a place, or a text of no bytes.
-pub fn word<'a>(words: &[&'a str], place: usize) -> &'a str {
-    match words.get(place) {
-        Some(word) => word,
-        None => "",
-    }
-}
-
 /// What came of it.
 #[derive(Drop)]
 pub struct Found {
-    pub out: Page,
-    pub err: Page,
+    pub out: Vec<u8>,
+    pub err: Vec<u8>,
     pub status: u8,
 }
 
@@ -52,7 +48,7 @@ struct Shelf<'a, R> {
     rt: &'a R,
 }
 
-impl<'a, R: Machine> Folder for Shelf<'a, R> {
+impl<'a, R: Machine + Threads + Wait + Sync> Folder for Shelf<'a, R> {
     type File = Input<Feed<'a>>;
 
     type Machine = R;
@@ -70,59 +66,40 @@ impl<'a, R: Machine> Folder for Shelf<'a, R> {
 }
 
 /// Does what is asked. A verb writes its answer to `out`, faults too; its status is 0.
-pub fn perform<R: Machine>(rt: &R, alloc: Global, asked: &Asked<'_>) -> Result<Found, AllocError> {
+pub fn perform<R: Machine + Threads + Wait + Sync>(
+    rt: &R,
+    alloc: Global,
+    asked: &Asked<'_>,
+) -> Found {
     if !asked.is_verb {
         return run(rt, alloc, asked);
     }
-    let text = if word(asked.words, 0) == "program" {
-        program_calls::program_told(rt, alloc, asked.words, asked.input)?
-    } else {
-        plan_calls::told(alloc, asked.words, asked.files, asked.input)?
-    };
-    let mut out = Page::new(alloc, usize::MAX, usize::MAX);
-    let err = Page::new(alloc, usize::MAX, usize::MAX);
-    out.put_line(text.as_str())?;
-    let status = 0;
-    Ok(Found { out, err, status })
-}
-
-/// The words of a command line, of which the first names the program.
-fn command_line(alloc: Global, words: &[&str]) -> Result<Vec<String>, AllocError> {
-    let mut line = Vec::new(alloc);
-    line.push(String::from_str(alloc, "actrun")?)?;
-    for word in words {
-        line.push(String::from_str(alloc, *word)?)?;
+    let words = asked.words.get(1..).unwrap_or(&[]);
+    let mut page = Page::new(alloc, words, asked.files, asked.input);
+    match page.word(0) {
+        "program" => program_calls::program(rt, &mut page),
+        "pool" | "meet" => pool_calls::perform(rt, &mut page),
+        _ => plan_calls::perform(&mut page),
     }
-    Ok(line)
+    page.into_found()
 }
 
-/// Runs the command that the words ask for.
-fn run<R: Machine>(rt: &R, alloc: Global, asked: &Asked<'_>) -> Result<Found, AllocError> {
-    let line = command_line(alloc, asked.words)?;
-    Ok(run_words(rt, alloc, line.as_slice(), asked))
-}
-
-/// Runs the command that these words ask for, or none where they are no UTF-8.
-fn run_words<R: Machine>(rt: &R, alloc: Global, line: &[String], asked: &Asked<'_>) -> Found {
-    let Asked {
-        files,
-        input,
-        limits,
-        ..
-    } = *asked;
+/// Runs the command that the words ask for, or none where they are no UTF-8.
+fn run<R: Machine + Threads + Wait + Sync>(rt: &R, alloc: Global, asked: &Asked<'_>) -> Found {
+    let Asked { files, limits, .. } = *asked;
     let folder = Shelf { files, limits, rt };
-    let mut input = Input::new(Feed::new(input, limits));
-    let mut out = Output::new(Page::new(alloc, limits.step, limits.out));
-    let mut err = Output::new(Page::new(alloc, limits.step, limits.err));
+    let mut input = Input::new(Feed::new(asked.input, limits));
+    let mut out = Output::new(Sheet::new(alloc, limits.step, limits.out));
+    let mut err = Output::new(Sheet::new(alloc, limits.step, limits.err));
     let status = if limits.words_fail {
         let line = Err(io::Error::from(ErrorKind::InvalidData));
         words::run_line(alloc, line, &folder, &mut input, &mut out, &mut err)
     } else {
-        words::run(alloc, line, &folder, &mut input, &mut out, &mut err)
+        words::run(alloc, asked.words, &folder, &mut input, &mut out, &mut err)
     };
     Found {
-        out: out.into_writer(),
-        err: err.into_writer(),
+        out: out.into_writer().into_bytes(),
+        err: err.into_writer().into_bytes(),
         status,
     }
 }
