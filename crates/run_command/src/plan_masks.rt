@@ -1,19 +1,54 @@
 //! The masks that the secrets of a plan are.
 
 ghost use Rattle.std.specs.Prelude.{◌≡◌, ◌++◌, IfOk, OnOk};
+ghost use Rattle.flow_model.specs.Mapping.{pairs_of};
+ghost use Rattle.flow_model.specs.Plain as plain;
+ghost use Rattle.flow_model.specs.Value.{view, views, viewed};
 ghost use Rattle.run_command.specs.PlanMasks as spec;
 
 use flow_model::{Mapping, Node, Plan, Sequence, Text, Value};
 use std::alloc::{AllocError, Global};
+use std::collections::BTreeMap;
 
-/// Adds the mask that a secret is, if it is a text that has a byte.
-fn add_secret(alloc: Global, secret: &Value, masks: &mut Sequence<Text>) -> Result<(), AllocError>
-    ensures { OnOk result (masks.new ≡ masks.old ++ spec.secret_mask secret.now) }
+/// Adds the masks that a secret is: each text in it that has a byte.
+#[cycle(texts)]
+fn add_secret(alloc: Global, secret: &Node, masks: &mut Sequence<Text>) -> Result<(), AllocError>
+    ensures { OnOk result (masks.new ≡ masks.old ++ spec.texts_in (view secret.now)) }
 {
-    match secret.node() {
+    match secret {
         Node::Text(text) => add_text(alloc, text, masks),
-        Node::Null | Node::Truth(_) | Node::Whole(_) | Node::List(_) | Node::Map(_) => Ok(()),
+        Node::List(nodes) => add_items(alloc, nodes, masks),
+        Node::Map(members) => add_members(alloc, members, masks),
+        Node::Null | Node::Truth(_) | Node::Whole(_) => Ok(()),
     }
+}
+
+/// The same of a list's items.
+#[cycle(texts)]
+fn add_items(alloc: Global, nodes: &Vec<Node>, masks: &mut Sequence<Text>) -> Result<(), AllocError>
+    ensures { OnOk result (masks.new
+        ≡ masks.old ++ spec.texts_in_items (plain.items_of (views nodes.now.items))) }
+{
+    for node in nodes {
+        add_secret(alloc, node, masks)?;
+    }
+    Ok(())
+}
+
+/// The same of a map's values.
+#[cycle(texts)]
+fn add_members(
+    alloc: Global,
+    members: &BTreeMap<String, Node>,
+    masks: &mut Sequence<Text>,
+) -> Result<(), AllocError>
+    ensures { OnOk result (masks.new ≡ masks.old
+        ++ spec.texts_in_members (plain.members_of (viewed (pairs_of members.now.entries)))) }
+{
+    for (_key, node) in members.iter() {
+        add_secret(alloc, node, masks)?;
+    }
+    Ok(())
 }
 
 /// Adds a text, if it has a byte.
@@ -36,7 +71,7 @@ fn add_secrets(
 {
     let from = secrets.iter();
     for (_, secret) in from {
-        add_secret(alloc, secret, masks)?;
+        add_secret(alloc, secret.node(), masks)?;
     }
     Ok(())
 }
