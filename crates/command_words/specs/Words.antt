@@ -42,7 +42,8 @@ RunsReplay out out' err err' status =
 -- What `run` tells of some plan; or a trouble is told.
 abbrev pub RunsRun : Stream → Stream → Stream → Stream → ℕ → Type 0
 RunsRun out out' err err' status =
-    ((workers : ℕ) × (input input' : Stream) × run.RunTells workers input input' out out' err err' status) ⊎ TellsSome out out' err err' status
+    ((workers : ℕ) × (stubs stubs' : File) × (input input' : Stream) × run.RunTells workers stubs stubs' input input' out out' err err' status)
+    ⊎ TellsSome out out' err err' status
 
 -- What `debug` tells of some record and of the input; or a trouble is told.
 abbrev pub RunsDebug : Stream → Stream → Stream → Stream → Stream → Stream → ℕ → Type 0

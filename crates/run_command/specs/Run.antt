@@ -1,20 +1,27 @@
 -- What `actrun run` tells: what was shown of the steps that it played, how the runs ended, and why it stopped.
-use Rattle.std.specs.Prelude.{◌≡◌, ℕ, ◌⊎◌, List, ◌++◌, Option, Some, None, Ok}
+use Rattle.std.specs.Prelude.{◌≡◌, ℕ, ◌⊎◌, List, ◌++◌, Option, Some, None, Result, Ok, Err, Vec}
+use Rattle.std.specs.declared.alloc.Global.{Global}
+use Rattle.command_io.specs.Files.{Content, File, IsContent}
 use Rattle.command_io.specs.Runs.{runs_status}
 use Rattle.command_io.specs.Stop.{SaysStop}
 use Rattle.command_io.specs.Stream.{Stream, IsKept, IsRead, IsWritten}
-use Rattle.command_io.specs.Tell.{BreaksOff, Says, TellsSome}
-use Rattle.command_io.specs.Trouble.{line, trouble_status}
+use Rattle.command_io.specs.Tell.{BreaksOff, Says, TellsTrouble}
+use Rattle.command_io.specs.Trouble.{line, source_trouble, trouble_status}
 use Rattle.command_io.specs.declared.stop.Stop.{Stop}
 use Rattle.command_io.specs.declared.stop.Stop.TheVariants.{Workers}
+use Rattle.command_io.specs.declared.stream.SourceFault.{SourceFault}
 use Rattle.command_io.specs.declared.trouble.Trouble.{Trouble}
+use Rattle.command_io.specs.declared.trouble.Trouble.TheVariants.{NoExpression, NoValue, NoContexts, NoFlow, NotPlanned, NoPlan, NoEntry, Refused, Words, Io, Memory}
 use Rattle.flow_model.specs.declared.board.Board.{Board}
 use Rattle.flow_model.specs.declared.event.Entry.{Entry}
 use Rattle.flow_model.specs.declared.plan.Plan.{Plan}
 use Rattle.plan_text.specs.Load.{load}
-use Rattle.run_command.specs.Playing.{IsPlayed}
+use Rattle.plan_text.specs.declared.fault.LoadFault.{LoadFault}
+use Rattle.plan_text.specs.declared.fault.LoadFault.TheVariants as load_fault
+use Rattle.run_command.specs.Playing.{IsPlayed, Leaves}
 use Rattle.run_command.specs.RunLines.{run_lines}
 use Rattle.run_command.specs.StepLogs.{ShowsLogs}
+use Rattle.run_command.specs.Stubs.{Stubs, file_stubs}
 use Rattle.status_table.specs.Runs.{after}
 use Rattle.worker_pool.specs.Many.{AreNoWorkers}
 
@@ -44,11 +51,15 @@ pub record IsRunText (plan : Plan) (history : List Entry) (stop : Option Stop) (
 abbrev pub SaysTrouble : Trouble → Stream → Stream → ℕ → Type 0
 SaysTrouble trouble err err' status = Says err err' (line trouble) × (status ≡ trouble_status trouble)
 
+-- Why a record is not kept: its file cannot be written, or there is no memory for its text.
+abbrev pub IsUnkept : Trouble → Type 0
+IsUnkept trouble = (trouble ≡ Io) ⊎ (trouble ≡ Memory)
+
 -- What is told after the text: why the play was stopped; else why the record could not be written, or nothing.
 abbrev pub Finishes : Option Stop → ℕ → Stream → Stream → ℕ → Type 0
 Finishes (Some stop) done err err' status = SaysStop stop err err' status
 Finishes None done err err' status =
-    (IsKept err err' × (status ≡ done)) ⊎ ((trouble : Trouble) × SaysTrouble trouble err err' status)
+    (IsKept err err' × (status ≡ done)) ⊎ ((trouble : Trouble) × IsUnkept trouble × SaysTrouble trouble err err' status)
 
 -- The text stands on out, and what follows it is told; or a write to out failed after a beginning of the text.
 abbrev pub TellsShown : Option Stop → List ℕ → ℕ → Stream → Stream → Stream → Stream → ℕ → Type 0
@@ -62,16 +73,21 @@ pub record TellsHistory (plan : Plan) (history : List Entry) (stop : Option Stop
   pub text : IsRunText plan history stop shown done
   pub told : TellsShown stop shown done out out' err err' status
 
--- What is told of what was played: the history, or, where its text cannot be had, a trouble.
+-- Nothing stands on out, and want of memory is told.
+abbrev pub TellsMemory : Stream → Stream → Stream → Stream → ℕ → Type 0
+TellsMemory = TellsTrouble Memory
+
+-- What is told of what was played: the history, or that there is no memory for its text.
 abbrev pub TellsPlaying : Plan → List Entry → Option Stop → Stream → Stream → Stream → Stream → ℕ → Type 0
 TellsPlaying plan history stop out out' err err' status =
-    TellsHistory plan history stop out out' err err' status ⊎ TellsSome out out' err err' status
+    TellsHistory plan history stop out out' err err' status ⊎ TellsMemory out out' err err' status
 
 -- What is told of some play of a plan by so many workers.
 pub record TellsPlay (plan : Plan) (workers : ℕ) (out out' err err' : Stream) (status : ℕ) : Type 0 where
   pub history : List Entry
   pub stop : Option Stop
   pub played : IsPlayed plan workers history
+  pub leaves : Leaves plan history stop
   pub told : TellsHistory plan history stop out out' err err' status
 
 -- Nothing is played, since there are not so many workers.
@@ -81,23 +97,83 @@ TellsWorkers workers out out' err err' status = AreNoWorkers workers × IsKept o
 -- What `run` tells of a plan.
 abbrev pub RunsPlan : Plan → ℕ → Stream → Stream → Stream → Stream → ℕ → Type 0
 RunsPlan plan workers out out' err err' status =
-    TellsPlay plan workers out out' err err' status ⊎ (TellsWorkers workers out out' err err' status ⊎ TellsSome out out' err err' status)
+    TellsPlay plan workers out out' err err' status ⊎ (TellsWorkers workers out out' err err' status ⊎ TellsMemory out out' err err' status)
 
--- The bytes load as a plan, of which this is told.
-pub record RunsLoaded (bytes : List ℕ) (workers : ℕ) (out out' err err' : Stream) (status : ℕ) : Type 0 where
-  pub plan : Plan
+-- The texts are a file of stubs and a plan.
+pub record AreTexts (stubs : Content) (bytes : List ℕ) (plan : Plan) : Type 0 where
+  pub programs : Stubs
+  pub has : file_stubs stubs.bytes ≡ Ok programs
   pub loads : load bytes ≡ Ok plan
+
+-- The file of stubs gives some, and the bytes are no plan.
+pub record IsNoPlan (stubs : Content) (bytes : List ℕ) (fault : LoadFault) : Type 0 where
+  pub programs : Stubs
+  pub has : file_stubs stubs.bytes ≡ Ok programs
+  pub fails : load bytes ≡ Err fault
+
+-- Why nothing is played of texts: the first is no file of stubs; it is one, and the other is no plan; or they are both, and the
+-- machine has no such folder, or its own variables cannot be had. Want of memory may be told of all of them. (`load` refuses no text
+-- for a line of an entry.)
+abbrev pub AreNotPlayed : Content → List ℕ → Trouble → Type 0
+AreNotPlayed stubs bytes (NoContexts file fault) = (file_stubs stubs.bytes ≡ Err fault) × (file ≡ stubs.name)
+AreNotPlayed stubs bytes (NoPlan fault) = IsNoPlan stubs bytes fault
+AreNotPlayed stubs bytes (NoEntry n) = IsNoPlan stubs bytes (load_fault.NotEntry n)
+AreNotPlayed stubs bytes Io = (plan : Plan) × AreTexts stubs bytes plan
+AreNotPlayed stubs bytes Memory = Unit {0}
+AreNotPlayed stubs bytes (NoExpression fault) = ⊥
+AreNotPlayed stubs bytes (NoValue fault) = ⊥
+AreNotPlayed stubs bytes (NoFlow file fault) = ⊥
+AreNotPlayed stubs bytes (NotPlanned fault) = ⊥
+AreNotPlayed stubs bytes (Refused n fault) = ⊥
+AreNotPlayed stubs bytes Words = ⊥
+
+-- What is told of a plan and stubs that texts are.
+pub record RunsLoaded (stubs : Content) (bytes : List ℕ) (workers : ℕ) (out out' err err' : Stream) (status : ℕ) : Type 0 where
+  pub plan : Plan
+  pub texts : AreTexts stubs bytes plan
   pub runs : RunsPlan plan workers out out' err err' status
 
--- The same, or a trouble with the texts.
-abbrev pub RunsText : List ℕ → ℕ → Stream → Stream → Stream → Stream → ℕ → Type 0
-RunsText bytes workers out out' err err' status = RunsLoaded bytes workers out out' err err' status ⊎ TellsSome out out' err err' status
+-- Texts are not played, and why is told.
+pub record RefusesTexts (stubs : Content) (bytes : List ℕ) (out out' err err' : Stream) (status : ℕ) : Type 0 where
+  pub trouble : Trouble
+  pub why : AreNotPlayed stubs bytes trouble
+  pub told : TellsTrouble trouble out out' err err' status
 
--- An input was read to its end, and this is what it held.
-pub record HasRead (input input' : Stream) (bytes : List ℕ) : Type 0 where
-  pub read : IsRead input input' (Ok bytes)
+-- What is told of texts.
+abbrev pub RunsTexts : Content → List ℕ → ℕ → Stream → Stream → Stream → Stream → ℕ → Type 0
+RunsTexts stubs bytes workers out out' err err' status =
+    RunsLoaded stubs bytes workers out out' err err' status ⊎ RefusesTexts stubs bytes out out' err err' status
 
--- What `run` leaves, by so many workers: it reads the plan to its end, and tells of it; or it tells a trouble.
-abbrev pub RunTells : ℕ → Stream → Stream → Stream → Stream → Stream → Stream → ℕ → Type 0
-RunTells workers input input' out out' err err' status =
-    ((bytes : List ℕ) × HasRead input input' bytes × RunsText bytes workers out out' err err' status) ⊎ TellsSome out out' err err' status
+-- The file of stubs is read to its end, and then the plan; or one of them is not.
+abbrev pub AreBothRead : File → File → Stream → Stream → Result (Content × List ℕ) SourceFault → Type 0
+AreBothRead stubs stubs' input input' (Ok both) = IsContent stubs stubs' both.0 × IsRead input input' (Ok both.1)
+AreBothRead stubs stubs' input input' (Err why) =
+    IsRead stubs.source stubs'.source (Err why) ⊎ ((content : Content) × IsContent stubs stubs' content × IsRead input input' (Err why))
+
+-- Both were read, and this is told of them.
+pub record TellsRead (workers : ℕ) (stubs stubs' : File) (input input' out out' err err' : Stream) (status : ℕ) : Type 0 where
+  pub both : Content × List ℕ
+  pub read : AreBothRead stubs stubs' input input' (Ok both)
+  pub told : RunsTexts both.0 both.1 workers out out' err err' status
+
+-- One of them was not, and why is told.
+pub record TellsUnread (stubs stubs' : File) (input input' out out' err err' : Stream) (status : ℕ) : Type 0 where
+  pub why : SourceFault
+  pub unread : AreBothRead stubs stubs' input input' (Err why)
+  pub told : TellsTrouble (source_trouble why) out out' err err' status
+
+-- What `run` leaves, by so many workers: it reads the file of stubs and the plan to their ends, and tells of them.
+abbrev pub RunTells : ℕ → File → File → Stream → Stream → Stream → Stream → Stream → Stream → ℕ → Type 0
+RunTells workers stubs stubs' input input' out out' err err' status =
+    TellsRead workers stubs stubs' input input' out out' err err' status ⊎ TellsUnread stubs stubs' input input' out out' err err' status
+
+-- ---- what the code answers on the way
+
+-- Both texts are read, as the code answers it.
+abbrev pub ReadsBoth : File → File → Stream → Stream → Result (Content × Vec ℕ Global) SourceFault → Type 0
+ReadsBoth stubs stubs' input input' (Ok both) = AreBothRead stubs stubs' input input' (Ok (both.0, both.1.items))
+ReadsBoth stubs stubs' input input' (Err why) = AreBothRead stubs stubs' input input' (Err why)
+
+-- What a machine cannot give, for want of a folder, of variables or of memory.
+abbrev pub IsOfMachine : Trouble → Type 0
+IsOfMachine trouble = (trouble ≡ Io) ⊎ (trouble ≡ Memory)

@@ -1,5 +1,8 @@
 //! What starts programs.
 
+ghost use Rattle.std.specs.Prelude.{IfErr};
+ghost use Rattle.run_command.specs.Run.{IsOfMachine};
+
 use command_io::trouble::Trouble;
 use flow_model::{Mapping, Sequence, Text};
 use std::alloc::Global;
@@ -19,7 +22,8 @@ pub trait Machine: Files {
     /// # Errors
     ///
     /// `Trouble::Io` where there is none, and `Trouble::Memory`.
-    fn whole_path(&self, folder: &str) -> Result<String, Trouble>;
+    fn whole_path(&self, folder: &str) -> Result<String, Trouble>
+        ensures { IfErr result IsOfMachine };
 
     /// The host that starts programs in a folder, with these stubs and the variables of this program, and masks the
     /// outputs.
@@ -33,7 +37,8 @@ pub trait Machine: Files {
         work: &str,
         stubs: Mapping<Text>,
         masks: Sequence<Text>,
-    ) -> Result<Self::Host, Trouble>;
+    ) -> Result<Self::Host, Trouble>
+        ensures { IfErr result IsOfMachine };
 }
 
 impl Machine for HostRuntime {
@@ -68,7 +73,9 @@ impl Machine for HostRuntime {
 }
 
 /// The variables of this program, which programs have too.
-fn base_of<R: Env + Alloc<A = Global>>(rt: &R) -> Result<Mapping<Text>, Trouble> {
+fn base_of<R: Env + Alloc<A = Global>>(rt: &R) -> Result<Mapping<Text>, Trouble>
+    ensures { IfErr result IsOfMachine }
+{
     let variables = match env::vars(rt) {
         Ok(variables) => variables,
         Err(VarError::OutOfMemory) => return Err(Trouble::Memory),

@@ -28,7 +28,7 @@ fn play_by<R: Threads + Wait + Sync, H: StepHost>(
     host: &H,
     workers: u64,
 ) -> Result<Played, PoolFault>
-    ensures played { IfOk result (λ played. spec.IsPlayed plan.now workers played.history) }
+    ensures played { IfOk result (λ played. spec.EndsPlayed plan.now workers played.history) }
     ensures stopped { IfErr result (spec.StopsPlayed plan.now workers) }
 {
     if workers == 1 {

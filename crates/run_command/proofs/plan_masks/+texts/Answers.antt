@@ -8,5 +8,5 @@ use Rattle.run_command.proofs.plan_masks.+texts.Goals as goal
 pub add_secret-returns-in-Map : goal.add_secret-returns-in-Map
 add_secret-returns-in-Map t c =
     let seen : view c.args.secret.now ≡ plain.map (plain.members_of (viewed (pairs_of c.in-Map.members.entries))) =
-        ap view c.in-Map.is ∙ view-Map c.in-Map.members in
+    ap view c.in-Map.is ∙ view-Map c.in-Map.members in
     rw seen c.add_members.ensures
