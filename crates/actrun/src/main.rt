@@ -3,10 +3,13 @@
 #![tactic(auto)]
 
 use command_io::stream::{Input, Output};
+use command_io::tell::refuse;
+use command_io::trouble::Trouble;
 use command_words::folder::Folder;
 use command_words::words::run_line;
 use run_command::machine::Machine;
 use std::fs::File;
+use std::io::BufReader;
 use std::process::ExitCode;
 use std::sync::Wait;
 use std::thread::Threads;
@@ -37,10 +40,15 @@ impl<F: Machine + Threads + Wait + Sync> Folder for Disk<'_, F> {
 
 fn main(rt: HostRuntime) -> ExitCode {
     let disk = Disk { files: &rt };
-    let mut input = Input::new(rt.reader());
     let mut out = Output::new(io::writer(&rt));
     let mut err = Output::new(rt.stderr());
-    let line = env::args(&rt);
-    let status = run_line(rt.alloc(), line, &disk, &mut input, &mut out, &mut err);
+    let status = match BufReader::new(rt.alloc(), rt.reader()) {
+        Ok(reader) => {
+            let mut input = Input::new(reader);
+            let line = env::args(&rt);
+            run_line(rt.alloc(), line, &disk, &mut input, &mut out, &mut err)
+        },
+        Err(_) => refuse(&mut err, &Trouble::Memory),
+    };
     ExitCode::from(status)
 }

@@ -1,4 +1,5 @@
 pub mod Known
+pub mod LineReading
 pub mod PlanFaults
 pub mod Reading
 pub mod Told

@@ -3,10 +3,11 @@ use Rattle.std.proofs.Common.{◌≡◌, ℕ, Bool, true, false, List, Option, S
 use Rattle.std.specs.Io.KnownBytes.{Keeps}
 use Rattle.command_io.specs.Stream.{Stream, IsKept, Puts}
 use Rattle.command_io.specs.Tell.{Answer, OrMemory, Says, Tells, TellsOf, TellsSome}
-use Rattle.command_io.specs.Trouble.{line, source_trouble, trouble_status}
+use Rattle.command_io.specs.Trouble.{line, source_trouble, trouble_status, UnlessMemory}
 use Rattle.command_io.specs.declared.stream.SourceFault.{SourceFault}
 use Rattle.command_io.specs.declared.stream.SourceFault.TheVariants as source_fault
 use Rattle.command_io.specs.declared.trouble.Trouble.{Trouble}
+use Rattle.command_io.specs.declared.trouble.Trouble.TheVariants.{NoExpression, NoValue, NoContexts, NoFlow, NotPlanned, NoPlan, NoEntry, Refused, Words, Io, Memory}
 
 -- the same line under another form
 pub Puts-as : (a b : Stream) (x y : List ℕ) (whole : Bool) → Puts a b x whole → x ≡ y → Puts a b y whole
@@ -51,3 +52,17 @@ unread_told Is Reads out err err' source_fault.Memory status reads said is = rec
 -- a trouble that is said is told, and out is as it was
 pub refused : (trouble : Trouble) (out err err' : Stream) (status : ℕ) → Says err err' (line trouble) → status ≡ trouble_status trouble → TellsSome out out err err' status
 refused trouble out err err' status said is = (trouble, record { kept = IsKept-same out; said = said; is = is })
+
+-- what follows from a fact holds too, unless there is no memory
+pub unless : (t : Trouble) (A B : Type 0) → (A → B) → UnlessMemory t A → UnlessMemory t B
+unless (NoExpression fault) A B f h = f h
+unless (NoValue fault) A B f h = f h
+unless (NoContexts file fault) A B f h = f h
+unless (NoFlow file fault) A B f h = f h
+unless (NotPlanned fault) A B f h = f h
+unless (NoPlan fault) A B f h = f h
+unless (NoEntry n) A B f h = f h
+unless (Refused n fault) A B f h = f h
+unless Words A B f h = f h
+unless Io A B f h = f h
+unless Memory A B f h = tt

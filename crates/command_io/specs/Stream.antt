@@ -1,7 +1,8 @@
 -- What streams show: the bytes that are known of them, and whether they have failed.
-use Rattle.std.specs.Prelude.{◌≡◌, ℕ, Bool, true, false, ◌≤◌, List, ◌++◌, length, take, Option, Some, None, IfSome, Result, Ok, Err, Vec}
-use Rattle.std.specs.Io.KnownBytes.{Appends, Keeps}
+use Rattle.std.specs.Prelude.{◌≡◌, ◌≢◌, ℕ, ◌-◌, Bool, true, false, IsTrue, ◌<◌, ◌≤◌, List, [], ◌∷◌, ◌++◌, length, take, slice_index, Option, Some, None, IfSome, Result, Ok, Err, Vec}
+use Rattle.std.specs.Io.KnownBytes.{Appends, Consumes, IsAtEnd, Keeps}
 use Rattle.std.specs.declared.alloc.Global.{Global}
+use Rattle.flow_model.specs.Lines.{is_line, lines_of, newline}
 use Rattle.command_io.specs.declared.stream.SourceFault.{SourceFault}
 use Rattle.command_io.specs.declared.stream.SourceFault.TheVariants.{Failed, Memory}
 
@@ -34,6 +35,11 @@ abbrev pub Puts : Stream → Stream → List ℕ → Bool → Type 0
 Puts old new text true = IsWritten old new text
 Puts old new text false = IsCutOff old new text
 
+-- What a call that hands on what was written answers: whether that could be done.
+abbrev pub Flushes : Stream → Stream → Bool → Type 0
+Flushes old new true = IsKept old new
+Flushes old new false = Keeps old.bytes new.bytes × (new.failed ≡ true)
+
 -- What reading a source to its end comes to: all bytes, where they are known; or a read failed, or there was no memory.
 abbrev pub IsRead : Stream → Stream → Result (List ℕ) SourceFault → Type 0
 IsRead old new (Ok bytes) = IfSome old.bytes (λ known. bytes ≡ known) × (new.failed ≡ old.failed)
@@ -44,6 +50,52 @@ IsRead old new (Err Memory) = Unit {0}
 abbrev pub ReadsAll : Stream → Stream → Result (Vec ℕ Global) SourceFault → Type 0
 ReadsAll old new (Ok read) = IsRead old new (Ok read.items)
 ReadsAll old new (Err fault) = IsRead old new (Err fault)
+
+-- ---- lines that are read as they come
+
+-- The first of the lines that are known was taken, and the others are left.
+abbrev pub TakesLine : Option (List ℕ) → Option (List ℕ) → List ℕ → Type 0
+TakesLine None new line = Unit {0}
+TakesLine (Some text) None line = ⊥
+TakesLine (Some text) (Some rest) line = lines_of text ≡ line ∷ lines_of rest
+
+-- These lines were taken, one after the other, and the others are left.
+abbrev pub TakesLines : Option (List ℕ) → Option (List ℕ) → List (List ℕ) → Type 0
+TakesLines None new lines = Unit {0}
+TakesLines (Some text) None lines = ⊥
+TakesLines (Some text) (Some rest) lines = lines_of text ≡ lines ++ lines_of rest
+
+-- Bytes of one line were lost, without its newline.
+pub record LosesPart (old new : Option (List ℕ)) : Type 0 where
+  pub part : List ℕ
+  pub within : IsTrue (is_line part)
+  pub lost : Consumes old new part
+
+-- What reading a line comes to: a line, or none at the end; or a read failed within a line, or there was no memory.
+abbrev pub IsLineRead : Stream → Stream → Result (Option (List ℕ)) SourceFault → Type 0
+IsLineRead old new (Ok None) = IsAtEnd old.bytes × (new.failed ≡ old.failed)
+IsLineRead old new (Ok (Some line)) = TakesLine old.bytes new.bytes line × (new.failed ≡ old.failed)
+IsLineRead old new (Err Failed) = LosesPart old.bytes new.bytes × (new.failed ≡ true)
+IsLineRead old new (Err Memory) = LosesPart old.bytes new.bytes
+
+-- The same of what the code answers.
+abbrev pub ReadsLine : Stream → Stream → Result (Option (Vec ℕ Global)) SourceFault → Type 0
+ReadsLine old new (Ok None) = IsLineRead old new (Ok None)
+ReadsLine old new (Ok (Some line)) = IsLineRead old new (Ok (Some line.items))
+ReadsLine old new (Err fault) = IsLineRead old new (Err fault)
+
+-- ---- what the code answers on the way
+
+-- What reading a line of a reader comes to.
+abbrev pub ReadsNext : Option (List ℕ) → Option (List ℕ) → Result (Option (Vec ℕ Global)) SourceFault → Type 0
+ReadsNext old new (Ok None) = IsAtEnd old
+ReadsNext old new (Ok (Some line)) = TakesLine old new line.items
+ReadsNext old new (Err fault) = LosesPart old new
+
+-- A newline was taken off the end of bytes, or there was none.
+abbrev pub CutsNewline : List ℕ → List ℕ → Bool → Type 0
+CutsNewline old new true = old ≡ new ++ newline ∷ []
+CutsNewline old new false = (new ≡ old) × (0 < length old → slice_index old (length old - 1) ≢ newline)
 
 -- What a call that writes a text to a writer answers.
 abbrev pub Writes : Option (List ℕ) → Option (List ℕ) → List ℕ → Bool → Type 0

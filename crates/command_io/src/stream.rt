@@ -1,11 +1,12 @@
 //! Streams of bytes that know whether a call on them has failed.
 
-ghost use Rattle.std.specs.Prelude.{◌≡◌, ℕ, List, Option, map, flat_map};
-ghost use Rattle.command_io.specs.Stream.{Stream, Puts, ReadsAll};
+ghost use Rattle.std.specs.Prelude.{◌≡◌, ◌<◌, ℕ, List, Option, OnOk, map, flat_map};
+ghost use Rattle.command_io.specs.Stream.{Flushes, Stream, Puts, ReadsAll, ReadsLine};
 ghost use Rattle.command_io.specs.Stream as spec;
 
 use std::alloc::Global;
-use std::io::{ErrorKind, Read, Write};
+use std::io;
+use std::io::{BufRead, ErrorKind, Read, Write};
 
 /// Why a source was not read to its end.
 #[derive(Clone, Copy, PartialEq, Eq)]
@@ -30,6 +31,21 @@ pub trait Source {
         ensures { ReadsAll (seen self.old) (seen self.new) result };
 }
 
+/// A source whose lines are read as they come.
+pub trait LineSource: Source {
+    /// How many more times a line may be asked for, before the source is given up as one that failed.
+    ghost turns_left: { Self → ℕ };
+
+    /// The next line, without its newline, which the last may lack; none at the end.
+    ///
+    /// # Errors
+    ///
+    /// A read that failed, or want of memory. What was read of the line until then is lost.
+    fn read_line(&mut self, alloc: Global) -> Result<Option<Vec<u8>>, SourceFault>
+        ensures reads { ReadsLine (Self.seen self.old) (Self.seen self.new) result }
+        ensures fewer { OnOk result (turns_left self.new < turns_left self.old) };
+}
+
 /// What is written to.
 pub trait Sink {
     /// The bytes that it holds, where they are known, and whether a write has failed.
@@ -38,13 +54,18 @@ pub trait Sink {
     /// Writes a text, and answers whether it was written whole. Where a write fails, a beginning of it was written.
     fn put(&mut self, text: &[u8]) -> bool
         ensures { Puts (seen self.old) (seen self.new) text.now result };
+
+    /// Hands on what was written, and answers whether that could be done.
+    fn flush(&mut self) -> bool
+        ensures { Flushes (seen self.old) (seen self.new) result };
 }
 
-/// A reader, and whether a read has failed.
+/// A reader, whether a read has failed, and how many more times it may be asked for a line.
 #[derive(Drop)]
 pub struct Input<R> {
     reader: R,
     failed: bool,
+    turns: u64,
 }
 
 impl<R: Read> Input<R> {
@@ -52,13 +73,22 @@ impl<R: Read> Input<R> {
 
     /// A reader, of which no read has failed.
     pub fn new(reader: R) -> Input<R>
-        ensures { result ≡ record { reader = reader; failed = false } }
+        ensures { result ≡ record { reader = reader; failed = false; turns = u64.MAX } }
     {
         Input {
             reader,
             failed: false,
+            turns: u64::MAX,
         }
     }
+}
+
+/// Why a call on a reader failed.
+fn source_fault(error: &io::Error) -> SourceFault {
+    if error.kind() == ErrorKind::OutOfMemory {
+        return SourceFault::Memory;
+    }
+    SourceFault::Failed
 }
 
 impl<R: Read> Source for Input<R> {
@@ -68,13 +98,65 @@ impl<R: Read> Source for Input<R> {
         let mut bytes = Vec::new(alloc);
         match self.reader.read_to_end(&mut bytes) {
             Ok(_) => Ok(bytes),
-            Err(error) => {
-                if error.kind() == ErrorKind::OutOfMemory {
-                    return Err(SourceFault::Memory);
-                }
+            Err(error) => match source_fault(&error) {
+                SourceFault::Failed => {
+                    self.failed = true;
+                    Err(SourceFault::Failed)
+                },
+                SourceFault::Memory => Err(SourceFault::Memory),
+            },
+        }
+    }
+}
+
+/// Takes the newline off the end of some bytes, and answers whether there was one.
+fn cut_newline(bytes: &mut Vec<u8>) -> bool
+    ensures { spec.CutsNewline bytes.old.items bytes.new.items result }
+{
+    let length = bytes.len();
+    if length == 0 {
+        return false;
+    }
+    if bytes[length - 1] != b'\n' {
+        return false;
+    }
+    bytes.truncate(length - 1);
+    true
+}
+
+/// The next line of a reader, without its newline; none at the end.
+fn next_line<R: BufRead>(alloc: Global, reader: &mut R) -> Result<Option<Vec<u8>>, SourceFault>
+    ensures { spec.ReadsNext (R.remaining reader.old) (R.remaining reader.new) result }
+{
+    let mut line = Vec::new(alloc);
+    let read = reader.read_until(b'\n', &mut line);
+    // a line with its newline is whole, whatever came after it
+    if cut_newline(&mut line) {
+        return Ok(Some(line));
+    }
+    match read {
+        Ok(0) => Ok(None),
+        Ok(_) => Ok(Some(line)),
+        Err(error) => Err(source_fault(&error)),
+    }
+}
+
+impl<R: BufRead> LineSource for Input<R> {
+    ghost turns_left = { λ s. s.turns };
+
+    fn read_line(&mut self, alloc: Global) -> Result<Option<Vec<u8>>, SourceFault> {
+        if self.turns == 0 {
+            self.failed = true;
+            return Err(SourceFault::Failed);
+        }
+        self.turns -= 1;
+        match next_line(alloc, &mut self.reader) {
+            Ok(line) => Ok(line),
+            Err(SourceFault::Failed) => {
                 self.failed = true;
                 Err(SourceFault::Failed)
             },
+            Err(SourceFault::Memory) => Err(SourceFault::Memory),
         }
     }
 }
@@ -151,6 +233,23 @@ impl<W: Write> Sink for Output<W> {
         }
         written
     }
+
+    fn flush(&mut self) -> bool {
+        match self.writer.flush() {
+            Ok(()) => true,
+            Err(_) => {
+                self.failed = true;
+                false
+            },
+        }
+    }
+}
+
+/// Writes a text and hands it on at once, and answers whether both could be done.
+pub fn put_now<S: Sink>(sink: &mut S, text: &[u8]) -> bool
+    ensures { Puts (S.seen sink.old) (S.seen sink.new) text.now result }
+{
+    sink.put(text) && sink.flush()
 }
 
 /// Writes texts one after the other, and answers whether all were written.

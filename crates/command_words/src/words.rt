@@ -10,7 +10,7 @@ use crate::folder::Folder;
 use crate::known::known_commands;
 use clap::{ArgMatches, Error};
 use command_io::files::NamedSource;
-use command_io::stream::{Sink, Source};
+use command_io::stream::{LineSource, Sink, Source};
 use command_io::tell::refuse;
 use command_io::trouble::Trouble;
 use commands::eval::eval;
@@ -117,7 +117,7 @@ fn perform_run<M: Machine + Threads + Wait + Sync, S: Source + Drop, O: Sink, E:
 }
 
 /// Runs `debug` over the lines of the input.
-fn perform_debug<S: Source + Drop, I: Source, O: Sink, E: Sink>(
+fn perform_debug<S: Source + Drop, I: LineSource, O: Sink, E: Sink>(
     alloc: Global,
     mut record: S,
     input: &mut I,
@@ -131,7 +131,7 @@ fn perform_debug<S: Source + Drop, I: Source, O: Sink, E: Sink>(
 }
 
 /// Runs the command that is asked for.
-fn perform<M: Machine + Threads + Wait + Sync, S: Source + Drop, I: Source, O: Sink, E: Sink>(
+fn perform<M: Machine + Threads + Wait + Sync, S: Source + Drop, I: LineSource, O: Sink, E: Sink>(
     alloc: Global,
     machine: &M,
     asked: Asked<'_, S>,
@@ -173,7 +173,7 @@ fn known_words<'w>(alloc: Global, words: &'w [String]) -> Result<ArgMatches<'w>,
 }
 
 /// Runs the command that known words ask for.
-fn run_known<F: Folder, I: Source, O: Sink, E: Sink>(
+fn run_known<F: Folder, I: LineSource, O: Sink, E: Sink>(
     alloc: Global,
     words: &ArgMatches,
     folder: &F,
@@ -192,7 +192,7 @@ fn run_known<F: Folder, I: Source, O: Sink, E: Sink>(
 
 /// Runs the command that the words ask for, of which the first names the program; `folder` has the files that they may
 /// name. The answer is the exit status.
-pub fn run<F: Folder, I: Source, O: Sink, E: Sink>(
+pub fn run<F: Folder, I: LineSource, O: Sink, E: Sink>(
     alloc: Global,
     words: &[String],
     folder: &F,
@@ -222,7 +222,7 @@ fn refuse_line<E: Sink>(err: &mut E, error: io::Error) -> u8
 
 /// Runs the command that a command line asks for, as it was read. One that is no UTF-8 asks for none. The answer is the
 /// exit status.
-pub fn run_line<F: Folder, I: Source, O: Sink, E: Sink>(
+pub fn run_line<F: Folder, I: LineSource, O: Sink, E: Sink>(
     alloc: Global,
     line: io::Result<Args>,
     folder: &F,

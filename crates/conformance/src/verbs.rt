@@ -4,13 +4,14 @@ use crate::page::Page;
 use crate::streams::{Feed, Limits, Sheet};
 use crate::{plan_calls, pool_calls, program_calls};
 use command_io::stream::{Input, Output};
+use command_io::trouble::FAILED;
 use command_words::folder::Folder;
 use command_words::words;
 use run_command::machine::Machine;
 use std::alloc::Global;
 use std::collections::BTreeMap;
 use std::io;
-use std::io::ErrorKind;
+use std::io::{BufReader, ErrorKind};
 use std::sync::Wait;
 use std::thread::Threads;
 
@@ -88,7 +89,14 @@ pub fn perform<R: Machine + Threads + Wait + Sync>(
 fn run<R: Machine + Threads + Wait + Sync>(rt: &R, alloc: Global, asked: &Asked<'_>) -> Found {
     let Asked { files, limits, .. } = *asked;
     let folder = Shelf { files, limits, rt };
-    let mut input = Input::new(Feed::new(asked.input, limits));
+    let Ok(reader) = BufReader::new(alloc, Feed::new(asked.input, limits)) else {
+        return Found {
+            out: Vec::new(alloc),
+            err: Vec::new(alloc),
+            status: FAILED,
+        };
+    };
+    let mut input = Input::new(reader);
     let mut out = Output::new(Sheet::new(alloc, limits.step, limits.out));
     let mut err = Output::new(Sheet::new(alloc, limits.step, limits.err));
     let status = if limits.words_fail {

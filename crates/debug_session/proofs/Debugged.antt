@@ -1,5 +1,5 @@
 -- What the debugger answers, as it is told.
-use Rattle.std.proofs.Common.{◌≡◌, ◌<◌, ◌≤◌, ℕ, ◌+◌, Bool, true, false, List, [], ◌∷◌, ◌++◌, take, length, codes, String, Global, string_bytes, Some, None, Result, Ok, Err, OnOk, if◌then◌else◌, inl, inr, refl, sym, ap, ◌∙◌, subst, append_assoc, append-nil, arith}
+use Rattle.std.proofs.Common.{◌≡◌, ◌<◌, ◌≤◌, ℕ, ◌+◌, Bool, true, false, List, ◌++◌, take, length, codes, String, Global, string_bytes, Some, None, Result, Ok, Err, OnOk, if◌then◌else◌, inl, inr, refl, sym, ap, ◌∙◌, arith}
 use Rattle.std.proofs.lemmas.Option.{slice_get_within}
 use Rattle.std.proofs.lemmas.List.{length-take-le}
 use Rattle.debugger.specs.Breaks.{is_set, with_break, without_break}
@@ -15,8 +15,8 @@ use Rattle.flow_model.specs.declared.plan.Plan.{Plan}
 use Rattle.status_table.specs.Runs.{after, new_board}
 use Rattle.status_table.specs.declared.fault.EventFault.{EventFault}
 use Rattle.plan_text.specs.BoardText.{Adds}
-use Rattle.flow_model.specs.Lines.{lines_of}
-use Rattle.debug_session.specs.Debug.{AddsSome, HasOpenLine, IsMove, TellsGo, TellsLines, TellsMove, TellsOneLine, TellsRequest, move_line, open_trouble}
+use Rattle.debug_session.specs.Answers.{AddsSome, IsMove, TellsGo, TellsMove, TellsOneLine, TellsRequest, move_line}
+use Rattle.debug_session.specs.Debug.{HasOpenLine, open_trouble}
 use Rattle.command_io.specs.Records.{HasLine, IsStopped}
 use Rattle.status_table.specs.Fault.{is_memory}
 use Rattle.debug_session.specs.Requests.{Asks, FindsOne}
@@ -130,24 +130,3 @@ pub adds_unknown : {E : Type 0} (s : Session) (old new : String Global) (line : 
     → OnOk r (Adds old new (codes "unknown command\n")) → OnOk r (AddsSome (λ words. TellsOneLine s line words s) old new)
 adds_unknown s old new line (Ok done) none adds = (codes "unknown command\n", inr (none, refl, refl), adds)
 adds_unknown s old new line (Err e) none adds = tt
-
--- ---- line after line
-
--- a text of no bytes has no lines
-pub no_lines : (text : List ℕ) → length text ≡ 0 → lines_of text ≡ []
-no_lines [] h = refl
-no_lines (b ∷ text) h = absurd (omega arith)
-
--- what is told of the lines that are left goes on what was told of all
-abbrev pub GoesOnTo : Session → List (List ℕ) → List ℕ → Session → List (List ℕ) → Type 0
-GoesOnTo first lines told now left = (more : List ℕ) → TellsLines now left more → TellsLines first lines (told ++ more)
-
-pub line_more : (first now next : Session) (lines left others : List (List ℕ)) (line told new : List ℕ) → left ≡ line ∷ others
-    → ((words : List ℕ) × TellsOneLine now line words next × (new ≡ told ++ words)) → GoesOnTo first lines told now left → GoesOnTo first lines new next others
-line_more first now next lines left others line told new is (words, one, whole) goes more rest =
-    subst (λ (text : List ℕ). TellsLines first lines text) (sym (append_assoc told words more) ∙ ap (λ (l : List ℕ). l ++ more) (sym whole))
-    (goes (words ++ more) (subst (λ (ls : List (List ℕ)). TellsLines now ls (words ++ more)) (sym is) (next, words, more, one, rest, refl)))
-
-pub all_told : (first now : Session) (lines left : List (List ℕ)) (told : List ℕ) → left ≡ [] → GoesOnTo first lines told now left → TellsLines first lines told
-all_told first now lines left told is goes =
-    subst (λ (text : List ℕ). TellsLines first lines text) (append-nil told) (goes [] (subst (λ (ls : List (List ℕ)). TellsLines now ls []) (sym is) refl))

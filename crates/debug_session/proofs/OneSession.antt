@@ -8,7 +8,8 @@ use Rattle.flow_model.specs.declared.plan.Plan.{Plan}
 use Rattle.plan_text.specs.BoardText.{board_text}
 use Rattle.flow_model.specs.Lines.{lines_of}
 use Rattle.plan_text.specs.Record.{load_lines}
-use Rattle.debug_session.specs.Debug.{IsMove, OneTold, TellsGo, TellsLines, TellsOneLine, TellsRequest, TellsSession, move_line}
+use Rattle.debug_session.specs.Answers.{IsMove, TellsGo, TellsLines, TellsOneLine, TellsRequest, move_line}
+use Rattle.debug_session.specs.Debug.{FromStart, OneTold}
 use Rattle.debug_session.specs.declared.requests.Request.{Request}
 use Rattle.debug_session.specs.declared.requests.Request.TheVariants.{Step, Back, GoTo, Go, GoBack, Show, Set, Clear}
 use Rattle.debug_session.proofs.OneRequest.{one_request}
@@ -167,10 +168,11 @@ loaded : {A B E : Type 0} (a a' : A) (b b' : B) (r : Result (A × B) E) → r �
 loaded a a' b b' r h k = (ap (plan_in a) (sym k ∙ h), ap (entries_in b) (sym k ∙ h))
 
 pub one_told : OneTold
-one_told = λ read a b is other.
-    let same = loaded is.plan other.plan is.entries other.entries (load_lines (lines_of read.0)) is.loads other.loads in
+one_told = λ text lines a b is other.
+    let same = loaded is.plan other.plan is.entries other.entries (load_lines (lines_of text)) is.loads other.loads in
     let plans : other.plan ≡ is.plan = same.0 in
     let entries : other.entries ≡ is.entries = same.1 in
-    let there : TellsSession (lines_of read.1) b is.plan is.entries =
-    subst (λ (es : List Entry). TellsSession (lines_of read.1) b is.plan es) entries (subst (λ (p : Plan). TellsSession (lines_of read.1) b p other.entries) plans other.is) in
-    lines_are (lines_of read.1) _ a b is.is.1 there.1
+    let told : Session → Type 0 = λ s. TellsLines s lines b in
+    let there : FromStart told is.plan is.entries =
+    subst (λ (es : List Entry). FromStart told is.plan es) entries (subst (λ (p : Plan). FromStart told p other.entries) plans other.is) in
+    lines_are lines _ a b is.is.1 there.1

@@ -1,2 +1,4 @@
+pub mod Answers
 pub mod Debug
 pub mod Requests
+pub mod Session

@@ -1,6 +1,6 @@
 use Rattle.debugger.specs.Session.{GoesOn}
 use Rattle.debug_session.proofs.Debugged.{adds_go}
-use Rattle.debug_session.proofs.debug.add_go.Goals as goal
+use Rattle.debug_session.proofs.answers.add_go.Goals as goal
 
 pub returns : goal.returns
 returns g c =

@@ -1,6 +1,6 @@
 use Rattle.debugger.specs.Session.{next_place}
 use Rattle.debug_session.proofs.Debugged.{adds_move}
-use Rattle.debug_session.proofs.debug.add_step.Goals as goal
+use Rattle.debug_session.proofs.answers.add_step.Goals as goal
 
 pub returns : goal.returns
 returns g c =

@@ -1,6 +1,6 @@
 use Rattle.debugger.specs.Session.{previous_place}
 use Rattle.debug_session.proofs.Debugged.{adds_moved}
-use Rattle.debug_session.proofs.debug.add_back.Goals as goal
+use Rattle.debug_session.proofs.answers.add_back.Goals as goal
 
 pub returns : goal.returns
 returns g c =

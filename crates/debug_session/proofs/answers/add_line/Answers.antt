@@ -1,5 +1,5 @@
 use Rattle.debug_session.proofs.Debugged.{adds_asked, adds_unknown}
-use Rattle.debug_session.proofs.debug.add_line.Goals as goal
+use Rattle.debug_session.proofs.answers.add_line.Goals as goal
 
 pub returns-in-Some : goal.returns-in-Some
 returns-in-Some g c =
