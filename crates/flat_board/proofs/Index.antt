@@ -9,7 +9,8 @@ use Rattle.group_admission.specs.Content.{Content, holder_of, waiter_of, after_e
 use Rattle.group_admission.specs.declared.held.Held.{Held}
 use Rattle.status_table.specs.Grouped.{KeptAsShown}
 use Rattle.status_table.specs.Groups.{is_own, waiter}
-use Rattle.flat_board.specs.Index.{IsName, Goes}
+use Rattle.flat_board.specs.Index.{Goes}
+use Rattle.flat_counters.specs.Names.{IsName}
 use Rattle.status_table.proofs.Lists.{same_some, no_some}
 
 -- an event that asks nothing of the groups leaves them

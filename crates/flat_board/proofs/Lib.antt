@@ -1,12 +1,7 @@
 pub mod Accepting
-pub mod Ended
-pub mod Followed
+pub mod Back
 pub mod Index
 pub mod Kept
-pub mod Lists
 pub mod Named
-pub mod Needs
-pub mod Placed
 pub mod Playing
 pub mod Reached
-pub mod Tallies

@@ -11,8 +11,9 @@ use Rattle.flow_model.specs.declared.board.RunState.TheVariants as run_state
 use Rattle.flow_model.specs.declared.event.Event.TheVariants as event
 use Rattle.flow_model.specs.declared.event.Member.TheVariants as member
 use Rattle.group_admission.specs.Content.{Content, is_in_group}
-use Rattle.flat_board.specs.Changes.{job_of}
-use Rattle.flat_board.specs.Index.{IsGroup, IsNamed, EntersOnce}
+use Rattle.flat_board.specs.Index.{EntersOnce}
+use Rattle.flat_counters.specs.Changes.{job_of}
+use Rattle.flat_counters.specs.Names.{IsGroup, IsNamed}
 use Rattle.status_table.specs.declared.fault.EventFault.TheVariants as fault
 use Rattle.status_table.specs.Grouped.{KeptAsShown}
 use Rattle.status_table.specs.Moves.{is_accepted, accepts}

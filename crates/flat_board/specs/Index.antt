@@ -1,14 +1,11 @@
 -- The index of groups beside a board: names as they stand on
 -- the board, and the groups after what a member asks of them.
-use Rattle.std.specs.Prelude.{◌≡◌, ◌≢◌, ℕ, List, [], Option, Some, None, Result, Ok, Err}
+use Rattle.std.specs.Prelude.{◌≡◌, ℕ, Bool, true, false, Option, Some, None, Result, Ok, Err, if◌then◌else◌}
 use Rattle.board_decisions.specs.declared.entrance.Entrance.{Entrance}
-use Rattle.expr_reader.specs.Fold.{fold}
-use Rattle.flow_model.specs.Sound.{Each}
+use Rattle.flat_counters.specs.Names.{IsName}
 use Rattle.flow_model.specs.declared.board.Board.{Board}
-use Rattle.flow_model.specs.declared.board.Run.{Run}
-use Rattle.flow_model.specs.declared.board.Job.{Job}
-use Rattle.flow_model.specs.declared.board.Leg.{Leg}
 use Rattle.flow_model.specs.declared.event.Event.{Event}
+use Rattle.flow_model.specs.declared.event.Event.TheVariants as event
 use Rattle.flow_model.specs.declared.event.Member.{Member}
 use Rattle.flow_model.specs.declared.plan.Plan.{Plan}
 use Rattle.flow_model.specs.declared.reply.Reply.{Reply}
@@ -19,51 +16,11 @@ use Rattle.status_table.specs.Grouped.{KeptAsShown, EntersFromOutside, after_eve
 use Rattle.status_table.specs.Lawful.{Lawful}
 use Rattle.status_table.specs.Play.{Play}
 use Rattle.status_table.specs.Row.{row, event_row}
-use Rattle.status_table.specs.declared.change.LegChange.{LegChange}
-use Rattle.status_table.specs.declared.change.LegChange.TheVariants as leg_change
 use Rattle.status_table.specs.declared.fault.EventFault.{EventFault}
-use Rattle.flat_board.specs.declared.counted.RunChange.{RunChange}
-use Rattle.flat_board.specs.declared.counted.RunChange.TheVariants as run_change
 
 -- ---- names
 
--- A name has no letter A to Z, and is not empty.
-pub record IsName (name : List ℕ) : Type 0 where
-  pub folded : fold name ≡ name
-  pub some : name ≢ []
-
--- so it is with the name of a group, if there is one
-abbrev pub IsGroup : Option (List ℕ) → Type 0
-IsGroup None = Unit {0}
-IsGroup (Some name) = IsName name
-
--- with that of each leg of a job
-abbrev pub JobIsNamed : Job → Type 0
-JobIsNamed job = Each (λ (leg : Leg). IsGroup leg.group) job.legs
-
--- with that of a run, and of each leg of it
-pub record RunIsNamed (run : Run) : Type 0 where
-  pub group : IsGroup run.group
-  pub jobs : Each JobIsNamed run.jobs
-
--- with those of all members of a board
-abbrev pub IsNamed : Board → Type 0
-IsNamed b = Each RunIsNamed b.runs
-
--- with that into which a leg comes by a change
-abbrev pub LegComesNamed : LegChange → Type 0
-LegComesNamed (leg_change.State state) = Unit {0}
-LegComesNamed (leg_change.Group state group) = IsGroup group
-LegComesNamed (leg_change.Outputs state outputs) = Unit {0}
-LegComesNamed leg_change.Stop = Unit {0}
-
--- with that into which a run comes
-abbrev pub RunComesNamed : RunChange → Type 0
-RunComesNamed (run_change.State state) = Unit {0}
-RunComesNamed (run_change.Group state group) = IsGroup group
-RunComesNamed run_change.Stop = Unit {0}
-
--- with that of a group that is entered, if one is
+-- the name of a group that is entered, if one is, is such as stands on a board
 abbrev pub EntersNamed : Option Entrance → Type 0
 EntersNamed None = Unit {0}
 EntersNamed (Some group) = IsName group.name
@@ -84,6 +41,28 @@ entered who own (Some group) groups = after_enter group.name who own groups
 abbrev pub Goes : {T E : Type 0} → Result T E → Content → Content → Content → Type 0
 Goes (Ok x) old to new = new ≡ to
 Goes (Err f) old to new = new ≡ old
+
+-- whether an event may ask something of the groups
+abbrev pub asks_groups : Event → Bool
+asks_groups (event.Open r) = true
+asks_groups (event.Judge j) = false
+asks_groups (event.Ask l) = true
+asks_groups (event.Drop l) = true
+asks_groups (event.Take l) = false
+asks_groups (event.Begin l) = false
+asks_groups (event.End l a) = false
+asks_groups (event.Finish l) = true
+asks_groups (event.Close r) = true
+asks_groups (event.Cancel r) = false
+
+-- the groups, where an event may ask something of them
+abbrev pub if_asked : Event → Content → Option Content
+if_asked e groups = if asks_groups e then Some groups else None
+
+-- the groups before an event: as they were kept, or as they are
+abbrev pub groups_put_back : Option Content → Content → Content
+groups_put_back None groups = groups
+groups_put_back (Some before) groups = before
 
 -- An event that a worker from 0 to 15 reports is answered as its row, the plan stays, and the groups are
 -- after it what the event asks of them.

@@ -1,6 +1,4 @@
-pub mod Changes
-pub mod Counters
 pub mod Index
-pub mod Places
 pub mod Sound
 pub mod Stands
+pub mod Undo

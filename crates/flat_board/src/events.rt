@@ -2,7 +2,7 @@
 //!
 //! Each function looks for a refusal first, makes what room it needs, and only then changes the board.
 
-ghost use Rattle.std.specs.Prelude.{◌≡◌, Some};
+ghost use Rattle.std.specs.Prelude.{◌≡◌, ◌≤◌, OnOk, Some};
 ghost use Rattle.board_decisions.specs.Place.{job_at, leg_at, run_at};
 ghost use Rattle.board_decisions.specs.Seen.{job_seen};
 ghost use Rattle.flat_board.specs.Index.{Goes};
@@ -11,7 +11,6 @@ ghost use Rattle.status_table.specs.Grouped.{KeptAsShown, leg_asked, leg_left, r
 ghost use Rattle.status_table.specs.InPlay.{InPlay};
 ghost use Rattle.status_table.specs.Row as spec;
 
-use crate::counted::Counted;
 use crate::found::{find_leg, is_full, is_stopping};
 use crate::groups::{enter_leg, enter_run, leave, leg_stand, next_after, run_stand};
 use crate::laws::who_enters_is_outside;
@@ -20,10 +19,10 @@ use board_decisions::ancestors::job_status;
 use board_decisions::decisions::{job_condition, leg_entrance, leg_outputs, run_entrance};
 use board_decisions::derived::{is_closed, run_result};
 use board_decisions::place::{SeenJob, find_job, find_run};
+use flat_counters::{Counted, LegChange, Tracked};
 use flow_model::{Answer, DoneStep, JobState, LegState, Member, Outcome, Reply, RunState, What};
 use group_admission::Groups;
 use status_table::EventFault;
-use status_table::change::LegChange;
 use status_table::events::{
     Begun, beginning, ending, failed_step, finishing, judged_state, may_ask, may_drop, outputs_of,
     reply, skipped_step,
@@ -34,19 +33,22 @@ use std::alloc::Global;
 /// Starts a run that is new.
 pub(crate) fn open(
     alloc: Global,
-    state: &mut Counted,
+    state: &mut Tracked,
     groups: &mut Groups,
     number: u64,
 ) -> Result<Reply, EventFault>
-    requires { KeptAsShown groups.old state.old.board }
+    requires kept { KeptAsShown groups.old state.old.board }
+    requires room { 4 ≤ state.old.room }
     ensures plan { state.new.plan ≡ state.old.plan }
     ensures answers { Answers (spec.open_row state.old.plan state.old.board number)
         state.old.board result state.new.board }
     ensures groups { Goes result groups.old
         (run_opened groups.old number (run_at state.old.plan state.old.board number)) groups.new }
+    ensures back { OnOk result (state.new.back ≡ state.old.back) }
 {
     who_enters_is_outside();
-    let Some(at) = find_run(state.plan(), state.board(), number as usize) else {
+    let play = state.counted();
+    let Some(at) = find_run(play.plan(), play.board(), number as usize) else {
         return Err(EventFault::NoSuch);
     };
     match (at.run.state, at.run.stop) {
@@ -88,16 +90,19 @@ fn judgement(
 }
 
 /// Opens or shuts a job whose needs have ended.
-pub(crate) fn judge(alloc: Global, state: &mut Counted, number: u64) -> Result<Reply, EventFault>
-    requires { InPlay state.old.plan state.old.board }
+pub(crate) fn judge(alloc: Global, state: &mut Tracked, number: u64) -> Result<Reply, EventFault>
+    requires play { InPlay state.old.plan state.old.board }
+    requires room { 1 ≤ state.old.room }
     ensures plan { state.new.plan ≡ state.old.plan }
     ensures answers { Answers (spec.judge_row state.old.plan state.old.board number)
         state.old.board result state.new.board }
+    ensures back { OnOk result (state.new.back ≡ state.old.back) }
 {
-    let Some(at) = find_job(state.plan(), state.board(), number as usize) else {
+    let play = state.counted();
+    let Some(at) = find_job(play.plan(), play.board(), number as usize) else {
         return Err(EventFault::NoSuch);
     };
-    let to = judgement(alloc, state, number, &at)?;
+    let to = judgement(alloc, play, number, &at)?;
     let place = at.place;
     state.set_job(place, to);
     Ok(moved())
@@ -106,19 +111,21 @@ pub(crate) fn judge(alloc: Global, state: &mut Counted, number: u64) -> Result<R
 /// A leg asks to be admitted.
 pub(crate) fn ask(
     alloc: Global,
-    state: &mut Counted,
+    state: &mut Tracked,
     groups: &mut Groups,
     number: u64,
 ) -> Result<Reply, EventFault>
-    requires { KeptAsShown groups.old state.old.board }
+    requires kept { KeptAsShown groups.old state.old.board }
+    requires room { 4 ≤ state.old.room }
     ensures plan { state.new.plan ≡ state.old.plan }
     ensures answers { Answers (spec.ask_row state.old.plan state.old.board number)
         state.old.board result state.new.board }
     ensures groups { Goes result groups.old
         (leg_asked groups.old number (leg_at state.old.plan state.old.board number)) groups.new }
+    ensures back { OnOk result (state.new.back ≡ state.old.back) }
 {
     who_enters_is_outside();
-    let Some(leg) = find_leg(state, number) else {
+    let Some(leg) = find_leg(state.counted(), number) else {
         return Err(EventFault::NoSuch);
     };
     if !may_ask(&leg.at) {
@@ -138,18 +145,20 @@ pub(crate) fn ask(
 /// Drops a leg that is to stop before a worker took it.
 pub(crate) fn discard(
     alloc: Global,
-    state: &mut Counted,
+    state: &mut Tracked,
     groups: &mut Groups,
     number: u64,
 ) -> Result<Reply, EventFault>
-    requires { KeptAsShown groups.old state.old.board }
+    requires kept { KeptAsShown groups.old state.old.board }
+    requires room { 3 ≤ state.old.room }
     ensures plan { state.new.plan ≡ state.old.plan }
     ensures answers { Answers (spec.drop_row state.old.plan state.old.board number)
         state.old.board result state.new.board }
     ensures groups { Goes result groups.old
         (leg_left groups.old number (leg_at state.old.plan state.old.board number)) groups.new }
+    ensures back { OnOk result (state.new.back ≡ state.old.back) }
 {
-    let Some(leg) = find_leg(state, number) else {
+    let Some(leg) = find_leg(state.counted(), number) else {
         return Err(EventFault::NoSuch);
     };
     if !may_drop(&leg.at) {
@@ -169,15 +178,17 @@ pub(crate) fn discard(
 /// Gives a leg that is admitted to a worker.
 pub(crate) fn take(
     alloc: Global,
-    state: &mut Counted,
+    state: &mut Tracked,
     worker: u8,
     number: u64,
 ) -> Result<Reply, EventFault>
+    requires { 1 ≤ state.old.room }
     ensures plan { state.new.plan ≡ state.old.plan }
     ensures answers { Answers (spec.take_row state.old.plan state.old.board worker number)
         state.old.board result state.new.board }
+    ensures back { OnOk result (state.new.back ≡ state.old.back) }
 {
-    let Some(leg) = find_leg(state, number) else {
+    let Some(leg) = find_leg(state.counted(), number) else {
         return Err(EventFault::NoSuch);
     };
     match leg.at.leg.state {
@@ -204,15 +215,17 @@ pub(crate) fn take(
 /// Begins the next step of a leg: its call, that it is skipped, or that it failed.
 pub(crate) fn begin(
     alloc: Global,
-    state: &mut Counted,
+    state: &mut Tracked,
     worker: u8,
     number: u64,
 ) -> Result<Reply, EventFault>
+    requires { 1 ≤ state.old.room }
     ensures plan { state.new.plan ≡ state.old.plan }
     ensures answers { Answers (spec.begin_row state.old.plan state.old.board worker number)
         state.old.board result state.new.board }
+    ensures back { OnOk result (state.new.back ≡ state.old.back) }
 {
-    let Some(leg) = find_leg(state, number) else {
+    let Some(leg) = find_leg(state.counted(), number) else {
         return Err(EventFault::NoSuch);
     };
     let place = leg.at.place;
@@ -242,16 +255,18 @@ pub(crate) fn begin(
 /// Ends the step of a leg that is in a call.
 pub(crate) fn end(
     alloc: Global,
-    state: &mut Counted,
+    state: &mut Tracked,
     worker: u8,
     number: u64,
     answer: Answer,
 ) -> Result<Reply, EventFault>
+    requires { 1 ≤ state.old.room }
     ensures plan { state.new.plan ≡ state.old.plan }
     ensures answers { Answers (spec.end_row state.old.plan state.old.board worker number answer)
         state.old.board result state.new.board }
+    ensures back { OnOk result (state.new.back ≡ state.old.back) }
 {
-    let Some(leg) = find_leg(state, number) else {
+    let Some(leg) = find_leg(state.counted(), number) else {
         return Err(EventFault::NoSuch);
     };
     let place = leg.at.place;
@@ -272,19 +287,21 @@ pub(crate) fn end(
 /// Ends a leg whose steps are done.
 pub(crate) fn finish(
     alloc: Global,
-    state: &mut Counted,
+    state: &mut Tracked,
     groups: &mut Groups,
     worker: u8,
     number: u64,
 ) -> Result<Reply, EventFault>
-    requires { KeptAsShown groups.old state.old.board }
+    requires kept { KeptAsShown groups.old state.old.board }
+    requires room { 3 ≤ state.old.room }
     ensures plan { state.new.plan ≡ state.old.plan }
     ensures answers { Answers (spec.finish_row state.old.plan state.old.board worker number)
         state.old.board result state.new.board }
     ensures groups { Goes result groups.old
         (leg_left groups.old number (leg_at state.old.plan state.old.board number)) groups.new }
+    ensures back { OnOk result (state.new.back ≡ state.old.back) }
 {
-    let Some(leg) = find_leg(state, number) else {
+    let Some(leg) = find_leg(state.counted(), number) else {
         return Err(EventFault::NoSuch);
     };
     let place = leg.at.place;
@@ -300,18 +317,21 @@ pub(crate) fn finish(
 
 /// Ends a run whose jobs have ended, or that never went.
 pub(crate) fn close(
-    state: &mut Counted,
+    state: &mut Tracked,
     groups: &mut Groups,
     number: u64,
 ) -> Result<Reply, EventFault>
-    requires { KeptAsShown groups.old state.old.board }
+    requires kept { KeptAsShown groups.old state.old.board }
+    requires room { 2 ≤ state.old.room }
     ensures plan { state.new.plan ≡ state.old.plan }
     ensures answers { Answers (spec.close_row state.old.plan state.old.board number)
         state.old.board result state.new.board }
     ensures groups { Goes result groups.old
         (run_left groups.old number (run_at state.old.plan state.old.board number)) groups.new }
+    ensures back { OnOk result (state.new.back ≡ state.old.back) }
 {
-    let Some(at) = find_run(state.plan(), state.board(), number as usize) else {
+    let play = state.counted();
+    let Some(at) = find_run(play.plan(), play.board(), number as usize) else {
         return Err(EventFault::NoSuch);
     };
     let how = match at.run.state {
@@ -322,7 +342,7 @@ pub(crate) fn close(
             Outcome::Cancelled
         },
         RunState::Going => {
-            if !state.have_jobs_ended(number as usize) {
+            if !play.have_jobs_ended(number as usize) {
                 return Err(EventFault::NeedsOpen);
             }
             run_result(at.run)
@@ -338,12 +358,15 @@ pub(crate) fn close(
 }
 
 /// Tells a run to stop.
-pub(crate) fn cancel(state: &mut Counted, number: u64) -> Result<Reply, EventFault>
+pub(crate) fn cancel(state: &mut Tracked, number: u64) -> Result<Reply, EventFault>
+    requires { 1 ≤ state.old.room }
     ensures plan { state.new.plan ≡ state.old.plan }
     ensures answers { Answers (spec.cancel_row state.old.plan state.old.board number)
         state.old.board result state.new.board }
+    ensures back { OnOk result (state.new.back ≡ state.old.back) }
 {
-    let Some(at) = find_run(state.plan(), state.board(), number as usize) else {
+    let play = state.counted();
+    let Some(at) = find_run(play.plan(), play.board(), number as usize) else {
         return Err(EventFault::NoSuch);
     };
     if is_closed(at.run.state) || at.run.stop {

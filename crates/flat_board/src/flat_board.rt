@@ -1,26 +1,33 @@
 //! The flat body of the table: the board changed in place, with counters and an index of groups beside it.
 
-ghost use Rattle.std.specs.Prelude.{◌≡◌, IfOk};
-ghost use Rattle.flat_board.specs.Index.{Follows};
+ghost use Rattle.std.specs.Prelude.{◌≡◌, ◌≤◌, true, IfOk, OnOk};
+ghost use Rattle.flat_board.specs.Index.{Follows, asks_groups, groups_put_back, if_asked};
+ghost use Rattle.flat_board.specs.Undo.{board_before};
+ghost use Rattle.flat_counters.specs.Track.{play_of};
 ghost use Rattle.flow_model.specs.declared.board.Board.{Board};
 ghost use Rattle.status_table.specs.Grouped.{KeptAsShown};
 ghost use Rattle.status_table.specs.InPlay.{InPlay};
+ghost use Rattle.status_table.specs.Reversible.{answer_of};
 ghost use Rattle.status_table.specs.Runs.{new_play};
 
-use crate::counted::Counted;
 use crate::events::{ask, begin, cancel, close, discard, end, finish, judge, open, take};
 use crate::laws::events_keep_the_groups;
 use crate::moves::find_moves;
+use crate::undo::Undo;
+use flat_counters::Tracked;
 use flow_model::{Board, CheckedPlan, Duplicate, Entry, Event, Reply, Sequence};
 use group_admission::Groups;
-use status_table::{EventFault, Table};
+use status_table::{EventFault, Reversible, Table};
 use std::alloc::{AllocError, Global};
 use std::marker::Model;
+
+/// The most changes of a board that an event makes.
+const MOST_CHANGES: usize = 4;
 
 /// A plan in play, and how far it is, with what is counted of that and the groups by their names.
 #[derive(Drop)]
 pub struct FlatBoard {
-    state: Counted,
+    state: Tracked,
     groups: Groups,
     alloc: Global,
 }
@@ -34,11 +41,12 @@ impl Model for FlatBoard {
 
     ghost coded = { Prim.hlevel (codes, coded_plain) };
 
-    ghost view = { λ f. f.state };
-
     ghost use Rattle.flat_board.specs.Sound.{IsSound};
+    ghost use Rattle.flat_counters.specs.Track.{play_of};
 
-    ghost invariant = { λ f. IsSound f.state f.groups };
+    ghost view = { λ f. play_of f.state };
+
+    ghost invariant = { λ f. IsSound (play_of f.state) f.groups };
 }
 
 impl FlatBoard {
@@ -53,8 +61,8 @@ impl FlatBoard {
     pub fn from_plan(alloc: Global, plan: CheckedPlan) -> Result<FlatBoard, AllocError>
         ensures { IfOk result (λ made. made ≡ new_play plan) }
     {
-        let state = Counted::new(alloc, plan)?;
-        let _plan = state.plan();
+        let state = Tracked::new(alloc, plan)?;
+        let _plan = state.counted().plan();
         let groups = Groups::new(alloc);
         Ok(FlatBoard {
             state,
@@ -68,21 +76,24 @@ impl FlatBoard {
         ensures board { result.now ≡ self.now.board }
         ensures in_play { InPlay self.now.plan self.now.board }
     {
-        self.state.board()
+        self.state.counted().board()
     }
 }
 
 /// Plays an event that a worker from 0 to 15 reports.
 fn apply_event(
     alloc: Global,
-    state: &mut Counted,
+    state: &mut Tracked,
     groups: &mut Groups,
     worker: u8,
     event: Event,
 ) -> Result<Reply, EventFault>
     requires in_play { InPlay state.old.plan state.old.board }
     requires kept { KeptAsShown groups.old state.old.board }
-    ensures { Follows state.old state.new groups.old groups.new worker event result }
+    requires room { 4 ≤ state.old.room }
+    ensures follows { Follows (play_of state.old) (play_of state.new)
+        groups.old groups.new worker event result }
+    ensures back { OnOk result (state.new.back ≡ state.old.back) }
 {
     match event {
         Event::Open { run } => open(alloc, state, groups, run),
@@ -98,6 +109,86 @@ fn apply_event(
     }
 }
 
+/// Plays an event, and keeps what takes it back.
+fn play_event(
+    alloc: Global,
+    state: &mut Tracked,
+    groups: &mut Groups,
+    worker: u8,
+    event: Event,
+) -> Result<Reply, EventFault>
+    requires in_play { InPlay state.old.plan state.old.board }
+    requires kept { KeptAsShown groups.old state.old.board }
+    ensures follows { Follows (play_of state.old) (play_of state.new)
+        groups.old groups.new worker event result }
+    ensures back { OnOk result (state.new.back ≡ state.old.board) }
+{
+    state.begin(MOST_CHANGES)?;
+    apply_event(alloc, state, groups, worker, event)
+}
+
+/// Whether an event may ask something of the groups.
+fn asks_groups(event: &Event) -> bool
+    ensures { result ≡ asks_groups event.now }
+{
+    match event {
+        Event::Open { .. } | Event::Close { .. } => true,
+        Event::Ask { .. } | Event::Drop { .. } | Event::Finish { .. } => true,
+        Event::Judge { .. } | Event::Take { .. } | Event::Begin { .. } => false,
+        Event::End { .. } | Event::Cancel { .. } => false,
+    }
+}
+
+/// A copy of the groups, where an event may ask something of them.
+fn groups_before(
+    alloc: Global,
+    groups: &Groups,
+    event: &Event,
+) -> Result<Option<Groups>, AllocError>
+    ensures { IfOk result (λ made. made ≡ if_asked event.now groups.now) }
+{
+    if asks_groups(event) {
+        return Ok(Some(groups.copy(alloc)?));
+    }
+    Ok(None)
+}
+
+/// Plays an event, and gives what takes it back.
+fn play_with_undo(
+    alloc: Global,
+    state: &mut Tracked,
+    groups: &mut Groups,
+    worker: u8,
+    event: Event,
+) -> Result<(Reply, Undo), EventFault>
+    requires in_play { InPlay state.old.plan state.old.board }
+    requires kept { KeptAsShown groups.old state.old.board }
+    ensures follows { Follows (play_of state.old) (play_of state.new)
+        groups.old groups.new worker event (answer_of result) }
+    ensures back { IfOk result (λ both. board_before both.1 state.new.board ≡ state.old.board) }
+    ensures groups { IfOk result (λ both. both.1.groups ≡ if_asked event groups.old) }
+{
+    let before = groups_before(alloc, groups, &event)?;
+    let reply = play_event(alloc, state, groups, worker, event)?;
+    let changes = state.take_changes(alloc);
+    Ok((
+        reply,
+        Undo {
+            changes,
+            groups: before,
+        },
+    ))
+}
+
+/// Puts the groups back, where they were kept.
+fn put_back(groups: &mut Groups, before: Option<Groups>)
+    ensures { groups.new ≡ groups_put_back before groups.old }
+{
+    if let Some(before) = before {
+        *groups = before;
+    }
+}
+
 impl Table for FlatBoard {
     ghost plan = { λ f. f.plan };
 
@@ -109,7 +200,7 @@ impl Table for FlatBoard {
         if entry.worker > 15 {
             return Err(EventFault::NoSuch);
         }
-        apply_event(
+        play_event(
             alloc,
             &mut self.state,
             &mut self.groups,
@@ -119,15 +210,46 @@ impl Table for FlatBoard {
     }
 
     fn lend(&self) -> &Board {
-        self.state.board()
+        self.state.counted().board()
     }
 
     fn view(&self) -> Result<Board, AllocError> {
-        self.state.board().copy(self.alloc)
+        self.state.counted().board().copy(self.alloc)
     }
 
     fn moves(&self) -> Result<Sequence<Event>, AllocError> {
-        let events = find_moves(self.alloc, &self.state)?;
+        let events = find_moves(self.alloc, self.state.counted())?;
         Ok(Sequence::new(events))
+    }
+}
+
+impl Reversible for FlatBoard {
+    type Undo = Undo;
+
+    ghost use Rattle.flat_board.specs.Undo.{Fits, board_before};
+
+    ghost fits = { Fits };
+
+    ghost before = { board_before };
+
+    fn apply_with_undo(&mut self, entry: Entry) -> Result<(Reply, Undo), EventFault> {
+        events_keep_the_groups();
+        let alloc = self.alloc;
+        if entry.worker > 15 {
+            return Err(EventFault::NoSuch);
+        }
+        play_with_undo(
+            alloc,
+            &mut self.state,
+            &mut self.groups,
+            entry.worker,
+            entry.event,
+        )
+    }
+
+    fn revert(&mut self, undo: Undo) {
+        let Undo { changes, groups } = undo;
+        self.state.revert(self.alloc, changes);
+        put_back(&mut self.groups, groups);
     }
 }

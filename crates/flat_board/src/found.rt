@@ -5,13 +5,13 @@ ghost use Rattle.board_decisions.specs.Decisions as decision;
 ghost use Rattle.board_decisions.specs.Derived as derived;
 ghost use Rattle.board_decisions.specs.Place.{leg_at};
 ghost use Rattle.board_decisions.specs.Seen.{leg_seen};
-ghost use Rattle.flat_board.specs.Counters.{tally_of};
-ghost use Rattle.flat_board.specs.Index.{IsNamed};
+ghost use Rattle.flat_counters.specs.Counters.{tally_of};
+ghost use Rattle.flat_counters.specs.Names.{IsNamed};
 
-use crate::counted::{Counted, job_of};
-use crate::tally::Tally;
 use board_decisions::decisions::is_stopping_given;
 use board_decisions::place::{SeenLeg, find_placed_leg};
+use flat_counters::counted::job_of;
+use flat_counters::{Counted, Tally};
 use std::alloc::{AllocError, Global};
 
 /// A leg in play, with the tally of its job.

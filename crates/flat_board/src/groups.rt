@@ -2,12 +2,13 @@
 //!
 //! Memory is asked for first; what comes after it changes the board in place.
 
-ghost use Rattle.std.specs.Prelude.{◌≡◌, ℕ, List, Ok, Option, Result, false};
+ghost use Rattle.std.specs.Prelude.{◌≡◌, ◌≤◌, ℕ, List, Ok, OnOk, Option, Result, false};
 ghost use Rattle.board_decisions.specs.Place.{LegAt};
 ghost use Rattle.board_decisions.specs.declared.entrance.Entrance.{Entrance as EntranceOf};
 ghost use Rattle.expr_value.specs.Answer.{Gives};
-ghost use Rattle.flat_board.specs.Index.{AsksNamed, EntersNamed, Goes, IsGroup, IsName, entered};
+ghost use Rattle.flat_board.specs.Index.{AsksNamed, EntersNamed, Goes, entered};
 ghost use Rattle.flat_board.specs.Stands.{standing_by};
+ghost use Rattle.flat_counters.specs.Names.{IsGroup, IsName};
 ghost use Rattle.flow_model.specs.declared.board.Board.{Board as BoardOf};
 ghost use Rattle.flow_model.specs.declared.event.Member.TheVariants as member;
 ghost use Rattle.flow_model.specs.declared.reply.ValueFault.{ValueFault as ValueFaultOf};
@@ -18,9 +19,9 @@ ghost use Rattle.status_table.specs.Grouped.{KeptAsShown};
 ghost use Rattle.status_table.specs.Groups as spec;
 ghost use Rattle.status_table.specs.Row.{leg_enters, run_enters};
 
-use crate::counted::Counted;
 use crate::members::{admit, close_run, delay, drop_leg, forget_end, note_end, put_out, stop};
 use board_decisions::entrance::Entrance;
+use flat_counters::Tracked;
 use flow_model::{LegState, Member, Outcome, Reply, RunState, Text, ValueFault};
 use group_admission::Groups;
 use status_table::EventFault;
@@ -28,10 +29,12 @@ use status_table::groups::{is_own, moved, stop_told, told};
 use std::alloc::Global;
 
 /// Ends a member cancelled.
-fn cancel(state: &mut Counted, who: Member) -> Result<Reply, EventFault>
+fn cancel(state: &mut Tracked, who: Member) -> Result<Reply, EventFault>
+    requires { 2 ≤ state.old.room }
     ensures plan { state.new.plan ≡ state.old.plan }
     ensures answers { Answers (Ok (spec.cancelled state.old.board who, spec.moved))
         state.old.board result state.new.board }
+    ensures back { OnOk result (state.new.back ≡ state.old.back) }
 {
     match who {
         Member::Run(number) => close_run(state, number, Outcome::Cancelled),
@@ -44,7 +47,7 @@ fn cancel(state: &mut Counted, who: Member) -> Result<Reply, EventFault>
 #[tactic(auto, using(crate::proofs::Kept::put_out_noted))]
 fn queue(
     alloc: Global,
-    state: &mut Counted,
+    state: &mut Tracked,
     groups: &mut Groups,
     who: Member,
     own: Option<u64>,
@@ -54,10 +57,12 @@ fn queue(
 ) -> Result<Reply, EventFault>
     requires named { IsName group.name }
     requires outside { is_in_group who groups.old ≡ false }
+    requires room { 4 ≤ state.old.room }
     ensures plan { state.new.plan ≡ state.old.plan }
     ensures answers { Answers (Ok (spec.queued state.old.board who group holder waited))
         state.old.board result state.new.board }
     ensures groups { Goes result groups.old (after_enter group.name who own groups.old) groups.new }
+    ensures back { OnOk result (state.new.back ≡ state.old.back) }
 {
     note_end(state, waited)?;
     if groups
@@ -77,7 +82,7 @@ fn queue(
 /// What comes of a member that enters a group, by who holds its name and who waits for it.
 fn enter_held(
     alloc: Global,
-    state: &mut Counted,
+    state: &mut Tracked,
     groups: &mut Groups,
     who: Member,
     own: Option<u64>,
@@ -88,10 +93,12 @@ fn enter_held(
     requires named { IsName group.name }
     requires outside { is_in_group who groups.old ≡ false }
     requires held { held ≡ holder_of group.name groups.old }
+    requires room { 4 ≤ state.old.room }
     ensures plan { state.new.plan ≡ state.old.plan }
     ensures answers { Answers (Ok (spec.enters_held state.old.board who own group held waited))
         state.old.board result state.new.board }
     ensures groups { Goes result groups.old (after_enter group.name who own groups.old) groups.new }
+    ensures back { OnOk result (state.new.back ≡ state.old.back) }
 {
     let Some(holder) = held else {
         groups.enter(group.name.as_str(), who, own, group.cancel)?;
@@ -107,7 +114,7 @@ fn enter_held(
 /// A member, with the run that it is a leg of, if it is one, enters its group, or none.
 pub(crate) fn enter(
     alloc: Global,
-    state: &mut Counted,
+    state: &mut Tracked,
     groups: &mut Groups,
     who: Member,
     own: Option<u64>,
@@ -116,10 +123,12 @@ pub(crate) fn enter(
     requires named { EntersNamed group }
     requires outside { is_in_group who groups.old ≡ false }
     requires kept { KeptAsShown groups.old state.old.board }
+    requires room { 4 ≤ state.old.room }
     ensures plan { state.new.plan ≡ state.old.plan }
     ensures answers { Answers (Ok (spec.enters state.old.board who own group))
         state.old.board result state.new.board }
     ensures groups { Goes result groups.old (entered who own group groups.old) groups.new }
+    ensures back { OnOk result (state.new.back ≡ state.old.back) }
 {
     let Some(group) = group else {
         admit(state, None, who);
@@ -133,7 +142,7 @@ pub(crate) fn enter(
 /// A run enters its group; a fault of the group's text ends it.
 pub(crate) fn enter_run(
     alloc: Global,
-    state: &mut Counted,
+    state: &mut Tracked,
     groups: &mut Groups,
     number: u64,
     group: Result<Option<Entrance>, ValueFault>,
@@ -141,6 +150,7 @@ pub(crate) fn enter_run(
     requires named { AsksNamed group }
     requires outside { is_in_group (member.Run number) groups.old ≡ false }
     requires kept { KeptAsShown groups.old state.old.board }
+    requires room { 4 ≤ state.old.room }
     ensures plan { state.new.plan ≡ state.old.plan }
     ensures answers { (value : Result (Option EntranceOf) ValueFaultOf)
         → Gives (λ group. group) group value
@@ -148,6 +158,7 @@ pub(crate) fn enter_run(
     ensures groups { (value : Result (Option EntranceOf) ValueFaultOf)
         → Gives (λ group. group) group value
         → Goes result groups.old (opened groups.old number value) groups.new }
+    ensures back { OnOk result (state.new.back ≡ state.old.back) }
 {
     match group {
         Ok(group) => enter(alloc, state, groups, Member::Run(number), None, group),
@@ -168,7 +179,7 @@ pub(crate) fn enter_run(
 /// A leg enters its group; a fault of the group's text ends it with a failure that is not tolerated.
 pub(crate) fn enter_leg(
     alloc: Global,
-    state: &mut Counted,
+    state: &mut Tracked,
     groups: &mut Groups,
     number: u64,
     own: u64,
@@ -177,6 +188,7 @@ pub(crate) fn enter_leg(
     requires named { AsksNamed group }
     requires outside { is_in_group (member.Leg number) groups.old ≡ false }
     requires kept { KeptAsShown groups.old state.old.board }
+    requires room { 4 ≤ state.old.room }
     ensures plan { state.new.plan ≡ state.old.plan }
     ensures answers { (at : LegAt) (value : Result (Option EntranceOf) ValueFaultOf)
         → at.place.run ≡ own → Gives (λ group. group) group value
@@ -185,6 +197,7 @@ pub(crate) fn enter_leg(
     ensures groups { (value : Result (Option EntranceOf) ValueFaultOf)
         → Gives (λ group. group) group value
         → Goes result groups.old (asked groups.old number own value) groups.new }
+    ensures back { OnOk result (state.new.back ≡ state.old.back) }
 {
     match group {
         Ok(group) => enter(alloc, state, groups, Member::Leg(number), Some(own), group),

@@ -1,45 +1,54 @@
 //! Changes of one member of a concurrency group, and of the legs that ended, with the counters.
 
-ghost use Rattle.std.specs.Prelude.{◌≡◌, true, Some, OnOk, OnErr};
-ghost use Rattle.flat_board.specs.Index.{IsGroup, IsName, LegComesNamed};
+ghost use Rattle.std.specs.Prelude.{◌≡◌, ◌≤◌, ◌+◌, true, Some, OnOk, OnErr};
+ghost use Rattle.flat_counters.specs.Changes.{leg_after};
+ghost use Rattle.flat_counters.specs.Names.{IsGroup, IsName, LegComesNamed};
 ghost use Rattle.flow_model.specs.declared.board.Board.{Board as BoardOf};
 ghost use Rattle.flow_model.specs.declared.event.Member.TheVariants as member;
 ghost use Rattle.status_table.specs.Groups as spec;
 ghost use Rattle.status_table.specs.Change.{with_numbered_leg};
 ghost use Rattle.status_table.specs.Row.{leg_ended};
-ghost use Rattle.status_table.specs.Seen.{leg_after, noted, put_out as put_out_of};
+ghost use Rattle.status_table.specs.Seen.{noted, put_out as put_out_of};
 
-use crate::counted::{Counted, RunChange};
 use board_decisions::place::LegPlace;
+use flat_counters::{LegChange, RunChange, Tracked};
 use flow_model::{LegState, Mapping, Member, Outcome, RunState, Text};
-use status_table::change::LegChange;
 use std::alloc::{AllocError, Global};
 
 /// Changes the leg with a number, where there is one.
-fn change_leg(state: &mut Counted, number: u64, how: LegChange)
-    requires { LegComesNamed how }
+fn change_leg(state: &mut Tracked, number: u64, how: LegChange)
+    requires named { LegComesNamed how }
+    requires room { 1 ≤ state.old.room }
     ensures plan { state.new.plan ≡ state.old.plan }
     ensures board { state.new.board ≡ with_numbered_leg state.old.board number (leg_after how) }
+    ensures back { state.new.back ≡ state.old.back }
+    ensures room { state.old.room ≤ state.new.room + 1 }
 {
-    if let Some(place) = state.leg_place(number) {
+    if let Some(place) = state.counted().leg_place(number) {
         state.change_leg(place, how);
     }
 }
 
 /// Puts the leg of a number into a state.
-fn set_state(state: &mut Counted, number: u64, to: LegState)
+fn set_state(state: &mut Tracked, number: u64, to: LegState)
+    requires { 1 ≤ state.old.room }
     ensures plan { state.new.plan ≡ state.old.plan }
     ensures board { state.new.board
         ≡ with_numbered_leg state.old.board number (λ leg. record leg { state = to }) }
+    ensures back { state.new.back ≡ state.old.back }
+    ensures room { state.old.room ≤ state.new.room + 1 }
 {
     change_leg(state, number, LegChange::State(to));
 }
 
 /// Admits a member, in the group with a name or in none.
-pub(crate) fn admit(state: &mut Counted, name: Option<Text>, who: Member)
-    requires { IsGroup name }
+pub(crate) fn admit(state: &mut Tracked, name: Option<Text>, who: Member)
+    requires named { IsGroup name }
+    requires room { 1 ≤ state.old.room }
     ensures plan { state.new.plan ≡ state.old.plan }
     ensures board { state.new.board ≡ spec.admitted state.old.board name who }
+    ensures back { state.new.back ≡ state.old.back }
+    ensures room { state.old.room ≤ state.new.room + 1 }
 {
     match who {
         Member::Run(number) => {
@@ -52,10 +61,13 @@ pub(crate) fn admit(state: &mut Counted, name: Option<Text>, who: Member)
 }
 
 /// Lets a member wait for a name.
-pub(crate) fn delay(state: &mut Counted, name: Text, who: Member)
-    requires { IsName name }
+pub(crate) fn delay(state: &mut Tracked, name: Text, who: Member)
+    requires named { IsName name }
+    requires room { 1 ≤ state.old.room }
     ensures plan { state.new.plan ≡ state.old.plan }
     ensures board { state.new.board ≡ spec.waits state.old.board name who }
+    ensures back { state.new.back ≡ state.old.back }
+    ensures room { state.old.room ≤ state.new.room + 1 }
 {
     match who {
         Member::Run(number) => {
@@ -72,39 +84,51 @@ pub(crate) fn delay(state: &mut Counted, name: Text, who: Member)
 }
 
 /// Tells a run to stop.
-pub(crate) fn stop_run(state: &mut Counted, number: u64)
+pub(crate) fn stop_run(state: &mut Tracked, number: u64)
+    requires { 1 ≤ state.old.room }
     ensures plan { state.new.plan ≡ state.old.plan }
     ensures board { state.new.board ≡ spec.stopped state.old.board true (member.Run number) }
+    ensures back { state.new.back ≡ state.old.back }
+    ensures room { state.old.room ≤ state.new.room + 1 }
 {
-    state.change_run(number, RunChange::Stop);
+    state.change_run(number, RunChange::Stop(true));
 }
 
 /// Tells a member to stop, where that is wanted.
-pub(crate) fn stop(state: &mut Counted, wanted: bool, who: Member)
+pub(crate) fn stop(state: &mut Tracked, wanted: bool, who: Member)
+    requires { 1 ≤ state.old.room }
     ensures plan { state.new.plan ≡ state.old.plan }
     ensures board { state.new.board ≡ spec.stopped state.old.board wanted who }
+    ensures back { state.new.back ≡ state.old.back }
+    ensures room { state.old.room ≤ state.new.room + 1 }
 {
     if !wanted {
         return;
     }
     match who {
         Member::Run(number) => stop_run(state, number),
-        Member::Leg(number) => change_leg(state, number, LegChange::Stop),
+        Member::Leg(number) => change_leg(state, number, LegChange::Stop(true)),
     }
 }
 
 /// Ends a run.
-pub(crate) fn close_run(state: &mut Counted, number: u64, how: Outcome)
+pub(crate) fn close_run(state: &mut Tracked, number: u64, how: Outcome)
+    requires { 1 ≤ state.old.room }
     ensures plan { state.new.plan ≡ state.old.plan }
     ensures board { state.new.board ≡ spec.closed state.old.board number how }
+    ensures back { state.new.back ≡ state.old.back }
+    ensures room { state.old.room ≤ state.new.room + 1 }
 {
     state.change_run(number, RunChange::State(RunState::Closed(how)));
 }
 
 /// Lets who waited go on.
-pub(crate) fn pass_on(state: &mut Counted, next: Option<Member>)
+pub(crate) fn pass_on(state: &mut Tracked, next: Option<Member>)
+    requires { 1 ≤ state.old.room }
     ensures plan { state.new.plan ≡ state.old.plan }
     ensures board { state.new.board ≡ spec.passed_on state.old.board next }
+    ensures back { state.new.back ≡ state.old.back }
+    ensures room { state.old.room ≤ state.new.room + 1 }
 {
     match next {
         Some(Member::Run(number)) => state.change_run(number, RunChange::State(RunState::Going)),
@@ -114,10 +138,13 @@ pub(crate) fn pass_on(state: &mut Counted, next: Option<Member>)
 }
 
 /// Notes that a leg ended; where memory runs out, nothing is changed.
-pub(crate) fn note_end(state: &mut Counted, who: Option<Member>) -> Result<(), AllocError>
+pub(crate) fn note_end(state: &mut Tracked, who: Option<Member>) -> Result<(), AllocError>
+    requires { 1 ≤ state.old.room }
     ensures plan { state.new.plan ≡ state.old.plan }
     ensures ok { OnOk result (state.new.board ≡ noted state.old.board who) }
     ensures err { OnErr result (state.new.board ≡ state.old.board) }
+    ensures back { OnOk result (state.new.back ≡ state.old.back) }
+    ensures room { OnOk result (state.old.room ≤ state.new.room + 1) }
 {
     if let Some(Member::Leg(number)) = who {
         state.push_end(number)?;
@@ -125,8 +152,8 @@ pub(crate) fn note_end(state: &mut Counted, who: Option<Member>) -> Result<(), A
     Ok(())
 }
 
-/// Takes back that a leg was noted. It takes no memory.
-pub(crate) fn forget_end(alloc: Global, state: &mut Counted, who: Option<Member>)
+/// Takes back that a leg was noted, where nothing else is to be taken back. It takes no memory.
+pub(crate) fn forget_end(alloc: Global, state: &mut Tracked, who: Option<Member>)
     ensures plan { state.new.plan ≡ state.old.plan }
     ensures board { (b : BoardOf) → state.old.board ≡ noted b who → state.new.board ≡ b }
 {
@@ -136,9 +163,12 @@ pub(crate) fn forget_end(alloc: Global, state: &mut Counted, who: Option<Member>
 }
 
 /// Cancels a member whose end was noted.
-pub(crate) fn put_out(state: &mut Counted, who: Option<Member>)
+pub(crate) fn put_out(state: &mut Tracked, who: Option<Member>)
+    requires { 1 ≤ state.old.room }
     ensures plan { state.new.plan ≡ state.old.plan }
     ensures board { state.new.board ≡ put_out_of state.old.board who }
+    ensures back { state.new.back ≡ state.old.back }
+    ensures room { state.old.room ≤ state.new.room + 1 }
 {
     match who {
         Some(Member::Run(number)) => close_run(state, number, Outcome::Cancelled),
@@ -155,10 +185,13 @@ pub(crate) fn put_out(state: &mut Counted, who: Option<Member>)
 }
 
 /// Ends a leg that has no worker, last of all; where memory runs out, nothing is changed.
-pub(crate) fn drop_leg(state: &mut Counted, number: u64, how: Outcome) -> Result<(), AllocError>
+pub(crate) fn drop_leg(state: &mut Tracked, number: u64, how: Outcome) -> Result<(), AllocError>
+    requires { 2 ≤ state.old.room }
     ensures plan { state.new.plan ≡ state.old.plan }
     ensures ok { OnOk result (state.new.board ≡ spec.dropped state.old.board number how) }
     ensures err { OnErr result (state.new.board ≡ state.old.board) }
+    ensures back { OnOk result (state.new.back ≡ state.old.back) }
+    ensures room { OnOk result (state.old.room ≤ state.new.room + 2) }
 {
     state.push_end(number)?;
     set_state(
@@ -174,16 +207,19 @@ pub(crate) fn drop_leg(state: &mut Counted, number: u64, how: Outcome) -> Result
 
 /// Puts a leg into the state in which it ends, last of all; where memory runs out, nothing is changed.
 pub(crate) fn set_ended(
-    state: &mut Counted,
+    state: &mut Tracked,
     place: LegPlace,
     number: u64,
     to: LegState,
     outputs: Mapping<Text>,
 ) -> Result<(), AllocError>
+    requires { 2 ≤ state.old.room }
     ensures plan { state.new.plan ≡ state.old.plan }
     ensures ok { OnOk result
         (state.new.board ≡ leg_ended state.old.board place number to outputs) }
     ensures err { OnErr result (state.new.board ≡ state.old.board) }
+    ensures back { OnOk result (state.new.back ≡ state.old.back) }
+    ensures room { OnOk result (state.old.room ≤ state.new.room + 2) }
 {
     state.push_end(number)?;
     state.change_leg(place, LegChange::Outputs(to, outputs));

@@ -6,9 +6,9 @@ ghost use Rattle.status_table.specs.InPlay.{InPlay};
 ghost use Rattle.status_table.specs.Kinds as spec;
 ghost use Rattle.status_table.specs.Moves as rule;
 
-use crate::counted::Counted;
 use crate::found::{find_leg, is_full, is_stopping};
 use board_decisions::place::{find_job, find_run};
+use flat_counters::Counted;
 use flow_model::{Event, JobState, RunState};
 use status_table::events::{may_ask, may_drop};
 use status_table::moves::{Kind, count_jobs, count_legs, event_of, opens};

@@ -1,7 +1,8 @@
-use Rattle.std.proofs.Common.{sym, ◌∙◌}
+use Rattle.std.proofs.Common.{◌≡◌, Some, subst, sym, ◌∙◌}
 use Rattle.board_decisions.specs.Decisions.{run_entrance}
 use Rattle.board_decisions.specs.Place.{run_at}
 use Rattle.board_decisions.specs.Seen.{run_seen}
+use Rattle.status_table.specs.Play.{Play}
 use Rattle.flat_board.proofs.Named.{given_named, run_asks}
 use Rattle.flat_board.proofs.Reached.{opens_outside}
 use Rattle.flat_board.proofs.events.open.Goals as goal
@@ -12,5 +13,6 @@ enter_run-requires-clause-named c =
 
 pub enter_run-requires-clause-outside : goal.enter_run-requires-clause-outside
 enter_run-requires-clause-outside c =
-    opens_outside c.who_enters_is_outside.ensures c.args.state.now.plan c.args.state.now.board c.args.groups.now c.args.number (run_seen c.in-Some.at) c.requires
-    ((λ i. run_at (sym c.plan.ensures.same i) (sym c.board.ensures.board i) c.args.number) ∙ sym c.in-Some.ensures) c.in-New-false.is-0 c.in-New-false.is-1
+    opens_outside c.who_enters_is_outside.ensures c.args.state.now.plan c.args.state.now.board c.args.groups.now c.args.number (run_seen c.in-Some.at) c.requires.kept
+    (subst (λ (s : Play). run_at s.plan s.board c.args.number ≡ Some (run_seen c.in-Some.at)) c.counted-play.ensures
+    ((λ i. run_at (sym c.plan.ensures.same i) (sym c.board.ensures.board i) c.args.number) ∙ sym c.in-Some.ensures)) c.in-New-false.is-0 c.in-New-false.is-1

@@ -1,0 +1,127 @@
+-- Changes of a board, and what is counted after them.
+use Rattle.std.specs.Prelude.{ℕ, ◌-◌, Bool, false, true, List, [], ◌∷◌, ◌++◌, length, map, take, Option, Some, None}
+use Rattle.std.specs.List.{list_all}
+use Rattle.board_decisions.specs.Derived.{holds_at}
+use Rattle.board_decisions.specs.Numbered.{job_there, leg_there}
+use Rattle.board_decisions.specs.declared.place.JobPlace.{JobPlace}
+use Rattle.board_decisions.specs.declared.place.LegPlace.{LegPlace}
+use Rattle.flow_model.specs.declared.board.Board.{Board}
+use Rattle.flow_model.specs.declared.board.Run.{Run}
+use Rattle.flow_model.specs.declared.board.Job.{Job}
+use Rattle.flow_model.specs.declared.board.JobState.{JobState}
+use Rattle.flow_model.specs.declared.board.JobState.TheVariants as job_state
+use Rattle.flow_model.specs.declared.board.Leg.{Leg}
+use Rattle.flow_model.specs.declared.board.LegState.{LegState}
+use Rattle.flow_model.specs.declared.board.LegState.TheVariants as leg_state
+use Rattle.status_table.specs.Change.{changed}
+use Rattle.flat_counters.specs.Counters.{is_settled, moved, recounted, settled_jobs}
+use Rattle.flat_counters.specs.declared.change.LegChange.{LegChange}
+use Rattle.flat_counters.specs.declared.change.LegChange.TheVariants as leg_change
+use Rattle.flat_counters.specs.declared.change.RunChange.{RunChange}
+use Rattle.flat_counters.specs.declared.change.RunChange.TheVariants as run_change
+use Rattle.flat_counters.specs.declared.need.Need.{Need}
+use Rattle.flat_counters.specs.declared.tally.Tally.{Tally}
+
+-- ---- a run, a job or a leg
+
+-- a run after a change, which leaves its jobs
+abbrev pub run_after : RunChange → Run → Run
+run_after (run_change.State state) run = record run { state = state }
+run_after (run_change.Group state group) run = record run { state = state; group = group }
+run_after (run_change.Stop stop) run = record run { stop = stop }
+
+-- what a run had of what is changed
+abbrev pub run_before : RunChange → Run → RunChange
+run_before (run_change.State state) run = run_change.State run.state
+run_before (run_change.Group state group) run = run_change.Group run.state run.group
+run_before (run_change.Stop stop) run = run_change.Stop run.stop
+
+-- the same of a run that may be there
+abbrev pub run_was : RunChange → Option Run → RunChange
+run_was how None = how
+run_was how (Some run) = run_before how run
+
+-- a leg after a change
+abbrev pub leg_after : LegChange → Leg → Leg
+leg_after (leg_change.State state) leg = record leg { state = state }
+leg_after (leg_change.Group state group) leg = record leg { state = state; group = group }
+leg_after (leg_change.Outputs state outputs) leg = record leg { state = state; outputs = outputs }
+leg_after (leg_change.Stop stop) leg = record leg { stop = stop }
+
+-- what a leg had of what is changed
+abbrev pub leg_before : LegChange → Leg → LegChange
+leg_before (leg_change.State state) leg = leg_change.State leg.state
+leg_before (leg_change.Group state group) leg = leg_change.Group leg.state leg.group
+leg_before (leg_change.Outputs state outputs) leg = leg_change.Outputs leg.state leg.outputs
+leg_before (leg_change.Stop stop) leg = leg_change.Stop leg.stop
+
+-- the same of a leg that may be there
+abbrev pub leg_was : LegChange → Option Leg → LegChange
+leg_was how None = how
+leg_was how (Some leg) = leg_before how leg
+
+-- the items but for the last
+abbrev pub front : {A : Type 0} → List A → List A
+front xs = take (length xs - 1) xs
+
+-- a leg in a state, of which the last step is not done
+abbrev pub step_taken : LegState → Leg → Leg
+step_taken state leg = record leg { state = state; steps = front leg.steps }
+
+-- the state of a job that may be there
+abbrev pub job_state_of : Option Job → JobState
+job_state_of None = job_state.Unjudged
+job_state_of (Some job) = job.state
+
+-- the state of the job at a place
+abbrev pub job_state_there : Board → JobPlace → JobState
+job_state_there b place = job_state_of (job_there b place)
+
+-- ---- a leg of a board, and its job
+
+-- the job of a leg, by their places
+abbrev pub job_of : LegPlace → JobPlace
+job_of place = record { run = place.run; job = place.job }
+
+-- the state of a leg that may be there
+abbrev pub state_of : Option Leg → LegState
+state_of None = leg_state.Fresh
+state_of (Some leg) = leg.state
+
+-- the state of the leg at a place
+abbrev pub state_there : Board → LegPlace → LegState
+state_there b place = state_of (leg_there b place)
+
+-- whether the job at a place of a run that may be there has ended by itself
+abbrev pub settled_in : Option Run → ℕ → Bool
+settled_in None job = false
+settled_in (Some run) job = holds_at (settled_jobs run) job
+
+-- whether all jobs of a run that may be there have
+abbrev pub all_settled_in : Option Run → Bool
+all_settled_in None = false
+all_settled_in (Some run) = list_all is_settled run.jobs
+
+-- the tallies where the leg at a place came from a state to another
+abbrev pub retallied : LegPlace → LegState → LegState → List (List Tally) → List (List Tally)
+retallied place was is tallies = changed tallies place.run (λ row. changed row place.job (moved was is))
+
+-- the needs where those of a run that may be there are counted again
+abbrev pub run_recounted : Option Run → ℕ → List (List Need) → List (List Need)
+run_recounted None r needs = needs
+run_recounted (Some run) r needs = changed needs r (map (recounted (settled_jobs run)))
+
+-- the same where one of the run's jobs was settled and is not, or is and was not
+abbrev pub recounted_if : Bool → Bool → Option Run → ℕ → List (List Need) → List (List Need)
+recounted_if false false run r needs = needs
+recounted_if false true run r needs = run_recounted run r needs
+recounted_if true false run r needs = run_recounted run r needs
+recounted_if true true run r needs = needs
+
+-- the board with a leg noted as the last that ended
+abbrev pub noted_last : Board → ℕ → Board
+noted_last b l = record b { ends = b.ends ++ l ∷ [] }
+
+-- the board with the last end taken off
+abbrev pub unnoted : Board → Board
+unnoted b = record b { ends = front b.ends }

@@ -1,0 +1,16 @@
+-- A plan in play, with the board to which what was changed leads back.
+use Rattle.std.specs.Prelude.{ℕ}
+use Rattle.flow_model.specs.declared.board.Board.{Board}
+use Rattle.flow_model.specs.declared.plan.Plan.{Plan}
+use Rattle.status_table.specs.Play.{Play}
+
+-- A plan and its board; the board to which the changes lead back; and how many more changes there is room for.
+pub record Track : Type 0 where
+  pub plan : Plan
+  pub board : Board
+  pub back : Board
+  pub room : ℕ
+
+-- the plan and its board alone
+abbrev pub play_of : Track → Play
+play_of t = record { plan = t.plan; board = t.board }

@@ -1,0 +1,117 @@
+//! The legs of a job, counted by how they stand.
+
+ghost use Rattle.std.specs.Prelude.{◌≡◌};
+ghost use Rattle.flat_counters.specs.Counters as spec;
+
+use board_decisions::derived::is_failure;
+use flow_model::{Job, Leg, LegState};
+
+/// What is counted of the legs of a job.
+#[derive(Clone, Copy)]
+pub(crate) enum Counter {
+    /// Those that are not Ended.
+    Open,
+    /// Those that take one of the slots that `max_parallel` gives the job.
+    Used,
+    /// Those that are Ended with a failure that is not tolerated.
+    Failed,
+}
+
+/// How many legs a job has, and how many of them are counted so.
+#[derive(Clone, Copy)]
+pub struct Tally {
+    /// All of them.
+    pub legs: usize,
+    /// Those that are not Ended.
+    pub pending: usize,
+    /// Those that take a slot.
+    pub used: usize,
+    /// Those that are Ended with a failure that is not tolerated.
+    pub failed: usize,
+}
+
+/// Whether a leg in a state is counted.
+fn counts(counter: Counter, state: LegState) -> bool
+    ensures { result ≡ spec.counts counter state }
+{
+    match (counter, state) {
+        (Counter::Open, LegState::Ended { .. }) => false,
+        (Counter::Open, LegState::Fresh) => true,
+        (Counter::Open, LegState::Waiting) => true,
+        (Counter::Open, LegState::Admitted) => true,
+        (Counter::Open, LegState::Running { .. }) => true,
+        (Counter::Used, LegState::Waiting) => true,
+        (Counter::Used, LegState::Admitted) => true,
+        (Counter::Used, LegState::Running { .. }) => true,
+        (Counter::Used, LegState::Fresh) => false,
+        (Counter::Used, LegState::Ended { .. }) => false,
+        (
+            Counter::Failed,
+            LegState::Ended {
+                result: how,
+                tolerated,
+            },
+        ) => is_failure(how) && !tolerated,
+        (Counter::Failed, LegState::Fresh) => false,
+        (Counter::Failed, LegState::Waiting) => false,
+        (Counter::Failed, LegState::Admitted) => false,
+        (Counter::Failed, LegState::Running { .. }) => false,
+    }
+}
+
+/// How many of some legs are counted.
+fn count(counter: Counter, legs: &[Leg]) -> usize
+    ensures { result ≡ spec.counted counter legs.now }
+{
+    let mut count = 0;
+    for leg in legs {
+        if counts(counter, leg.state) {
+            count += 1;
+        }
+    }
+    count
+}
+
+/// How the legs of a job stand.
+pub(crate) fn tally_of(job: &Job) -> Tally
+    ensures { result ≡ spec.tally_of job.now }
+{
+    let legs = job.legs.as_slice();
+    Tally {
+        legs: legs.len(),
+        pending: count(Counter::Open, legs),
+        used: count(Counter::Used, legs),
+        failed: count(Counter::Failed, legs),
+    }
+}
+
+/// A count of some of so many, where one of these was counted or not, and now is or is not.
+fn turned(all: usize, count: usize, was: bool, is: bool) -> usize
+    ensures { result ≡ spec.turned all count was is }
+{
+    match (was, is) {
+        (false, false) => count,
+        (false, true) => if count < all { count + 1 } else { count },
+        (true, false) => count.saturating_sub(1),
+        (true, true) => count,
+    }
+}
+
+/// The same for one counter, where a leg came from a state to another.
+fn turned_by(counter: Counter, all: usize, count: usize, was: LegState, is: LegState) -> usize
+    ensures { result ≡ spec.turned all count (spec.counts counter was) (spec.counts counter is) }
+{
+    turned(all, count, counts(counter, was), counts(counter, is))
+}
+
+/// The counts where one leg came from a state to another.
+pub(crate) fn moved(tally: Tally, was: LegState, is: LegState) -> Tally
+    ensures { result ≡ spec.moved was is tally }
+{
+    Tally {
+        legs: tally.legs,
+        pending: turned_by(Counter::Open, tally.legs, tally.pending, was, is),
+        used: turned_by(Counter::Used, tally.legs, tally.used, was, is),
+        failed: turned_by(Counter::Failed, tally.legs, tally.failed, was, is),
+    }
+}
