@@ -327,7 +327,8 @@ impl Counted {
 
     /// How the legs of the job at a place stand.
     pub(crate) fn tally(&self, place: JobPlace) -> Tally
-        ensures { (job : Job) → job_there self.now.board place ≡ Some job → result ≡ tally_of_job job }
+        ensures { (job : Job)
+            → job_there self.now.board place ≡ Some job → result ≡ tally_of_job job }
     {
         let Some(row) = self.tallies.as_slice().get(place.run) else {
             return no_legs();
@@ -425,7 +426,8 @@ impl Counted {
     /// Takes back that a leg was noted. It takes no memory.
     pub(crate) fn pop_end(&mut self, alloc: Global)
         ensures plan { self.new.plan ≡ self.old.plan }
-        ensures board { (b : Board) (l : ℕ) → self.old.board ≡ spec.noted_last b l → self.new.board ≡ b }
+        ensures board { (b : Board) (l : ℕ)
+            → self.old.board ≡ spec.noted_last b l → self.new.board ≡ b }
     {
         let ends = mem::replace(&mut self.board.ends, Sequence::empty(alloc));
         self.board.ends = Sequence::new(without_last(ends.into_vec()));
