@@ -87,9 +87,11 @@ impl<H: StepHost> StepHost for Masked<H> {
         Ok(masked_answer(self.alloc, answer, self.masks.as_slice())?)
     }
 
-    ghost admits_well_formed = { λ host call answer. IsMasked-well_formed host.masks (H.admits host.host call) answer };
+    ghost admits_well_formed = { λ host call answer.
+        IsMasked-well_formed host.masks (H.admits host.host call) answer };
 }
 
 impl<H: DecidedHost> DecidedHost for Masked<H> {
-    ghost admits_one = { λ host call. IsMasked-one host.masks (H.admits host.host call) (H.admits_one host.host call) };
+    ghost admits_one = { λ host call.
+        IsMasked-one host.masks (H.admits host.host call) (H.admits_one host.host call) };
 }

@@ -3,18 +3,16 @@ use Rattle.std.proofs.Common.{◌≡◌, ℕ, zero, suc, ◌+◌, ◌<◌, List,
 use Rattle.std.specs.List.{All}
 use Rattle.std.specs.Option.{option_or}
 use Rattle.std.proofs.Math.Seq.{take-append_seam}
-use Rattle.std.proofs.lemmas.List.{length-append, length-map, map-append}
+use Rattle.std.proofs.lemmas.List.{length-map, map-append}
 use Rattle.std.proofs.lemmas.List.Elements.{All-pop, All-push, All-same}
 use Rattle.flow_model.specs.declared.event.Answer.{Answer}
 use Rattle.flow_model.specs.declared.event.Entry.{Entry}
 use Rattle.flow_model.specs.declared.reply.StepCall.{StepCall}
-use Rattle.locked_board.specs.Hand.{Hand, new_hand, new_hands}
 use Rattle.ready_queue.specs.Names.{Name}
 use Rattle.ready_queue.specs.Passes.{IsPassOf, records_of}
 use Rattle.ready_queue.specs.Records.{DividesNames, KeepsNames, keepers}
 use Rattle.ready_queue.specs.declared.pass.Pass.{Pass}
 use Rattle.ready_queue.specs.declared.queue.TicketQueue.{TicketQueue}
-use Rattle.status_table.specs.Moves.{numbers}
 use Rattle.worker_pool.specs.Log.{AreAdmitted, Answered, HaltsFor, answers_of}
 use Rattle.worker_pool.specs.Logs.{AreAnswered}
 use Rattle.worker_pool.specs.Worker.{IsFit, crew_keepers}
@@ -63,14 +61,6 @@ module _ {N : Type 0} where
       let first = each zero x (omega (arith)) name in
       let later = names_kept xs ys (omega (arith, same)) (λ i d lt. each (suc i) d (omega (arith, lt))) name in
       omega (arith, first, later)
-
--- as many shares are dealt as there are workers
-pub numbers_count : (n : ℕ) → length (numbers n) ≡ n
-numbers_count zero = refl
-numbers_count (suc n) = let fewer = numbers_count n in omega (arith, length-append (numbers n) (n ∷ []), fewer)
-
-pub hands_dealt : (n : ℕ) (hands : List Hand) → hands ≡ new_hands n → length hands ≡ n
-hands_dealt n hands is = ap length is ∙ length-map (numbers n) new_hand ∙ numbers_count n
 
 module _ {N : Type 0} (admits : StepCall → Answer → Type 0) (queue : TicketQueue) where
   new_fit : (w : Worker N) → IsPassOf queue w.pass → w.log.entries.items ≡ [] → w.log.calls.items ≡ [] → IsFit admits queue w

@@ -1,6 +1,6 @@
 mod Accepted
 mod Agreeing
-mod Crosses
+pub mod Crosses
 mod Fit
 mod Fresh
 mod Grows

@@ -1,13 +1,15 @@
--- What a worker keeps while it plays: its pass, and what it logs.
-use Rattle.std.specs.Prelude.{ℕ, ◌+◌, List, [], ◌∷◌}
+-- What a play begins with, and what a worker keeps while it plays: its pass, and what it logs.
+use Rattle.std.specs.Prelude.{◌≡◌, ℕ, ◌+◌, ◌≤◌, List, [], ◌∷◌, Vec, vec_len, vec_capacity}
+use Rattle.std.specs.Global.{Global}
 use Rattle.flow_model.specs.declared.event.Answer.{Answer}
 use Rattle.flow_model.specs.declared.reply.StepCall.{StepCall}
 use Rattle.ready_queue.specs.Passes.{IsPassOf, records_of}
 use Rattle.ready_queue.specs.Names.{Name}
-use Rattle.ready_queue.specs.Records.{KeepsNames, keepers}
+use Rattle.ready_queue.specs.Records.{IsWhole, KeepsNames, keepers}
 use Rattle.ready_queue.specs.declared.pass.Pass.{Pass}
 use Rattle.ready_queue.specs.declared.queue.TicketQueue.{TicketQueue}
 use Rattle.worker_pool.specs.Log.{Answered, HasSameCalls}
+use Rattle.worker_pool.specs.declared.many.Start.{Start}
 use Rattle.worker_pool.specs.declared.worker.Worker.{Worker}
 
 -- A pass is one of the queue, and keeps the names that it had.
@@ -35,3 +37,18 @@ module _ {N : Type 0} where
   abbrev pub crew_keepers : Name → List (Worker N) → ℕ
   crew_keepers name [] = 0
   crew_keepers name (w ∷ ws) = keepers name (records_of w.pass) + crew_keepers name ws
+
+-- There is nothing yet, and room for so many.
+abbrev pub HasRoomFor : {X : Type 0} → ℕ → Vec X Global → Type 0
+HasRoomFor n xs = (xs.items ≡ []) × (n ≤ vec_capacity xs)
+
+module _ {N T U : Type 0} where
+  -- So many workers can begin: there is a share for each, no pass is out but the first, and there is room for the workers, and for
+  -- what each of them logs.
+  pub record IsReady (workers : ℕ) (start : Start N T U) : Type 0 where
+    pub shares : vec_len start.shares ≡ workers
+    pub pass : IsPassOf start.pool.queue start.pass
+    pub whole : IsWhole (records_of start.pass)
+    pub crew : HasRoomFor workers start.crew
+    pub entries : HasRoomFor workers start.logs.entries
+    pub calls : HasRoomFor workers start.logs.calls

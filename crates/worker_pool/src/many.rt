@@ -1,14 +1,12 @@
 //! Several workers play a plan to its end.
 
-ghost use Rattle.std.specs.Prelude.{◌≡◌, ◌≤◌, [], Err, IfOk, IfErr, IfSome, vec_len, vec_capacity};
+ghost use Rattle.std.specs.Prelude.{◌≡◌, ◌≤◌, Err, IfOk, IfErr, IfSome};
 ghost use Rattle.std.specs.List.{All};
-ghost use Rattle.ready_queue.specs.Passes.{IsPassOf, records_of};
-ghost use Rattle.ready_queue.specs.Records.{IsWhole};
 ghost use Rattle.status_table.specs.Runs.{new_board};
 ghost use Rattle.worker_pool.specs.Log.{HaltsFor};
 ghost use Rattle.worker_pool.specs.Many.{AreNoWorkers, EndsByMany, StopsByMany};
 ghost use Rattle.worker_pool.specs.Stalls.{HasNoJobGroup};
-ghost use Rattle.worker_pool.specs.Worker.{IsFit, StaysFit, crew_keepers};
+ghost use Rattle.worker_pool.specs.Worker.{IsFit, IsReady, StaysFit, crew_keepers};
 ghost use Rattle.worker_pool.specs.declared.played.Ending.TheVariants as ending;
 
 use crate::bell::Bell;
@@ -20,9 +18,11 @@ use crate::review::settle;
 use crate::stalls::stalled_only_by_groups;
 use crate::stop::Stop;
 use crate::worker::{Pool, Worker};
-use flow_model::{CheckedPlan, JobPlan, Plan};
+use flow_model::CheckedPlan;
+use flow_model::laws::rules_hold;
 use locked_board::{Names, Share, SharedBoard};
 use ready_queue::{Pass, TicketQueue};
+use status_table::moves::count_legs;
 use status_table::{PlainBoard, Reversible, Table};
 use std::alloc::{AllocError, Global};
 use std::marker::Brand;
@@ -54,24 +54,6 @@ fn play_each<
     thread::for_each_mut(rt, workers, threads, &each);
 }
 
-/// How many legs a plan has.
-fn count_legs(plan: &Plan) -> usize {
-    let mut count = 0usize;
-    for run in plan.runs.as_slice() {
-        count = count.saturating_add(count_legs_of(run.jobs.as_slice()));
-    }
-    count
-}
-
-/// How many legs some jobs have.
-fn count_legs_of(jobs: &[JobPlan]) -> usize {
-    let mut count = 0usize;
-    for job in jobs {
-        count = count.saturating_add(job.legs.len());
-    }
-    count
-}
-
 /// What a play begins with: what its workers have in common and their shares, the first pass, and room for the workers and for
 /// what they log.
 struct Start<N: Names, T: Reversible + Send> {
@@ -83,11 +65,9 @@ struct Start<N: Names, T: Reversible + Send> {
 }
 
 /// Takes all memory that is needed before the workers begin.
-#[tactic(auto, using(crate::proofs::Hired::hands_dealt))]
 fn prepare<N: Names, T: Reversible + Send + Drop>(
     alloc: Global,
     table: T,
-    legs: usize,
     blank: Blank,
     workers: u8,
 ) -> Result<Start<N, T>, AllocError>
@@ -95,14 +75,11 @@ fn prepare<N: Names, T: Reversible + Send + Drop>(
     requires name { blank.name ≡ N.name }
     requires parts { (blank.parts ≡ N.parts) × (blank.parts ≡ workers) }
     requires number { (1 ≤ workers) × (workers ≤ 16) }
-    ensures shares { IfOk result (λ made. vec_len made.shares ≡ workers) }
-    ensures pass { IfOk result (λ made. IsPassOf made.pool.queue made.pass) }
-    ensures whole { IfOk result (λ made. IsWhole (records_of made.pass)) }
-    ensures crew { IfOk result (λ made. (made.crew.items ≡ []) × (workers ≤ vec_capacity made.crew)) }
-    ensures entries { IfOk result (λ made. (made.logs.entries.items ≡ []) × (workers ≤ vec_capacity made.logs.entries)) }
-    ensures calls { IfOk result (λ made. (made.logs.calls.items ≡ []) × (workers ≤ vec_capacity made.logs.calls)) }
+    ensures { IfOk result (IsReady workers) }
 {
+    rules_hold();
     let count = usize::from(workers);
+    let legs = count_legs(table.lend().runs.as_slice());
     let (queue, pass) = TicketQueue::new(alloc, legs.max(1))?;
     let logs = Logs::with_room(alloc, count)?;
     let crew = Vec::with_capacity(alloc, count)?;
@@ -141,12 +118,7 @@ fn play_start<
     requires fresh { V.board again ≡ new_board (V.plan again) }
     requires number { (1 ≤ workers) × (workers ≤ 16) }
     requires parts { N.parts ≡ workers }
-    requires shares { vec_len start.shares ≡ workers }
-    requires pass { IsPassOf start.pool.queue start.pass }
-    requires whole { IsWhole (records_of start.pass) }
-    requires crew { (start.crew.items ≡ []) × (workers ≤ vec_capacity start.crew) }
-    requires entries { (start.logs.entries.items ≡ []) × (workers ≤ vec_capacity start.logs.entries) }
-    requires calls { (start.logs.calls.items ≡ []) × (workers ≤ vec_capacity start.logs.calls) }
+    requires ready { IsReady workers start }
     ensures played { IfOk result (EndsByMany (H.admits host.now) (V.plan again) workers) }
     ensures stopped { IfErr result
         (StopsByMany (H.admits host.now) (H.declines host.now) (V.plan again) workers) }
@@ -188,7 +160,6 @@ fn play_named<
     rt: &R,
     alloc: Global,
     tables: (T, T),
-    legs: usize,
     host: &H,
     blank: Blank,
     workers: u8,
@@ -204,7 +175,7 @@ fn play_named<
         (StopsByMany (H.admits host.now) (H.declines host.now) (T.plan tables.1) workers)) }
 {
     let (table, again) = tables;
-    let start = prepare::<N, T>(alloc, table, legs, blank, workers)?;
+    let start = prepare::<N, T>(alloc, table, blank, workers)?;
     Ok(play_start(rt, start, again, host, workers))
 }
 
@@ -222,9 +193,8 @@ fn play_counted<R: Threads + Wait + Sync, H: StepHost + Sync>(
         (StopsByMany (H.admits host.now) (H.declines host.now) plan.now workers)) }
 {
     let tables = (PlainBoard::new(alloc, plan)?, PlainBoard::new(alloc, plan)?);
-    let legs = count_legs(plan.plan());
     let blank = Blank::new(u64::from(workers));
-    play_named::<Brand, PlainBoard, R, H>(rt, alloc, tables, legs, host, blank, workers)
+    play_named::<Brand, PlainBoard, R, H>(rt, alloc, tables, host, blank, workers)
 }
 
 /// Plays a plan by 1 to 16 workers, each in a thread of its own where one can be made. Each posts what a clerk may, and else takes a

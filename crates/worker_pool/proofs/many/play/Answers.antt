@@ -1,4 +1,4 @@
-use Rattle.std.proofs.Common.{◌≡◌, sym, subst}
+use Rattle.std.proofs.Common.{sym, subst}
 use Rattle.worker_pool.specs.Many.{StopsByMany}
 use Rattle.worker_pool.proofs.Reviews.{none_played}
 use Rattle.worker_pool.proofs.many.play.Goals as goal
