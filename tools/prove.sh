@@ -116,14 +116,18 @@ take_out() {
 
 # starts the proof of each crate whose turn it is, as long as there are processors. The first gets those that no other waits for.
 start_proofs() {
-  local ready line name tenths behind below idle jobs
+  local ready line name tenths behind below idle jobs most
   mapfile -t ready < <(ready_now)
   for line in "${ready[@]}"; do
     idle=$((processors - busy))
     [ "$idle" -gt 0 ] || return
     read -r name tenths behind below <<<"$line"
     jobs=$((idle - ${#ready[@]} + 1))
-    jobs=$((jobs < 1 ? 1 : jobs > 4 ? 4 : jobs))
+    # each job loads all libraries below, so more than two of an upper crate cost more than they bring
+    # shellcheck disable=SC2086
+    set -- $below
+    most=$(($# > 3 ? 2 : 4))
+    jobs=$((jobs < 1 ? 1 : jobs > most ? most : jobs))
     # shellcheck disable=SC2086
     prove "$jobs" "$name" $below </dev/null >"$logs/$name" 2>&1 9<&- &
     taken[$name]=$jobs
