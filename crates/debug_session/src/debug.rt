@@ -17,10 +17,11 @@ use command_io::stream::{Sink, Source, SourceFault};
 use command_io::tell::{refuse_source, tell};
 use command_io::trouble::Trouble;
 use debugger::{Break, DebugFault, Debugger};
+use flat_board::FlatBoard;
 use flow_model::{CheckedPlan, Entry, Sequence, first_line};
 use plan_text::{board_text, load_record};
 use status_table::board_laws::legal_lists_are_short;
-use status_table::{PlainBoard, Reversible};
+use status_table::Reversible;
 use std::alloc::{AllocError, Global};
 use std::fmt::Write;
 
@@ -232,12 +233,12 @@ fn entries_opened(
     alloc: Global,
     plan: CheckedPlan,
     entries: Sequence<Entry>,
-) -> Result<Debugger<PlainBoard>, Trouble>
+) -> Result<Debugger<FlatBoard>, Trouble>
     requires { IsPlan plan }
     ensures { spec.GivesSession plan entries result }
 {
     legal_lists_are_short();
-    let Ok(start) = PlainBoard::from_plan(alloc, plan) else {
+    let Ok(start) = FlatBoard::from_plan(alloc, plan) else {
         return Err(Trouble::Memory);
     };
     match Debugger::open(alloc, start, entries.into_vec()) {
@@ -247,7 +248,7 @@ fn entries_opened(
 }
 
 /// A record under the debugger.
-fn record_opened(alloc: Global, text: &[u8]) -> Result<Debugger<PlainBoard>, Trouble>
+fn record_opened(alloc: Global, text: &[u8]) -> Result<Debugger<FlatBoard>, Trouble>
     ensures { spec.OpensRecord text.now result }
 {
     match load_record(alloc, text) {
