@@ -12,9 +12,9 @@ use command_io::stream::{LineSource, Sink, Source, SourceFault};
 use command_io::tell::refuse;
 use command_io::trouble::Trouble;
 use debugger::{DebugFault, Debugger};
+use flat_board::FlatBoard;
 use flow_model::{CheckedPlan, Entry, Sequence};
 use plan_text::load_record;
-use status_table::PlainBoard;
 use status_table::board_laws::legal_lists_are_short;
 use std::alloc::Global;
 
@@ -39,12 +39,12 @@ fn entries_opened(
     alloc: Global,
     plan: CheckedPlan,
     entries: Sequence<Entry>,
-) -> Result<Debugger<PlainBoard>, Trouble>
+) -> Result<Debugger<FlatBoard>, Trouble>
     requires { IsPlan plan }
     ensures { spec.GivesSession plan entries result }
 {
     legal_lists_are_short();
-    let Ok(start) = PlainBoard::from_plan(alloc, plan) else {
+    let Ok(start) = FlatBoard::from_plan(alloc, plan) else {
         return Err(Trouble::Memory);
     };
     match Debugger::open(alloc, start, entries.into_vec()) {
@@ -54,7 +54,7 @@ fn entries_opened(
 }
 
 /// A record under the debugger.
-fn record_opened(alloc: Global, text: &[u8]) -> Result<Debugger<PlainBoard>, Trouble>
+fn record_opened(alloc: Global, text: &[u8]) -> Result<Debugger<FlatBoard>, Trouble>
     ensures { spec.OpensRecord text.now result }
 {
     match load_record(alloc, text) {
@@ -64,7 +64,7 @@ fn record_opened(alloc: Global, text: &[u8]) -> Result<Debugger<PlainBoard>, Tro
 }
 
 /// Reads a record to its end, and puts it under the debugger. Its text is let go.
-fn file_opened<R: Source>(alloc: Global, file: &mut R) -> Result<Debugger<PlainBoard>, Trouble>
+fn file_opened<R: Source>(alloc: Global, file: &mut R) -> Result<Debugger<FlatBoard>, Trouble>
     ensures { spec.OpensFile (R.seen file.old) (R.seen file.new) result }
 {
     match file.read_all(alloc) {

@@ -8,7 +8,8 @@ use command_io::stream::{LineSource, Sink, SourceFault, put_now};
 use command_io::tell::refuse;
 use command_io::trouble::{DONE, Trouble};
 use debugger::Debugger;
-use status_table::{PlainBoard, Reversible};
+use flat_board::FlatBoard;
+use status_table::Reversible;
 use std::alloc::Global;
 
 /// Why a session stops before the input ends.
@@ -85,7 +86,7 @@ fn finish<E: Sink>(err: &mut E, held: Result<(), Halt>) -> u8
 /// Holds a session with a record under the debugger, and gives the exit status.
 pub(crate) fn hold<I: LineSource, O: Sink, E: Sink>(
     alloc: Global,
-    debugger: Debugger<PlainBoard>,
+    debugger: Debugger<FlatBoard>,
     input: &mut I,
     out: &mut O,
     err: &mut E,
