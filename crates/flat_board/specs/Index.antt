@@ -42,6 +42,20 @@ abbrev pub Goes : {T E : Type 0} → Result T E → Content → Content → Cont
 Goes (Ok x) old to new = new ≡ to
 Goes (Err f) old to new = new ≡ old
 
+-- how many changes of a board an event makes at most: one that enters a group may note the end of who waited,
+-- begin to wait, put out who waited, and stop the holder
+abbrev pub most_changes : Event → ℕ
+most_changes (event.Open r) = 4
+most_changes (event.Judge j) = 1
+most_changes (event.Ask l) = 4
+most_changes (event.Drop l) = 3
+most_changes (event.Take l) = 1
+most_changes (event.Begin l) = 1
+most_changes (event.End l a) = 1
+most_changes (event.Finish l) = 3
+most_changes (event.Close r) = 2
+most_changes (event.Cancel r) = 1
+
 -- whether an event may ask something of the groups
 abbrev pub asks_groups : Event → Bool
 asks_groups (event.Open r) = true

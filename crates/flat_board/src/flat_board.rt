@@ -1,7 +1,7 @@
 //! The flat body of the table: the board changed in place, with counters and an index of groups beside it.
 
 ghost use Rattle.std.specs.Prelude.{◌≡◌, ◌≤◌, true, IfOk, OnOk};
-ghost use Rattle.flat_board.specs.Index.{Follows, asks_groups, groups_put_back, if_asked};
+ghost use Rattle.flat_board.specs.Index.{Follows, asks_groups, groups_put_back, if_asked, most_changes};
 ghost use Rattle.flat_board.specs.Undo.{board_before};
 ghost use Rattle.flat_counters.specs.Track.{play_of};
 ghost use Rattle.flow_model.specs.declared.board.Board.{Board};
@@ -20,9 +20,6 @@ use group_admission::Groups;
 use status_table::{EventFault, Reversible, Table};
 use std::alloc::{AllocError, Global};
 use std::marker::Model;
-
-/// The most changes of a board that an event makes.
-const MOST_CHANGES: usize = 4;
 
 /// A plan in play, and how far it is, with what is counted of that and the groups by their names.
 #[derive(Drop)]
@@ -90,7 +87,7 @@ fn apply_event(
 ) -> Result<Reply, EventFault>
     requires in_play { InPlay state.old.plan state.old.board }
     requires kept { KeptAsShown groups.old state.old.board }
-    requires room { 4 ≤ state.old.room }
+    requires room { most_changes event ≤ state.old.room }
     ensures follows { Follows (play_of state.old) (play_of state.new)
         groups.old groups.new worker event result }
     ensures back { OnOk result (state.new.back ≡ state.old.back) }
@@ -109,6 +106,19 @@ fn apply_event(
     }
 }
 
+/// How many changes of a board an event makes at most.
+fn most_changes(event: &Event) -> usize
+    ensures { result ≡ most_changes event.now }
+{
+    match event {
+        Event::Open { .. } | Event::Ask { .. } => 4,
+        Event::Drop { .. } | Event::Finish { .. } => 3,
+        Event::Close { .. } => 2,
+        Event::Judge { .. } | Event::Take { .. } | Event::Begin { .. } => 1,
+        Event::End { .. } | Event::Cancel { .. } => 1,
+    }
+}
+
 /// Plays an event, and keeps what takes it back.
 fn play_event(
     alloc: Global,
@@ -123,7 +133,7 @@ fn play_event(
         groups.old groups.new worker event result }
     ensures back { OnOk result (state.new.back ≡ state.old.board) }
 {
-    state.begin(MOST_CHANGES)?;
+    state.begin(most_changes(&event))?;
     apply_event(alloc, state, groups, worker, event)
 }
 
