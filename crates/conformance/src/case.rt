@@ -18,6 +18,17 @@ pub struct Told {
     pub differ: u64,
 }
 
+impl Told {
+    /// One case more.
+    fn count(&mut self, agrees: bool) {
+        if agrees {
+            self.agree = self.agree.saturating_add(1);
+        } else {
+            self.differ = self.differ.saturating_add(1);
+        }
+    }
+}
+
 /// What the text of a line is.
 #[derive(Clone, Copy)]
 enum Kind {
@@ -109,6 +120,18 @@ fn keep(files: &mut Files, alloc: Global, name: &str, text: &[u8]) -> Result<(),
     let name = String::from_str(alloc, name)?;
     drop(files.insert(name, text)?);
     Ok(())
+}
+
+/// Begins the file of a name anew, which is the name from now on.
+fn begin_file(
+    files: &mut Files,
+    alloc: Global,
+    file_name: &mut String,
+    name: &str,
+) -> Result<(), AllocError> {
+    file_name.clear();
+    file_name.push_str(name)?;
+    keep(files, alloc, name, b"")
 }
 
 /// Adds a word.
@@ -220,10 +243,8 @@ impl Case {
     /// Takes the text as the name of a file, which begins anew.
     fn take_file_name(&mut self, alloc: Global) -> Result<(), AllocError> {
         let name = str::from_utf8(self.text.as_slice()).unwrap_or("");
-        self.file_name.clear();
-        self.file_name.push_str(name)?;
         self.is_file_old = false;
-        keep(&mut self.files, alloc, name, b"")
+        begin_file(&mut self.files, alloc, &mut self.file_name, name)
     }
 
     /// Takes the text that was read, and begins another.
@@ -304,6 +325,18 @@ impl Case {
         }
     }
 
+    /// Does what the case asks.
+    fn perform<R: Machine + Threads + Wait + Sync>(&self, rt: &R, alloc: Global) -> Found {
+        let asked = Asked {
+            is_verb: self.is_verb,
+            words: self.words.as_slice(),
+            files: &self.files,
+            input: self.input.as_slice(),
+            limits: self.limits,
+        };
+        perform(rt, alloc, &asked)
+    }
+
     /// Plays the case, and tells where it differs.
     fn play<R: Machine + Threads + Wait + Sync, O: Write>(
         &self,
@@ -312,19 +345,12 @@ impl Case {
         told: &mut Told,
         out: &mut O,
     ) -> io::Result<()> {
-        let asked = Asked {
-            is_verb: self.is_verb,
-            words: self.words.as_slice(),
-            files: &self.files,
-            input: self.input.as_slice(),
-            limits: self.limits,
-        };
-        let found = perform(rt, alloc, &asked);
-        if self.agrees(&found) {
-            told.agree = told.agree.saturating_add(1);
+        let found = self.perform(rt, alloc);
+        let agrees = self.agrees(&found);
+        told.count(agrees);
+        if agrees {
             return Ok(());
         }
-        told.differ = told.differ.saturating_add(1);
         self.tell(&found, out)
     }
 
@@ -343,13 +369,17 @@ impl Case {
             write!(out, "\n  {word}")?;
         }
         writeln!(out, "\nwanted, status {}:", self.status)?;
-        out.write_all(self.out.as_slice())?;
-        out.write_all(self.err.as_slice())?;
+        write_both(out, self.out.as_slice(), self.err.as_slice())?;
         writeln!(out, "found, status {}:", found.status)?;
-        out.write_all(found.out.as_slice())?;
-        out.write_all(found.err.as_slice())?;
+        write_both(out, found.out.as_slice(), found.err.as_slice())?;
         writeln!(out)
     }
+}
+
+/// Writes what is on both writers of a case.
+fn write_both<O: Write>(out: &mut O, first: &[u8], second: &[u8]) -> io::Result<()> {
+    out.write_all(first)?;
+    out.write_all(second)
 }
 
 /// Plays the cases of a text.

@@ -14,11 +14,16 @@ use status_table::PlainBoard;
 /// Does what the verb asks.
 pub fn places(page: &mut Page<'_>) {
     if let Some((table, entries)) = tabled(page) {
-        match Debugger::open(page.alloc, table, entries.into_vec()) {
-            Ok(mut debugger) => walk(page, &mut debugger),
-            Err(DebugFault::BadRecord(entry, fault)) => write!(page, "BadRecord {entry} {fault}"),
-            Err(fault) => write!(page, "{fault}"),
-        }
+        put_places(page, Debugger::open(page.alloc, table, entries.into_vec()));
+    }
+}
+
+/// Writes the places that a debugger comes to, or why there is none.
+fn put_places(page: &mut Page<'_>, opened: Result<Debugger<PlainBoard>, DebugFault>) {
+    match opened {
+        Ok(mut debugger) => walk(page, &mut debugger),
+        Err(DebugFault::BadRecord(entry, fault)) => write!(page, "BadRecord {entry} {fault}"),
+        Err(fault) => write!(page, "{fault}"),
     }
 }
 

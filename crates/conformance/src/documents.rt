@@ -25,33 +25,47 @@ use plan_text::{load_plan, print_entry, print_plan, print_record, read_entry};
 /// Does what a verb of these asks; other words are those of expressions or sweeps.
 pub fn perform(page: &mut Page<'_>) {
     match page.word(0) {
-        "plan" => {
-            if let Some(plan) = page.loaded(load_plan(page.alloc, page.input)) {
-                page.print(print_plan(page.alloc, &plan));
-            }
-        },
-        "entry" => {
-            if let Some(entry) = page.loaded(read_entry(page.alloc, page.input)) {
-                page.print(print_entry(page.alloc, &entry));
-            }
-        },
-        "record" => {
-            if let Some((plan, entries)) = page.record() {
-                page.print(print_record(page.alloc, &plan, entries.as_slice()));
-            }
-        },
+        "plan" => plan(page),
+        "entry" => entry(page),
+        "record" => record(page),
         "copy" => copy(page),
         "apply" | "insist" | "replies" => apply(page),
         "run" => run(page),
         "moves" => moves(page),
-        "sample" if page.word(1) == "board" => put_board(page, samples::board(page.alloc)),
-        "sample" => {
-            if let Some(reply) = page.have(samples::reply(page.alloc)) {
-                put_reply(page, &reply);
-            }
-        },
+        "sample" => sample(page),
         "groups" => group_calls::groups(page),
         _ => expressions::perform(page),
+    }
+}
+
+/// The plan, printed.
+fn plan(page: &mut Page<'_>) {
+    if let Some(plan) = page.loaded(load_plan(page.alloc, page.input)) {
+        page.print(print_plan(page.alloc, &plan));
+    }
+}
+
+/// The entry, printed.
+fn entry(page: &mut Page<'_>) {
+    if let Some(entry) = page.loaded(read_entry(page.alloc, page.input)) {
+        page.print(print_entry(page.alloc, &entry));
+    }
+}
+
+/// The record, printed.
+fn record(page: &mut Page<'_>) {
+    if let Some((plan, entries)) = page.record() {
+        page.print(print_record(page.alloc, &plan, entries.as_slice()));
+    }
+}
+
+/// The sample that the words name.
+fn sample(page: &mut Page<'_>) {
+    if page.word(1) == "board" {
+        return put_board(page, samples::board(page.alloc));
+    }
+    if let Some(reply) = page.have(samples::reply(page.alloc)) {
+        put_reply(page, &reply);
     }
 }
 

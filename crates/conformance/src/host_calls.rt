@@ -12,8 +12,8 @@
 use crate::page::{Page, parted};
 use crate::plays::put_board;
 use crate::program_calls;
-use flow_model::{Answer, CheckedPlan, Entry, Event, first_line};
-use plan_text::{load_plan, print_entry, read_entry};
+use flow_model::{Answer, CheckedPlan, Entry, Event};
+use plan_text::{print_entry, read_entry};
 use std::alloc::Global;
 use std::str;
 use step_host::{ReplayHost, ScriptHost, StepHost};
@@ -100,12 +100,7 @@ pub fn replayed(page: &mut Page<'_>) -> Option<(CheckedPlan, ReplayHost)> {
 
 /// A play by one thread, over a script.
 fn alone(page: &mut Page<'_>) {
-    let input = page.input;
-    if input.is_empty() {
-        return page.put("NotJson");
-    }
-    let (line, script) = first_line(input);
-    if let Some(plan) = page.loaded(load_plan(page.alloc, line)) {
+    if let Some((plan, script)) = page.plan() {
         if let Some(host) = script_of(page, script) {
             put_play(page, &plan, &host);
         }
@@ -132,11 +127,16 @@ pub fn put_ending(page: &mut Page<'_>, ending: Ending) {
 }
 
 /// Writes a history, one entry a line.
-fn put_history(page: &mut Page<'_>, history: &[Entry]) {
+pub fn put_history(page: &mut Page<'_>, history: &[Entry]) {
     for entry in history {
-        page.print(print_entry(page.alloc, entry));
-        page.put("\n");
+        put_entry(page, entry);
     }
+}
+
+/// Writes a line with an entry.
+pub fn put_entry(page: &mut Page<'_>, entry: &Entry) {
+    page.print(print_entry(page.alloc, entry));
+    page.put("\n");
 }
 
 /// Writes why a play stopped, after its history.

@@ -26,19 +26,21 @@
 //!   - TEXT      the first such part is taken out, and what follows stands in its place
 //!   \           the line has no newline
 //!
-//! There are no escapes: a text goes to the end of its line. The verbs stand at the heads of `debug_sweeps`, `documents`,
-//! `expressions`, `flow_calls`, `group_calls`, `host_calls`, `pattern_sweeps`, `plan_calls`, `pool_calls`, `program_calls` and
-//! `record_sweeps`. The program stands on `commands` and the libraries below it, and proves nothing of its own; what it wants
+//! There are no escapes: a text goes to the end of its line. The verbs stand at the heads of `board_calls`, `debug_sweeps`,
+//! `documents`, `expressions`, `flow_calls`, `group_calls`, `host_calls`, `pattern_sweeps`, `plan_calls`, `pool_calls`,
+//! `program_calls`, `record_sweeps` and `ticket_calls`. The program stands on `commands` and the libraries below it, and proves nothing of its own; what it wants
 //! stands in `data/`.
 
 #![tactic(auto)]
 
+mod board_calls;
 mod case;
 mod debug_sweeps;
 mod documents;
 mod expressions;
 mod flow_calls;
 mod group_calls;
+mod held_calls;
 mod host_calls;
 mod members;
 mod page;
@@ -51,6 +53,7 @@ mod record_sweeps;
 mod replies;
 mod samples;
 mod streams;
+mod ticket_calls;
 mod tree_text;
 mod verbs;
 

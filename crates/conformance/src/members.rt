@@ -30,23 +30,29 @@ pub fn put_members(page: &mut Page<'_>, reply: &Reply) {
     }
 }
 
-/// Writes moves, one a line, or that there are none; other events are no moves.
+/// Writes moves, one a line, or that there are none.
 pub fn put_moves(page: &mut Page<'_>, moves: &[Event]) {
     if moves.is_empty() {
         page.put("none");
     }
     for event in moves {
-        match event {
-            Event::Close { run } => writeln!(page, "close {run}"),
-            Event::Open { run } => writeln!(page, "open {run}"),
-            Event::Judge { job } => writeln!(page, "judge {job}"),
-            Event::Drop { leg } => writeln!(page, "drop {leg}"),
-            Event::Ask { leg } => writeln!(page, "ask {leg}"),
-            Event::Take { .. }
-            | Event::Begin { .. }
-            | Event::End { .. }
-            | Event::Finish { .. }
-            | Event::Cancel { .. } => writeln!(page, "no move"),
-        }
+        put_move(page, event);
+        page.put("\n");
+    }
+}
+
+/// Writes a move; another event is none.
+pub fn put_move(page: &mut Page<'_>, event: &Event) {
+    match event {
+        Event::Close { run } => write!(page, "close {run}"),
+        Event::Open { run } => write!(page, "open {run}"),
+        Event::Judge { job } => write!(page, "judge {job}"),
+        Event::Drop { leg } => write!(page, "drop {leg}"),
+        Event::Ask { leg } => write!(page, "ask {leg}"),
+        Event::Take { .. }
+        | Event::Begin { .. }
+        | Event::End { .. }
+        | Event::Finish { .. }
+        | Event::Cancel { .. } => page.put("no move"),
     }
 }

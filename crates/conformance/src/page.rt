@@ -4,8 +4,8 @@
 //! no memory for a text knows that it is short.
 
 use crate::verbs::{CONTEXTS, Files, Found};
-use flow_model::{CheckedPlan, Entry, Sequence};
-use plan_text::{LoadFault, load_record};
+use flow_model::{CheckedPlan, Entry, Sequence, first_line};
+use plan_text::{LoadFault, load_plan, load_record};
 use std::alloc::Global;
 use std::fmt::Display;
 use std::mem;
@@ -51,6 +51,11 @@ impl<'a> Page<'a> {
             Some(word) => word.as_str(),
             None => "",
         }
+    }
+
+    /// The number that is the word at a place, or 0.
+    pub fn number(&self, place: usize) -> u64 {
+        self.word(place).parse::<u64>().unwrap_or(0)
     }
 
     /// The file of contexts.
@@ -123,6 +128,18 @@ impl<'a> Page<'a> {
             Err(fault) => write!(self, "{fault}"),
         }
         None
+    }
+
+    /// The plan that the first line of the input is, and what follows it, or none where the fault is written.
+    pub fn plan(&mut self) -> Option<(CheckedPlan, &'a [u8])> {
+        let input = self.input;
+        if input.is_empty() {
+            self.put("NotJson");
+            return None;
+        }
+        let (line, rest) = first_line(input);
+        let plan = self.loaded(load_plan(self.alloc, line))?;
+        Some((plan, rest))
     }
 
     /// The record that the input is, or none where the fault is written.

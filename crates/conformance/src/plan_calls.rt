@@ -12,11 +12,12 @@
 use crate::flow_calls;
 use crate::flow_calls::put_fault;
 use crate::page::Page;
-use flow_model::{CheckedPlan, Duplicate, Flow, Mapping, Roots, RunPlan, Sequence};
+use flow_model::{CheckedPlan, Duplicate, Flow, Mapping, Roots, RunPlan, Sequence, Text};
 use flow_reader::read_flow;
 use plan_assembler::staging::stages;
 use plan_assembler::{Place, PlanFault, Planner};
 use plan_text::load_plan;
+use std::alloc::AllocError;
 
 /// Does what a verb of these asks; other words are those of workflows.
 pub fn perform(page: &mut Page<'_>) {
@@ -63,38 +64,38 @@ fn planner(page: &mut Page<'_>, place: usize) -> Option<Planner> {
 /// Writes the events that the workflows name.
 fn events(page: &mut Page<'_>) {
     if let Some(planner) = planner(page, 1) {
-        if let Some(events) = page.have(planner.events()) {
-            if events.is_empty() {
-                page.put("none");
-            }
-            for event in events.as_slice() {
-                writeln!(page, "{}", event.as_str());
-            }
+        put_events(page, planner.events());
+    }
+}
+
+/// Writes events, one a line, or that there are none.
+fn put_events(page: &mut Page<'_>, events: Result<Sequence<Text>, AllocError>) {
+    if let Some(events) = page.have(events) {
+        if events.is_empty() {
+            page.put("none");
+        }
+        for event in events.as_slice() {
+            writeln!(page, "{}", event.as_str());
         }
     }
 }
 
-/// The plan that the words ask for, if there is one.
-fn plan(page: &mut Page<'_>) -> Option<CheckedPlan> {
-    match (page.word(0), page.word(1)) {
-        ("stages", "") => page.loaded(load_plan(page.alloc, page.input)),
-        ("stages", _) => {
-            let planner = planner(page, 1)?;
-            have(page, planner.plan_all())
-        },
-        (_, "event") => {
-            let planner = planner(page, 3)?;
-            have(page, planner.plan_event(page.word(2)))
-        },
-        (_, "job") => {
-            let planner = planner(page, 3)?;
-            have(page, planner.plan_job(page.word(2)))
-        },
-        _ => {
-            let planner = planner(page, 2)?;
-            have(page, planner.plan_all())
-        },
-    }
+/// The plan for all, of the workflows that the words from a place on name.
+pub fn plan_all(page: &mut Page<'_>, place: usize) -> Option<CheckedPlan> {
+    let planner = planner(page, place)?;
+    have(page, planner.plan_all())
+}
+
+/// The plan for the event that the words name.
+fn plan_event(page: &mut Page<'_>) -> Option<CheckedPlan> {
+    let planner = planner(page, 3)?;
+    have(page, planner.plan_event(page.word(2)))
+}
+
+/// The plan for the job that the words name.
+fn plan_job(page: &mut Page<'_>) -> Option<CheckedPlan> {
+    let planner = planner(page, 3)?;
+    have(page, planner.plan_job(page.word(2)))
 }
 
 /// The plan that was made, or none where the fault is written, with the number of the run or job where it is.
@@ -109,9 +110,14 @@ fn have(page: &mut Page<'_>, plan: Result<CheckedPlan, PlanFault>) -> Option<Che
     None
 }
 
-/// Writes the runs of a plan, each with its jobs.
+/// Writes the runs of the plan that the words ask for, each with its jobs.
 fn planned(page: &mut Page<'_>) {
-    if let Some(plan) = plan(page) {
+    let plan = match page.word(1) {
+        "event" => plan_event(page),
+        "job" => plan_job(page),
+        _ => plan_all(page, 2),
+    };
+    if let Some(plan) = plan {
         for (number, run) in plan.plan().runs.as_slice().iter().enumerate() {
             put_run(page, number, run);
         }
@@ -131,17 +137,31 @@ fn put_run(page: &mut Page<'_>, number: usize, run: &RunPlan) {
     }
 }
 
-/// Writes the stages of a plan.
+/// Writes the stages of the plan for all, or of the plan that the input is.
 fn staged(page: &mut Page<'_>) {
-    if let Some(plan) = plan(page) {
-        if let Some(stages) = page.have(stages(page.alloc, &plan)) {
-            for (stage, jobs) in stages.as_slice().iter().enumerate() {
-                write!(page, "{stage}:");
-                for (run, job) in jobs.as_slice() {
-                    write!(page, " ({run}, {job})");
-                }
-                page.put("\n");
-            }
+    let plan = match page.word(1) {
+        "" => page.loaded(load_plan(page.alloc, page.input)),
+        _ => plan_all(page, 1),
+    };
+    if let Some(plan) = plan {
+        put_stages(page, &plan);
+    }
+}
+
+/// Writes the stages of a plan.
+fn put_stages(page: &mut Page<'_>, plan: &CheckedPlan) {
+    if let Some(stages) = page.have(stages(page.alloc, plan)) {
+        for (stage, jobs) in stages.as_slice().iter().enumerate() {
+            put_stage(page, stage, jobs.as_slice());
         }
     }
+}
+
+/// Writes a stage: the run and the number of each of its jobs.
+fn put_stage(page: &mut Page<'_>, stage: usize, jobs: &[(u64, u64)]) {
+    write!(page, "{stage}:");
+    for (run, job) in jobs {
+        write!(page, " ({run}, {job})");
+    }
+    page.put("\n");
 }

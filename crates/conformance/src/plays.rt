@@ -6,7 +6,7 @@
 use crate::members::put_moves;
 use crate::page::Page;
 use crate::replies::put_reply;
-use flow_model::{Board, Duplicate, Entry, Sequence};
+use flow_model::{Board, CheckedPlan, Duplicate, Entry, Sequence};
 use plan_text::board_text;
 use status_table::{PlainBoard, Table, run_entries};
 use std::alloc::AllocError;
@@ -86,6 +86,18 @@ pub fn run(page: &mut Page<'_>) {
         }
         put_board(page, table.view());
     }
+}
+
+/// The board that `run_entries` makes of a history, or the entry at which it stops.
+pub fn run_again<'a>(page: &Page<'a>, plan: &CheckedPlan, history: &[Entry]) -> Page<'a> {
+    let mut shown = page.scratch();
+    if let Some(mut table) = shown.have(PlainBoard::new(page.alloc, plan)) {
+        match run_entries(page.alloc, &mut table, history) {
+            Ok(()) => put_board(&mut shown, table.view()),
+            Err((place, fault)) => write!(&mut shown, "{place} {fault}"),
+        }
+    }
+    shown
 }
 
 /// The moves after entries, all of which are played that can be.

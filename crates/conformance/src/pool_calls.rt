@@ -6,22 +6,30 @@
 //!   pool WORKERS recorded  the plan of the record that the input is, over the host of its answers
 //!   meet WORKERS TURNS     the plan that the input is, over a host whose steps wait for each other, so many turns at most:
 //!                          a step that has seen all others succeeds, and else fails
+//!   rounds WORKERS TIMES FILE..  the plan for all, of the workflows in the files, so many times, over the script that the input
+//!                          is, where a step that it does not name succeeds, and some steps take longer than others: how often
+//!                          it came to what the first time came to, and that, without jobs and steps
+//!   agree                  whether logs are what a history has of each worker: the entries of the history are the first lines of
+//!                          the input, and those of each log follow a line `log`
+//!
+//! A play's history is played again over its own answers. Where that, or `run_entries`, leaves no board, or another one, it is told.
 
 ghost use Rattle.std.specs.Prelude.{◌≡◌, true};
 ghost use Rattle.flow_model.specs.Answer.{is_well_formed};
 
 use crate::host_calls::{history_of, put_ending, put_fault, replayed, script_of};
-use crate::page::Page;
-use crate::plays::put_board;
-use flow_model::{Answer, CheckedPlan, Entry, Mapping, StepCall, first_line};
-use plan_text::load_plan;
+use crate::page::{Page, parted};
+use crate::plan_calls::plan_all;
+use crate::plays::{put_board, run_again};
+use flow_model::{Answer, CheckedPlan, Entry, Mapping, StepCall};
+use plan_text::{load_plan, read_entry};
 use std::alloc::Global;
 use std::sync::Wait;
 use std::sync::atomic::{AtomicU64, Ordering};
-use std::thread;
 use std::thread::Threads;
-use step_host::{HostFault, ReplayHost, StepHost};
-use worker_pool::{PoolFault, play, play_entries};
+use std::{str, thread};
+use step_host::{HostFault, ReplayHost, ScriptHost, StepHost};
+use worker_pool::{agree, play, play_entries};
 
 /// A host whose steps wait for each other.
 #[derive(Drop)]
@@ -35,18 +43,24 @@ struct Meet {
     alloc: Global,
 }
 
-/// The answer of a step that ended with this code.
-fn exit(alloc: Global, code: i64) -> Answer
+/// An answer, or a bad output where that may end no call.
+fn checked(answer: Answer) -> Answer
     ensures { is_well_formed result ≡ true }
 {
-    let answer = Answer::Exit {
-        code,
-        outputs: Mapping::empty(alloc),
-    };
     if answer.well_formed() {
         return answer;
     }
     Answer::BadOutput
+}
+
+/// The answer of a step that ended with this code.
+pub fn exit(alloc: Global, code: i64) -> Answer
+    ensures { is_well_formed result ≡ true }
+{
+    checked(Answer::Exit {
+        code,
+        outputs: Mapping::empty(alloc),
+    })
 }
 
 impl StepHost for Meet {
@@ -68,32 +82,129 @@ impl StepHost for Meet {
     ghost admits_well_formed = { λ _ _ _ is. is };
 }
 
+/// A host that answers by a script, and else with exit 0. Some steps take longer than others.
+#[derive(Drop)]
+struct Uneven {
+    script: ScriptHost,
+    alloc: Global,
+}
+
+impl StepHost for Uneven {
+    ghost admits = { λ _ _ answer. is_well_formed answer ≡ true };
+
+    ghost declines = { λ _ _. ⊥ };
+
+    fn play(&self, call: &StepCall) -> Result<Answer, HostFault> {
+        for _ in 0..call.leg % 7 * 20 {
+            thread::yield_now();
+        }
+        match self.script.play(call) {
+            Ok(answer) => Ok(checked(answer)),
+            Err(HostFault::NoAnswer) => Ok(exit(self.alloc, 0)),
+            Err(HostFault::Memory) => Err(HostFault::Memory),
+        }
+    }
+
+    ghost admits_well_formed = { λ _ _ _ is. is };
+}
+
 /// Does what a verb of these asks.
 pub fn perform<R: Threads + Wait + Sync>(rt: &R, page: &mut Page<'_>) {
-    match (page.word(0), page.word(2)) {
-        ("meet", _) => play_meeting(rt, page),
-        (_, "recorded") => {
-            if let Some((plan, host)) = replayed(page) {
-                put_play(rt, page, &plan, &host);
-            }
-        },
+    match page.word(0) {
+        "agree" => agreed(page),
+        "meet" => play_meeting(rt, page),
+        "rounds" => rounds(rt, page),
+        _ if page.word(2) == "recorded" => recorded(rt, page),
         _ => scripted(rt, page),
     }
 }
 
-/// A number that is the word at a place.
-fn number(page: &Page<'_>, place: usize) -> u64 {
-    page.word(place).parse::<u64>().unwrap_or(0)
+/// Writes whether logs are what a history has of each worker.
+fn agreed(page: &mut Page<'_>) {
+    let input = page.input;
+    let mut lists = Vec::new(page.alloc);
+    for part in str::from_utf8(input).unwrap_or("").split("log\n") {
+        let list = entries_in(page, part);
+        page.note(lists.push(list));
+    }
+    if let Some((history, logs)) = lists.as_slice().split_first() {
+        let agrees = agree(history.as_slice(), logs);
+        write!(page, "{agrees}");
+    }
+}
+
+/// The entries that the lines of a text are.
+fn entries_in(page: &mut Page<'_>, text: &str) -> Vec<Entry> {
+    let mut entries = Vec::new(page.alloc);
+    for line in text.lines() {
+        if let Some(entry) = page.loaded(read_entry(page.alloc, line.as_bytes())) {
+            page.note(entries.push(entry));
+        }
+    }
+    entries
+}
+
+/// A play over the answers of a record.
+fn recorded<R: Threads + Wait + Sync>(rt: &R, page: &mut Page<'_>) {
+    if let Some((plan, host)) = replayed(page) {
+        put_play(rt, page, &plan, &host);
+    }
+}
+
+/// Plays over a script, again and again.
+fn rounds<R: Threads + Wait + Sync>(rt: &R, page: &mut Page<'_>) {
+    if let Some(plan) = plan_all(page, 3) {
+        if let Some(script) = script_of(page, page.input) {
+            let alloc = page.alloc;
+            put_rounds(rt, page, &plan, &Uneven { script, alloc });
+        }
+    }
+}
+
+/// Writes how often a play comes to what it comes to the first time, and that.
+fn put_rounds<R: Threads + Wait + Sync>(
+    rt: &R,
+    page: &mut Page<'_>,
+    plan: &CheckedPlan,
+    host: &Uneven,
+) {
+    let first = outline(rt, page, plan, host);
+    let mut times = 1u64;
+    for _ in 1..page.number(2) {
+        if outline(rt, page, plan, host).text() == first.text() {
+            times = times.saturating_add(1);
+        }
+    }
+    writeln!(page, "{times} times");
+    page.put(first.text());
+}
+
+/// What a play comes to, without jobs and steps. As many legs in a row as ended alike are told in a line.
+fn outline<'a, R: Threads + Wait + Sync>(
+    rt: &R,
+    page: &Page<'a>,
+    plan: &CheckedPlan,
+    host: &Uneven,
+) -> Page<'a> {
+    let mut whole = page.scratch();
+    put_play(rt, &mut whole, plan, host);
+    let mut legs = page.scratch();
+    let mut outline = page.scratch();
+    for line in whole.text().lines() {
+        match parted(line) {
+            ("leg", leg) => writeln!(&mut legs, "{leg}"),
+            ("job" | "step", _) => {},
+            _ => writeln!(&mut outline, "{line}"),
+        }
+    }
+    legs.fold();
+    outline.put(legs.text());
+    outline
 }
 
 /// A play over a script.
 fn scripted<R: Threads + Wait + Sync>(rt: &R, page: &mut Page<'_>) {
-    let input = page.input;
-    if input.is_empty() {
-        return page.put("NotJson");
-    }
-    let (line, script) = first_line(input);
-    if let Some(plan) = page.loaded(load_plan(page.alloc, line)) {
+    if let Some((plan, script)) = page.plan() {
         if let Some(host) = script_of(page, script) {
             put_play(rt, page, &plan, &host);
         }
@@ -106,7 +217,7 @@ fn play_meeting<R: Threads + Wait + Sync>(rt: &R, page: &mut Page<'_>) {
         let host = Meet {
             came: AtomicU64::new(0),
             legs: count_legs(&plan),
-            turns: number(page, 2),
+            turns: page.number(2),
             alloc: page.alloc,
         };
         put_play(rt, page, &plan, &host);
@@ -132,7 +243,7 @@ fn put_play<R: Threads + Wait + Sync, H: StepHost>(
     plan: &CheckedPlan,
     host: &H,
 ) {
-    match play(rt, page.alloc, plan, host, number(page, 1)) {
+    match play(rt, page.alloc, plan, host, page.number(1)) {
         Ok(played) => {
             put_ending(page, played.ending);
             let shown = shown_after(page, plan, played.history.as_slice());
@@ -146,15 +257,24 @@ fn put_play<R: Threads + Wait + Sync, H: StepHost>(
     }
 }
 
-/// The board after a history, which is played again over its own answers. An entry of a worker that there is not is told.
+/// The board after a history, which is played again. An entry of a worker that there is not is told, and another board.
 fn shown_after<'a>(page: &mut Page<'a>, plan: &CheckedPlan, history: &[Entry]) -> Page<'a> {
     page.put("\n");
-    let workers = number(page, 1);
+    let workers = page.number(1);
     for entry in history {
         if u64::from(entry.worker) >= workers {
             writeln!(page, "worker {}", entry.worker);
         }
     }
+    let shown = replay(page, plan, history);
+    if run_again(page, plan, history).text() != shown.text() {
+        page.put("another board\n");
+    }
+    shown
+}
+
+/// The board after a history that is played again over its own answers, or why there is none.
+fn replay<'a>(page: &Page<'a>, plan: &CheckedPlan, history: &[Entry]) -> Page<'a> {
     let mut shown = page.scratch();
     match ReplayHost::new(page.alloc, plan, history) {
         Ok(host) => match play_entries(page.alloc, plan, history, &host) {

@@ -21,7 +21,7 @@ pub fn put_reply(page: &mut Page<'_>, reply: &Reply) {
 }
 
 /// Writes a call.
-fn put_call(page: &mut Page<'_>, call: &StepCall) {
+pub fn put_call(page: &mut Page<'_>, call: &StepCall) {
     write!(page, "leg {} step {} calls ", call.leg, call.step);
     match &call.work {
         CallWork::Script { text, shell, dir } => {

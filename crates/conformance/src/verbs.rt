@@ -2,7 +2,7 @@
 
 use crate::page::Page;
 use crate::streams::{Feed, Limits, Sheet};
-use crate::{plan_calls, pool_calls, program_calls};
+use crate::{board_calls, plan_calls, pool_calls, program_calls, ticket_calls};
 use command_io::stream::{Input, Output};
 use command_io::trouble::FAILED;
 use command_words::folder::Folder;
@@ -79,7 +79,9 @@ pub fn perform<R: Machine + Threads + Wait + Sync>(
     let mut page = Page::new(alloc, words, asked.files, asked.input);
     match page.word(0) {
         "program" => program_calls::program(rt, &mut page),
-        "pool" | "meet" => pool_calls::perform(rt, &mut page),
+        "pool" | "meet" | "rounds" | "agree" => pool_calls::perform(rt, &mut page),
+        "posts" | "threads" => board_calls::perform(rt, &mut page),
+        "tickets" => ticket_calls::perform(rt, &mut page),
         _ => plan_calls::perform(&mut page),
     }
     page.into_found()
