@@ -54,7 +54,7 @@ is_made_of() {
 # how many processor minutes the proof of a crate took when it was last measured, as docs/GATE.md has it: 'CRATE MINUTES' a line
 figures() {
   awk -F'|' '/^\| *crate *\| *functions *\| *edits *\| *proof/ { inside = 1; next } !/^\|/ { inside = 0 }
-    inside && $2 ~ /^ [a-z_]+ $/ { gsub(/ /, "", $2); print $2, $5 + 0 }' "$top/docs/GATE.md"
+    inside && $2 ~ /^ [a-z_]+ $/ && $5 + 0 > 0 { gsub(/ /, "", $2); print $2, $5 + 0 }' "$top/docs/GATE.md"
 }
 
 # the crates of the program, each with its figure, in tenths of a minute (without a figure: one minute), before what `crates` has
