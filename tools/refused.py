@@ -1,0 +1,282 @@
+#!/usr/bin/env python3
+"""Refuses each growth of memory in turn, one a run, and sees what comes of it.
+
+  tools/refused.py ACTRUN CONFORMANCE [WORD]
+
+ACTRUN and CONFORMANCE are the built programs (`rt ci` leaves them in crates/actrun/out and crates/conformance/out); with a
+WORD only the examples with that word in their name are played. For the Nth growth, N of 1 up to all that the program asks for:
+
+  commands      what is told is what is told with memory enough, or `actrun: memory` with status 3; `out` is empty then, but
+                that `debug` has its answers so far and `run` the text so far; a record that `run` wrote can be replayed
+  the lock      (posts) an event, begin, end or move of the clerk that is refused for want of memory changes nothing: done
+                again it gives what it gives with memory enough, and so does all that follows; the board at the end is that of
+                the history
+  the table     (insist) likewise of the events of a table
+  one worker    (alone, pool 1) the play is `Memory`, or what it is with memory enough
+
+A growth is what the program asks of the C library; a small library, made here by `cc` and loaded before it, refuses the
+Nth, and is not handed on to programs that are started. It prints a line an example and ends with `refused: ..`; the
+status is 1 where anything else came out.
+"""
+import concurrent.futures
+import glob
+import os
+import re
+import shutil
+import subprocess
+import sys
+import tempfile
+
+TOP = os.path.dirname(os.path.dirname(os.path.abspath(__file__)))
+MEMORY = b"actrun: memory\n"
+LIBRARY = r"""
+#include <errno.h>
+#include <stdio.h>
+#include <stdlib.h>
+void *__libc_malloc(size_t), *__libc_realloc(void *, size_t), *__libc_memalign(size_t, size_t);
+static long asked, refused;
+static int counts;
+__attribute__((constructor)) static void start(void) {
+    const char *number = getenv("REFUSE");
+    counts = getenv("COUNT") != 0;
+    unsetenv("LD_PRELOAD");
+    unsetenv("REFUSE");
+    unsetenv("COUNT");
+    asked = 0;
+    refused = number ? atol(number) : 0;
+}
+__attribute__((destructor)) static void end(void) {
+    if (counts) fprintf(stderr, "\n%ld\n", asked);
+}
+static int refuses(void) {
+    if (++asked != refused) return 0;
+    errno = ENOMEM;
+    return 1;
+}
+void *malloc(size_t size) { return refuses() ? NULL : __libc_malloc(size); }
+void *realloc(void *block, size_t size) { return refuses() ? NULL : __libc_realloc(block, size); }
+void *aligned_alloc(size_t by, size_t size) { return refuses() ? NULL : __libc_memalign(by, size); }
+"""
+EXAMPLES = f"{TOP}/examples"
+DATA = f"{TOP}/crates/conformance/data"
+# the examples of the table whose events are played again after each refusal
+EVENTS = ["outcome-and-conclusion", "env-most-specific-wins", "condition-fault-at-begin", "faulting-output-left-out"]
+DEBUGGED = "step\nstep\nbreak failed\nbreak leg 1\ngo\nshow\nback\ngoto 3\nshow\nbreaks\nclear failed\ngo\ngoto 1\nplace\n"
+
+
+class Wrong(Exception):
+    """What came out that may not."""
+
+
+class Programs:
+    """The two programs, and the folder in which all is made."""
+
+    def __init__(self, actrun, conformance, folder):
+        self.actrun, self.conformance, self.folder = os.path.abspath(actrun), os.path.abspath(conformance), folder
+        with open(f"{folder}/refuse.c", "w", encoding="utf-8") as it:
+            it.write(LIBRARY)
+        subprocess.run(["cc", "-shared", "-fPIC", "-O1", "-o", f"{folder}/refuse.so", f"{folder}/refuse.c"], check=True)
+
+    def run(self, words, text=b"", number=None, counts=False):
+        """What a program answers with its growth of that number refused: its status, `out` and `err`."""
+        env = dict(os.environ)
+        if number is not None:
+            env |= {"LD_PRELOAD": f"{self.folder}/refuse.so", "REFUSE": str(number), **({"COUNT": "1"} if counts else {})}
+        found = subprocess.run(words, input=text, capture_output=True, env=env, timeout=60, check=False)
+        return found.returncode, found.stdout, found.stderr
+
+    def growths(self, words, text=b""):
+        """How many growths a program asks for."""
+        return int(self.run(words, text, 0, counts=True)[2].split()[-1])
+
+
+def told(programs, words, text, number, whole, is_told_early):
+    """Whether a command told its one line for want of memory; nothing but that and what it tells else may come out."""
+    found = programs.run(words, text, number)
+    if found == whole:
+        return False
+    status, out, err = found
+    if (status, err) == (3, MEMORY) and (out == b"" or is_told_early and whole[1].startswith(out)):
+        return True
+    raise Wrong(f"growth {number}: {found}")
+
+
+def command(programs, words, text=b"", is_told_early=False):
+    words = [programs.actrun, *words]
+    whole = programs.run(words, text)
+    count = programs.growths(words, text)
+    return count, sum(told(programs, words, text, it, whole, is_told_early) for it in range(1, count + 1))
+
+
+def played(programs, plan):
+    """`run` by one worker, whose record can be replayed where there is one."""
+    record = f"{programs.folder}/{os.path.basename(plan)}.record"
+    words = [programs.actrun, "run", "--work", programs.folder, "--stubs", f"{EXAMPLES}/stubs.json", "--record", record, plan]
+    whole = programs.run(words)
+    count, refused = programs.growths(words), 0
+    for number in range(1, count + 1):
+        if os.path.exists(record):
+            os.remove(record)
+        refused += told(programs, words, b"", number, whole, True)
+        if os.path.exists(record):
+            status, _, err = programs.run([programs.actrun, "replay", record])
+            if status not in (0, 1, 4) or err:
+                raise Wrong(f"growth {number}: the record is not replayed: {err}")
+    return count, refused
+
+
+def blocks_of(file):
+    """The named texts of a file of cases, and its cases with the names under which they stand."""
+    with open(f"{DATA}/{file}", encoding="utf-8") as it:
+        blocks = it.read().split("\n\n")
+    named, cases, name = [], [], ""
+    for block in blocks:
+        named += [line for line in block.split("\n") if re.match(r"[:|] ", line)]
+        for line in block.split("\n"):
+            name = line[2:] if line.startswith("# ") else name
+        if re.search(r"^\? ", block, re.M):
+            cases.append((name, "\n".join(it for it in block.split("\n") if re.match(r"[?~<&+*-] ", it))))
+    return "\n".join(named), cases
+
+
+def lines_of(answer):
+    """What a case printed, which is told as it wants nothing."""
+    _, out, err = answer
+    if err:
+        raise Wrong(f"{err}")
+    return out.decode().split("found, status 0:\n")[-1].split("\n\n")[0].rstrip("\n").split("\n")
+
+
+def example(programs, file, place, text):
+    path = f"{programs.folder}/{os.path.splitext(file)[0]}-{place}.cases"
+    with open(path, "w", encoding="utf-8") as it:
+        # (a line that no case prints, so that each tells what it found)
+        it.write(f"{text}\n> nothing of the kind\n")
+    return [programs.conformance, path]
+
+
+def without(lines, wanted):
+    """The lines without the one that tells of want of memory, if that is all by which they differ from those that are wanted."""
+    rest = [it for it in lines if it not in ("Memory", "refused Memory")]
+    return rest if len(rest) == len(lines) - 1 else wanted if lines == wanted else None
+
+
+def insisted(programs, file, place, named, block):
+    """An example whose calls, where they are refused for want of memory, are made once more."""
+    words = example(programs, file, place, f"{named}\n\n{block}")
+    wanted, count, refused = lines_of(programs.run(words)), programs.growths(words), 0
+    for number in range(1, count + 1):
+        lines = lines_of(programs.run(words, number=number))
+        # (while its plan and record are read, a case is refused as a whole)
+        if lines in (wanted, ["Memory"]):
+            continue
+        if without(lines, wanted) != wanted:
+            raise Wrong(f"growth {number}: {lines}")
+        refused += 1
+    return count, refused
+
+
+def doubled(programs, file, place, named, block):
+    """An example of the lock, each line of which is posted twice: the second answers as the first where that had no memory."""
+    lines = block.split("\n")
+    names = [(at, it.split(" ")[1:]) for at, it in enumerate(lines) if it.startswith("~ ")]
+    for at, (first, *others) in names:
+        lines[at] = " ".join(["~", first, *(name for it in others for name in (it, it))])
+    words = example(programs, file, place, f"{named}\n\n" + "\n".join(lines))
+    wanted, count, refused = lines_of(programs.run(words)), programs.growths(words), 0
+    lines_played = 2 * sum(len(others) for _, (_, *others) in names)
+    for number in range(1, count + 1):
+        lines = lines_of(programs.run(words, number=number))
+        if lines in (wanted, ["Memory"]):
+            continue
+        at = next((at for at, it in enumerate(lines) if "Memory" in it.split()), len(lines))
+        if at >= lines_played or not is_once_more(lines, wanted, at):
+            raise Wrong(f"growth {number}: {lines}")
+        refused += 1
+    return count, refused
+
+
+def is_once_more(lines, wanted, at):
+    """Whether lines differ from those that are wanted in the one pair alone whose first or second call had no memory."""
+    pair = at - at % 2
+    others = lines[:pair] == wanted[:pair] and lines[pair + 2 :] == wanted[pair + 2 :]
+    if at % 2:
+        return others and lines[pair] == wanted[pair]
+    return others and lines[pair + 1] == wanted[pair]
+
+
+def whole(programs, file, place, named, block):
+    """An example of a play, which is refused as a whole or is what it is with memory enough."""
+    words = example(programs, file, place, f"{named}\n\n{block}")
+    wanted, count, refused = lines_of(programs.run(words)), programs.growths(words), 0
+    for number in range(1, count + 1):
+        lines = lines_of(programs.run(words, number=number))
+        if lines != wanted and lines[-1] != "Memory":
+            raise Wrong(f"growth {number}: {lines}")
+        refused += lines != wanted
+    return count, refused
+
+
+def tasks():
+    """What is played: a name, and a call that is given the programs."""
+    for path in sorted(glob.glob(f"{EXAMPLES}/*.record")):
+        name = os.path.basename(path)
+        with open(path, "rb") as it:
+            text = it.read()
+        yield f"table {name}", lambda it, text=text: command(it, ["table"], text)
+        yield f"replay {name}", lambda it, path=path: command(it, ["replay", path])
+        yield f"debug {name}", lambda it, path=path: command(it, ["debug", path], DEBUGGED.encode(), True)
+    for path in sorted(glob.glob(f"{EXAMPLES}/*.json") + glob.glob(f"{EXAMPLES}/refused/*.json")):
+        name = os.path.basename(path)
+        yield f"plan {name}", lambda it, path=path: command(it, ["plan", path])
+        yield f"list {name}", lambda it, path=path: command(it, ["list", path])
+    contexts = ["--contexts", f"{EXAMPLES}/contexts.json"]
+    for text in ("format('{0}-{1}', github.ref, toJSON(github))", "contains(github.ref, 'main') && fromJSON('[1,{}]')", "a.*.b", "'"):
+        yield f"eval {text}", lambda it, text=text: command(it, ["eval", *contexts, text])
+    yield "run greet.plan", lambda it: played(it, f"{EXAMPLES}/greet.plan")
+    for file, verb, do in (
+        ("evaluation.cases", "? apply", insisted),
+        ("locks.cases", "? posts", doubled),
+        ("playing.cases", "? alone", whole),
+        ("pools.cases", "? pool 1\n", whole),
+    ):
+        named, cases = blocks_of(file)
+        for place, (name, block) in enumerate(cases):
+            if block.startswith(verb) and (do is not insisted or name in EVENTS) and not is_of_moves(do, block):
+                again = block.replace("? apply", "? insist")
+                yield f"{block.split(chr(10))[0][2:]} {name}", lambda it, file=file, place=place, named=named, again=again, do=do: do(it, file, place, named, again)
+
+
+def is_of_moves(do, block):
+    """Whether a line of a block, posted twice, does something else the second time."""
+    return do is doubled and ("clerk" in block or "legs" in block or "<" in block)
+
+
+def play(programs, name, call):
+    try:
+        count, refused = call(programs)
+        return name, count, refused, None
+    except (Wrong, subprocess.SubprocessError, OSError, ValueError) as why:
+        return name, 0, 0, str(why)
+
+
+def main(words):
+    if len(words) not in (2, 3):
+        sys.exit(__doc__)
+    folder = tempfile.mkdtemp(prefix="refused-")
+    try:
+        programs = Programs(words[0], words[1], folder)
+        chosen = [it for it in tasks() if words[2:] == [] or words[2] in it[0]]
+        with concurrent.futures.ThreadPoolExecutor(os.cpu_count()) as pool:
+            ended = list(pool.map(lambda it: play(programs, *it), chosen))
+    finally:
+        shutil.rmtree(folder)
+    for name, count, refused, why in ended:
+        print(f"{name}: WRONG: {why}" if why else f"{name}: {count} growths, {refused} told as memory")
+    wrong = sum(why is not None for *_, why in ended)
+    print(f"refused: {len(ended)} examples, {sum(it[1] for it in ended)} growths, {wrong} wrong")
+    return 1 if wrong or not ended else 0
+
+
+if __name__ == "__main__":
+    sys.exit(main(sys.argv[1:]))
