@@ -1,0 +1,191 @@
+#!/usr/bin/env python3
+"""Tests of from-yaml.   python3 tools/from_yaml_test.py
+
+What is wanted is written by hand from YAML 1.2 and from GitHub's documents: the JSON of each workflow in from-yaml-tests/ beside
+it, and the lines of what is refused here.
+"""
+import glob
+import json
+import os
+import random
+import subprocess
+import tempfile
+import unittest
+
+HERE = os.path.dirname(os.path.abspath(__file__))
+PROGRAM = os.path.join(HERE, "from-yaml")
+WORKFLOWS = sorted(glob.glob(os.path.join(HERE, "from-yaml-tests", "*.yml")))
+
+# a text, and what is told of it, each line of it without the name of the file
+REFUSED = [
+    (b"", "1: there is nothing in the file"),
+    (b"\n# a comment\n", "3: there is nothing in the file"),
+    (b"name: x\non: push\xff\n", "2: the file is no UTF-8"),
+    (b"\xff\xfen\x00:\x00", "1: the file is no UTF-8"),
+    (b"name: x\nrun: a\x07b\n", "2: YAML has no character U+0007"),
+    (b"name: x\n---\nname: y\n", "2: a file holds one workflow, and here a second document begins"),
+    (b"a: 1\n...\nb\n", "3: the workflow is over, and more follows"),
+    (b"name: x\non: push\nname: y\n", '3: the key "name" stands twice in one map'),
+    (b"a: {b: 1, 'b': 2}\n", '1: the key "b" stands twice in one map'),
+    (b"a: 1\n<<: {b: 1}\n<<: {c: 1}\n", "3: the key << stands twice in one map; write <<: [*a, *b]"),
+    (b"a: 1\n<<: [1]\n", "2: at << stands a map or a list of maps"),
+    (b"on: push\n8: x\n", "2: a key has to be a text, and 8 is none; a number or its like is written in quotes"),
+    (b"true: push\n", "1: a key has to be a text, and true is none; a number or its like is written in quotes"),
+    (b"~: push\n", "1: a key has to be a text, and null is none; a number or its like is written in quotes"),
+    (b"a:\n  ? [b]\n  : c\n", "2: a key has to be a text, and a list is none; a number or its like is written in quotes"),
+    (b"a: 1\nif: !cancelled()\n", "2: the tag !cancelled() cannot stand before this; a text that begins with ! is written in quotes"),
+    (b"if: ! cancelled()\n", "1: the tag ! cannot stand before this; a text that begins with ! is written in quotes"),
+    (b"a: !!int x\n", "1: the tag !!int cannot stand before this; a text that begins with ! is written in quotes"),
+    (b"a: !!set {x, y}\n", "1: the tag !!set cannot stand before this; a text that begins with ! is written in quotes"),
+    (b"a: !!binary aGk=\n", "1: the tag !!binary cannot stand before this; a text that begins with ! is written in quotes"),
+    (b"a: *b\nb: &b 1\n", "1: no anchor &b stands before the alias *b"),
+    (b"a: 1\nb: &b\n  - *b\n", "3: the alias *b stands inside of what it names"),
+    (b"a: .nan\n", "1: JSON has no number .nan; a text is written in quotes"),
+    (b"a:\n- -.INF\n", "2: JSON has no number -.INF; a text is written in quotes"),
+    (b'a: 1\nb: "\\ud83d"\n', "2: a text has half a character"),
+    (b"\n" + b"[" * 128 + b"]" * 128, "2: values nest deeper than 127"),
+    (b"a: &a " + b"[" * 64 + b"]" * 64 + b"\nb: " + b"[" * 64 + b"*a" + b"]" * 64, "2: values nest deeper than 127"),
+    (b"".join(b"%c: &%c [%s]\n" % (c, c, b",".join([b"*%c" % (c - 1) if c > 97 else b"x" * 90] * 10)) for c in range(97, 105)),
+     "6: with its aliases written out the file has more than 16 MiB"),
+    (b"a: 1\na: 2\nb: .inf\n", '2: the key "a" stands twice in one map\n3: JSON has no number .inf; a text is written in quotes'),
+]
+# a text, its JSON, and what is told of it
+NOTED = [
+    (b"a: 3.10", '{"a":"3.10"}', "1: GitHub reads 3.10 as the number 3.1, here it stays as it is; write the one that is meant in quotes"),
+    (b"a: 3.9\nb: 1.0", '{"a":"3.9","b":"1.0"}',
+     "2: GitHub reads 1.0 as the number 1, here it stays as it is; write the one that is meant in quotes"),
+    (b"a: '3.10'\nb: !!str 1.0\nc: 1.10.0", '{"a":"3.10","b":"1.0","c":"1.10.0"}', ""),
+]
+# texts that are no YAML, and the line that is told
+BROKEN = [
+    (b"a: 1\nb: [1\n", 3),
+    (b'a: 1\nb: "x\n', 3),
+    (b"a: 1\nrun: echo a: b\n", 2),
+    (b"a:\n\tb: 1\n", 2),
+    (b"a: @x\n", 1),
+    (b"a: 1\nbranches: *\n", 2),
+    (b'a: "\\q"\n', 1),
+    (b'a: 1\nb: "\\U00110000"\n', 2),
+    (b"a: !e!x y\n", 1),
+]
+
+
+def run(words, given=b""):
+    """What the program prints, what it tells, and its status."""
+    ran = subprocess.run([PROGRAM, *words], input=given, capture_output=True, check=False)
+    return ran.stdout.decode(), ran.stderr.decode(), ran.returncode
+
+
+def exact(text):
+    """A JSON text in the one spelling in which 1, 1.0 and true differ."""
+    return json.dumps(json.loads(text), sort_keys=True)
+
+
+class Workflows(unittest.TestCase):
+    def test_workflows(self):
+        self.assertEqual(len(WORKFLOWS), 10)
+        for name in WORKFLOWS:
+            with self.subTest(name), open(name, "rb") as yaml, open(name[:-3] + "json", encoding="utf-8") as wanted:
+                text, wanted = yaml.read(), exact(wanted.read())
+                for given in (text, b"\xef\xbb\xbf" + text, text.replace(b"\n", b"\r\n")):
+                    printed, told, status = run(["-"], given)
+                    self.assertEqual(status, 0, told)
+                    self.assertEqual(exact(printed), wanted)
+
+    def test_places(self):
+        with tempfile.TemporaryDirectory() as room:
+            for name in ("a.yml", "b.yaml", "c"):
+                with open(os.path.join(room, name), "w", encoding="utf-8") as it:
+                    it.write("on: " + name)
+            names = [os.path.join(room, name) for name in ("a.yml", "b.yaml", "c")]
+            self.assertEqual(run(names), ("", "", 0))
+            for name, written in (("a.json", '{"on":"a.yml"}\n'), ("b.json", '{"on":"b.yaml"}\n'), ("c.json", '{"on":"c"}\n')):
+                with open(os.path.join(room, name), encoding="utf-8") as it:
+                    self.assertEqual(it.read(), written)
+            self.assertEqual(run(["-o", "-", names[0]]), ('{"on":"a.yml"}\n', "", 0))
+            self.assertEqual(run(["-o", os.path.join(room, "d"), names[0]]), ("", "", 0))
+            with open(os.path.join(room, "d"), encoding="utf-8") as it:
+                self.assertEqual(it.read(), '{"on":"a.yml"}\n')
+
+    def test_one_of_several_is_refused(self):
+        with tempfile.TemporaryDirectory() as room:
+            good, bad = os.path.join(room, "good.yml"), os.path.join(room, "bad.yml")
+            for name, text in ((good, "on: push"), (bad, "on: [")):
+                with open(name, "w", encoding="utf-8") as it:
+                    it.write(text)
+            _, told, status = run([bad, good])
+            self.assertEqual(status, 2)
+            self.assertTrue(told.startswith(f"{bad}:1: this cannot be read as YAML: "))
+            self.assertEqual(sorted(os.listdir(room)), ["bad.yml", "good.json", "good.yml"])
+
+    def test_words(self):
+        for words in ([], ["-x"], ["-o"], ["-o", "x"], ["-o", "x", "a.yml", "b.yml"], ["-o", "x", "-o", "y", "a.yml"]):
+            with self.subTest(words):
+                printed, told, status = run(words)
+                self.assertEqual((printed, status, told.count("\n")), ("", 2, 1))
+        self.assertEqual(run(["--help"])[1:], ("", 0))
+
+    def test_files(self):
+        for words in (["/no/such"], ["/"], ["-o", "/no/such", WORKFLOWS[0]], ["-o", "/dev/full", "-"]):
+            with self.subTest(words):
+                printed, told, status = run(words, b"a: b")
+                self.assertEqual((printed, status), ("", 3))
+                self.assertTrue(told.splitlines()[-1].startswith("from-yaml: "))
+
+
+class Refused(unittest.TestCase):
+    def test_refused(self):
+        for text, wanted in REFUSED:
+            with self.subTest(text[:80]):
+                printed, told, status = run(["-"], text)
+                self.assertEqual(told, "".join(f"standard input:{line}\n" for line in wanted.split("\n")))
+                self.assertEqual((printed, status), ("", 2))
+
+    def test_noted(self):
+        for text, json_text, wanted in NOTED:
+            with self.subTest(text):
+                self.assertEqual(run(["-"], text), (json_text + "\n", f"standard input:{wanted}\n" if wanted else "", 0))
+
+    def test_broken(self):
+        for text, line in BROKEN:
+            with self.subTest(text):
+                printed, told, status = run(["-"], text)
+                self.assertRegex(told, rf"\Astandard input:{line}: this cannot be read as YAML: .+\n\Z")
+                self.assertEqual((printed, status), ("", 2))
+
+    def test_deepest(self):
+        deepest = b"[" * 127 + b"]" * 127
+        self.assertEqual(run(["-"], deepest), (deepest.decode() + "\n", "", 0))
+
+    def test_garbled(self):
+        """Garbled workflows: each has its JSON or lines that tell why not, and no other end."""
+        chance = random.Random(1)
+        with tempfile.TemporaryDirectory() as room:
+            names = []
+            for number in range(400):
+                with open(chance.choice(WORKFLOWS), "rb") as it:
+                    text = bytearray(it.read())
+                for _ in range(chance.randint(1, 8)):
+                    at = chance.randrange(len(text))
+                    text[at:at + chance.choice((0, 0, 1, 5, 40))] = chance.choice(
+                        (b"", b"\xff", b"\t", b"\n", b"&a ", b"*a ", b"!", b"[" * 40, b"{", b"]", b"}", b": ", b"- ", b"|", b"\"", b"'", b"\\",
+                         b"%", b"? ", b"---\n", b"...\n", b"<<: ", b"#", b"1e9", b"\xc2\x85", b"\xe2\x80\xa8", b"!!float ", b"!<", b"\x00"))
+                names.append(os.path.join(room, f"{number}.yml"))
+                with open(names[-1], "wb") as it:
+                    it.write(text)
+            printed, told, status = run(names)
+            self.assertEqual((printed, status), ("", 2))
+            refused = set()
+            for line in told.splitlines():
+                self.assertRegex(line, rf"\A{room}/[0-9]+\.yml:[0-9]+: .")
+                if " GitHub reads " not in line:
+                    refused.add(line.split(":")[0])
+            for name in names:
+                self.assertNotEqual(name in refused, os.path.exists(name[:-3] + "json"))
+                if name not in refused:
+                    with open(name[:-3] + "json", encoding="utf-8") as it:
+                        json.load(it)
+
+
+if __name__ == "__main__":
+    unittest.main()
