@@ -39,6 +39,13 @@ script_file work call = step_file work call.leg call.step (codes ".sh")
 abbrev pub log_file : List ℕ → ℕ → ℕ → List ℕ
 log_file work leg step = step_file work leg step (codes ".log")
 
+-- the names that the files have at first into which it prints: its standard output, and its standard error
+abbrev pub print_file : List ℕ → StepCall → List ℕ
+print_file work call = step_file work call.leg call.step (codes ".stdout")
+
+abbrev pub err_file : List ℕ → StepCall → List ℕ
+err_file work call = step_file work call.leg call.step (codes ".stderr")
+
 -- the folder in which a script starts: the work folder, or the one that is named below it
 abbrev pub folder_of : List ℕ → Option (List ℕ) → List ℕ
 folder_of work None = work

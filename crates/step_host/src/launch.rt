@@ -48,6 +48,20 @@ pub(crate) fn script_file(alloc: Global, work: &str, call: &StepCall) -> Result<
     step_file(alloc, work, call.leg, call.step, ".sh")
 }
 
+/// The name that the file has at first into which the program of a call prints its standard output.
+pub(crate) fn print_file(alloc: Global, work: &str, call: &StepCall) -> Result<Text, AllocError>
+    ensures { IfOk result (λ made. made ≡ spec.print_file work.now call.now) }
+{
+    step_file(alloc, work, call.leg, call.step, ".stdout")
+}
+
+/// The same of its standard error.
+pub(crate) fn err_file(alloc: Global, work: &str, call: &StepCall) -> Result<Text, AllocError>
+    ensures { IfOk result (λ made. made ≡ spec.err_file work.now call.now) }
+{
+    step_file(alloc, work, call.leg, call.step, ".stderr")
+}
+
 /// The file of what a step of a leg printed, in the work folder of a `ProgramHost`.
 ///
 /// # Errors

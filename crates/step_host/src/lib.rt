@@ -19,6 +19,7 @@
 mod command;
 mod ending;
 pub mod fault;
+mod files;
 pub mod host;
 mod launch;
 pub mod laws;
@@ -28,6 +29,7 @@ pub mod replay;
 pub mod script;
 
 pub use fault::{HostFault, ScriptFault};
+pub use files::file_bytes;
 pub use host::{DecidedHost, StepHost};
 pub use launch::log_file;
 pub use masked::Masked;

@@ -9,16 +9,18 @@ ghost use Rattle.step_host.specs.Program as spec;
 use crate::command::command_of;
 use crate::ending::{ended, logged};
 use crate::fault::HostFault;
+use crate::files::{Printed, bytes_now, file_bytes, printed_file, write_file};
 use crate::host::StepHost;
 use crate::launch::{
-    Launch, log_file, other_shell, out_file, script_file, script_launch, stub_launch,
+    Launch, err_file, log_file, other_shell, out_file, print_file, script_file, script_launch,
+    stub_launch,
 };
 use flow_model::{Answer, CallWork, Mapping, Shell, StepCall, Text};
 use std::alloc::{AllocError, Global};
 use std::fs::{File, Files};
 use std::io;
-use std::io::{ErrorKind, Read, Write};
-use std::process::{Child, Processes, Stdio};
+use std::io::ErrorKind;
+use std::process::{Child, ExitStatus, OpenProcess, Processes, Stdio};
 
 /// The host that starts a program for each step: a script by its shell, an action by the stub that is named for it.
 #[derive(Drop)]
@@ -45,35 +47,39 @@ fn unless_memory<T: Drop>(done: io::Result<T>) -> Result<Option<T>, AllocError>
     }
 }
 
-/// Writes a file anew.
-fn write_file<F: Files>(files: &F, name: &str, bytes: &[u8]) -> io::Result<()> {
-    let mut file = File::create(files, name)?;
-    file.write_all(bytes)
+/// What a program printed into two files, as it is kept.
+fn printed(alloc: Global, out: File, err: File) -> io::Result<Vec<u8>> {
+    let out = bytes_now(alloc, out)?;
+    let err = bytes_now(alloc, err)?;
+    Ok(logged(out, err.as_slice())?)
 }
 
-/// All bytes of a file.
-fn read_file<F: Files>(alloc: Global, files: &F, name: &str) -> io::Result<Vec<u8>> {
-    let mut file = File::open(files, name)?;
-    let mut bytes = Vec::new(alloc);
-    file.read_to_end(&mut bytes)?;
-    Ok(bytes)
+/// A program that was started, and the files into which it prints, to be read.
+#[derive(Drop)]
+struct Started<P: OpenProcess + Drop> {
+    child: Child<P>,
+    out: File,
+    err: File,
 }
 
-/// Starts a program with no input; what it prints is collected.
+/// Starts a program with no input; what it prints goes into files.
 fn start<R: Processes>(
     alloc: Global,
     runtime: &R,
     launch: &Launch,
-) -> io::Result<Child<R::Started>> {
+    out: Printed<File>,
+    err: Printed<File>,
+) -> io::Result<Started<R::Started>> {
     let mut command = command_of(alloc, launch)?;
-    command
-        .stdin(Stdio::null())
-        .stdout(Stdio::piped())
-        .stderr(Stdio::piped());
-    command.spawn(runtime)
+    command.stdin(Stdio::null()).stdout(out.0).stderr(err.0);
+    Ok(Started {
+        child: command.spawn(runtime)?,
+        out: out.1,
+        err: err.1,
+    })
 }
 
-impl<R: Processes + Files + Sync> ProgramHost<R> {
+impl<R: Processes + Files<File = File> + Sync> ProgramHost<R> {
     /// The host that starts programs by this runtime, writes its files in the folder `work` and starts programs there or
     /// below. The folder is named by its whole path, since programs are told where their files are. Programs have the
     /// variables of the base, and over them those of the step. An action is the program that `stubs` has for it. It
@@ -102,7 +108,7 @@ impl<R: Processes + Files + Sync> ProgramHost<R> {
     }
 }
 
-impl<R: Processes + Files> ProgramHost<R> {
+impl<R: Processes + Files<File = File>> ProgramHost<R> {
     /// Writes a file anew. The answer is whether it could be written.
     fn writes(&self, name: &Text, bytes: &[u8]) -> Result<bool, AllocError> {
         let written = unless_memory(write_file(&self.runtime, name.as_str(), bytes))?;
@@ -117,8 +123,26 @@ impl<R: Processes + Files> ProgramHost<R> {
     }
 
     /// Starts a program, if it can be started.
-    fn started(&self, launch: &Launch) -> Result<Option<Child<R::Started>>, AllocError> {
-        unless_memory(start(self.alloc, &self.runtime, launch))
+    fn started(
+        &self,
+        call: &StepCall,
+        launch: &Launch,
+    ) -> Result<Option<Started<R::Started>>, AllocError> {
+        let out = print_file(self.alloc, self.work.as_str(), call)?;
+        let err = err_file(self.alloc, self.work.as_str(), call)?;
+        unless_memory(self.started_into(launch, out.as_str(), err.as_str()))
+    }
+
+    /// Starts a program that prints into files, which have these names until they are open.
+    fn started_into(
+        &self,
+        launch: &Launch,
+        out: &str,
+        err: &str,
+    ) -> io::Result<Started<R::Started>> {
+        let out = printed_file(&self.runtime, out)?;
+        let err = printed_file(&self.runtime, err)?;
+        start(self.alloc, &self.runtime, launch, out, err)
     }
 
     /// Starts a script by this shell, if it can be started.
@@ -127,9 +151,9 @@ impl<R: Processes + Files> ProgramHost<R> {
         call: &StepCall,
         shell: Shell,
         dir: &Option<Text>,
-    ) -> Result<Option<Child<R::Started>>, AllocError> {
+    ) -> Result<Option<Started<R::Started>>, AllocError> {
         let launch = script_launch(self.alloc, self.work.as_str(), &self.base, call, shell, dir)?;
-        self.started(&launch)
+        self.started(call, &launch)
     }
 
     /// Starts a script by its shell, or by the one that stands in for it.
@@ -138,9 +162,9 @@ impl<R: Processes + Files> ProgramHost<R> {
         call: &StepCall,
         shell: Shell,
         dir: &Option<Text>,
-    ) -> Result<Option<Child<R::Started>>, AllocError> {
+    ) -> Result<Option<Started<R::Started>>, AllocError> {
         match self.script_started(call, shell, dir)? {
-            Some(child) => Ok(Some(child)),
+            Some(started) => Ok(Some(started)),
             None => match other_shell(shell) {
                 Some(other) => self.script_started(call, other, dir),
                 None => Ok(None),
@@ -148,30 +172,46 @@ impl<R: Processes + Files> ProgramHost<R> {
         }
     }
 
-    /// Keeps what a program printed. The answer is whether it could be written.
-    fn keeps(&self, call: &StepCall, out: Vec<u8>, err: &[u8]) -> Result<bool, AllocError> {
-        let log = logged(out, err)?;
-        let name = log_file(self.alloc, self.work.as_str(), call.leg, call.step)?;
-        self.writes(&name, log.as_slice())
+    /// Keeps what a program printed. The answer is whether it could be kept.
+    fn keeps(&self, call: &StepCall, out: File, err: File) -> Result<bool, AllocError> {
+        match unless_memory(printed(self.alloc, out, err))? {
+            Some(log) => {
+                let name = log_file(self.alloc, self.work.as_str(), call.leg, call.step)?;
+                self.writes(&name, log.as_slice())
+            },
+            None => Ok(false),
+        }
     }
 
     /// The bytes in the file of a call's outputs, if it can be read.
     fn outputs(&self, call: &StepCall) -> Result<Option<Vec<u8>>, AllocError> {
         let name = out_file(self.alloc, self.work.as_str(), call)?;
-        unless_memory(read_file(self.alloc, &self.runtime, name.as_str()))
+        unless_memory(file_bytes(self.alloc, &self.runtime, name.as_str()))
     }
 
-    /// Waits for a program, and answers for it.
-    fn finished(&self, call: &StepCall, child: Child<R::Started>) -> Result<Answer, AllocError>
+    /// Waits until a program has ended, whatever it leaves behind, and answers for it.
+    fn finished(&self, call: &StepCall, started: Started<R::Started>) -> Result<Answer, AllocError>
         ensures { IfOk result (λ a. is_well_formed a ≡ true) }
     {
-        let Some(output) = unless_memory(child.wait_with_output(self.alloc))? else {
-            return Ok(Answer::BadOutput);
-        };
-        let status = output.status;
-        if !self.keeps(call, output.stdout, output.stderr.as_slice())? {
+        let Started {
+            mut child,
+            out,
+            err,
+        } = started;
+        let ended = unless_memory(child.wait())?;
+        if !self.keeps(call, out, err)? {
             return Ok(Answer::BadOutput);
         }
+        self.answer(call, ended)
+    }
+
+    /// The answer of a program with this exit status, if it could be waited for.
+    fn answer(&self, call: &StepCall, status: Option<ExitStatus>) -> Result<Answer, AllocError>
+        ensures { IfOk result (λ a. is_well_formed a ≡ true) }
+    {
+        let Some(status) = status else {
+            return Ok(Answer::BadOutput);
+        };
         match self.outputs(call)? {
             Some(bytes) => ended(self.alloc, status, bytes.as_slice()),
             None => Ok(Answer::BadOutput),
@@ -182,12 +222,12 @@ impl<R: Processes + Files> ProgramHost<R> {
     fn answered(
         &self,
         call: &StepCall,
-        child: Option<Child<R::Started>>,
+        started: Option<Started<R::Started>>,
     ) -> Result<Answer, AllocError>
         ensures { IfOk result (λ a. is_well_formed a ≡ true) }
     {
-        match child {
-            Some(child) => self.finished(call, child),
+        match started {
+            Some(started) => self.finished(call, started),
             None => Ok(Answer::NotStarted),
         }
     }
@@ -206,8 +246,8 @@ impl<R: Processes + Files> ProgramHost<R> {
         if !self.clears(call)? || !self.writes(&file, text.as_str().as_bytes())? {
             return Ok(Answer::NotStarted);
         }
-        let child = self.script_started_somehow(call, shell, dir)?;
-        self.answered(call, child)
+        let started = self.script_started_somehow(call, shell, dir)?;
+        self.answered(call, started)
     }
 
     /// Plays an action by its stub.
@@ -230,8 +270,8 @@ impl<R: Processes + Files> ProgramHost<R> {
             program.as_str(),
             given,
         )?;
-        let child = self.started(&launch)?;
-        self.answered(call, child)
+        let started = self.started(call, &launch)?;
+        self.answered(call, started)
     }
 
     /// Plays a call. An action for which no stub is named is not started.
@@ -248,7 +288,7 @@ impl<R: Processes + Files> ProgramHost<R> {
     }
 }
 
-impl<R: Processes + Files + Sync> StepHost for ProgramHost<R> {
+impl<R: Processes + Files<File = File> + Sync> StepHost for ProgramHost<R> {
     ghost admits = { λ _ _ answer. is_well_formed answer ≡ true };
 
     ghost declines = { λ _ _. ⊥ };
