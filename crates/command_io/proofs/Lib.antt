@@ -1,3 +1,4 @@
+pub mod InRange
 pub mod Known
 pub mod LineReading
 pub mod PlanFaults
