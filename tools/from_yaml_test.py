@@ -14,6 +14,7 @@ import unittest
 
 HERE = os.path.dirname(os.path.abspath(__file__))
 PROGRAM = os.path.join(HERE, "from-yaml")
+ACTRUN = os.path.join(HERE, "..", "crates", "actrun", "out", "actrun")
 WORKFLOWS = sorted(glob.glob(os.path.join(HERE, "from-yaml-tests", "*.yml")))
 
 # a text, and what is told of it, each line of it without the name of the file
@@ -54,6 +55,9 @@ NOTED = [
     (b"a: 3.10", '{"a":"3.10"}', "1: GitHub reads 3.10 as the number 3.1, here it stays as it is; write the one that is meant in quotes"),
     (b"a: 3.9\nb: 1.0", '{"a":"3.9","b":"1.0"}',
      "2: GitHub reads 1.0 as the number 1, here it stays as it is; write the one that is meant in quotes"),
+    (b"a: 00" + b"0" * 5000 + b"7\nb: -007", '{"a":7,"b":-7}', ""),
+    (b"a: &a [&a x, *a]\nb: *a\n", '{"a":["x","x"],"b":"x"}', ""),
+    (b"a: &a 1\nb: &a [2]\nc: *a\n", '{"a":1,"b":[2],"c":[2]}', ""),
     (b"a: '3.10'\nb: !!str 1.0\nc: 1.10.0", '{"a":"3.10","b":"1.0","c":"1.10.0"}', ""),
 ]
 # texts that are no YAML, and the line that is told
@@ -91,6 +95,17 @@ class Workflows(unittest.TestCase):
                     printed, told, status = run(["-"], given)
                     self.assertEqual(status, 0, told)
                     self.assertEqual(exact(printed), wanted)
+
+    @unittest.skipUnless(os.access(ACTRUN, os.X_OK), "the program is not built")
+    def test_workflows_have_a_plan(self):
+        with tempfile.TemporaryDirectory() as room:
+            names = []
+            for name in WORKFLOWS:
+                names.append(os.path.join(room, os.path.basename(name) + ".json"))
+                self.assertEqual(run(["-o", names[-1], name])[2], 0)
+            ran = subprocess.run([ACTRUN, "plan", *names], capture_output=True, check=False)
+            self.assertEqual((ran.returncode, ran.stderr), (0, b""))
+            self.assertEqual(len(json.loads(ran.stdout)["runs"]), len(WORKFLOWS))
 
     def test_places(self):
         with tempfile.TemporaryDirectory() as room:
