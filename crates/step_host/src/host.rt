@@ -7,6 +7,7 @@ ghost use Rattle.flow_model.specs.declared.reply.StepCall.{StepCall};
 ghost use Rattle.step_host.specs.Host.{Responds};
 
 use crate::fault::HostFault;
+use crate::watch::Watch;
 use flow_model::{Answer, StepCall};
 
 /// What plays a step and says what became of it. A host keeps its allocator, and may be asked by several threads at once.
@@ -28,6 +29,17 @@ pub trait StepHost: Sync {
     /// An admitted answer is well-formed.
     ghost admits_well_formed: { (host : Self) (call : StepCall) (answer : Answer)
         → admits host call answer → is_well_formed answer ≡ true };
+}
+
+/// A host that tells of a step while it plays it.
+pub trait WatchedHost: StepHost {
+    /// Plays the step that a call asks for, as `play` does, and tells whether a program was started for it.
+    ///
+    /// # Errors
+    ///
+    /// Those of `play`.
+    fn play_watched<W: Watch>(&self, call: &StepCall, watch: &W) -> Result<Answer, HostFault>
+        ensures { Responds (Self.admits self.now call.now) (Self.declines self.now call.now) result };
 }
 
 /// A host for whose calls the answer is decided.

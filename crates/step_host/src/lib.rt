@@ -27,12 +27,16 @@ pub mod masked;
 pub mod program;
 pub mod replay;
 pub mod script;
+pub mod watch;
+pub mod watched;
 
 pub use fault::{HostFault, ScriptFault};
 pub use files::file_bytes;
-pub use host::{DecidedHost, StepHost};
+pub use host::{DecidedHost, StepHost, WatchedHost};
 pub use launch::log_file;
 pub use masked::Masked;
 pub use program::ProgramHost;
 pub use replay::{ReplayHost, record_all};
 pub use script::ScriptHost;
+pub use watch::{Unstarted, Watch};
+pub use watched::Watched;

@@ -8,7 +8,8 @@ ghost use Rattle.program_texts.specs.Mask.{masked};
 ghost use Rattle.step_host.specs.Masked.{IsMasked, IsMasked-one, IsMasked-well_formed, checked as checked_of, masked_answer as masked_answer_of};
 
 use crate::fault::HostFault;
-use crate::host::{DecidedHost, StepHost};
+use crate::host::{DecidedHost, StepHost, WatchedHost};
+use crate::watch::Watch;
 use flow_model::{Answer, Mapping, Sequence, StepCall, Text};
 use program_texts::mask;
 use std::alloc::{AllocError, Global};
@@ -89,6 +90,13 @@ impl<H: StepHost> StepHost for Masked<H> {
 
     ghost admits_well_formed = { λ host call answer.
         IsMasked-well_formed host.masks (H.admits host.host call) answer };
+}
+
+impl<H: WatchedHost> WatchedHost for Masked<H> {
+    fn play_watched<W: Watch>(&self, call: &StepCall, watch: &W) -> Result<Answer, HostFault> {
+        let answer = self.host.play_watched(call, watch)?;
+        Ok(masked_answer(self.alloc, answer, self.masks.as_slice())?)
+    }
 }
 
 impl<H: DecidedHost> DecidedHost for Masked<H> {

@@ -10,17 +10,18 @@ use crate::command::command_of;
 use crate::ending::{ended, logged};
 use crate::fault::HostFault;
 use crate::files::{Printed, bytes_now, file_bytes, printed_file, write_file};
-use crate::host::StepHost;
+use crate::host::{StepHost, WatchedHost};
 use crate::launch::{
     Launch, err_file, log_file, other_shell, out_file, print_file, script_file, script_launch,
     stub_launch,
 };
+use crate::watch::{Nobody, Unstarted, Watch};
 use flow_model::{Answer, CallWork, Mapping, Shell, StepCall, Text};
 use std::alloc::{AllocError, Global};
 use std::fs::{File, Files};
-use std::io;
 use std::io::ErrorKind;
 use std::process::{Child, ExitStatus, OpenProcess, Processes, Stdio};
+use std::{fs, io};
 
 /// The host that starts a program for each step: a script by its shell, an action by the stub that is named for it.
 #[derive(Drop)]
@@ -61,6 +62,9 @@ struct Started<P: OpenProcess + Drop> {
     out: File,
     err: File,
 }
+
+/// A program that was started, or why none was.
+type Start<P> = Result<Started<P>, Unstarted>;
 
 /// Starts a program with no input; what it prints goes into files.
 fn start<R: Processes>(
@@ -122,52 +126,120 @@ impl<R: Processes + Files<File = File>> ProgramHost<R> {
         Ok(self.writes(&log, b"")? && self.writes(&out, b"")?)
     }
 
-    /// Starts a program, if it can be started.
-    fn started(
-        &self,
-        call: &StepCall,
-        launch: &Launch,
-    ) -> Result<Option<Started<R::Started>>, AllocError> {
+    /// Why a file cannot be written in the work folder.
+    fn unwritten(&self) -> Unstarted {
+        if self.is_folder(self.work.as_str()) {
+            return Unstarted::NoFile;
+        }
+        Unstarted::NoFolder
+    }
+
+    /// Whether a folder of that name is there.
+    fn is_folder(&self, name: &str) -> bool {
+        match fs::metadata(&self.runtime, name) {
+            Ok(found) => found.is_dir(),
+            Err(_) => false,
+        }
+    }
+
+    /// Starts a program, or tells why it cannot be started.
+    fn start(&self, call: &StepCall, launch: &Launch) -> Result<Start<R::Started>, AllocError> {
         let out = print_file(self.alloc, self.work.as_str(), call)?;
         let err = err_file(self.alloc, self.work.as_str(), call)?;
-        unless_memory(self.started_into(launch, out.as_str(), err.as_str()))
+        match self.start_into(launch, out.as_str(), err.as_str()) {
+            Ok(started) => Ok(Ok(started)),
+            Err(error) => Ok(Err(self.why(launch, error.kind())?)),
+        }
     }
 
     /// Starts a program that prints into files, which have these names until they are open.
-    fn started_into(
-        &self,
-        launch: &Launch,
-        out: &str,
-        err: &str,
-    ) -> io::Result<Started<R::Started>> {
+    fn start_into(&self, launch: &Launch, out: &str, err: &str) -> io::Result<Started<R::Started>> {
         let out = printed_file(&self.runtime, out)?;
         let err = printed_file(&self.runtime, err)?;
         start(self.alloc, &self.runtime, launch, out, err)
     }
 
-    /// Starts a script by this shell, if it can be started.
-    fn script_started(
+    /// Why a program cannot be started, by the kind of the error. Want of memory is told apart.
+    fn why(&self, launch: &Launch, kind: ErrorKind) -> Result<Unstarted, AllocError> {
+        if kind == ErrorKind::OutOfMemory {
+            return Err(AllocError);
+        }
+        if self.is_folder(launch.folder.as_str()) {
+            return Ok(Unstarted::NoProgram(kind));
+        }
+        Ok(Unstarted::NoFolder)
+    }
+
+    /// Starts a script by this shell.
+    fn start_by(
         &self,
         call: &StepCall,
         shell: Shell,
         dir: &Option<Text>,
-    ) -> Result<Option<Started<R::Started>>, AllocError> {
+    ) -> Result<Start<R::Started>, AllocError> {
         let launch = script_launch(self.alloc, self.work.as_str(), &self.base, call, shell, dir)?;
-        self.started(call, &launch)
+        self.start(call, &launch)
     }
 
     /// Starts a script by its shell, or by the one that stands in for it.
-    fn script_started_somehow(
+    fn start_somehow(
         &self,
         call: &StepCall,
         shell: Shell,
         dir: &Option<Text>,
-    ) -> Result<Option<Started<R::Started>>, AllocError> {
-        match self.script_started(call, shell, dir)? {
-            Some(started) => Ok(Some(started)),
-            None => match other_shell(shell) {
-                Some(other) => self.script_started(call, other, dir),
-                None => Ok(None),
+    ) -> Result<Start<R::Started>, AllocError> {
+        match self.start_by(call, shell, dir)? {
+            Ok(started) => Ok(Ok(started)),
+            Err(why) => match other_shell(shell) {
+                Some(other) => self.start_by(call, other, dir),
+                None => Ok(Err(why)),
+            },
+        }
+    }
+
+    /// Writes a script and starts it.
+    fn start_script(
+        &self,
+        call: &StepCall,
+        text: &Text,
+        shell: Shell,
+        dir: &Option<Text>,
+    ) -> Result<Start<R::Started>, AllocError> {
+        let file = script_file(self.alloc, self.work.as_str(), call)?;
+        if !self.clears(call)? || !self.writes(&file, text.as_str().as_bytes())? {
+            return Ok(Err(self.unwritten()));
+        }
+        self.start_somehow(call, shell, dir)
+    }
+
+    /// Starts the stub of an action.
+    fn start_stub(
+        &self,
+        call: &StepCall,
+        program: &Text,
+        given: &Mapping<Text>,
+    ) -> Result<Start<R::Started>, AllocError> {
+        if !self.clears(call)? {
+            return Ok(Err(self.unwritten()));
+        }
+        let launch = stub_launch(
+            self.alloc,
+            self.work.as_str(),
+            &self.base,
+            call,
+            program.as_str(),
+            given,
+        )?;
+        self.start(call, &launch)
+    }
+
+    /// Starts the program of a call. An action for which no stub is named has none.
+    fn start_call(&self, call: &StepCall) -> Result<Start<R::Started>, AllocError> {
+        match &call.work {
+            CallWork::Script { text, shell, dir } => self.start_script(call, text, *shell, dir),
+            CallWork::Uses { uses, given } => match self.stubs.get(uses.as_str()) {
+                Some(program) => self.start_stub(call, program, given),
+                None => Ok(Err(Unstarted::NoStub)),
             },
         }
     }
@@ -218,71 +290,18 @@ impl<R: Processes + Files<File = File>> ProgramHost<R> {
         }
     }
 
-    /// What became of a program that was to be started.
-    fn answered(
-        &self,
-        call: &StepCall,
-        started: Option<Started<R::Started>>,
-    ) -> Result<Answer, AllocError>
+    /// Plays a call, and tells whether a program was started for it.
+    fn play_call<W: Watch>(&self, call: &StepCall, watch: &W) -> Result<Answer, AllocError>
         ensures { IfOk result (λ a. is_well_formed a ≡ true) }
     {
-        match started {
-            Some(started) => self.finished(call, started),
-            None => Ok(Answer::NotStarted),
-        }
-    }
-
-    /// Plays a script.
-    fn play_script(
-        &self,
-        call: &StepCall,
-        text: &Text,
-        shell: Shell,
-        dir: &Option<Text>,
-    ) -> Result<Answer, AllocError>
-        ensures { IfOk result (λ a. is_well_formed a ≡ true) }
-    {
-        let file = script_file(self.alloc, self.work.as_str(), call)?;
-        if !self.clears(call)? || !self.writes(&file, text.as_str().as_bytes())? {
-            return Ok(Answer::NotStarted);
-        }
-        let started = self.script_started_somehow(call, shell, dir)?;
-        self.answered(call, started)
-    }
-
-    /// Plays an action by its stub.
-    fn play_stub(
-        &self,
-        call: &StepCall,
-        program: &Text,
-        given: &Mapping<Text>,
-    ) -> Result<Answer, AllocError>
-        ensures { IfOk result (λ a. is_well_formed a ≡ true) }
-    {
-        if !self.clears(call)? {
-            return Ok(Answer::NotStarted);
-        }
-        let launch = stub_launch(
-            self.alloc,
-            self.work.as_str(),
-            &self.base,
-            call,
-            program.as_str(),
-            given,
-        )?;
-        let started = self.started(call, &launch)?;
-        self.answered(call, started)
-    }
-
-    /// Plays a call. An action for which no stub is named is not started.
-    fn play_call(&self, call: &StepCall) -> Result<Answer, AllocError>
-        ensures { IfOk result (λ a. is_well_formed a ≡ true) }
-    {
-        match &call.work {
-            CallWork::Script { text, shell, dir } => self.play_script(call, text, *shell, dir),
-            CallWork::Uses { uses, given } => match self.stubs.get(uses.as_str()) {
-                Some(program) => self.play_stub(call, program, given),
-                None => Ok(Answer::NotStarted),
+        match self.start_call(call)? {
+            Ok(started) => {
+                watch.started(call);
+                self.finished(call, started)
+            },
+            Err(why) => {
+                watch.unstarted(call, why);
+                Ok(Answer::NotStarted)
             },
         }
     }
@@ -294,8 +313,14 @@ impl<R: Processes + Files<File = File> + Sync> StepHost for ProgramHost<R> {
     ghost declines = { λ _ _. ⊥ };
 
     fn play(&self, call: &StepCall) -> Result<Answer, HostFault> {
-        Ok(self.play_call(call)?)
+        self.play_watched(call, &Nobody)
     }
 
     ghost admits_well_formed = { λ _ _ _ is. is };
+}
+
+impl<R: Processes + Files<File = File> + Sync> WatchedHost for ProgramHost<R> {
+    fn play_watched<W: Watch>(&self, call: &StepCall, watch: &W) -> Result<Answer, HostFault> {
+        Ok(self.play_call(call, watch)?)
+    }
 }

@@ -1,0 +1,52 @@
+//! Who is told of steps while they are played.
+
+use flow_model::{Answer, StepCall};
+use std::io::ErrorKind;
+
+/// Why no program was started for a call.
+#[derive(Clone, Copy)]
+pub enum Unstarted {
+    /// No program is named for its action.
+    NoStub,
+    /// A file for it cannot be written in the work folder.
+    NoFile,
+    /// The folder in which it would start is not there.
+    NoFolder,
+    /// The program cannot be started, for this reason.
+    NoProgram(ErrorKind),
+}
+
+/// Who is told of steps while they are played. What is told has no part in what is answered, and may be told by several
+/// threads at once.
+pub trait Watch {
+    /// What is kept of the moment at which a call was made.
+    type Moment: Drop;
+
+    /// A call is made.
+    fn called(&self) -> Self::Moment;
+
+    /// A program was started for a call.
+    fn started(&self, call: &StepCall);
+
+    /// None was, and why.
+    fn unstarted(&self, call: &StepCall, why: Unstarted);
+
+    /// A call that was made at that moment has its answer.
+    fn ended(&self, call: &StepCall, answer: &Answer, moment: Self::Moment);
+}
+
+/// Nobody is told.
+#[derive(Clone, Copy)]
+pub(crate) struct Nobody;
+
+impl Watch for Nobody {
+    type Moment = ();
+
+    fn called(&self) {}
+
+    fn started(&self, _call: &StepCall) {}
+
+    fn unstarted(&self, _call: &StepCall, _why: Unstarted) {}
+
+    fn ended(&self, _call: &StepCall, _answer: &Answer, _moment: ()) {}
+}
