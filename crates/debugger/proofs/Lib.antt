@@ -1,4 +1,6 @@
 pub mod Following
+pub mod Grown
+pub mod Legs
 pub mod Marked
 pub mod Nearest
 pub mod Played

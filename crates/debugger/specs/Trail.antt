@@ -10,10 +10,10 @@ use Rattle.status_table.specs.Row.{Row, row}
 use Rattle.status_table.specs.Runs.{after_from}
 use Rattle.debugger.specs.declared.fault.DebugFault.{DebugFault}
 use Rattle.debugger.specs.declared.fault.DebugFault.TheVariants as fault
-use Rattle.debugger.specs.declared.looks.Look.{Look}
+use Rattle.debugger.specs.declared.breaks.Break.{Break}
 use Rattle.debugger.specs.declared.marks.Mark.{Mark}
-use Rattle.debugger.specs.Marks.{looks_of, mark_between, mark_of}
-use Rattle.debugger.specs.Places.{IsLegalFrom, board_at}
+use Rattle.debugger.specs.Marks.{TellsBreaks, is_marked}
+use Rattle.debugger.specs.Places.{IsLegalFrom, board_at, holds}
 
 -- a plan, the boards that were gone through, the first of them first, and the board now
 pub record Trail : Type 0 where
@@ -60,18 +60,23 @@ module _ {U : Type 0} (before : U → Board → Board) where
 abbrev pub Tells : {A : Type 0} → List A → (ℕ → Option A) → Type 0
 Tells xs told = (i : ℕ) → i < length xs → slice_get xs i ≡ told i
 
--- what is kept of the entry at a place
-abbrev pub mark_at : Plan → Board → List Entry → ℕ → Option Mark
-mark_at p b es i = mark_between (slice_get es i) (board_at p b es i) (board_at p b es (suc i))
+-- what is kept of the entry at a place tells which breaks hold there
+abbrev pub TellsAt : Plan → Board → List Entry → ℕ → Mark → Type 0
+TellsAt p b es i mark =
+    (e : Entry) → slice_get es i ≡ Some e → (wanted : Break) → is_marked wanted e.event mark ≡ holds p b es (suc i) wanted
+
+-- so does what is kept of each
+abbrev pub AllTell : Plan → Board → List Entry → List Mark → Type 0
+AllTell p b es kept = (i : ℕ) (mark : Mark) → slice_get kept i ≡ Some mark → TellsAt p b es i mark
 
 -- From a first board, the boards gone through are those at the places so far, which are of the record; no entry of it is
--- refused; and what is kept of each entry is so.
+-- refused; and what is kept of each entry tells which breaks hold there.
 pub record Follows (p : Plan) (b : Board) (past : List Board) (now : Board) (es : List Entry) (kept : List Mark) : Type 0 where
   pub boards : Tells (past ++ now ∷ []) (board_at p b es)
   pub within : length past ≤ length es
   pub legal : IsLegalFrom p b es
   pub many : length kept ≡ length es
-  pub told : Tells kept (mark_at p b es)
+  pub told : AllTell p b es kept
 
 -- ---- the first way through a record
 
@@ -97,19 +102,18 @@ refused_at k refusal.StepsLeft = fault.BadRecord k refusal.StepsLeft
 refused_at k refusal.BadAnswer = fault.BadRecord k refusal.BadAnswer
 refused_at k refusal.Memory = fault.Memory
 
--- An entry was played, and what is kept of it was made, with what is looked at after it.
-pub record Recorded (old : Trail) (e : Entry) (new : Trail) (looks : List Look) (mark : Mark) : Type 0 where
+-- An entry was played, and what is kept of it tells which breaks hold of it.
+pub record Recorded (old : Trail) (e : Entry) (new : Trail) (mark : Mark) : Type 0 where
   pub led : after_from old.plan old.now (e ∷ []) ≡ Some new.now
   pub past : new.past ≡ old.past ++ old.now ∷ []
   pub plan : new.plan ≡ old.plan
-  pub looks_are : looks ≡ looks_of new.now
-  pub mark_is : mark ≡ mark_of e.event (looks_of old.now) looks
+  pub tells : TellsBreaks e old.now new.now mark
 
 -- So many of the first entries were played: the boards are those at the places so far, and what is kept of each entry so far
--- is so.
+-- tells which breaks hold there.
 pub record IsPlayed (p : Plan) (b : Board) (es : List Entry) (k : ℕ) (t : Trail) (kept : List Mark) : Type 0 where
   pub plan : t.plan ≡ p
   pub boards : Tells (boards_of t) (board_at p b es)
   pub place : length t.past ≡ k
   pub many : length kept ≡ k
-  pub told : Tells kept (mark_at p b es)
+  pub told : AllTell p b es kept

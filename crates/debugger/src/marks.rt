@@ -5,8 +5,8 @@ ghost use Rattle.debugger.specs.Breaks as breaks;
 ghost use Rattle.debugger.specs.Marks as spec;
 
 use crate::breaks::{Break, is_about};
-use crate::looks::{Ending, Look, begun_by, newly};
-use flow_model::{Event, Sequence};
+use crate::looks::{any_failed, ended_after};
+use flow_model::{Board, Event, Sequence};
 use std::alloc::{AllocError, Global};
 
 /// What is kept of an entry.
@@ -16,25 +16,25 @@ pub(crate) struct Mark {
     pub begun: Option<u64>,
     /// The legs that became Ended by it.
     pub ended: Sequence<u64>,
-    /// Those that did so with failure.
-    pub failed: Sequence<u64>,
+    /// Whether one of them did so with failure.
+    pub failed: bool,
 }
 
-/// What is kept of an event, by what was looked at before it and after it.
+/// What is kept of an entry, by the step that it began, how many legs had ended before it, and the board after it.
 pub(crate) fn make_mark(
     alloc: Global,
-    event: &Event,
-    old: &[Look],
-    new: &[Look],
+    begun: Option<u64>,
+    count: usize,
+    board: &Board,
 ) -> Result<Mark, AllocError>
-    ensures { IfOk result (λ mark. mark ≡ spec.mark_of event.now old.now new.now) }
+    ensures { IfOk result (λ mark. mark ≡ spec.mark_after begun count board.now) }
 {
-    let ended = newly(alloc, Ending::Any, old, new)?;
-    let failed = newly(alloc, Ending::Failing, old, new)?;
+    let ended = ended_after(alloc, board, count)?;
+    let failed = any_failed(board, ended.as_slice());
     Ok(Mark {
-        begun: begun_by(event, old),
+        begun,
         ended: Sequence::new(ended),
-        failed: Sequence::new(failed),
+        failed,
     })
 }
 
@@ -63,7 +63,7 @@ pub(crate) fn is_marked(wanted: Break, event: &Event, mark: &Mark) -> bool
         Break::Leg(leg) => is_about(event, leg),
         Break::Step(leg, step) => is_about(event, leg) && is_step(mark.begun, step),
         Break::Ends(leg) => is_among(mark.ended.as_slice(), leg),
-        Break::Failed => !mark.failed.is_empty(),
+        Break::Failed => mark.failed,
     }
 }
 
