@@ -1,0 +1,265 @@
+//! The place of a fault for which a file stands for no workflow.
+
+ghost use Rattle.std.specs.Prelude.{◌≡◌, IsTrue, Some, IfOk, IfSome};
+ghost use Rattle.std.specs.List.{All};
+ghost use Rattle.serde_json.specs.Find.{as_str};
+ghost use Rattle.serde_json.specs.View.{view};
+ghost use Rattle.flow_lint.specs.Nodes.{Fits, HasFlow};
+ghost use Rattle.flow_lint.specs.Notes.{FlowPlace, IsFlowPlace, IsSeen};
+ghost use Rattle.flow_lint.specs.Places.{ShowsFlow};
+ghost use Rattle.flow_reader.specs.declared.fault.FlowFault.TheVariants.{NotWhole, Missing, BadId, LeftOut, UnknownShell};
+
+use crate::kind::Kind;
+use crate::node::{Node, nodes_of};
+use crate::note::{Note, noted};
+use crate::sentences::{flow_sentence, json_sentence};
+use expr_reader::has_marker;
+use flow_model::{JsonFault, is_id, is_variable_name, read_json, value_of};
+use flow_reader::FlowFault;
+use serde_json::Value;
+use std::alloc::{AllocError, Global};
+
+/// Whether a number in a part that is read is not held as whole.
+fn shows_fraction(alloc: Global, node: &Node) -> Result<bool, AllocError>
+    ensures { IfOk result (λ is. IsTrue is → HasFlow NotWhole node.now) }
+{
+    match node.kind {
+        Kind::Variable | Kind::Input | Kind::Values | Kind::Entries | Kind::MaxParallel => {
+            match value_of(alloc, node.value) {
+                Ok(_) => Ok(false),
+                Err(JsonFault::NotWhole) => Ok(true),
+                Err(JsonFault::Memory) => Err(AllocError),
+            }
+        },
+        _ => Ok(false),
+    }
+}
+
+/// Whether a key has to be there in what is of this kind.
+fn wants(kind: Kind, key: &str) -> bool {
+    match kind {
+        Kind::Workflow => key == "on" || key == "jobs",
+        Kind::Job => key == "steps",
+        Kind::Group => key == "group",
+        Kind::Step => key == "run",
+        _ => false,
+    }
+}
+
+/// The key that may stand in the place of another.
+fn other_key(key: &str) -> &str {
+    match key {
+        "on" => "true",
+        "run" => "uses",
+        _ => key,
+    }
+}
+
+/// Whether a key is missing at a place.
+fn shows_missing(node: &Node, key: &str) -> bool
+    ensures { IsTrue result → HasFlow (Missing key.now) node.now }
+{
+    wants(node.kind, key)
+        && node.value.is_object()
+        && node.value.get(key).is_none()
+        && node.value.get(other_key(key)).is_none()
+}
+
+/// Whether a name at a place is none.
+fn shows_name(node: &Node, name: &str) -> bool
+    ensures { IsTrue result → HasFlow (BadId name.now) node.now }
+{
+    match node.kind {
+        Kind::Job | Kind::Output => node.key.as_str() == name && !is_id(name),
+        Kind::Variable => node.key.as_str() == name && !is_variable_name(name),
+        Kind::Id => is_text(node.value, name) && !is_id(name),
+        _ => false,
+    }
+}
+
+/// Whether a value is this text.
+fn is_text(value: &Value, text: &str) -> bool
+    ensures { IsTrue result → as_str (view value.now) ≡ Some text.now }
+{
+    match value.as_str() {
+        Some(found) => found == text,
+        None => false,
+    }
+}
+
+/// Whether an expression stands at a place.
+fn is_expression(value: &Value) -> bool {
+    match value.as_str() {
+        Some(text) => has_marker(text),
+        None => false,
+    }
+}
+
+/// Whether what stands at a key is left out.
+fn shows_left_out(node: &Node, key: &str) -> bool
+    ensures { IsTrue result → HasFlow (LeftOut key.now) node.now }
+{
+    if node.key.as_str() != key {
+        return false;
+    }
+    match node.kind {
+        Kind::LeftOut => true,
+        Kind::FailFast | Kind::MaxParallel | Kind::Matrix | Kind::Values | Kind::Entries => {
+            is_expression(node.value)
+        },
+        _ => false,
+    }
+}
+
+/// Whether a shell at a place is not known.
+fn shows_shell(node: &Node) -> bool
+    ensures { IsTrue result → HasFlow UnknownShell node.now }
+{
+    match node.value.as_str() {
+        Some(name) => node.kind == Kind::Shell && name != "sh" && name != "bash",
+        None => false,
+    }
+}
+
+/// Whether a fault is to be seen at a place.
+fn shows(alloc: Global, node: &Node, fault: &FlowFault) -> Result<bool, AllocError>
+    ensures { IfOk result (λ is. IsTrue is → HasFlow fault.now node.now) }
+{
+    match fault {
+        FlowFault::NotWhole => shows_fraction(alloc, node),
+        FlowFault::Missing(key) => Ok(shows_missing(node, key.as_str())),
+        FlowFault::BadId(name) => Ok(shows_name(node, name.as_str())),
+        FlowFault::LeftOut(key) => Ok(shows_left_out(node, key.as_str())),
+        FlowFault::UnknownShell => Ok(shows_shell(node)),
+        FlowFault::NotJson | FlowFault::WrongShape(_) | FlowFault::Memory => Ok(false),
+    }
+}
+
+/// The first place at which a fault is to be seen.
+fn find<'n, 'v>(
+    alloc: Global,
+    root: &Value,
+    nodes: &'n [Node<'v>],
+    fault: &FlowFault,
+) -> Result<Option<&'n Node<'v>>, AllocError>
+    requires { All (Fits (view root.now)) nodes.now }
+    ensures { IfOk result (λ found. IfSome found (λ node.
+        Fits (view root.now) node.now × HasFlow fault.now node.now)) }
+{
+    for node in nodes {
+        if shows(alloc, node, fault)? {
+            return Ok(Some(node));
+        }
+    }
+    Ok(None)
+}
+
+/// The place of the second step of a job that has this id.
+fn find_doubled<'n, 'v>(root: &Value, nodes: &'n [Node<'v>], name: &str) -> Option<&'n Node<'v>>
+    requires { All (Fits (view root.now)) nodes.now }
+    ensures { IfSome result (λ node.
+        Fits (view root.now) node.now × HasFlow (BadId name.now) node.now) }
+{
+    let mut seen = false;
+    for node in nodes {
+        if node.kind == Kind::Job {
+            seen = false;
+        }
+        if node.kind == Kind::Id && is_text(node.value, name) {
+            if seen {
+                return Some(node);
+            }
+            seen = true;
+        }
+    }
+    None
+}
+
+/// The place of this path.
+fn find_path<'n, 'v>(nodes: &'n [Node<'v>], path: &str) -> Option<&'n Node<'v>> {
+    nodes.iter().find(|node| node.path.as_str() == path)
+}
+
+/// What is to be known of a fault that was found at a place, or at none.
+fn noted_at(
+    alloc: Global,
+    root: &Value,
+    node: Option<&Node>,
+    fault: &FlowFault,
+) -> Result<Note, AllocError>
+    requires { IfSome node (λ node. Fits (view root.now) node.now × HasFlow fault.now node.now) }
+    ensures { IfOk result (λ note. IsSeen (view root.now) note.path (ShowsFlow fault.now)) }
+{
+    let path = match node {
+        Some(node) => node.path.as_str(),
+        None => "",
+    };
+    noted(alloc, path, flow_sentence(alloc, node, fault)?)
+}
+
+/// What is to be known of a name that is none, or stands twice.
+fn name_note(
+    alloc: Global,
+    root: &Value,
+    nodes: &[Node],
+    name: &str,
+    fault: &FlowFault,
+) -> Result<Note, AllocError>
+    requires nodes { All (Fits (view root.now)) nodes.now }
+    requires fault { fault.now ≡ BadId name.now }
+    ensures { IfOk result (λ note. IsSeen (view root.now) note.path (ShowsFlow (BadId name.now))) }
+{
+    match find(alloc, root, nodes, fault)? {
+        Some(node) => noted_at(alloc, root, Some(node), fault),
+        None => noted_at(alloc, root, find_doubled(root, nodes, name), fault),
+    }
+}
+
+/// What is to be known of a fault in a file.
+fn noted_in(alloc: Global, root: &Value, fault: &FlowFault) -> Result<Note, AllocError>
+    ensures { IfOk result (λ note. FlowPlace (view root.now) fault.now note.path) }
+{
+    let nodes = nodes_of(alloc, root)?;
+    let nodes = nodes.as_slice();
+    match fault {
+        FlowFault::WrongShape(path) => {
+            let node = find_path(nodes, path.as_str());
+            noted(alloc, path.as_str(), flow_sentence(alloc, node, fault)?)
+        },
+        FlowFault::BadId(name) => name_note(alloc, root, nodes, name.as_str(), fault),
+        FlowFault::NotJson
+        | FlowFault::NotWhole
+        | FlowFault::Missing(_)
+        | FlowFault::LeftOut(_)
+        | FlowFault::UnknownShell
+        | FlowFault::Memory => noted_at(alloc, root, find(alloc, root, nodes, fault)?, fault),
+    }
+}
+
+/// What is to be known of bytes that are no JSON: line and column of where they go wrong.
+fn unread(alloc: Global, bytes: &[u8]) -> Result<Note, AllocError> {
+    match Value::from_slice(alloc, bytes) {
+        Ok(_) => noted(alloc, "", json_sentence(alloc)?),
+        Err(error) => {
+            if error.is_memory() {
+                return Err(AllocError);
+            }
+            let path = format!(in alloc; "line {} column {}", error.line(), error.column())?;
+            noted(alloc, path.as_str(), json_sentence(alloc)?)
+        },
+    }
+}
+
+/// Where a fault stands for which a file stands for no workflow, and what to write there instead.
+///
+/// # Errors
+///
+/// Want of memory.
+pub fn flow_note(alloc: Global, bytes: &[u8], fault: &FlowFault) -> Result<Note, AllocError>
+    ensures { IfOk result (λ note. IsFlowPlace bytes.now fault.now note.path) }
+{
+    match read_json(alloc, bytes)? {
+        Some(root) => noted_in(alloc, &root, fault),
+        None => unread(alloc, bytes),
+    }
+}

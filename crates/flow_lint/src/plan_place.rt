@@ -1,0 +1,256 @@
+//! The place of a fault for which a workflow comes to no plan.
+
+ghost use Rattle.std.specs.Prelude.{IsTrue, IfOk, IfSome, codes};
+ghost use Rattle.serde_json.specs.Find.{get};
+ghost use Rattle.std.specs.List.{All};
+ghost use Rattle.serde_json.specs.View.{view};
+ghost use Rattle.flow_lint.specs.Nodes.{Fits, HasNeed, HasText};
+ghost use Rattle.flow_lint.specs.Notes.{IsPlanPlace, IsSeen, PlanPlace};
+ghost use Rattle.flow_lint.specs.Places.{ShowsText};
+ghost use Rattle.plan_assembler.specs.declared.fault.PlanFault.TheVariants.{UnknownNeed};
+
+use crate::cycles::find_cycle;
+use crate::hint::{need_sentence, unknown_need};
+use crate::kind::Kind;
+use crate::node::{Node, below, nodes_of};
+use crate::note::{Note, noted};
+use crate::sentences::{many_sentence, matrix_sentence, text_sentence};
+use crate::texts::read_text;
+use expr_reader::ExprFault;
+use flow_model::{Flow, FlowJob, Text, read_json};
+use flow_reader::{FlowFault, read_flow};
+use matrix_expand::{MatrixFault, expand};
+use plan_assembler::PlanFault;
+use serde_json::Value;
+use std::alloc::{AllocError, Global};
+
+/// Whether a fault of that name stands at that byte of the text at a place.
+fn shows_text(alloc: Global, node: &Node, fault: ExprFault) -> Result<bool, AllocError>
+    ensures { IfOk result (λ is. IsTrue is → HasText fault node.now) }
+{
+    match read_text(alloc, node) {
+        Some(Err(found)) => {
+            if found.is_memory() {
+                return Err(AllocError);
+            }
+            Ok(found.name() == fault.name() && found.place() == fault.place())
+        },
+        Some(Ok(_)) => Ok(false),
+        None => Ok(false),
+    }
+}
+
+/// The first place of a text with this fault; of the directories that scripts share, or of the others.
+fn find_text<'n, 'v>(
+    alloc: Global,
+    root: &Value,
+    nodes: &'n [Node<'v>],
+    fault: ExprFault,
+    shared: bool,
+) -> Result<Option<&'n Node<'v>>, AllocError>
+    requires { All (Fits (view root.now)) nodes.now }
+    ensures { IfOk result (λ found. IfSome found (λ node.
+        Fits (view root.now) node.now × HasText fault node.now)) }
+{
+    for node in nodes {
+        if (node.kind == Kind::SharedDirectory) == shared && shows_text(alloc, node, fault)? {
+            return Ok(Some(node));
+        }
+    }
+    Ok(None)
+}
+
+/// The first place of a text with this fault: that of a directory that scripts share is read for each of them.
+fn find_unread<'n, 'v>(
+    alloc: Global,
+    root: &Value,
+    nodes: &'n [Node<'v>],
+    fault: ExprFault,
+) -> Result<Option<&'n Node<'v>>, AllocError>
+    requires { All (Fits (view root.now)) nodes.now }
+    ensures { IfOk result (λ found. IfSome found (λ node.
+        Fits (view root.now) node.now × HasText fault node.now)) }
+{
+    match find_text(alloc, root, nodes, fault, false)? {
+        Some(node) => Ok(Some(node)),
+        None => find_text(alloc, root, nodes, fault, true),
+    }
+}
+
+/// What is to be known of a text that cannot be read.
+fn text_note(alloc: Global, root: &Value, fault: ExprFault) -> Result<Note, AllocError>
+    ensures { IfOk result (λ note. IsSeen (view root.now) note.path (λ _ d. ShowsText fault d)) }
+{
+    let nodes = nodes_of(alloc, root)?;
+    let sentence = text_sentence(alloc, fault)?;
+    match find_unread(alloc, root, nodes.as_slice(), fault)? {
+        Some(node) => noted(alloc, node.path.as_str(), sentence),
+        None => noted(alloc, "", sentence),
+    }
+}
+
+/// The first place that needs what is no job.
+fn find_need<'n, 'v>(root: &Value, nodes: &'n [Node<'v>]) -> Option<&'n Node<'v>>
+    requires { All (Fits (view root.now)) nodes.now }
+    ensures { let jobs = get (codes "jobs") (view root.now) in
+        IfSome result (λ node. Fits (view root.now) node.now × HasNeed jobs node.now) }
+{
+    for node in nodes {
+        if matches!(node.kind, Kind::Needs | Kind::Need) && unknown_need(node, root).is_some() {
+            return Some(node);
+        }
+    }
+    None
+}
+
+/// What is to be known of a need that is no job.
+fn need_note(alloc: Global, root: &Value) -> Result<Note, AllocError>
+    ensures { IfOk result (λ note. PlanPlace (view root.now) UnknownNeed note.path) }
+{
+    let nodes = nodes_of(alloc, root)?;
+    let Some(node) = find_need(root, nodes.as_slice()) else {
+        return noted(alloc, "", String::from_str(alloc, "a need is no job")?);
+    };
+    let id = node.value.as_str().unwrap_or("");
+    noted(alloc, node.path.as_str(), need_sentence(alloc, root, id)?)
+}
+
+/// The path of a key of a job.
+fn job_path(alloc: Global, id: &str, key: &str) -> Result<Text, AllocError> {
+    let job = below(alloc, "jobs", id)?;
+    below(alloc, job.as_str(), key)
+}
+
+/// What is to be known of jobs that need themselves.
+fn cycle_note(alloc: Global, jobs: &[FlowJob]) -> Result<Note, AllocError> {
+    match find_cycle(alloc, jobs)? {
+        Some((id, mut text)) => {
+            text.push_str(": take one of the needs out")?;
+            let path = job_path(alloc, id.as_str(), "needs")?;
+            noted(alloc, path.as_str(), text)
+        },
+        None => noted(
+            alloc,
+            "jobs",
+            String::from_str(alloc, "a job needs itself")?,
+        ),
+    }
+}
+
+/// Whether the matrix of a job has no combinations.
+fn is_without_legs(alloc: Global, job: &FlowJob) -> Result<bool, AllocError> {
+    match &job.matrix {
+        Some(matrix) => match expand(alloc, matrix) {
+            Ok(_) => Ok(false),
+            Err(MatrixFault::Memory) => Err(AllocError),
+            Err(_) => Ok(true),
+        },
+        None => Ok(false),
+    }
+}
+
+/// The first job whose matrix has no combinations.
+fn find_matrix<'j>(alloc: Global, jobs: &'j [FlowJob]) -> Result<Option<&'j FlowJob>, AllocError> {
+    for job in jobs {
+        if is_without_legs(alloc, job)? {
+            return Ok(Some(job));
+        }
+    }
+    Ok(None)
+}
+
+/// What is to be known of a matrix that has no combinations.
+fn matrix_note(alloc: Global, jobs: &[FlowJob], fault: MatrixFault) -> Result<Note, AllocError> {
+    let sentence = matrix_sentence(alloc, fault)?;
+    match find_matrix(alloc, jobs)? {
+        Some(job) => {
+            let path = job_path(alloc, job.id.as_str(), "strategy.matrix")?;
+            noted(alloc, path.as_str(), sentence)
+        },
+        None => noted(alloc, "jobs", sentence),
+    }
+}
+
+/// The first job of more than 256 steps.
+fn find_long(jobs: &[FlowJob]) -> Option<&FlowJob> {
+    jobs.iter().find(|job| 256 < job.steps.len())
+}
+
+/// What is to be known where there are more jobs, steps or legs than the limits allow.
+fn many_note(alloc: Global, jobs: &[FlowJob]) -> Result<Note, AllocError> {
+    let sentence = many_sentence(alloc)?;
+    if 256 < jobs.len() {
+        return noted(alloc, "jobs", sentence);
+    }
+    match find_long(jobs) {
+        Some(job) => {
+            let path = job_path(alloc, job.id.as_str(), "steps")?;
+            noted(alloc, path.as_str(), sentence)
+        },
+        None => noted(alloc, "jobs", sentence),
+    }
+}
+
+/// What is to be known of a fault among jobs.
+fn jobs_note(alloc: Global, jobs: &[FlowJob], fault: PlanFault) -> Result<Note, AllocError> {
+    match fault {
+        PlanFault::Cycle => cycle_note(alloc, jobs),
+        PlanFault::Matrix(_, fault) => matrix_note(alloc, jobs, fault),
+        _ => many_note(alloc, jobs),
+    }
+}
+
+/// What is to be known of a fault of a workflow, which is read anew.
+fn flow_jobs_note(
+    alloc: Global,
+    name: &str,
+    bytes: &[u8],
+    fault: PlanFault,
+) -> Result<Note, AllocError> {
+    match read_flow(alloc, name, bytes) {
+        Ok(flow) => jobs_note(alloc, flow.workflow().jobs.as_slice(), fault),
+        Err(FlowFault::Memory) => Err(AllocError),
+        Err(_) => noted(alloc, "jobs", many_sentence(alloc)?),
+    }
+}
+
+/// What is to be known of a fault of a workflow, or of one of the texts in its file.
+fn noted_in(
+    alloc: Global,
+    name: &str,
+    bytes: &[u8],
+    root: &Value,
+    fault: PlanFault,
+) -> Result<Note, AllocError>
+    ensures { IfOk result (λ note. PlanPlace (view root.now) fault note.path) }
+{
+    match fault {
+        PlanFault::Expr(_, fault) => text_note(alloc, root, fault),
+        PlanFault::UnknownNeed => need_note(alloc, root),
+        PlanFault::Cycle
+        | PlanFault::UnknownJob
+        | PlanFault::NoWorkflow
+        | PlanFault::TooMany
+        | PlanFault::Matrix(_, _)
+        | PlanFault::Memory => flow_jobs_note(alloc, name, bytes, fault),
+    }
+}
+
+/// Where a fault stands for which the workflow of a file of this name comes to no plan, and what to write there instead.
+///
+/// # Errors
+///
+/// Want of memory.
+pub fn plan_note(
+    alloc: Global,
+    name: &str,
+    bytes: &[u8],
+    fault: PlanFault,
+) -> Result<Note, AllocError>
+    ensures { IfOk result (λ note. IsPlanPlace bytes.now fault note.path) }
+{
+    match read_json(alloc, bytes)? {
+        Some(root) => noted_in(alloc, name, bytes, &root, fault),
+        None => noted(alloc, "", many_sentence(alloc)?),
+    }
+}
