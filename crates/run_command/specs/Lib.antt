@@ -1,3 +1,4 @@
+pub mod Environment
 pub mod PlanMasks
 pub mod Playing
 pub mod RecordFile

@@ -8,6 +8,7 @@
 
 #![tactic(auto)]
 
+mod environment;
 pub mod machine;
 mod place;
 mod plan_masks;
