@@ -4,13 +4,15 @@ ghost use Rattle.std.specs.Prelude.{IfErr};
 ghost use Rattle.run_command.specs.Run.{IsOfMachine};
 
 use crate::environment::variables;
+use crate::progress::Progress;
+use crate::step_names::StepNames;
 use command_io::trouble::Trouble;
-use flow_model::{Mapping, Sequence, Text};
+use flow_model::{Duplicate, Mapping, Sequence, Text};
 use std::alloc::{AllocError, Global};
 use std::fs::Files;
 use std::io::ErrorKind;
 use std::path;
-use step_host::{Masked, ProgramHost, StepHost};
+use step_host::{Masked, ProgramHost, StepHost, Watched};
 
 /// Where programs run.
 pub trait Machine: Files {
@@ -26,7 +28,7 @@ pub trait Machine: Files {
         ensures { IfErr result IsOfMachine };
 
     /// The host that starts programs in a folder, with these stubs and those variables of this program that are texts, and
-    /// masks the outputs.
+    /// masks the outputs. Where the steps have names it tells on standard error of each, when it starts and when it ends.
     ///
     /// # Errors
     ///
@@ -37,11 +39,12 @@ pub trait Machine: Files {
         work: &str,
         stubs: Mapping<Text>,
         masks: Sequence<Text>,
+        progress: Option<StepNames>,
     ) -> Result<Self::Host, AllocError>;
 }
 
 impl Machine for HostRuntime {
-    type Host = Masked<ProgramHost<HostRuntime>>;
+    type Host = Watched<Masked<ProgramHost<HostRuntime>>, Progress>;
 
     fn whole_path(&self, folder: &str) -> Result<String, Trouble> {
         match path::absolute(self, folder) {
@@ -61,10 +64,12 @@ impl Machine for HostRuntime {
         work: &str,
         stubs: Mapping<Text>,
         masks: Sequence<Text>,
-    ) -> Result<Masked<ProgramHost<HostRuntime>>, AllocError> {
+        progress: Option<StepNames>,
+    ) -> Result<Watched<Masked<ProgramHost<HostRuntime>>, Progress>, AllocError> {
         let base = variables(self, alloc)?;
         let work = Text::from_str(alloc, work)?;
         let programs = ProgramHost::new(alloc, *self, work, base, stubs);
-        Ok(Masked::new(alloc, programs, masks))
+        let progress = Progress::new(alloc, *self, progress, masks.copy(alloc)?);
+        Ok(Watched::new(Masked::new(alloc, programs, masks), progress))
     }
 }
