@@ -16,7 +16,7 @@ _actrun() {
   esac
   case $command in
     plan) offered='--event --job --contexts' ;;
-    run) offered='--workers --record --work --stubs' ;;
+    run) offered='--workers --record --work --stubs --progress' ;;
     eval) offered='--contexts' ;;
     *) offered= ;;
   esac

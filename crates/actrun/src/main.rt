@@ -8,7 +8,7 @@ use command_io::trouble::Trouble;
 use command_words::folder::Folder;
 use command_words::words::run_line;
 use run_command::machine::Machine;
-use std::fs::File;
+use std::fs::{File, Files};
 use std::io::BufReader;
 use std::process::ExitCode;
 use std::sync::Wait;
@@ -38,7 +38,14 @@ impl<F: Machine + Threads + Wait + Sync> Folder for Disk<'_, F> {
     }
 }
 
+/// A file that says nothing and takes nothing.
+fn nothing<F: Files>(files: &F) -> io::Result<F::File> {
+    File::open(files, "/dev/null")
+}
+
 fn main(rt: HostRuntime) -> ExitCode {
+    // in the place of each standard stream that is closed, so that no other file is taken for it
+    let _closed = (nothing(&rt), nothing(&rt), nothing(&rt));
     let disk = Disk { files: &rt };
     let mut out = Output::new(io::writer(&rt));
     let mut err = Output::new(rt.stderr());

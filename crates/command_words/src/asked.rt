@@ -145,6 +145,7 @@ impl<'m, 'w, F: Folder> Asking<'m, 'w, F> {
             workers: self.words.get_one::<u64>("workers").unwrap_or(1),
             record: self.words.get_str("record"),
             work: self.words.get_str("work"),
+            progress: self.words.get_flag("progress"),
         };
         let stubs = self.open_optional("stubs")?;
         let plan = self.open_required("plan")?;

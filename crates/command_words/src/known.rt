@@ -1,6 +1,6 @@
 //! The commands and their words, as `clap` is told them.
 
-use clap::{Arg, Command};
+use clap::{Arg, ArgAction, Command};
 use std::alloc::{AllocError, Global};
 
 /// The names of workflows' files, at least one.
@@ -39,11 +39,15 @@ fn known_run<'a>(alloc: Global) -> Result<Command<'a>, AllocError> {
     let workers = Arg::new(alloc, "workers")
         .long("workers")
         .value_parser(clap::value_parser!(u64));
+    let progress = Arg::new(alloc, "progress")
+        .long("progress")
+        .action(ArgAction::SetTrue);
     Command::new(alloc, "run")
         .arg(workers)?
         .arg(Arg::new(alloc, "record").long("record"))?
         .arg(Arg::new(alloc, "work").long("work"))?
         .arg(Arg::new(alloc, "stubs").long("stubs"))?
+        .arg(progress)?
         .arg(Arg::new(alloc, "plan").required(true))
 }
 

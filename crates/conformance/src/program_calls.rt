@@ -189,7 +189,8 @@ fn host<R: Machine>(rt: &R, page: &mut Page<'_>) -> Option<R::Host> {
     let stubs = page.have(pair(page.alloc, "stubbed", "./stub"))?;
     let folder = rt.whole_path(".").ok()?;
     let masks = Sequence::empty(page.alloc);
-    rt.host(page.alloc, folder.as_str(), stubs, masks).ok()
+    rt.host(page.alloc, folder.as_str(), stubs, masks, None)
+        .ok()
 }
 
 /// The action that the words name, or else the script that the input is.

@@ -1,5 +1,7 @@
+pub mod Environment
 pub mod PlanMasks
 pub mod Playing
+pub mod Progress
 pub mod RecordFile
 pub mod Run
 pub mod RunLines

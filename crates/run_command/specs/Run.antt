@@ -112,8 +112,7 @@ pub record IsNoPlan (stubs : Content) (bytes : List ℕ) (fault : LoadFault) : T
   pub fails : load bytes ≡ Err fault
 
 -- Why nothing is played of texts: the first is no file of stubs; it is one, and the other is no plan; or they are both, and the
--- machine has no such folder, or its own variables cannot be had. Want of memory may be told of all of them. (`load` refuses no text
--- for a line of an entry.)
+-- machine has no such folder. Want of memory may be told of all of them. (`load` refuses no text for a line of an entry.)
 abbrev pub AreNotPlayed : Content → List ℕ → Trouble → Type 0
 AreNotPlayed stubs bytes (NoContexts file fault) = (file_stubs stubs.bytes ≡ Err fault) × (file ≡ stubs.name)
 AreNotPlayed stubs bytes (NoPlan fault) = IsNoPlan stubs bytes fault
@@ -174,6 +173,6 @@ abbrev pub ReadsBoth : File → File → Stream → Stream → Result (Content �
 ReadsBoth stubs stubs' input input' (Ok both) = AreBothRead stubs stubs' input input' (Ok (both.0, both.1.items))
 ReadsBoth stubs stubs' input input' (Err why) = AreBothRead stubs stubs' input input' (Err why)
 
--- What a machine cannot give, for want of a folder, of variables or of memory.
+-- Why a machine cannot give a folder's whole path: it has no such folder, or no memory.
 abbrev pub IsOfMachine : Trouble → Type 0
 IsOfMachine trouble = (trouble ≡ Io) ⊎ (trouble ≡ Memory)

@@ -8,12 +8,15 @@
 
 #![tactic(auto)]
 
+mod environment;
 pub mod machine;
 mod place;
 mod plan_masks;
 mod playing;
+pub mod progress;
 mod record_file;
 pub mod run;
 mod run_lines;
 mod step_logs;
+pub mod step_names;
 mod stubs;

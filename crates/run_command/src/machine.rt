@@ -3,14 +3,16 @@
 ghost use Rattle.std.specs.Prelude.{IfErr};
 ghost use Rattle.run_command.specs.Run.{IsOfMachine};
 
+use crate::environment::variables;
+use crate::progress::Progress;
+use crate::step_names::StepNames;
 use command_io::trouble::Trouble;
-use flow_model::{Mapping, Sequence, Text};
-use std::alloc::Global;
-use std::env::{Env, VarError};
+use flow_model::{Duplicate, Mapping, Sequence, Text};
+use std::alloc::{AllocError, Global};
 use std::fs::Files;
 use std::io::ErrorKind;
-use std::{env, path};
-use step_host::{Masked, ProgramHost, StepHost};
+use std::path;
+use step_host::{Masked, ProgramHost, StepHost, Watched};
 
 /// Where programs run.
 pub trait Machine: Files {
@@ -25,24 +27,24 @@ pub trait Machine: Files {
     fn whole_path(&self, folder: &str) -> Result<String, Trouble>
         ensures { IfErr result IsOfMachine };
 
-    /// The host that starts programs in a folder, with these stubs and the variables of this program, and masks the
-    /// outputs.
+    /// The host that starts programs in a folder, with these stubs and those variables of this program that are texts, and
+    /// masks the outputs. Where the steps have names it tells on standard error of each, when it starts and when it ends.
     ///
     /// # Errors
     ///
-    /// `Trouble::Io` where the variables are no text, and `Trouble::Memory`.
+    /// There is no memory.
     fn host(
         &self,
         alloc: Global,
         work: &str,
         stubs: Mapping<Text>,
         masks: Sequence<Text>,
-    ) -> Result<Self::Host, Trouble>
-        ensures { IfErr result IsOfMachine };
+        progress: Option<StepNames>,
+    ) -> Result<Self::Host, AllocError>;
 }
 
 impl Machine for HostRuntime {
-    type Host = Masked<ProgramHost<HostRuntime>>;
+    type Host = Watched<Masked<ProgramHost<HostRuntime>>, Progress>;
 
     fn whole_path(&self, folder: &str) -> Result<String, Trouble> {
         match path::absolute(self, folder) {
@@ -62,31 +64,12 @@ impl Machine for HostRuntime {
         work: &str,
         stubs: Mapping<Text>,
         masks: Sequence<Text>,
-    ) -> Result<Masked<ProgramHost<HostRuntime>>, Trouble> {
-        let base = base_of(self)?;
-        let Ok(work) = Text::from_str(alloc, work) else {
-            return Err(Trouble::Memory);
-        };
+        progress: Option<StepNames>,
+    ) -> Result<Watched<Masked<ProgramHost<HostRuntime>>, Progress>, AllocError> {
+        let base = variables(self, alloc)?;
+        let work = Text::from_str(alloc, work)?;
         let programs = ProgramHost::new(alloc, *self, work, base, stubs);
-        Ok(Masked::new(alloc, programs, masks))
+        let progress = Progress::new(alloc, *self, progress, masks.copy(alloc)?);
+        Ok(Watched::new(Masked::new(alloc, programs, masks), progress))
     }
-}
-
-/// The variables of this program, which programs have too.
-fn base_of<R: Env + Alloc<A = Global>>(rt: &R) -> Result<Mapping<Text>, Trouble>
-    ensures { IfErr result IsOfMachine }
-{
-    let variables = match env::vars(rt) {
-        Ok(variables) => variables,
-        Err(VarError::OutOfMemory) => return Err(Trouble::Memory),
-        Err(VarError::NotPresent) => return Err(Trouble::Io),
-        Err(VarError::NotUnicode) => return Err(Trouble::Io),
-    };
-    let mut base = Mapping::empty(rt.alloc());
-    for (name, value) in variables {
-        if base.insert(Text::new(name), Text::new(value)).is_err() {
-            return Err(Trouble::Memory);
-        }
-    }
-    Ok(base)
 }

@@ -9,10 +9,9 @@ use crate::plan_masks::masks_of;
 use flow_model::{Answer, CheckedPlan, Entry, Sequence};
 use program_texts::{Log, logs_text};
 use std::alloc::{AllocError, Global};
-use std::fs::{File, Files};
-use std::io;
-use std::io::{ErrorKind, Read};
-use step_host::{log_file, record_all};
+use std::fs::Files;
+use std::io::ErrorKind;
+use step_host::{file_bytes, log_file, record_all};
 
 /// Whether a program was started.
 fn was_started(answer: &Answer) -> bool
@@ -57,14 +56,6 @@ fn started_steps(
     }
 }
 
-/// All bytes of a file.
-fn read_bytes<F: Files>(alloc: Global, files: &F, name: &str) -> io::Result<Vec<u8>> {
-    let mut file = File::open(files, name)?;
-    let mut bytes = Vec::new(alloc);
-    file.read_to_end(&mut bytes)?;
-    Ok(bytes)
-}
-
 /// The log of a step of a leg, whose bytes are there if it can be read.
 fn read_log<F: Files>(
     alloc: Global,
@@ -75,7 +66,7 @@ fn read_log<F: Files>(
 {
     let (leg, number) = step;
     let name = log_file(alloc, place.work, leg, number)?;
-    match read_bytes(alloc, place.files, name.as_str()) {
+    match file_bytes(alloc, place.files, name.as_str()) {
         Ok(bytes) => Ok((leg, Some(Sequence::new(bytes)))),
         Err(error) => {
             if error.kind() == ErrorKind::OutOfMemory {
