@@ -3,7 +3,7 @@ _actrun() {
   local word=${COMP_WORDS[COMP_CWORD]} before=${COMP_WORDS[COMP_CWORD - 1]} command=${COMP_WORDS[1]} offered
   COMPREPLY=()
   if [ "$COMP_CWORD" -eq 1 ]; then
-    offered='plan list run table replay debug eval --help --version --prove'
+    offered='plan list lint run table replay debug eval --help --version --prove'
     mapfile -t COMPREPLY < <(compgen -W "$offered" -- "$word")
     return
   fi
@@ -22,7 +22,7 @@ _actrun() {
   esac
   if [[ $word == -* ]]; then
     mapfile -t COMPREPLY < <(compgen -W "$offered" -- "$word")
-  elif [[ $command == plan || $command == list || $command == run || $command == replay || $command == debug ]]; then
+  elif [[ $command == plan || $command == list || $command == lint || $command == run || $command == replay || $command == debug ]]; then
     compopt -o filenames
     mapfile -t COMPREPLY < <(compgen -f -- "$word")
   fi

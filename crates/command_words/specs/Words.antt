@@ -6,6 +6,7 @@ use Rattle.plan_assembler.specs.declared.choice.Choice.{Choice}
 use Rattle.debug_session.specs.Debug.{DebugTells}
 use Rattle.commands.specs.Eval.{EvalTells}
 use Rattle.command_io.specs.Files.{File}
+use Rattle.commands.specs.Lint.{LintTells}
 use Rattle.commands.specs.List.{ListTells}
 use Rattle.commands.specs.Plan.{PlanTells}
 use Rattle.commands.specs.Replay.{ReplayTells}
@@ -34,6 +35,11 @@ abbrev pub RunsList : Stream → Stream → Stream → Stream → ℕ → Type 0
 RunsList out out' err err' status =
     ((flows flows' : List File) × ListTells flows flows' out out' err err' status) ⊎ TellsSome out out' err err' status
 
+-- What `lint` tells of some files of workflows; or a trouble is told.
+abbrev pub RunsLint : Stream → Stream → Stream → Stream → ℕ → Type 0
+RunsLint out out' err err' status =
+    ((flows flows' : List File) × LintTells flows flows' out out' err err' status) ⊎ TellsSome out out' err err' status
+
 -- What `replay` tells of some record; or a trouble is told.
 abbrev pub RunsReplay : Stream → Stream → Stream → Stream → ℕ → Type 0
 RunsReplay out out' err err' status =
@@ -50,15 +56,16 @@ abbrev pub RunsDebug : Stream → Stream → Stream → Stream → Stream → St
 RunsDebug input input' out out' err err' status =
     ((file file' : Stream) × DebugTells file file' input input' out out' err err' status) ⊎ TellsSome out out' err err' status
 
--- What `table` or `debug` tells of the input, or what `eval`, `plan`, `list`, `replay` or `run` tells, or a trouble.
+-- What `table` or `debug` tells of the input, or what `eval`, `plan`, `list`, `lint`, `replay` or `run` tells, or a trouble.
 abbrev pub RunTells : Stream → Stream → Stream → Stream → Stream → Stream → ℕ → Type 0
 RunTells input input' out out' err err' status =
     TableTells input input' out out' err err' status
     ⊎ (RunsEval out out' err err' status
     ⊎ (RunsPlan out out' err err' status
     ⊎ (RunsList out out' err err' status
+    ⊎ (RunsLint out out' err err' status
     ⊎ (RunsReplay out out' err err' status
-    ⊎ (RunsRun out out' err err' status ⊎ RunsDebug input input' out out' err err' status)))))
+    ⊎ (RunsRun out out' err err' status ⊎ RunsDebug input input' out out' err err' status))))))
 
 -- A command line that cannot be had is told by its kind: one that is no UTF-8 asks for no command.
 pub record TellsLine (kind : ErrorKind) (out out' err err' : Stream) (status : ℕ) : Type 0 where

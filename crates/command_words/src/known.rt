@@ -24,9 +24,9 @@ fn known_plan<'a>(alloc: Global) -> Result<Command<'a>, AllocError> {
         .arg(flow_words(alloc))
 }
 
-/// The command `list`.
-fn known_list<'a>(alloc: Global) -> Result<Command<'a>, AllocError> {
-    Command::new(alloc, "list").arg(flow_words(alloc))
+/// A command over files of workflows.
+fn known_flows<'a>(alloc: Global, name: &'a str) -> Result<Command<'a>, AllocError> {
+    Command::new(alloc, name).arg(flow_words(alloc))
 }
 
 /// A command over the file of a record.
@@ -65,7 +65,8 @@ pub(crate) fn known_commands<'a>(alloc: Global) -> Result<Command<'a>, AllocErro
     let known = with(known, Ok(Command::new(alloc, "table")))?;
     let known = with(known, known_eval(alloc))?;
     let known = with(known, known_plan(alloc))?;
-    let known = with(known, known_list(alloc))?;
+    let known = with(known, known_flows(alloc, "list"))?;
+    let known = with(known, known_flows(alloc, "lint"))?;
     let known = with(known, known_record(alloc, "replay"))?;
     let known = with(known, known_run(alloc))?;
     with(known, known_record(alloc, "debug"))

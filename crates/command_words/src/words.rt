@@ -14,6 +14,7 @@ use command_io::stream::{LineSource, Sink, Source};
 use command_io::tell::refuse;
 use command_io::trouble::Trouble;
 use commands::eval::eval;
+use commands::lint::lint;
 use commands::list::list;
 use commands::plan::plan;
 use commands::replay::replay;
@@ -84,6 +85,19 @@ fn perform_list<S: Source + Drop, O: Sink, E: Sink>(
     list(alloc, flows.as_mut_slice(), out, err)
 }
 
+/// Runs `lint`.
+fn perform_lint<S: Source + Drop, O: Sink, E: Sink>(
+    alloc: Global,
+    mut flows: Vec<NamedSource<S>>,
+    out: &mut O,
+    err: &mut E,
+) -> u8
+    ensures { spec.RunsLint (O.seen out.old) (O.seen out.new)
+        (E.seen err.old) (E.seen err.new) result }
+{
+    lint(alloc, flows.as_mut_slice(), out, err)
+}
+
 /// Runs `replay`.
 fn perform_replay<S: Source + Drop, O: Sink, E: Sink>(
     alloc: Global,
@@ -147,6 +161,7 @@ fn perform<M: Machine + Threads + Wait + Sync, S: Source + Drop, I: LineSource, 
         Asked::Eval(asked) => perform_eval(alloc, asked, out, err),
         Asked::Plan(asked) => perform_plan(alloc, asked, out, err),
         Asked::List(flows) => perform_list(alloc, flows, out, err),
+        Asked::Lint(flows) => perform_lint(alloc, flows, out, err),
         Asked::Replay(record) => perform_replay(alloc, record, out, err),
         Asked::Run(asked) => perform_run(alloc, machine, asked, out, err),
         Asked::Debug(record) => perform_debug(alloc, record, input, out, err),

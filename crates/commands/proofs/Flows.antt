@@ -14,7 +14,7 @@ pub record GoingFlows (files : List Content) (i : ℕ) (flows : List Workflow) :
 pub begin_flows : (files : List Content) → GoingFlows files 0 []
 begin_flows files = record { made = λ more w. w; fail = λ trouble w. w }
 
-left_at : (files : List Content) (i : ℕ) (file : Content) → i < length files → file ≡ get_or files i file → drop i files ≡ file ∷ drop (i + 1) files
+pub left_at : (files : List Content) (i : ℕ) (file : Content) → i < length files → file ≡ get_or files i file → drop i files ≡ file ∷ drop (i + 1) files
 left_at files i file h at = drop_more files i file h ∙ ap (λ (x : Content). x ∷ drop (i + 1) files) (sym at)
 
 pub flow_more : (files : List Content) (i : ℕ) (flows : List Workflow) (file : Content) (flow : Workflow) → i < length files → file ≡ get_or files i file

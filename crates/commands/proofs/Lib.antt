@@ -2,6 +2,7 @@ pub mod BoardAnswers
 pub mod Expressions
 pub mod Flows
 pub mod Lines
+pub mod Linted
 pub mod OneAnswer
 pub mod Replayed
 pub mod Stopped

@@ -1,4 +1,5 @@
 pub mod Eval
+pub mod Lint
 pub mod List
 pub mod Plan
 pub mod Planning

@@ -98,7 +98,7 @@ fn listed(alloc: Global, plan: &CheckedPlan) -> Result<String, AllocError>
 }
 
 /// The plan of all workflows, which are handed no contexts.
-fn plan_of_all(alloc: Global, flows: &[Content]) -> Result<CheckedPlan, Trouble>
+pub(crate) fn plan_of_all(alloc: Global, flows: &[Content]) -> Result<CheckedPlan, Trouble>
     ensures { Finds (ComesTo All no_contexts_of flows.now)
         (ComesToNone All no_contexts_of flows.now) result }
 {

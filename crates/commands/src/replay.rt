@@ -62,8 +62,8 @@ fn shown_replay(alloc: Global, text: &[u8]) -> Result<(String, u8), Trouble>
     }
 }
 
-/// Writes the text of a board to `out`, with its status, or the line of a trouble to `err`.
-fn tell_replay<O: Sink, E: Sink>(
+/// Writes a text to `out` and answers its status, or the line of a trouble to `err`.
+pub(crate) fn tell_with<O: Sink, E: Sink>(
     answer: Result<(String, u8), Trouble>,
     out: &mut O,
     err: &mut E,
@@ -90,7 +90,7 @@ pub fn replay<I: Source, O: Sink, E: Sink>(
         (O.seen out.old) (O.seen out.new) (E.seen err.old) (E.seen err.new) result }
 {
     match input.read_all(alloc) {
-        Ok(text) => tell_replay(shown_replay(alloc, text.as_slice()), out, err),
+        Ok(text) => tell_with(shown_replay(alloc, text.as_slice()), out, err),
         Err(fault) => refuse_source(err, fault),
     }
 }

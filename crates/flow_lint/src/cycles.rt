@@ -69,9 +69,15 @@ fn job_on_cycle(jobs: &[FlowJob], settled: &[bool]) -> Option<usize> {
     Some(place)
 }
 
-/// Adds that a job is needed.
-fn add_job(text: &mut String, jobs: &[FlowJob], place: usize) -> Result<(), AllocError> {
+/// Adds that a job is needed, after these words.
+fn add_job(
+    text: &mut String,
+    words: &str,
+    jobs: &[FlowJob],
+    place: usize,
+) -> Result<(), AllocError> {
     if let Some(job) = jobs.get(place) {
+        text.push_str(words)?;
         text.push_str(" needs `")?;
         text.push_str(job.id.as_str())?;
         text.push_str("`")?;
@@ -86,13 +92,15 @@ fn cycle_text(
     settled: &[bool],
     first: usize,
 ) -> Result<String, AllocError> {
-    let mut text = String::from_str(alloc, "this job")?;
+    let mut text = String::new(alloc);
+    let mut words = "this job";
     let mut place = first;
     for _ in jobs {
         let Some(next) = open_need_at(jobs, settled, place) else {
             return Ok(text);
         };
-        add_job(&mut text, jobs, next)?;
+        add_job(&mut text, words, jobs, next)?;
+        words = ", which";
         place = next;
         if place == first {
             return Ok(text);

@@ -11,7 +11,7 @@ returns-in-Ok g c =
     replay_told _ _ _ _ _ _ c.in-Ok.text.items done found _ c.in-Ok.ensures
     (subst (λ (text : List ℕ). OrMemory found (IsReplayAnswer done text found)) c.as_slice.ensures.value
     (answered c.as_slice.result.now c.shown_replay.result c.shown_replay.ensures))
-    c.tell_replay.ensures
+    c.tell_with.ensures
 
 pub returns-in-Err : goal.returns-in-Err
 returns-in-Err g c = unread_replay _ _ _ _ _ c.in-Err.fault _ c.in-Err.ensures c.refuse_source.ensures.line c.refuse_source.ensures.status
