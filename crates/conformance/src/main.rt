@@ -34,6 +34,7 @@
 #![tactic(auto)]
 
 mod board_calls;
+mod both_boards;
 mod case;
 mod debug_sweeps;
 mod documents;

@@ -12,11 +12,8 @@ pub fn put_member(page: &mut Page<'_>, member: Option<Member>) {
     }
 }
 
-/// Writes the members that a reply names, for the verb `replies`.
+/// Writes the members that a reply names.
 pub fn put_members(page: &mut Page<'_>, reply: &Reply) {
-    if page.word(0) != "replies" {
-        return;
-    }
     let members = [
         (", admitted ", reply.admitted),
         (", displaced ", reply.displaced),

@@ -3,7 +3,7 @@
 //! A reply is followed by `, admitted MEMBER`, `, displaced MEMBER` and `, stopped MEMBER`, where it names one and members
 //! are told. A refusal that changes the board is told as such.
 
-use crate::members::put_moves;
+use crate::members::{put_members, put_moves};
 use crate::page::Page;
 use crate::replies::put_reply;
 use flow_model::{Board, CheckedPlan, Duplicate, Entry, Sequence};
@@ -35,7 +35,7 @@ pub fn tabled(page: &mut Page<'_>) -> Option<(PlainBoard, Sequence<Entry>)> {
 }
 
 /// A copy of an entry, reported by the worker that the verb names.
-fn reported(page: &mut Page<'_>, entry: &Entry) -> Option<Entry> {
+pub fn reported(page: &mut Page<'_>, entry: &Entry) -> Option<Entry> {
     let worker = page.word(1).parse::<u8>().unwrap_or(entry.worker);
     let event = page.have(entry.event.copy(page.alloc))?;
     Some(Entry { worker, event })
@@ -63,6 +63,9 @@ fn play(page: &mut Page<'_>, table: &mut PlainBoard, entry: &Entry) -> bool {
     match table.apply(entry) {
         Ok(reply) => {
             put_reply(page, &reply);
+            if page.word(0) == "replies" {
+                put_members(page, &reply);
+            }
             page.put("\n");
             true
         },

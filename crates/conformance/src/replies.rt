@@ -3,7 +3,6 @@
 //! A call is told in a line, `leg L step S calls TEXT`, the text of the script or the name of the action. What else it has
 //! follows, each in a line of its own: `in` a directory, `by` a shell, `with` an input, `env` a variable.
 
-use crate::members::put_members;
 use crate::page::Page;
 use flow_model::{CallWork, Duplicate, Mapping, Reply, Shell, StepCall, Text, What};
 
@@ -17,7 +16,6 @@ pub fn put_reply(page: &mut Page<'_>, reply: &Reply) {
             What::Call(call) => put_call(page, call),
         }
     }
-    put_members(page, reply);
 }
 
 /// Writes a call.

@@ -2,7 +2,7 @@
 
 use crate::page::Page;
 use crate::streams::{Feed, Limits, Sheet};
-use crate::{board_calls, plan_calls, pool_calls, program_calls, ticket_calls};
+use crate::{board_calls, both_boards, plan_calls, pool_calls, program_calls, ticket_calls};
 use command_io::stream::{Input, Output};
 use command_io::trouble::FAILED;
 use command_words::folder::Folder;
@@ -66,12 +66,39 @@ impl<'a, R: Machine + Threads + Wait + Sync> Folder for Shelf<'a, R> {
     }
 }
 
-/// Does what is asked. A verb writes its answer to `out`, faults too; its status is 0.
+/// The record that is played, if one is.
+fn record_of<'a>(asked: &Asked<'a>) -> &'a [u8] {
+    let mut words = asked.words.iter().skip(1);
+    let command = words.next().map(String::as_str).unwrap_or("");
+    let file = words.next().map(String::as_str).unwrap_or("");
+    match command {
+        "table" | "apply" | "insist" | "replies" | "run" | "moves" | "places" => asked.input,
+        "debug" | "replay" => match asked.files.get(file) {
+            Some(file) => file.as_slice(),
+            None => b"",
+        },
+        _ => b"",
+    }
+}
+
+/// Does what is asked, and tells on `err` where the record that is played comes to two things on the two boards.
 pub fn perform<R: Machine + Threads + Wait + Sync>(
     rt: &R,
     alloc: Global,
     asked: &Asked<'_>,
 ) -> Found {
+    let mut found = answered(rt, alloc, asked);
+    let words = asked.words.get(1..).unwrap_or(&[]);
+    let mut page = Page::new(alloc, words, asked.files, record_of(asked));
+    both_boards::compare(&mut page);
+    if found.err.extend_from_slice(page.text().as_bytes()).is_err() {
+        found.status = FAILED;
+    }
+    found
+}
+
+/// Does what is asked. A verb writes its answer to `out`, faults too; its status is 0.
+fn answered<R: Machine + Threads + Wait + Sync>(rt: &R, alloc: Global, asked: &Asked<'_>) -> Found {
     if !asked.is_verb {
         return run(rt, alloc, asked);
     }
