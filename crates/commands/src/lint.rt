@@ -150,12 +150,9 @@ fn judged(alloc: Global, file: &Content) -> Result<Option<Trouble>, Trouble>
 {
     match plan_of_all(alloc, slice::from_ref(file)) {
         Ok(_) => Ok(None),
-        Err(trouble) => {
-            if matches!(trouble, Trouble::Memory) {
-                return Err(Trouble::Memory);
-            }
-            Ok(Some(trouble))
-        },
+        Err(Trouble::NoFlow(name, fault)) => Ok(Some(Trouble::NoFlow(name, fault))),
+        Err(Trouble::NotPlanned(fault)) => Ok(Some(Trouble::NotPlanned(fault))),
+        Err(_) => Err(Trouble::Memory),
     }
 }
 
@@ -233,11 +230,23 @@ fn text_of(alloc: Global, tolds: &[Told]) -> Result<String, AllocError>
     Ok(text)
 }
 
+/// Whether one of the files is refused.
+fn is_any_refused(tolds: &[Told]) -> bool
+    ensures { result ≡ list_any (λ told. told.0) tolds.now }
+{
+    for told in tolds {
+        if told.is_refused() {
+            return true;
+        }
+    }
+    false
+}
+
 /// The exit status.
 fn status_of(tolds: &[Told]) -> u8
     ensures { result ≡ spec.lint_status tolds.now }
 {
-    if tolds.iter().any(|told| told.is_refused()) {
+    if is_any_refused(tolds) {
         return REFUSED;
     }
     DONE
