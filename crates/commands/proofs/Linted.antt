@@ -1,5 +1,6 @@
 -- Going over the files that are looked at, and telling what comes of them.
-use Rattle.std.proofs.Common.{◌≡◌, ◌<◌, ◌≤◌, ◌+◌, ℕ, List, [], ◌∷◌, ◌++◌, length, drop, get_or, sym, subst, append-nil, append_assoc, Result, Ok, Err, String, Global, refl}
+use Rattle.std.proofs.Common.{◌≡◌, ◌<◌, ◌≤◌, ◌+◌, ℕ, List, [], ◌∷◌, ◌++◌, length, drop, get_or, sym, subst, append-nil, append_assoc, Bool, true, false, Option, Some, None, Result, Ok, Err, String, Global, refl}
+use Rattle.std.proofs.lemmas.Bool.{true≢false}
 use Rattle.std.proofs.lemmas.List.{drop_all}
 use Rattle.command_io.proofs.Told.{IsKept-same}
 use Rattle.command_io.specs.Files.{File, Content, AreRead}
@@ -10,8 +11,16 @@ use Rattle.command_io.specs.declared.stream.SourceFault.{SourceFault}
 use Rattle.command_io.specs.declared.stream.SourceFault.TheVariants as source_fault
 use Rattle.command_io.specs.declared.trouble.Trouble.{Trouble}
 use Rattle.commands.proofs.Flows.{left_at}
-use Rattle.commands.specs.Lint.{Told, IsTold, AreTold, GivesLint, IsLintAnswer, LintTells}
+use Rattle.commands.specs.Lint.{Told, IsTold, IsToldOf, AreTold, Judges, GivesLint, IsLintAnswer, LintTells}
 use Rattle.commands.specs.Replay.{status_of, text_of}
+
+-- what is told of a file by what it comes to is told of it
+pub told_by_judged : (file : Content) (trouble : Option Trouble) (told : Told) → Judges file (Ok trouble) → IsToldOf file trouble told → IsTold file told
+told_by_judged file None (false, text) judged h = record { plan = judged.0; comes = judged.1; hints = h.1.0; is = h.1.1 }
+told_by_judged file None (true, text) judged h = absurd (true≢false h.0)
+told_by_judged file (Some t) (false, text) judged h = absurd (true≢false (sym h.0))
+told_by_judged file (Some t) (true, text) judged h =
+    record { trouble = t; comes_to_none = judged; note = h.1.0; placed = h.1.1.0; hints = h.1.1.1.0; is = h.1.1.1.1 }
 
 -- This is told of the first i files: what is told of the others completes what is told of all.
 pub record GoingFiles (files : List Content) (i : ℕ) (tolds : List Told) : Type 0 where

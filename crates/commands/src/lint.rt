@@ -179,6 +179,7 @@ fn told_by(alloc: Global, file: &Content, trouble: &Option<Trouble>) -> Result<T
 }
 
 /// What is told of a file.
+#[tactic(auto, using(crate::proofs::Linted::told_by_judged))]
 fn told_of(alloc: Global, file: &Content) -> Result<Told, Trouble>
     ensures { spec.FindsTold file.now result }
 {
