@@ -118,7 +118,7 @@ def wrong_text(command, text):
     if command in ("eval", "plan"):
         try:
             value = json.loads(text)
-        except ValueError:
+        except (ValueError, RecursionError):
             return "it printed no JSON"
         if len(lines) != 1 or command == "plan" and value.get("version") != 1:
             return "it printed no line with a value"

@@ -296,7 +296,7 @@ def changed_json(chance, text, often=0.25):
     count = chance.choice((0, 1, 1, 1, 2, 3, 8))
     try:
         value = json.loads(text)
-    except ValueError:
+    except (ValueError, RecursionError):
         return garbled(chance, text)
     if count and isinstance(value, (dict, list)):
         for _ in range(count):
