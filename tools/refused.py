@@ -1,18 +1,12 @@
 #!/usr/bin/env python3
 """Refuses each growth of memory in turn, one a run, and sees what comes of it.
 
-  tools/refused.py ACTRUN CONFORMANCE [WORD]
+  tools/refused.py ACTRUN [WORD]
 
-ACTRUN and CONFORMANCE are the built programs (`rt ci` leaves them in crates/actrun/out and crates/conformance/out); with a
-WORD only the examples with that word in their name are played. For the Nth growth, N of 1 up to all that the program asks for:
-
-  commands      what is told is what is told with memory enough, or `actrun: memory` with status 3; `out` is empty then, but
-                that `debug` has its answers so far and `run` the text so far; a record that `run` wrote can be replayed
-  the lock      (posts) an event, begin, end or move of the clerk that is refused for want of memory changes nothing: done
-                again it gives what it gives with memory enough, and so does all that follows; the board at the end is that of
-                the history
-  the table     (insist) likewise of the events of a table
-  one worker    (alone, pool 1) the play is `Memory`, or what it is with memory enough
+ACTRUN is the built program (`rt ci` leaves it in crates/actrun/out); with a WORD only the examples with that word in their name
+are played. For the Nth growth, N of 1 up to all that the program asks for, what is told is what is told with memory enough, or
+`actrun: memory` with status 3; `out` is empty then, but that `debug` has its answers so far and `run` the text so far; a record
+that `run` wrote can be replayed.
 
 A growth is what the program asks of the C library; a small library, made here by `cc` and loaded before it, refuses the
 Nth, and is not handed on to programs that are started. It prints a line an example and ends with `refused: ..`; the
@@ -21,7 +15,6 @@ status is 1 where anything else came out.
 import concurrent.futures
 import glob
 import os
-import re
 import shutil
 import subprocess
 import sys
@@ -58,9 +51,6 @@ void *realloc(void *block, size_t size) { return refuses() ? NULL : __libc_reall
 void *aligned_alloc(size_t by, size_t size) { return refuses() ? NULL : __libc_memalign(by, size); }
 """
 EXAMPLES = f"{TOP}/examples"
-DATA = f"{TOP}/crates/conformance/data"
-# the examples of the table whose events are played again after each refusal
-EVENTS = ["outcome-and-conclusion", "env-most-specific-wins", "condition-fault-at-begin", "faulting-output-left-out"]
 DEBUGGED = "step\nstep\nbreak failed\nbreak leg 1\ngo\nshow\nback\ngoto 3\nshow\nbreaks\nclear failed\ngo\ngoto 1\nplace\n"
 
 
@@ -69,10 +59,10 @@ class Wrong(Exception):
 
 
 class Programs:
-    """The two programs, and the folder in which all is made."""
+    """The program, and the folder in which all is made."""
 
-    def __init__(self, actrun, conformance, folder):
-        self.actrun, self.conformance, self.folder = os.path.abspath(actrun), os.path.abspath(conformance), folder
+    def __init__(self, actrun, folder):
+        self.actrun, self.folder = os.path.abspath(actrun), folder
         with open(f"{folder}/refuse.c", "w", encoding="utf-8") as it:
             it.write(LIBRARY)
         subprocess.run(["cc", "-shared", "-fPIC", "-O1", "-o", f"{folder}/refuse.so", f"{folder}/refuse.c"], check=True)
@@ -131,98 +121,6 @@ def played(programs, plan):
     return count, refused
 
 
-def blocks_of(file):
-    """The named texts of a file of cases, and its cases with the names under which they stand."""
-    with open(f"{DATA}/{file}", encoding="utf-8") as it:
-        blocks = it.read().split("\n\n")
-    named, cases, name = [], [], ""
-    for block in blocks:
-        named += [line for line in block.split("\n") if re.match(r"[:|] ", line)]
-        for line in block.split("\n"):
-            name = line[2:] if line.startswith("# ") else name
-        if re.search(r"^\? ", block, re.M):
-            cases.append((name, "\n".join(it for it in block.split("\n") if re.match(r"[?~<&+*-] ", it))))
-    return "\n".join(named), cases
-
-
-def lines_of(answer):
-    """What a case printed, which is told as it wants nothing."""
-    _, out, err = answer
-    if err:
-        raise Wrong(f"{err}")
-    return out.decode().split("found, status 0:\n")[-1].split("\n\n")[0].rstrip("\n").split("\n")
-
-
-def example(programs, file, place, text):
-    path = f"{programs.folder}/{os.path.splitext(file)[0]}-{place}.cases"
-    with open(path, "w", encoding="utf-8") as it:
-        # (a line that no case prints, so that each tells what it found)
-        it.write(f"{text}\n> nothing of the kind\n")
-    return [programs.conformance, path]
-
-
-def without(lines, wanted):
-    """The lines without the one that tells of want of memory, if that is all by which they differ from those that are wanted."""
-    rest = [it for it in lines if it not in ("Memory", "refused Memory")]
-    return rest if len(rest) == len(lines) - 1 else wanted if lines == wanted else None
-
-
-def insisted(programs, file, place, named, block):
-    """An example whose calls, where they are refused for want of memory, are made once more."""
-    words = example(programs, file, place, f"{named}\n\n{block}")
-    wanted, count, refused = lines_of(programs.run(words)), programs.growths(words), 0
-    for number in range(1, count + 1):
-        lines = lines_of(programs.run(words, number=number))
-        # (while its plan and record are read, a case is refused as a whole)
-        if lines in (wanted, ["Memory"]):
-            continue
-        if without(lines, wanted) != wanted:
-            raise Wrong(f"growth {number}: {lines}")
-        refused += 1
-    return count, refused
-
-
-def doubled(programs, file, place, named, block):
-    """An example of the lock, each line of which is posted twice: the second answers as the first where that had no memory."""
-    lines = block.split("\n")
-    names = [(at, it.split(" ")[1:]) for at, it in enumerate(lines) if it.startswith("~ ")]
-    for at, (first, *others) in names:
-        lines[at] = " ".join(["~", first, *(name for it in others for name in (it, it))])
-    words = example(programs, file, place, f"{named}\n\n" + "\n".join(lines))
-    wanted, count, refused = lines_of(programs.run(words)), programs.growths(words), 0
-    lines_played = 2 * sum(len(others) for _, (_, *others) in names)
-    for number in range(1, count + 1):
-        lines = lines_of(programs.run(words, number=number))
-        if lines in (wanted, ["Memory"]):
-            continue
-        at = next((at for at, it in enumerate(lines) if "Memory" in it.split()), len(lines))
-        if at >= lines_played or not is_once_more(lines, wanted, at):
-            raise Wrong(f"growth {number}: {lines}")
-        refused += 1
-    return count, refused
-
-
-def is_once_more(lines, wanted, at):
-    """Whether lines differ from those that are wanted in the one pair alone whose first or second call had no memory."""
-    pair = at - at % 2
-    others = lines[:pair] == wanted[:pair] and lines[pair + 2 :] == wanted[pair + 2 :]
-    if at % 2:
-        return others and lines[pair] == wanted[pair]
-    return others and lines[pair + 1] == wanted[pair]
-
-
-def whole(programs, file, place, named, block):
-    """An example of a play, which is refused as a whole or is what it is with memory enough."""
-    words = example(programs, file, place, f"{named}\n\n{block}")
-    wanted, count, refused = lines_of(programs.run(words)), programs.growths(words), 0
-    for number in range(1, count + 1):
-        lines = lines_of(programs.run(words, number=number))
-        if lines != wanted and lines[-1] != "Memory":
-            raise Wrong(f"growth {number}: {lines}")
-        refused += lines != wanted
-    return count, refused
-
-
 def tasks():
     """What is played: a name, and a call that is given the programs."""
     for path in sorted(glob.glob(f"{EXAMPLES}/*.record")):
@@ -240,22 +138,6 @@ def tasks():
     for text in ("format('{0}-{1}', github.ref, toJSON(github))", "contains(github.ref, 'main') && fromJSON('[1,{}]')", "a.*.b", "'"):
         yield f"eval {text}", lambda it, text=text: command(it, ["eval", *contexts, text])
     yield "run greet.plan", lambda it: played(it, f"{EXAMPLES}/greet.plan")
-    for file, verb, do in (
-        ("evaluation.cases", "? apply", insisted),
-        ("locks.cases", "? posts", doubled),
-        ("playing.cases", "? alone", whole),
-        ("pools.cases", "? pool 1\n", whole),
-    ):
-        named, cases = blocks_of(file)
-        for place, (name, block) in enumerate(cases):
-            if block.startswith(verb) and (do is not insisted or name in EVENTS) and not is_of_moves(do, block):
-                again = block.replace("? apply", "? insist")
-                yield f"{block.split(chr(10))[0][2:]} {name}", lambda it, file=file, place=place, named=named, again=again, do=do: do(it, file, place, named, again)
-
-
-def is_of_moves(do, block):
-    """Whether a line of a block, posted twice, does something else the second time."""
-    return do is doubled and ("clerk" in block or "legs" in block or "<" in block)
 
 
 def play(programs, name, call):
@@ -267,12 +149,12 @@ def play(programs, name, call):
 
 
 def main(words):
-    if len(words) not in (2, 3):
+    if len(words) not in (1, 2):
         sys.exit(__doc__)
     folder = tempfile.mkdtemp(prefix="refused-")
     try:
-        programs = Programs(words[0], words[1], folder)
-        chosen = [it for it in tasks() if words[2:] == [] or words[2] in it[0]]
+        programs = Programs(words[0], folder)
+        chosen = [it for it in tasks() if words[1:] == [] or words[1] in it[0]]
         with concurrent.futures.ThreadPoolExecutor(os.cpu_count()) as pool:
             ended = list(pool.map(lambda it: play(programs, *it), chosen))
     finally:
