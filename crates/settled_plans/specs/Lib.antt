@@ -1,0 +1,6 @@
+pub mod Agrees
+pub mod Decided
+pub mod Free
+pub mod Histories
+pub mod Sees
+pub mod Settled

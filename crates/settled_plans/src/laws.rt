@@ -1,0 +1,14 @@
+//! What holds of every board beside what is settled, each the contract of a function that does nothing.
+
+ghost use Rattle.settled_plans.specs.Agrees.{PlaysAsSettled};
+
+use flow_model::laws::rules_hold;
+
+/// On the board after a list of entries without Cancel, of a plan that breaks no rule and in which nothing rests on the
+/// order of events, each step that is done, each leg that is Ended, each job that was judged and each run that is Closed
+/// is as settled, where each call has one answer.
+pub fn boards_agree_with_what_is_settled()
+    ensures { PlaysAsSettled }
+{
+    rules_hold();
+}
