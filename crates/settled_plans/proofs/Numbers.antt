@@ -99,8 +99,8 @@ number_at p b l at plan shape is planned =
 
 -- ---- each leg is found by a number
 
-abbrev pub spot : ℕ → ℕ → ℕ → LegPlace
-spot r j k = record { run = r; job = j; leg = k }
+abbrev pub leg_spot : ℕ → ℕ → ℕ → LegPlace
+leg_spot r j k = record { run = r; job = j; leg = k }
 
 past : (n m : ℕ) → nat_lt (n + m) n ≡ false
 past n m = grind (arith, nat_tests)
@@ -109,21 +109,21 @@ rest : (n m : ℕ) → n + m - n ≡ m
 rest n m = omega arith
 
 found_in_jobs : (r k : ℕ) (jobs : List Job) (j l : ℕ) (job : Job) → slice_get jobs j ≡ Some job → l < length job.legs
-    → (n : ℕ) × (leg_in_jobs r k jobs n ≡ Ok (spot r (k + j) l))
+    → (n : ℕ) × (leg_in_jobs r k jobs n ≡ Ok (leg_spot r (k + j) l))
 found_in_jobs r k [] j l job at within = absurd (no_some job at)
 found_in_jobs r k (x ∷ xs) zero l job at within =
     let less : l < length x.legs = subst (λ (y : Job). l < length y.legs) (sym (same_some x job at)) within in
     let here : nat_lt l (length x.legs) ≡ true = grind (arith, nat_tests, less) in
     let none : k ≡ k + 0 = omega arith in
-    (l, ap (λ c. if c then Ok (spot r k l) else leg_in_jobs r (suc k) xs (l - length x.legs)) here ∙ ap (λ i. Ok (spot r i l)) none)
+    (l, ap (λ c. if c then Ok (leg_spot r k l) else leg_in_jobs r (suc k) xs (l - length x.legs)) here ∙ ap (λ i. Ok (leg_spot r i l)) none)
 found_in_jobs r k (x ∷ xs) (suc j) l job at within =
     let later = found_in_jobs r (suc k) xs j l job at within in
     let more : suc k + j ≡ k + suc j = omega arith in (
       length x.legs + later.0,
-      ap (λ c. if c then Ok (spot r k (length x.legs + later.0)) else leg_in_jobs r (suc k) xs (length x.legs + later.0 - length x.legs)) (past (length x.legs) later.0)
+      ap (λ c. if c then Ok (leg_spot r k (length x.legs + later.0)) else leg_in_jobs r (suc k) xs (length x.legs + later.0 - length x.legs)) (past (length x.legs) later.0)
           ∙ ap (leg_in_jobs r (suc k) xs) (rest (length x.legs) later.0)
           ∙ later.1
-          ∙ ap (λ i. Ok (spot r i l)) more,
+          ∙ ap (λ i. Ok (leg_spot r i l)) more,
     )
 
 -- the number that stands so far beyond the legs of a run
@@ -132,13 +132,13 @@ beyond_jobs r k [] m = (m, refl)
 beyond_jobs r k (x ∷ xs) m =
     let later = beyond_jobs r (suc k) xs m in (
       length x.legs + later.0,
-      ap (λ c. if c then Ok (spot r k (length x.legs + later.0)) else leg_in_jobs r (suc k) xs (length x.legs + later.0 - length x.legs)) (past (length x.legs) later.0)
+      ap (λ c. if c then Ok (leg_spot r k (length x.legs + later.0)) else leg_in_jobs r (suc k) xs (length x.legs + later.0 - length x.legs)) (past (length x.legs) later.0)
           ∙ ap (leg_in_jobs r (suc k) xs) (rest (length x.legs) later.0)
           ∙ later.1,
     )
 
 found_in_runs : (k : ℕ) (runs : List Run) (i j l : ℕ) (run : Run) (job : Job) → slice_get runs i ≡ Some run → slice_get run.jobs j ≡ Some job → l < length job.legs
-    → (n : ℕ) × (leg_place_from k runs n ≡ Some (spot (k + i) j l))
+    → (n : ℕ) × (leg_place_from k runs n ≡ Some (leg_spot (k + i) j l))
 found_in_runs k [] i j l run job at there within = absurd (no_some run at)
 found_in_runs k (x ∷ xs) zero j l run job at there within =
     let here = found_in_jobs k 0 x.jobs j l job (ap (λ (y : Run). slice_get y.jobs j) (same_some x run at) ∙ there) within in
@@ -146,8 +146,8 @@ found_in_runs k (x ∷ xs) zero j l run job at there within =
     let same : k ≡ k + 0 = omega arith in (
       here.0,
       ap (λ o. else_from o (λ left. leg_place_from (suc k) xs left)) here.1
-          ∙ ap (λ i. Some (spot k i l)) none
-          ∙ ap (λ r. Some (spot r j l)) same,
+          ∙ ap (λ i. Some (leg_spot k i l)) none
+          ∙ ap (λ r. Some (leg_spot r j l)) same,
     )
 found_in_runs k (x ∷ xs) (suc i) j l run job at there within =
     let later = found_in_runs (suc k) xs i j l run job at there within in
@@ -156,14 +156,14 @@ found_in_runs k (x ∷ xs) (suc i) j l run job at there within =
       before.0,
       ap (λ o. else_from o (λ left. leg_place_from (suc k) xs left)) before.1
           ∙ later.1
-          ∙ ap (λ r. Some (spot r j l)) more,
+          ∙ ap (λ r. Some (leg_spot r j l)) more,
     )
 
 -- the place that its number tells is that of a leg
 pub place_at : (p : Plan) (b : Board) (r j l : ℕ) (plan : RunPlan) (run : Run) (job : Job) → HasShape p b → slice_get p.runs r ≡ Some plan → slice_get b.runs r ≡ Some run
-    → slice_get run.jobs j ≡ Some job → l < length job.legs → leg_place b (before_run r p.runs + (before_job j plan.jobs + l)) ≡ Some (spot r j l)
+    → slice_get run.jobs j ≡ Some job → l < length job.legs → leg_place b (before_run r p.runs + (before_job j plan.jobs + l)) ≡ Some (leg_spot r j l)
 place_at p b r j l plan run job shape planned in_board there within =
     let found = found_in_runs 0 b.runs r j l run job in_board there within in
     let none : 0 + r ≡ r = omega arith in
-    let place : leg_place b found.0 ≡ Some (spot r j l) = found.1 ∙ ap (λ i. Some (spot i j l)) none in
-    ap (leg_place b) (sym (number_at p b found.0 (spot r j l) plan shape place planned)) ∙ place
+    let place : leg_place b found.0 ≡ Some (leg_spot r j l) = found.1 ∙ ap (λ i. Some (leg_spot i j l)) none in
+    ap (leg_place b) (sym (number_at p b found.0 (leg_spot r j l) plan shape place planned)) ∙ place
