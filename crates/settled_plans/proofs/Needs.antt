@@ -2,11 +2,11 @@
 use Rattle.std.proofs.Common.{◌≡◌, ℕ, zero, suc, ◌+◌, ◌-◌, ◌<◌, ◌≤◌, ◌&&◌, ◌||◌, Bool, true, false, not, List, [], ◌∷◌, Option, Some, None, Ok, option_map, length, map, take, slice_get, nat_le, nat_lt, if◌then◌else◌, is_some, ap, subst, sym, refl, ◌∙◌, arith}
 use Rattle.std.specs.List.{list_all, list_any, filter_map, AllZip}
 use Rattle.std.proofs.lemmas.Bool.{true≢false, leb-true, le-leb}
-use Rattle.std.proofs.lemmas.List.{length-take-le}
+use Rattle.std.proofs.lemmas.List.{length-take-le, length-map}
 use Rattle.std.proofs.lemmas.Option.{slice_get-map, slice_get_within}
 use Rattle.board_decisions.specs.Contexts.{object, first_number, needed_job, need_pair, needs_value, job_outputs}
 use Rattle.board_decisions.specs.Decisions.{job_condition}
-use Rattle.board_decisions.specs.Derived.{is_success, is_failure, is_closed, holds, holds_at, places_needed, needs_at, some_ancestor, any_ancestor, needs_have_ended, status_by, ancestors_status, job_status, job_has_ended, job_result, job_results}
+use Rattle.board_decisions.specs.Derived.{is_success, is_failure, is_closed, holds, holds_at, places_needed, needs_at, some_ancestor, any_ancestor, needs_have_ended, status_by, ancestors_status, job_status, job_has_ended, jobs_have_ended, job_result, job_results}
 use Rattle.board_decisions.specs.Place.{◌>>=◌, JobAt}
 use Rattle.board_decisions.specs.declared.place.JobPlace.{JobPlace}
 use Rattle.expr_value.specs.declared.status.Status.{Status}
@@ -25,14 +25,14 @@ use Rattle.flow_model.specs.declared.plan.Plan.{Plan}
 use Rattle.flow_model.specs.declared.plan.RunPlan.{RunPlan}
 use Rattle.flow_model.specs.declared.reply.StepCall.{StepCall}
 use Rattle.settled_plans.specs.Free.{JobIsFree, RunIsFree}
-use Rattle.settled_plans.specs.Settled.{Answers, SettledJob, result_of, outputs_of_job, first_in_run, need_pair_of, need_at, needs_of, has_result, result_passes, needs_given, status_after, condition_after, job_settled}
+use Rattle.settled_plans.specs.Settled.{Answers, SettledJob, all_given, result_of, outputs_of_job, first_in_run, need_pair_of, need_at, needs_of, has_result, result_passes, needs_given, status_after, condition_after, job_settled}
 use Rattle.status_table.specs.Ends.{EndOnce}
 use Rattle.status_table.specs.Lawful.{JobFits, RunFits}
 use Rattle.status_table.specs.Shape.{JobShape, RunShape, HasShape}
 use Rattle.text_values.specs.Env.{laid_over}
 use Rattle.board_decisions.proofs.Lists.{and-left, and-right, and-both}
 use Rattle.status_table.proofs.Counts.{zip-left}
-use Rattle.status_table.proofs.Lists.{same_some, no_some, zip-get, zip-length}
+use Rattle.status_table.proofs.Lists.{same_some, no_some, zip-get, zip-length, all-get}
 use Rattle.settled_plans.proofs.Ends.{JobEnded, job_ended, was_judged}
 use Rattle.settled_plans.proofs.Lists.{get-take, all-by, any-where, any-map, map-filter_map, filter_map-where}
 use Rattle.settled_plans.proofs.Numbers.{before_run, before_job}
@@ -65,6 +65,14 @@ both-all s t [] h k = refl
 both-all s t (x ∷ xs) h k =
     and-both (s x && t x) (list_all (λ y. s y && t y) xs) (and-both (s x) (t x) (and-left (s x) (list_all s xs) h) (and-left (t x) (list_all t xs) k))
     (both-all s t xs (and-right (s x) (list_all s xs) h) (and-right (t x) (list_all t xs) k))
+
+all-given : {A : Type 0} (xs : List (Option A)) (ys : List A) → length xs ≡ length ys → ((i : ℕ) (y : A) → slice_get ys i ≡ Some y → slice_get xs i ≡ Some (Some y)) → all_given xs ≡ Some ys
+all-given [] [] same h = refl
+all-given [] (y ∷ ys) same h = absurd (omega (arith, same))
+all-given (x ∷ xs) [] same h = absurd (omega (arith, same))
+all-given {A} (x ∷ xs) (y ∷ ys) same h =
+    let here : x ≡ Some y = same_some x (Some y) (h 0 y refl) in
+    ap (λ (o : Option A). all_given (o ∷ xs)) here ∙ ap (option_map (λ (zs : List A). y ∷ zs)) (all-given xs ys (omega (arith, same)) (λ i z is. h (suc i) z is))
 
 judged-or : (s : JobState) → (s ≡ job_state.Unjudged → ⊥) → is_judged s ≡ true
 judged-or job_state.Unjudged h = absurd (h refl)
@@ -172,6 +180,27 @@ module _ (p : Plan) (b : Board) (answers : Answers) (calls : ℕ → Option Step
           ∙ any-where (ready k) (λ need. on (need - first)) (λ need. of_given (need - first)) job.needs one (h job is)
           ∙ sym (any-map of_given (λ need. need - first) job.needs)
           ∙ sym (ap (λ o. list_any of_given (places_needed first o)) is)
+
+  -- ---- a run whose jobs have ended
+
+  pub each_result : jobs_have_ended run ≡ true → all_given (map result_of settled_jobs) ≡ Some (job_results run)
+  each_result all = all-given (map result_of settled_jobs) (job_results run) sizes one
+    where
+      sizes : length (map result_of settled_jobs) ≡ length (job_results run)
+      sizes =
+          length-map settled_jobs result_of ∙ jobs_size answers plan (before_run r p.runs) [] plan.jobs ∙ zip-length JobShape plan.jobs run.jobs shape_here ∙ sym (length-map run.jobs (job_result run))
+
+      there : (i : ℕ) (o : Option Job) → slice_get run.jobs i ≡ o → (y : Outcome) → option_map (job_result run) o ≡ Some y → slice_get (map result_of settled_jobs) i ≡ Some (Some y)
+      there i None is y h = absurd (no_some y h)
+      there i (Some job) is y h =
+          let passes : holds_at ended i ≡ true = ap holds (slice_get-map (job_has_ended run) run.jobs i ∙ ap (option_map (job_has_ended run)) is) ∙ all-get (job_has_ended run) run.jobs i job is all in
+          let at = ended_at i passes in
+          let same : at.job_there ≡ job = same_some at.job_there job (sym at.is_there ∙ is) in
+          slice_get-map result_of settled_jobs i ∙ ap (option_map result_of) at.is_given
+          ∙ ap (λ (o : Option Outcome). Some o) (at.comes.result ∙ ap (λ (x : Job). Some (job_result run x)) same ∙ h)
+
+      one : (i : ℕ) (y : Outcome) → slice_get (job_results run) i ≡ Some y → slice_get (map result_of settled_jobs) i ≡ Some (Some y)
+      one i y h = there i (slice_get run.jobs i) refl y (sym (slice_get-map (job_result run) run.jobs i) ∙ h)
 
   -- ---- a job whose needs have ended
   module _ (j : ℕ) (job : JobPlan) (is : slice_get plan.jobs j ≡ Some job) (h : needs_have_ended (job.number - j) run job ≡ true) where
