@@ -1,8 +1,13 @@
+pub mod Agreeing
 pub mod Changes
 pub mod Ends
+pub mod InPlay
+pub mod Kept
+pub mod LegEvents
 pub mod Lists
 pub mod Needs
 pub mod Numbers
 pub mod Outputs
 pub mod Played
+pub mod RunEvents
 pub mod Seen

@@ -2,7 +2,7 @@
 
 ghost use Rattle.settled_plans.specs.Agrees.{PlaysAsSettled};
 
-use flow_model::laws::rules_hold;
+use flow_model::laws::{needs_point_back, rules_hold};
 
 /// On the board after a list of entries without Cancel, of a plan that breaks no rule and in which nothing rests on the
 /// order of events, each step that is done, each leg that is Ended, each job that was judged and each run that is Closed
@@ -10,5 +10,6 @@ use flow_model::laws::rules_hold;
 pub fn boards_agree_with_what_is_settled()
     ensures { PlaysAsSettled }
 {
+    needs_point_back();
     rules_hold();
 }
