@@ -33,7 +33,8 @@ use Rattle.settled_plans.specs.Settled.{Answers, SettledLeg, SettledJob, shut, o
 use Rattle.status_table.specs.Runs.{new_leg, new_job, new_run, new_board, after}
 use Rattle.status_table.specs.Shape.{JobShape, RunShape}
 use Rattle.status_table.proofs.Counts.{zip-left}
-use Rattle.status_table.proofs.Lawfulness.{new_lawful, new_board_fits}
+use Rattle.status_table.proofs.Lawfulness.{new_lawful}
+use Rattle.status_table.proofs.Legal.{new_fits}
 use Rattle.status_table.proofs.Lists.{same_some, no_some, zip-length}
 use Rattle.settled_plans.proofs.Ends.{leg_is}
 use Rattle.settled_plans.proofs.InPlay.{Stands, IsFit}
@@ -138,13 +139,14 @@ front answers spot done [] = ([], sym (append-none done))
 front answers spot done (step ∷ steps) = by (next_done answers spot done step) (λ next. front answers spot (done ++ next ∷ []) steps)
   where
     by : (o : Option DoneStep) → ((next : DoneStep) → (more : List DoneStep) × (steps_from answers spot (done ++ next ∷ []) steps ≡ (done ++ next ∷ []) ++ more))
-        → (more : List DoneStep) × (steps_then answers spot done steps o ≡ done ++ more)
+        → (more : List DoneStep) × (steps_then done o (λ next. steps_from answers spot (done ++ next ∷ []) steps) ≡ done ++ more)
     by None later = ([], sym (append-none done))
     by (Some next) later = let x = later next in (next ∷ x.0, x.1 ∙ append-assoc done next x.0)
 
 -- ---- how each part agrees
 
 leg_agrees : (answers : Answers) (spot : Spot) (call : Option StepCall) (leg : Leg) → LegPlayed answers spot call leg → LegAgrees (leg_settled answers spot) leg
+unfolding leg_settled
 leg_agrees answers spot call leg played = record {
   steps = steps;
   ended = λ result tolerated is.
@@ -153,7 +155,6 @@ leg_agrees answers spot call leg played = record {
 }
   where
     steps : leg.steps ≡ take (length leg.steps) (leg_settled answers spot).steps
-    unfolding leg_settled
     steps =
         let more = front answers spot leg.steps (drop (length leg.steps) spot.job.steps) in
         sym (ap (take (length leg.steps)) (sym played.goes_on ∙ more.1) ∙ take-append_seam leg.steps more.0)
@@ -161,24 +162,18 @@ leg_agrees answers spot call leg played = record {
 job_agrees : (answers : Answers) (run : RunPlan) (before : List SettledJob) (first : ℕ) (plan : JobPlan) (calls : ℕ → Option StepCall) (job : Job) → length job.legs ≡ length plan.legs
     → JobPlayed answers run before first plan calls job → JobAgrees (job_settled answers run first before plan) job
 job_agrees answers run before first plan calls job size played = record {
-  when_shut = λ result is. subst (λ s. StateStands (job_settled answers run first before plan) legs s) is played.state;
+  when_shut = λ result is. subst (λ s. StateStands (job_settled answers run first before plan) (legs_settled answers run plan (needs_of run before plan) first) s) is played.state;
   when_open = λ is. (
-    legs,
-    subst (λ s. StateStands (job_settled answers run first before plan) legs s) is played.state,
-    zip-each LegAgrees legs job.legs (legs_size answers run plan needs first 0 plan.legs ∙ sym size) (λ i given leg at there.
+    legs_settled answers run plan (needs_of run before plan) first,
+    subst (λ s. StateStands (job_settled answers run first before plan) (legs_settled answers run plan (needs_of run before plan) first) s) is played.state,
+    zip-each LegAgrees (legs_settled answers run plan (needs_of run before plan) first) job.legs (legs_size answers run plan (needs_of run before plan) first 0 plan.legs ∙ sym size) (λ i given leg at there.
     let none : i ≡ 0 + i = omega arith in
     subst (λ (x : SettledLeg). LegAgrees x leg)
-    (ap (λ n. leg_settled answers (spot_at run plan needs first n)) none ∙ leg_item answers run plan needs first 0 plan.legs i given at)
-    (leg_agrees answers (spot_at run plan needs first i) (calls (first + i)) leg (played.legs i leg there))),
+    (ap (λ n. leg_settled answers (spot_at run plan (needs_of run before plan) first n)) none ∙ leg_item answers run plan (needs_of run before plan) first 0 plan.legs i given at)
+    (leg_agrees answers (spot_at run plan (needs_of run before plan) first i) (calls (first + i)) leg (played.legs i leg there))),
   );
   else_untouched = λ unopened k leg is. ap (λ (x : Leg). x.steps) (played.untouched unopened k leg is);
 }
-  where
-    abbrev needs : Plain
-    needs = needs_of run before plan
-
-    abbrev legs : List SettledLeg
-    legs = legs_settled answers run plan needs first
 
 run_agrees : (answers : Answers) (first : ℕ) (plan : RunPlan) (calls : ℕ → Option StepCall) (run : Run) → AllZip JobShape plan.jobs run.jobs
     → RunPlayed answers first plan calls run → RunAgrees (run_settled answers first plan) run
@@ -208,6 +203,6 @@ pub plays_as_settled : NeedsPointBack → ((p : Plan) → IsPlan p → SoundPlan
     → LeadsTo p answers es b → Agrees (settled p answers) b
 plays_as_settled back sound p rules free answers es b led =
     let start : Stands p answers (λ l. None) (new_board p) =
-    record { fits = new_board_fits p; lawful = new_lawful p (sound p rules); played = new_played p answers (λ l. None) } in
+    record { fits = new_fits p; lawful = new_lawful p (sound p rules); played = new_played p answers (λ l. None) } in
     let end = after_stands p (record { rules = rules; back = back; free = free }) answers es (λ l. None) (new_board p) b start led.leads led.answered in
     stands_agrees p answers end.0 b end.1

@@ -123,6 +123,12 @@ module _ (p : Plan) (b : Board) (answers : Answers) (calls later : ℕ → Optio
   abbrev in_run_leg : Run → Run
   in_run_leg run = record run { jobs = changed run.jobs at.job in_job }
 
+  abbrev before : RunPlan → List SettledJob
+  before plan = take at.job (jobs_of answers (before_run at.run p.runs) plan)
+
+  abbrev first : RunPlan → ℕ
+  first plan = before_run at.run p.runs + before_job at.job plan.jobs
+
   -- the call of a leg elsewhere is the same
   elsewhere : (r j k : ℕ) (plan : RunPlan) (run : Run) (job : Job) (leg : Leg) → slice_get p.runs r ≡ Some plan → slice_get b.runs r ≡ Some run → slice_get run.jobs j ≡ Some job
       → slice_get job.legs k ≡ Some leg → (leg_spot r j k ≡ at → ⊥) → calls (before_run r p.runs + before_job j plan.jobs + k) ≡ later (before_run r p.runs + before_job j plan.jobs + k)
@@ -142,17 +148,11 @@ module _ (p : Plan) (b : Board) (answers : Answers) (calls later : ℕ → Optio
         (λ x there. absurd (true≢false (sym (here plan run job_plan job x planned in_board in_plan in_run there).0 ∙ shut)))
         (λ i x _ there. had.untouched shut i x there) k leg is;
     legs = λ k leg is.
-        each-changed (λ i x. LegPlayed answers (spot_at plan job_plan (needs_of plan before job_plan) first i) (later (first + i)) x) job.legs at.leg f
+        each-changed (λ i x. LegPlayed answers (spot_at plan job_plan (needs_of plan (before plan) job_plan) (first plan) i) (later (first plan + i)) x) job.legs at.leg f
         (λ x there. (here plan run job_plan job x planned in_board in_plan in_run there).1)
-        (λ i x n there. subst (λ (c : Option StepCall). LegPlayed answers (spot_at plan job_plan (needs_of plan before job_plan) first i) c x)
+        (λ i x n there. subst (λ (c : Option StepCall). LegPlayed answers (spot_at plan job_plan (needs_of plan (before plan) job_plan) (first plan) i) c x)
         (elsewhere at.run at.job i plan run job x planned in_board in_run there (λ e. n (ap (λ (s : LegPlace). s.leg) e))) (had.legs i x there)) k leg is;
   }
-    where
-      abbrev before : List SettledJob
-      before = take at.job (jobs_of answers (before_run at.run p.runs) plan)
-
-      abbrev first : ℕ
-      first = before_run at.run p.runs + before_job at.job plan.jobs
 
   run_leg_put : (plan : RunPlan) (run : Run) → slice_get p.runs at.run ≡ Some plan → slice_get b.runs at.run ≡ Some run → RunStays run (in_run_leg run)
       → RunPlayed answers (before_run at.run p.runs) plan calls run → RunPlayed answers (before_run at.run p.runs) plan later (in_run_leg run)
@@ -160,10 +160,10 @@ module _ (p : Plan) (b : Board) (answers : Answers) (calls later : ℕ → Optio
     stop = had.stop;
     group = had.group;
     jobs = λ j job_plan job in_plan is. each-changed
-        (λ i x. (q : JobPlan) → slice_get plan.jobs i ≡ Some q → JobPlayed answers plan (take i (jobs_of answers first plan)) (first + before_job i plan.jobs) q later x)
+        (λ i x. (q : JobPlan) → slice_get plan.jobs i ≡ Some q → JobPlayed answers plan (take i (jobs_of answers (before_run at.run p.runs) plan)) (before_run at.run p.runs + before_job i plan.jobs) q later x)
         run.jobs at.job in_job
         (λ x there q at_q. job_leg_put plan run q x planned in_board at_q there (had.jobs at.job q x at_q there))
-        (λ i x n there q at_q. job_calls answers plan (take i (jobs_of answers first plan)) (first + before_job i plan.jobs) q calls later x
+        (λ i x n there q at_q. job_calls answers plan (take i (jobs_of answers (before_run at.run p.runs) plan)) (before_run at.run p.runs + before_job i plan.jobs) q calls later x
         (λ k leg in_legs. elsewhere at.run i k plan run x leg planned in_board there in_legs (λ e. n (ap (λ (s : LegPlace). s.job) e))) (had.jobs i q x at_q there))
         j job is job_plan in_plan;
     needs = λ j job_plan job in_plan is was. needs-later (job_plan.number - j) run (in_run_leg run) job_plan stay (each-changed
@@ -171,9 +171,6 @@ module _ (p : Plan) (b : Board) (answers : Answers) (calls later : ℕ → Optio
         run.jobs at.job in_job (λ x there q at_q. had.needs at.job q x at_q there) (λ i x _ there q at_q. had.needs i q x at_q there) j job is job_plan in_plan was);
     closed = had.closed;
   }
-    where
-      abbrev first : ℕ
-      first = before_run at.run p.runs
 
   pub leg_put : Played answers p later new.runs
   leg_put k plan run planned is =

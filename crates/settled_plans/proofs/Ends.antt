@@ -75,10 +75,10 @@ record EndedAs (answers : Answers) (spot : Spot) (leg : Leg) : Type 0 where
   empty : spot.job.outputs ≡ [] → leg.outputs ≡ []
 
 ended_as : (answers : Answers) (spot : Spot) (call : Option StepCall) (leg : Leg) → LegPlayed answers spot call leg → is_ended leg.state ≡ true → EndedAs answers spot leg
+unfolding finish_of
 ended_as answers spot call leg played ended = by leg.state refl ended
   where
     outputs : (result : Outcome) (tolerated : Bool) → finish_of spot leg.steps ≡ record { result = result; tolerated = tolerated; outputs = leg.outputs } → spot.job.outputs ≡ [] → leg.outputs ≡ []
-    unfolding finish_of
     outputs result tolerated is none = ap (λ (x : Finish). x.outputs) (sym is) ∙ empty_outputs (seen_after spot leg.steps) spot.run spot.job none
 
     by : (s : LegState) → leg.state ≡ s → is_ended s ≡ true → EndedAs answers spot leg

@@ -105,21 +105,22 @@ abbrev AnsweredFrom : Plan → Answers → Board → (ℕ → Option StepCall) �
 AnsweredFrom p answers b calls es =
     (k : ℕ) (e : Entry) → slice_get es k ≡ Some e → IsAnswered answers (λ l. call_from p b l (calls l) (take k es)) e.event
 
-after_stands : (p : Plan) (fit : IsFit p) (answers : Answers) (es : List Entry) (calls : ℕ → Option StepCall) (b c : Board) → Stands p answers calls b
+pub after_stands : (p : Plan) (fit : IsFit p) (answers : Answers) (es : List Entry) (calls : ℕ → Option StepCall) (b c : Board) → Stands p answers calls b
     → after_from p b es ≡ Some c → AnsweredFrom p answers b calls es → (later : ℕ → Option StepCall) × Stands p answers later c
 after_stands p fit answers [] calls b c stands h ok = (calls, subst (Stands p answers calls) (same_some b c h) stands)
 after_stands p fit answers (e ∷ es) calls b c stands h ok =
-    step (row p b e.worker e.event) refl (row_keeps p b e.worker e.event) (row_leads p b e.worker e.event stands.fits.shape)
+    step (λ cs d. after_stands p fit answers es cs d c) (row p b e.worker e.event) refl (row_keeps p b e.worker e.event) (row_leads p b e.worker e.event stands.fits.shape)
     (row_goes p fit answers calls b stands e.worker e.event (ok 0 e refl)) h
   where
-    step : (r : Row) → row p b e.worker e.event ≡ r → Keeps p b r → Leads p b r → Goes p answers calls b e.event r → then_after r (λ next. after_from p next es) ≡ Some c
+    step : ((cs : ℕ → Option StepCall) (d : Board) → Stands p answers cs d → after_from p d es ≡ Some c → AnsweredFrom p answers d cs es → (later : ℕ → Option StepCall) × Stands p answers later c)
+        → (r : Row) → row p b e.worker e.event ≡ r → Keeps p b r → Leads p b r → Goes p answers calls b e.event r → then_after r (λ next. after_from p next es) ≡ Some c
         → (later : ℕ → Option StepCall) × Stands p answers later c
-    step (Err f) is keeps leads goes k = absurd (no_some c k)
-    step (Ok x) is keeps leads goes k =
+    step more (Err f) is keeps leads goes k = absurd (no_some c k)
+    step more (Ok x) is keeps leads goes k =
         let led = leads stands.lawful in
-        after_stands p fit answers es (λ l. call_after l (calls l) e.event x.1.what) x.0 c
+        more (λ l. call_after l (calls l) e.event x.1.what) x.0
         (record { fits = keeps stands.fits; lawful = led.lawful; played = goes led.stays }) k
         (λ i e' there. subst (λ (cs : ℕ → Option StepCall). IsAnswered answers cs e'.event) (from i) (ok (suc i) e' there))
       where
-        from : (i : ℕ) → (λ l. call_from p b l (calls l) (e ∷ take i es)) ≡ (λ l. call_from p x.0 l (call_after l (calls l) e.event x.1.what) (take i es))
+        from : (i : ℕ) → ◌≡◌ {A = ℕ → Option StepCall} (λ l. call_from p b l (calls l) (e ∷ take i es)) (λ l. call_from p x.0 l (call_after l (calls l) e.event x.1.what) (take i es))
         from i = λ t l. then_call (is t) (λ next told. call_from p next l (call_after l (calls l) e.event told) (take i es))

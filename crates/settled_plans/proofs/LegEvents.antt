@@ -1,5 +1,5 @@
 -- The events of legs keep what is played as settled.
-use Rattle.std.proofs.Common.{◌≡◌, ◌≢◌, ℕ, suc, ◌+◌, ◌<◌, ◌≤◌, ◌==◌, ◌&&◌, ◌++◌, Bool, true, false, not, List, [], ◌∷◌, Option, Some, None, Result, Ok, Err, length, take, drop, slice_get, nat_le, nat_lt, if◌then◌else◌, ap, subst, sym, refl, ◌∙◌, arith}
+use Rattle.std.proofs.Common.{◌≡◌, ◌≢◌, ℕ, zero, suc, ◌+◌, ◌<◌, ◌≤◌, ◌==◌, ◌&&◌, ◌++◌, Bool, true, false, not, List, [], ◌∷◌, Option, Some, None, Result, Ok, Err, option_map, length, take, drop, slice_get, nat_le, nat_lt, if◌then◌else◌, ap, subst, sym, refl, ◌∙◌, arith}
 use Rattle.std.proofs.lemmas.Bool.{true≢false, leb-true}
 use Rattle.std.proofs.lemmas.Bool.Decides.{nat_tests}
 use Rattle.std.proofs.lemmas.List.{length-append}
@@ -38,7 +38,7 @@ use Rattle.status_table.specs.declared.fault.EventFault.TheVariants as fault
 use Rattle.status_table.specs.Calls.{called, call_after}
 use Rattle.status_table.specs.Change.{changed, with_leg}
 use Rattle.status_table.specs.Groups.{holding, leg_stands, leg_standing, admitted, moved, enters, leaves, dropped, next_after, passed_on}
-use Rattle.status_table.specs.Row.{Row, Beginning, calls, skips, faults}
+use Rattle.status_table.specs.Row.{Row}
 use Rattle.status_table.specs.Row as rows
 use Rattle.status_table.specs.Shape.{has_room, open_calls, JobShape, RunShape}
 use Rattle.status_table.specs.Stays.{Stays}
@@ -84,7 +84,7 @@ one_more answers spot done step next planned given so_far =
     let size : length (done ++ next ∷ []) ≡ suc (length done) = omega (arith, more) in
     let rest : drop (length done) spot.job.steps ≡ step ∷ drop (suc (length done)) spot.job.steps = next-drop spot.job.steps (length done) step planned in
     ap (λ n. steps_from answers spot (done ++ next ∷ []) (drop n spot.job.steps)) size
-    ∙ sym (ap (λ (steps : List StepPlan). steps_from answers spot done steps) rest ∙ ap (steps_then answers spot done (drop (suc (length done)) spot.job.steps)) given)
+    ∙ sym (ap (λ (steps : List StepPlan). steps_from answers spot done steps) rest ∙ ap (λ (o : Option DoneStep). steps_then done o (λ x. steps_from answers spot (done ++ x ∷ []) (drop (suc (length done)) spot.job.steps))) given)
     ∙ so_far
 
 module _ (p : Plan) (fit : IsFit p) (answers : Answers) (open_calls' : ℕ → Option StepCall) (b : Board) (stands : Stands p answers open_calls' b) (l : ℕ) (at : LegAt)
@@ -288,6 +288,12 @@ module _ (p : Plan) (fit : IsFit p) (answers : Answers) (open_calls' : ℕ → O
   in_call (leg_state.Running worker false) owner call h calling = absurd (no_some owner h)
   in_call (leg_state.Ended result tolerated) owner call h calling = absurd (no_some owner h)
 
+  next_is : (a : Answer) (step : StepPlan) (call : StepCall) → next_call mine at.leg.steps step ≡ Ok (Some call) → (next : DoneStep) → answers call ≡ Some a
+      → answered mine at.leg.steps step a ≡ next → next_done answers mine at.leg.steps step ≡ Some next
+  unfolding next_done
+  next_is a step call e next given same =
+      ap (step_by answers mine at.leg.steps step) e ∙ ap (option_map (answered mine at.leg.steps step)) given ∙ ap (λ (x : DoneStep). Some x) same
+
   pub end_goes : (worker : ℕ) (a : Answer) → ((call : StepCall) → open_calls' l ≡ Some call → answers call ≡ Some a)
       → Goes p answers open_calls' b (event.End l a) (rows.end_leg b worker at (rows.ending worker at a))
   end_goes worker a answer = by_owner (rows.calling_owner at.leg.state) refl
@@ -301,17 +307,7 @@ module _ (p : Plan) (fit : IsFit p) (answers : Answers) (open_calls' : ℕ → O
           let same : answered mine at.leg.steps call.step a ≡ rows.answered_step at a = sym (ended_so calling.1 call.step call.planned a) in
           done_more (λ n. call_after n (open_calls' n) (event.End l a) what.Moved) (λ n differs. sym (ap (λ c. if c then None else open_calls' n) (other_number n differs))) worker call.step
           (rows.answered_step at a) calling.1 call.planned
-          (next_is call.step call.asked call.is_next (rows.answered_step at a) given same)
-        where
-          next_is : (step : StepPlan) (call : StepCall) → next_call mine at.leg.steps step ≡ Ok (Some call) → (next : DoneStep) → answers call ≡ Some a → answered mine at.leg.steps step a ≡ next
-              → next_done answers mine at.leg.steps step ≡ Some next
-          unfolding next_done
-          next_is step call e next given same =
-              ap (step_by answers mine at.leg.steps step) e ∙ ap (λ (o : Option Answer). step_answered step o) given ∙ ap (λ (x : DoneStep). Some x) same
-            where
-              step_answered : StepPlan → Option Answer → Option DoneStep
-              step_answered s None = None
-              step_answered s (Some x) = Some (answered mine at.leg.steps s x)
+          (next_is a call.step call.asked call.is_next (rows.answered_step at a) given same)
 
       by_owner : (owner : Option ℕ) → rows.calling_owner at.leg.state ≡ owner → Goes p answers open_calls' b (event.End l a) (rows.end_leg b worker at (rows.ending_by worker at a owner))
       by_owner None was = tt
@@ -323,6 +319,17 @@ module _ (p : Plan) (fit : IsFit p) (answers : Answers) (open_calls' : ℕ → O
           by false false = ends owner was
 
   -- ---- Finish
+
+  abbrev made : Outcome → Bool → Env → Finish
+  made result tolerated outputs = record { result = result; tolerated = tolerated; outputs = outputs }
+
+  finished : is_under_way at.leg.state ≡ true → made (leg_result at) (is_failure (leg_result at) && job_tolerates at) (leg_outputs at) ≡ finish_of mine at.leg.steps
+  unfolding finish_of
+  finished under =
+      ap (λ r. made r (is_failure r && job_tolerates at) (leg_outputs at)) (calm under)
+      ∙ ap (λ t. made (counts at.leg.steps) t (leg_outputs at)) (tolerated_is l at (calm under) (counts at.leg.steps))
+      ∙ ap (λ (o : Env). made (counts at.leg.steps) (leg_passes (seen_after (spot_of l at) at.leg.steps) at.job_plan (counts at.leg.steps)) o) (outputs_are l at (calm under))
+      ∙ ap (λ (x : Spot). finish_of x at.leg.steps) (seen_so under)
 
   pub finish_goes : (worker : ℕ) → Goes p answers open_calls' b (event.Finish l) (rows.finish_leg b l at (rows.finishing worker at))
   finish_goes worker = by_owner (rows.idle_owner at.leg.state) refl
@@ -338,22 +345,6 @@ module _ (p : Plan) (fit : IsFit p) (answers : Answers) (open_calls' : ℕ → O
           let few = leb-true (length at.leg.steps + open_calls at.leg.state) (length at.job_plan.steps) had in
           omega (arith, few)
 
-      made : Outcome → Bool → Env → Finish
-      made result tolerated outputs = record { result = result; tolerated = tolerated; outputs = outputs }
-
-      finished : is_under_way at.leg.state ≡ true → made (leg_result at) (is_failure (leg_result at) && job_tolerates at) (leg_outputs at) ≡ finish_of mine at.leg.steps
-      unfolding made finish_of
-      finished under =
-          ap (λ r. made r (is_failure r && job_tolerates at) (leg_outputs at)) (calm under)
-          ∙ ap (λ t. made (counts at.leg.steps) t (leg_outputs at)) (tolerated_is l at (calm under) (counts at.leg.steps))
-          ∙ ap (λ (o : Env). made (counts at.leg.steps) (leg_passes (seen_after (spot_of l at) at.leg.steps) at.job_plan (counts at.leg.steps)) o) (outputs_are l at (calm under))
-          ∙ ap (λ (x : Spot). finish_of x at.leg.steps) (seen_so under)
-
-      is_made : (owner : ℕ) → rows.idle_owner at.leg.state ≡ Some owner
-          → finish_of mine at.leg.steps ≡ record { result = leg_result at; tolerated = is_failure (leg_result at) && job_tolerates at; outputs = leg_outputs at }
-      unfolding made
-      is_made owner was = sym (finished (idle-holds at.leg.state owner was).under)
-
       same_ends : (r s : Outcome) (t u : Bool) → leg_state.Ended r t ≡ leg_state.Ended s u → (r ≡ s) × (t ≡ u)
       same_ends r s t u h = (cc, cc)
 
@@ -365,7 +356,7 @@ module _ (p : Plan) (fit : IsFit p) (answers : Answers) (open_calls' : ℕ → O
           let left : length at.job_plan.steps ≤ length at.leg.steps = grind (arith, nat_tests, all) in
           let had = room in
           let whole : length at.leg.steps ≡ length at.job_plan.steps = omega (arith, left, had) in
-          let finish : finish_of mine at.leg.steps ≡ record { result = leg_result at; tolerated = is_failure (leg_result at) && job_tolerates at; outputs = leg_outputs at } = is_made owner was in
+          let finish : finish_of mine at.leg.steps ≡ record { result = leg_result at; tolerated = is_failure (leg_result at) && job_tolerates at; outputs = leg_outputs at } = sym (finished (idle-holds at.leg.state owner was).under) in
           subst (λ (x : Board × Reply). Goes p answers open_calls' b (event.Finish l) (Ok x)) (sym (alone new owner was))
           (put open_calls' (λ x. record x { state = state; outputs = leg_outputs at }) new refl (λ n _. refl) (live (idle-holds at.leg.state owner was).under).opened (record {
             stop = played.stop;

@@ -96,7 +96,7 @@ none-counted f n (x ∷ xs) h k = elim (cases_eq x n) as (λ _. filter_map f (x 
   | inl e ↦
       let all = sum_by-cons (λ y. cond (y == n) 1 0) x xs in
       let here : (x == n) ≡ true = grind (arith, nat_tests, e) in
-      let one = ap (λ c. cond c 1 0) here in
+      let one = ap {B = ℕ} (λ c. cond c 1 0) here in
       absurd (omega (arith, all, one, k))
   | inr m ↦
       let all = sum_by-cons (λ y. cond (y == n) 1 0) x xs in
@@ -111,11 +111,11 @@ once-given {B} f n b (x ∷ xs) is h k = elim (cases_eq x n) as (λ _. filter_ma
   | inl e ↦
       let all = sum_by-cons (λ y. cond (y == n) 1 0) x xs in
       let here : (x == n) ≡ true = grind (arith, nat_tests, e) in
-      let one = ap (λ c. cond c 1 0) here in
+      let one = ap {B = ℕ} (λ c. cond c 1 0) here in
       ap (λ o. cons_option o (filter_map f xs)) (ap f e ∙ is) ∙ ap (λ (ys : List B). b ∷ ys) (none-counted f n xs h (omega (arith, all, one, k)))
   | inr m ↦
       let all = sum_by-cons (λ y. cond (y == n) 1 0) x xs in
       let here : (x == n) ≡ false = grind (arith, nat_tests, m) in
-      let none = ap (λ c. cond c 1 0) here in
+      let none = ap {B = ℕ} (λ c. cond c 1 0) here in
       ap (λ o. cons_option o (filter_map f xs)) (h x m) ∙ once-given f n b xs is h (omega (arith, all, none, k))
 ]

@@ -148,38 +148,43 @@ module _ (p : Plan) (b : Board) (answers : Answers) (calls : ℕ → Option Step
       both-all (λ need. holds_at ended (need - first)) (λ need. nat_lt (need - first) j) job.needs
       (ap (λ n. needs_have_ended n run job) (sym (seen.ordered.number j job is)) ∙ h) (seen.ordered.needs j job is)
 
+  abbrev on : (Outcome → Bool) → ℕ → ℕ → Bool
+  on test n i = holds_at (map test (job_results run)) i || some_ancestor first plan.jobs (map test (job_results run)) n i
+
+  abbrev of_given : (Outcome → Bool) → ℕ → ℕ → ℕ → Bool
+  of_given test j n i =
+      holds_at (map (result_passes test) (take j settled_jobs)) i || some_ancestor first plan.jobs (map (result_passes test) (take j settled_jobs)) n i
+
   -- ancestors come to the same
   ancestors : (test : Outcome → Bool) (j n k : ℕ) → k ≤ j → ((job : JobPlan) → slice_get plan.jobs k ≡ Some job → list_all (ready k) job.needs ≡ true)
       → some_ancestor first plan.jobs (map test (job_results run)) n k ≡ some_ancestor first plan.jobs (map (result_passes test) (take j settled_jobs)) n k
   ancestors test j zero k le h = refl
-  ancestors test j (suc n) k le h = by (slice_get plan.jobs k) refl
+  ancestors test j (suc n) k le h = by (λ i below ready_then. ancestors test j n i below ready_then) (slice_get plan.jobs k) refl
     where
-      abbrev on : ℕ → Bool
-      on i = holds_at (map test (job_results run)) i || some_ancestor first plan.jobs (map test (job_results run)) n i
+      Before : Type 0
+      Before = (i : ℕ) → i ≤ j → ((job : JobPlan) → slice_get plan.jobs i ≡ Some job → list_all (ready i) job.needs ≡ true)
+          → some_ancestor first plan.jobs (map test (job_results run)) n i ≡ some_ancestor first plan.jobs (map (result_passes test) (take j settled_jobs)) n i
 
-      abbrev of_given : ℕ → Bool
-      of_given i = holds_at (map (result_passes test) (take j settled_jobs)) i || some_ancestor first plan.jobs (map (result_passes test) (take j settled_jobs)) n i
-
-      one : (need : ℕ) → ready k need ≡ true → on (need - first) ≡ of_given (need - first)
-      one need ok =
+      one : Before → (need : ℕ) → ready k need ≡ true → on test n (need - first) ≡ of_given test j n (need - first)
+      one so_far need ok =
           let has = and-left (holds_at ended (need - first)) (nat_lt (need - first) k) ok in
           let less : need - first < k = leb-true (suc (need - first)) k (and-right (holds_at ended (need - first)) (nat_lt (need - first) k) ok) in
           let at = ended_at (need - first) has in
-          let later = ancestors test j n (need - first) (omega (arith, le, less)) (λ job is.
+          let later = so_far (need - first) (omega (arith, le, less)) (λ job is.
           let same : at.plan_there ≡ job = same_some at.plan_there job (sym at.is_planned ∙ is) in
           subst (λ (x : JobPlan). list_all (ready (need - first)) x.needs ≡ true) same
           (needs_ready (need - first) at.plan_there at.is_planned (seen.played.needs (need - first) at.plan_there at.job_there at.is_planned at.is_there at.judged))) in
           ap (λ c. c || some_ancestor first plan.jobs (map test (job_results run)) n (need - first)) (same_test test j (need - first) (omega (arith, le, less)) has)
           ∙ ap (λ c. holds_at (map (result_passes test) (take j settled_jobs)) (need - first) || c) later
 
-      by : (o : Option JobPlan) → slice_get plan.jobs k ≡ o → list_any on (places_needed first (slice_get plan.jobs k)) ≡ list_any of_given (places_needed first (slice_get plan.jobs k))
-      by None is = ap (λ o. list_any on (places_needed first o)) is ∙ sym (ap (λ o. list_any of_given (places_needed first o)) is)
-      by (Some job) is =
-          ap (λ o. list_any on (places_needed first o)) is
-          ∙ any-map on (λ need. need - first) job.needs
-          ∙ any-where (ready k) (λ need. on (need - first)) (λ need. of_given (need - first)) job.needs one (h job is)
-          ∙ sym (any-map of_given (λ need. need - first) job.needs)
-          ∙ sym (ap (λ o. list_any of_given (places_needed first o)) is)
+      by : Before → (o : Option JobPlan) → slice_get plan.jobs k ≡ o → list_any (on test n) (places_needed first (slice_get plan.jobs k)) ≡ list_any (of_given test j n) (places_needed first (slice_get plan.jobs k))
+      by so_far None is = ap (λ o. list_any (on test n) (places_needed first o)) is ∙ sym (ap (λ o. list_any (of_given test j n) (places_needed first o)) is)
+      by so_far (Some job) is =
+          ap (λ o. list_any (on test n) (places_needed first o)) is
+          ∙ any-map (on test n) (λ need. need - first) job.needs
+          ∙ any-where (ready k) (λ need. on test n (need - first)) (λ need. of_given test j n (need - first)) job.needs (one so_far) (h job is)
+          ∙ sym (any-map (of_given test j n) (λ need. need - first) job.needs)
+          ∙ sym (ap (λ o. list_any (of_given test j n) (places_needed first o)) is)
 
   -- ---- a run whose jobs have ended
 

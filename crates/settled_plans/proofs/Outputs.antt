@@ -29,15 +29,16 @@ use Rattle.settled_plans.proofs.Numbers.{before_run, before_job, leg_spot, numbe
 -- levels without a name lay nothing over what is below
 pub overlaid-nothing : {X : Type 0} (f : X → Option Leg) (xs : List X) (below : Env) → ((x : X) (leg : Leg) → f x ≡ Some leg → leg.outputs ≡ [])
     → overlaid (map (λ leg. leg.outputs) (filter_map f xs)) below ≡ below
+unfolding laid_over
 overlaid-nothing f [] below h = refl
-overlaid-nothing {X} f (x ∷ xs) below h = by (f x) refl
+overlaid-nothing {X} f (x ∷ xs) below h = by (f x) refl (overlaid-nothing f xs below h)
   where
-    by : (o : Option Leg) → f x ≡ o → overlaid (map (λ leg. leg.outputs) (cons_option o (filter_map f xs))) below ≡ below
-    unfolding laid_over
-    by None is = overlaid-nothing f xs below h
-    by (Some leg) is =
+    by : (o : Option Leg) → f x ≡ o → overlaid (map (λ leg. leg.outputs) (filter_map f xs)) below ≡ below
+        → overlaid (map (λ leg. leg.outputs) (cons_option o (filter_map f xs))) below ≡ below
+    by None is later = later
+    by (Some leg) is later =
         ap (λ (level : Env). overlaid (map (λ y. y.outputs) (filter_map f xs)) (laid_over level below)) (h x leg is)
-        ∙ overlaid-nothing f xs below h
+        ∙ later
 
 -- where a leg of a job is found by a number
 pub record IsOfJob (b : Board) (place : JobPlace) (job : Job) (l : ℕ) (leg : Leg) : Type 0 where
@@ -75,6 +76,9 @@ module _ (b : Board) (place : JobPlace) (run : Run) (job : Job) (in_board : slic
       ended : (at : LegPlace) × (leg_place b l ≡ Some at) × (leg_of_job b place at ≡ Some leg) → IsOfJob b place job l leg
       ended x = tested x.0 x.1 ((x.0.run == place.run) && (x.0.job == place.job)) refl x.2
 
+  abbrev number : Plan → RunPlan → ℕ
+  number p plan = before_run place.run p.runs + (before_job place.job plan.jobs + 0)
+
   -- where no leg has outputs, neither has the job
   pub no_outputs : ((k : ℕ) (leg : Leg) → slice_get job.legs k ≡ Some leg → leg.outputs ≡ []) → job_outputs b place ≡ []
   unfolding job_outputs
@@ -85,11 +89,8 @@ module _ (b : Board) (place : JobPlace) (run : Run) (job : Job) (in_board : slic
       → job_outputs b place ≡ overlaid (leg.outputs ∷ []) []
   unfolding job_outputs
   one_outputs p plan leg shape ends planned alone ended =
-      ap (λ (legs : List Leg). overlaid (map (λ x. x.outputs) legs) []) (once-given (job_leg b place) number leg b.ends found others counted)
+      ap (λ (legs : List Leg). overlaid (map (λ x. x.outputs) legs) []) (once-given (job_leg b place) (number p plan) leg b.ends found others counted)
     where
-      number : ℕ
-      number = before_run place.run p.runs + (before_job place.job plan.jobs + 0)
-
       single : (k : ℕ) (x : Leg) → slice_get (leg ∷ []) k ≡ Some x → k ≡ 0
       single zero x is = refl
       single (suc k) x is = absurd (no_some x is)
@@ -97,8 +98,7 @@ module _ (b : Board) (place : JobPlace) (run : Run) (job : Job) (in_board : slic
       within : 0 < length job.legs
       within = let e = ap length alone in omega (arith, e)
 
-      placed : leg_place b number ≡ Some (leg_spot place.run place.job 0)
-      unfolding number
+      placed : leg_place b (number p plan) ≡ Some (leg_spot place.run place.job 0)
       placed = place_at p b place.run place.job 0 plan run job shape planned in_board in_run within
 
       there : leg_there b (leg_spot place.run place.job 0) ≡ Some leg
@@ -110,18 +110,17 @@ module _ (b : Board) (place : JobPlace) (run : Run) (job : Job) (in_board : slic
       same : (n : ℕ) → (n == n) ≡ true
       same n = grind (arith, nat_tests)
 
-      found : job_leg b place number ≡ Some leg
+      found : job_leg b place (number p plan) ≡ Some leg
       found =
           ap (λ o. o >>= leg_of_job b place) placed
           ∙ ap (λ c. if c && (place.job == place.job) then leg_there b (leg_spot place.run place.job 0) else None) (same place.run)
           ∙ ap (λ c. if c then leg_there b (leg_spot place.run place.job 0) else None) (same place.job)
           ∙ there
 
-      others : (l : ℕ) → l ≢ number → job_leg b place l ≡ None
+      others : (l : ℕ) → l ≢ number p plan → job_leg b place l ≡ None
       others l differs = by (job_leg b place l) refl
         where
           by : (o : Option Leg) → job_leg b place l ≡ o → o ≡ None
-          unfolding number
           by None is = refl
           by (Some x) is =
               let of_job = is_of_job l x is in
@@ -131,8 +130,8 @@ module _ (b : Board) (place : JobPlace) (run : Run) (job : Job) (in_board : slic
               let jobs = ap (λ j. before_job j plan.jobs) of_job.job_is in
               absurd (differs (omega (arith, is_number, runs, jobs, first)))
 
-      item : slice_get (board_legs b) number ≡ Some leg
-      item = sym ((legs_are_numbered b).there number) ∙ ap (λ o. o >>= leg_there b) placed ∙ there
+      item : slice_get (board_legs b) (number p plan) ≡ Some leg
+      item = sym ((legs_are_numbered b).there (number p plan)) ∙ ap (λ o. o >>= leg_there b) placed ∙ there
 
-      counted : count_by (λ l. l == number) b.ends ≡ 1
-      counted = ends number ∙ ap times_ended item ∙ ap (λ c. if c then 1 else 0) ended
+      counted : count_by (λ l. l == number p plan) b.ends ≡ 1
+      counted = ends (number p plan) ∙ ap times_ended item ∙ ap (λ c. if c then 1 else 0) ended

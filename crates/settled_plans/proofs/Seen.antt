@@ -25,10 +25,10 @@ use Rattle.text_values.specs.declared.place.Place.TheVariants as place
 -- ---- jobs
 
 pub job_values_are : (at : JobAt) → job_values at ≡ job_sees at.run_plan (needs_value at)
+unfolding job_values job_sees run_values
 job_values_are at = λ i x. each x i
   where
     each : (x : Context) → job_values at x ≡ job_sees at.run_plan (needs_value at) x
-    unfolding job_values job_sees run_values
     each context.Github = refl
     each context.Env = refl
     each context.Vars = refl
@@ -57,10 +57,10 @@ abbrev pub spot_of : ℕ → LegAt → Spot
 spot_of l at = record { number = l; run = at.run_plan; job = at.job_plan; place = at.place.leg; needs = needs_value (job_of at) }
 
 leg_values_are : (l : ℕ) (at : LegAt) (result : Outcome) → leg_values_by result at ≡ leg_sees (spot_of l at) result at.leg.steps
+unfolding leg_values_by leg_sees job_values job_sees run_values strategy_value strategy_shown matrix_value matrix_shown steps_value steps_shown
 leg_values_are l at result = λ i x. each x i
   where
     each : (x : Context) → leg_values_by result at x ≡ leg_sees (spot_of l at) result at.leg.steps x
-    unfolding leg_values_by leg_sees job_values job_sees run_values strategy_value strategy_shown matrix_value matrix_shown steps_value steps_shown
     each context.Github = refl
     each context.Env = refl
     each context.Vars = refl

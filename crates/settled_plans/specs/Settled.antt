@@ -141,16 +141,17 @@ next_done answers spot done step = step_by answers spot done step (next_call spo
 
 -- ---- a leg
 
-abbrev mutual
-  -- The steps that are done after these, with those of a list to come.
-  pub steps_from : Answers → Spot → List DoneStep → List StepPlan → List DoneStep
-  steps_from answers spot done [] = done
-  steps_from answers spot done (step ∷ steps) = steps_then answers spot done steps (next_done answers spot done step)
+-- Nothing more is done where the next step is not given; else what follows it.
+abbrev pub steps_then : List DoneStep → Option DoneStep → (DoneStep → List DoneStep) → List DoneStep
+steps_then done None rest = done
+steps_then done (Some next) rest = rest next
 
-  -- The same after one more step, where it is given.
-  pub steps_then : Answers → Spot → List DoneStep → List StepPlan → Option DoneStep → List DoneStep
-  steps_then answers spot done steps None = done
-  steps_then answers spot done steps (Some next) = steps_from answers spot (done ++ next ∷ []) steps
+-- The steps that are done after these, with those of a list to come.
+abbrev pub steps_from : Answers → Spot → List DoneStep → List StepPlan → List DoneStep
+steps_from answers spot done [] = done
+steps_from answers spot done (step ∷ steps) =
+    steps_then done (next_done answers spot done step) (λ next.
+    steps_from answers spot (done ++ next ∷ []) steps)
 
 -- How a leg ends after its steps.
 unfoldable pub finish_of : Spot → List DoneStep → Finish
