@@ -87,6 +87,7 @@ new_played p answers calls r plan run planned is = subst (RunPlayed answers (bef
   needs = λ j job_plan job at there was.
       absurd (true≢false (sym was ∙ ap (λ (x : Job). is_judged x.state) (sym (mapped new_job plan.jobs j job_plan job at there))));
   closed = λ result e. absurd (no result e);
+  over = λ was. absurd (true≢false (sym was));
 })
   where
     no : (result : Outcome) → run_state.New ≡ run_state.Closed result → ⊥

@@ -3,7 +3,7 @@ use Rattle.std.proofs.Common.{◌≡◌, ◌≢◌, ℕ, ◌+◌, ◌-◌, ◌<�
 use Rattle.std.specs.List.{AllZip}
 use Rattle.std.proofs.lemmas.Bool.{true≢false}
 use Rattle.std.proofs.lemmas.Option.{slice_get_within}
-use Rattle.board_decisions.specs.Derived.{is_open, needs_have_ended}
+use Rattle.board_decisions.specs.Derived.{is_closed, is_open, needs_have_ended}
 use Rattle.board_decisions.specs.Place.{leg_place}
 use Rattle.board_decisions.specs.declared.place.LegPlace.{LegPlace}
 use Rattle.flow_model.specs.declared.board.Board.{Board}
@@ -26,7 +26,7 @@ use Rattle.status_table.proofs.Ended.{needs-later}
 use Rattle.status_table.proofs.Lists.{same_some, changed-there, changed-elsewhere, zip-get}
 use Rattle.settled_plans.proofs.Lists.{changed-item, each-changed}
 use Rattle.settled_plans.proofs.Numbers.{before_run, before_job, leg_spot, place_at}
-use Rattle.settled_plans.proofs.Played.{fresh_leg, is_judged, LegPlayed, JobPlayed, jobs_of, RunPlayed, Played}
+use Rattle.settled_plans.proofs.Played.{fresh_leg, is_judged, LegPlayed, JobPlayed, JobOver, jobs_of, RunPlayed, Played}
 
 -- ---- other calls
 
@@ -50,6 +50,7 @@ run_calls answers first plan calls new run same played = record {
       (λ k leg at. same j job k leg is at) (played.jobs j job_plan job planned is);
   needs = played.needs;
   closed = played.closed;
+  over = played.over;
 }
 
 -- ---- a run is changed, but not its jobs
@@ -70,8 +71,9 @@ module _ (p : Plan) (b : Board) (answers : Answers) (calls : ℕ → Option Step
   pub run_changes : ((x : Run) → (f x).jobs ≡ x.jobs) → ((x : Run) → (f x).stop ≡ x.stop) → ((x : Run) → x.group ≡ None → (f x).group ≡ None)
       → ((plan : RunPlan) (run : Run) → slice_get p.runs r ≡ Some plan → slice_get b.runs r ≡ Some run → (result : Outcome) → (f run).state ≡ run_state.Closed result
       → (run_after (jobs_of answers (before_run r p.runs) plan)).result ≡ Some result)
+      → ((run : Run) → slice_get b.runs r ≡ Some run → is_closed (f run).state ≡ true → (j : ℕ) (job : Job) → slice_get run.jobs j ≡ Some job → JobOver job)
       → Played answers p calls new.runs
-  run_changes jobs stop group closed = run_put (λ plan run planned is stay.
+  run_changes jobs stop group closed over = run_put (λ plan run planned is stay.
       let had = played r plan run planned is in
       record {
         stop = stop run ∙ had.stop;
@@ -80,6 +82,7 @@ module _ (p : Plan) (b : Board) (answers : Answers) (calls : ℕ → Option Step
         needs = λ j job_plan job at there was.
             needs-later (job_plan.number - j) run (f run) job_plan stay (had.needs j job_plan job at (ap (λ (js : List Job). slice_get js j) (sym (jobs run)) ∙ there) was);
         closed = closed plan run planned is;
+        over = λ was j job there. over run is was j job (ap (λ (js : List Job). slice_get js j) (sym (jobs run)) ∙ there);
       })
 
 -- ---- a job is changed, but neither its run nor its legs
@@ -93,8 +96,9 @@ module _ (p : Plan) (b : Board) (answers : Answers) (calls : ℕ → Option Step
       → slice_get plan.jobs j ≡ Some job_plan → slice_get run.jobs j ≡ Some job
       → JobPlayed answers plan (take j (jobs_of answers (before_run r p.runs) plan)) (before_run r p.runs + before_job j plan.jobs) job_plan calls (f job)
       × (is_judged (f job).state ≡ true → needs_have_ended (job_plan.number - j) run job_plan ≡ true))
+      → ((run : Run) → slice_get b.runs r ≡ Some run → is_closed run.state ≡ false)
       → Played answers p calls new.runs
-  job_put here = run_put p b answers calls r in_run new new_is stays played (λ plan run planned is stay.
+  job_put here unclosed = run_put p b answers calls r in_run new new_is stays played (λ plan run planned is stay.
       let had = played r plan run planned is in
       record {
         stop = had.stop;
@@ -106,12 +110,14 @@ module _ (p : Plan) (b : Board) (answers : Answers) (calls : ℕ → Option Step
             (λ i x. (q : JobPlan) → slice_get plan.jobs i ≡ Some q → is_judged x.state ≡ true → needs_have_ended (q.number - i) run q ≡ true)
             run.jobs j f (λ x in_run q in_plan. (here plan run q x planned is in_plan in_run).1) (λ i x _ in_run q in_plan. had.needs i q x in_plan in_run) k job there job_plan at was);
         closed = had.closed;
+        over = λ was. absurd (true≢false (sym was ∙ unclosed run is));
       })
 
 -- ---- a leg of a job that is Open is changed
 
 module _ (p : Plan) (b : Board) (answers : Answers) (calls later : ℕ → Option StepCall) (l : ℕ) (at : LegPlace) (f : Leg → Leg) (new : Board) (new_is : new.runs ≡ (with_leg b at f).runs)
     (shape : HasShape p b) (found : leg_place b l ≡ Some at) (others : (n : ℕ) → n ≢ l → calls n ≡ later n) (stays : Stays b new) (played : Played answers p calls b.runs)
+    (unclosed : (run : Run) → slice_get b.runs at.run ≡ Some run → is_closed run.state ≡ false)
     (here : (plan : RunPlan) (run : Run) (job_plan : JobPlan) (job : Job) (leg : Leg) → slice_get p.runs at.run ≡ Some plan → slice_get b.runs at.run ≡ Some run
     → slice_get plan.jobs at.job ≡ Some job_plan → slice_get run.jobs at.job ≡ Some job → slice_get job.legs at.leg ≡ Some leg
     → (is_open job.state ≡ true)
@@ -170,6 +176,7 @@ module _ (p : Plan) (b : Board) (answers : Answers) (calls later : ℕ → Optio
         (λ i x. (q : JobPlan) → slice_get plan.jobs i ≡ Some q → is_judged x.state ≡ true → needs_have_ended (q.number - i) run q ≡ true)
         run.jobs at.job in_job (λ x there q at_q. had.needs at.job q x at_q there) (λ i x _ there q at_q. had.needs i q x at_q there) j job is job_plan in_plan was);
     closed = had.closed;
+    over = λ was. absurd (true≢false (sym was ∙ unclosed run in_board));
   }
 
   pub leg_put : Played answers p later new.runs

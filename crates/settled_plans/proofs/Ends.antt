@@ -38,7 +38,7 @@ use Rattle.text_values.specs.declared.place.Place.TheVariants as place_name
 use Rattle.board_decisions.proofs.Lists.{and-left, and-right}
 use Rattle.status_table.proofs.Lists.{same_some, no_some, all-get}
 use Rattle.settled_plans.proofs.Outputs.{no_outputs, one_outputs}
-use Rattle.settled_plans.proofs.Played.{fresh_leg, EndsRightly, LegPlayed, StateStands, JobPlayed}
+use Rattle.settled_plans.proofs.Played.{fresh_leg, EndsRightly, LegPlayed, StateStands, JobPlayed, JobOver, judged-or}
 
 -- ---- legs
 
@@ -177,11 +177,19 @@ module _ (p : Plan) (b : Board) (answers : Answers) (place : JobPlace) (run_plan
   each_ended unshut k leg is =
       or-false (is_closed run.state) (is_shut job.state) (is_ended leg.state) unclosed unshut (all-get (leg_has_ended run job) job.legs k leg is ended)
 
-  pub was_judged : job.state ≡ job_state.Unjudged → ⊥
+  was_judged : job.state ≡ job_state.Unjudged → ⊥
   was_judged is =
       let leg = some_leg job.legs some in
       let fresh = played.untouched (ap is_open is) 0 leg.0 leg.1 in
       true≢false (sym (each_ended (ap is_shut is) 0 leg.0 leg.1) ∙ ap (λ (x : Leg). is_ended x.state) fresh)
+
+  pub is_over : JobOver job
+  is_over = record { judged = judged-or job.state was_judged; ended = λ opened. each_ended (unshut job.state opened) }
+    where
+      unshut : (s : JobState) → is_open s ≡ true → is_shut s ≡ false
+      unshut job_state.Unjudged h = refl
+      unshut job_state.Open h = refl
+      unshut (job_state.Shut result) h = absurd (true≢false (sym h))
 
   -- a job that is Shut
   shut_ended : (result : Outcome) → job.state ≡ job_state.Shut result → given ≡ shut result → JobEnded b place run given job

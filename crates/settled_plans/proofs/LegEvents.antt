@@ -6,7 +6,7 @@ use Rattle.std.proofs.lemmas.List.{length-append}
 use Rattle.std.proofs.lemmas.Option.{slice_get_within}
 use Rattle.board_decisions.specs.declared.entrance.Entrance.{Entrance}
 use Rattle.board_decisions.specs.Decisions.{is_stopping, leg_result, step_decision, leg_outputs, leg_entrance, job_tolerates}
-use Rattle.board_decisions.specs.Derived.{is_going, is_open, is_fresh, is_untaken, is_ended, is_failure, is_full, is_under_way}
+use Rattle.board_decisions.specs.Derived.{is_going, is_closed, is_open, is_fresh, is_untaken, is_ended, is_failure, is_full, is_under_way}
 use Rattle.board_decisions.specs.Place.{LegAt, leg_at}
 use Rattle.flow_model.specs.Answer.{is_well_formed}
 use Rattle.flow_model.specs.declared.board.Board.{Board}
@@ -47,7 +47,7 @@ use Rattle.board_decisions.proofs.Lists.{and-left, and-right}
 use Rattle.status_table.proofs.Found.{LegStands}
 use Rattle.status_table.proofs.LegRows.{holding-live, idle-holds}
 use Rattle.status_table.proofs.Lists.{same_some, no_some, all-get, zip-get}
-use Rattle.status_table.proofs.Steps.{Live}
+use Rattle.status_table.proofs.Steps.{Live, going-unclosed}
 use Rattle.status_table.proofs.Turnover.{numbered}
 use Rattle.settled_plans.proofs.Changes.{leg_put}
 use Rattle.settled_plans.proofs.InPlay.{Stands, IsFit, here, run_played, before, first, spot, leg_played, number_is, not_stopping, quiet, spot_is}
@@ -99,17 +99,18 @@ module _ (p : Plan) (fit : IsFit p) (answers : Answers) (open_calls' : ℕ → O
   played = leg_played p fit answers open_calls' b stands l at is
 
   -- the leg is changed, to one that is played as settled by the calls that are open then
-  put : (later : ℕ → Option StepCall) (f : Leg → Leg) (new : Board) → new.runs ≡ (with_leg b at.place f).runs → ((n : ℕ) → n ≢ l → open_calls' n ≡ later n) → is_open at.job.state ≡ true
+  put : (later : ℕ → Option StepCall) (f : Leg → Leg) (new : Board) → new.runs ≡ (with_leg b at.place f).runs → ((n : ℕ) → n ≢ l → open_calls' n ≡ later n) → Live p b l at
       → LegPlayed answers mine (later l) (f at.leg) → Stays b new → Played answers p later new.runs
-  put later f new new_is others opened now stays =
-      leg_put p b answers open_calls' later l at.place f new new_is stands.fits.shape there.place others stays stands.played (λ plan run job_plan job leg planned in_board in_plan in_run in_legs.
+  put later f new new_is others live now stays =
+      leg_put p b answers open_calls' later l at.place f new new_is stands.fits.shape there.place others stays stands.played
+      (λ run is_run. ap (λ (x : Run). is_closed x.state) (same_some run at.run (sym is_run ∙ there.in_board)) ∙ going-unclosed at.run.state live.going) (λ plan run job_plan job leg planned in_board in_plan in_run in_legs.
       let plan_is : at.run_plan ≡ plan = same_some at.run_plan plan (sym there.in_plan ∙ planned) in
       let run_is : at.run ≡ run = same_some at.run run (sym there.in_board ∙ in_board) in
       let job_plan_is : at.job_plan ≡ job_plan = same_some at.job_plan job_plan (sym there.job_plan ∙ ap (λ (x : RunPlan). slice_get x.jobs at.place.job) plan_is ∙ in_plan) in
       let job_is : at.job ≡ job = same_some at.job job (sym there.job ∙ ap (λ (x : Run). slice_get x.jobs at.place.job) run_is ∙ in_run) in
       let leg_is : at.leg ≡ leg = same_some at.leg leg (sym there.leg ∙ ap (λ (x : Job). slice_get x.legs at.place.leg) job_is ∙ in_legs) in
       (
-        ap (λ (x : Job). is_open x.state) (sym job_is) ∙ opened,
+        ap (λ (x : Job). is_open x.state) (sym job_is) ∙ live.opened,
         subst (λ (x : RunPlan). LegPlayed answers
             (spot_at x job_plan (needs_of x (take at.place.job (jobs_of answers (before_run at.place.run p.runs) x)) job_plan) (before_run at.place.run p.runs + before_job at.place.job x.jobs) at.place.leg)
             (later (before_run at.place.run p.runs + before_job at.place.job x.jobs + at.place.leg)) (f leg)) plan_is
@@ -146,7 +147,7 @@ module _ (p : Plan) (fit : IsFit p) (answers : Answers) (open_calls' : ℕ → O
       let two = and-left (is_going at.run.state && is_open at.job.state) (is_fresh at.leg.state) all in
       subst (λ (x : Result (Option Entrance) ValueFault). Goes p answers open_calls' b (event.Ask l) (rows.leg_enters b l at x)) (sym no_entrance)
       (put open_calls' (λ x. record x { state = leg_state.Admitted; group = None }) (admitted b None (member.Leg l)) (numbered b l at.place (λ x. record x { state = leg_state.Admitted; group = None }) there.place)
-      (λ n _. refl) (and-right (is_going at.run.state) (is_open at.job.state) two)
+      (λ n _. refl) (record { stands = there; going = and-left (is_going at.run.state) (is_open at.job.state) two; opened = and-right (is_going at.run.state) (is_open at.job.state) two })
       (still (open_calls' l) (record at.leg { state = leg_state.Admitted; group = None }) refl refl refl tt refl)))))
     where
       unstopped : Row
@@ -186,7 +187,7 @@ module _ (p : Plan) (fit : IsFit p) (answers : Answers) (open_calls' : ℕ → O
       by leg_state.Waiting e = tt
       by leg_state.Admitted e = goes-if p answers open_calls' b (event.Take l) (is_stopping at) (Err fault.Stopping) (Ok (rows.leg_state_set b at.place (leg_state.Running worker false), moved)) (λ _. tt)
           (λ _. put open_calls' (λ x. record x { state = leg_state.Running worker false }) (rows.leg_state_set b at.place (leg_state.Running worker false)) refl (λ n _. refl)
-          (live (ap is_under_way e)).opened
+          (live (ap is_under_way e))
           (still (open_calls' l) (record at.leg { state = leg_state.Running worker false }) refl played.group refl tt refl))
       by (leg_state.Running other in_call) e = tt
       by (leg_state.Ended result tolerated) e = tt
@@ -204,7 +205,7 @@ module _ (p : Plan) (fit : IsFit p) (answers : Answers) (open_calls' : ℕ → O
       → rows.next_step at ≡ Some step → next_done answers mine at.leg.steps step ≡ Some next → Stays b (rows.step_done b at.place worker next)
       → Played answers p later (rows.step_done b at.place worker next).runs
   done_more later others worker step next under planned given =
-      put later (λ x. record x { state = leg_state.Running worker false; steps = x.steps ++ next ∷ [] }) (rows.step_done b at.place worker next) refl others (live under).opened (record {
+      put later (λ x. record x { state = leg_state.Running worker false; steps = x.steps ++ next ∷ [] }) (rows.step_done b at.place worker next) refl others (live under) (record {
         stop = played.stop;
         group = played.group;
         goes_on = one_more answers mine at.leg.steps step next planned given played.goes_on;
@@ -258,7 +259,7 @@ module _ (p : Plan) (fit : IsFit p) (answers : Answers) (open_calls' : ℕ → O
         (by_call (Err f) (rows.failed_step at) e (ap (λ (x : DoneStep). Some x) (sym failed)))
     begun worker (Ok (Some call)) e =
         put (λ n. call_after n (open_calls' n) (event.Begin l) (what.Call call)) (λ x. record x { state = leg_state.Running worker true }) (rows.leg_state_set b at.place (leg_state.Running worker true)) refl
-        (λ n differs. sym (ap (λ c. if c then Some call else open_calls' n) (other_number n differs))) (live under).opened
+        (λ n differs. sym (ap (λ c. if c then Some call else open_calls' n) (other_number n differs))) (live under)
         (still (call_after l (open_calls' l) (event.Begin l) (what.Call call)) (record at.leg { state = leg_state.Running worker true }) refl played.group refl (record {
           step = step;
           planned = planned;
@@ -358,7 +359,7 @@ module _ (p : Plan) (fit : IsFit p) (answers : Answers) (open_calls' : ℕ → O
           let whole : length at.leg.steps ≡ length at.job_plan.steps = omega (arith, left, had) in
           let finish : finish_of mine at.leg.steps ≡ record { result = leg_result at; tolerated = is_failure (leg_result at) && job_tolerates at; outputs = leg_outputs at } = sym (finished (idle-holds at.leg.state owner was).under) in
           subst (λ (x : Board × Reply). Goes p answers open_calls' b (event.Finish l) (Ok x)) (sym (alone new owner was))
-          (put open_calls' (λ x. record x { state = state; outputs = leg_outputs at }) new refl (λ n _. refl) (live (idle-holds at.leg.state owner was).under).opened (record {
+          (put open_calls' (λ x. record x { state = state; outputs = leg_outputs at }) new refl (λ n _. refl) (live (idle-holds at.leg.state owner was).under) (record {
             stop = played.stop;
             group = played.group;
             goes_on = played.goes_on;

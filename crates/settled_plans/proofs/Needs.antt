@@ -33,10 +33,10 @@ use Rattle.text_values.specs.Env.{laid_over}
 use Rattle.board_decisions.proofs.Lists.{and-left, and-right, and-both}
 use Rattle.status_table.proofs.Counts.{zip-left}
 use Rattle.status_table.proofs.Lists.{same_some, no_some, zip-get, zip-length, all-get}
-use Rattle.settled_plans.proofs.Ends.{JobEnded, job_ended, was_judged}
+use Rattle.settled_plans.proofs.Ends.{JobEnded, job_ended, is_over}
 use Rattle.settled_plans.proofs.Lists.{get-take, all-by, any-where, any-map, map-filter_map, filter_map-where}
 use Rattle.settled_plans.proofs.Numbers.{before_run, before_job}
-use Rattle.settled_plans.proofs.Played.{is_judged, JobPlayed, jobs_of, RunPlayed, jobs_size, job_item}
+use Rattle.settled_plans.proofs.Played.{JobPlayed, JobOver, jobs_of, RunPlayed, jobs_size, job_item}
 use Rattle.settled_plans.proofs.Seen.{job_condition_is}
 
 -- the jobs of a run are numbered from the first on, and need only jobs of it that stand before them
@@ -74,11 +74,6 @@ all-given {A} (x ∷ xs) (y ∷ ys) same h =
     let here : x ≡ Some y = same_some x (Some y) (h 0 y refl) in
     ap (λ (o : Option A). all_given (o ∷ xs)) here ∙ ap (option_map (λ (zs : List A). y ∷ zs)) (all-given xs ys (omega (arith, same)) (λ i z is. h (suc i) z is))
 
-judged-or : (s : JobState) → (s ≡ job_state.Unjudged → ⊥) → is_judged s ≡ true
-judged-or job_state.Unjudged h = absurd (h refl)
-judged-or job_state.Open h = refl
-judged-or (job_state.Shut result) h = refl
-
 module _ (p : Plan) (b : Board) (answers : Answers) (calls : ℕ → Option StepCall) (r : ℕ) (plan : RunPlan) (run : Run) (seen : RunSeen p b answers calls r plan run) where
   abbrev pub first : ℕ
   first = first_job p r
@@ -98,7 +93,7 @@ module _ (p : Plan) (b : Board) (answers : Answers) (calls : ℕ → Option Step
     given : SettledJob
     is_given : slice_get settled_jobs i ≡ Some given
     comes : JobEnded b (record { run = r; job = i }) run given job_there
-    judged : is_judged job_there.state ≡ true
+    over : JobOver job_there
 
   shape_here : AllZip JobShape plan.jobs run.jobs
   shape_here = zip-get RunShape p.runs b.runs r plan run seen.planned seen.in_board seen.shape
@@ -121,8 +116,8 @@ module _ (p : Plan) (b : Board) (answers : Answers) (calls : ℕ → Option Step
             is_given = job_item answers plan (before_run r p.runs) [] plan.jobs i there.0 there.1;
             comes = job_ended p b answers (record { run = r; job = i }) plan run (take i settled_jobs) (before_run r p.runs + before_job i plan.jobs) there.0 calls x.0
                 seen.shape seen.ends seen.planned seen.in_board x.1 seen.unclosed there.2.legs fits.some free played x.2;
-            judged = judged-or x.0.state (was_judged p b answers (record { run = r; job = i }) plan run (take i settled_jobs) (before_run r p.runs + before_job i plan.jobs) there.0 calls x.0
-                seen.shape seen.ends seen.planned seen.in_board x.1 seen.unclosed there.2.legs fits.some free played x.2);
+            over = is_over p b answers (record { run = r; job = i }) plan run (take i settled_jobs) (before_run r p.runs + before_job i plan.jobs) there.0 calls x.0
+                seen.shape seen.ends seen.planned seen.in_board x.1 seen.unclosed there.2.legs fits.some free played x.2;
           }
 
   -- a test of what jobs came to, on the board and of those that are settled before a place
@@ -173,7 +168,7 @@ module _ (p : Plan) (b : Board) (answers : Answers) (calls : ℕ → Option Step
           let later = so_far (need - first) (omega (arith, le, less)) (λ job is.
           let same : at.plan_there ≡ job = same_some at.plan_there job (sym at.is_planned ∙ is) in
           subst (λ (x : JobPlan). list_all (ready (need - first)) x.needs ≡ true) same
-          (needs_ready (need - first) at.plan_there at.is_planned (seen.played.needs (need - first) at.plan_there at.job_there at.is_planned at.is_there at.judged))) in
+          (needs_ready (need - first) at.plan_there at.is_planned (seen.played.needs (need - first) at.plan_there at.job_there at.is_planned at.is_there at.over.judged))) in
           ap (λ c. c || some_ancestor first plan.jobs (map test (job_results run)) n (need - first)) (same_test test j (need - first) (omega (arith, le, less)) has)
           ∙ ap (λ c. holds_at (map (result_passes test) (take j settled_jobs)) (need - first) || c) later
 
@@ -206,6 +201,12 @@ module _ (p : Plan) (b : Board) (answers : Answers) (calls : ℕ → Option Step
 
       one : (i : ℕ) (y : Outcome) → slice_get (job_results run) i ≡ Some y → slice_get (map result_of settled_jobs) i ≡ Some (Some y)
       one i y h = there i (slice_get run.jobs i) refl y (sym (slice_get-map (job_result run) run.jobs i) ∙ h)
+
+  pub each_over : jobs_have_ended run ≡ true → (j : ℕ) (job : Job) → slice_get run.jobs j ≡ Some job → JobOver job
+  each_over all j job is =
+      let passes : holds_at ended j ≡ true = ap holds (slice_get-map (job_has_ended run) run.jobs j ∙ ap (option_map (job_has_ended run)) is) ∙ all-get (job_has_ended run) run.jobs j job is all in
+      let at = ended_at j passes in
+      subst JobOver (same_some at.job_there job (sym at.is_there ∙ is)) at.over
 
   -- ---- a job whose needs have ended
   module _ (j : ℕ) (job : JobPlan) (is : slice_get plan.jobs j ≡ Some job) (h : needs_have_ended (job.number - j) run job ≡ true) where

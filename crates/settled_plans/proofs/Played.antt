@@ -1,7 +1,7 @@
 -- What holds of each run, job and leg in play beside what is settled.
 use Rattle.std.proofs.Common.{◌≡◌, ℕ, zero, suc, ◌+◌, ◌-◌, Bool, true, false, List, [], ◌∷◌, ◌++◌, Option, Some, None, Result, Ok, Err, length, map, take, drop, slice_get, ap, subst, sym, refl, ◌∙◌, arith}
 use Rattle.std.proofs.lemmas.Bool.{true≢false}
-use Rattle.board_decisions.specs.Derived.{is_open, is_ended, is_under_way, needs_have_ended}
+use Rattle.board_decisions.specs.Derived.{is_closed, is_open, is_ended, needs_have_ended}
 use Rattle.flow_model.specs.Plain.{Plain}
 use Rattle.flow_model.specs.declared.board.DoneStep.{DoneStep}
 use Rattle.flow_model.specs.declared.board.Job.{Job}
@@ -78,6 +78,16 @@ pub record JobPlayed (answers : Answers) (run : RunPlan) (before : List SettledJ
   pub untouched : is_open job.state ≡ false → (k : ℕ) (leg : Leg) → slice_get job.legs k ≡ Some leg → leg ≡ fresh_leg
   pub legs : (k : ℕ) (leg : Leg) → slice_get job.legs k ≡ Some leg → LegPlayed answers (spot_at run plan (needs_of run before plan) first k) (calls (first + k)) leg
 
+-- A job of a run that is Closed was judged, and each leg of it has ended if it is Open.
+pub record JobOver (job : Job) : Type 0 where
+  pub judged : is_judged job.state ≡ true
+  pub ended : is_open job.state ≡ true → (k : ℕ) (leg : Leg) → slice_get job.legs k ≡ Some leg → is_ended leg.state ≡ true
+
+pub judged-or : (s : JobState) → (s ≡ job_state.Unjudged → ⊥) → is_judged s ≡ true
+judged-or job_state.Unjudged h = absurd (h refl)
+judged-or job_state.Open h = refl
+judged-or (job_state.Shut result) h = refl
+
 -- ---- runs
 
 -- the jobs that are settled of a run whose first leg has this number
@@ -93,6 +103,7 @@ pub record RunPlayed (answers : Answers) (first : ℕ) (plan : RunPlan) (calls :
   pub needs : (j : ℕ) (job_plan : JobPlan) (job : Job) → slice_get plan.jobs j ≡ Some job_plan → slice_get run.jobs j ≡ Some job
       → is_judged job.state ≡ true → needs_have_ended (job_plan.number - j) run job_plan ≡ true
   pub closed : (result : Outcome) → run.state ≡ run_state.Closed result → (run_after (jobs_of answers first plan)).result ≡ Some result
+  pub over : is_closed run.state ≡ true → (j : ℕ) (job : Job) → slice_get run.jobs j ≡ Some job → JobOver job
 
 -- each run of a list
 abbrev pub Played : Answers → Plan → (ℕ → Option StepCall) → List Run → Type 0

@@ -53,7 +53,7 @@ use Rattle.settled_plans.proofs.Changes.{run_changes, job_put}
 use Rattle.settled_plans.proofs.InPlay.{Stands, IsFit, job_board, run_seen}
 use Rattle.settled_plans.proofs.LegEvents.{Goes, goes-if}
 use Rattle.settled_plans.proofs.Lists.{any-map}
-use Rattle.settled_plans.proofs.Needs.{RunSeen, are_given, needs_same, status_same, each_result}
+use Rattle.settled_plans.proofs.Needs.{RunSeen, are_given, needs_same, status_same, each_result, each_over}
 use Rattle.settled_plans.proofs.Numbers.{before_run, before_job}
 use Rattle.settled_plans.proofs.Played.{is_judged, StateStands, JobPlayed, jobs_of, RunPlayed, Played}
 use Rattle.settled_plans.proofs.Seen.{job_condition_is}
@@ -82,7 +82,7 @@ module _ (p : Plan) (fit : IsFit p) (answers : Answers) (open_calls : ℕ → Op
         by run_state.New false =
             subst (λ (x : Result (Option Entrance) ValueFault). Goes p answers open_calls b (event.Open r) (rows.run_enters b r x)) (sym no_entrance)
             (λ stays. run_changes p b answers open_calls r (λ run. record run { state = run_state.Going; group = None }) (admitted b None (member.Run r)) refl stays stands.played
-            (λ x. refl) (λ x. refl) (λ x _. refl) (λ plan run _ _ result e. absurd (unclosed result e)))
+            (λ x. refl) (λ x. refl) (λ x _. refl) (λ plan run _ _ result e. absurd (unclosed result e)) (λ run _ was. absurd (true≢false (sym was))))
         by run_state.New true = tt
         by run_state.Waiting stop = tt
         by run_state.Going stop = tt
@@ -118,7 +118,9 @@ module _ (p : Plan) (fit : IsFit p) (answers : Answers) (open_calls : ℕ → Op
             (λ stays. run_changes p b answers open_calls r (λ run. record run { state = run_state.Closed (run_result at.run) }) (closed b r (run_result at.run)) refl stays stands.played
             (λ x. refl) (λ x. refl) (λ x none. none) (λ plan run planned in_board result e.
             let plan_is : at.plan ≡ plan = same_some at.plan plan (sym there.plan ∙ planned) in
-            ap (λ (x : RunPlan). (run_after (jobs_of answers (before_run r p.runs) x)).result) (sym plan_is) ∙ comes_to going ended ∙ ap (λ (o : Outcome). Some o) (same (run_result at.run) result e)))
+            ap (λ (x : RunPlan). (run_after (jobs_of answers (before_run r p.runs) x)).result) (sym plan_is) ∙ comes_to going ended ∙ ap (λ (o : Outcome). Some o) (same (run_result at.run) result e))
+            (λ run in_board _ j job is_job. each_over p b answers open_calls r at.plan at.run (run_seen p fit answers open_calls b stands r at.plan at.run there.plan there.run (ap is_closed going)) ended j job
+            (ap (λ (x : Run). slice_get x.jobs j) (same_some at.run run (sym there.run ∙ in_board)) ∙ is_job)))
 
         by : (s : RunState) → at.run.state ≡ s → Goes p answers open_calls b (event.Close r) (rows.close_run b r at.run s)
         by run_state.New e = unstopped at.run.stop run_played.stop
@@ -225,6 +227,7 @@ module _ (p : Plan) (fit : IsFit p) (answers : Answers) (open_calls : ℕ → Op
 
       judged_goes : Goes p answers open_calls b (event.Judge j) (Ok (rows.job_state_set b at.place new_state, moved))
       judged_goes stays = job_put p b answers open_calls at.place.run at.place.job put (rows.job_state_set b at.place new_state) refl stays stands.played here
+          (λ run is_run. ap (λ (x : Run). is_closed x.state) (same_some run at.run (sym is_run ∙ found.in_board)) ∙ going-unclosed at.run.state going)
 
     pub judge_goes : Goes p answers open_calls b (event.Judge j) (rows.judge_job b at.place (rows.judgement j at))
     judge_goes = by at.run.state refl at.job.state refl
