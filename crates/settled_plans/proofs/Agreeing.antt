@@ -4,7 +4,7 @@ use Rattle.std.specs.List.{AllZip}
 use Rattle.std.proofs.Math.Seq.{take-append_seam}
 use Rattle.std.proofs.lemmas.Bool.{true≢false}
 use Rattle.std.proofs.lemmas.Option.{slice_get-map}
-use Rattle.board_decisions.specs.Derived.{is_open}
+use Rattle.board_decisions.specs.Derived.{is_closed, is_open, is_ended}
 use Rattle.flow_model.specs.Laws.{NeedsPointBack}
 use Rattle.flow_model.specs.Plain.{Plain}
 use Rattle.flow_model.specs.Rules.{IsPlan}
@@ -15,8 +15,10 @@ use Rattle.flow_model.specs.declared.board.Job.{Job}
 use Rattle.flow_model.specs.declared.board.JobState.{JobState}
 use Rattle.flow_model.specs.declared.board.JobState.TheVariants as job_state
 use Rattle.flow_model.specs.declared.board.Leg.{Leg}
+use Rattle.flow_model.specs.declared.board.LegState.{LegState}
 use Rattle.flow_model.specs.declared.board.LegState.TheVariants as leg_state
 use Rattle.flow_model.specs.declared.board.Run.{Run}
+use Rattle.flow_model.specs.declared.board.RunState.{RunState}
 use Rattle.flow_model.specs.declared.board.RunState.TheVariants as run_state
 use Rattle.flow_model.specs.declared.event.Entry.{Entry}
 use Rattle.flow_model.specs.declared.event.Outcome.{Outcome}
@@ -25,23 +27,24 @@ use Rattle.flow_model.specs.declared.plan.Plan.{Plan}
 use Rattle.flow_model.specs.declared.plan.RunPlan.{RunPlan}
 use Rattle.flow_model.specs.declared.plan.StepPlan.{StepPlan}
 use Rattle.flow_model.specs.declared.reply.StepCall.{StepCall}
-use Rattle.settled_plans.specs.Agrees.{LegAgrees, JobAgrees, RunAgrees, Agrees}
+use Rattle.settled_plans.specs.Agrees.{LegAgrees, JobAgrees, RunAgrees, Agrees, LegIsSettled, JobIsSettled, RunIsSettled, IsSettled, PlaysAsSettled, FinishesAsSettled}
 use Rattle.settled_plans.specs.Free.{IsFree}
 use Rattle.settled_plans.specs.Histories.{LeadsTo}
 use Rattle.settled_plans.specs.Sees.{Spot}
 use Rattle.settled_plans.specs.Settled.{Answers, SettledLeg, SettledJob, shut, opened, SettledRun, next_done, steps_from, steps_then, leg_settled, spot_at, legs_from, legs_settled, needs_of, job_settled, jobs_from, run_after, run_settled, leg_count, runs_from, settled}
+use Rattle.status_table.specs.Moves.{finished}
 use Rattle.status_table.specs.Runs.{new_leg, new_job, new_run, new_board, after}
 use Rattle.status_table.specs.Shape.{JobShape, RunShape}
 use Rattle.status_table.proofs.Counts.{zip-left}
 use Rattle.status_table.proofs.Lawfulness.{new_lawful}
 use Rattle.status_table.proofs.Legal.{new_fits}
-use Rattle.status_table.proofs.Lists.{same_some, no_some, zip-length}
+use Rattle.status_table.proofs.Lists.{same_some, no_some, zip-length, all-get}
 use Rattle.settled_plans.proofs.Ends.{leg_is}
 use Rattle.settled_plans.proofs.InPlay.{Stands, IsFit}
 use Rattle.settled_plans.proofs.Kept.{after_stands}
 use Rattle.settled_plans.proofs.Lists.{zip-each}
 use Rattle.settled_plans.proofs.Numbers.{before_run, before_job}
-use Rattle.settled_plans.proofs.Played.{fresh_leg, is_judged, LegPlayed, StateStands, JobPlayed, jobs_of, RunPlayed, Played, jobs_size, job_item}
+use Rattle.settled_plans.proofs.Played.{fresh_leg, is_judged, LegPlayed, StateStands, JobPlayed, JobOver, jobs_of, RunPlayed, Played, jobs_size, job_item}
 
 -- ---- the board on which all is new
 
@@ -200,10 +203,98 @@ stands_agrees p answers calls b stands =
     (same_some (run_settled answers (before_run r p.runs) planned.0) given (sym (item ∙ ap (λ n. Some (run_settled answers n planned.0)) none) ∙ at))
     (run_agrees answers (before_run r p.runs) planned.0 calls run planned.2 (stands.played r planned.0 run planned.1 there)))
 
-pub plays_as_settled : NeedsPointBack → ((p : Plan) → IsPlan p → SoundPlan p) → (p : Plan) → IsPlan p → IsFree p → (answers : Answers) (es : List Entry) (b : Board)
-    → LeadsTo p answers es b → Agrees (settled p answers) b
+-- ---- a board that is finished
+
+closed-result : (s : RunState) → is_closed s ≡ true → (result : Outcome) × (s ≡ run_state.Closed result)
+closed-result run_state.New h = absurd (true≢false (sym h))
+closed-result run_state.Waiting h = absurd (true≢false (sym h))
+closed-result run_state.Going h = absurd (true≢false (sym h))
+closed-result (run_state.Closed result) h = (result, refl)
+
+leg_finished : (answers : Answers) (spot : Spot) (call : Option StepCall) (leg : Leg) → LegPlayed answers spot call leg → is_ended leg.state ≡ true → LegIsSettled (leg_settled answers spot) leg
+leg_finished answers spot call leg played ended = by leg.state refl ended
+  where
+    by : (s : LegState) → leg.state ≡ s → is_ended s ≡ true → LegIsSettled (leg_settled answers spot) leg
+    by leg_state.Fresh is h = absurd (true≢false (sym h))
+    by leg_state.Waiting is h = absurd (true≢false (sym h))
+    by leg_state.Admitted is h = absurd (true≢false (sym h))
+    by (leg_state.Running worker in_call) is h = absurd (true≢false (sym h))
+    by (leg_state.Ended result tolerated) is h =
+        let all = leg_is answers spot call leg result tolerated played is in
+        record {
+          result = result;
+          tolerated = tolerated;
+          state = is;
+          steps = sym (ap (λ (x : SettledLeg). x.steps) all);
+          finish = ap (λ (x : SettledLeg). x.finish) all;
+        }
+
+job_finished : (answers : Answers) (run : RunPlan) (before : List SettledJob) (first : ℕ) (plan : JobPlan) (calls : ℕ → Option StepCall) (job : Job) → length job.legs ≡ length plan.legs
+    → JobPlayed answers run before first plan calls job → JobOver job → JobIsSettled (job_settled answers run first before plan) job.legs job.state
+job_finished answers run before first plan calls job size played over =
+    by job.state played.state over.judged (λ opened k leg is. over.ended opened k leg is)
+  where
+    by : (s : JobState) → StateStands (job_settled answers run first before plan) (legs_settled answers run plan (needs_of run before plan) first) s → is_judged s ≡ true
+        → (is_open s ≡ true → (k : ℕ) (leg : Leg) → slice_get job.legs k ≡ Some leg → is_ended leg.state ≡ true)
+        → JobIsSettled (job_settled answers run first before plan) job.legs s
+    by job_state.Unjudged stands was ended = true≢false (sym was)
+    by (job_state.Shut result) stands was ended = stands
+    by job_state.Open stands was ended = (
+      legs_settled answers run plan (needs_of run before plan) first,
+      stands,
+      zip-each LegIsSettled (legs_settled answers run plan (needs_of run before plan) first) job.legs (legs_size answers run plan (needs_of run before plan) first 0 plan.legs ∙ sym size)
+          (λ i given leg at there.
+          let none : i ≡ 0 + i = omega arith in
+          subst (λ (x : SettledLeg). LegIsSettled x leg)
+          (ap (λ n. leg_settled answers (spot_at run plan (needs_of run before plan) first n)) none ∙ leg_item answers run plan (needs_of run before plan) first 0 plan.legs i given at)
+          (leg_finished answers (spot_at run plan (needs_of run before plan) first i) (calls (first + i)) leg (played.legs i leg there) (ended refl i leg there))),
+    )
+
+run_finished : (answers : Answers) (first : ℕ) (plan : RunPlan) (calls : ℕ → Option StepCall) (run : Run) → AllZip JobShape plan.jobs run.jobs
+    → RunPlayed answers first plan calls run → is_closed run.state ≡ true → RunIsSettled (run_settled answers first plan) run
+unfolding run_settled
+run_finished answers first plan calls run shape played was =
+    let closed = closed-result run.state was in
+    record {
+      jobs = zip-each (λ given job. JobIsSettled given job.legs job.state) (jobs_of answers first plan) run.jobs
+          (jobs_size answers plan first [] plan.jobs ∙ zip-length JobShape plan.jobs run.jobs shape) (λ j given job at there.
+          let planned = zip-left JobShape plan.jobs run.jobs j job there shape in
+          let item = job_item answers plan first [] plan.jobs j planned.0 planned.1 in
+          subst (λ (x : SettledJob). JobIsSettled x job.legs job.state)
+          (same_some (job_settled answers plan (first + before_job j plan.jobs) (take j (jobs_of answers first plan)) planned.0) given (sym item ∙ at))
+          (job_finished answers plan (take j (jobs_of answers first plan)) (first + before_job j plan.jobs) planned.0 calls job planned.2.legs (played.jobs j planned.0 job planned.1 there)
+          (played.over was j job there)));
+      result = closed.0;
+      state = closed.1;
+      given_result = played.closed closed.0 closed.1;
+    }
+
+stands_finished : (p : Plan) (answers : Answers) (calls : ℕ → Option StepCall) (b : Board) → Stands p answers calls b → finished b ≡ true → IsSettled (settled p answers) b
+unfolding settled
+stands_finished p answers calls b stands all =
+    zip-each RunIsSettled (runs_from answers 0 p.runs) b.runs (runs_size answers 0 p.runs ∙ zip-length RunShape p.runs b.runs stands.fits.shape) (λ r given run at there.
+    let planned = zip-left RunShape p.runs b.runs r run there stands.fits.shape in
+    let item = run_item answers 0 p.runs r planned.0 planned.1 in
+    let none : 0 + before_run r p.runs ≡ before_run r p.runs = omega arith in
+    subst (λ (x : SettledRun). RunIsSettled x run)
+    (same_some (run_settled answers (before_run r p.runs) planned.0) given (sym (item ∙ ap (λ n. Some (run_settled answers n planned.0)) none) ∙ at))
+    (run_finished answers (before_run r p.runs) planned.0 calls run planned.2 (stands.played r planned.0 run planned.1 there)
+    (all-get (λ (x : Run). is_closed x.state) b.runs r run there all)))
+
+-- ---- each list of entries
+
+ends_so : NeedsPointBack → ((p : Plan) → IsPlan p → SoundPlan p) → (p : Plan) → IsPlan p → IsFree p → (answers : Answers) (es : List Entry) (b : Board)
+    → LeadsTo p answers es b → (later : ℕ → Option StepCall) × Stands p answers later b
+ends_so back sound p rules free answers es b led =
+    after_stands p (record { rules = rules; back = back; free = free }) answers es (λ l. None) (new_board p) b
+    (record { fits = new_fits p; lawful = new_lawful p (sound p rules); played = new_played p answers (λ l. None) }) led.leads led.answered
+
+pub plays_as_settled : NeedsPointBack → ((p : Plan) → IsPlan p → SoundPlan p) → PlaysAsSettled
 plays_as_settled back sound p rules free answers es b led =
-    let start : Stands p answers (λ l. None) (new_board p) =
-    record { fits = new_fits p; lawful = new_lawful p (sound p rules); played = new_played p answers (λ l. None) } in
-    let end = after_stands p (record { rules = rules; back = back; free = free }) answers es (λ l. None) (new_board p) b start led.leads led.answered in
+    let end = ends_so back sound p rules free answers es b led in
     stands_agrees p answers end.0 b end.1
+
+pub finishes_as_settled : NeedsPointBack → ((p : Plan) → IsPlan p → SoundPlan p) → FinishesAsSettled
+finishes_as_settled back sound p rules free answers es b led all =
+    let end = ends_so back sound p rules free answers es b led in
+    stands_finished p answers end.0 b end.1 all
