@@ -1,5 +1,5 @@
 -- A board that is played as settled agrees with what is settled.
-use Rattle.std.proofs.Common.{◌≡◌, ℕ, zero, suc, ◌+◌, Bool, true, false, List, [], ◌∷◌, ◌++◌, Option, Some, None, option_map, length, map, take, drop, slice_get, ap, subst, sym, refl, ◌∙◌, arith}
+use Rattle.std.proofs.Common.{◌≡◌, ℕ, zero, suc, ◌+◌, Bool, true, List, [], ◌∷◌, ◌++◌, Option, Some, None, option_map, length, map, take, drop, slice_get, ap, subst, sym, refl, ◌∙◌, arith}
 use Rattle.std.specs.List.{AllZip}
 use Rattle.std.proofs.Math.Seq.{take-append_seam}
 use Rattle.std.proofs.lemmas.Bool.{true≢false}
@@ -8,7 +8,7 @@ use Rattle.board_decisions.specs.Derived.{is_closed, is_open, is_ended}
 use Rattle.flow_model.specs.Laws.{NeedsPointBack}
 use Rattle.flow_model.specs.Plain.{Plain}
 use Rattle.flow_model.specs.Rules.{IsPlan}
-use Rattle.flow_model.specs.Sound.{SoundPlan, Each}
+use Rattle.flow_model.specs.Sound.{SoundPlan}
 use Rattle.flow_model.specs.declared.board.Board.{Board}
 use Rattle.flow_model.specs.declared.board.DoneStep.{DoneStep}
 use Rattle.flow_model.specs.declared.board.Job.{Job}
@@ -31,16 +31,16 @@ use Rattle.settled_plans.specs.Agrees.{LegAgrees, JobAgrees, RunAgrees, Agrees, 
 use Rattle.settled_plans.specs.Free.{IsFree}
 use Rattle.settled_plans.specs.Histories.{LeadsTo}
 use Rattle.settled_plans.specs.Sees.{Spot}
-use Rattle.settled_plans.specs.Settled.{Answers, SettledLeg, SettledJob, shut, opened, SettledRun, next_done, steps_from, steps_then, leg_settled, spot_at, legs_from, legs_settled, needs_of, job_settled, jobs_from, run_after, run_settled, leg_count, runs_from, settled}
+use Rattle.settled_plans.specs.Settled.{Answers, SettledLeg, SettledJob, SettledRun, next_done, steps_from, steps_then, leg_settled, spot_at, legs_from, legs_settled, needs_of, job_settled, run_settled, leg_count, runs_from, settled}
 use Rattle.status_table.specs.Moves.{finished}
-use Rattle.status_table.specs.Runs.{new_leg, new_job, new_run, new_board, after}
+use Rattle.status_table.specs.Runs.{new_leg, new_job, new_run, new_board}
 use Rattle.status_table.specs.Shape.{JobShape, RunShape}
 use Rattle.status_table.proofs.Counts.{zip-left}
 use Rattle.status_table.proofs.Lawfulness.{new_lawful}
 use Rattle.status_table.proofs.Legal.{new_fits}
 use Rattle.status_table.proofs.Lists.{same_some, no_some, zip-length, all-get}
 use Rattle.settled_plans.proofs.Ends.{leg_is}
-use Rattle.settled_plans.proofs.InPlay.{Stands, IsFit}
+use Rattle.settled_plans.proofs.InPlay.{Stands}
 use Rattle.settled_plans.proofs.Kept.{after_stands}
 use Rattle.settled_plans.proofs.Lists.{zip-each}
 use Rattle.settled_plans.proofs.Numbers.{before_run, before_job}
@@ -171,10 +171,10 @@ job_agrees answers run before first plan calls job size played = record {
     legs_settled answers run plan (needs_of run before plan) first,
     subst (λ s. StateStands (job_settled answers run first before plan) (legs_settled answers run plan (needs_of run before plan) first) s) is played.state,
     zip-each LegAgrees (legs_settled answers run plan (needs_of run before plan) first) job.legs (legs_size answers run plan (needs_of run before plan) first 0 plan.legs ∙ sym size) (λ i given leg at there.
-    let none : i ≡ 0 + i = omega arith in
-    subst (λ (x : SettledLeg). LegAgrees x leg)
-    (ap (λ n. leg_settled answers (spot_at run plan (needs_of run before plan) first n)) none ∙ leg_item answers run plan (needs_of run before plan) first 0 plan.legs i given at)
-    (leg_agrees answers (spot_at run plan (needs_of run before plan) first i) (calls (first + i)) leg (played.legs i leg there))),
+        let none : i ≡ 0 + i = omega arith in
+        subst (λ (x : SettledLeg). LegAgrees x leg)
+        (ap (λ n. leg_settled answers (spot_at run plan (needs_of run before plan) first n)) none ∙ leg_item answers run plan (needs_of run before plan) first 0 plan.legs i given at)
+        (leg_agrees answers (spot_at run plan (needs_of run before plan) first i) (calls (first + i)) leg (played.legs i leg there))),
   );
   else_untouched = λ unopened k leg is. ap (λ (x : Leg). x.steps) (played.untouched unopened k leg is);
 }
@@ -205,7 +205,7 @@ stands_agrees p answers calls b stands =
 
 -- ---- a board that is finished
 
-closed-result : (s : RunState) → is_closed s ≡ true → (result : Outcome) × (s ≡ run_state.Closed result)
+pub closed-result : (s : RunState) → is_closed s ≡ true → (result : Outcome) × (s ≡ run_state.Closed result)
 closed-result run_state.New h = absurd (true≢false (sym h))
 closed-result run_state.Waiting h = absurd (true≢false (sym h))
 closed-result run_state.Going h = absurd (true≢false (sym h))
@@ -283,7 +283,7 @@ stands_finished p answers calls b stands all =
 
 -- ---- each list of entries
 
-ends_so : NeedsPointBack → ((p : Plan) → IsPlan p → SoundPlan p) → (p : Plan) → IsPlan p → IsFree p → (answers : Answers) (es : List Entry) (b : Board)
+pub ends_so : NeedsPointBack → ((p : Plan) → IsPlan p → SoundPlan p) → (p : Plan) → IsPlan p → IsFree p → (answers : Answers) (es : List Entry) (b : Board)
     → LeadsTo p answers es b → (later : ℕ → Option StepCall) × Stands p answers later b
 ends_so back sound p rules free answers es b led =
     after_stands p (record { rules = rules; back = back; free = free }) answers es (λ l. None) (new_board p) b

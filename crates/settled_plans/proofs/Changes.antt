@@ -1,6 +1,5 @@
 -- One change of a run, of a job or of a leg, after which all is played as settled.
-use Rattle.std.proofs.Common.{◌≡◌, ◌≢◌, ℕ, ◌+◌, ◌-◌, ◌<◌, Bool, true, false, List, [], ◌∷◌, Option, Some, None, length, take, slice_get, ap, subst, sym, refl, ◌∙◌, arith}
-use Rattle.std.specs.List.{AllZip}
+use Rattle.std.proofs.Common.{◌≡◌, ◌≢◌, ℕ, ◌+◌, ◌-◌, true, false, List, Option, Some, None, take, slice_get, ap, subst, sym, ◌∙◌, arith}
 use Rattle.std.proofs.lemmas.Bool.{true≢false}
 use Rattle.std.proofs.lemmas.Option.{slice_get_within}
 use Rattle.board_decisions.specs.Derived.{is_closed, is_open, needs_have_ended}
@@ -8,7 +7,6 @@ use Rattle.board_decisions.specs.Place.{leg_place}
 use Rattle.board_decisions.specs.declared.place.LegPlace.{LegPlace}
 use Rattle.flow_model.specs.declared.board.Board.{Board}
 use Rattle.flow_model.specs.declared.board.Job.{Job}
-use Rattle.flow_model.specs.declared.board.JobState.{JobState}
 use Rattle.flow_model.specs.declared.board.Leg.{Leg}
 use Rattle.flow_model.specs.declared.board.Run.{Run}
 use Rattle.flow_model.specs.declared.board.RunState.TheVariants as run_state
@@ -17,14 +15,13 @@ use Rattle.flow_model.specs.declared.plan.JobPlan.{JobPlan}
 use Rattle.flow_model.specs.declared.plan.Plan.{Plan}
 use Rattle.flow_model.specs.declared.plan.RunPlan.{RunPlan}
 use Rattle.flow_model.specs.declared.reply.StepCall.{StepCall}
-use Rattle.settled_plans.specs.Sees.{Spot}
-use Rattle.settled_plans.specs.Settled.{Answers, SettledJob, spot_at, needs_of, legs_settled, job_settled, run_after}
-use Rattle.status_table.specs.Change.{changed, with_run, with_job, with_leg}
+use Rattle.settled_plans.specs.Settled.{Answers, SettledJob, spot_at, needs_of, run_after}
+use Rattle.status_table.specs.Change.{changed, with_leg}
 use Rattle.status_table.specs.Shape.{HasShape}
 use Rattle.status_table.specs.Stays.{RunStays, Stays}
 use Rattle.status_table.proofs.Ended.{needs-later}
-use Rattle.status_table.proofs.Lists.{same_some, changed-there, changed-elsewhere, zip-get}
-use Rattle.settled_plans.proofs.Lists.{changed-item, each-changed}
+use Rattle.status_table.proofs.Lists.{same_some, changed-there, zip-get}
+use Rattle.settled_plans.proofs.Lists.{each-changed}
 use Rattle.settled_plans.proofs.Numbers.{before_run, before_job, leg_spot, place_at}
 use Rattle.settled_plans.proofs.Played.{fresh_leg, is_judged, LegPlayed, JobPlayed, JobOver, jobs_of, RunPlayed, Played}
 

@@ -1,14 +1,13 @@
 -- What has ended on a board beside what is settled: legs, and jobs with their results and outputs.
-use Rattle.std.proofs.Common.{◌≡◌, ◌⊎◌, ℕ, zero, suc, ◌+◌, ◌<◌, ◌≤◌, ◌==◌, ◌&&◌, ◌||◌, Bool, true, false, not, List, [], ◌∷◌, Option, Some, None, option_map, length, map, drop, slice_get, if◌then◌else◌, inl, inr, ap, subst, sym, refl, ◌∙◌, arith}
-use Rattle.std.specs.List.{list_all, list_any}
+use Rattle.std.proofs.Common.{◌≡◌, ℕ, zero, suc, ◌+◌, ◌≤◌, ◌==◌, ◌&&◌, ◌||◌, Bool, true, false, not, List, [], ◌∷◌, Option, Some, None, option_map, length, map, drop, slice_get, if◌then◌else◌, inl, inr, ap, subst, sym, refl, ◌∙◌, arith}
+use Rattle.std.specs.List.{list_any}
 use Rattle.std.proofs.lemmas.Bool.{true≢false}
 use Rattle.std.proofs.lemmas.Bool.Decides.{nat_tests}
 use Rattle.board_decisions.specs.Contexts.{overlaid, job_outputs}
-use Rattle.board_decisions.specs.Derived.{is_failure, is_cancelled, is_closed, is_open, is_shut, is_ended, has_failed, was_cancelled, leg_has_ended, job_has_ended, legs_result, result_by, job_result}
+use Rattle.board_decisions.specs.Derived.{is_failure, is_cancelled, is_closed, is_open, is_shut, is_ended, has_failed, was_cancelled, leg_has_ended, job_has_ended, result_by, job_result}
 use Rattle.board_decisions.specs.declared.place.JobPlace.{JobPlace}
 use Rattle.flow_model.specs.Plain.{Plain}
 use Rattle.flow_model.specs.declared.board.Board.{Board}
-use Rattle.flow_model.specs.declared.board.DoneStep.{DoneStep}
 use Rattle.flow_model.specs.declared.board.Job.{Job}
 use Rattle.flow_model.specs.declared.board.JobState.{JobState}
 use Rattle.flow_model.specs.declared.board.JobState.TheVariants as job_state
@@ -16,9 +15,7 @@ use Rattle.flow_model.specs.declared.board.Leg.{Leg}
 use Rattle.flow_model.specs.declared.board.LegState.{LegState}
 use Rattle.flow_model.specs.declared.board.LegState.TheVariants as leg_state
 use Rattle.flow_model.specs.declared.board.Run.{Run}
-use Rattle.flow_model.specs.declared.board.RunState.{RunState}
 use Rattle.flow_model.specs.declared.event.Outcome.{Outcome}
-use Rattle.flow_model.specs.declared.event.Outcome.TheVariants as outcome
 use Rattle.flow_model.specs.declared.plan.JobPlan.{JobPlan}
 use Rattle.flow_model.specs.declared.plan.Plan.{Plan}
 use Rattle.flow_model.specs.declared.plan.RunPlan.{RunPlan}
@@ -35,10 +32,9 @@ use Rattle.text_values.specs.Env.{laid_over}
 use Rattle.text_values.specs.Outputs.{outputs_value}
 use Rattle.text_values.specs.Values.{Env}
 use Rattle.text_values.specs.declared.place.Place.TheVariants as place_name
-use Rattle.board_decisions.proofs.Lists.{and-left, and-right}
-use Rattle.status_table.proofs.Lists.{same_some, no_some, all-get}
+use Rattle.status_table.proofs.Lists.{all-get}
 use Rattle.settled_plans.proofs.Outputs.{no_outputs, one_outputs}
-use Rattle.settled_plans.proofs.Played.{fresh_leg, EndsRightly, LegPlayed, StateStands, JobPlayed, JobOver, judged-or}
+use Rattle.settled_plans.proofs.Played.{LegPlayed, StateStands, JobPlayed, JobOver, judged-or}
 
 -- ---- legs
 
@@ -67,14 +63,14 @@ unfolding outputs_of_leg outputs_value
 empty_outputs sees run job none = ap (outputs_value (sees place_name.StepEnv (or_none (job_variables sees run job)))) none
 
 -- a leg that is Ended, and what is settled of it
-record EndedAs (answers : Answers) (spot : Spot) (leg : Leg) : Type 0 where
-  result : Outcome
-  tolerated : Bool
-  state_is : leg.state ≡ leg_state.Ended result tolerated
-  settled_is : leg_settled answers spot ≡ record { steps = leg.steps; finish = Some (record { result = result; tolerated = tolerated; outputs = leg.outputs }) }
-  empty : spot.job.outputs ≡ [] → leg.outputs ≡ []
+pub record EndedAs (answers : Answers) (spot : Spot) (leg : Leg) : Type 0 where
+  pub result : Outcome
+  pub tolerated : Bool
+  pub state_is : leg.state ≡ leg_state.Ended result tolerated
+  pub settled_is : leg_settled answers spot ≡ record { steps = leg.steps; finish = Some (record { result = result; tolerated = tolerated; outputs = leg.outputs }) }
+  pub empty : spot.job.outputs ≡ [] → leg.outputs ≡ []
 
-ended_as : (answers : Answers) (spot : Spot) (call : Option StepCall) (leg : Leg) → LegPlayed answers spot call leg → is_ended leg.state ≡ true → EndedAs answers spot leg
+pub ended_as : (answers : Answers) (spot : Spot) (call : Option StepCall) (leg : Leg) → LegPlayed answers spot call leg → is_ended leg.state ≡ true → EndedAs answers spot leg
 unfolding finish_of
 ended_as answers spot call leg played ended = by leg.state refl ended
   where

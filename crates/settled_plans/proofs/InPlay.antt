@@ -1,11 +1,11 @@
 -- A leg in play, seen beside what is settled of it.
-use Rattle.std.proofs.Common.{◌≡◌, ◌≢◌, ℕ, zero, suc, nat_lt, ◌+◌, ◌-◌, ◌<◌, ◌≤◌, ◌&&◌, ◌||◌, Bool, true, false, not, List, [], ◌∷◌, ◌++◌, Option, Some, None, Result, Ok, Err, length, take, drop, slice_get, if◌then◌else◌, inl, inr, ap, subst, sym, refl, ◌∙◌, arith}
-use Rattle.std.specs.List.{list_all, list_any, AllZip}
+use Rattle.std.proofs.Common.{◌≡◌, ℕ, zero, suc, nat_lt, ◌+◌, ◌-◌, ◌&&◌, ◌||◌, Bool, true, false, not, List, [], ◌∷◌, Option, Some, length, take, slice_get, if◌then◌else◌, inl, inr, ap, sym, refl, ◌∙◌, arith}
+use Rattle.std.specs.List.{list_all, list_any}
 use Rattle.std.proofs.lemmas.Bool.{true≢false, le-leb}
 use Rattle.board_decisions.specs.Contexts.{job_of, needs_value}
-use Rattle.board_decisions.specs.Decisions.{is_true, job_condition, stops_anyway, is_stopping, leg_result}
-use Rattle.board_decisions.specs.Derived.{is_going, is_closed, is_open, is_ended, is_failure, has_failed, is_under_way, needs_have_ended}
-use Rattle.board_decisions.specs.Place.{◌>>=◌, RunAt, JobAt, LegAt, run_at, job_in_run, job_placed, job_at, leg_at, job_place, leg_place}
+use Rattle.board_decisions.specs.Decisions.{is_true, job_condition, is_stopping, leg_result}
+use Rattle.board_decisions.specs.Derived.{is_closed, is_open, is_ended, is_failure, has_failed}
+use Rattle.board_decisions.specs.Place.{◌>>=◌, RunAt, JobAt, LegAt, run_at, job_placed, job_at, leg_at, job_place, leg_place}
 use Rattle.board_decisions.specs.declared.place.JobPlace.{JobPlace}
 use Rattle.board_decisions.specs.declared.place.LegPlace.{LegPlace}
 use Rattle.expr_value.specs.declared.status.Status.TheVariants as status
@@ -13,7 +13,6 @@ use Rattle.flow_model.specs.Laws.{NeedsPointBack}
 use Rattle.flow_model.specs.Numbers.{first_job}
 use Rattle.flow_model.specs.Plain.{Plain}
 use Rattle.flow_model.specs.Rules.{IsPlan}
-use Rattle.flow_model.specs.Sound.{Each}
 use Rattle.flow_model.specs.declared.board.Board.{Board}
 use Rattle.flow_model.specs.declared.board.Job.{Job}
 use Rattle.flow_model.specs.declared.board.JobState.{JobState}
@@ -22,19 +21,16 @@ use Rattle.flow_model.specs.declared.board.Leg.{Leg}
 use Rattle.flow_model.specs.declared.board.LegState.{LegState}
 use Rattle.flow_model.specs.declared.board.LegState.TheVariants as leg_state
 use Rattle.flow_model.specs.declared.board.Run.{Run}
-use Rattle.flow_model.specs.declared.event.Outcome.{Outcome}
 use Rattle.flow_model.specs.declared.event.Outcome.TheVariants as outcome
 use Rattle.flow_model.specs.declared.plan.JobPlan.{JobPlan}
 use Rattle.flow_model.specs.declared.plan.Plan.{Plan}
 use Rattle.flow_model.specs.declared.plan.RunPlan.{RunPlan}
-use Rattle.flow_model.specs.declared.plan.StepPlan.{StepPlan}
 use Rattle.flow_model.specs.declared.reply.StepCall.{StepCall}
-use Rattle.settled_plans.specs.Free.{JobIsFree, RunIsFree, IsFree}
+use Rattle.settled_plans.specs.Free.{JobIsFree, IsFree}
 use Rattle.settled_plans.specs.Sees.{Spot}
 use Rattle.settled_plans.specs.Settled.{Answers, SettledJob, counts, spot_at, needs_of}
-use Rattle.status_table.specs.Ends.{EndOnce}
-use Rattle.status_table.specs.Lawful.{RunFits, MembersFit, Lawful}
-use Rattle.status_table.specs.Shape.{JobShape, RunShape, HasShape}
+use Rattle.status_table.specs.Lawful.{RunFits, Lawful}
+use Rattle.status_table.specs.Shape.{JobShape, RunShape}
 use Rattle.board_decisions.proofs.Lists.{and-both}
 use Rattle.status_table.proofs.Found.{LegStands, leg_stands}
 use Rattle.status_table.proofs.Lists.{same_some, no_some, bind-some, zip-get}

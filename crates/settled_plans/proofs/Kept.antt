@@ -1,45 +1,25 @@
 -- Each list of entries leads to a board that is played as settled.
-use Rattle.std.proofs.Common.{◌≡◌, ℕ, zero, suc, ◌<◌, Bool, true, false, List, [], ◌∷◌, Option, Some, None, Result, Ok, Err, length, map, take, slice_get, nat_le, if◌then◌else◌, ap, subst, sym, refl, ◌∙◌, arith}
-use Rattle.std.specs.List.{AllZip}
+use Rattle.std.proofs.Common.{◌≡◌, ℕ, suc, List, [], ◌∷◌, Option, Some, None, Ok, Err, take, slice_get, nat_le, subst, refl}
 use Rattle.board_decisions.specs.Place.{RunAt, JobAt, LegAt, run_at, job_at, leg_at}
-use Rattle.flow_model.specs.Laws.{NeedsPointBack}
-use Rattle.flow_model.specs.Plain.{Plain}
-use Rattle.flow_model.specs.Rules.{IsPlan}
-use Rattle.flow_model.specs.Sound.{SoundPlan}
 use Rattle.flow_model.specs.declared.board.Board.{Board}
-use Rattle.flow_model.specs.declared.board.Job.{Job}
-use Rattle.flow_model.specs.declared.board.JobState.{JobState}
-use Rattle.flow_model.specs.declared.board.JobState.TheVariants as job_state
-use Rattle.flow_model.specs.declared.board.Leg.{Leg}
-use Rattle.flow_model.specs.declared.board.LegState.TheVariants as leg_state
-use Rattle.flow_model.specs.declared.board.Run.{Run}
-use Rattle.flow_model.specs.declared.board.RunState.TheVariants as run_state
 use Rattle.flow_model.specs.declared.event.Entry.{Entry}
 use Rattle.flow_model.specs.declared.event.Event.{Event}
 use Rattle.flow_model.specs.declared.event.Event.TheVariants as event
-use Rattle.flow_model.specs.declared.event.Outcome.{Outcome}
-use Rattle.flow_model.specs.declared.plan.JobPlan.{JobPlan}
 use Rattle.flow_model.specs.declared.plan.Plan.{Plan}
-use Rattle.flow_model.specs.declared.plan.RunPlan.{RunPlan}
 use Rattle.flow_model.specs.declared.reply.StepCall.{StepCall}
-use Rattle.settled_plans.specs.Free.{IsFree}
-use Rattle.settled_plans.specs.Histories.{IsAnswered, LeadsTo}
+use Rattle.settled_plans.specs.Histories.{IsAnswered}
 use Rattle.settled_plans.specs.Settled.{Answers}
 use Rattle.status_table.specs.declared.fault.EventFault.TheVariants as fault
-use Rattle.status_table.specs.Calls.{call_after, then_call, call_from, open_call}
+use Rattle.status_table.specs.Calls.{call_after, then_call, call_from}
 use Rattle.status_table.specs.Row.{Row, row, event_row}
 use Rattle.status_table.specs.Row as rows
-use Rattle.status_table.specs.Runs.{new_leg, new_job, new_run, new_board, then_after, after_from, after}
-use Rattle.status_table.specs.Stays.{Stays}
+use Rattle.status_table.specs.Runs.{then_after, after_from}
 use Rattle.status_table.proofs.Entering.{Leads}
 use Rattle.status_table.proofs.Keeps.{Keeps, row_keeps}
-use Rattle.status_table.proofs.Lawfulness.{new_lawful}
-use Rattle.status_table.proofs.Legal.{new_fits}
 use Rattle.status_table.proofs.Lists.{same_some, no_some}
 use Rattle.status_table.proofs.Rows.{row_leads}
 use Rattle.settled_plans.proofs.InPlay.{Stands, IsFit}
 use Rattle.settled_plans.proofs.LegEvents.{Goes, goes-if, ask_goes, drop_goes, take_goes, begin_goes, end_goes, finish_goes}
-use Rattle.settled_plans.proofs.Played.{fresh_leg, Played}
 use Rattle.settled_plans.proofs.RunEvents.{open_goes, close_goes, judge_goes}
 
 -- ---- one entry

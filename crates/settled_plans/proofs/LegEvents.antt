@@ -1,9 +1,8 @@
 -- The events of legs keep what is played as settled.
-use Rattle.std.proofs.Common.{◌≡◌, ◌≢◌, ℕ, zero, suc, ◌+◌, ◌<◌, ◌≤◌, ◌==◌, ◌&&◌, ◌++◌, Bool, true, false, not, List, [], ◌∷◌, Option, Some, None, Result, Ok, Err, option_map, length, take, drop, slice_get, nat_le, nat_lt, if◌then◌else◌, ap, subst, sym, refl, ◌∙◌, arith}
+use Rattle.std.proofs.Common.{◌≡◌, ◌≢◌, ℕ, zero, suc, ◌+◌, ◌≤◌, ◌==◌, ◌&&◌, ◌++◌, Bool, true, false, not, List, [], ◌∷◌, Option, Some, None, Result, Ok, Err, option_map, length, take, drop, slice_get, nat_lt, if◌then◌else◌, ap, subst, sym, refl, ◌∙◌, arith}
 use Rattle.std.proofs.lemmas.Bool.{true≢false, leb-true}
 use Rattle.std.proofs.lemmas.Bool.Decides.{nat_tests}
 use Rattle.std.proofs.lemmas.List.{length-append}
-use Rattle.std.proofs.lemmas.Option.{slice_get_within}
 use Rattle.board_decisions.specs.declared.entrance.Entrance.{Entrance}
 use Rattle.board_decisions.specs.Decisions.{is_stopping, leg_result, step_decision, leg_outputs, leg_entrance, job_tolerates}
 use Rattle.board_decisions.specs.Derived.{is_going, is_closed, is_open, is_fresh, is_untaken, is_ended, is_failure, is_full, is_under_way}
@@ -32,12 +31,11 @@ use Rattle.flow_model.specs.declared.reply.ValueFault.{ValueFault}
 use Rattle.flow_model.specs.declared.reply.What.TheVariants as what
 use Rattle.settled_plans.specs.Decided.{failure_counts, leg_passes}
 use Rattle.settled_plans.specs.Sees.{Spot}
-use Rattle.settled_plans.specs.Settled.{Answers, SettledJob, Finish, counts, seen_after, next_call, concludes, ends_so, answered, step_by, next_done, steps_from, steps_then, finish_of, spot_at, needs_of}
-use Rattle.status_table.specs.declared.fault.EventFault.{EventFault}
+use Rattle.settled_plans.specs.Settled.{Answers, Finish, counts, seen_after, next_call, concludes, ends_so, answered, step_by, next_done, steps_from, steps_then, finish_of, spot_at, needs_of}
 use Rattle.status_table.specs.declared.fault.EventFault.TheVariants as fault
-use Rattle.status_table.specs.Calls.{called, call_after}
-use Rattle.status_table.specs.Change.{changed, with_leg}
-use Rattle.status_table.specs.Groups.{holding, leg_stands, leg_standing, admitted, moved, enters, leaves, dropped, next_after, passed_on}
+use Rattle.status_table.specs.Calls.{call_after}
+use Rattle.status_table.specs.Change.{with_leg}
+use Rattle.status_table.specs.Groups.{holding, leg_standing, admitted, moved, leaves, dropped}
 use Rattle.status_table.specs.Row.{Row}
 use Rattle.status_table.specs.Row as rows
 use Rattle.status_table.specs.Shape.{has_room, open_calls, JobShape, RunShape}
@@ -50,9 +48,9 @@ use Rattle.status_table.proofs.Lists.{same_some, no_some, all-get, zip-get}
 use Rattle.status_table.proofs.Steps.{Live, going-unclosed}
 use Rattle.status_table.proofs.Turnover.{numbered}
 use Rattle.settled_plans.proofs.Changes.{leg_put}
-use Rattle.settled_plans.proofs.InPlay.{Stands, IsFit, here, run_played, before, first, spot, leg_played, number_is, not_stopping, quiet, spot_is}
+use Rattle.settled_plans.proofs.InPlay.{Stands, IsFit, here, first, spot, leg_played, number_is, not_stopping, quiet, spot_is}
 use Rattle.settled_plans.proofs.Numbers.{before_run, before_job}
-use Rattle.settled_plans.proofs.Played.{CallStands, InCall, EndsRightly, LegPlayed, jobs_of, Played}
+use Rattle.settled_plans.proofs.Played.{CallStands, InCall, LegPlayed, jobs_of, Played}
 use Rattle.settled_plans.proofs.Seen.{spot_of, call_is, failure_is, tolerated_is, outputs_are}
 
 -- A row that is accepted keeps what is played as settled, by the calls that are open after it.
@@ -108,17 +106,16 @@ module _ (p : Plan) (fit : IsFit p) (answers : Answers) (open_calls' : ℕ → O
       let run_is : at.run ≡ run = same_some at.run run (sym there.in_board ∙ in_board) in
       let job_plan_is : at.job_plan ≡ job_plan = same_some at.job_plan job_plan (sym there.job_plan ∙ ap (λ (x : RunPlan). slice_get x.jobs at.place.job) plan_is ∙ in_plan) in
       let job_is : at.job ≡ job = same_some at.job job (sym there.job ∙ ap (λ (x : Run). slice_get x.jobs at.place.job) run_is ∙ in_run) in
-      let leg_is : at.leg ≡ leg = same_some at.leg leg (sym there.leg ∙ ap (λ (x : Job). slice_get x.legs at.place.leg) job_is ∙ in_legs) in
-      (
+      let leg_is : at.leg ≡ leg = same_some at.leg leg (sym there.leg ∙ ap (λ (x : Job). slice_get x.legs at.place.leg) job_is ∙ in_legs) in (
         ap (λ (x : Job). is_open x.state) (sym job_is) ∙ live.opened,
         subst (λ (x : RunPlan). LegPlayed answers
             (spot_at x job_plan (needs_of x (take at.place.job (jobs_of answers (before_run at.place.run p.runs) x)) job_plan) (before_run at.place.run p.runs + before_job at.place.job x.jobs) at.place.leg)
             (later (before_run at.place.run p.runs + before_job at.place.job x.jobs + at.place.leg)) (f leg)) plan_is
-        (subst (λ (x : JobPlan). LegPlayed answers
+            (subst (λ (x : JobPlan). LegPlayed answers
             (spot_at at.run_plan x (needs_of at.run_plan (take at.place.job (jobs_of answers (before_run at.place.run p.runs) at.run_plan)) x) (before_run at.place.run p.runs + before_job at.place.job at.run_plan.jobs) at.place.leg)
             (later (before_run at.place.run p.runs + before_job at.place.job at.run_plan.jobs + at.place.leg)) (f leg)) job_plan_is
-        (subst (λ (x : Leg). LegPlayed answers mine (later (before_run at.place.run p.runs + before_job at.place.job at.run_plan.jobs + at.place.leg)) (f x)) leg_is
-        (subst (λ n. LegPlayed answers mine (later n) (f at.leg)) (number_is p fit answers open_calls' b stands l at is) now))),
+            (subst (λ (x : Leg). LegPlayed answers mine (later (before_run at.place.run p.runs + before_job at.place.job at.run_plan.jobs + at.place.leg)) (f x)) leg_is
+            (subst (λ n. LegPlayed answers mine (later n) (f at.leg)) (number_is p fit answers open_calls' b stands l at is) now))),
       ))
 
   -- a leg that is not in a call and not Ended, with the steps that it had

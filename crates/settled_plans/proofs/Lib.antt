@@ -10,4 +10,5 @@ pub mod Numbers
 pub mod Outputs
 pub mod Played
 pub mod RunEvents
+pub mod Same
 pub mod Seen

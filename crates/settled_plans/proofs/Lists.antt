@@ -1,7 +1,7 @@
 -- Lists of which something holds at each place, and lists made of others.
 use Rattle.std.proofs.Common.{◌≡◌, ◌≢◌, ℕ, zero, suc, ◌<◌, ◌==◌, ◌||◌, Bool, true, false, List, [], ◌∷◌, Option, Some, None, option_map, length, map, take, slice_get, count_by, cond, inl, inr, ap, subst, sym, refl, ◌∙◌, arith}
 use Rattle.std.specs.List.{list_all, list_any, filter_map, cons_option, AllZip}
-use Rattle.std.proofs.lemmas.Bool.{cases_eq, true≢false}
+use Rattle.std.proofs.lemmas.Bool.{cases_eq}
 use Rattle.std.proofs.lemmas.Bool.Decides.{nat_tests}
 use Rattle.std.proofs.lemmas.List.Sums.{sum_by-cons}
 use Rattle.board_decisions.proofs.Lists.{and-left, and-right, and-both}

@@ -1,31 +1,24 @@
 -- What a job looks at once all that it needs has ended: its context `needs` and its status are as settled.
-use Rattle.std.proofs.Common.{◌≡◌, ℕ, zero, suc, ◌+◌, ◌-◌, ◌<◌, ◌≤◌, ◌&&◌, ◌||◌, Bool, true, false, not, List, [], ◌∷◌, Option, Some, None, Ok, option_map, length, map, take, slice_get, nat_le, nat_lt, if◌then◌else◌, is_some, ap, subst, sym, refl, ◌∙◌, arith}
-use Rattle.std.specs.List.{list_all, list_any, filter_map, AllZip}
-use Rattle.std.proofs.lemmas.Bool.{true≢false, leb-true, le-leb}
+use Rattle.std.proofs.Common.{◌≡◌, ℕ, zero, suc, ◌+◌, ◌-◌, ◌<◌, ◌≤◌, ◌&&◌, ◌||◌, Bool, true, false, not, List, [], ◌∷◌, Option, Some, None, option_map, length, map, take, slice_get, nat_lt, is_some, ap, subst, sym, refl, ◌∙◌, arith}
+use Rattle.std.specs.List.{list_all, list_any, AllZip}
+use Rattle.std.proofs.lemmas.Bool.{true≢false, leb-true}
 use Rattle.std.proofs.lemmas.List.{length-take-le, length-map}
 use Rattle.std.proofs.lemmas.Option.{slice_get-map, slice_get_within}
-use Rattle.board_decisions.specs.Contexts.{object, first_number, needed_job, need_pair, needs_value, job_outputs}
-use Rattle.board_decisions.specs.Decisions.{job_condition}
-use Rattle.board_decisions.specs.Derived.{is_success, is_failure, is_closed, holds, holds_at, places_needed, needs_at, some_ancestor, any_ancestor, needs_have_ended, status_by, ancestors_status, job_status, job_has_ended, jobs_have_ended, job_result, job_results}
-use Rattle.board_decisions.specs.Place.{◌>>=◌, JobAt}
-use Rattle.board_decisions.specs.declared.place.JobPlace.{JobPlace}
-use Rattle.expr_value.specs.declared.status.Status.{Status}
-use Rattle.expr_value.specs.declared.status.Status.TheVariants as status
+use Rattle.board_decisions.specs.Contexts.{object, needed_job, need_pair, needs_value}
+use Rattle.board_decisions.specs.Derived.{is_success, is_failure, is_closed, holds, holds_at, places_needed, some_ancestor, any_ancestor, needs_have_ended, status_by, ancestors_status, job_has_ended, jobs_have_ended, job_result, job_results}
+use Rattle.board_decisions.specs.Place.{JobAt}
 use Rattle.flow_model.specs.Numbers.{first_job}
 use Rattle.flow_model.specs.Plain.{Plain}
-use Rattle.flow_model.specs.Sound.{Each}
 use Rattle.flow_model.specs.declared.board.Board.{Board}
 use Rattle.flow_model.specs.declared.board.Job.{Job}
-use Rattle.flow_model.specs.declared.board.JobState.{JobState}
-use Rattle.flow_model.specs.declared.board.JobState.TheVariants as job_state
 use Rattle.flow_model.specs.declared.board.Run.{Run}
 use Rattle.flow_model.specs.declared.event.Outcome.{Outcome}
 use Rattle.flow_model.specs.declared.plan.JobPlan.{JobPlan}
 use Rattle.flow_model.specs.declared.plan.Plan.{Plan}
 use Rattle.flow_model.specs.declared.plan.RunPlan.{RunPlan}
 use Rattle.flow_model.specs.declared.reply.StepCall.{StepCall}
-use Rattle.settled_plans.specs.Free.{JobIsFree, RunIsFree}
-use Rattle.settled_plans.specs.Settled.{Answers, SettledJob, all_given, result_of, outputs_of_job, first_in_run, need_pair_of, need_at, needs_of, has_result, result_passes, needs_given, status_after, condition_after, job_settled}
+use Rattle.settled_plans.specs.Free.{RunIsFree}
+use Rattle.settled_plans.specs.Settled.{Answers, SettledJob, all_given, result_of, first_in_run, need_at, needs_of, has_result, result_passes, needs_given, status_after, job_settled}
 use Rattle.status_table.specs.Ends.{EndOnce}
 use Rattle.status_table.specs.Lawful.{JobFits, RunFits}
 use Rattle.status_table.specs.Shape.{JobShape, RunShape, HasShape}
@@ -36,8 +29,7 @@ use Rattle.status_table.proofs.Lists.{same_some, no_some, zip-get, zip-length, a
 use Rattle.settled_plans.proofs.Ends.{JobEnded, job_ended, is_over}
 use Rattle.settled_plans.proofs.Lists.{get-take, all-by, any-where, any-map, map-filter_map, filter_map-where}
 use Rattle.settled_plans.proofs.Numbers.{before_run, before_job}
-use Rattle.settled_plans.proofs.Played.{JobPlayed, JobOver, jobs_of, RunPlayed, jobs_size, job_item}
-use Rattle.settled_plans.proofs.Seen.{job_condition_is}
+use Rattle.settled_plans.proofs.Played.{JobOver, jobs_of, RunPlayed, jobs_size, job_item}
 
 -- the jobs of a run are numbered from the first on, and need only jobs of it that stand before them
 pub record IsOrdered (first : ℕ) (jobs : List JobPlan) : Type 0 where

@@ -13,7 +13,6 @@ use Rattle.flow_model.specs.declared.plan.Plan.{Plan}
 use Rattle.flow_model.specs.declared.plan.RunPlan.{RunPlan}
 use Rattle.settled_plans.specs.Settled.{leg_count}
 use Rattle.status_table.specs.Shape.{JobShape, RunShape, HasShape}
-use Rattle.status_table.proofs.Counts.{zip-left}
 use Rattle.status_table.proofs.Lists.{same_some, no_some}
 
 -- how many legs stand in the first jobs
@@ -80,10 +79,13 @@ in_runs k (plan ∷ plans) (run ∷ runs) n shape =
     step : ((m : ℕ) → InRuns (suc k) plans m (leg_place_from (suc k) runs m)) → (found : Result LegPlace ℕ) → InJobs k 0 plan.jobs n found
         → InRuns k (plan ∷ plans) n (else_from found (λ left. leg_place_from (suc k) runs left))
     step later (Ok at) h =
-        let at_job : h.0 ≡ at.job = omega (arith, h.2) in
-        (0, omega (arith, h.1), λ q is.
-          let same : before_job h.0 plan.jobs ≡ before_job at.job q.jobs = ap (λ i. before_job i plan.jobs) at_job ∙ ap (λ (x : RunPlan). before_job at.job x.jobs) (same_some plan q is) in
-          omega (arith, h.3, same))
+        let at_job : h.0 ≡ at.job = omega (arith, h.2) in (
+          0,
+          omega (arith, h.1),
+          λ q is.
+              let same : before_job h.0 plan.jobs ≡ before_job at.job q.jobs = ap (λ i. before_job i plan.jobs) at_job ∙ ap (λ (x : RunPlan). before_job at.job x.jobs) (same_some plan q is) in
+              omega (arith, h.3, same),
+        )
     step later (Err m) h =
         let is : m ≡ n - leg_count plan.jobs = omega (arith, h) in
         later_in_runs k plan plans n (leg_place_from (suc k) runs m) (omega (arith, h)) (subst (λ (i : ℕ). InRuns (suc k) plans i (leg_place_from (suc k) runs m)) is (later m))

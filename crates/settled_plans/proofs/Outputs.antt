@@ -1,9 +1,8 @@
 -- The outputs of a job on a board, where no order of its legs is told by them.
-use Rattle.std.proofs.Common.{◌≡◌, ◌≢◌, ℕ, zero, suc, ◌<◌, ◌+◌, ◌==◌, ◌&&◌, Bool, true, false, List, [], ◌∷◌, Option, Some, None, length, map, slice_get, count_by, if◌then◌else◌, inl, inr, ap, subst, sym, refl, ◌∙◌, arith}
+use Rattle.std.proofs.Common.{◌≡◌, ◌≢◌, ℕ, zero, suc, ◌<◌, ◌+◌, ◌==◌, ◌&&◌, Bool, true, false, List, [], ◌∷◌, Option, Some, None, length, map, slice_get, count_by, if◌then◌else◌, ap, sym, refl, ◌∙◌, arith}
 use Rattle.std.specs.List.{filter_map, cons_option}
 use Rattle.std.proofs.lemmas.Bool.Decides.{nat_tests}
-use Rattle.std.proofs.lemmas.Option.{slice_get_within}
-use Rattle.board_decisions.specs.Contexts.{leg_of_job, job_leg, ended_legs, overlaid, job_outputs}
+use Rattle.board_decisions.specs.Contexts.{leg_of_job, job_leg, overlaid, job_outputs}
 use Rattle.board_decisions.specs.Derived.{is_ended}
 use Rattle.board_decisions.specs.Numbered.{leg_there}
 use Rattle.board_decisions.specs.Place.{◌>>=◌, leg_place}
@@ -21,7 +20,7 @@ use Rattle.status_table.specs.Shape.{HasShape}
 use Rattle.text_values.specs.Env.{laid_over}
 use Rattle.text_values.specs.Values.{Env}
 use Rattle.board_decisions.proofs.Lists.{and-left, and-right}
-use Rattle.status_table.proofs.Lists.{same_some, no_some, bind-some}
+use Rattle.status_table.proofs.Lists.{no_some, bind-some}
 use Rattle.status_table.proofs.Numbers.{legs_are_numbered}
 use Rattle.settled_plans.proofs.Lists.{once-given}
 use Rattle.settled_plans.proofs.Numbers.{before_run, before_job, leg_spot, number_at, place_at}

@@ -1,8 +1,6 @@
 -- What holds of each run, job and leg in play beside what is settled.
-use Rattle.std.proofs.Common.{◌≡◌, ℕ, zero, suc, ◌+◌, ◌-◌, Bool, true, false, List, [], ◌∷◌, ◌++◌, Option, Some, None, Result, Ok, Err, length, map, take, drop, slice_get, ap, subst, sym, refl, ◌∙◌, arith}
-use Rattle.std.proofs.lemmas.Bool.{true≢false}
+use Rattle.std.proofs.Common.{◌≡◌, ℕ, zero, suc, ◌+◌, ◌-◌, Bool, true, false, List, [], ◌∷◌, ◌++◌, Option, Some, None, Ok, length, take, drop, slice_get, ap, sym, refl, ◌∙◌, arith}
 use Rattle.board_decisions.specs.Derived.{is_closed, is_open, is_ended, needs_have_ended}
-use Rattle.flow_model.specs.Plain.{Plain}
 use Rattle.flow_model.specs.declared.board.DoneStep.{DoneStep}
 use Rattle.flow_model.specs.declared.board.Job.{Job}
 use Rattle.flow_model.specs.declared.board.JobState.{JobState}
@@ -19,7 +17,7 @@ use Rattle.flow_model.specs.declared.plan.RunPlan.{RunPlan}
 use Rattle.flow_model.specs.declared.plan.StepPlan.{StepPlan}
 use Rattle.flow_model.specs.declared.reply.StepCall.{StepCall}
 use Rattle.settled_plans.specs.Sees.{Spot}
-use Rattle.settled_plans.specs.Settled.{Answers, Finish, SettledLeg, SettledJob, shut, opened, steps_from, finish_of, next_call, spot_at, needs_of, legs_settled, job_settled, jobs_from, run_after}
+use Rattle.settled_plans.specs.Settled.{Answers, SettledLeg, SettledJob, shut, opened, steps_from, finish_of, next_call, spot_at, needs_of, legs_settled, job_settled, jobs_from, run_after}
 use Rattle.settled_plans.proofs.Numbers.{before_run, before_job}
 
 -- ---- legs

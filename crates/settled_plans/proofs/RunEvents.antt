@@ -1,61 +1,46 @@
 -- The events of runs and jobs keep what is played as settled.
-use Rattle.std.proofs.Common.{◌≡◌, ℕ, zero, suc, ◌+◌, ◌-◌, ◌&&◌, ◌||◌, Bool, true, false, not, List, [], ◌∷◌, Option, Some, None, Result, Ok, Err, option_map, length, map, take, slice_get, if◌then◌else◌, ap, subst, sym, refl, ◌∙◌, arith}
-use Rattle.std.specs.List.{list_all, list_any, AllZip}
+use Rattle.std.proofs.Common.{◌≡◌, ℕ, ◌+◌, ◌-◌, ◌||◌, Bool, true, false, List, Option, Some, None, Result, Ok, Err, option_map, take, slice_get, if◌then◌else◌, ap, subst, sym, refl, ◌∙◌}
+use Rattle.std.specs.List.{list_any}
 use Rattle.std.proofs.lemmas.Bool.{true≢false}
-use Rattle.std.proofs.lemmas.Option.{slice_get-map}
 use Rattle.board_decisions.specs.declared.entrance.Entrance.{Entrance}
-use Rattle.board_decisions.specs.declared.place.JobPlace.{JobPlace}
 use Rattle.board_decisions.specs.Contexts.{needs_value}
 use Rattle.board_decisions.specs.Decisions.{job_condition, run_entrance}
-use Rattle.board_decisions.specs.Derived.{is_going, is_closed, is_open, is_failure, is_cancelled, job_status, ancestors_status, needs_have_ended, jobs_have_ended, job_has_ended, job_result, job_results, is_any_job_failed, is_any_job_cancelled, run_result}
-use Rattle.board_decisions.specs.Place.{RunAt, JobAt, LegAt, run_at, job_at}
-use Rattle.expr_value.specs.declared.status.Status.{Status}
+use Rattle.board_decisions.specs.Derived.{is_going, is_closed, is_open, is_failure, is_cancelled, job_status, ancestors_status, needs_have_ended, jobs_have_ended, job_result, job_results, is_any_job_failed, is_any_job_cancelled, run_result}
+use Rattle.board_decisions.specs.Place.{RunAt, JobAt, run_at, job_at}
 use Rattle.expr_value.specs.declared.status.Status.TheVariants as status
-use Rattle.flow_model.specs.Numbers.{first_job}
 use Rattle.flow_model.specs.Plain.{Plain}
 use Rattle.flow_model.specs.declared.board.Board.{Board}
 use Rattle.flow_model.specs.declared.board.Job.{Job}
 use Rattle.flow_model.specs.declared.board.JobState.{JobState}
 use Rattle.flow_model.specs.declared.board.JobState.TheVariants as job_state
-use Rattle.flow_model.specs.declared.board.Leg.{Leg}
 use Rattle.flow_model.specs.declared.board.Run.{Run}
 use Rattle.flow_model.specs.declared.board.RunState.{RunState}
 use Rattle.flow_model.specs.declared.board.RunState.TheVariants as run_state
-use Rattle.flow_model.specs.declared.event.Event.{Event}
 use Rattle.flow_model.specs.declared.event.Event.TheVariants as event
 use Rattle.flow_model.specs.declared.event.Member.TheVariants as member
 use Rattle.flow_model.specs.declared.event.Outcome.{Outcome}
-use Rattle.flow_model.specs.declared.event.Outcome.TheVariants as outcome
 use Rattle.flow_model.specs.declared.plan.JobPlan.{JobPlan}
 use Rattle.flow_model.specs.declared.plan.Plan.{Plan}
 use Rattle.flow_model.specs.declared.plan.RunPlan.{RunPlan}
 use Rattle.flow_model.specs.declared.reply.Reply.{Reply}
 use Rattle.flow_model.specs.declared.reply.StepCall.{StepCall}
 use Rattle.flow_model.specs.declared.reply.ValueFault.{ValueFault}
-use Rattle.settled_plans.specs.Free.{RunIsFree}
-use Rattle.settled_plans.specs.Sees.{job_sees}
-use Rattle.settled_plans.specs.Settled.{Answers, SettledLeg, SettledJob, unsettled, shut, opened, worst, all_given, jobs_come_to, result_of, needs_of, needs_given, status_after, condition_after, judged, legs_settled, job_settled, run_after}
-use Rattle.status_table.specs.declared.fault.EventFault.{EventFault}
+use Rattle.settled_plans.specs.Settled.{Answers, SettledLeg, SettledJob, unsettled, worst, jobs_come_to, needs_of, status_after, condition_after, judged, legs_settled, job_settled, run_after}
 use Rattle.status_table.specs.declared.fault.EventFault.TheVariants as fault
-use Rattle.status_table.specs.Change.{changed}
-use Rattle.status_table.specs.Groups.{holding, run_stands, run_standing, closed, admitted, moved, enters, leaves}
+use Rattle.status_table.specs.Groups.{holding, run_stands, run_standing, closed, admitted, moved, leaves}
 use Rattle.status_table.specs.Row.{Row}
 use Rattle.status_table.specs.Row as rows
-use Rattle.status_table.specs.Shape.{JobShape, RunShape}
-use Rattle.status_table.specs.Stays.{Stays}
-use Rattle.text_values.specs.Texts.{condition_value}
 use Rattle.status_table.proofs.Found.{RunStands, JobStands, run_stands as run_found, job_stands as job_found}
-use Rattle.status_table.proofs.Lists.{same_some, no_some, all-get, zip-get, zip-length}
+use Rattle.status_table.proofs.Lists.{same_some}
 use Rattle.status_table.proofs.Sound.{is_numbered_in}
 use Rattle.status_table.proofs.Steps.{going-unclosed}
-use Rattle.status_table.specs.InPlay.{InPlay}
 use Rattle.settled_plans.proofs.Changes.{run_changes, job_put}
 use Rattle.settled_plans.proofs.InPlay.{Stands, IsFit, job_board, run_seen}
 use Rattle.settled_plans.proofs.LegEvents.{Goes, goes-if}
 use Rattle.settled_plans.proofs.Lists.{any-map}
 use Rattle.settled_plans.proofs.Needs.{RunSeen, are_given, needs_same, status_same, each_result, each_over}
 use Rattle.settled_plans.proofs.Numbers.{before_run, before_job}
-use Rattle.settled_plans.proofs.Played.{is_judged, StateStands, JobPlayed, jobs_of, RunPlayed, Played}
+use Rattle.settled_plans.proofs.Played.{is_judged, StateStands, JobPlayed, jobs_of, RunPlayed}
 use Rattle.settled_plans.proofs.Seen.{job_condition_is}
 
 module _ (p : Plan) (fit : IsFit p) (answers : Answers) (open_calls : ℕ → Option StepCall) (b : Board) (stands : Stands p answers open_calls b) where

@@ -1,5 +1,5 @@
 -- What a board shows of a place is what is seen by the plan, the needs and the steps that are done.
-use Rattle.std.proofs.Common.{◌≡◌, ℕ, ◌&&◌, Bool, Option, Some, Result, [], length, slice_get, if◌then◌else◌, ap, refl, sym, ◌∙◌}
+use Rattle.std.proofs.Common.{◌≡◌, ℕ, ◌&&◌, Some, [], length, ap, refl, ◌∙◌}
 use Rattle.board_decisions.specs.Contexts.{run_values, job_values, needs_value, job_of, strategy_value, matrix_value, steps_value, leg_values_by}
 use Rattle.board_decisions.specs.Decisions.{job_condition, leg_result, leg_status, leg_values, seen_from, flow_env, job_env, step_env, step_decision, step_tolerates, job_tolerates, leg_outputs, status_of}
 use Rattle.board_decisions.specs.Derived.{is_failure}
@@ -9,17 +9,13 @@ use Rattle.expr_reader.specs.declared.tree.Context.TheVariants as context
 use Rattle.expr_value.specs.declared.status.Status.{Status}
 use Rattle.flow_model.specs.Plain.{Plain}
 use Rattle.flow_model.specs.declared.event.Outcome.{Outcome}
-use Rattle.flow_model.specs.declared.event.Outcome.TheVariants as outcome
 use Rattle.flow_model.specs.declared.plan.StepPlan.{StepPlan}
-use Rattle.flow_model.specs.declared.reply.StepCall.{StepCall}
-use Rattle.flow_model.specs.declared.reply.ValueFault.{ValueFault}
 use Rattle.settled_plans.specs.Decided.{step_call, step_passes, leg_passes, outputs_of_leg, failure_counts}
 use Rattle.settled_plans.specs.Sees.{Spot, Sight, sight, job_sees, leg_sees, strategy_shown, matrix_shown, steps_shown}
-use Rattle.settled_plans.specs.Settled.{counts, seen_after, next_call, finish_of}
+use Rattle.settled_plans.specs.Settled.{counts, seen_after, next_call}
 use Rattle.status_table.specs.Row.{failure_of}
-use Rattle.text_values.specs.Env.{env_value}
 use Rattle.text_values.specs.Texts.{condition_value}
-use Rattle.text_values.specs.Values.{Values, Env, contexts_at, with_env}
+use Rattle.text_values.specs.Values.{Values, contexts_at, with_env}
 use Rattle.text_values.specs.declared.place.Place.TheVariants as place
 
 -- ---- jobs

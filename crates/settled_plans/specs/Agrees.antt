@@ -20,16 +20,16 @@ use Rattle.settled_plans.specs.Histories.{LeadsTo}
 use Rattle.settled_plans.specs.Settled.{Answers, SettledLeg, SettledJob, shut, opened, SettledRun, settled}
 use Rattle.status_table.specs.Moves.{finished}
 
--- The steps of a leg that are done are the first that are settled. One that is Ended has done all of them, with the
--- result, tolerated or not, and the outputs that are settled.
+-- The steps of a leg that are done are the first that are settled. One that is Ended has done all of them,
+-- with the result, tolerated or not, and the outputs that are settled.
 pub record LegAgrees (given : SettledLeg) (leg : Leg) : Type 0 where
   pub steps : leg.steps ≡ take (length leg.steps) given.steps
   pub ended : (result : Outcome) (tolerated : Bool) → leg.state ≡ leg_state.Ended result tolerated
       → (leg.steps ≡ given.steps)
       × (given.finish ≡ Some (record { result = result; tolerated = tolerated; outputs = leg.outputs }))
 
--- A job that was judged is Shut or Open as settled, and each leg of one that is Open agrees. Of one that is not, no
--- leg has done a step.
+-- A job that was judged is Shut or Open as settled, and each leg of one that is Open agrees. Of one that is
+-- not, no leg has done a step.
 pub record JobAgrees (given : SettledJob) (job : Job) : Type 0 where
   pub when_shut : (result : Outcome) → job.state ≡ job_state.Shut result → given ≡ shut result
   pub when_open : job.state ≡ job_state.Open
@@ -85,3 +85,10 @@ abbrev pub FinishesAsSettled : Type 0
 FinishesAsSettled =
     (p : Plan) → IsPlan p → IsFree p → (answers : Answers) (es : List Entry) (b : Board)
     → LeadsTo p answers es b → finished b ≡ true → IsSettled (settled p answers) b
+
+-- Two boards of one plan on which each run is Closed differ at most in the order in which legs ended.
+abbrev pub OnlyEndsDiffer : Type 0
+OnlyEndsDiffer =
+    (p : Plan) → IsPlan p → IsFree p → (answers : Answers) (es other : List Entry) (b c : Board)
+    → LeadsTo p answers es b → LeadsTo p answers other c → finished b ≡ true → finished c ≡ true
+    → b.runs ≡ c.runs

@@ -1,5 +1,5 @@
 -- What is decided by the texts of a job and its steps, by what each place sees.
-use Rattle.std.specs.Prelude.{ℕ, ◌&&◌, Bool, true, false, [], Option, Some, None, Result, Ok, Err, if◌then◌else◌}
+use Rattle.std.specs.Prelude.{ℕ, ◌&&◌, Bool, true, false, [], Option, Some, None, Result, Ok, if◌then◌else◌}
 use Rattle.board_decisions.specs.Decisions.{then_value, or_none, work_value}
 use Rattle.board_decisions.specs.Derived.{is_failure}
 use Rattle.expr_value.specs.declared.status.Status.{Status}

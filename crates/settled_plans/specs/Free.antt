@@ -5,8 +5,8 @@ use Rattle.flow_model.specs.declared.plan.JobPlan.{JobPlan}
 use Rattle.flow_model.specs.declared.plan.Plan.{Plan}
 use Rattle.flow_model.specs.declared.plan.RunPlan.{RunPlan}
 
--- A job is in no group. It has one leg; or no leg stops others that fail, and there are no outputs, which legs would
--- lay over one another.
+-- A job is in no group. It has one leg; or no leg stops others that fail, and there are no outputs, which
+-- legs would lay over one another.
 pub record JobIsFree (job : JobPlan) : Type 0 where
   pub group : job.group ≡ None
   pub fails_slowly : (job.fail_fast ≡ false) ⊎ (length job.legs ≡ 1)

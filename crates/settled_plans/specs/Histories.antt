@@ -1,4 +1,5 @@
--- Histories of a plan in play: none of the entries is refused, none tells a run to stop, and each call is answered as said.
+-- Histories of a plan in play: none of the entries is refused, none tells a run to stop, and each call is
+-- answered as said.
 use Rattle.std.specs.Prelude.{◌≡◌, ℕ, List, take, Option, Some, slice_get}
 use Rattle.flow_model.specs.declared.board.Board.{Board}
 use Rattle.flow_model.specs.declared.event.Entry.{Entry}

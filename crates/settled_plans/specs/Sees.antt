@@ -1,5 +1,6 @@
--- What the contexts hold, seen from a job and from a leg of it, by what is settled alone (GitHub Docs, "Contexts
--- reference"): the plan, what the jobs that are needed came to, and the steps of the leg that are done.
+-- What the contexts hold, seen from a job and from a leg of it, by what is settled alone (GitHub Docs,
+-- "Contexts reference"): the plan, what the jobs that are needed came to, and the steps of the leg that are
+-- done.
 use Rattle.std.specs.Prelude.{ℕ, List, [], ◌∷◌, length, codes, slice_get, if◌then◌else◌}
 use Rattle.std.specs.List.{zip, filter_map}
 use Rattle.board_decisions.specs.Contexts.{object, result_name, count, most_at_once, pairs_in, job_value, step_pair, run_values}

@@ -1,7 +1,7 @@
--- What a plan comes to whatever the order in which it is played: jobs in the order of their numbers, each leg by
--- itself, its steps one after the other, by what is settled before and by the one answer that there is for each call.
--- Nothing of it speaks of a board, of groups, or of an order of events. No leg is to stop, and no run was told to. Where
--- there is no answer to a call, neither that step is given nor what needs it.
+-- What a plan comes to whatever the order in which it is played: jobs in the order of their numbers, each leg
+-- by itself, its steps one after the other, by what is settled before and by the one answer that there is for
+-- each call. Nothing of it speaks of a board, of groups, or of an order of events. No leg is to stop, and no
+-- run was told to. Where there is no answer to a call, neither that step is given nor what needs it.
 use Rattle.std.specs.Prelude.{ℕ, suc, ◌+◌, ◌-◌, ◌==◌, ◌++◌, ◌&&◌, Bool, true, false, not, List, [], ◌∷◌, map, length, Option, Some, None, Result, Ok, Err, option_map, is_some, slice_get, if◌then◌else◌}
 use Rattle.std.specs.List.{flat_map, list_all, list_any, filter_map}
 use Rattle.board_decisions.specs.Contexts.{object, overlaid}
