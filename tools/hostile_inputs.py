@@ -12,6 +12,8 @@ TOP = os.path.join(os.path.dirname(os.path.abspath(__file__)), "..")
 COMMANDS = ("eval", "plan", "list", "table", "replay", "debug", "words")
 WEIGHTS = (26, 22, 5, 14, 12, 15, 6)
 LONGEST_WORD = 131000
+# a changed text has fewer bytes
+MOST = 16 << 20
 
 EVENTS = {"open": "run", "close": "run", "cancel": "run", "judge": "job"}
 EVENTS.update(dict.fromkeys(("ask", "drop", "take", "begin", "end", "finish"), "leg"))
@@ -286,7 +288,8 @@ def change(chance, value):
     elif chance.random() < 0.3 and place:
         del place[chance.randrange(len(place))]
     elif chance.random() < 0.3 and place:
-        place += [chance.choice(place)] * chance.choice((1, 2, 16, 255, 256))
+        again, count = chance.choice(place), chance.choice((1, 2, 16, 255, 256))
+        place += [again] * (count if count * len(spelled(again)) < MOST else 1)
     else:
         place.insert(chance.randrange(len(place) + 1), strange_value(chance))
 
@@ -301,7 +304,9 @@ def changed_json(chance, text, often=0.25):
     if count and isinstance(value, (dict, list)):
         for _ in range(count):
             change(chance, value)
-        text = spelled(value)
+        made = spelled(value)
+        # (what stands in many places may have grown since)
+        text = made if len(made) < MOST else text
     return sometimes_garbled(chance, text, often)
 
 
