@@ -15,5 +15,6 @@ mod NoMoves
 mod Numbered
 mod Replays
 mod Reviews
+mod Settling
 mod Stuck
 mod Turned

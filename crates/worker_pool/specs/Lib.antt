@@ -11,6 +11,7 @@ pub mod Lowest
 pub mod Many
 pub mod Replaying
 pub mod Review
+pub mod Settles
 pub mod Stalls
 pub mod Stop
 pub mod Worker

@@ -5,6 +5,7 @@ ghost use Rattle.std.specs.List.{All};
 ghost use Rattle.status_table.specs.Runs.{new_board};
 ghost use Rattle.worker_pool.specs.Log.{HaltsFor};
 ghost use Rattle.worker_pool.specs.Many.{AreNoWorkers, EndsByMany, StopsByMany};
+ghost use Rattle.worker_pool.specs.Settles.{SettlesAll};
 ghost use Rattle.worker_pool.specs.Stalls.{HasNoJobGroup};
 ghost use Rattle.worker_pool.specs.Worker.{IsFit, IsReady, StaysFit, crew_keepers};
 ghost use Rattle.worker_pool.specs.declared.played.Ending.TheVariants as ending;
@@ -15,6 +16,7 @@ use crate::fault::PoolFault;
 use crate::logs::Logs;
 use crate::played::Played;
 use crate::review::settle;
+use crate::settles::plays_leave_what_is_settled;
 use crate::stalls::stalled_only_by_groups;
 use crate::stop::Stop;
 use crate::worker::{Pool, Worker};
@@ -220,11 +222,13 @@ pub fn play<R: Threads + Wait + Sync, H: StepHost + Sync>(
         (StopsByMany (H.admits host.now) (H.declines host.now) plan.now workers) }
     ensures groups { HasNoJobGroup plan.now
         → IfOk result (λ played. played.ending ≡ ending.Done) }
+    ensures settled { IfOk result (SettlesAll (H.admits host.now) plan.now) }
 {
     if workers == 0 || workers > 16 {
         return Err(PoolFault::Workers);
     }
     stalled_only_by_groups();
+    plays_leave_what_is_settled(host);
     // The plan says that it breaks no rule.
     let _ = plan.plan();
     match play_counted(rt, alloc, plan, host, workers as u8) {

@@ -1,4 +1,6 @@
 use Rattle.std.proofs.Common.{sym, subst}
+use Rattle.std.proofs.lemmas.Result.{IfOk-weaker}
+use Rattle.flow_model.specs.Rules.{IsPlan}
 use Rattle.worker_pool.specs.Many.{StopsByMany}
 use Rattle.worker_pool.proofs.Reviews.{none_played}
 use Rattle.worker_pool.proofs.many.play.Goals as goal
@@ -9,3 +11,9 @@ returns-in-Err-clause-stopped g c =
     let admits = g.H.StepHost.admits c.args.host.now in
     subst (StopsByMany admits (g.H.StepHost.declines c.args.host.now) p c.args.workers) (sym c.after.ensures)
     (none_played admits p c.args.workers c.new.result.items c.new.ensures.items)
+
+pub returns-in-Ok-clause-settled : goal.returns-in-Ok-clause-settled
+returns-in-Ok-clause-settled g c =
+    IfOk-weaker c.in-Ok.come _ _ (λ played h.
+    c.plays_leave_what_is_settled.ensures.many c.args.plan.now c.args.workers played
+    (subst IsPlan c.plan.ensures.same c.plan.ensures.sound) h) c.in-Ok.ensures.played

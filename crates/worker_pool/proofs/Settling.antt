@@ -1,0 +1,60 @@
+-- A play that is Done leaves what is settled.
+use Rattle.std.proofs.Common.{◌≡◌, ℕ, true, false, List, take, Option, Some, None, slice_get, ap, subst, sym, ◌∙◌}
+use Rattle.std.proofs.lemmas.Bool.{true≢false}
+use Rattle.flow_model.specs.Rules.{IsPlan}
+use Rattle.flow_model.specs.declared.board.Board.{Board}
+use Rattle.flow_model.specs.declared.event.Answer.{Answer}
+use Rattle.flow_model.specs.declared.event.Entry.{Entry}
+use Rattle.flow_model.specs.declared.event.Event.{Event}
+use Rattle.flow_model.specs.declared.event.Event.TheVariants as event
+use Rattle.flow_model.specs.declared.plan.Plan.{Plan}
+use Rattle.flow_model.specs.declared.reply.StepCall.{StepCall}
+use Rattle.settled_plans.specs.Agrees.{FinishesAsSettled, IsSettled}
+use Rattle.settled_plans.specs.Free.{IsFree}
+use Rattle.settled_plans.specs.Histories.{IsAnswered, LeadsTo}
+use Rattle.settled_plans.specs.Settled.{Answers, settled}
+use Rattle.status_table.specs.Calls.{open_call}
+use Rattle.status_table.specs.Moves.{finished}
+use Rattle.status_table.specs.Runs.{after}
+use Rattle.step_host.specs.Lawful.{IsAdmitted, EndsAdmitted, Lawful}
+use Rattle.worker_pool.specs.Alone.{EndsSo}
+use Rattle.worker_pool.specs.History.{is_cancel, NoCancel}
+use Rattle.worker_pool.specs.Settles.{AdmitsOnly, SettlesAll, ManySettle, OneSettles}
+use Rattle.worker_pool.specs.declared.played.Ending.{Ending}
+use Rattle.worker_pool.specs.declared.played.Ending.TheVariants as ending
+use Rattle.worker_pool.specs.declared.played.Played.{Played}
+use Rattle.status_table.proofs.Lists.{same_some, no_some}
+
+admitted : (admits : StepCall → Answer → Type 0) (answers : Answers) → AdmitsOnly admits answers → (there : Option StepCall) (a : Answer) → IsAdmitted admits there a
+    → (call : StepCall) → there ≡ Some call → answers call ≡ Some a
+admitted admits answers only None a h call is = absurd h
+admitted admits answers only (Some x) a h call is = only call a (subst (λ (c : StepCall). admits c a) (same_some x call is) h)
+
+answered : (admits : StepCall → Answer → Type 0) (answers : Answers) → AdmitsOnly admits answers → (calls : ℕ → Option StepCall) (e : Event) → is_cancel e ≡ false
+    → EndsAdmitted admits calls e → IsAnswered answers calls e
+answered admits answers only calls (event.Open r) quiet h = tt
+answered admits answers only calls (event.Judge j) quiet h = tt
+answered admits answers only calls (event.Ask l) quiet h = tt
+answered admits answers only calls (event.Drop l) quiet h = tt
+answered admits answers only calls (event.Take l) quiet h = tt
+answered admits answers only calls (event.Begin l) quiet h = tt
+answered admits answers only calls (event.End l a) quiet h = admitted admits answers only (calls l) a h
+answered admits answers only calls (event.Finish l) quiet h = tt
+answered admits answers only calls (event.Close r) quiet h = tt
+answered admits answers only calls (event.Cancel r) quiet h = absurd (true≢false quiet)
+
+settles : FinishesAsSettled → (admits : StepCall → Answer → Type 0) (p : Plan) (played : Played) → IsPlan p → Lawful admits p played.history → NoCancel played.history
+    → (board : Board) → after p played.history ≡ Some board → EndsSo p board played.ending → SettlesAll admits p played
+settles law admits p played rules lawful quiet board leads ends free answers only is b there =
+    let done : finished board ≡ true = subst (EndsSo p board) is ends in
+    let same : board ≡ b = same_some board b (sym leads ∙ there) in
+    law p rules free answers played.history b (record {
+      leads = there;
+      answered = λ k e at. answered admits answers only (open_call p (take k played.history)) e.event (quiet k e at) (lawful.admitted k e at);
+    }) (subst (λ (x : Board). finished x ≡ true) same done)
+
+pub many_settle : FinishesAsSettled → (admits : StepCall → Answer → Type 0) → ManySettle admits
+many_settle law admits p workers played rules h = settles law admits p played rules h.history.lawful h.history.uncancelled h.board h.leads h.ends
+
+pub one_settles : FinishesAsSettled → (admits : StepCall → Answer → Type 0) → OneSettles admits
+one_settles law admits p played rules h = settles law admits p played rules h.history.lawful h.history.uncancelled h.board h.leads h.ends

@@ -1,0 +1,37 @@
+-- What a play comes to where nothing rests on the order of events.
+use Rattle.std.specs.Prelude.{◌≡◌, ℕ, Some}
+use Rattle.flow_model.specs.Rules.{IsPlan}
+use Rattle.flow_model.specs.declared.board.Board.{Board}
+use Rattle.flow_model.specs.declared.event.Answer.{Answer}
+use Rattle.flow_model.specs.declared.plan.Plan.{Plan}
+use Rattle.flow_model.specs.declared.reply.StepCall.{StepCall}
+use Rattle.settled_plans.specs.Agrees.{IsSettled}
+use Rattle.settled_plans.specs.Free.{IsFree}
+use Rattle.settled_plans.specs.Settled.{Answers, settled}
+use Rattle.status_table.specs.Runs.{after}
+use Rattle.worker_pool.specs.Alone.{EndsAlone}
+use Rattle.worker_pool.specs.Many.{EndsByMany}
+use Rattle.worker_pool.specs.declared.played.Ending.TheVariants as ending
+use Rattle.worker_pool.specs.declared.played.Played.{Played}
+
+-- A host admits at most one answer to each call, which is this.
+abbrev pub AdmitsOnly : (StepCall → Answer → Type 0) → Answers → Type 0
+AdmitsOnly admits answers = (call : StepCall) (answer : Answer) → admits call answer → answers call ≡ Some answer
+
+-- Where nothing rests on the order of events in a plan, and a host admits at most one answer to each call, a play that is
+-- Done leaves a board that is all of what is settled.
+abbrev pub SettlesAll : (StepCall → Answer → Type 0) → Plan → Played → Type 0
+SettlesAll admits p played =
+    IsFree p → (answers : Answers) → AdmitsOnly admits answers → played.ending ≡ ending.Done
+    → (b : Board) → after p played.history ≡ Some b → IsSettled (settled p answers) b
+
+-- A play by any number of workers does so.
+abbrev pub ManySettle : (StepCall → Answer → Type 0) → Type 0
+ManySettle admits =
+    (p : Plan) (workers : ℕ) (played : Played) → IsPlan p → EndsByMany admits p workers played
+    → SettlesAll admits p played
+
+-- And so does a play by one thread.
+abbrev pub OneSettles : (StepCall → Answer → Type 0) → Type 0
+OneSettles admits =
+    (p : Plan) (played : Played) → IsPlan p → EndsAlone admits p played → SettlesAll admits p played
