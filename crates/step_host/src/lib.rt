@@ -10,12 +10,13 @@
 //! the values of their outputs masked. `ProgramHost` starts a program for each step, and admits every well-formed answer: how a
 //! program is started and what its end answers is said of values (`specs/Program.antt`).
 //!
-//! The crate stands on `status_table`, whose table says which call a step makes, on `board_decisions` for where a leg
-//! stands, on `program_texts`, which reads and makes the texts of programs, on `flow_model`, and on `thiserror` for its
-//! errors.
+//! The crate stands on `status_table`, whose table says which call a step makes, on `flat_board`, the board on which plans
+//! are played (`PlayBoard`), on `board_decisions` for where a leg stands, on `program_texts`, which reads and makes the texts
+//! of programs, on `flow_model`, and on `thiserror` for its errors.
 
 #![tactic(auto)]
 
+pub mod board;
 mod command;
 mod ending;
 pub mod fault;
@@ -30,6 +31,7 @@ pub mod script;
 pub mod watch;
 pub mod watched;
 
+pub use board::PlayBoard;
 pub use fault::{HostFault, ScriptFault};
 pub use files::file_bytes;
 pub use host::{DecidedHost, StepHost, WatchedHost};

@@ -1,5 +1,13 @@
--- Which parts of a plan may cross threads, each from its own parts: a `search` that goes down through all of a plan at once runs out of steps.
+-- Which parts of a board in play may cross threads, each from its own parts: a `search` that goes down through all of a plan at once runs out
+-- of steps.
 use denote.Param.Send.{IsSend, sendable}
+use Rattle.board_decisions.proofs.place.LegPlace.TheSendSync as place
+use Rattle.flat_board.specs.contracts.flat_board.FlatBoard as FlatBoard
+use Rattle.flat_counters.proofs.need.Need.TheSendSync as need
+use Rattle.flat_counters.proofs.tally.Tally.TheSendSync as tally
+use Rattle.flat_counters.proofs.undo.Change.TheSendSync as change
+use Rattle.flat_counters.specs.contracts.counted.Counted as Counted
+use Rattle.flat_counters.specs.contracts.tracked.Tracked as Tracked
 use Rattle.flow_model.proofs.board.Board.TheSendSync as board
 use Rattle.flow_model.proofs.mapping.Mapping.TheSendSync as mapping
 use Rattle.flow_model.proofs.plan.Flag.TheSendSync as flag
@@ -17,7 +25,7 @@ use Rattle.flow_model.specs.contracts.plan.StepPlan as StepPlan
 use Rattle.flow_model.specs.contracts.plan.Work as Work
 use Rattle.flow_model.specs.contracts.value.Node as Node
 use Rattle.flow_model.specs.contracts.value.Value as Value
-use Rattle.status_table.specs.contracts.plain_board.PlainBoard as PlainBoard
+use Rattle.group_admission.proofs.groups.Groups.TheSendSync as groups
 use Rattle.std.proofs.Crossing as std
 use Rattle.std.proofs.MapsCrossing as maps
 
@@ -48,5 +56,11 @@ plan_crosses = search (run_plan_crosses, sequence.the_send, sendable) depth 60 f
 pub checked_plan_crosses : IsSend CheckedPlan.the_row
 checked_plan_crosses = search (plan_crosses, sendable) depth 60 fits 20000
 
-pub plain_board_crosses : IsSend PlainBoard.the_row
-plain_board_crosses = search (checked_plan_crosses, board.the_field_send, std.crosses, sendable) depth 60 fits 20000
+pub counted_crosses : IsSend Counted.the_row
+counted_crosses = search (checked_plan_crosses, board.the_field_send, tally.the_field_send, need.the_field_send, place.the_field_send, sequence.the_send, std.crosses, sendable) depth 60 fits 20000
+
+pub tracked_crosses : IsSend Tracked.the_row
+tracked_crosses = search (counted_crosses, change.the_field_send, std.crosses, sendable) depth 60 fits 20000
+
+pub flat_board_crosses : IsSend FlatBoard.the_row
+flat_board_crosses = search (tracked_crosses, groups.the_send, std.crosses, sendable) depth 60 fits 20000

@@ -1,5 +1,6 @@
 mod Accepted
 mod Agreeing
+mod Checking
 pub mod Crosses
 mod Fit
 mod Fresh

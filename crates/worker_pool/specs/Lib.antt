@@ -1,6 +1,7 @@
 pub mod Agree
 pub mod Alone
 pub mod Asking
+pub mod Checks
 pub mod Entries
 pub mod Fault
 pub mod Hand

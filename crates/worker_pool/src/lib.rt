@@ -3,7 +3,7 @@
 //! What a player promises rests on the table of `status_table`: its history is a list of entries that the table accepts.
 //! `play_alone` plays by one thread, and `play_entries` replays a list; both ask a host of `step_host` for the answers
 //! to the calls. `stalls` has what keeps such a list from going on to the end, and `settles` what a play comes to
-//! where nothing rests on the order of events.
+//! where nothing rests on the order of events; `settled_check` says of a record whether it came to that.
 
 #![tactic(auto)]
 
@@ -23,6 +23,7 @@ pub mod many;
 pub mod played;
 mod playing;
 mod review;
+pub mod settled;
 pub mod settles;
 pub mod stalls;
 mod stop;
@@ -34,3 +35,4 @@ pub use entries::play_entries;
 pub use fault::PoolFault;
 pub use many::play;
 pub use played::{Ending, Played};
+pub use settled::settled_check;

@@ -25,14 +25,14 @@ use flow_model::laws::rules_hold;
 use locked_board::{Names, Share, SharedBoard};
 use ready_queue::{Pass, TicketQueue};
 use status_table::moves::count_legs;
-use status_table::{PlainBoard, Reversible, Table};
+use status_table::{Reversible, Table};
 use std::alloc::{AllocError, Global};
 use std::marker::Brand;
 use std::sync::Wait;
 use std::sync::ledger::Blank;
 use std::thread;
 use std::thread::Threads;
-use step_host::StepHost;
+use step_host::{PlayBoard, StepHost};
 
 /// Has each worker play, in a thread of its own where one can be made: the list of workers is halved at each step.
 #[tactic(auto, using(crate::proofs::Hired::names_kept))]
@@ -194,9 +194,9 @@ fn play_counted<R: Threads + Wait + Sync, H: StepHost + Sync>(
     ensures stopped { IfOk result (λ come. IfErr come
         (StopsByMany (H.admits host.now) (H.declines host.now) plan.now workers)) }
 {
-    let tables = (PlainBoard::new(alloc, plan)?, PlainBoard::new(alloc, plan)?);
+    let tables = (PlayBoard::new(alloc, plan)?, PlayBoard::new(alloc, plan)?);
     let blank = Blank::new(u64::from(workers));
-    play_named::<Brand, PlainBoard, R, H>(rt, alloc, tables, host, blank, workers)
+    play_named::<Brand, PlayBoard, R, H>(rt, alloc, tables, host, blank, workers)
 }
 
 /// Plays a plan by 1 to 16 workers, each in a thread of its own where one can be made. Each posts what a clerk may, and else takes a

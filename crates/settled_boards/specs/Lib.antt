@@ -1,0 +1,4 @@
+pub mod Alone
+pub mod Quiet
+pub mod Records
+pub mod Runs

@@ -1,0 +1,61 @@
+//! Whether two steps that are done, and two ends of legs, are the same.
+
+ghost use Rattle.std.specs.Prelude.{◌≡◌, ◌↔◌, IsTrue};
+
+use flow_model::{DoneStep, LegState, Outcome};
+use locked_board::same::is_same_mapping;
+
+/// Whether two results are one.
+pub(crate) fn is_same_outcome(one: Outcome, other: Outcome) -> bool
+    ensures { IsTrue result ↔ (one ≡ other) }
+{
+    match (one, other) {
+        (Outcome::Success, Outcome::Success) => true,
+        (Outcome::Failure, Outcome::Failure) => true,
+        (Outcome::Cancelled, Outcome::Cancelled) => true,
+        (Outcome::Skipped, Outcome::Skipped) => true,
+        (Outcome::Success | Outcome::Failure | Outcome::Cancelled | Outcome::Skipped, _) => false,
+    }
+}
+
+/// Whether two steps that are done are the same.
+fn is_same_step(one: &DoneStep, other: &DoneStep) -> bool
+    ensures { IsTrue result ↔ (one.now ≡ other.now) }
+{
+    is_same_outcome(one.outcome, other.outcome)
+        && is_same_outcome(one.conclusion, other.conclusion)
+        && is_same_mapping(&one.outputs, &other.outputs)
+}
+
+/// Whether two lists of steps that are done are the same.
+pub(crate) fn are_same_steps(steps: &[DoneStep], others: &[DoneStep]) -> bool
+    ensures { IsTrue result ↔ (steps.now ≡ others.now) }
+{
+    let mut rest = others;
+    for step in steps {
+        let Some((other, more)) = rest.split_first() else {
+            return false;
+        };
+        if !is_same_step(step, other) {
+            return false;
+        }
+        rest = more;
+    }
+    rest.is_empty()
+}
+
+/// Whether a leg is Ended with this result, tolerated or not.
+pub(crate) fn is_ended_so(state: LegState, how: Outcome, passed: bool) -> bool
+    ensures { IsTrue result ↔ (state ≡ LegState.Ended how passed) }
+{
+    match state {
+        LegState::Ended {
+            result: other,
+            tolerated,
+        } => is_same_outcome(how, other) && tolerated == passed,
+        LegState::Fresh => false,
+        LegState::Waiting => false,
+        LegState::Admitted => false,
+        LegState::Running { .. } => false,
+    }
+}
