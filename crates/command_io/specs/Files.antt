@@ -32,6 +32,11 @@ abbrev pub optional_seen : {S : Type 0} → (S → Stream) → OptionalFile S �
 optional_seen seen (Named file) = seen file
 optional_seen seen Absent = record { bytes = Some no_file; failed = false }
 
+-- How often its reader was asked for bytes: where none is named there is none to ask.
+abbrev pub optional_reads : {S : Type 0} → (S → ℕ) → OptionalFile S → ℕ
+optional_reads reads (Named file) = reads file
+optional_reads reads Absent = 0
+
 -- A file was read to its end.
 pub record IsContent (old new : File) (content : Content) : Type 0 where
   pub named : content.name ≡ old.name

@@ -28,7 +28,16 @@ pub enum OptionalFile<S> {
 }
 
 impl<S: Source> Source for OptionalFile<S> {
+    ghost use Rattle.std.proofs.Common.{rules};
+    ghost use Rattle.command_io.specs.declared.files.OptionalFile.TheVariants.{Absent, Named};
+
     ghost seen = { spec.optional_seen S.seen };
+
+    ghost reads = { spec.optional_reads S.reads };
+
+    ghost most = { S.most };
+
+    ghost bounded = { elim [ Named file ↦ S.bounded file | Absent ↦ Prim.search rules ] };
 
     fn read_all(&mut self, alloc: Global) -> Result<Vec<u8>, SourceFault> {
         match self {

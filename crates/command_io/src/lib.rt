@@ -9,6 +9,7 @@
 
 #![tactic(auto)]
 
+pub mod bounded;
 pub mod contexts;
 pub mod files;
 pub mod laws;

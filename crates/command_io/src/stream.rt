@@ -1,12 +1,13 @@
 //! Streams of bytes that know whether a call on them has failed.
 
-ghost use Rattle.std.specs.Prelude.{◌≡◌, ◌<◌, ℕ, List, Option, OnOk, map, flat_map};
+ghost use Rattle.std.specs.Prelude.{◌≡◌, ◌<◌, ◌≤◌, ℕ, List, Option, OnOk, map, flat_map};
 ghost use Rattle.command_io.specs.Stream.{Flushes, Stream, Puts, ReadsAll, ReadsLine};
 ghost use Rattle.command_io.specs.Stream as spec;
 
+use crate::bounded::Counted;
 use std::alloc::Global;
 use std::io;
-use std::io::{BufRead, ErrorKind, Read, Write};
+use std::io::{BufRead, ErrorKind, Write};
 
 /// Why a source was not read to its end.
 #[derive(Clone, Copy, PartialEq, Eq)]
@@ -22,6 +23,11 @@ pub trait Source {
     /// The bytes that are left, where they are known, and whether a read has failed.
     ghost seen: { Self → Stream };
 
+    /// How often a reader was asked for them, and how often it may be.
+    ghost reads: { Self → ℕ };
+
+    ghost most: { ℕ };
+
     /// All bytes that are left.
     ///
     /// # Errors
@@ -29,6 +35,9 @@ pub trait Source {
     /// A read that failed, or want of memory. What was read until then is dropped.
     fn read_all(&mut self, alloc: Global) -> Result<Vec<u8>, SourceFault>
         ensures { ReadsAll (seen self.old) (seen self.new) result };
+
+    /// Whatever is done with it, its reader is asked no more often.
+    ghost bounded: { (source : Self) → reads source ≤ most };
 }
 
 /// A source whose lines are read as they come.
@@ -68,7 +77,7 @@ pub struct Input<R> {
     turns: u64,
 }
 
-impl<R: Read> Input<R> {
+impl<R: Counted> Input<R> {
     ghost use Rattle.std.specs.Prelude.{false};
 
     /// A reader, of which no read has failed.
@@ -91,8 +100,14 @@ fn source_fault(error: &io::Error) -> SourceFault {
     SourceFault::Failed
 }
 
-impl<R: Read> Source for Input<R> {
+impl<R: Counted> Source for Input<R> {
     ghost seen = { λ s. record { bytes = R.remaining s.reader; failed = s.failed } };
+
+    ghost reads = { λ s. R.reads s.reader };
+
+    ghost most = { R.most };
+
+    ghost bounded = { λ s. R.bounded s.reader };
 
     fn read_all(&mut self, alloc: Global) -> Result<Vec<u8>, SourceFault> {
         let mut bytes = Vec::new(alloc);
@@ -141,7 +156,7 @@ fn next_line<R: BufRead>(alloc: Global, reader: &mut R) -> Result<Option<Vec<u8>
     }
 }
 
-impl<R: BufRead> LineSource for Input<R> {
+impl<R: BufRead + Counted> LineSource for Input<R> {
     ghost turns_left = { λ s. s.turns };
 
     fn read_line(&mut self, alloc: Global) -> Result<Option<Vec<u8>>, SourceFault> {

@@ -1,5 +1,5 @@
 -- What `actrun run` tells: what was shown of the steps that it played, how the runs ended, and why it stopped.
-use Rattle.std.specs.Prelude.{◌≡◌, ℕ, ◌⊎◌, List, ◌++◌, Option, Some, None, Result, Ok, Err, Vec}
+use Rattle.std.specs.Prelude.{◌≡◌, ℕ, true, false, ◌⊎◌, List, ◌++◌, Option, Some, None, Result, Ok, Err, Vec}
 use Rattle.std.specs.declared.alloc.Global.{Global}
 use Rattle.command_io.specs.Files.{Content, File, IsContent}
 use Rattle.command_io.specs.Runs.{runs_status}
@@ -18,7 +18,9 @@ use Rattle.flow_model.specs.declared.plan.Plan.{Plan}
 use Rattle.plan_text.specs.Load.{load}
 use Rattle.plan_text.specs.declared.fault.LoadFault.{LoadFault}
 use Rattle.plan_text.specs.declared.fault.LoadFault.TheVariants as load_fault
+use Rattle.plan_text.specs.Record.{record_text}
 use Rattle.run_command.specs.Playing.{IsPlayed, Leaves}
+use Rattle.run_command.specs.RecordFile.{Kept}
 use Rattle.run_command.specs.RunLines.{run_lines}
 use Rattle.run_command.specs.StepLogs.{ShowsLogs}
 use Rattle.run_command.specs.Stubs.{Stubs, file_stubs}
@@ -47,57 +49,60 @@ pub record IsRunText (plan : Plan) (history : List Entry) (stop : Option Stop) (
 
 -- ---- what is told
 
+-- What keeping the text of a record did, where `out` showed this.
+abbrev pub Keeps : Type 1
+Keeps = List ℕ → Stream → Kept → Type 0
+
 -- The line of a trouble on err, and its status.
 abbrev pub SaysTrouble : Trouble → Stream → Stream → ℕ → Type 0
 SaysTrouble trouble err err' status = Says err err' (line trouble) × (status ≡ trouble_status trouble)
 
--- Why a record is not kept: its file cannot be written, or there is no memory for its text.
-abbrev pub IsUnkept : Trouble → Type 0
-IsUnkept trouble = (trouble ≡ Io) ⊎ (trouble ≡ Memory)
-
 -- What is told after the text: why the play was stopped; else why the record could not be written, or nothing.
-abbrev pub Finishes : Option Stop → ℕ → Stream → Stream → ℕ → Type 0
-Finishes (Some stop) done err err' status = SaysStop stop err err' status
-Finishes None done err err' status =
-    (IsKept err err' × (status ≡ done)) ⊎ ((trouble : Trouble) × IsUnkept trouble × SaysTrouble trouble err err' status)
+abbrev pub Finishes : Option Stop → Kept → ℕ → Stream → Stream → ℕ → Type 0
+Finishes (Some stop) kept done err err' status = SaysStop stop err err' status
+Finishes None (Ok true) done err err' status = IsKept err err' × (status ≡ done)
+Finishes None (Ok false) done err err' status = SaysTrouble Io err err' status
+Finishes None (Err memory) done err err' status = SaysTrouble Memory err err' status
 
 -- The text stands on out, and what follows it is told; or a write to out failed after a beginning of the text.
-abbrev pub TellsShown : Option Stop → List ℕ → ℕ → Stream → Stream → Stream → Stream → ℕ → Type 0
-TellsShown stop shown done out out' err err' status =
-    (IsWritten out out' shown × Finishes stop done err err' status) ⊎ BreaksOff shown out out' err err' status
+abbrev pub TellsShown : Option Stop → Kept → List ℕ → ℕ → Stream → Stream → Stream → Stream → ℕ → Type 0
+TellsShown stop kept shown done out out' err err' status =
+    (IsWritten out out' shown × Finishes stop kept done err err' status) ⊎ BreaksOff shown out out' err err' status
 
 -- What is told of a history.
-pub record TellsHistory (plan : Plan) (history : List Entry) (stop : Option Stop) (out out' err err' : Stream) (status : ℕ) : Type 0 where
+pub record TellsHistory (plan : Plan) (history : List Entry) (stop : Option Stop) (kept : Kept) (out out' err err' : Stream) (status : ℕ) : Type 0 where
   pub shown : List ℕ
   pub done : ℕ
   pub text : IsRunText plan history stop shown done
-  pub told : TellsShown stop shown done out out' err err' status
+  pub told : TellsShown stop kept shown done out out' err err' status
 
 -- Nothing stands on out, and want of memory is told.
 abbrev pub TellsMemory : Stream → Stream → Stream → Stream → ℕ → Type 0
 TellsMemory = TellsTrouble Memory
 
--- What is told of what was played: the history, or that there is no memory for its text.
-abbrev pub TellsPlaying : Plan → List Entry → Option Stop → Stream → Stream → Stream → Stream → ℕ → Type 0
-TellsPlaying plan history stop out out' err err' status =
-    TellsHistory plan history stop out out' err err' status ⊎ TellsMemory out out' err err' status
+-- What is told of what was played, and kept of it: the text of the history, or that there is no memory for it; and in both cases
+-- the record is written when `out` already shows what it shows in the end.
+pub record TellsPlaying (keep : Keeps) (plan : Plan) (history : List Entry) (stop : Option Stop) (out out' err err' : Stream) (status : ℕ) : Type 0 where
+  pub kept : Kept
+  pub keeping : keep (record_text plan history) out' kept
+  pub told : TellsHistory plan history stop kept out out' err err' status ⊎ TellsMemory out out' err err' status
 
 -- What is told of some play of a plan by so many workers.
-pub record TellsPlay (plan : Plan) (workers : ℕ) (out out' err err' : Stream) (status : ℕ) : Type 0 where
+pub record TellsPlay (keep : Keeps) (plan : Plan) (workers : ℕ) (out out' err err' : Stream) (status : ℕ) : Type 0 where
   pub history : List Entry
   pub stop : Option Stop
   pub played : IsPlayed plan workers history
   pub leaves : Leaves plan history stop
-  pub told : TellsHistory plan history stop out out' err err' status
+  pub told : TellsPlaying keep plan history stop out out' err err' status
 
 -- Nothing is played, since there are not so many workers.
 abbrev pub TellsWorkers : ℕ → Stream → Stream → Stream → Stream → ℕ → Type 0
 TellsWorkers workers out out' err err' status = AreNoWorkers workers × IsKept out out' × SaysStop Workers err err' status
 
 -- What `run` tells of a plan.
-abbrev pub RunsPlan : Plan → ℕ → Stream → Stream → Stream → Stream → ℕ → Type 0
-RunsPlan plan workers out out' err err' status =
-    TellsPlay plan workers out out' err err' status ⊎ (TellsWorkers workers out out' err err' status ⊎ TellsMemory out out' err err' status)
+abbrev pub RunsPlan : Keeps → Plan → ℕ → Stream → Stream → Stream → Stream → ℕ → Type 0
+RunsPlan keep plan workers out out' err err' status =
+    TellsPlay keep plan workers out out' err err' status ⊎ TellsWorkers workers out out' err err' status
 
 -- The texts are a file of stubs and a plan.
 pub record AreTexts (stubs : Content) (bytes : List ℕ) (plan : Plan) : Type 0 where
@@ -127,10 +132,10 @@ AreNotPlayed stubs bytes (Refused n fault) = ⊥
 AreNotPlayed stubs bytes Words = ⊥
 
 -- What is told of a plan and stubs that texts are.
-pub record RunsLoaded (stubs : Content) (bytes : List ℕ) (workers : ℕ) (out out' err err' : Stream) (status : ℕ) : Type 0 where
+pub record RunsLoaded (keep : Keeps) (stubs : Content) (bytes : List ℕ) (workers : ℕ) (out out' err err' : Stream) (status : ℕ) : Type 0 where
   pub plan : Plan
   pub texts : AreTexts stubs bytes plan
-  pub runs : RunsPlan plan workers out out' err err' status
+  pub runs : RunsPlan keep plan workers out out' err err' status
 
 -- Texts are not played, and why is told.
 pub record RefusesTexts (stubs : Content) (bytes : List ℕ) (out out' err err' : Stream) (status : ℕ) : Type 0 where
@@ -139,9 +144,9 @@ pub record RefusesTexts (stubs : Content) (bytes : List ℕ) (out out' err err' 
   pub told : TellsTrouble trouble out out' err err' status
 
 -- What is told of texts.
-abbrev pub RunsTexts : Content → List ℕ → ℕ → Stream → Stream → Stream → Stream → ℕ → Type 0
-RunsTexts stubs bytes workers out out' err err' status =
-    RunsLoaded stubs bytes workers out out' err err' status ⊎ RefusesTexts stubs bytes out out' err err' status
+abbrev pub RunsTexts : Keeps → Content → List ℕ → ℕ → Stream → Stream → Stream → Stream → ℕ → Type 0
+RunsTexts keep stubs bytes workers out out' err err' status =
+    RunsLoaded keep stubs bytes workers out out' err err' status ⊎ RefusesTexts stubs bytes out out' err err' status
 
 -- The file of stubs is read to its end, and then the plan; or one of them is not.
 abbrev pub AreBothRead : File → File → Stream → Stream → Result (Content × List ℕ) SourceFault → Type 0
@@ -150,10 +155,10 @@ AreBothRead stubs stubs' input input' (Err why) =
     IsRead stubs.source stubs'.source (Err why) ⊎ ((content : Content) × IsContent stubs stubs' content × IsRead input input' (Err why))
 
 -- Both were read, and this is told of them.
-pub record TellsRead (workers : ℕ) (stubs stubs' : File) (input input' out out' err err' : Stream) (status : ℕ) : Type 0 where
+pub record TellsRead (keep : Keeps) (workers : ℕ) (stubs stubs' : File) (input input' out out' err err' : Stream) (status : ℕ) : Type 0 where
   pub both : Content × List ℕ
   pub read : AreBothRead stubs stubs' input input' (Ok both)
-  pub told : RunsTexts both.0 both.1 workers out out' err err' status
+  pub told : RunsTexts keep both.0 both.1 workers out out' err err' status
 
 -- One of them was not, and why is told.
 pub record TellsUnread (stubs stubs' : File) (input input' out out' err err' : Stream) (status : ℕ) : Type 0 where
@@ -161,10 +166,10 @@ pub record TellsUnread (stubs stubs' : File) (input input' out out' err err' : S
   pub unread : AreBothRead stubs stubs' input input' (Err why)
   pub told : TellsTrouble (source_trouble why) out out' err err' status
 
--- What `run` leaves, by so many workers: it reads the file of stubs and the plan to their ends, and tells of them.
-abbrev pub RunTells : ℕ → File → File → Stream → Stream → Stream → Stream → Stream → Stream → ℕ → Type 0
-RunTells workers stubs stubs' input input' out out' err err' status =
-    TellsRead workers stubs stubs' input input' out out' err err' status ⊎ TellsUnread stubs stubs' input input' out out' err err' status
+-- What `run` leaves, by so many workers, where keeping a record does this: it reads the file of stubs and the plan to their ends, and tells of them.
+abbrev pub RunTells : Keeps → ℕ → File → File → Stream → Stream → Stream → Stream → Stream → Stream → ℕ → Type 0
+RunTells keep workers stubs stubs' input input' out out' err err' status =
+    TellsRead keep workers stubs stubs' input input' out out' err err' status ⊎ TellsUnread stubs stubs' input input' out out' err err' status
 
 -- ---- what the code answers on the way
 

@@ -14,7 +14,7 @@ mod place;
 mod plan_masks;
 mod playing;
 pub mod progress;
-mod record_file;
+pub mod record_file;
 pub mod run;
 mod run_lines;
 mod step_logs;

@@ -1,15 +1,17 @@
 //! What starts programs.
 
-ghost use Rattle.std.specs.Prelude.{IfErr};
+ghost use Rattle.std.specs.Prelude.{Bool, IfErr, List, ℕ};
+ghost use Rattle.command_io.specs.Stream.{Stream};
 ghost use Rattle.run_command.specs.Run.{IsOfMachine};
 
 use crate::environment::variables;
 use crate::progress::Progress;
 use crate::step_names::StepNames;
+use command_io::stream::{Output, Sink};
 use command_io::trouble::Trouble;
 use flow_model::{Duplicate, Mapping, Sequence, Text};
 use std::alloc::{AllocError, Global};
-use std::fs::Files;
+use std::fs::{File, Files};
 use std::io::ErrorKind;
 use std::path;
 use step_host::{Masked, ProgramHost, StepHost, Watched};
@@ -18,6 +20,14 @@ use step_host::{Masked, ProgramHost, StepHost, Watched};
 pub trait Machine: Files {
     /// What plays steps by programs.
     type Host: StepHost + Drop;
+
+    /// That it wrote a file of this name with this text, whole or not, at a time when `out` showed this.
+    ghost writes: { List ℕ → List ℕ → Stream → Bool → Type 0 };
+
+    /// Writes a file of that name anew, and answers whether it was written whole; `out` is what the program tells its
+    /// answer to.
+    fn write_file<O: Sink>(&self, name: &str, text: &[u8], out: &O) -> bool
+        ensures { writes name.now text.now (O.seen out.now) result };
 
     /// The whole path of a folder.
     ///
@@ -45,6 +55,16 @@ pub trait Machine: Files {
 
 impl Machine for HostRuntime {
     type Host = Watched<Masked<ProgramHost<HostRuntime>>, Progress>;
+
+    // nothing is known of a disk
+    ghost writes = { λ _ _ _ _. Unit {0} };
+
+    fn write_file<O: Sink>(&self, name: &str, text: &[u8], _out: &O) -> bool {
+        match File::create(self, name) {
+            Ok(file) => Output::new(file).put(text),
+            Err(_) => false,
+        }
+    }
 
     fn whole_path(&self, folder: &str) -> Result<String, Trouble> {
         match path::absolute(self, folder) {
