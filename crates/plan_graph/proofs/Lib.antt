@@ -1,0 +1,3 @@
+mod LabelLaws
+mod Parts
+mod ReadingLaws

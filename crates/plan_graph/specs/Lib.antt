@@ -1,0 +1,5 @@
+pub mod Graph
+pub mod Labels
+pub mod Quoted
+pub mod Reading
+pub mod Standing
