@@ -3,7 +3,7 @@ _actrun() {
   local word=${COMP_WORDS[COMP_CWORD]} before=${COMP_WORDS[COMP_CWORD - 1]} command=${COMP_WORDS[1]} offered
   COMPREPLY=()
   if [ "$COMP_CWORD" -eq 1 ]; then
-    offered='plan list lint run table replay debug eval --help --version --prove'
+    offered='plan list lint run table replay graph debug eval --help --version --prove'
     mapfile -t COMPREPLY < <(compgen -W "$offered" -- "$word")
     return
   fi
@@ -18,11 +18,12 @@ _actrun() {
     plan) offered='--event --job --contexts' ;;
     run) offered='--workers --record --work --stubs --progress' ;;
     eval) offered='--contexts' ;;
+    replay) offered='--settled' ;;
     *) offered= ;;
   esac
   if [[ $word == -* ]]; then
     mapfile -t COMPREPLY < <(compgen -W "$offered" -- "$word")
-  elif [[ $command == plan || $command == list || $command == lint || $command == run || $command == replay || $command == debug ]]; then
+  elif [[ $command == plan || $command == list || $command == lint || $command == run || $command == replay || $command == graph || $command == debug ]]; then
     compopt -o filenames
     mapfile -t COMPREPLY < <(compgen -f -- "$word")
   fi

@@ -2,6 +2,7 @@
 
 #![tactic(auto)]
 
+use command_io::bounded::{Bounded, MOST_READS};
 use command_io::stream::{Input, Output};
 use command_io::tell::refuse;
 use command_io::trouble::Trouble;
@@ -15,20 +16,24 @@ use std::sync::Wait;
 use std::thread::Threads;
 use std::{env, io};
 
+/// A file of the disk, which is read so many times at most.
+type DiskFile = Input<Bounded<File, MOST_READS>>;
+
 /// The files and programs of the machine.
 #[derive(Drop)]
 struct Disk<'a, F> {
     files: &'a F,
 }
 
-impl<F: Machine + Threads + Wait + Sync> Folder for Disk<'_, F> {
-    type File = Input<F::File>;
+// the files are named, so that the size of one that is counted is known
+impl<F: Machine + Files<File = File> + Threads + Wait + Sync> Folder for Disk<'_, F> {
+    type File = DiskFile;
 
     type Machine = F;
 
-    fn open(&self, name: &str) -> Option<Input<F::File>> {
+    fn open(&self, name: &str) -> Option<DiskFile> {
         match File::open(self.files, name) {
-            Ok(file) => Some(Input::new(file)),
+            Ok(file) => Some(Input::new(Bounded::new(file))),
             Err(_) => None,
         }
     }
@@ -49,7 +54,8 @@ fn main(rt: HostRuntime) -> ExitCode {
     let disk = Disk { files: &rt };
     let mut out = Output::new(io::writer(&rt));
     let mut err = Output::new(rt.stderr());
-    let status = match BufReader::new(rt.alloc(), rt.reader()) {
+    let reader: Bounded<_, MOST_READS> = Bounded::new(rt.reader());
+    let status = match BufReader::new(rt.alloc(), reader) {
         Ok(reader) => {
             let mut input = Input::new(reader);
             let line = env::args(&rt);

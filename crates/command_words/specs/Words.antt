@@ -1,5 +1,5 @@
 -- What the program leaves, whatever its words ask for.
-use Rattle.std.specs.Prelude.{◌≡◌, ℕ, ◌⊎◌, List}
+use Rattle.std.specs.Prelude.{◌≡◌, ℕ, ◌⊎◌, List, Option}
 use Rattle.std.specs.declared.io.ErrorKind.{ErrorKind}
 use Rattle.std.specs.declared.io.ErrorKind.TheVariants.{InvalidData, OutOfMemory}
 use Rattle.plan_assembler.specs.declared.choice.Choice.{Choice}
@@ -9,7 +9,9 @@ use Rattle.command_io.specs.Files.{File}
 use Rattle.commands.specs.Lint.{LintTells}
 use Rattle.commands.specs.List.{ListTells}
 use Rattle.commands.specs.Plan.{PlanTells}
-use Rattle.commands.specs.Replay.{ReplayTells}
+use Rattle.commands.specs.Replay.{ReplayTells, SettledTells}
+use Rattle.graph_command.specs.Graph.{GraphTells}
+use Rattle.run_command.specs.RecordFile.{Keeping, Writes}
 use Rattle.run_command.specs.Run as run
 use Rattle.command_io.specs.Stream.{Stream}
 use Rattle.commands.specs.Table.{TableTells}
@@ -40,15 +42,22 @@ abbrev pub RunsLint : Stream → Stream → Stream → Stream → ℕ → Type 0
 RunsLint out out' err err' status =
     ((flows flows' : List File) × LintTells flows flows' out out' err err' status) ⊎ TellsSome out out' err err' status
 
--- What `replay` tells of some record; or a trouble is told.
+-- What `replay` tells of some record, or what `replay --settled` does; or a trouble is told.
 abbrev pub RunsReplay : Stream → Stream → Stream → Stream → ℕ → Type 0
 RunsReplay out out' err err' status =
-    ((input input' : Stream) × ReplayTells input input' out out' err err' status) ⊎ TellsSome out out' err err' status
+    ((input input' : Stream) × (ReplayTells input input' out out' err err' status ⊎ SettledTells input input' out out' err err' status))
+    ⊎ TellsSome out out' err err' status
 
--- What `run` tells of some plan; or a trouble is told.
-abbrev pub RunsRun : Stream → Stream → Stream → Stream → ℕ → Type 0
-RunsRun out out' err err' status =
-    ((workers : ℕ) × (stubs stubs' : File) × (input input' : Stream) × run.RunTells workers stubs stubs' input input' out out' err err' status)
+-- What `graph` tells of some plan or record; or a trouble is told.
+abbrev pub RunsGraph : Stream → Stream → Stream → Stream → ℕ → Type 0
+RunsGraph out out' err err' status =
+    ((input input' : Stream) × GraphTells input input' out out' err err' status) ⊎ TellsSome out out' err err' status
+
+-- What `run` tells of some plan, and keeps of it in some file, where a machine writes files so; or a trouble is told.
+abbrev pub RunsRun : Writes → Stream → Stream → Stream → Stream → ℕ → Type 0
+RunsRun writes out out' err err' status =
+    ((named : Option (List ℕ)) × (workers : ℕ) × (stubs stubs' : File) × (input input' : Stream)
+    × run.RunTells (Keeping writes named) workers stubs stubs' input input' out out' err err' status)
     ⊎ TellsSome out out' err err' status
 
 -- What `debug` tells of some record and of the input; or a trouble is told.
@@ -56,16 +65,18 @@ abbrev pub RunsDebug : Stream → Stream → Stream → Stream → Stream → St
 RunsDebug input input' out out' err err' status =
     ((file file' : Stream) × DebugTells file file' input input' out out' err err' status) ⊎ TellsSome out out' err err' status
 
--- What `table` or `debug` tells of the input, or what `eval`, `plan`, `list`, `lint`, `replay` or `run` tells, or a trouble.
-abbrev pub RunTells : Stream → Stream → Stream → Stream → Stream → Stream → ℕ → Type 0
-RunTells input input' out out' err err' status =
+-- What `table` or `debug` tells of the input, or what `eval`, `plan`, `list`, `lint`, `replay`, `graph` or `run` tells, or a
+-- trouble.
+abbrev pub RunTells : Writes → Stream → Stream → Stream → Stream → Stream → Stream → ℕ → Type 0
+RunTells writes input input' out out' err err' status =
     TableTells input input' out out' err err' status
     ⊎ (RunsEval out out' err err' status
     ⊎ (RunsPlan out out' err err' status
     ⊎ (RunsList out out' err err' status
     ⊎ (RunsLint out out' err err' status
     ⊎ (RunsReplay out out' err err' status
-    ⊎ (RunsRun out out' err err' status ⊎ RunsDebug input input' out out' err err' status))))))
+    ⊎ (RunsGraph out out' err err' status
+    ⊎ (RunsRun writes out out' err err' status ⊎ RunsDebug input input' out out' err err' status)))))))
 
 -- A command line that cannot be had is told by its kind: one that is no UTF-8 asks for no command.
 pub record TellsLine (kind : ErrorKind) (out out' err err' : Stream) (status : ℕ) : Type 0 where

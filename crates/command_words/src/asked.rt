@@ -35,6 +35,14 @@ pub(crate) struct AskedRun<'w, S> {
     pub(crate) plan: S,
 }
 
+/// What `replay` is asked for.
+#[derive(Drop)]
+pub(crate) struct AskedReplay<S> {
+    pub(crate) record: S,
+    /// Whether the board is held against what is settled.
+    pub(crate) settled: bool,
+}
+
 /// A command that is asked for.
 #[derive(Drop)]
 pub(crate) enum Asked<'w, S> {
@@ -43,7 +51,8 @@ pub(crate) enum Asked<'w, S> {
     Plan(AskedPlan<S>),
     List(Vec<NamedSource<S>>),
     Lint(Vec<NamedSource<S>>),
-    Replay(S),
+    Replay(AskedReplay<S>),
+    Graph(S),
     Run(AskedRun<'w, S>),
     Debug(S),
 }
@@ -153,6 +162,13 @@ impl<'m, 'w, F: Folder> Asking<'m, 'w, F> {
         Ok(AskedRun { words, stubs, plan })
     }
 
+    /// What `replay` is asked for.
+    fn asked_replay(&self) -> Result<AskedReplay<F::File>, Trouble> {
+        let settled = self.words.get_flag("settled");
+        let record = self.open_required("record")?;
+        Ok(AskedReplay { record, settled })
+    }
+
     /// What the words ask for after the name of their command.
     fn asked(&self, name: &str) -> Result<Asked<'w, F::File>, Trouble> {
         match name {
@@ -161,7 +177,8 @@ impl<'m, 'w, F: Folder> Asking<'m, 'w, F> {
             "plan" => Ok(Asked::Plan(self.asked_plan()?)),
             "list" => Ok(Asked::List(self.open_flows()?)),
             "lint" => Ok(Asked::Lint(self.open_flows()?)),
-            "replay" => Ok(Asked::Replay(self.open_required("record")?)),
+            "replay" => Ok(Asked::Replay(self.asked_replay()?)),
+            "graph" => Ok(Asked::Graph(self.open_required("file")?)),
             "run" => Ok(Asked::Run(self.asked_run()?)),
             "debug" => Ok(Asked::Debug(self.open_required("record")?)),
             _ => Err(Trouble::Words),

@@ -29,9 +29,17 @@ fn known_flows<'a>(alloc: Global, name: &'a str) -> Result<Command<'a>, AllocErr
     Command::new(alloc, name).arg(flow_words(alloc))
 }
 
-/// A command over the file of a record.
-fn known_record<'a>(alloc: Global, name: &'a str) -> Result<Command<'a>, AllocError> {
-    Command::new(alloc, name).arg(Arg::new(alloc, "record").required(true))
+/// A command over one file.
+fn known_file<'a>(alloc: Global, name: &'a str, id: &'a str) -> Result<Command<'a>, AllocError> {
+    Command::new(alloc, name).arg(Arg::new(alloc, id).required(true))
+}
+
+/// The command `replay`.
+fn known_replay<'a>(alloc: Global) -> Result<Command<'a>, AllocError> {
+    let settled = Arg::new(alloc, "settled")
+        .long("settled")
+        .action(ArgAction::SetTrue);
+    known_file(alloc, "replay", "record")?.arg(settled)
 }
 
 /// The command `run`.
@@ -67,7 +75,8 @@ pub(crate) fn known_commands<'a>(alloc: Global) -> Result<Command<'a>, AllocErro
     let known = with(known, known_plan(alloc))?;
     let known = with(known, known_flows(alloc, "list"))?;
     let known = with(known, known_flows(alloc, "lint"))?;
-    let known = with(known, known_record(alloc, "replay"))?;
+    let known = with(known, known_replay(alloc))?;
+    let known = with(known, known_file(alloc, "graph", "file"))?;
     let known = with(known, known_run(alloc))?;
-    with(known, known_record(alloc, "debug"))
+    with(known, known_file(alloc, "debug", "record"))
 }

@@ -2,7 +2,7 @@
 //!
 //! `run_line` runs the command that the words of a command line ask for, and answers its exit status always: what it leaves
 //! is what one of the commands tells, or the one line of a trouble. The crate alone stands on `clap`, which takes words
-//! apart; the commands are those of `commands`, `debug_session` and `run_command`.
+//! apart; the commands are those of `commands`, `debug_session`, `graph_command` and `run_command`.
 
 #![tactic(auto)]
 

@@ -5,7 +5,7 @@ ghost use Rattle.std.specs.IoError.{error_kind};
 ghost use Rattle.command_words.specs.Words as spec;
 ghost use Rattle.command_words.specs.Words.{RunTells};
 
-use crate::asked::{Asked, AskedEval, AskedPlan, AskedRun, asked_by};
+use crate::asked::{Asked, AskedEval, AskedPlan, AskedReplay, AskedRun, asked_by};
 use crate::folder::Folder;
 use crate::known::known_commands;
 use clap::{ArgMatches, Error};
@@ -17,9 +17,10 @@ use commands::eval::eval;
 use commands::lint::lint;
 use commands::list::list;
 use commands::plan::plan;
-use commands::replay::replay;
+use commands::replay::{replay, replay_settled};
 use commands::table::table;
 use debug_session::debug::debug;
+use graph_command::graph::graph;
 use run_command::machine::Machine;
 use run_command::run::run as run_plan;
 use std::alloc::Global;
@@ -101,14 +102,35 @@ fn perform_lint<S: Source + Drop, O: Sink, E: Sink>(
 /// Runs `replay`.
 fn perform_replay<S: Source + Drop, O: Sink, E: Sink>(
     alloc: Global,
-    mut record: S,
+    asked: AskedReplay<S>,
     out: &mut O,
     err: &mut E,
 ) -> u8
     ensures { spec.RunsReplay (O.seen out.old) (O.seen out.new)
         (E.seen err.old) (E.seen err.new) result }
 {
-    replay(alloc, &mut record, out, err)
+    let AskedReplay {
+        mut record,
+        settled,
+    } = asked;
+    if settled {
+        replay_settled(alloc, &mut record, out, err)
+    } else {
+        replay(alloc, &mut record, out, err)
+    }
+}
+
+/// Runs `graph`.
+fn perform_graph<S: Source + Drop, O: Sink, E: Sink>(
+    alloc: Global,
+    mut text: S,
+    out: &mut O,
+    err: &mut E,
+) -> u8
+    ensures { spec.RunsGraph (O.seen out.old) (O.seen out.new)
+        (E.seen err.old) (E.seen err.new) result }
+{
+    graph(alloc, &mut text, out, err)
 }
 
 /// Runs `run`.
@@ -119,7 +141,7 @@ fn perform_run<M: Machine + Threads + Wait + Sync, S: Source + Drop, O: Sink, E:
     out: &mut O,
     err: &mut E,
 ) -> u8
-    ensures { spec.RunsRun (O.seen out.old) (O.seen out.new)
+    ensures { spec.RunsRun M.writes (O.seen out.old) (O.seen out.new)
         (E.seen err.old) (E.seen err.new) result }
 {
     let AskedRun {
@@ -153,7 +175,7 @@ fn perform<M: Machine + Threads + Wait + Sync, S: Source + Drop, I: LineSource, 
     out: &mut O,
     err: &mut E,
 ) -> u8
-    ensures { RunTells (I.seen input.old) (I.seen input.new)
+    ensures { RunTells M.writes (I.seen input.old) (I.seen input.new)
         (O.seen out.old) (O.seen out.new) (E.seen err.old) (E.seen err.new) result }
 {
     match asked {
@@ -162,7 +184,8 @@ fn perform<M: Machine + Threads + Wait + Sync, S: Source + Drop, I: LineSource, 
         Asked::Plan(asked) => perform_plan(alloc, asked, out, err),
         Asked::List(flows) => perform_list(alloc, flows, out, err),
         Asked::Lint(flows) => perform_lint(alloc, flows, out, err),
-        Asked::Replay(record) => perform_replay(alloc, record, out, err),
+        Asked::Replay(asked) => perform_replay(alloc, asked, out, err),
+        Asked::Graph(text) => perform_graph(alloc, text, out, err),
         Asked::Run(asked) => perform_run(alloc, machine, asked, out, err),
         Asked::Debug(record) => perform_debug(alloc, record, input, out, err),
     }
@@ -196,7 +219,7 @@ fn run_known<F: Folder, I: LineSource, O: Sink, E: Sink>(
     out: &mut O,
     err: &mut E,
 ) -> u8
-    ensures { RunTells (I.seen input.old) (I.seen input.new)
+    ensures { RunTells F.Machine.writes (I.seen input.old) (I.seen input.new)
         (O.seen out.old) (O.seen out.new) (E.seen err.old) (E.seen err.new) result }
 {
     match asked_by(alloc, words, folder) {
@@ -215,7 +238,7 @@ pub fn run<F: Folder, I: LineSource, O: Sink, E: Sink>(
     out: &mut O,
     err: &mut E,
 ) -> u8
-    ensures { RunTells (I.seen input.old) (I.seen input.new)
+    ensures { RunTells F.Machine.writes (I.seen input.old) (I.seen input.new)
         (O.seen out.old) (O.seen out.new) (E.seen err.old) (E.seen err.new) result }
 {
     match known_words(alloc, words) {
@@ -245,7 +268,7 @@ pub fn run_line<F: Folder, I: LineSource, O: Sink, E: Sink>(
     out: &mut O,
     err: &mut E,
 ) -> u8
-    ensures tells { RunTells (I.seen input.old) (I.seen input.new)
+    ensures tells { RunTells F.Machine.writes (I.seen input.old) (I.seen input.new)
         (O.seen out.old) (O.seen out.new) (E.seen err.old) (E.seen err.new) result }
     ensures unread { IfErr line (λ e. spec.TellsLine (error_kind e)
         (O.seen out.old) (O.seen out.new) (E.seen err.old) (E.seen err.new) result) }

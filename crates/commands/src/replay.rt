@@ -1,10 +1,10 @@
 //! `actrun replay`: the board after a record, which is played again.
 
-ghost use Rattle.std.specs.Prelude.{◌≡◌};
+ghost use Rattle.std.specs.Prelude.{◌≡◌, ◌++◌, OnOk, string_bytes};
 ghost use Rattle.worker_pool.specs.Entries.{IsMemory};
 ghost use Rattle.commands.specs.Replay as spec;
 ghost use Rattle.command_io.specs.Tell.{TellsBy};
-ghost use Rattle.commands.specs.Replay.{GivesBoard, GivesEntries, GivesReplay, ReplayTells};
+ghost use Rattle.commands.specs.Replay.{GivesBoard, GivesBoth, GivesBothOf, GivesEntries, GivesSettled, GivesShown, ReplayTells, SettledTells, ShowsReplay, ShowsSettled, settled_line};
 
 use command_io::records::{load_trouble, stop_trouble};
 use command_io::runs::runs_status;
@@ -14,9 +14,9 @@ use command_io::trouble::{DONE, Trouble};
 use flow_model::{Board, CheckedPlan, Entry};
 use plan_text::{board_text, load_record};
 use status_table::board_laws::legal_lists_are_short;
-use std::alloc::Global;
+use std::alloc::{AllocError, Global};
 use step_host::ReplayHost;
-use worker_pool::{PoolFault, play_entries};
+use worker_pool::{PoolFault, play_entries, settled_check};
 
 /// Why entries are not played again over the host of their own answers: there is no memory.
 fn replay_trouble(_fault: &PoolFault) -> Trouble
@@ -53,11 +53,66 @@ fn replayed(alloc: Global, text: &[u8]) -> Result<Board, Trouble>
 
 /// The text of the board after a record, and the exit status that tells how its runs ended.
 fn shown_replay(alloc: Global, text: &[u8]) -> Result<(String, u8), Trouble>
-    ensures { GivesReplay text.now result }
+    ensures { GivesShown ShowsReplay text.now result }
 {
     let board = replayed(alloc, text)?;
     match board_text(alloc, &board) {
         Ok(shown) => Ok((shown, runs_status(&board))),
+        Err(_) => Err(Trouble::Memory),
+    }
+}
+
+/// Whether the board after entries that were played is all of what is settled.
+fn checked(alloc: Global, plan: &CheckedPlan, entries: &[Entry]) -> Result<bool, Trouble>
+    ensures { GivesSettled plan.now entries.now result }
+{
+    match settled_check(alloc, plan, entries) {
+        Ok(yes) => Ok(yes),
+        // none of them is refused, so there is no memory
+        Err(_) => Err(Trouble::Memory),
+    }
+}
+
+/// The board after entries, which are played again, and whether it is all of what is settled.
+fn played_and_checked(
+    alloc: Global,
+    plan: &CheckedPlan,
+    entries: &[Entry],
+) -> Result<(Board, bool), Trouble>
+    ensures { GivesBoth plan.now entries.now result }
+{
+    let board = played_again(alloc, plan, entries)?;
+    let yes = checked(alloc, plan, entries)?;
+    Ok((board, yes))
+}
+
+/// The board after a record, and whether it is all of what is settled.
+fn replayed_and_checked(alloc: Global, text: &[u8]) -> Result<(Board, bool), Trouble>
+    ensures { GivesBothOf text.now result }
+{
+    match load_record(alloc, text) {
+        Ok((plan, entries)) => played_and_checked(alloc, &plan, entries.as_slice()),
+        Err(fault) => Err(load_trouble(fault)),
+    }
+}
+
+/// Adds the line that tells whether a board is settled.
+fn add_settled(shown: &mut String, yes: bool) -> Result<(), AllocError>
+    ensures { OnOk result (string_bytes shown.new ≡ string_bytes shown.old ++ settled_line yes) }
+{
+    shown.push_str(if yes { "settled yes\n" } else { "settled no\n" })
+}
+
+/// The text of the board after a record and whether it is settled, with the exit status that tells how its runs ended.
+fn shown_settled(alloc: Global, text: &[u8]) -> Result<(String, u8), Trouble>
+    ensures { GivesShown ShowsSettled text.now result }
+{
+    let (board, yes) = replayed_and_checked(alloc, text)?;
+    let Ok(mut shown) = board_text(alloc, &board) else {
+        return Err(Trouble::Memory);
+    };
+    match add_settled(&mut shown, yes) {
+        Ok(()) => Ok((shown, runs_status(&board))),
         Err(_) => Err(Trouble::Memory),
     }
 }
@@ -91,6 +146,23 @@ pub fn replay<I: Source, O: Sink, E: Sink>(
 {
     match input.read_all(alloc) {
         Ok(text) => tell_with(shown_replay(alloc, text.as_slice()), out, err),
+        Err(fault) => refuse_source(err, fault),
+    }
+}
+
+/// As `replay`, but after the board one line more tells whether it is all of what its plan comes to whatever the order of
+/// events, by the answers of the record: `settled yes` or `settled no`.
+pub fn replay_settled<I: Source, O: Sink, E: Sink>(
+    alloc: Global,
+    input: &mut I,
+    out: &mut O,
+    err: &mut E,
+) -> u8
+    ensures { SettledTells (I.seen input.old) (I.seen input.new)
+        (O.seen out.old) (O.seen out.new) (E.seen err.old) (E.seen err.new) result }
+{
+    match input.read_all(alloc) {
+        Ok(text) => tell_with(shown_settled(alloc, text.as_slice()), out, err),
         Err(fault) => refuse_source(err, fault),
     }
 }

@@ -2,4 +2,4 @@ use Rattle.std.proofs.Common.{inl}
 use Rattle.command_words.proofs.words.perform_run.Goals as goal
 
 pub returns : goal.returns
-returns g c = inl (_, _, _, _, _, c.run.ensures)
+returns g c = inl (_, _, _, _, _, _, c.run.ensures)
