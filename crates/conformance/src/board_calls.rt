@@ -26,13 +26,14 @@ use crate::replies::put_reply;
 use flow_model::{CheckedPlan, Entry, Event, Reply};
 use locked_board::{Clerk, Held, Names, PostFault, Share, SharedBoard};
 use plan_text::read_entry;
-use status_table::{PlainBoard, Reversible, Table};
+use status_table::{Reversible, Table};
 use std::alloc::{AllocError, Global};
 use std::marker::Brand;
 use std::sync::Wait;
 use std::sync::ledger::Blank;
 use std::thread::Threads;
 use std::{str, thread};
+use step_host::PlayBoard;
 
 /// Does what a verb of these asks.
 pub fn perform<R: Threads + Wait + Sync>(rt: &R, page: &mut Page<'_>) {
@@ -46,10 +47,10 @@ pub fn perform<R: Threads + Wait + Sync>(rt: &R, page: &mut Page<'_>) {
 }
 
 /// Two boards of a plan on which all is new.
-fn boards(alloc: Global, plan: &CheckedPlan) -> Result<(PlainBoard, PlainBoard), AllocError>
+fn boards(alloc: Global, plan: &CheckedPlan) -> Result<(PlayBoard, PlayBoard), AllocError>
     ensures { IfOk result (λ two. (two.0.board ≡ new_board two.0.plan) × (two.1.board ≡ new_board two.1.plan)) }
 {
-    Ok((PlainBoard::new(alloc, plan)?, PlainBoard::new(alloc, plan)?))
+    Ok((PlayBoard::new(alloc, plan)?, PlayBoard::new(alloc, plan)?))
 }
 
 /// Plays lines on boards of a plan, which so many workers share.
@@ -65,7 +66,7 @@ fn play<R: Threads + Wait + Sync>(
     match boards(page.alloc, plan) {
         Ok(tables) => {
             let blank = Blank::new(u64::from(workers));
-            play_aside::<Brand, PlainBoard, R>(rt, page, plan, lines, tables, blank, workers);
+            play_aside::<Brand, PlayBoard, R>(rt, page, plan, lines, tables, blank, workers);
         },
         Err(fault) => write!(page, "{fault}"),
     }

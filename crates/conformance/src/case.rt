@@ -1,8 +1,8 @@
 //! The cases of a file: their marks are read, each is played, and what differs is told.
 
 use crate::page::parted;
-use crate::streams::Limits;
-use crate::verbs::{Asked, CONTEXTS, Files, Found, perform};
+use crate::streams::{Behind, Limits};
+use crate::verbs::{Asked, CONTEXTS, Files, Found, Spoiled, perform};
 use run_command::machine::Machine;
 use std::alloc::{AllocError, Global};
 use std::collections::BTreeMap;
@@ -79,6 +79,8 @@ struct Case {
     err: Vec<u8>,
     status: u8,
     limits: Limits,
+    /// The name of the file whose reader never ends, or of none.
+    endless: String,
     texts: Files,
     /// The text of the line that is being read, what it is, and what stands behind the place of an edit.
     kind: Kind,
@@ -169,6 +171,7 @@ impl Case {
             err: Vec::new(alloc),
             status: 0,
             limits: Limits::none(),
+            endless: String::new(alloc),
             texts: BTreeMap::new(alloc),
             kind: Kind::Prose,
             text: Vec::new(alloc),
@@ -188,6 +191,7 @@ impl Case {
         self.err.clear();
         self.status = 0;
         self.limits = Limits::none();
+        self.endless.clear();
         self.file_name.push_str(CONTEXTS)
     }
 
@@ -287,17 +291,20 @@ impl Case {
     }
 
     /// Takes a limit.
-    fn limit(&mut self, text: &str) {
-        let (what, number) = parted(text);
-        let number = number.parse::<usize>().unwrap_or(usize::MAX);
+    fn limit(&mut self, text: &str) -> Result<(), AllocError> {
+        let (what, word) = parted(text);
+        let number = word.parse::<usize>().unwrap_or(usize::MAX);
         match what {
             "words" => self.limits.words_fail = true,
             "in" => self.limits.read_fails = true,
+            "endless" => return self.endless.push_str(word),
+            "few" => self.limits.few_reads = true,
             "out" => self.limits.out = number,
             "err" => self.limits.err = number,
             "step" => self.limits.step = number,
             _ => {},
         }
+        Ok(())
     }
 
     /// Reads a line of a file of cases.
@@ -317,10 +324,7 @@ impl Case {
                 self.is_ended = false;
                 Ok(())
             },
-            "%" => {
-                self.limit(text);
-                Ok(())
-            },
+            "%" => self.limit(text),
             _ => self.start(alloc, mark, text),
         }
     }
@@ -333,6 +337,11 @@ impl Case {
             files: &self.files,
             input: self.input.as_slice(),
             limits: self.limits,
+            spoiled: Spoiled {
+                name: self.endless.as_str(),
+                length: usize::MAX,
+                behind: Behind::GoesOn,
+            },
         };
         perform(rt, alloc, &asked)
     }

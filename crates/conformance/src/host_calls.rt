@@ -8,6 +8,8 @@
 //!   alone recorded  the same over the host of the record that the input is
 //!   again           the record that the input is, played again over the script in the file: the board, or the fault, with
 //!                   the number of entries before it
+//!   settled         whether the board after the record that the input is is all of what is settled: `true` or `false`, or
+//!                   the fault, with the number of entries before it
 
 use crate::page::{Page, parted};
 use crate::plays::put_board;
@@ -17,7 +19,7 @@ use plan_text::{print_entry, read_entry};
 use std::alloc::Global;
 use std::str;
 use step_host::{ReplayHost, ScriptHost, StepHost};
-use worker_pool::{Ending, PoolFault, play_alone, play_entries};
+use worker_pool::{Ending, PoolFault, play_alone, play_entries, settled_check};
 
 /// A line of a script.
 type Line = (u64, u64, Answer);
@@ -42,6 +44,7 @@ pub fn perform(page: &mut Page<'_>) {
         },
         ("alone", _) => alone(page),
         ("again", _) => again(page),
+        ("settled", _) => settled(page),
         _ => program_calls::perform(page),
     }
 }
@@ -177,6 +180,16 @@ fn again(page: &mut Page<'_>) {
                 Ok(board) => put_board(page, Ok(board)),
                 Err(fault) => put_stop(page, &fault),
             }
+        }
+    }
+}
+
+/// Whether the board after the record that the input is is all of what is settled.
+fn settled(page: &mut Page<'_>) {
+    if let Some((plan, entries)) = page.record() {
+        match settled_check(page.alloc, &plan, entries.as_slice()) {
+            Ok(yes) => write!(page, "{yes}"),
+            Err(fault) => put_stop(page, &fault),
         }
     }
 }

@@ -14,8 +14,9 @@
 //!   ! TEXT      a line that is wanted on `err`
 //!   = STATUS    the exit status that is wanted; without it 0
 //!   : NAME TEXT a text with a name, which stays for the cases after this one
-//!   % LIMIT     `words`: the words are no UTF-8; `in`: the reader fails at the end; `out N`, `err N`: that writer fails
-//!               after N bytes; `step N`: readers and writers take N bytes a call
+//!   % LIMIT     `words`: the words are no UTF-8; `in`: the readers fail at the end; `endless NAME`: that of this file gives `x`
+//!               after it without end, `-` is the input; `few`: a reader is given up after 5 reads; `out N`, `err N`: that writer
+//!               fails after N bytes; `step N`: readers and writers take N bytes a call
 //!
 //! These go on with the text of the line before them:
 //!
@@ -26,8 +27,8 @@
 //!   - TEXT      the first such part is taken out, and what follows stands in its place
 //!   \           the line has no newline
 //!
-//! There are no escapes: a text goes to the end of its line. The verbs stand at the heads of `board_calls`, `debug_sweeps`,
-//! `documents`, `expressions`, `flow_calls`, `group_calls`, `host_calls`, `pattern_sweeps`, `plan_calls`, `pool_calls`,
+//! There are no escapes: a text goes to the end of its line. The verbs stand at the heads of `board_calls`, `command_sweeps`,
+//! `debug_sweeps`, `documents`, `expressions`, `flow_calls`, `group_calls`, `host_calls`, `pattern_sweeps`, `plan_calls`, `pool_calls`,
 //! `program_calls`, `record_sweeps` and `ticket_calls`. The program stands on `commands` and the libraries below it, and proves nothing of its own; what it wants
 //! stands in `data/`.
 
@@ -36,6 +37,7 @@
 mod board_calls;
 mod both_boards;
 mod case;
+mod command_sweeps;
 mod debug_sweeps;
 mod documents;
 mod expressions;

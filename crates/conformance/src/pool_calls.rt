@@ -9,6 +9,9 @@
 //!   rounds WORKERS TIMES FILE..  the plan for all, of the workflows in the files, so many times, over the script that the input
 //!                          is, where a step that it does not name succeeds, and some steps take longer than others: how often
 //!                          it came to what the first time came to, and that, without jobs and steps
+//!   settles FILE..         the plan for all, of the workflows in the files, by 1, 2 and 16 workers, over the script that the
+//!                          input is, as for `rounds`: for each whether it came to the board of the first, but for the order of
+//!                          the ends; then how many legs ended, and whether the board is settled
 //!   agree                  whether logs are what a history has of each worker: the entries of the history are the first lines of
 //!                          the input, and those of each log follow a line `log`
 //!
@@ -29,7 +32,7 @@ use std::sync::atomic::{AtomicU64, Ordering};
 use std::thread::Threads;
 use std::{str, thread};
 use step_host::{HostFault, ReplayHost, ScriptHost, StepHost};
-use worker_pool::{agree, play, play_entries};
+use worker_pool::{agree, play, play_entries, settled_check};
 
 /// A host whose steps wait for each other.
 #[derive(Drop)]
@@ -114,6 +117,7 @@ pub fn perform<R: Threads + Wait + Sync>(rt: &R, page: &mut Page<'_>) {
         "agree" => agreed(page),
         "meet" => play_meeting(rt, page),
         "rounds" => rounds(rt, page),
+        "settles" => settles(rt, page),
         _ if page.word(2) == "recorded" => recorded(rt, page),
         _ => scripted(rt, page),
     }
@@ -200,6 +204,56 @@ fn outline<'a, R: Threads + Wait + Sync>(
     legs.fold();
     outline.put(legs.text());
     outline
+}
+
+/// Plays the workflows in files by 1, 2 and 16 workers over a script, and writes of each play whether its board is all of
+/// what is settled, and whether it is that of the first but for the order of the ends.
+fn settles<R: Threads + Wait + Sync>(rt: &R, page: &mut Page<'_>) {
+    if let Some(plan) = plan_all(page, 1) {
+        if let Some(script) = script_of(page, page.input) {
+            let alloc = page.alloc;
+            let host = Uneven { script, alloc };
+            let first = board_by(rt, page, &plan, &host, 1);
+            for workers in [1, 2, 16] {
+                let other = board_by(rt, page, &plan, &host, workers);
+                let same = other.text() == first.text();
+                writeln!(page, "{workers} {same}");
+            }
+            for line in first.text().lines().filter(|line| is_summary(line)) {
+                writeln!(page, "{line}");
+            }
+        }
+    }
+}
+
+/// Whether a line says how many legs ended, or whether the board is settled.
+fn is_summary(line: &str) -> bool {
+    line.ends_with(" ended") || line.starts_with("settled")
+}
+
+/// The board by so many workers, without the order of the ends and with as many legs in a row as ended alike in a line, and
+/// whether it is settled.
+fn board_by<'a, R: Threads + Wait + Sync>(
+    rt: &R,
+    page: &Page<'a>,
+    plan: &CheckedPlan,
+    host: &Uneven,
+    workers: u64,
+) -> Page<'a> {
+    let mut made = page.scratch();
+    match play(rt, page.alloc, plan, host, workers) {
+        Ok(played) => {
+            let history = played.history.as_slice();
+            let shown = replay(page, plan, history);
+            put_unordered(&mut made, shown.text());
+            match settled_check(page.alloc, plan, history) {
+                Ok(yes) => writeln!(&mut made, "settled {yes}"),
+                Err(fault) => put_fault(&mut made, &fault),
+            }
+        },
+        Err(fault) => put_fault(&mut made, &fault),
+    }
+    made
 }
 
 /// A play over a script.

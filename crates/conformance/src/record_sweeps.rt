@@ -1,6 +1,5 @@
 //! The sweeps over the record that is the input: what `table` tells of it after each change of one kind.
 //!
-//!   cut            its first 0 bytes, 1, and so on
 //!   garbled BYTE   each byte in turn made that byte, in hexadecimal
 //!   lines CHANGE   each line in turn `doubled`, `dropped`, or `swapped` with the next
 //!   raised         each digit behind a colon in turn one greater: 0 becomes 1, another 2
@@ -10,7 +9,8 @@
 
 use crate::debug_sweeps::places;
 use crate::page::Page;
-use crate::streams::{Feed, Limits, Sheet};
+use crate::streams::{Behind, Feed, Limits, Sheet};
+use command_io::bounded::{Bounded, MOST_READS};
 use command_io::stream::{Input, Output};
 use commands::table::table;
 use std::str;
@@ -21,7 +21,6 @@ const NOTHING: &[u8] = b"";
 /// Does what a verb of these asks.
 pub fn perform(page: &mut Page<'_>) {
     match page.word(0) {
-        "cut" => cut(page),
         "garbled" => garbled(page),
         "lines" => lines(page),
         "raised" => raised(page),
@@ -40,7 +39,8 @@ pub fn put_lines(page: &mut Page<'_>, sign: &str, text: &[u8]) {
 /// Writes what `table` tells of a record.
 pub fn put_told(page: &mut Page<'_>, record: &[u8]) {
     let limits = Limits::none();
-    let mut input = Input::new(Feed::new(record, limits));
+    let reader: Bounded<_, MOST_READS> = Bounded::new(Feed::new(record, limits.step, Behind::Ends));
+    let mut input = Input::new(reader);
     let mut out = Output::new(Sheet::new(page.alloc, limits.step, limits.out));
     let mut err = Output::new(Sheet::new(page.alloc, limits.step, limits.err));
     let status = table(page.alloc, &mut input, &mut out, &mut err);
@@ -54,15 +54,6 @@ fn put_row(page: &mut Page<'_>, place: usize, record: &[u8]) {
     write!(page, "{place} ");
     put_told(page, record);
     page.put("\n");
-}
-
-/// Each beginning of the input.
-fn cut(page: &mut Page<'_>) {
-    let input = page.input;
-    for end in 0..=input.len() {
-        put_row(page, end, &input[..end]);
-    }
-    page.fold();
 }
 
 /// The input with each byte in turn made that which the verb names.

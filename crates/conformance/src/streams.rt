@@ -1,5 +1,7 @@
 //! A reader and a writer over memory that may take few bytes a call, or fail.
 
+ghost use Rattle.std.specs.Io.{ReadsAtMost};
+
 use std::alloc::Global;
 use std::io;
 use std::io::{ErrorKind, Read, Write};
@@ -13,6 +15,8 @@ pub struct Limits {
     pub words_fail: bool,
     /// Whether the reader fails at its end.
     pub read_fails: bool,
+    /// Whether a reader is given up after 5 reads.
+    pub few_reads: bool,
     /// The bytes that `out` takes before it fails.
     pub out: usize,
     /// The bytes that `err` takes before it fails.
@@ -26,10 +30,22 @@ impl Limits {
             step: usize::MAX,
             words_fail: false,
             read_fails: false,
+            few_reads: false,
             out: usize::MAX,
             err: usize::MAX,
         }
     }
+}
+
+/// What a reader does behind its bytes.
+#[derive(Clone, Copy)]
+pub enum Behind {
+    /// It is at its end.
+    Ends,
+    /// Each read fails.
+    Fails,
+    /// It gives `x` without end.
+    GoesOn,
 }
 
 /// A reader of bytes.
@@ -37,24 +53,39 @@ impl Limits {
 pub struct Feed<'a> {
     rest: &'a [u8],
     step: usize,
-    fails: bool,
+    behind: Behind,
 }
 
 impl<'a> Feed<'a> {
-    /// A reader of these bytes within limits.
-    pub fn new(bytes: &'a [u8], limits: Limits) -> Feed<'a> {
+    /// A reader of these bytes that gives at most so many a call, from 1.
+    pub fn new(bytes: &'a [u8], step: usize, behind: Behind) -> Feed<'a> {
         Feed {
             rest: bytes,
-            step: limits.step,
-            fails: limits.read_fails,
+            step,
+            behind,
+        }
+    }
+
+    /// What a call behind the bytes gives.
+    fn read_behind(&self, buf: &mut [u8]) -> io::Result<usize>
+        ensures { ReadsAtMost result buf.new }
+    {
+        match self.behind {
+            Behind::Ends => Ok(0),
+            Behind::Fails => Err(io::Error::from(ErrorKind::Other)),
+            Behind::GoesOn => {
+                let count = buf.len().min(self.step);
+                buf[..count].fill(b'x');
+                Ok(count)
+            },
         }
     }
 }
 
 impl Read for Feed<'_> {
     fn read(&mut self, buf: &mut [u8]) -> io::Result<usize> {
-        if self.rest.is_empty() && self.fails {
-            return Err(io::Error::from(ErrorKind::Other));
+        if self.rest.is_empty() {
+            return self.read_behind(buf);
         }
         let count = buf.len().min(self.step).min(self.rest.len());
         let (front, back) = self.rest.split_at(count);

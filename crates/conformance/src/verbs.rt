@@ -1,8 +1,11 @@
 //! What a case asks for: a command, by the words of the command line, or a verb of this program's own.
 
 use crate::page::Page;
-use crate::streams::{Feed, Limits, Sheet};
-use crate::{board_calls, both_boards, plan_calls, pool_calls, program_calls, ticket_calls};
+use crate::streams::{Behind, Feed, Limits, Sheet};
+use crate::{
+    board_calls, both_boards, command_sweeps, plan_calls, pool_calls, program_calls, ticket_calls,
+};
+use command_io::bounded::{Bounded, MOST_READS};
 use command_io::stream::{Input, Output};
 use command_io::trouble::FAILED;
 use command_words::folder::Folder;
@@ -21,6 +24,40 @@ pub const CONTEXTS: &str = "contexts.json";
 /// The files of a case, by their names.
 pub type Files = BTreeMap<String, Vec<u8>>;
 
+/// A file whose reader does not give it to its end.
+#[derive(Clone, Copy)]
+pub struct Spoiled<'a> {
+    /// The name of the file; `-` is the input.
+    pub name: &'a str,
+    /// How many bytes the reader gives.
+    pub length: usize,
+    /// What it does behind them.
+    pub behind: Behind,
+}
+
+impl<'a> Spoiled<'a> {
+    /// A file that has no name, and so none.
+    pub fn none() -> Spoiled<'a> {
+        Spoiled {
+            name: "",
+            length: 0,
+            behind: Behind::Ends,
+        }
+    }
+
+    /// A reader of a file.
+    fn feed(&self, name: &str, bytes: &'a [u8], limits: Limits) -> Feed<'a> {
+        if name == self.name {
+            let bytes = bytes.get(..self.length).unwrap_or(bytes);
+            return Feed::new(bytes, limits.step, self.behind);
+        }
+        if limits.read_fails {
+            return Feed::new(bytes, limits.step, Behind::Fails);
+        }
+        Feed::new(bytes, limits.step, Behind::Ends)
+    }
+}
+
 /// What a case asks for.
 #[derive(Clone, Copy)]
 pub struct Asked<'a> {
@@ -31,6 +68,7 @@ pub struct Asked<'a> {
     pub files: &'a Files,
     pub input: &'a [u8],
     pub limits: Limits,
+    pub spoiled: Spoiled<'a>,
 }
 
 /// What came of it.
@@ -41,22 +79,30 @@ pub struct Found {
     pub status: u8,
 }
 
-/// The folder of a case, and where its programs run.
+/// The folder of a case, and where its programs run. A reader is given up after so many reads.
 #[derive(Drop)]
-struct Shelf<'a, R> {
-    files: &'a Files,
-    limits: Limits,
+struct Shelf<'a, R, const MOST: u64> {
+    asked: &'a Asked<'a>,
     rt: &'a R,
 }
 
-impl<'a, R: Machine + Threads + Wait + Sync> Folder for Shelf<'a, R> {
-    type File = Input<Feed<'a>>;
+impl<'a, R: Machine + Threads + Wait + Sync, const MOST: u64> Folder for Shelf<'a, R, MOST> {
+    type File = Input<Bounded<Feed<'a>, MOST>>;
 
     type Machine = R;
 
-    fn open(&self, name: &str) -> Option<Input<Feed<'a>>> {
-        match self.files.get(name) {
-            Some(file) => Some(Input::new(Feed::new(file.as_slice(), self.limits))),
+    fn open(&self, name: &str) -> Option<Input<Bounded<Feed<'a>, MOST>>> {
+        let Asked {
+            files,
+            limits,
+            spoiled,
+            ..
+        } = *self.asked;
+        match files.get(name) {
+            Some(file) => {
+                let feed = spoiled.feed(name, file.as_slice(), limits);
+                Some(Input::new(Bounded::new(feed)))
+            },
             None => None,
         }
     }
@@ -72,7 +118,9 @@ fn record_of<'a>(asked: &Asked<'a>) -> &'a [u8] {
     let command = words.next().map(String::as_str).unwrap_or("");
     let file = words.next().map(String::as_str).unwrap_or("");
     match command {
-        "table" | "apply" | "insist" | "replies" | "run" | "moves" | "places" => asked.input,
+        "table" | "apply" | "insist" | "replies" | "run" | "moves" | "places" | "settled" => {
+            asked.input
+        },
         "debug" | "replay" => match asked.files.get(file) {
             Some(file) => file.as_slice(),
             None => b"",
@@ -106,19 +154,33 @@ fn answered<R: Machine + Threads + Wait + Sync>(rt: &R, alloc: Global, asked: &A
     let mut page = Page::new(alloc, words, asked.files, asked.input);
     match page.word(0) {
         "program" => program_calls::program(rt, &mut page),
-        "pool" | "meet" | "rounds" | "agree" => pool_calls::perform(rt, &mut page),
+        "pool" | "meet" | "rounds" | "settles" | "agree" => pool_calls::perform(rt, &mut page),
         "posts" | "threads" => board_calls::perform(rt, &mut page),
         "tickets" => ticket_calls::perform(rt, &mut page),
+        "cut" | "ends" | "broken" | "writers" | "kept" => command_sweeps::perform(rt, &mut page),
         _ => plan_calls::perform(&mut page),
     }
     page.into_found()
 }
 
 /// Runs the command that the words ask for, or none where they are no UTF-8.
-fn run<R: Machine + Threads + Wait + Sync>(rt: &R, alloc: Global, asked: &Asked<'_>) -> Found {
-    let Asked { files, limits, .. } = *asked;
-    let folder = Shelf { files, limits, rt };
-    let Ok(reader) = BufReader::new(alloc, Feed::new(asked.input, limits)) else {
+pub fn run<R: Machine + Threads + Wait + Sync>(rt: &R, alloc: Global, asked: &Asked<'_>) -> Found {
+    if asked.limits.few_reads {
+        return run_within::<R, 5>(rt, alloc, asked);
+    }
+    run_within::<R, MOST_READS>(rt, alloc, asked)
+}
+
+/// The same, where a reader is given up after so many reads.
+fn run_within<R: Machine + Threads + Wait + Sync, const MOST: u64>(
+    rt: &R,
+    alloc: Global,
+    asked: &Asked<'_>,
+) -> Found {
+    let limits = asked.limits;
+    let folder: Shelf<'_, R, MOST> = Shelf { asked, rt };
+    let reader: Bounded<_, MOST> = Bounded::new(asked.spoiled.feed("-", asked.input, limits));
+    let Ok(reader) = BufReader::new(alloc, reader) else {
         return Found {
             out: Vec::new(alloc),
             err: Vec::new(alloc),
