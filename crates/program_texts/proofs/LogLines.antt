@@ -1,5 +1,5 @@
 -- The logs that are told, one more.
-use Rattle.std.proofs.Common.{◌≡◌, ℕ, ◌+◌, ◌<◌, suc, Bool, true, false, if◌then◌else◌, List, [], ◌∷◌, ◌++◌, length, drop, get_or, refl, sym, ap, ◌∙◌, append_assoc, drop-cons, add-one}
+use Rattle.std.proofs.Common.{◌≡◌, ℕ, Bool, true, false, if◌then◌else◌, List, [], ◌∷◌, ◌++◌, refl, sym, ap, ◌∙◌, append_assoc}
 use Rattle.std.proofs.lemmas.Str.{is_utf8-from_IsUtf8, IsUtf8-from_is_utf8}
 use Rattle.std.specs.Str.{IsUtf8, is_utf8}
 use Rattle.program_texts.specs.CommandTexts.{commands}
@@ -12,15 +12,6 @@ pub log_told_first : (text text' : List ℕ) (given : List (List ℕ)) (added ad
 log_told_first text text' given added added' log masks told of_masks is shown kept logs =
     rw (shown, kept, is, of_masks)
     (sym (append_assoc text (lines_text (log_told (leg_masks given added log.0) log.1).0) (logs_text given (added ++ of_leg log.0 (log_told (leg_masks given added log.0) log.1).1) logs)))
-
--- the next of some logs is told
-pub log_more : (text text' : List ℕ) (given : List (List ℕ)) (added added' : List (ℕ × List ℕ)) (all : List Log) (i : ℕ) (log : Log)
-    → i < length all → log ≡ get_or all i log
-    → ((logs : List Log) → text ++ logs_text given added (log ∷ logs) ≡ text' ++ logs_text given added' logs)
-    → text' ++ logs_text given added' (drop (i + 1) all) ≡ text ++ logs_text given added (drop i all)
-log_more text text' given added added' all i log within at told =
-    let here : drop i all ≡ log ∷ drop (suc i) all = drop-cons all i log within ∙ ap (λ (x : Log). x ∷ drop (suc i) all) (sym at) in
-    rw add-one (sym (told (drop (suc i) all)) ∙ ap (λ (ls : List Log). text ++ logs_text given added ls) (sym here))
 
 -- bytes that are text are told as its lines, and others by a line
 pub text_is_told : (masks : List (List ℕ)) (bytes text : List ℕ) → text ≡ bytes → IsUtf8 bytes → lines_told masks (commands text) ≡ bytes_told masks bytes

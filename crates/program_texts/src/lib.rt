@@ -2,7 +2,7 @@
 //!
 //! They are read and made exactly as `specs/` says: the words of a shell (`shell_words`), what a file of outputs gives
 //! (`read_output_file`), the commands in what a step prints (`read_commands`), what is shown of it (`shown`) and which masks
-//! it adds (`added_masks`), masked texts (`mask`), and what is shown of logs, one after the other (`logs_text`). What these
+//! it adds (`added_masks`), masked texts (`mask`), and what is shown of logs, one after the other (`tell_log`). What these
 //! definitions mean as grammars is said in `laws`.
 //!
 //! The crate knows no board and no table. It stands on `flow_model` for texts and for which outputs an answer may have, on
@@ -25,7 +25,7 @@ mod splits;
 
 pub use command_lines::read_commands;
 pub use line::Line;
-pub use logs::{Log, logs_text};
+pub use logs::{Log, tell_log};
 pub use masks::mask;
 pub use output_fault::OutputFault;
 pub use output_file::read_output_file;

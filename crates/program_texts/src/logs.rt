@@ -130,8 +130,14 @@ fn add_lines(text: &mut String, lines: &[Text]) -> Result<(), AllocError>
     Ok(())
 }
 
-/// Adds what is shown of a log, and keeps the masks that it adds.
-fn tell_log(
+/// Adds what is shown of a log to a text: by the masks that are given, and by those that earlier logs of its leg added. `added`
+/// has these, each with the number of its leg, and keeps those that this log adds. So logs are told one after the other, from
+/// no masks on.
+///
+/// # Errors
+///
+/// There is no memory.
+pub fn tell_log(
     alloc: Global,
     given: &Sequence<Text>,
     log: &Log,
@@ -147,21 +153,4 @@ fn tell_log(
     let (lines, more) = log_told(alloc, bytes, masks.as_slice())?;
     add_lines(text, lines.as_slice())?;
     keep_masks(alloc, *leg, more.as_slice(), added)
-}
-
-/// The text of logs, one after the other: what is shown of each, by the masks that are given and those that earlier logs of
-/// its leg added.
-///
-/// # Errors
-///
-/// There is no memory.
-pub fn logs_text(alloc: Global, given: &Sequence<Text>, logs: &[Log]) -> Result<String, AllocError>
-    ensures { IfOk result (λ text. string_bytes text ≡ spec.logs_text given.now [] logs.now) }
-{
-    let mut text = String::new(alloc);
-    let mut added = Sequence::empty(alloc);
-    for log in logs {
-        tell_log(alloc, given, log, &mut added, &mut text)?;
-    }
-    Ok(text)
 }
