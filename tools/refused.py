@@ -8,8 +8,8 @@ only the examples with that word in their name are played. Of each, for the Nth 
 
   commands    what is told is what is told with memory enough, or `actrun: memory` with status 3; `out` is empty then, but that
               `debug` has its answers so far and `run` the text so far; a record that `run` wrote can be replayed
-  insist      an event that is refused for want of memory, on a board, is answered when it is played again as with memory enough,
-              and so is all that follows
+  insist      an event that is refused for want of memory, on the plain board and on the flat one, by `apply` and by
+              `apply_with_undo`, is answered when it is played again as with memory enough, and so is all that follows
   posts       likewise what is posted, begun and ended under the lock, where each event is posted twice, and the moves of a clerk,
               who is asked more often than there are moves: the replies, the history and the board at the end are the same; an
               end that is refused gives the call back
@@ -291,8 +291,9 @@ def cases():
         named, blocks = blocks_of(file)
         for place, (name, block) in enumerate(blocks):
             if name in names and block.startswith("? apply\n"):
-                case = f"{named}\n\n{block.replace('? apply', '? insist')}"
-                yield f"insist {name} {place}", lambda _, case=case: case, is_insisted
+                for board, call in ((board, call) for board in ("plain", "flat") for call in ("apply", "undo")):
+                    case = f"{named}\n\n{block.replace('? apply', f'? insist {board} {call}')}"
+                    yield f"insist {name} {place} {board} {call}", lambda _, case=case: case, is_insisted
     yield "posts two-jobs-two-workers", lambda _: of_the_lock(), is_posted
     for name in ("two", "crossed"):
         yield f"alone {name}", lambda programs, name=name: recorded(programs, name, "alone"), is_alone

@@ -5,7 +5,8 @@
 //!   record          the text of the record that it is, printed
 //!   copy            the same of copies, whose plan was checked anew
 //!   apply [WORKER]  the reply to each entry of the record, reported by that worker, and the board after them
-//!   insist          the same, where an entry that is refused for want of memory is played again
+//!   insist BOARD CALL  the same on the board, `plain` or `flat`, by the call, `apply` or `undo` (`apply_with_undo`), where an
+//!                   entry that is refused for want of memory is played again
 //!   replies         the same with the members that each reply names
 //!   run             how far the record can be played, and a copy of the board after it
 //!   moves           the moves that are open after the entries of the record, one a line, or `none`
@@ -16,7 +17,7 @@
 //! `group_calls`.
 
 use crate::page::Page;
-use crate::plays::{apply, moves, put_board, run};
+use crate::plays::{apply, insist, moves, put_board, run};
 use crate::replies::put_reply;
 use crate::{expressions, group_calls, samples};
 use flow_model::{CheckedPlan, Duplicate};
@@ -29,7 +30,8 @@ pub fn perform(page: &mut Page<'_>) {
         "entry" => entry(page),
         "record" => record(page),
         "copy" => copy(page),
-        "apply" | "insist" | "replies" => apply(page),
+        "apply" | "replies" => apply(page),
+        "insist" => insist(page),
         "run" => run(page),
         "moves" => moves(page),
         "sample" => sample(page),

@@ -6,9 +6,10 @@
 use crate::members::{put_members, put_moves};
 use crate::page::Page;
 use crate::replies::put_reply;
-use flow_model::{Board, CheckedPlan, Duplicate, Entry, Sequence};
+use flat_board::FlatBoard;
+use flow_model::{Board, CheckedPlan, Duplicate, Entry, Reply, Sequence};
 use plan_text::board_text;
-use status_table::{PlainBoard, Table, run_entries};
+use status_table::{EventFault, PlainBoard, Reversible, Table, run_entries};
 use std::alloc::AllocError;
 
 /// Writes a copy of a board, if there is one.
@@ -41,12 +42,38 @@ pub fn reported(page: &mut Page<'_>, entry: &Entry) -> Option<Entry> {
     Some(Entry { worker, event })
 }
 
-/// The replies to entries, one a line, and the board after them. One that insists plays an entry again where there was no
-/// memory for it.
+/// The replies to entries, one a line, and the board after them.
 pub fn apply(page: &mut Page<'_>) {
     if let Some((mut table, entries)) = tabled(page) {
         for entry in entries.as_slice() {
-            if !play(page, &mut table, entry) && page.word(0) == "insist" {
+            play(page, &mut table, entry);
+        }
+        put_board(page, table.view());
+    }
+}
+
+/// The same on the board that the verb names. An entry is played again where there was no memory for it.
+pub fn insist(page: &mut Page<'_>) {
+    if let Some((plan, entries)) = page.record() {
+        if page.word(1) == "flat" {
+            let made = FlatBoard::new(page.alloc, &plan);
+            insist_on(page, made, entries.as_slice());
+        } else {
+            let made = PlainBoard::new(page.alloc, &plan);
+            insist_on(page, made, entries.as_slice());
+        }
+    }
+}
+
+/// The same on a board.
+fn insist_on<M: Reversible + Drop>(
+    page: &mut Page<'_>,
+    made: Result<M, AllocError>,
+    entries: &[Entry],
+) {
+    if let Some(mut table) = page.have(made) {
+        for entry in entries {
+            if !play(page, &mut table, entry) {
                 play(page, &mut table, entry);
             }
         }
@@ -54,13 +81,26 @@ pub fn apply(page: &mut Page<'_>) {
     }
 }
 
+/// What comes of an entry, by the call that the verb names.
+fn answer_to<M: Reversible>(
+    page: &Page<'_>,
+    table: &mut M,
+    entry: Entry,
+) -> Result<Reply, EventFault> {
+    if page.word(2) == "undo" {
+        let (reply, _undo) = table.apply_with_undo(entry)?;
+        return Ok(reply);
+    }
+    table.apply(entry)
+}
+
 /// Plays a copy of an entry and writes the reply. It answers whether there was memory.
-fn play(page: &mut Page<'_>, table: &mut PlainBoard, entry: &Entry) -> bool {
+fn play<M: Reversible>(page: &mut Page<'_>, table: &mut M, entry: &Entry) -> bool {
     let before = shown(page, table.view());
     let Some(entry) = reported(page, entry) else {
         return false;
     };
-    match table.apply(entry) {
+    match answer_to(page, table, entry) {
         Ok(reply) => {
             put_reply(page, &reply);
             if page.word(0) == "replies" {

@@ -1,11 +1,11 @@
 -- What `actrun run` tells: what was shown of the steps that it played, how the runs ended, and why it stopped.
-use Rattle.std.specs.Prelude.{◌≡◌, ℕ, true, false, ◌⊎◌, List, ◌++◌, Option, Some, None, Result, Ok, Err, Vec}
+use Rattle.std.specs.Prelude.{◌≡◌, ℕ, true, false, ◌⊎◌, List, [], ◌++◌, Option, Some, None, Result, Ok, Err, Vec}
 use Rattle.std.specs.declared.alloc.Global.{Global}
 use Rattle.command_io.specs.Files.{Content, File, IsContent}
 use Rattle.command_io.specs.Runs.{runs_status}
 use Rattle.command_io.specs.Stop.{SaysStop}
-use Rattle.command_io.specs.Stream.{Stream, IsKept, IsRead, IsWritten}
-use Rattle.command_io.specs.Tell.{BreaksOff, Says, TellsTrouble}
+use Rattle.command_io.specs.Stream.{Stream, IsKept, IsRead}
+use Rattle.command_io.specs.Tell.{Says, TellsTrouble}
 use Rattle.command_io.specs.Trouble.{line, source_trouble, trouble_status}
 use Rattle.command_io.specs.declared.stop.Stop.{Stop}
 use Rattle.command_io.specs.declared.stop.Stop.TheVariants.{Workers}
@@ -22,30 +22,32 @@ use Rattle.plan_text.specs.Record.{record_text}
 use Rattle.run_command.specs.Playing.{IsPlayed, Leaves}
 use Rattle.run_command.specs.RecordFile.{Kept}
 use Rattle.run_command.specs.RunLines.{run_lines}
-use Rattle.run_command.specs.StepLogs.{ShowsLogs}
+use Rattle.run_command.specs.StepLogs.{PutsText, ShowsLogs, Written}
 use Rattle.run_command.specs.Stubs.{Stubs, file_stubs}
 use Rattle.status_table.specs.Runs.{after}
 use Rattle.worker_pool.specs.Many.{AreNoWorkers}
 
 -- ---- the text of a history
 
--- After that a play that came to its end tells how its runs ended, by lines and by its status.
-pub record ShowsEnd (plan : Plan) (history : List Entry) (logs shown : List ℕ) (done : ℕ) : Type 0 where
+-- A play that came to its end tells how its runs ended, by lines and by its status.
+pub record ShowsEnd (plan : Plan) (history : List Entry) (lines : List ℕ) (done : ℕ) : Type 0 where
   pub board : Board
   pub leads : after plan history ≡ Some board
-  pub is : shown ≡ logs ++ run_lines 0 board.runs
+  pub is : lines ≡ run_lines 0 board.runs
   pub tells : done ≡ runs_status board
 
--- One that was stopped tells no more.
-abbrev pub ShowsRest : Plan → List Entry → Option Stop → List ℕ → List ℕ → ℕ → Type 0
-ShowsRest plan history (Some stop) logs shown done = shown ≡ logs
-ShowsRest plan history None logs shown done = ShowsEnd plan history logs shown done
+-- One that was stopped tells nothing of them.
+abbrev pub ShowsRest : Plan → List Entry → Option Stop → List ℕ → ℕ → Type 0
+ShowsRest plan history (Some stop) lines done = lines ≡ []
+ShowsRest plan history None lines done = ShowsEnd plan history lines done
 
--- The text of a history, and the status that goes with it where all goes well.
-pub record IsRunText (plan : Plan) (history : List Entry) (stop : Option Stop) (shown : List ℕ) (done : ℕ) : Type 0 where
-  pub logs : List ℕ
-  pub shows : ShowsLogs plan history logs
-  pub rest : ShowsRest plan history stop logs shown done
+-- The text of a history, what is shown of its logs and then those lines, and the status that goes with it where all goes well.
+pub record IsRunText (plan : Plan) (history : List Entry) (stop : Option Stop) (text : List ℕ) (done : ℕ) : Type 0 where
+  pub shown : List ℕ
+  pub lines : List ℕ
+  pub shows : ShowsLogs plan history shown
+  pub rest : ShowsRest plan history stop lines done
+  pub is : text ≡ shown ++ lines
 
 -- ---- what is told
 
@@ -64,24 +66,28 @@ Finishes None (Ok true) done err err' status = IsKept err err' × (status ≡ do
 Finishes None (Ok false) done err err' status = SaysTrouble Io err err' status
 Finishes None (Err memory) done err err' status = SaysTrouble Memory err err' status
 
--- The text stands on out, and what follows it is told; or a write to out failed after a beginning of the text.
-abbrev pub TellsShown : Option Stop → Kept → List ℕ → ℕ → Stream → Stream → Stream → Stream → ℕ → Type 0
-TellsShown stop kept shown done out out' err err' status =
-    (IsWritten out out' shown × Finishes stop kept done err err' status) ⊎ BreaksOff shown out out' err err' status
+-- What is told of a text that was written so: what follows it where all of it stands on out; that a write failed; or that there was
+-- no memory for what follows a beginning of it.
+abbrev pub TellsWritten : Written → Option Stop → Kept → ℕ → Stream → Stream → ℕ → Type 0
+TellsWritten (Ok true) stop kept done err err' status = Finishes stop kept done err err' status
+TellsWritten (Ok false) stop kept done err err' status = SaysTrouble Io err err' status
+TellsWritten (Err memory) stop kept done err err' status = SaysTrouble Memory err err' status
 
 -- What is told of a history.
 pub record TellsHistory (plan : Plan) (history : List Entry) (stop : Option Stop) (kept : Kept) (out out' err err' : Stream) (status : ℕ) : Type 0 where
-  pub shown : List ℕ
+  pub text : List ℕ
   pub done : ℕ
-  pub text : IsRunText plan history stop shown done
-  pub told : TellsShown stop kept shown done out out' err err' status
+  pub is : IsRunText plan history stop text done
+  pub written : Written
+  pub puts : PutsText out out' text written
+  pub told : TellsWritten written stop kept done err err' status
 
 -- Nothing stands on out, and want of memory is told.
 abbrev pub TellsMemory : Stream → Stream → Stream → Stream → ℕ → Type 0
 TellsMemory = TellsTrouble Memory
 
--- What is told of what was played, and kept of it: the text of the history, or that there is no memory for it; and in both cases
--- the record is written when `out` already shows what it shows in the end.
+-- What is told of what was played, and kept of it: the text of the history, or that there is no memory for what ends it; and in both
+-- cases the record is written when `out` already shows what it shows in the end.
 pub record TellsPlaying (keep : Keeps) (plan : Plan) (history : List Entry) (stop : Option Stop) (out out' err err' : Stream) (status : ℕ) : Type 0 where
   pub kept : Kept
   pub keeping : keep (record_text plan history) out' kept
@@ -181,3 +187,9 @@ ReadsBoth stubs stubs' input input' (Err why) = AreBothRead stubs stubs' input i
 -- Why a machine cannot give a folder's whole path: it has no such folder, or no memory.
 abbrev pub IsOfMachine : Trouble → Type 0
 IsOfMachine trouble = (trouble ≡ Io) ⊎ (trouble ≡ Memory)
+
+-- What is shown of the logs of a history, and then these lines, were written so.
+pub record PutsPlayed (plan : Plan) (history : List Entry) (lines : List ℕ) (out out' : Stream) (written : Written) : Type 0 where
+  pub shown : List ℕ
+  pub shows : ShowsLogs plan history shown
+  pub puts : PutsText out out' (shown ++ lines) written

@@ -1,13 +1,14 @@
 //! The logs of the steps that were started, and what is shown of them.
 
-ghost use Rattle.std.specs.Prelude.{◌≡◌, IfOk, flat_map, map, string_bytes};
+ghost use Rattle.std.specs.Prelude.{◌≡◌, IfOk, flat_map, map};
 ghost use Rattle.step_host.specs.Replay.{recorded};
 ghost use Rattle.run_command.specs.StepLogs as spec;
 
 use crate::place::Place;
 use crate::plan_masks::masks_of;
-use flow_model::{Answer, CheckedPlan, Entry, Sequence};
-use program_texts::{Log, logs_text};
+use command_io::stream::Sink;
+use flow_model::{Answer, CheckedPlan, Entry, Sequence, Text};
+use program_texts::{Log, tell_log};
 use std::alloc::{AllocError, Global};
 use std::fs::Files;
 use std::io::ErrorKind;
@@ -77,45 +78,59 @@ fn read_log<F: Files>(
     }
 }
 
-/// The logs of steps.
-fn read_logs<F: Files>(
+/// Writes what is shown of the log of a step, and keeps the masks that it adds.
+fn put_log<F: Files, O: Sink>(
     alloc: Global,
     place: &Place<'_, F>,
+    masks: &Sequence<Text>,
+    step: (u64, u64),
+    added: &mut Sequence<(u64, Text)>,
+    out: &mut O,
+) -> Result<bool, AllocError>
+    ensures { spec.PutsLog masks.now step.0 added.old added.new (O.seen out.old) (O.seen out.new) result }
+{
+    let log = read_log(alloc, place, step)?;
+    let mut text = String::new(alloc);
+    tell_log(alloc, masks, &log, added, &mut text)?;
+    Ok(out.put(text.as_bytes()))
+}
+
+/// Writes what is shown of the logs of steps, one log after the other.
+fn put_each<F: Files, O: Sink>(
+    alloc: Global,
+    place: &Place<'_, F>,
+    masks: &Sequence<Text>,
     steps: &[(u64, u64)],
-) -> Result<Sequence<Log>, AllocError>
-    ensures { IfOk result (λ logs.
-        map (λ log. log.0) logs ≡ map (λ step. step.0) steps.now) }
+    out: &mut O,
+) -> Result<bool, AllocError>
+    ensures { spec.PutsLogs masks.now (map (λ step. step.0) steps.now)
+        (O.seen out.old) (O.seen out.new) result }
 {
-    let mut logs = Sequence::empty(alloc);
+    let mut added = Sequence::empty(alloc);
     for step in steps {
-        logs.push(read_log(alloc, place, *step)?)?;
+        if !put_log(alloc, place, masks, *step, &mut added, out)? {
+            return Ok(false);
+        }
     }
-    Ok(logs)
+    Ok(true)
 }
 
-/// The logs of a history.
-fn logs_of<F: Files>(
+/// Writes what is shown of the logs of a history, one log after the other: no more than one of them is held at a time. It
+/// answers whether all was written.
+///
+/// # Errors
+///
+/// There is no memory. A beginning may have been written.
+pub(crate) fn put_logs<F: Files, O: Sink>(
     alloc: Global,
     place: &Place<'_, F>,
     plan: &CheckedPlan,
     history: &[Entry],
-) -> Result<Sequence<Log>, AllocError>
-    ensures { IfOk result (λ logs. spec.AreLogsOf plan.now history.now logs) }
-{
-    let steps = started_steps(alloc, plan, history)?;
-    read_logs(alloc, place, steps.as_slice())
-}
-
-/// What is shown of the logs of a history.
-pub(crate) fn shown_logs<F: Files>(
-    alloc: Global,
-    place: &Place<'_, F>,
-    plan: &CheckedPlan,
-    history: &[Entry],
-) -> Result<String, AllocError>
-    ensures { IfOk result (λ text. spec.ShowsLogs plan.now history.now (string_bytes text)) }
+    out: &mut O,
+) -> Result<bool, AllocError>
+    ensures { spec.PutsShown plan.now history.now (O.seen out.old) (O.seen out.new) result }
 {
     let masks = masks_of(alloc, plan.plan())?;
-    let logs = logs_of(alloc, place, plan, history)?;
-    logs_text(alloc, &masks, logs.as_slice())
+    let steps = started_steps(alloc, plan, history)?;
+    put_each(alloc, place, &masks, steps.as_slice(), out)
 }

@@ -1,5 +1,4 @@
-use Rattle.std.proofs.Common.{◌≡◌, inl}
-use Rattle.run_command.specs.Run as spec
+use Rattle.std.proofs.Common.{inl}
 use Rattle.run_command.proofs.run.run.Goals as goal
 
 pub returns-in-Ok : goal.returns-in-Ok
