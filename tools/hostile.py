@@ -8,13 +8,16 @@ cases: bytes garbled, lines shuffled, texts cut, tokens at random, values exchan
 of a seed is always the same, whatever NUMBER is.
 
 Of each answer it is asked that
-- the program ended by itself within 60 seconds, with a status from 0 to 4, and 1 and 4 only from `replay`;
-- standard error is empty where the status is 0, 1 or 4, and else one line that FORMATS.md has, of that status;
-- standard output is empty beside a fault, and else is what the command prints: a value, a plan, jobs by stages, a board, answers of
-  the debugger;
+- the program ended by itself within 60 seconds, with a status from 0 to 4, and 1 and 4 only from `replay` and `graph`;
+- standard error is empty where the status is 0, 1 or 4, and where `lint` refuses a file; else it is one line that FORMATS.md has, of
+  that status;
+- standard output is empty beside a fault, and else is what the command prints: a value, a plan, jobs by stages, what is to be known of
+  workflows, a board, a graph, answers of the debugger;
 - want of memory is not told, since there is memory;
 - a plan that was printed is read again by `table`;
-- the status of `replay` fits its board, and `table` prints the same board, or refuses the same record too;
+- a file that `lint` names alone is refused by it exactly where `plan` refuses it, by the same name;
+- the status of `replay` fits its board, and `table` prints the same board, or refuses the same record too; so does that of `graph`,
+  whose braces and quotes are closed;
 - `debug` answers each line once.
 
 As many inputs are tried side by side as there are processors for this program (`taskset` lessens them). What offends is kept: each
@@ -57,6 +60,7 @@ REFUSALS = {
     "list": PLAN_LINE,
     "table": RECORD_LINE,
     "replay": RECORD_LINE,
+    "graph": RECORD_LINE,
     "debug": RECORD_LINE,
 }
 
@@ -68,7 +72,11 @@ BOARD_LINE = re.compile(
     rf"|step [0-9]+ ({RESULT}) ({RESULT}) \{{[^\n]*\}}|out \{{[^\n]+\}}|ends( [0-9]+)*"
 )
 DEBUG_LINE = re.compile(r"place [0-9]+ of [0-9]+|debug (AtEnd|AtStart|NoPlace|NoBreak)|break set|cleared|no such break|unknown command")
+LINT_LINE = re.compile(r"[ab]\.json: [^\n]+: .+")
+REFUSED_LINE = re.compile(r"a\.json: \S.*?: refused, ([A-Za-z]+(?: [A-Za-z]+)?(?: at [0-9]+)?): .+")
+QUOTED = re.compile(r'"(?:[^"\\]|\\.)*"', re.DOTALL)
 TABLE = hostile_inputs.Tried([b"table"])
+PLAN = hostile_inputs.Tried([b"plan", b"a.json"])
 LIST_LINE = re.compile(r"stage [0-9]+|job [0-9]+ run [0-9]+ [A-Za-z_][A-Za-z0-9_-]*")
 
 
@@ -125,12 +133,31 @@ def wrong_text(command, text):
     elif command == "list":
         if not lines or not all(LIST_LINE.fullmatch(it) for it in lines):
             return "it printed no jobs by stages"
+    elif command == "lint":
+        if not all(LINT_LINE.fullmatch(it) for it in lines):
+            return "it printed what is no line of lint"
+    elif command == "graph":
+        if not is_graph(text):
+            return "it printed no graph"
     elif command == "debug":
         if not all(BOARD_LINE.fullmatch(it) or DEBUG_LINE.fullmatch(it) for it in lines):
             return "it printed no answers of the debugger"
-    elif not is_board(lines):
+    elif not is_board(without_settled(lines)):
         return "it printed no board"
     return None
+
+
+def without_settled(lines):
+    """The lines of a board, without the last where that says whether it is settled."""
+    return lines[:-1] if lines and lines[-1] in ("settled yes", "settled no") else lines
+
+
+def is_graph(text):
+    """Whether a text is a graph: what stands between quotes aside, its braces are closed, and it has nothing but nodes and edges."""
+    bare = QUOTED.sub('""', text)
+    own = r"\t*(digraph plan \{|subgraph cluster_\d+ \{|\}|rankdir=LR;|fontname=Helvetica;|node \[[^\]]*\];|label=\"\";" \
+          r"|j\d+ \[label=\"\"( fillcolor=[a-z]+)?\];|j\d+ -> j\d+;)"
+    return bare.count("{") == bare.count("}") and all(re.fullmatch(own, it) for it in bare.split("\n")[:-1])
 
 
 def wrong_fault(tried, answer, line):
@@ -160,14 +187,14 @@ def wrong(tried, answer):
         out, err = answer.out.decode(), answer.err.decode()
     except UnicodeDecodeError:
         return "it wrote what is no UTF-8"
-    if answer.status in (2, 3):
+    if answer.status == 3 or answer.status == 2 and (command != "lint" or err):
         return wrong_fault(tried, answer, err)
     if err:
         return "it told a fault, and its status is that of none"
-    if answer.status in (1, 4) and command != "replay":
-        return "only replay has this status"
+    if answer.status in (1, 4) and command not in ("replay", "graph"):
+        return "only replay and graph have this status"
     found = wrong_text(command, out)
-    if found is None and command == "replay" and status_of_board(lines_of(out)) != answer.status:
+    if found is None and command == "replay" and status_of_board(without_settled(lines_of(out))) != answer.status:
         found = "its status is not that of the board"
     return found
 
@@ -180,13 +207,41 @@ def wrong_together(tried, answer, program, room):
     if tried.words == [b"debug", b"record"] and answer.status == 0:
         asked = tried.given.count(b"\n") + (tried.given[-1:] not in (b"", b"\n"))
         return None if asked == answers_of(answer.out) else "it answered more lines than it was asked, or fewer"
-    if tried.words == [b"replay", b"record"] and answer.status != 3:
-        other = Answer(program, ["table"], tried.files["record"], room)
-        found = wrong(TABLE, other)
-        if found is None and (other.status == 2) != (answer.status == 2):
-            found = "table refuses what replay plays, or the other way round"
-        return found or (None if other.out == answer.out else "table prints another board than replay")
+    if tried.words == [b"lint", b"a.json"] and answer.status in (0, 2):
+        return wrong_beside_plan(answer, Answer(program, ["plan", "a.json"], b"", room))
+    if tried.command in ("replay", "graph") and tried.words[-1] == b"record" and answer.status != 3:
+        return wrong_beside_table(tried, answer, Answer(program, ["table"], tried.files["record"], room))
     return None
+
+
+def wrong_beside_plan(answer, other):
+    """What is wrong with an answer of `lint` beside that of `plan` of the same file, or nothing."""
+    found = wrong(PLAN, other)
+    if found or (other.status == 2) != (answer.status == 2):
+        return found or "plan refuses what lint lets pass, or the other way round"
+    refused = REFUSED_LINE.match(answer.out.decode().split("\n")[0])
+    told = re.fullmatch(r"actrun: (?:plan|flow a\.json) (.*)\n", other.err.decode())
+    if answer.status == 2 and not (refused and told and refused[1] == told[1]):
+        return "lint refuses by another name than plan"
+    return None
+
+
+def wrong_beside_table(tried, answer, other):
+    """What is wrong with an answer of `replay` or `graph` beside that of `table` of the same record, or nothing."""
+    found = wrong(TABLE, other)
+    if found is None and (other.status == 2) != (answer.status == 2):
+        found = f"table refuses what {tried.command} plays, or the other way round"
+    if found or answer.status == 2:
+        return found
+    board = other.out.decode()
+    if tried.command == "replay":
+        lines = without_settled(lines_of(answer.out.decode()))
+        if (len(lines_of(answer.out.decode())) != len(lines)) != (b"--settled" in tried.words):
+            return "it tells whether the board is settled, and is not asked, or the other way round"
+        return None if lines == lines_of(board) else "table prints another board than replay"
+    # (a plan alone is drawn with status 0)
+    is_alone = b"\n" not in tried.files["record"].rstrip(b"\n")
+    return None if is_alone or answer.status == status_of_board(lines_of(board)) else "its status is not that of the board"
 
 
 def keep(folder, number, tried, answer, why):

@@ -9,8 +9,8 @@ import os
 import re
 
 TOP = os.path.join(os.path.dirname(os.path.abspath(__file__)), "..")
-COMMANDS = ("eval", "plan", "list", "table", "replay", "debug", "words")
-WEIGHTS = (26, 22, 5, 14, 12, 15, 6)
+COMMANDS = ("eval", "plan", "list", "lint", "table", "replay", "graph", "debug", "words")
+WEIGHTS = (24, 16, 4, 10, 10, 11, 6, 13, 6)
 LONGEST_WORD = 131000
 # a changed text has fewer bytes
 MOST = 16 << 20
@@ -457,12 +457,28 @@ def made_list(chance):
     return Tried([b"list"] + [b"a.json"] * chance.choice((1, 1, 1, 2, 64, 65)), {"a.json": flow(chance)})
 
 
+def made_lint(chance):
+    words, files = [b"lint"], {"a.json": flow(chance)}
+    words += [b"a.json"] * chance.choice((1, 1, 1, 1, 2, 8))
+    if chance.random() < 0.1:
+        files["b.json"] = flow(chance)
+        words.append(b"b.json")
+    return Tried(words, files)
+
+
 def made_table(chance):
     return Tried([b"table"], given=record(chance))
 
 
 def made_replay(chance):
-    return Tried([b"replay", b"record"], {"record": record(chance)})
+    return Tried([b"replay"] + [b"--settled"] * (chance.random() < 0.4) + [b"record"], {"record": record(chance)})
+
+
+def made_graph(chance):
+    text = record(chance)
+    if chance.random() < 0.3:
+        text = changed_json(chance, chance.choice(SEEDS.plans), 0.1) + chance.choice((b"", b"\n"))
+    return Tried([b"graph", b"record"], {"record": text})
 
 
 def made_debug(chance):
@@ -471,7 +487,7 @@ def made_debug(chance):
 
 def made_words(chance):
     """Words at random. `run` is none of them, since it starts programs."""
-    some = (b"eval", b"table", b"plan", b"list", b"replay", b"debug", b"--contexts", b"--event", b"--job", b"--workers", b"--stubs", b"--record",
+    some = (b"eval", b"table", b"plan", b"list", b"lint", b"replay", b"graph", b"debug", b"--settled", b"--contexts", b"--event", b"--job", b"--workers", b"--stubs", b"--record",
             b"--work", b"--", b"-", b"-h", b"--help", b"--version", b"help", b"", b" ", b"1", b"push", b"a", b"a.json", b"record", b"contexts.json",
             b"missing.json", b"--contexts=contexts.json", b"--event=push", b"--job=a", b"-1", b"\xff", b"--contexts=", b"/", b".", b"x" * 300)
     words = [chance.choice(some) for _ in range(chance.choice((0, 1, 1, 2, 3, 4, 6)))]
