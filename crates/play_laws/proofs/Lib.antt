@@ -1,0 +1,5 @@
+pub mod Folded
+pub mod Giving
+pub mod Needs
+pub mod Pairs
+pub mod Steps
