@@ -1,3 +1,4 @@
+pub mod Each
 pub mod Folded
 pub mod Giving
 pub mod Needs
