@@ -77,6 +77,7 @@ REFUSED_LINE = re.compile(r"a\.json: \S.*?: refused, ([A-Za-z]+(?: [A-Za-z]+)?(?
 QUOTED = re.compile(r'"(?:[^"\\]|\\.)*"', re.DOTALL)
 TABLE = hostile_inputs.Tried([b"table"])
 PLAN = hostile_inputs.Tried([b"plan", b"a.json"])
+OF_A_RECORD = ([b"replay", b"record"], [b"replay", b"--settled", b"record"], [b"graph", b"record"])
 LIST_LINE = re.compile(r"stage [0-9]+|job [0-9]+ run [0-9]+ [A-Za-z_][A-Za-z0-9_-]*")
 
 
@@ -216,7 +217,7 @@ def wrong_together(tried, answer, program, room):
         return None if asked == answers_of(answer.out) else "it answered more lines than it was asked, or fewer"
     if tried.words == [b"lint", b"a.json"] and answer.status in (0, 2):
         return wrong_beside_plan(answer, Answer(program, ["plan", "a.json"], b"", room))
-    if tried.command in ("replay", "graph") and tried.words[-1] == b"record" and answer.status != 3:
+    if tried.words in OF_A_RECORD and answer.status != 3:
         return wrong_beside_table(tried, answer, Answer(program, ["table"], tried.files["record"], room))
     return None
 
