@@ -302,9 +302,12 @@ def changed_json(chance, text, often=0.25):
     except (ValueError, RecursionError):
         return garbled(chance, text)
     if count and isinstance(value, (dict, list)):
-        for _ in range(count):
-            change(chance, value)
-        made = spelled(value)
+        try:
+            for _ in range(count):
+                change(chance, value)
+            made = spelled(value)
+        except MemoryError:
+            return garbled(chance, text)
         # (what stands in many places may have grown since)
         text = made if len(made) < MOST else text
     return sometimes_garbled(chance, text, often)
