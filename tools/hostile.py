@@ -12,7 +12,7 @@ Of each answer it is asked that
 - standard error is empty where the status is 0, 1 or 4, and where `lint` refuses a file; else it is one line that FORMATS.md has, of
   that status;
 - standard output is empty beside a fault, and else is what the command prints: a value, a plan, jobs by stages, what is to be known of
-  workflows, a board, a graph, answers of the debugger;
+  the files that `lint` is given, in lines without a control character, a board, a graph, answers of the debugger;
 - want of memory is not told, since there is memory;
 - a plan that was printed is read again by `table`;
 - a file that `lint` names alone is refused by it exactly where `plan` refuses it, by the same name;
@@ -69,10 +69,10 @@ STOP_AND_GROUP = r'( stop)?( group "([^"\\]|\\.)*")?'
 BOARD_LINE = re.compile(
     rf"run [0-9]+ (new|waiting|going|closed ({RESULT})){STOP_AND_GROUP}|job [0-9]+ (unjudged|open|shut ({RESULT}))"
     rf"|leg [0-9]+ (fresh|waiting|admitted|running [0-9]+ (idle|call)|ended (failure tolerated|{RESULT})){STOP_AND_GROUP}"
-    rf"|step [0-9]+ ({RESULT}) ({RESULT}) \{{[^\n]*\}}|out \{{[^\n]+\}}|ends( [0-9]+)*"
+    rf"|step [0-9]+ ({RESULT}) ({RESULT}) \{{[^\n]*\}}|(out|set) \{{[^\n]+\}}|ends( [0-9]+)*"
 )
 DEBUG_LINE = re.compile(r"place [0-9]+ of [0-9]+|debug (AtEnd|AtStart|NoPlace|NoBreak)|break set|cleared|no such break|unknown command")
-LINT_LINE = re.compile(r"[ab]\.json: [^\n]+: .+")
+LINT_REST = re.compile(r": [^\x00-\x1f\x7f]+: [^\x00-\x1f\x7f]+")
 REFUSED_LINE = re.compile(r"a\.json: \S.*?: refused, ([A-Za-z]+(?: [A-Za-z]+)?(?: at [0-9]+)?): .+")
 QUOTED = re.compile(r'"(?:[^"\\]|\\.)*"', re.DOTALL)
 TABLE = hostile_inputs.Tried([b"table"])
@@ -126,9 +126,15 @@ def status_of_board(lines):
     return 0 if all(it[3] == "success" for it in runs) else 1
 
 
-def wrong_text(command, text):
+def is_lint_line(tried, line):
+    """Whether a line tells something of a place of a file that the words name."""
+    names = [it for it in tried.files if it.encode() in tried.words]
+    return any(line.startswith(it) and LINT_REST.fullmatch(line[len(it):]) for it in names)
+
+
+def wrong_text(tried, text):
     """What is wrong with the text that a command printed, or nothing."""
-    lines = lines_of(text)
+    command, lines = tried.command, lines_of(text)
     if lines is None:
         return "its text does not end with a newline"
     if command in ("eval", "plan"):
@@ -136,13 +142,13 @@ def wrong_text(command, text):
             value = json.loads(text)
         except (ValueError, RecursionError):
             return "it printed no JSON"
-        if len(lines) != 1 or command == "plan" and value.get("version") != 1:
+        if len(lines) != 1 or command == "plan" and value.get("version") != 2:
             return "it printed no line with a value"
     elif command == "list":
         if not lines or not all(LIST_LINE.fullmatch(it) for it in lines):
             return "it printed no jobs by stages"
     elif command == "lint":
-        if not all(LINT_LINE.fullmatch(it) for it in lines):
+        if not all(is_lint_line(tried, it) for it in lines):
             return "it printed what is no line of lint"
     elif command == "graph":
         if not is_graph(text):
@@ -201,7 +207,7 @@ def wrong(tried, answer):
         return "it told a fault, and its status is that of none"
     if answer.status in (1, 4) and command not in ("replay", "graph"):
         return "only replay and graph have this status"
-    found = wrong_text(command, out)
+    found = wrong_text(tried, out)
     if found is None and command == "replay" and status_of_board(without_settled(lines_of(out))) != answer.status:
         found = "its status is not that of the board"
     return found

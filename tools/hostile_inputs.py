@@ -43,7 +43,7 @@ KEYS = (
     "name on env defaults concurrency jobs needs if strategy matrix include exclude fail-fast max-parallel continue-on-error outputs steps "
     "uses container services id run shell working-directory with group cancel-in-progress github inputs secrets vars runs version event flow "
     "roots condition fail_fast legs max_parallel number tolerate work kind dir cancel worker leg job answer code true a b"
-).split() + ["", "=", "\x00", "é", "a b", "<<", "__proto__"]
+).split() + ["", "=", "\x00", "\n", "a\nb", "\x1b[2J\x7f", "é", "a b", "<<", "__proto__"]
 
 
 class Tried:
@@ -372,7 +372,9 @@ def entry(chance):
     if event == "end":
         value["answer"] = chance.choice((
             {"kind": "not-started"}, {"kind": "bad-output"}, {"kind": "exit", "code": chance.choice((0, 0, 1, 255, 256, -1)), "outputs": {}},
-            {"kind": "exit", "code": 0, "outputs": {chance.choice(KEYS): chance.choice(("", "x", "x" * 65536, "x" * 65537))}}))
+            {"kind": "exit", "code": 0, "outputs": {chance.choice(KEYS): chance.choice(("", "x", "x" * 65536, "x" * 65537))}},
+            {"kind": "exit", "code": chance.choice((0, 1)), "outputs": {}, "env": {chance.choice((*KEYS, "a=b", "\0", "")): chance.choice(
+                ("", "x", "{", "\0", "x" * 65536, "x" * 65537))}}))
     return spelled(value)
 
 

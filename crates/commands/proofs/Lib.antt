@@ -4,6 +4,7 @@ pub mod Flows
 pub mod Lines
 pub mod Linted
 pub mod OneAnswer
+pub mod Pictures
 pub mod Replayed
 pub mod Stopped
 pub mod Unplanned

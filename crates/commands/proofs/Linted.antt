@@ -1,5 +1,5 @@
 -- Going over the files that are looked at, and telling what comes of them.
-use Rattle.std.proofs.Common.{◌≡◌, ◌<◌, ◌≤◌, ◌+◌, ℕ, List, [], ◌∷◌, ◌++◌, length, drop, get_or, sym, subst, append-nil, append_assoc, Bool, true, false, Option, Some, None, Result, Ok, Err, String, Global, refl}
+use Rattle.std.proofs.Common.{◌≡◌, ◌<◌, ◌≤◌, ◌+◌, ℕ, List, [], ◌∷◌, ◌++◌, length, drop, get_or, sym, subst, append-nil, append_assoc, true, false, Option, Some, None, Result, Ok, Err, String, Global, refl}
 use Rattle.std.proofs.lemmas.Bool.{true≢false}
 use Rattle.std.proofs.lemmas.List.{drop_all}
 use Rattle.command_io.proofs.Told.{IsKept-same}
@@ -11,8 +11,10 @@ use Rattle.command_io.specs.declared.stream.SourceFault.{SourceFault}
 use Rattle.command_io.specs.declared.stream.SourceFault.TheVariants as source_fault
 use Rattle.command_io.specs.declared.trouble.Trouble.{Trouble}
 use Rattle.commands.proofs.Flows.{left_at}
-use Rattle.commands.specs.Lint.{Told, IsTold, IsToldOf, AreTold, Judges, GivesLint, IsLintAnswer, LintTells}
+use Rattle.commands.proofs.Pictures.{no_lines, lines_of_one, lines_of_all, lines_of_both}
+use Rattle.commands.specs.Lint.{Told, IsTold, IsToldOf, IsPassed, IsRefused, AreTold, Judges, GivesLint, IsLintAnswer, LintTells, fault_text, hint_lines, lint_text, note_words, refusing_line, refusing_words}
 use Rattle.commands.specs.Replay.{status_of, text_of}
+use Rattle.commands.specs.Shown.{HasPlainLines}
 
 -- what is told of a file by what it comes to is told of it
 pub told_by_judged : (file : Content) (trouble : Option Trouble) (told : Told) → Judges file (Ok trouble) → IsToldOf file trouble told → IsTold file told
@@ -41,6 +43,32 @@ pub all_told : (files : List Content) (i : ℕ) (tolds : List Told) → length f
 all_told files i tolds past g =
     subst (λ (l : List Told). AreTold files l) (append-nil tolds)
     (g.made [] (subst (λ (l : List Content). AreTold l []) (sym (drop_all i files past)) tt))
+
+-- ---- lines
+
+-- what is told of a file is told in lines
+passed_lines : (file : Content) (text : List ℕ) → IsPassed file text → HasPlainLines text
+passed_lines file text h = subst HasPlainLines (sym h.is) (lines_of_all (note_words file.name) h.hints)
+
+refused_lines : (file : Content) (text : List ℕ) → IsRefused file text → HasPlainLines text
+refused_lines file text h =
+    subst HasPlainLines (sym h.is)
+    (lines_of_both (refusing_line file.name (fault_text h.trouble) h.note) (hint_lines file.name h.hints)
+    (lines_of_one (refusing_words file.name (fault_text h.trouble) h.note)) (lines_of_all (note_words file.name) h.hints))
+
+told_in_lines : (file : Content) (told : Told) → IsTold file told → HasPlainLines told.1
+told_in_lines file (false, text) is = passed_lines file text is
+told_in_lines file (true, text) is = refused_lines file text is
+
+all_in_lines : (files : List Content) (tolds : List Told) → AreTold files tolds → HasPlainLines (lint_text tolds)
+all_in_lines [] [] are = no_lines
+all_in_lines [] (told ∷ tolds) are = absurd are
+all_in_lines (file ∷ files) [] are = absurd are
+all_in_lines (file ∷ files) (told ∷ tolds) are =
+    lines_of_both told.1 (lint_text tolds) (told_in_lines file told are.0) (all_in_lines files tolds are.1)
+
+pub told_lines : (files : List Content) (tolds : List Told) (text : List ℕ) → AreTold files tolds → text ≡ lint_text tolds → HasPlainLines text
+told_lines files tolds text are is = subst HasPlainLines (sym is) (all_in_lines files tolds are)
 
 -- what the code answers is an answer
 pub answered : (files : List Content) (result : Result (String Global × ℕ) Trouble) → GivesLint files result

@@ -1,5 +1,5 @@
 -- Why workflows come to no plan, as it is told.
-use Rattle.std.proofs.Common.{◌≡◌, ◌⊎◌, List, inl, inr, refl}
+use Rattle.std.proofs.Common.{◌≡◌, List, inl, inr, refl}
 use Rattle.flow_model.specs.declared.flow.Workflow.{Workflow}
 use Rattle.flow_model.specs.declared.plan.Roots.{Roots}
 use Rattle.plan_assembler.specs.Refusals.{Answered, Refuses}

@@ -4,8 +4,8 @@ use Rattle.std.specs.Prelude.{◌≡◌, ℕ, ◌++◌, codes, if◌then◌else�
 use Rattle.std.specs.List.{list_any}
 use Rattle.std.specs.declared.alloc.Global.{Global}
 use Rattle.flow_lint.specs.Notes.{IsFlowPlace, IsPlanPlace}
-use Rattle.flow_lint.specs.declared.note.Note.{Note}
 use Rattle.flow_model.specs.declared.plan.Plan.{Plan}
+use Rattle.flow_places.specs.declared.note.Note.{Note}
 use Rattle.flow_reader.specs.Fault.{flow_fault_name}
 use Rattle.plan_assembler.specs.Faults.{plan_fault_text}
 use Rattle.plan_assembler.specs.declared.choice.Choice.TheVariants.{All}
@@ -17,6 +17,7 @@ use Rattle.command_io.specs.declared.stream.SourceFault.{SourceFault}
 use Rattle.command_io.specs.declared.trouble.Trouble.{Trouble}
 use Rattle.command_io.specs.declared.trouble.Trouble.TheVariants.{NoExpression, NoValue, NoContexts, NoFlow, NotPlanned, NoPlan, NoEntry, Refused, Words, Io, Memory}
 use Rattle.commands.specs.Planning.{ComesTo, ComesToNone}
+use Rattle.commands.specs.Shown.{HasPlainLines, line_of}
 
 -- ---- lines
 
@@ -25,14 +26,20 @@ abbrev pub shown_path : List ℕ → List ℕ
 shown_path [] = codes "."
 shown_path (c ∷ path) = c ∷ path
 
--- The line of something that is to be known of a place of a file.
-abbrev pub note_line : List ℕ → Note → List ℕ
-note_line file note = file ++ (codes ": " ++ (shown_path note.path ++ (codes ": " ++ (note.sentence ++ codes "\n"))))
+-- What is told of something that is to be known of a place of a file.
+abbrev pub note_words : List ℕ → Note → List ℕ
+note_words file note = file ++ (codes ": " ++ (shown_path note.path ++ (codes ": " ++ note.sentence)))
 
--- The line of that for which a file comes to no plan: `refused` and the fault's name stand before what is said.
+abbrev pub note_line : List ℕ → Note → List ℕ
+note_line file note = line_of (note_words file note)
+
+-- What is told of that for which a file comes to no plan: `refused` and the fault's name stand before what is said.
+abbrev pub refusing_words : List ℕ → List ℕ → Note → List ℕ
+refusing_words file fault note =
+    file ++ (codes ": " ++ (shown_path note.path ++ (codes ": refused, " ++ (fault ++ (codes ": " ++ note.sentence)))))
+
 abbrev pub refusing_line : List ℕ → List ℕ → Note → List ℕ
-refusing_line file fault note =
-    file ++ (codes ": " ++ (shown_path note.path ++ (codes ": refused, " ++ (fault ++ (codes ": " ++ (note.sentence ++ codes "\n"))))))
+refusing_line file fault note = line_of (refusing_words file fault note)
 
 -- The name of that, as the other commands print it.
 abbrev pub fault_text : Trouble → List ℕ
@@ -108,11 +115,12 @@ lint_text tolds = flat_map (λ told. told.1) tolds
 abbrev pub lint_status : List Told → ℕ
 lint_status tolds = if list_any (λ told. told.0) tolds then 2 else 0
 
--- An answer to the files, with its exit status: what is told of each.
+-- An answer to the files, with its exit status: what is told of each, in lines without a control character.
 pub record IsLint (files : List Content) (text : List ℕ) (status : ℕ) : Type 0 where
   pub tolds : List Told
   pub told : AreTold files tolds
   pub is_text : text ≡ lint_text tolds
+  pub lines : HasPlainLines text
   pub is_status : status ≡ lint_status tolds
 
 -- No trouble is an answer: only want of memory keeps the command from it.

@@ -6,8 +6,9 @@
 //! `replay` the board of a record that is played again, or one line that says why there is none; each answers an exit status
 //! always. The crate stands on `command_io`, which reads, tells and refuses, on `plan_text`, which reads records and prints
 //! boards and plans, on `flat_board`, which plays records, on `expr_reader` and `expr_value`, which read expressions and
-//! evaluate them, on `flow_reader` and `plan_assembler`, which read workflows and plan them, on `flow_lint`, which finds the
-//! places of their faults, and on `step_host` and `worker_pool`, which play records again.
+//! evaluate them, on `flow_reader` and `plan_assembler`, which read workflows and plan them, on `flow_places`, `flow_lint` and
+//! `flow_hints`, which find the places of their faults and what else is to be known of them, and on `step_host` and
+//! `worker_pool`, which play records again.
 
 #![tactic(auto)]
 
@@ -18,4 +19,5 @@ pub mod plan;
 mod planning;
 mod play;
 pub mod replay;
+mod shown;
 pub mod table;

@@ -11,14 +11,16 @@ ghost use Rattle.commands.specs.Planning.{ComesTo, ComesToNone, Finds};
 
 use crate::list::plan_of_all;
 use crate::replay::tell_with;
+use crate::shown::add_line;
 use command_io::files::{Content, NamedSource, read_files};
 use command_io::stream::{Sink, Source};
 use command_io::tell::refuse_source;
 use command_io::trouble::{DONE, REFUSED, Trouble};
-use flow_lint::{Note, flow_note, hints, plan_note};
+use flow_hints::hints;
+use flow_lint::{flow_note, plan_note};
 use flow_model::Sequence;
+use flow_places::Note;
 use std::alloc::{AllocError, Global};
-use std::fmt::Write;
 use std::marker::Model;
 use std::slice;
 
@@ -44,21 +46,29 @@ fn shown_path(path: &str) -> &str
     if path.is_empty() { "." } else { path }
 }
 
-/// Adds the line of a note.
-fn add_note(text: &mut String, file: &str, note: &Note) -> Result<(), AllocError>
-    ensures { OnOk result (Adds text.old text.new (spec.note_line file.now note.now)) }
+/// What is told of a note.
+fn note_words(alloc: Global, file: &str, note: &Note) -> Result<String, AllocError>
+    ensures { IfOk result (λ words. string_bytes words ≡ spec.note_words file.now note.now) }
 {
     let path = shown_path(note.path.as_str());
     let sentence = note.sentence.as_str();
-    write!(text, "{file}: {path}: {sentence}\n")
+    format!(in alloc; "{file}: {path}: {sentence}")
+}
+
+/// Adds the line of a note.
+fn add_note(alloc: Global, text: &mut String, file: &str, note: &Note) -> Result<(), AllocError>
+    ensures { OnOk result (Adds text.old text.new (spec.note_line file.now note.now)) }
+{
+    let words = note_words(alloc, file, note)?;
+    add_line(text, words.as_str())
 }
 
 /// Adds the lines of notes.
-fn add_notes(text: &mut String, file: &str, notes: &[Note]) -> Result<(), AllocError>
+fn add_notes(alloc: Global, text: &mut String, file: &str, notes: &[Note]) -> Result<(), AllocError>
     ensures { OnOk result (Adds text.old text.new (spec.hint_lines file.now notes.now)) }
 {
     for note in notes {
-        add_note(text, file, note)?;
+        add_note(alloc, text, file, note)?;
     }
     Ok(())
 }
@@ -68,7 +78,7 @@ fn add_hints(alloc: Global, text: &mut String, file: &Content, told: &str) -> Re
     ensures { OnOk result (spec.AddsHints file.now.name text.old text.new) }
 {
     let notes = hints(alloc, file.bytes(), told)?;
-    add_notes(text, file.name(), notes.as_slice())
+    add_notes(alloc, text, file.name(), notes.as_slice())
 }
 
 /// The name of that for which a file comes to no plan.
@@ -109,6 +119,22 @@ fn note_of(alloc: Global, file: &Content, trouble: &Trouble) -> Result<Note, All
     }
 }
 
+/// What is told of that for which a file comes to no plan.
+fn refusing_words(
+    alloc: Global,
+    file: &str,
+    trouble: &Trouble,
+    note: &Note,
+) -> Result<String, AllocError>
+    ensures { IfOk result (λ words.
+        string_bytes words ≡ spec.refusing_words file.now (spec.fault_text trouble.now) note.now) }
+{
+    let fault = fault_text(alloc, trouble)?;
+    let path = shown_path(note.path.as_str());
+    let sentence = note.sentence.as_str();
+    format!(in alloc; "{file}: {path}: refused, {fault}: {sentence}")
+}
+
 /// The line of that for which a file comes to no plan.
 fn refusing_line(
     alloc: Global,
@@ -119,10 +145,10 @@ fn refusing_line(
     ensures { IfOk result (λ text.
         string_bytes text ≡ spec.refusing_line file.now (spec.fault_text trouble.now) note.now) }
 {
-    let fault = fault_text(alloc, trouble)?;
-    let path = shown_path(note.path.as_str());
-    let sentence = note.sentence.as_str();
-    format!(in alloc; "{file}: {path}: refused, {fault}: {sentence}\n")
+    let words = refusing_words(alloc, file, trouble, note)?;
+    let mut text = String::new(alloc);
+    add_line(&mut text, words.as_str())?;
+    Ok(text)
 }
 
 /// The lines of a file that comes to no plan, for this trouble.

@@ -1,3 +1,3 @@
 pub mod Nodes
 pub mod Notes
-pub mod Places
+pub mod Shows

@@ -2,7 +2,7 @@
 use Rattle.std.proofs.Common.{refl, ◌≡◌, ◌∙◌, ℕ, List, ◌∷◌, decimal, Some, ap, option_and_then}
 use Rattle.serde_json.specs.Data.{Data}
 use Rattle.serde_json.specs.Find.{get, at}
-use Rattle.flow_lint.specs.Places.{StandsAt, Way, key, item, follow, below}
+use Rattle.flow_places.specs.Places.{StandsAt, key, item, follow, below}
 
 pub member_stands : (root : Data) (path last name : List ℕ) (d e : Data) → StandsAt root path last d → get name d ≡ Some e
     → StandsAt root (below path name) name e

@@ -3,7 +3,7 @@
 ghost use Rattle.std.specs.Prelude.{IfErr, IfSome};
 ghost use Rattle.serde_json.specs.View.{view};
 ghost use Rattle.expr_reader.specs.TemplateStands.{ConditionFaultStands};
-ghost use Rattle.flow_lint.specs.Places.{IsUnread};
+ghost use Rattle.flow_places.specs.Places.{IsUnread};
 
 use crate::kind::Kind;
 use crate::node::Node;
@@ -21,7 +21,7 @@ fn condition(alloc: Global, text: &str) -> Option<Result<Template, ExprFault>>
 }
 
 /// What is read of a place, where a text that is evaluated stands there.
-pub(crate) fn read_text(alloc: Global, node: &Node) -> Option<Result<Template, ExprFault>>
+pub fn read_text(alloc: Global, node: &Node) -> Option<Result<Template, ExprFault>>
     ensures { IfSome result (λ read. IfErr read (λ fault.
         IsUnread fault (view node.now.value.now))) }
 {

@@ -3,8 +3,8 @@
 ghost use Rattle.std.specs.Prelude.{◌≡◌, IfOk, IfSome, OnOk, decimal};
 ghost use Rattle.std.specs.List.{All};
 ghost use Rattle.serde_json.specs.View.{view};
-ghost use Rattle.flow_lint.specs.Places as spec;
-ghost use Rattle.flow_lint.specs.Nodes.{Fits};
+ghost use Rattle.flow_places.specs.Places as spec;
+ghost use Rattle.flow_places.specs.Nodes.{Fits};
 
 use crate::keys::{is_list, is_opened, kind_at};
 use crate::kind::{Kind, Level};
@@ -15,20 +15,23 @@ use std::collections::BTreeMap;
 
 /// A place of a file.
 #[derive(Drop)]
-pub(crate) struct Node<'v> {
+pub struct Node<'v> {
     /// Keys and numbers from the root, joined by dots.
-    pub(crate) path: Text,
+    pub path: Text,
     /// The last of them.
-    pub(crate) key: Text,
-    pub(crate) kind: Kind,
+    pub key: Text,
+    /// What stands there.
+    pub kind: Kind,
     /// What it stands in.
-    pub(crate) around: Kind,
-    pub(crate) level: Level,
-    pub(crate) value: &'v Value,
+    pub around: Kind,
+    /// What it belongs to.
+    pub level: Level,
+    /// The value that stands there.
+    pub value: &'v Value,
 }
 
 /// A key or number behind a path.
-pub(crate) fn below(alloc: Global, path: &str, key: &str) -> Result<Text, AllocError>
+pub fn below(alloc: Global, path: &str, key: &str) -> Result<Text, AllocError>
     ensures { IfOk result (λ text. text ≡ spec.below path.now key.now) }
 {
     if path.is_empty() {
@@ -229,7 +232,7 @@ fn push_turned<'v>(
 }
 
 /// The places of a file: each before what stands in it, keys in byte order.
-pub(crate) fn nodes_of<'v>(alloc: Global, root: &'v Value) -> Result<Vec<Node<'v>>, AllocError>
+pub fn nodes_of<'v>(alloc: Global, root: &'v Value) -> Result<Vec<Node<'v>>, AllocError>
     ensures { IfOk result (λ nodes. All (Fits (view root.now)) nodes.items) }
 {
     let mut nodes = Vec::new(alloc);

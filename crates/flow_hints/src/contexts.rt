@@ -1,8 +1,7 @@
 //! Which contexts a text sees at its place.
 
-use crate::kind::{Kind, Level};
-use crate::node::Node;
 use expr_reader::Context;
+use flow_places::{Kind, Level, Node};
 
 /// Every context.
 pub(crate) const EVERY_CONTEXT: [Context; 12] = [

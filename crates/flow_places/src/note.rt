@@ -1,6 +1,6 @@
 //! What a person should know of one place of a file.
 
-ghost use Rattle.std.specs.Prelude.{◌≡◌, IfOk};
+ghost use Rattle.std.specs.Prelude.{◌≡◌, IfOk, string_bytes};
 
 use flow_model::Text;
 use std::alloc::{AllocError, Global};
@@ -15,8 +15,9 @@ pub struct Note {
 }
 
 /// A sentence on a place.
-pub(crate) fn noted(alloc: Global, path: &str, sentence: String) -> Result<Note, AllocError>
-    ensures { IfOk result (λ note. note.path ≡ path.now) }
+pub fn noted(alloc: Global, path: &str, sentence: String) -> Result<Note, AllocError>
+    ensures path { IfOk result (λ note. note.path ≡ path.now) }
+    ensures sentence { IfOk result (λ note. note.sentence ≡ string_bytes sentence) }
 {
     Ok(Note {
         path: Text::from_str(alloc, path)?,
