@@ -1,9 +1,9 @@
 -- The laws of the definitions.
-use Rattle.std.proofs.Common.{◌≡◌, ℕ, ◌+◌, ◌<◌, ◌≤◌, List, [], ◌∷◌, ◌++◌, length, Option, Some, None, Result, Ok, Err, sym, ap, ◌∙◌, subst, arith}
+use Rattle.std.proofs.Common.{ℕ, List, ◌∷◌, ◌++◌, length, Some, None, Ok, Err, sym, ap, subst, arith}
 use Rattle.std.specs.Prelude.{◌==◌, if◌then◌else◌}
 use Rattle.ready_queue.specs.Names.{under}
-use Rattle.ready_queue.specs.Bags.{weigh, InOrder}
-use Rattle.ready_queue.specs.Records.{all_put, all_taken, tickets}
+use Rattle.ready_queue.specs.Bags.{InOrder}
+use Rattle.ready_queue.specs.Records.{all_taken, tickets}
 use Rattle.ready_queue.specs.History.{Put}
 use Rattle.ready_queue.specs.Laws.{TakenInOrder, NoneTakenTwice, WholePuts, WholeTakes}
 use Rattle.ready_queue.proofs.Orders.{in_history}

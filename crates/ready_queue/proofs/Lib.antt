@@ -3,7 +3,9 @@ pub mod Naming
 pub mod Totals
 pub mod Orders
 pub mod Moves
+pub mod Houses
 pub mod Whole
 pub mod Counts
 pub mod Sharing
+pub mod Lone
 pub mod Lawful

@@ -6,14 +6,14 @@ use lib.ListN.{get_elem?}
 use Rattle.crossbeam_queue.specs.Fifo.{Pushes, Pops, Forks, Merges, Learns}
 use Rattle.crossbeam_queue.proofs.Lists.{at_set, at_snoc}
 use Rattle.ready_queue.specs.Names.{Name, same_name, keeps, under}
-use Rattle.ready_queue.specs.Bags.{weigh, SameBag}
+use Rattle.ready_queue.specs.Bags.{weigh}
 use Rattle.ready_queue.specs.Records.{newcomer, Each, all_put, all_taken, tickets, keepers, IsWhole, AllInOrder}
 use Rattle.ready_queue.specs.History.{Put, puts_of, IsMoment, GoesWith}
 use Rattle.ready_queue.specs.Rule.{Fits, total, Kept}
 use Rattle.ready_queue.specs.Steps.{Puts, Takes, after_split, split_off, joined, Closes}
 use Rattle.ready_queue.specs.declared.record.Record.{Record}
 use Rattle.ready_queue.proofs.Naming.{keeps_own, keeps_all, keeps_split, under_append, under_own, under_other, not_kept, same_is}
-use Rattle.ready_queue.proofs.Totals.{total_set, total_snoc, one_part, two_parts, others_of, total_others, weigh_append, weigh_length, keepers_append, nobody, put_append, taken_append, tickets_append, sum_of_keepers, sum_of_put, sum_of_taken, each_apart, each_append, each_others, length_tickets}
+use Rattle.ready_queue.proofs.Totals.{total_set, total_snoc, one_part, two_parts, others_of, total_others, weigh_append, keepers_append, put_append, taken_append, tickets_append, sum_of_keepers, sum_of_put, sum_of_taken, each_apart, each_append, each_others, length_tickets}
 use Rattle.ready_queue.proofs.Orders.{all_in_order, by_one}
 
 -- ---- what the rule tells

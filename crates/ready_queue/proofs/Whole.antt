@@ -1,9 +1,9 @@
 -- What a pass knows when no other pass is out.
-use Rattle.std.proofs.Common.{◌≡◌, ℕ, ◌+◌, ◌<◌, Bool, true, false, true≢false, List, [], ◌∷◌, ◌++◌, length, map, refl, sym, ap, ◌∙◌, subst, arith, length-append, append-nil}
+use Rattle.std.proofs.Common.{◌≡◌, ℕ, ◌+◌, Bool, true, false, true≢false, List, [], ◌∷◌, ◌++◌, length, map, refl, sym, ap, ◌∙◌, subst, arith, length-append, append-nil}
 use Rattle.std.specs.Prelude.{if◌then◌else◌}
 use Rattle.ready_queue.specs.Names.{Name, same_name, under}
 use Rattle.ready_queue.specs.Bags.{SameBag}
-use Rattle.ready_queue.specs.Records.{all_put, all_taken, put_by, taken_by, tickets, keepers, IsWhole}
+use Rattle.ready_queue.specs.Records.{all_put, all_taken, put_by, taken_by, tickets, IsWhole}
 use Rattle.ready_queue.specs.History.{Put, puts_of, IsMoment}
 use Rattle.ready_queue.specs.declared.record.Record.{Record}
 use Rattle.ready_queue.proofs.Naming.{same_refl, same_is}

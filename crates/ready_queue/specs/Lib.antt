@@ -4,6 +4,7 @@ pub mod Records
 pub mod History
 pub mod Rule
 pub mod Steps
+pub mod House
 pub mod Tally
 pub mod Passes
 pub mod Laws

@@ -6,11 +6,12 @@
 //! takes memory. The words of its contracts stand in `specs/Passes.antt`: what a pass has done in
 //! `specs/Records.antt`, the one history of all passes in `specs/History.antt`, the kinds of step in
 //! `specs/Steps.antt`, laws above them in `specs/Laws.antt`. It stands on the array queue of
-//! `crossbeam_queue`, under the rule of `specs/Rule.antt`.
+//! `crossbeam_queue`, under the rule of `specs/Rule.antt` and one that a caller may add (`specs/House.antt`).
 
 #![tactic(auto)]
 
 pub mod count;
+pub mod house;
 pub mod laws;
 pub mod pass;
 pub mod queue;
@@ -19,5 +20,6 @@ mod rule;
 mod tally;
 
 pub use count::Count;
+pub use house::{HouseRule, NoRule};
 pub use pass::Pass;
-pub use queue::{Ticket, TicketQueue};
+pub use queue::{HouseQueue, Ticket, TicketQueue};

@@ -1,18 +1,21 @@
 //! The rule that the array queue is kept under, and what its steps tell a pass.
 
+use crate::house::HouseRule;
 use crate::record::Records;
 use crossbeam_queue::protocol::{Join, Lesson, Outcome, Protocol, Split};
 use std::marker::{Brand, PhantomData};
 
-/// Tickets are taken in the order in which they are put, each once.
-pub(crate) struct FirstInFirstOut;
+/// Tickets are taken in the order in which they are put, each once, and the rule of the house is kept.
+pub(crate) struct FirstInFirstOut<H: HouseRule> {
+    of: PhantomData<H>,
+}
 
-impl Protocol<u64, Records> for FirstInFirstOut {
+impl<H: HouseRule> Protocol<u64, Records> for FirstInFirstOut<H> {
     ghost use Rattle.std.specs.Prelude.{[], ◌∷◌};
     ghost use Rattle.ready_queue.specs.Records.{newcomer};
     ghost use Rattle.ready_queue.specs.Rule.{Kept};
 
-    ghost holds = { λ items views. Kept items views };
+    ghost holds = { λ items views. Kept items views × H.holds items views };
 
     ghost first = { newcomer [] ∷ [] };
 }
@@ -29,35 +32,40 @@ impl Room for Brand {
 }
 
 /// An accepted put, or one that finds the queue full.
-pub(crate) struct Put<N: Room> {
+pub(crate) struct Put<N: Room, H: HouseRule> {
     of: PhantomData<N>,
+    house: PhantomData<H>,
 }
 
-impl<N: Room> Outcome<u64, Records> for Put<N> {
+impl<N: Room, H: HouseRule> Outcome<u64, Records> for Put<N, H> {
     ghost use Rattle.ready_queue.specs.Steps.{Puts};
 
     ghost then = { Puts N.room };
 }
 
-impl<N: Room> Lesson<u64, Records> for Put<N> {
+impl<N: Room, H: HouseRule> Lesson<u64, Records> for Put<N, H> {
     ghost use Rattle.ready_queue.specs.History.{GoesWith};
+    ghost use Rattle.ready_queue.specs.House.{HeldAt};
 
-    ghost fact = { λ v items. GoesWith v items };
+    ghost fact = { λ v items. GoesWith v items × HeldAt H.holds v items };
 }
 
 /// A take of a ticket, or one that finds the queue empty.
-pub(crate) struct Take;
+pub(crate) struct Take<H: HouseRule> {
+    house: PhantomData<H>,
+}
 
-impl Outcome<u64, Records> for Take {
+impl<H: HouseRule> Outcome<u64, Records> for Take<H> {
     ghost use Rattle.ready_queue.specs.Steps.{Takes};
 
     ghost then = { Takes };
 }
 
-impl Lesson<u64, Records> for Take {
+impl<H: HouseRule> Lesson<u64, Records> for Take<H> {
     ghost use Rattle.ready_queue.specs.History.{GoesWith};
+    ghost use Rattle.ready_queue.specs.House.{HeldAt};
 
-    ghost fact = { λ v items. GoesWith v items };
+    ghost fact = { λ v items. GoesWith v items × HeldAt H.holds v items };
 }
 
 /// A split, and a join.

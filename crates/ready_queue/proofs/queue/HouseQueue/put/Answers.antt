@@ -2,7 +2,7 @@ use Rattle.std.proofs.Common.{◌<◌, ap, subst, sym, ◌∙◌, length}
 use Rattle.crossbeam_queue.specs.Passes.{view}
 use Rattle.ready_queue.specs.Records.{all_put, all_taken}
 use Rattle.ready_queue.proofs.Counts.{recount, put_live, put_puts, put_takes}
-use Rattle.ready_queue.proofs.queue.TicketQueue.put.Goals as goal
+use Rattle.ready_queue.proofs.queue.HouseQueue.put.Goals as goal
 
 pub invariant_of-pass-2 : goal.invariant_of-pass-2
 invariant_of-pass-2 g c =

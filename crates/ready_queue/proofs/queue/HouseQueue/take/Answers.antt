@@ -1,12 +1,12 @@
 use Rattle.std.proofs.Common.{◌<◌, ap, subst, sym, ◌∙◌, length}
 use Rattle.crossbeam_queue.specs.Passes.{view}
 use Rattle.ready_queue.specs.Records.{all_put, all_taken}
-use Rattle.ready_queue.proofs.Moves.{takes, goes}
+use Rattle.ready_queue.proofs.Houses.{house_takes, house_goes}
 use Rattle.ready_queue.proofs.Counts.{recount, take_live, take_puts, take_takes}
-use Rattle.ready_queue.proofs.queue.TicketQueue.take.Goals as goal
+use Rattle.ready_queue.proofs.queue.HouseQueue.take.Goals as goal
 
 pub pop_as-requires-clause-rule : goal.pop_as-requires-clause-rule
-pop_as-requires-clause-rule g c = (takes _ _ c.args.pass.now.live, goes _ _)
+pop_as-requires-clause-rule g c = (house_takes g.H.HouseRule.holds _ _ c.args.pass.now.live c.requires.house, house_goes _ _ _)
 
 pub invariant_of-pass-2 : goal.invariant_of-pass-2
 invariant_of-pass-2 g c =

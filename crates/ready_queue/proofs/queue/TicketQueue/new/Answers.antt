@@ -1,5 +1,0 @@
-use Rattle.ready_queue.proofs.Moves.{begins}
-use Rattle.ready_queue.proofs.queue.TicketQueue.new.Goals as goal
-
-pub ruled-requires-clause-rule : goal.ruled-requires-clause-rule
-ruled-requires-clause-rule c = begins
