@@ -45,9 +45,9 @@ def record(run, steps):
     roots = {"github": {}, "inputs": {}, "secrets": {}, "vars": {}}
     jobs = [job(number, run) for number in range(JOBS)]
     yield line({"runs": [{"env": {}, "event": None, "flow": "begin", "group": None, "jobs": jobs, "roots": roots}],
-                "version": 1})
+                "version": 2})
     yield line({"event": "open", "run": 0, "worker": 0})
-    answer = {"code": 0, "kind": "exit", "outputs": {}}
+    answer = {"code": 0, "env": {}, "kind": "exit", "outputs": {}}
     for leg in range(JOBS):
         yield line({"event": "judge", "job": leg, "worker": 0})
         yield line({"event": "ask", "leg": leg, "worker": 0})

@@ -55,7 +55,7 @@ def played(leg, steps, code=0):
     worker = leg % 16
     yield {"event": "take", "leg": leg, "worker": worker}
     for place in range(steps):
-        answer = {"code": code if place + 1 == steps else 0, "kind": "exit", "outputs": {}}
+        answer = {"code": code if place + 1 == steps else 0, "env": {}, "kind": "exit", "outputs": {}}
         yield {"event": "begin", "leg": leg, "worker": worker}
         yield {"answer": answer, "event": "end", "leg": leg, "worker": worker}
     yield {"event": "finish", "leg": leg, "worker": worker}
@@ -97,7 +97,7 @@ def main():
     else:
         runs, jobs, steps, needs = [int(word) for word in words] or [1, 194, 256, 0]
         plan, events = [run(number, jobs, steps, needs) for number in range(runs)], entries(runs, jobs, steps)
-    print(text({"runs": plan, "version": 1}))
+    print(text({"runs": plan, "version": 2}))
     for place, entry in enumerate(events):
         if place == int(count):
             break

@@ -239,7 +239,7 @@ def plan(chance):
         runs.append({"env": env(chance, 0.2), "event": chance.choice((None, "push")), "flow": "flow", "group": group(chance, 0.5),
                      "jobs": [job(chance, number + it, number) for it in range(count)], "roots": roots})
         number += count
-    return {"runs": runs, "version": 1}
+    return {"runs": runs, "version": chance.choice((1, 2))}
 
 
 def answer(chance):
@@ -249,4 +249,9 @@ def answer(chance):
     outputs = {"o": chance.choice(("x", "y", ""))} if chance.random() < 0.5 else {}
     if chance.random() < 0.05:
         outputs[chance.choice(("", "a b", "é", "x" * 257, "x" * 256))] = "x"
-    return {"code": chance.choice((0, 0, 0, 0, 1, 255, 256, -1)), "kind": "exit", "outputs": outputs}
+    found = {"code": chance.choice((0, 0, 0, 0, 1, 255, 256, -1)), "kind": "exit", "outputs": outputs}
+    if chance.random() < 0.5:
+        found["env"] = {name: chance.choice(("x", "y", "", "{")) for name in ("E", "F", "G") if chance.random() < 0.4}
+        if chance.random() < 0.05:
+            found["env"][chance.choice(("", "a b", "a=b", "\0", "é" * 129, "é" * 128))] = chance.choice(("x", "\0"))
+    return found

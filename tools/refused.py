@@ -70,6 +70,7 @@ DEBUGGED = "step\nstep\nbreak failed\nbreak leg 1\ngo\nshow\nback\ngoto 3\nshow\
 EVENTS = {
     "evaluation": ["outcome-and-conclusion", "env-most-specific-wins", "condition-fault-at-begin", "faulting-output-left-out"],
     "groups-table": ["group-cancel-in-progress"],
+    "variables": ["env-pairs-carried-on", "which variable stands"],
 }
 # what a program says that lacks memory for what it reads or tells itself
 OWN = ("memory allocation failed", "no memory", "the plain board: ", "the flat board: ", "one board tells more than the other")
@@ -149,8 +150,9 @@ def command(programs, words, text=b"", is_told_early=False):
 
 def played(programs, plan):
     """`run` by one worker, whose record can be replayed where there is one."""
-    record = f"{programs.folder}/{os.path.basename(plan)}.record"
-    words = [programs.actrun, "run", "--work", programs.folder, "--stubs", f"{EXAMPLES}/stubs.json", "--record", record, plan]
+    work = tempfile.mkdtemp(dir=programs.folder)
+    record = f"{work}/record"
+    words = [programs.actrun, "run", "--work", work, "--stubs", f"{EXAMPLES}/stubs.json", "--record", record, plan]
     whole = programs.run(words)
     count, refused = programs.growths(words), 0
     for number in range(1, count + 1):
@@ -268,7 +270,7 @@ def is_pooled(lines, wanted):
 def of_the_lock():
     """Two jobs by two workers: the moves of a clerk, who is asked more often than there are moves, and each event of a leg twice."""
     named, _ = blocks_of("pools")
-    exits = '{"code":0,"kind":"exit","outputs":{}}'
+    exits = '{"code":0,"env":{},"kind":"exit","outputs":{}}'
     events = lambda leg: [f'{{{answer}"event":"{event}","leg":{leg},"worker":{leg}}}' for event, answer in (
         ("take", ""), ("begin", ""), ("end", f'"answer":{exits},'), ("finish", ""))]
     lines = ["clerk 0"] * 6 + [it for leg in (0, 1) for it in events(leg) for _ in range(2)] + ["clerk 1"] * 2
@@ -304,7 +306,8 @@ def tasks():
     """What is played: a name, and a call that is given the programs."""
     for name, text, judged in cases():
         yield name, lambda it, name=name, text=text, judged=judged: swept(it, name.replace(" ", "-"), text, judged)
-    yield "run greet.plan", lambda it: played(it, f"{EXAMPLES}/greet.plan")
+    for name in ("greet.plan", "version.plan"):
+        yield f"run {name}", lambda it, name=name: played(it, f"{EXAMPLES}/{name}")
     for path in sorted(glob.glob(f"{EXAMPLES}/*.record")):
         name = os.path.basename(path)
         with open(path, "rb") as it:

@@ -1,8 +1,8 @@
 -- What is decided by the texts of a plan: conditions, environments, the texts of a call, flags, outputs and
 -- groups. The rows of the table say only what follows from it.
-use Rattle.std.specs.Prelude.{ℕ, ◌&&◌, ◌||◌, Bool, true, false, not, List, [], ◌∷◌, length, Option, Some, None, Result, Ok, Err, if◌then◌else◌}
+use Rattle.std.specs.Prelude.{ℕ, ◌&&◌, ◌||◌, Bool, true, false, not, List, [], ◌∷◌, map, length, Option, Some, None, Result, Ok, Err, if◌then◌else◌}
 use Rattle.std.specs.List.{list_any}
-use Rattle.board_decisions.specs.Contexts.{run_values, job_values, job_of, leg_values_by}
+use Rattle.board_decisions.specs.Contexts.{overlaid, run_values, job_values, job_of, leg_values_by}
 use Rattle.board_decisions.specs.Derived.{is_failure, has_failed}
 use Rattle.board_decisions.specs.Place.{RunAt, JobAt, LegAt}
 use Rattle.board_decisions.specs.declared.entrance.Entrance.{Entrance}
@@ -97,10 +97,19 @@ job_env_over at below =
 unfoldable pub job_env : LegAt → Result Env ValueFault
 job_env at = then_value (flow_env at) (job_env_over at)
 
+-- What the done steps of a leg set over others, each over those before it (GitHub Docs, "Workflow commands": setting an
+-- environment variable).
+abbrev pub set_over : LegAt → Env → Env
+set_over at below = overlaid (map (λ step. step.env) at.leg.steps) below
+
+-- The variables of the job, and over them what the done steps of the leg set.
+unfoldable pub leg_env : LegAt → Result Env ValueFault
+leg_env at = then_value (job_env at) (λ below. Ok (set_over at below))
+
 -- The same, and those of a step over them.
 unfoldable pub step_env : LegAt → StepPlan → Result Env ValueFault
 step_env at step =
-    then_value (job_env at) (λ below.
+    then_value (leg_env at) (λ below.
     then_value (env_value (seen_from at place.StepEnv below) step.env) (λ above. Ok (laid_over above below)))
 
 -- The variables, and none where there is a fault.
@@ -155,7 +164,7 @@ job_tolerates at = flag_value (seen_from at place.JobGroup []) at.job_plan.toler
 
 -- The outputs that a leg gives its job. Where its variables have a fault, they see none.
 unfoldable pub leg_outputs : LegAt → Env
-leg_outputs at = outputs_value (seen_from at place.StepEnv (or_none (job_env at))) at.job_plan.outputs
+leg_outputs at = outputs_value (seen_from at place.StepEnv (or_none (leg_env at))) at.job_plan.outputs
 
 -- ---- how a member enters its group
 

@@ -151,7 +151,35 @@ fn know_job_env(alloc: Global, at: &SeenLeg, known: &mut Known) -> Result<(), Va
     know_job_over(alloc, at, known, flow)
 }
 
-/// Lets texts see the variables of the workflow, the job and a step.
+/// Lets texts see what the done steps of a leg set over the variables that they see.
+fn know_set(alloc: Global, at: &SeenLeg, known: &mut Known) -> Result<(), AllocError>
+    requires { IsKnownOf (leg_scene at.now) known.old }
+    ensures value { OnOk result
+        (known_env known.new ≡ spec.set_over (leg_seen at.now) (known_env known.old)) }
+    ensures known { IsKnownOf (leg_scene at.now) known.new }
+{
+    let steps = at.leg.steps.as_slice();
+    for done in steps {
+        known.lay_env(alloc, &done.env)?;
+    }
+    Ok(())
+}
+
+/// Lets texts see the variables of the workflow and the job, and what the done steps of the leg set.
+#[tactic(auto, unfolding(crate::specs::Decisions::leg_env))]
+fn know_leg_env(alloc: Global, at: &SeenLeg, known: &mut Known) -> Result<(), ValueFault>
+    requires known { IsKnownOf (leg_scene at.now) known.old }
+    requires env { known_env known.old ≡ [] }
+    ensures value { Gives (λ _. known_env known.new) result (spec.leg_env (leg_seen at.now)) }
+    ensures known { IsKnownOf (leg_scene at.now) known.new }
+{
+    know_job_env(alloc, at, known)?;
+    know_set(alloc, at, known)?;
+    Ok(())
+}
+
+/// Lets texts see the variables of the workflow and the job, what the done steps of the leg set, and the variables of a
+/// step.
 #[tactic(auto, unfolding(crate::specs::Decisions::step_env))]
 fn know_step_env(
     alloc: Global,
@@ -165,7 +193,7 @@ fn know_step_env(
         (spec.step_env (leg_seen at.now) step.now) }
     ensures known { IsKnownOf (leg_scene at.now) known.new }
 {
-    know_job_env(alloc, at, known)?;
+    know_leg_env(alloc, at, known)?;
     let own = env_at(alloc, at, known, Place::StepEnv, &step.env)?;
     known.lay_env(alloc, &own)?;
     Ok(())
@@ -366,7 +394,7 @@ pub fn leg_outputs(alloc: Global, at: &SeenLeg) -> Result<Mapping<Text>, AllocEr
     ensures { IfOk result (λ outputs. outputs ≡ spec.leg_outputs (leg_seen at.now)) }
 {
     let mut known = Known::empty(alloc);
-    let evaluated = know_job_env(alloc, at, &mut known);
+    let evaluated = know_leg_env(alloc, at, &mut known);
     known_or_none(alloc, &mut known, evaluated)?;
     outputs_at(alloc, at, &mut known, Place::StepEnv, &at.job_plan.outputs)
 }

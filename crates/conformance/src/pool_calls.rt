@@ -63,6 +63,7 @@ pub fn exit(alloc: Global, code: i64) -> Answer
     checked(Answer::Exit {
         code,
         outputs: Mapping::empty(alloc),
+        env: Mapping::empty(alloc),
     })
 }
 

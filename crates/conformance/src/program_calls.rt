@@ -2,8 +2,9 @@
 //!
 //!   shell SHELL FILE     the words that start a file by `default`, `sh` or `bash`, parted by spaces
 //!   outputs              what the file of outputs that the input is gives, as the answer of an End, or its fault
-//!   outputs names FROM TO     whether files of so many names, and of a value of so many bytes, are read
-//!   outputs value FROM TO
+//!   variables            the same of a file of variables
+//!   outputs PART FROM TO, variables PART FROM TO     whether files of so many `names`, with a `name` of so many bytes, and with
+//!                        a `value` of so many bytes are read
 //!   commands             the lines of what a step printed, which the input is: `plain TEXT`, `resume`, or a command by its name,
 //!                        its pairs, each behind a comma but the first, and its message
 //!   shown MASK..         the lines that are shown of it
@@ -18,7 +19,9 @@ use crate::page::Page;
 use crate::samples::pair;
 use flow_model::{Answer, CallWork, Entry, Event, Mapping, Sequence, Shell, StepCall, Text};
 use plan_text::print_entry;
-use program_texts::{Line, mask, read_commands, read_output_file, shell_words, shown};
+use program_texts::{
+    Line, mask, read_commands, read_env_file, read_output_file, shell_words, shown,
+};
 use run_command::machine::Machine;
 use std::str;
 use step_host::{Masked, StepHost};
@@ -28,12 +31,8 @@ pub fn perform(page: &mut Page<'_>) {
     let text = str::from_utf8(page.input).unwrap_or("");
     match page.word(0) {
         "shell" => shell(page),
-        "outputs" if !page.word(1).is_empty() => sizes(page),
-        "outputs" => {
-            if let Some(outputs) = page.have(read_output_file(page.alloc, page.input)) {
-                put_answer(page, Answer::Exit { code: 0, outputs });
-            }
-        },
+        "outputs" | "variables" if !page.word(1).is_empty() => sizes(page),
+        "outputs" | "variables" => put_pairs_read(page),
         "commands" => {
             if let Some(lines) = page.have(read_commands(page.alloc, text)) {
                 put_lines(page, lines.as_slice());
@@ -71,16 +70,37 @@ fn put_answer(page: &mut Page<'_>, answer: Answer) {
     page.print(print_entry(page.alloc, &Entry { worker: 0, event }));
 }
 
-/// Whether files of outputs of these sizes are read.
+/// The outputs or the variables, as the verb says, that a file gives, or none where the fault is written.
+fn pairs_read(page: &mut Page<'_>, file: &[u8]) -> Option<Mapping<Text>> {
+    let read = if page.word(0) == "outputs" {
+        read_output_file(page.alloc, file)
+    } else {
+        read_env_file(page.alloc, file)
+    };
+    page.have(read)
+}
+
+/// Writes the answer of a step that left the input as its file.
+fn put_pairs_read(page: &mut Page<'_>) {
+    if let Some(pairs) = pairs_read(page, page.input) {
+        let none = Mapping::empty(page.alloc);
+        let (outputs, env) = if page.word(0) == "outputs" {
+            (pairs, none)
+        } else {
+            (none, pairs)
+        };
+        let code = 0;
+        put_answer(page, Answer::Exit { code, outputs, env });
+    }
+}
+
+/// Whether files of these sizes are read.
 fn sizes(page: &mut Page<'_>) {
     let from = page.word(2).parse::<usize>().unwrap_or(0);
     for size in from..=page.word(3).parse::<usize>().unwrap_or(0) {
-        let file = output_file(page, size);
+        let file = file_of(page, size);
         write!(page, "{size} ");
-        if page
-            .have(read_output_file(page.alloc, file.text().as_bytes()))
-            .is_some()
-        {
+        if pairs_read(page, file.text().as_bytes()).is_some() {
             page.put("read");
         }
         page.put("\n");
@@ -88,19 +108,22 @@ fn sizes(page: &mut Page<'_>) {
     page.fold();
 }
 
-/// A file of outputs of so many names, or of a value of so many bytes.
-fn output_file<'a>(page: &Page<'a>, size: usize) -> Page<'a> {
+/// A file of so many names, or of one pair whose name or value has so many bytes.
+fn file_of<'a>(page: &Page<'a>, size: usize) -> Page<'a> {
     let mut file = page.scratch();
-    let is_value = page.word(1) == "value";
-    if is_value {
+    let part = page.word(1);
+    if part == "value" {
         file.put("n=");
     }
     for number in 0..size {
-        if is_value {
-            file.put("x");
-        } else {
+        if part == "names" {
             writeln!(&mut file, "n{number}=1");
+        } else {
+            file.put("x");
         }
+    }
+    if part == "name" {
+        file.put("=1");
     }
     file
 }

@@ -2,7 +2,7 @@
 //!
 //!   garbled BYTE   each byte in turn made that byte, in hexadecimal
 //!   lines CHANGE   each line in turn `doubled`, `dropped`, or `swapped` with the next
-//!   raised         each digit behind a colon in turn one greater: 0 becomes 1, another 2
+//!   raised         each digit from 0 to 8 behind a colon in turn one greater
 //!
 //! What is told is one line: the status, then the lines of `out`, each behind `>`, and those of `err`, each behind `!`. The
 //! sweep over its places stands in `debug_sweeps`.
@@ -75,8 +75,8 @@ fn raised(page: &mut Page<'_>) {
     if let Some(mut text) = page.have(Vec::from_slice(page.alloc, page.input)) {
         for place in 1..text.len() {
             let digit = text[place];
-            if text[place - 1] == b':' && digit.is_ascii_digit() {
-                text[place] = if digit == b'0' { b'1' } else { b'2' };
+            if text[place - 1] == b':' && matches!(digit, b'0'..=b'8') {
+                text[place] = digit.saturating_add(1);
                 put_row(page, place, text.as_slice());
                 text[place] = digit;
             }

@@ -1,8 +1,8 @@
 //! A board with all that its lines can tell, and the reply that calls an action.
 
 use flow_model::{
-    Board, CallWork, Job, JobState, Leg, LegState, Mapping, Member, Outcome, Reply, Run, RunState,
-    Sequence, StepCall, Text, What,
+    Board, CallWork, DoneStep, Job, JobState, Leg, LegState, Mapping, Member, Outcome, Reply, Run,
+    RunState, Sequence, StepCall, Text, What,
 };
 use std::alloc::{AllocError, Global};
 
@@ -25,9 +25,20 @@ fn leg(alloc: Global, state: LegState) -> Leg {
     }
 }
 
-/// A leg that was told to stop, in a group, with an output.
+/// A step that failed, was tolerated and set a variable.
+fn step(alloc: Global) -> Result<DoneStep, AllocError> {
+    Ok(DoneStep {
+        outcome: Outcome::Failure,
+        conclusion: Outcome::Success,
+        outputs: Mapping::empty(alloc),
+        env: pair(alloc, "A b", "1\n2")?,
+    })
+}
+
+/// A leg that was told to stop, in a group, with a step that is done and an output.
 fn stopped_leg(alloc: Global) -> Result<Leg, AllocError> {
     let group = Some(Text::from_str(alloc, "a\"b")?);
+    let steps = vec![in alloc; step(alloc)?]?;
     let outputs = pair(alloc, "o", "7")?;
     let state = LegState::Ended {
         result: Outcome::Failure,
@@ -37,7 +48,7 @@ fn stopped_leg(alloc: Global) -> Result<Leg, AllocError> {
         state,
         stop: true,
         group,
-        steps: Sequence::empty(alloc),
+        steps: Sequence::new(steps),
         outputs,
     })
 }

@@ -20,11 +20,11 @@ use board_decisions::decisions::{job_condition, leg_entrance, leg_outputs, run_e
 use board_decisions::derived::{is_closed, run_result};
 use board_decisions::place::{SeenJob, find_job, find_run};
 use flat_counters::{Counted, LegChange, Tracked};
-use flow_model::{Answer, DoneStep, JobState, LegState, Member, Outcome, Reply, RunState, What};
+use flow_model::{Answer, JobState, LegState, Member, Outcome, Reply, RunState, What};
 use group_admission::Groups;
 use status_table::EventFault;
 use status_table::events::{
-    Begun, beginning, ending, failed_step, finishing, judged_state, may_ask, may_drop, outputs_of,
+    Begun, beginning, ended_step, ending, failed_step, finishing, judged_state, may_ask, may_drop,
     reply, skipped_step,
 };
 use status_table::groups::{moved, told};
@@ -271,16 +271,8 @@ pub(crate) fn end(
     };
     let place = leg.at.place;
     let (outcome, conclusion) = ending(alloc, worker, &leg.at, &answer)?;
-    let outputs = outputs_of(alloc, answer);
-    state.add_done(
-        place,
-        worker,
-        DoneStep {
-            outcome,
-            conclusion,
-            outputs,
-        },
-    )?;
+    let done = ended_step(alloc, outcome, conclusion, answer);
+    state.add_done(place, worker, done)?;
     Ok(moved())
 }
 

@@ -1,7 +1,7 @@
 -- Which answers may end a call.
-use Rattle.std.specs.Prelude.{ℕ, ℤ, pos, negsuc, ◌&&◌, Bool, true, false, nat_le, List, length}
-use Rattle.std.specs.List.{list_all}
-use Rattle.flow_model.specs.Name.{is_output_name}
+use Rattle.std.specs.Prelude.{ℕ, ℤ, pos, negsuc, ◌&&◌, Bool, true, false, not, nat_le, List, length}
+use Rattle.std.specs.List.{list_all, list_any}
+use Rattle.flow_model.specs.Name.{is_output_name, is_pair_name, is_zero}
 use Rattle.flow_model.specs.declared.event.Answer.{Answer}
 use Rattle.flow_model.specs.declared.event.Answer.TheVariants.{Exit, NotStarted, BadOutput}
 
@@ -14,8 +14,15 @@ is_exit_code (negsuc n) = false
 abbrev pub is_output : List ℕ × List ℕ → Bool
 is_output p = is_output_name p.0 && nat_le (length p.1) 65536
 
--- an Exit has a code from 0 to 255 and at most 256 outputs; the other answers are free
+-- a name of a variable that a step sets, and a value of at most 65,536 bytes without zero bytes
+abbrev pub is_pair : List ℕ × List ℕ → Bool
+is_pair p = is_pair_name p.0 && nat_le (length p.1) 65536 && not (list_any is_zero p.1)
+
+-- an Exit has a code from 0 to 255, at most 256 outputs and at most 256 variables; the other answers are free
 abbrev pub is_well_formed : Answer → Bool
-is_well_formed (Exit code outputs) = is_exit_code code && nat_le (length outputs) 256 && list_all is_output outputs
+is_well_formed (Exit code outputs env) =
+    is_exit_code code
+    && (nat_le (length outputs) 256 && list_all is_output outputs)
+    && (nat_le (length env) 256 && list_all is_pair env)
 is_well_formed NotStarted = true
 is_well_formed BadOutput = true

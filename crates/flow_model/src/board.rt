@@ -84,6 +84,8 @@ pub struct DoneStep {
     /// How it counts, after `continue-on-error`.
     pub conclusion: Outcome,
     pub outputs: Mapping<Text>,
+    /// The variables that it set for the steps after it.
+    pub env: Mapping<Text>,
 }
 
 impl Duplicate for Board {
@@ -132,10 +134,12 @@ impl Duplicate for Leg {
 impl Duplicate for DoneStep {
     fn copy(&self, alloc: Global) -> Result<DoneStep, AllocError> {
         let outputs = self.outputs.copy(alloc)?;
+        let env = self.env.copy(alloc)?;
         Ok(DoneStep {
             outcome: self.outcome,
             conclusion: self.conclusion,
             outputs,
+            env,
         })
     }
 }

@@ -44,7 +44,7 @@ pub use json::{JsonFault, into_json, into_value, json_of, json_of_node, value_of
 pub use json_text::read_json;
 pub use lines::first_line;
 pub use mapping::Mapping;
-pub use name::is_id;
+pub use name::{has_zero, is_id};
 pub use plan::{Combo, Flag, Group, JobPlan, Matrix, Plan, Roots, RunPlan, Shell, StepPlan, Work};
 pub use reply::{CallWork, Reply, StepCall, ValueFault, What};
 pub use sequence::Sequence;

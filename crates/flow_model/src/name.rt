@@ -1,6 +1,7 @@
-//! The names of jobs, steps and outputs.
+//! The names of jobs, steps, outputs and variables.
 
 ghost use Rattle.std.specs.Prelude.{◌≡◌};
+ghost use Rattle.std.specs.List.{list_any};
 ghost use Rattle.flow_model.specs.Name as spec;
 
 /// A to Z and a to z.
@@ -40,4 +41,25 @@ pub(crate) fn is_output_name(text: &str) -> bool
     ensures { result ≡ spec.is_output_name text.now }
 {
     1 <= text.len() && text.len() <= 256 && are_name_bytes(text.as_bytes())
+}
+
+/// Whether there is a zero byte.
+pub fn has_zero(bytes: &[u8]) -> bool
+    ensures { result ≡ list_any spec.is_zero bytes.now }
+{
+    bytes.iter().any(|byte| *byte == 0)
+}
+
+/// Whether there is a `=` or a zero byte.
+fn has_end_of_pair_name(bytes: &[u8]) -> bool
+    ensures { result ≡ list_any spec.ends_pair_name bytes.now }
+{
+    bytes.iter().any(|byte| *byte == 0 || *byte == b'=')
+}
+
+/// Whether a text may name a variable that a step sets: 1 to 256 bytes without `=` and zero bytes.
+pub(crate) fn is_pair_name(text: &str) -> bool
+    ensures { result ≡ spec.is_pair_name text.now }
+{
+    1 <= text.len() && text.len() <= 256 && !has_end_of_pair_name(text.as_bytes())
 }

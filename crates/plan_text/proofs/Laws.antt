@@ -1,6 +1,5 @@
 -- What is written is read again, and only from what is written.
-use Rattle.std.proofs.Common.{◌≡◌, ◌≤◌, ◌⊎◌, inl, inr, ℕ, suc, List, [], ◌∷◌, map, decimal, Bool, true, false, IsTrue, ◌&&◌, ◌==◌, bytes_eq, cond, Option, Some, None, Ok, Err, Ordering, Less, Equal, Greater, nat_cmp, is_eq, refl, sym, ap, ◌∙◌, arith}
-use Rattle.std.proofs.lemmas.Bool.{eqb-true}
+use Rattle.std.proofs.Common.{◌≡◌, ◌≤◌, ◌⊎◌, inl, inr, ℕ, suc, List, [], ◌∷◌, map, decimal, Bool, true, false, IsTrue, ◌&&◌, bytes_eq, cond, Option, Some, None, Ok, Err, Ordering, Less, Equal, Greater, nat_cmp, is_eq, refl, sym, ap, ◌∙◌, arith}
 use Rattle.std.proofs.lemmas.Cmp.{nat_list_cmp_total, tied_itself}
 use Rattle.std.proofs.lemmas.Map.Text.{is_eq-slice_cmp}
 use Rattle.std.proofs.lemmas.Slice.Eq.{bytes_eq-Decides}
@@ -12,7 +11,7 @@ use Rattle.serde_json.specs.Data.{Num, unsigned, negative, float, Data, null, bo
 use Rattle.serde_json.specs.View.{items_of}
 use Rattle.serde_json.specs.Written.{has_float, items_have_float, members_have_float}
 use Rattle.flow_model.specs.Rules.{all_there}
-use Rattle.plan_text.specs.Parts.{number_data, optional_data, list_data, pair_members, map_data, Reading, and_then, map_read, or_refused, within, text_of, truth_of, natural_of, number_of, optional_of, items_read, list_of, pairs_read, map_of, next_member, first_field, field, no_more, object_of, word_of, numeral_of}
+use Rattle.plan_text.specs.Parts.{number_data, optional_data, list_data, pair_members, map_data, Reading, and_then, map_read, or_refused, within, text_of, truth_of, natural_of, number_of, optional_of, items_read, list_of, pairs_read, map_of, next_member, first_field, field, no_more, object_of, word_of}
 
 -- A part's writing and its reading fit together: what is written of a part that fits is read again, a part
 -- is read only from what is written of it, and what is written nests at most n deep and has no float.
@@ -28,6 +27,13 @@ pub record ReadsMembers {A : Type 0} (write : A → Members) (read : Members →
   pub only : (ms : Members) (a : A) → read ms ≡ Ok a → ms ≡ write a
   pub low : (a : A) → IsTrue (fits a) → members_depth (write a) ≤ n
   pub exact : (a : A) → members_have_float (write a) ≡ false
+
+-- The same of a part that may be written in each of some forms, where the form tells all of it.
+pub record ReadsForms {V A : Type 0} (write : V → A → Data) (read : Data → Reading A) (tells : V → A → Bool) (fits : A → Bool) (n : ℕ) : Type 0 where
+  pub again : (v : V) (a : A) → IsTrue (fits a) → IsTrue (tells v a) → read (write v a) ≡ Ok a
+  pub only : (d : Data) (a : A) → read d ≡ Ok a → (v : V) × IsTrue (tells v a) × (d ≡ write v a)
+  pub low : (v : V) (a : A) → IsTrue (fits a) → depth (write v a) ≤ n
+  pub exact : (v : V) (a : A) → has_float (write v a) ≡ false
 
 -- ---- readings, backwards
 
@@ -127,18 +133,6 @@ word_again word tt = rw (same_text word) refl
 -- a text that is always this word
 pub word_reads : (word : List ℕ) (n : ℕ) → Reads (λ _. string word) (word_of word) (λ _. true) n
 word_reads word n = record { again = λ a h. word_again word a; only = word_only word; low = λ a h. omega arith; exact = λ a. refl }
-
-numeral_only : (k : ℕ) (d : Data) (a : ⊤) → numeral_of k d ≡ Ok a → d ≡ number_data k
-numeral_only k d a e =
-    let r = from_and_then _ (number_of d) a e in
-    number_only d r.0 r.1.0 ∙ ap number_data (eqb-true r.0 k (from_test (r.0 == k) tt a [] r.1.1).0)
-
-one_again : (a : ⊤) → numeral_of 1 (number_data 1) ≡ Ok a
-one_again tt = refl
-
--- a number that is always 1
-pub one_reads : (n : ℕ) → Reads (λ _. number_data 1) (numeral_of 1) (λ _. true) n
-one_reads n = record { again = λ a h. one_again a; only = numeral_only 1; low = λ a h. omega arith; exact = λ a. refl }
 
 -- ---- what may be missing, lists and maps
 
@@ -284,24 +278,40 @@ next_only key (member found d ms) m e =
     let same : found ≡ key = (bytes_eq-Decides found key).0 (sym (is_eq-slice_cmp found key) ∙ ap is_eq r.0) in
     λ i. member (same i) (r.1 i).0 (r.1 i).1
 
+module _ {A B : Type 0} (key : List ℕ) (read : Data → Reading A) (reads : Members → Reading B) where
+  -- the part at a key is read, and then the rest
+  pub field_made : (d : Data) (ms : Members) (a : A) (b : B) → read d ≡ Ok a → reads ms ≡ Ok b → field key read reads (member key d ms) ≡ Ok (a, b)
+  field_made d ms a b h k = rw (same_key key, h, k) refl
+
+  -- what is read so is the part at the key, and the rest
+  pub field_found : (ms : Members) (p : A × B) → field key read reads ms ≡ Ok p
+      → (d : Data) × ((left : Members) × ((ms ≡ member key d left) × ((read d ≡ Ok p.0) × (reads left ≡ Ok p.1))))
+  field_found ms p e =
+      let r = from_and_then _ (first_field key read ms) p e in
+      let s = from_and_then _ (next_member key ms) r.0 r.1.0 in
+      let t = from_map_read (λ a. (a, s.0.1)) (within key (read s.0.0)) r.0 s.1.1 in
+      let u = from_map_read (λ b. (r.0.0, b)) (reads r.0.1) p r.1.1 in (
+        s.0.0,
+        (
+          r.0.1,
+          (
+            next_only key ms s.0 s.1.0 ∙ ap (λ q. member key s.0.0 q.1) t.1.1,
+            (from_within key (read s.0.0) t.0 t.1.0 ∙ ap (λ q. Ok q.0) t.1.1 ∙ ap (λ q. Ok q.0) u.1.1, u.1.0 ∙ ap (λ q. Ok q.1) u.1.1),
+          ),
+        ),
+      )
+
 module _ {A B : Type 0} {write : A → Data} {read : Data → Reading A} {fits : A → Bool} {writes : B → Members} {reads : Members → Reading B} {fit : B → Bool} {n : ℕ}
     (key : List ℕ) (law : Reads write read fits n) (rest : ReadsMembers writes reads fit n) where
   field_again : (p : A × B) → IsTrue (fits p.0 && fit p.1) → field key read reads (member key (write p.0) (writes p.1)) ≡ Ok p
   field_again p h =
       let hs = both (fits p.0) (fit p.1) h in
-      rw (same_key key, law.again p.0 hs.0, rest.again p.1 hs.1) refl
+      field_made key read reads (write p.0) (writes p.1) p.0 p.1 (law.again p.0 hs.0) (rest.again p.1 hs.1)
 
   field_only : (ms : Members) (p : A × B) → field key read reads ms ≡ Ok p → ms ≡ member key (write p.0) (writes p.1)
   field_only ms p e =
-      let r = from_and_then _ (first_field key read ms) p e in
-      let s = from_and_then _ (next_member key ms) r.0 r.1.0 in
-      let t = from_map_read (λ a. (a, s.0.1)) (within key (read s.0.0)) r.0 s.1.1 in
-      let u = from_map_read (λ b. (r.0.0, b)) (reads r.0.1) p r.1.1 in
-      next_only key ms s.0 s.1.0
-      ∙ ap (λ d. member key d s.0.1) (law.only s.0.0 t.0 (from_within key (read s.0.0) t.0 t.1.0))
-      ∙ ap (λ q. member key (write q.0) q.1) t.1.1
-      ∙ ap (λ left. member key (write r.0.0) left) (rest.only r.0.1 u.0 u.1.0)
-      ∙ ap (λ q. member key (write q.0) (writes q.1)) u.1.1
+      let found = field_found key read reads ms p e in
+      found.1.1.0 ∙ (λ i. member key (law.only found.0 p.0 found.1.1.1.0 i) (rest.only found.1.0 p.1 found.1.1.1.1 i))
 
   pub field_reads : ReadsMembers (λ p. member key (write p.0) (writes p.1)) (field key read reads) (λ p. fits p.0 && fit p.1) n
   field_reads = record {
@@ -313,6 +323,16 @@ module _ {A B : Type 0} {write : A → Data} {read : Data → Reading A} {fits :
     exact = λ p. rw (law.exact p.0) (rest.exact p.1);
   }
 
+-- what is read of an object is made of what is read of its members
+pub object_found : {A B : Type 0} (reads : Members → Reading A) (made : A → B) (d : Data) (b : B) → object_of reads made d ≡ Ok b
+    → (ms : Members) × ((d ≡ object ms) × ((a : A) × ((reads ms ≡ Ok a) × (made a ≡ b))))
+object_found reads made null b e = absurd (cc)
+object_found reads made (boolean c) b e = absurd (cc)
+object_found reads made (number m) b e = absurd (cc)
+object_found reads made (string s) b e = absurd (cc)
+object_found reads made (array ds) b e = absurd (cc)
+object_found reads made (object ms) b e = (ms, (refl, from_map_read made (reads ms) b e))
+
 module _ {A B : Type 0} {writes : A → Members} {reads : Members → Reading A} {fit : A → Bool} {n : ℕ}
     (law : ReadsMembers writes reads fit n) (made : A → B) where
   -- an object is read as what is made of its parts
@@ -321,14 +341,10 @@ module _ {A B : Type 0} {writes : A → Members} {reads : Members → Reading A}
 
   -- and only from the parts that it was made of
   pub from_object : (d : Data) (b : B) → object_of reads made d ≡ Ok b → (a : A) × ((d ≡ object (writes a)) × (made a ≡ b))
-  from_object null b e = absurd (cc)
-  from_object (boolean c) b e = absurd (cc)
-  from_object (number m) b e = absurd (cc)
-  from_object (string s) b e = absurd (cc)
-  from_object (array ds) b e = absurd (cc)
-  from_object (object ms) b e =
-      let r = from_map_read made (reads ms) b e in
-      (r.0, (ap object (law.only ms r.0 r.1.0), r.1.1))
+  from_object d b e =
+      let found = object_found reads made d b e in
+      let r = found.1.1 in
+      (r.0, (found.1.0 ∙ ap object (law.only found.0 r.0 r.1.0), r.1.1))
 
   pub object_reads : (parts : B → A) → ((b : B) → made (parts b) ≡ b) → ((a : A) → parts (made a) ≡ a)
       → Reads (λ b. object (writes (parts b))) (object_of reads made) (λ b. fit (parts b)) (suc n)

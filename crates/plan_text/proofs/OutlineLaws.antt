@@ -1,7 +1,6 @@
 -- What the outline of a text stands for, part by part.
-use Rattle.std.proofs.Common.{◌≡◌, ◌≤◌, ℕ, Bool, List, [], ◌∷◌, ◌++◌, Option, Some, None, map, option_and_then, Ok, refl, sym, ap, ◌∙◌, append-nil, arith}
+use Rattle.std.proofs.Common.{◌≡◌, ◌≤◌, ℕ, Bool, List, [], ◌∷◌, Some, map, option_and_then, Ok, refl, sym, ap, ◌∙◌, append-nil, arith}
 use Rattle.std.specs.Str.{IsUtf8}
-use Rattle.json.specs.Lex.{tokens}
 use Rattle.json.specs.Json as json
 use Rattle.json.specs.Json.{Json, if_last, value}
 use Rattle.json.specs.Print.{print, print_from, IsNumber}
@@ -14,11 +13,12 @@ use Rattle.serde_json.specs.Read.{of_json, of_items, read}
 use Rattle.serde_json.specs.View.{items_of}
 use Rattle.flow_model.specs.declared.plan.Plan.{Plan}
 use Rattle.flow_model.proofs.JsonTexts.{json_read-utf8}
-use Rattle.plan_text.specs.Document.{document}
+use Rattle.plan_text.specs.Document.{document_in}
 use Rattle.flow_model.specs.Rules.{IsPlan}
 use Rattle.plan_text.specs.Load.{load}
 use Rattle.plan_text.specs.Outline.{IsOutlineOf, StandsFor, EachStandsFor, IsReadOf}
 use Rattle.plan_text.specs.Parts.{Reading}
+use Rattle.plan_text.specs.declared.version.Version.{Version}
 use Rattle.plan_text.proofs.Laws.{Reads}
 use Rattle.plan_text.proofs.LoadLemmas.{load_again}
 
@@ -64,7 +64,7 @@ items_stand outline data_of (x ∷ xs) (y ∷ ys) e =
 pub outline_read : (text : List ℕ) (j : Json) (d : Data) → IsOutlineOf text j → StandsFor j d → read text ≡ Some d
 outline_read text j d is stands = ap (λ o. option_and_then of_json (option_and_then (λ x. if_last x.0 x.1) o)) is ∙ stands
 
--- a text that is read as the document of a sound plan loads as the plan
-pub document_loads : (bytes text : List ℕ) (p q : Plan) → text ≡ bytes → IsUtf8 bytes → read text ≡ Some (document p) → q ≡ p → IsPlan q → load bytes ≡ Ok q
-document_loads bytes text p q same utf8 found checked sound =
-    load_again bytes q sound (json_read-utf8 bytes utf8 ∙ ap read (sym same) ∙ found ∙ ap (λ x. Some (document x)) (sym checked))
+-- a text that is read as a document of a sound plan loads as the plan
+pub document_loads : (bytes text : List ℕ) (v : Version) (p q : Plan) → text ≡ bytes → IsUtf8 bytes → read text ≡ Some (document_in v p) → q ≡ p → IsPlan q → load bytes ≡ Ok q
+document_loads bytes text v p q same utf8 found checked sound =
+    load_again bytes v q sound (json_read-utf8 bytes utf8 ∙ ap read (sym same) ∙ found ∙ ap (λ x. Some (document_in v x)) (sym checked))

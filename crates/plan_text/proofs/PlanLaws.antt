@@ -1,5 +1,6 @@
 -- The document of a plan and of each of its parts is read as that part, and no other.
-use Rattle.std.proofs.Common.{◌≡◌, ◌≤◌, ℕ, List, [], Bool, true, false, IsTrue, ◌&&◌, bytes_eq, cond, codes, Option, Ok, refl, sym, ap, ◌∙◌, arith}
+use Rattle.std.proofs.Common.{◌≡◌, ◌≤◌, ℕ, List, [], Bool, true, false, IsTrue, ◌&&◌, ◌==◌, bytes_eq, cond, codes, Option, Ok, refl, sym, ap, ◌∙◌, arith}
+use Rattle.std.proofs.lemmas.Bool.{eqb-true}
 use Rattle.std.proofs.lemmas.Slice.Eq.{bytes_eq-Decides}
 use Rattle.std.specs.List.{list_all}
 use Rattle.std.specs.Prelude.{⊤}
@@ -19,10 +20,13 @@ use Rattle.flow_model.specs.declared.plan.StepPlan.{StepPlan}
 use Rattle.flow_model.specs.declared.plan.Work.{Work}
 use Rattle.flow_model.specs.declared.plan.Work.TheVariants.{Run, Uses}
 use Rattle.flow_model.proofs.Conversions.{value_again, value_only, value_exact, is_within-in_range, depth-json_of}
-use Rattle.plan_text.specs.Parts.{optional_data, map_data, Reading, or_refused, text_of, plain_of, optional_of, field, no_more, word_of, has_word}
-use Rattle.plan_text.specs.Document.{flag_data, group_data, roots_data, shell_data, work_data, step_data, job_data, run_data, document}
+use Rattle.plan_text.specs.Parts.{number_data, optional_data, list_data, map_data, Reading, or_refused, text_of, number_of, plain_of, list_of, optional_of, field, no_more, word_of, has_word}
+use Rattle.plan_text.specs.Document.{flag_data, group_data, roots_data, shell_data, work_data, step_data, job_data, run_data, document_in}
 use Rattle.plan_text.specs.Reading.{Values, flag_of, group_from, group_of, values_of, roots_from, roots_of, shell_named, shell_of, script_from, script_of, action_from, action_of, work_of, step_from, step_of, job_from, job_tail, job_of, run_from, run_of, plan_from, plan_of}
-use Rattle.plan_text.proofs.Laws.{Reads, ReadsMembers, Ok-inj, from_and_then, from_either, from_or_refused, text_reads, truth_reads, number_reads, word_reads, one_reads, text_only, list_reads, map_reads, deeper, or_null, lists, maps, no_more_reads, field_reads, object_made, from_object, object_reads}
+use Rattle.plan_text.specs.Version.{version_data, version_numbered, version_of}
+use Rattle.plan_text.specs.declared.version.Version.{Version}
+use Rattle.plan_text.specs.declared.version.Version.TheVariants.{One, Two}
+use Rattle.plan_text.proofs.Laws.{Reads, ReadsMembers, ReadsForms, Ok-inj, from_and_then, from_either, from_or_refused, text_reads, truth_reads, number_reads, word_reads, number_only, text_only, list_reads, map_reads, deeper, or_null, lists, maps, no_more_reads, field_reads, object_made, from_object, object_reads}
 
 -- ---- texts, numbers and values
 
@@ -231,11 +235,56 @@ run_reads =
     (field_reads (codes "jobs") (list_reads job_reads) (field_reads (codes "roots") (deeper roots_reads 106 (omega arith)) (no_more_reads 106))))))) run_from
     (λ r. (r.env, (r.event, (r.flow, (r.group, (r.jobs, (r.roots, tt))))))) (λ _. refl) (λ _. refl)
 
+-- ---- a plan, with the version of its document
+
+version_again : (v : Version) → version_of (version_data v) ≡ Ok v
+version_again One = refl
+version_again Two = refl
+
+from_numbered : (n k : ℕ) (v : Version) (rest : Reading Version) (u : Version) → version_data v ≡ number_data k
+    → (rest ≡ Ok u → number_data n ≡ version_data u) → cond (n == k) (Ok v) rest ≡ Ok u → number_data n ≡ version_data u
+from_numbered n k v rest u written later e = numbered (n == k) refl e
+  where
+    numbered : (b : Bool) → (n == k) ≡ b → cond b (Ok v) rest ≡ Ok u → number_data n ≡ version_data u
+    numbered true same f = ap number_data (eqb-true n k same) ∙ sym written ∙ ap version_data (Ok-inj v u f)
+    numbered false other f = later f
+
+version_numbered_only : (n : ℕ) (v : Version) → version_numbered n ≡ Ok v → number_data n ≡ version_data v
+version_numbered_only n v e = from_numbered n 1 One _ v refl (from_numbered n 2 Two _ v refl (λ f. absurd (cc))) e
+
+version_only : (d : Data) (v : Version) → version_of d ≡ Ok v → d ≡ version_data v
+version_only d v e =
+    let r = from_and_then version_numbered (number_of d) v e in
+    number_only d r.0 r.1.0 ∙ version_numbered_only r.0 v r.1.1
+
+pub version_reads : (n : ℕ) → Reads version_data version_of (λ _. true) n
+version_reads n = record { again = λ v h. version_again v; only = version_only; low = λ v h. omega arith; exact = λ v. refl }
+
 -- whether the values of a plan fit
 abbrev pub plan_fits : Plan → Bool
 plan_fits p = list_all run_fits p.runs && true
 
-pub plan_reads : Reads document plan_of plan_fits 109
-plan_reads =
-    object_reads (field_reads (codes "runs") (list_reads run_reads) (field_reads (codes "version") (one_reads 108) (no_more_reads 108))) plan_from
-    (λ p. (p.runs, (tt, tt))) (λ _. refl) (λ _. refl)
+abbrev Versioned : Type 0
+Versioned = List RunPlan × (Version × ⊤)
+
+abbrev plan_members : Versioned → Members
+plan_members x = member (codes "runs") (list_data run_data x.0) (member (codes "version") (version_data x.1.0) no_members)
+
+abbrev plan_fields : Members → Reading Versioned
+plan_fields = field (codes "runs") (list_of run_of) (field (codes "version") version_of no_more)
+
+plan_law : ReadsMembers plan_members plan_fields (λ x. list_all run_fits x.0 && true) 108
+plan_law = field_reads (codes "runs") (list_reads run_reads) (field_reads (codes "version") (version_reads 108) (no_more_reads 108))
+
+plan_only : (d : Data) (p : Plan) → plan_of d ≡ Ok p → (version : Version) × IsTrue true × (d ≡ document_in version p)
+plan_only d p e =
+    let r = from_object plan_law plan_from d p e in
+    (r.0.1.0, refl, r.1.0 ∙ ap (document_in r.0.1.0) r.1.1)
+
+pub plan_reads : ReadsForms document_in plan_of (λ _ _. true) plan_fits 109
+plan_reads = record {
+  again = λ version p h told. object_made plan_law plan_from (p.runs, (version, tt)) h;
+  only = plan_only;
+  low = λ version p h. omega (arith, plan_law.low (p.runs, (version, tt)) h);
+  exact = λ version p. plan_law.exact (p.runs, (version, tt));
+}

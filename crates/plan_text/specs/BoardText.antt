@@ -1,5 +1,5 @@
 -- The text of a board: for each run its line, then for each of its jobs the job's line, then for each leg its
--- line, its done steps and its outputs; last the line of the ends.
+-- line, its done steps and its outputs; last the line of the ends. A step's line is followed by its variables.
 use Rattle.std.specs.Prelude.{◌≡◌, String, string_bytes, ℕ, suc, ◌+◌, ◌++◌, codes, decimal, List, [], ◌∷◌, length, Bool, true, false, Option, Some, None}
 use Rattle.std.specs.List.{flat_map}
 use Rattle.std.specs.declared.alloc.Global.{Global}
@@ -66,9 +66,9 @@ abbrev pub group_words : Option (List ℕ) → List ℕ
 group_words None = []
 group_words (Some name) = codes " group " ++ compact_text (string name)
 
--- outputs, as a JSON object of texts
-abbrev pub outputs_words : List (List ℕ × List ℕ) → List ℕ
-outputs_words outputs = compact_text (map_data string outputs)
+-- outputs or variables, as a JSON object of texts
+abbrev pub texts_words : List (List ℕ × List ℕ) → List ℕ
+texts_words texts = compact_text (map_data string texts)
 
 -- ---- lines
 
@@ -87,12 +87,20 @@ leg_line l leg = codes "leg " ++ decimal l ++ codes " " ++ leg_state_words leg.s
 -- `step S OUTCOME CONCLUSION OUTPUTS`
 abbrev pub step_line : ℕ → DoneStep → List ℕ
 step_line s step =
-    codes "step " ++ decimal s ++ codes " " ++ outcome_word step.outcome ++ codes " " ++ outcome_word step.conclusion ++ codes " " ++ outputs_words step.outputs ++ codes "\n"
+    codes "step " ++ decimal s ++ codes " " ++ outcome_word step.outcome ++ codes " " ++ outcome_word step.conclusion ++ codes " " ++ texts_words step.outputs ++ codes "\n"
 
--- `out OUTPUTS`, where there are any
+-- outputs or variables after their word, where there are any
+abbrev pub texts_line : List ℕ → List (List ℕ × List ℕ) → List ℕ
+texts_line word [] = []
+texts_line word (p ∷ ps) = word ++ texts_words (p ∷ ps) ++ codes "\n"
+
+-- `set PAIRS`, where a step has set variables
+abbrev pub set_line : List (List ℕ × List ℕ) → List ℕ
+set_line env = texts_line (codes "set ") env
+
+-- `out OUTPUTS`, where a leg has any
 abbrev pub out_line : List (List ℕ × List ℕ) → List ℕ
-out_line [] = []
-out_line (p ∷ ps) = codes "out " ++ outputs_words (p ∷ ps) ++ codes "\n"
+out_line outputs = texts_line (codes "out ") outputs
 
 -- `ends L L ..`
 abbrev pub ends_line : List ℕ → List ℕ
@@ -100,10 +108,14 @@ ends_line ends = codes "ends" ++ flat_map (λ l. codes " " ++ decimal l) ends ++
 
 -- ---- the text
 
+-- a step: its line, and the variables that it set
+abbrev pub step_text : ℕ → DoneStep → List ℕ
+step_text s step = step_line s step ++ set_line step.env
+
 -- the steps from place s on
 abbrev pub steps_text : ℕ → List DoneStep → List ℕ
 steps_text s [] = []
-steps_text s (step ∷ steps) = step_line s step ++ steps_text (suc s) steps
+steps_text s (step ∷ steps) = step_text s step ++ steps_text (suc s) steps
 
 abbrev pub leg_text : ℕ → Leg → List ℕ
 leg_text l leg = leg_line l leg ++ steps_text 0 leg.steps ++ out_line leg.outputs

@@ -1,4 +1,4 @@
--- The document of a plan (version 1): its objects, with their keys in byte order.
+-- The document of a plan in each version: its objects, with their keys in byte order.
 use Rattle.std.specs.Prelude.{◌≡◌, codes}
 use Rattle.serde_json.specs.Data.{Data, boolean, string, object, no_members, member}
 use Rattle.flow_model.specs.Json.{json_of}
@@ -15,6 +15,9 @@ use Rattle.flow_model.specs.declared.plan.StepPlan.{StepPlan}
 use Rattle.flow_model.specs.declared.plan.Work.{Work}
 use Rattle.flow_model.specs.declared.plan.Work.TheVariants.{Run, Uses}
 use Rattle.plan_text.specs.Parts.{number_data, optional_data, list_data, map_data}
+use Rattle.plan_text.specs.Version.{version_data}
+use Rattle.plan_text.specs.declared.version.Version.{Version}
+use Rattle.plan_text.specs.declared.version.Version.TheVariants.{Two}
 
 -- a truth value, or a text to be evaluated
 abbrev pub flag_data : Flag → Data
@@ -70,10 +73,15 @@ run_data r =
     (member (codes "flow") (string r.flow) (member (codes "group") (optional_data group_data r.group)
     (member (codes "jobs") (list_data job_data r.jobs) (member (codes "roots") (roots_data r.roots) no_members))))))
 
+-- the document of a plan in a version
+abbrev pub document_in : Version → Plan → Data
+document_in version p =
+    object (member (codes "runs") (list_data run_data p.runs) (member (codes "version") (version_data version) no_members))
+
 -- the document that is printed of a plan
 abbrev pub document : Plan → Data
-document p = object (member (codes "runs") (list_data run_data p.runs) (member (codes "version") (number_data 1) no_members))
+document p = document_in Two p
 
--- this JSON is a document of the plan
+-- this JSON is a document of the plan, in one of the versions
 abbrev pub IsPlanDocument : Plan → Data → Type 0
-IsPlanDocument p d = d ≡ document p
+IsPlanDocument p d = (version : Version) × (d ≡ document_in version p)

@@ -13,3 +13,4 @@ pub mod PrintedEntry
 pub mod Reading
 pub mod Record
 pub mod Report
+pub mod Version

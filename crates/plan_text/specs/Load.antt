@@ -1,5 +1,5 @@
 -- The plan that a text loads as, and the fault where there is none.
-use Rattle.std.specs.Prelude.{◌≡◌, ℕ, List, codes, Bool, not, false, ◌&&◌, ◌==◌, is_some, if◌then◌else◌, Option, Some, None, option_map, option_and_then, unwrap_or, Result, Ok, Err}
+use Rattle.std.specs.Prelude.{◌≡◌, ℕ, List, codes, Bool, not, false, ◌&&◌, is_some, if◌then◌else◌, Option, Some, None, option_map, option_and_then, unwrap_or, Result, Ok, Err}
 use Rattle.serde_json.specs.Data.{Data}
 use Rattle.serde_json.specs.Find.{get, as_object, as_number, as_u64}
 use Rattle.flow_model.specs.JsonText.{json_read}
@@ -7,6 +7,7 @@ use Rattle.flow_model.specs.Rules.{plan_rules}
 use Rattle.flow_model.specs.declared.plan.Plan.{Plan}
 use Rattle.plan_text.specs.Parts.{Reading}
 use Rattle.plan_text.specs.Reading.{plan_of}
+use Rattle.plan_text.specs.Version.{is_version}
 use Rattle.plan_text.specs.declared.fault.LoadFault.{LoadFault}
 use Rattle.plan_text.specs.declared.fault.LoadFault.TheVariants.{NotJson, Version, NotPlan, NotEntry, Memory}
 
@@ -14,13 +15,13 @@ use Rattle.plan_text.specs.declared.fault.LoadFault.TheVariants.{NotJson, Versio
 abbrev pub IsTextOf : {A : Type 0} → (A → Data → Type 0) → List ℕ → A → Type 0
 IsTextOf IsDocument bytes x = (d : Data) × (json_read bytes ≡ Some d) × IsDocument x d
 
--- whether the object's `version` is 1
-abbrev pub is_version_one : Data → Bool
-is_version_one d = unwrap_or (option_map (λ n. n == 1) (option_and_then as_u64 (option_and_then as_number (get (codes "version") d)))) false
+-- whether the object's `version` is 1 or 2
+abbrev pub has_known_version : Data → Bool
+has_known_version d = unwrap_or (option_map is_version (option_and_then as_u64 (option_and_then as_number (get (codes "version") d)))) false
 
--- an object whose `version` is missing or not 1
+-- an object whose `version` is missing or neither 1 nor 2
 abbrev pub has_other_version : Data → Bool
-has_other_version d = is_some (as_object d) && not (is_version_one d)
+has_other_version d = is_some (as_object d) && not (has_known_version d)
 
 -- a plan that was read is accepted where none of its rules is broken
 abbrev pub accepted : Plan → Option (List ℕ) → Result Plan LoadFault

@@ -1,5 +1,5 @@
 -- How the parts of a document are written as JSON, and how they are read from it.
-use Rattle.std.specs.Prelude.{ℕ, ℤ, suc, List, [], ◌∷◌, ◌++◌, map, codes, decimal, Bool, false, bytes_eq, ◌==◌, if◌then◌else◌, Option, Some, None, option_map, option_and_then, unwrap_or, Result, Ok, Err, ⊤}
+use Rattle.std.specs.Prelude.{ℕ, ℤ, suc, List, [], ◌∷◌, ◌++◌, map, codes, decimal, Bool, false, bytes_eq, if◌then◌else◌, Option, Some, None, option_map, option_and_then, unwrap_or, Result, Ok, Err, ⊤}
 use Rattle.std.specs.Ordering.{nat_cmp, match_ordering}
 use Rattle.std.specs.Cmp.Lexicographic.{slice_cmp}
 use Rattle.serde_json.specs.Data.{Num, unsigned, negative, float, Data, null, boolean, number, string, array, object, Items, no_items, item, Members, no_members, member}
@@ -181,10 +181,6 @@ object_of fields made d = and_then (λ ms. map_read made (fields ms)) (members_o
 -- exactly this text
 abbrev pub word_of : List ℕ → Data → Reading ⊤
 word_of word d = and_then (λ text. if bytes_eq text word then Ok tt else Err []) (text_of d)
-
--- exactly this number
-abbrev pub numeral_of : ℕ → Data → Reading ⊤
-numeral_of numeral d = and_then (λ n. if n == numeral then Ok tt else Err []) (number_of d)
 
 -- whether the object has this text at the key
 abbrev pub has_word : List ℕ → List ℕ → Data → Bool

@@ -14,7 +14,9 @@ use Rattle.flow_model.specs.declared.plan.Shell.TheVariants.{Default, Sh, Bash}
 use Rattle.flow_model.specs.declared.plan.StepPlan.{StepPlan}
 use Rattle.flow_model.specs.declared.plan.Work.{Work}
 use Rattle.flow_model.specs.declared.plan.Work.TheVariants.{Run, Uses}
-use Rattle.plan_text.specs.Parts.{Reading, and_then, text_of, truth_of, number_of, plain_of, optional_of, list_of, map_of, field, no_more, object_of, word_of, numeral_of, has_word}
+use Rattle.plan_text.specs.Parts.{Reading, and_then, text_of, truth_of, number_of, plain_of, optional_of, list_of, map_of, field, no_more, object_of, word_of, has_word}
+use Rattle.plan_text.specs.Version.{version_of}
+use Rattle.plan_text.specs.declared.version.Version.{Version}
 
 -- a truth value or a text
 abbrev pub flag_of : Data → Reading Flag
@@ -141,9 +143,9 @@ run_of =
     (field (codes "group") (optional_of group_of) (field (codes "jobs") (list_of job_of) (field (codes "roots") roots_of no_more)))))) run_from
 
 -- a plan, from the parts that were read
-abbrev pub plan_from : List RunPlan × (⊤ × ⊤) → Plan
+abbrev pub plan_from : List RunPlan × (Version × ⊤) → Plan
 plan_from x = record { runs = x.0 }
 
--- the plan that a document of version 1 stands for
+-- the plan that a document stands for, whatever its version
 abbrev pub plan_of : Data → Reading Plan
-plan_of = object_of (field (codes "runs") (list_of run_of) (field (codes "version") (numeral_of 1) no_more)) plan_from
+plan_of = object_of (field (codes "runs") (list_of run_of) (field (codes "version") version_of no_more)) plan_from

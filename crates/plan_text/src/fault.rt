@@ -13,7 +13,7 @@ use thiserror::Error;
 pub enum LoadFault {
     /// It is no JSON (RFC 8259).
     NotJson,
-    /// It is an object whose `version` is missing or not 1.
+    /// It is an object whose `version` is missing or neither 1 nor 2.
     Version,
     /// It is no plan's document, or the plan breaks a rule: the path from the root, keys and places
     /// joined by dots.

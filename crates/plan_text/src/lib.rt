@@ -24,6 +24,7 @@ mod reading;
 mod record;
 mod report;
 mod tree;
+mod version;
 mod writing;
 
 pub use board::board_text;

@@ -8,12 +8,13 @@
 ghost use Rattle.std.specs.Prelude.{◌≡◌, IfOk, Some, Ok};
 ghost use Rattle.json.specs.Value.{value_view};
 ghost use Rattle.serde_json.specs.Read.{read};
-ghost use Rattle.plan_text.specs.Document.{document};
+ghost use Rattle.plan_text.specs.Document.{document_in};
 ghost use Rattle.plan_text.specs.Load.{load};
 ghost use Rattle.plan_text.specs.Outline.{IsOutlineOf, StandsFor, IsReadOf};
 
 use crate::reading::{FromJson, Unread, refused};
 use crate::tree::tree_of;
+use crate::version::Version;
 use flow_model::{
     Broken, CheckedPlan, Group, JobPlan, Mapping, Plan, Roots, RunPlan, Sequence, Text,
 };
@@ -44,12 +45,12 @@ fn part_of<T: FromJson>(alloc: Global, outline: &json::Value<'_>) -> Result<T, U
     T::from_json(alloc, &tree)
 }
 
-impl FromOutline for u64 {
-    ghost use Rattle.plan_text.specs.Parts.{number_data};
+impl FromOutline for Version {
+    ghost use Rattle.plan_text.specs.Version.{version_data};
 
-    ghost document = { number_data };
+    ghost document = { version_data };
 
-    fn from_outline(alloc: Global, outline: &json::Value<'_>) -> Result<u64, Unread> {
+    fn from_outline(alloc: Global, outline: &json::Value<'_>) -> Result<Version, Unread> {
         part_of(alloc, outline)
     }
 }
@@ -220,26 +221,23 @@ impl FromOutline for RunPlan {
     }
 }
 
-impl FromOutline for Plan {
-    ghost use Rattle.plan_text.specs.Document.{document};
+/// A plan and the version of its document.
+impl FromOutline for (Plan, Version) {
+    ghost use Rattle.plan_text.specs.Document.{document_in};
 
-    ghost document = { document };
+    ghost document = { λ found. document_in found.1 found.0 };
 
-    fn from_outline(alloc: Global, outline: &json::Value<'_>) -> Result<Plan, Unread> {
+    fn from_outline(alloc: Global, outline: &json::Value<'_>) -> Result<(Plan, Version), Unread> {
         let json::Value::Object(members) = outline else {
             return Err(refused(alloc, ""));
         };
         let keys = ["runs", "version"];
-        let (runs, (version, ())): (Sequence<RunPlan>, (u64, ())) = OutlineFields::read(
+        let (runs, (version, ())): (Sequence<RunPlan>, (Version, ())) = OutlineFields::read(
             alloc,
             members.as_slice(),
             &keys,
         )?;
-        if version == 1 {
-            Ok(Plan { runs })
-        } else {
-            Err(refused(alloc, ""))
-        }
+        Ok((Plan { runs }, version))
     }
 }
 
@@ -263,23 +261,23 @@ fn outline_of<'a>(
     Ok(outline)
 }
 
-/// The plan of whose document a text is the outline.
-fn read_text(alloc: Global, text: &str) -> Result<Plan, Unread>
-    ensures { IfOk result (λ plan. read text.now ≡ Some (document plan)) }
+/// The plan of whose document a text is the outline, and the document's version.
+fn read_text(alloc: Global, text: &str) -> Result<(Plan, Version), Unread>
+    ensures { IfOk result (λ found. read text.now ≡ Some (document_in found.1 found.0)) }
 {
     let mut scratch = Scratch::new(alloc);
     let outline = outline_of(alloc, text, &mut scratch)?;
-    Plan::from_outline(alloc, &outline)
+    FromOutline::from_outline(alloc, &outline)
 }
 
-/// The plan whose document a text is, spelled in the order in which it is printed.
+/// The plan whose document a text is, in either version, spelled in the order in which it is printed.
 pub(crate) fn read_printed(alloc: Global, bytes: &[u8]) -> Result<CheckedPlan, Unread>
     ensures { IfOk result (λ plan. load bytes.now ≡ Ok plan) }
 {
     let Ok(text) = std::str::from_utf8(bytes) else {
         return Err(refused(alloc, ""));
     };
-    let plan = read_text(alloc, text)?;
+    let (plan, _) = read_text(alloc, text)?;
     match plan.check(alloc) {
         Ok(checked) => Ok(checked),
         Err(Broken::Rule(path)) => Err(Unread::Refused(path)),

@@ -1,13 +1,14 @@
 //! Plan documents: what is printed of a plan, and the plan that a text loads as.
 
 ghost use Rattle.std.specs.Prelude.{◌≡◌, IfOk, Some, Ok, string_bytes};
+ghost use Rattle.serde_json.specs.Data.{Data};
 ghost use Rattle.serde_json.specs.View.{view};
 ghost use Rattle.serde_json.specs.Written.{compact_text};
 ghost use Rattle.flow_model.specs.JsonText.{json_read};
 ghost use Rattle.flow_model.specs.Rules.{IsPlan, plan_rules};
 ghost use Rattle.flow_model.specs.declared.plan.Plan.{Plan};
 ghost use Rattle.plan_text.specs.Document.{document, IsPlanDocument};
-ghost use Rattle.plan_text.specs.Load.{IsTextOf, is_version_one, has_other_version, loaded, load, accepted, Gives};
+ghost use Rattle.plan_text.specs.Load.{IsTextOf, has_known_version, has_other_version, loaded, load, accepted, Gives};
 
 use crate::fault::LoadFault;
 use crate::outline::read_printed;
@@ -23,20 +24,21 @@ pub fn print_plan(alloc: Global, plan: &CheckedPlan) -> Result<String, AllocErro
     ensures reads { IfOk result (λ s. json_read (string_bytes s) ≡ Some (document plan.now)) }
     // Loading it gives the same plan.
     ensures loads { IfOk result (λ s. load (string_bytes s) ≡ Ok plan.now) }
-    // No other plan has this document.
-    ensures alone { (other : Plan) → IsPlan other → IsPlanDocument other (document plan.now)
-        → other ≡ plan.now }
+    // No document of this plan, in either version, is one of another.
+    ensures alone { (other : Plan) (d : Data) → IsPlan other → IsPlanDocument plan.now d
+        → IsPlanDocument other d → other ≡ plan.now }
 {
     let json = plan.plan().to_json(alloc)?;
     json.to_string(alloc)
 }
 
-/// The plan that a text stands for: the text reads as a document of the plan, in any layout.
+/// The plan that a text stands for: the text reads as a document of the plan, of version 1 or 2, in
+/// any layout.
 ///
 /// # Errors
 ///
 /// - `NotJson` where the bytes are no JSON text (RFC 8259), nested to 127;
-/// - `Version` where they are an object whose `version` is missing or not 1;
+/// - `Version` where they are an object whose `version` is missing or neither 1 nor 2;
 /// - `NotPlan` where they are no plan's document, or the plan breaks a rule, with the path of the first
 ///   part at fault;
 /// - `Memory` where there is no memory.
@@ -96,14 +98,14 @@ fn check(alloc: Global, plan: Plan) -> Result<CheckedPlan, LoadFault>
 fn has_other_version(json: &Value) -> bool
     ensures { result ≡ has_other_version (view json.now) }
 {
-    json.is_object() && !is_version_one(json)
+    json.is_object() && !has_known_version(json)
 }
 
-fn is_version_one(json: &Value) -> bool
-    ensures { result ≡ is_version_one (view json.now) }
+fn has_known_version(json: &Value) -> bool
+    ensures { result ≡ has_known_version (view json.now) }
 {
     match json.get("version").and_then(Value::as_u64) {
-        Some(version) => version == 1,
+        Some(version) => version == 1 || version == 2,
         None => false,
     }
 }

@@ -5,10 +5,9 @@ ghost use Rattle.plan_text.specs.Answer.{GivesIt};
 ghost use Rattle.plan_text.specs.Reading.{script_of, action_of};
 
 use crate::fields::{Fields, read_object};
-use crate::reading::{
-    FromJson, Unread, expect_number, expect_word, field, has_word, members_of, no_more, refused,
-};
-use flow_model::{Flag, Group, Plan, Roots, RunPlan, Shell, StepPlan, Text, Work};
+use crate::reading::{FromJson, Unread, expect_word, field, has_word, members_of, refused};
+use crate::version::Version;
+use flow_model::{Flag, Group, Plan, Roots, RunPlan, Sequence, Shell, StepPlan, Text, Work};
 use serde_json::Value;
 use std::alloc::Global;
 
@@ -149,10 +148,8 @@ impl FromJson for Plan {
     ghost reading = { plan_of };
 
     fn from_json(alloc: Global, json: &Value) -> Result<Plan, Unread> {
-        let mut members = members_of(alloc, json)?;
-        let runs = field(alloc, &mut members, "runs")?;
-        expect_number(alloc, &mut members, "version", 1)?;
-        no_more(alloc, &mut members)?;
+        let keys = ["runs", "version"];
+        let (runs, (_, ())): (Sequence<RunPlan>, (Version, ())) = read_object(alloc, json, &keys)?;
         Ok(Plan { runs })
     }
 }

@@ -1,5 +1,6 @@
 //! The document of a plan and of each of its parts, object by object.
 
+use crate::version::Version;
 use crate::writing::{ToJson, Word, object};
 use flow_model::{Flag, Group, JobPlan, Plan, Roots, RunPlan, Shell, StepPlan, Work};
 use serde_json::Value;
@@ -154,7 +155,7 @@ impl ToJson for Plan {
 
     fn to_json(&self, alloc: Global) -> Result<Value, AllocError> {
         let keys = ["runs", "version"];
-        let parts = (&self.runs, (&1u64, ()));
+        let parts = (&self.runs, (&Version::Two, ()));
         object(alloc, &keys, &parts)
     }
 }

@@ -3,7 +3,7 @@
 ghost use Rattle.std.specs.Prelude.{◌≡◌, ◌∷◌, ◌++◌, length, decimal, IfOk, Ok, Err, string_bytes, codes, ⊤};
 ghost use Rattle.serde_json.specs.View.{view, items_view, members_view};
 ghost use Rattle.plan_text.specs.Answer.{Gives, GivesIt, IsRefusal, IsWithin};
-ghost use Rattle.plan_text.specs.Parts.{Reading, joined, within, text_of, truth_of, number_of, plain_of, optional_of, items_read, list_of, pairs_read, map_of, members_of, next_member, first_field, no_more, word_of, numeral_of, has_word};
+ghost use Rattle.plan_text.specs.Parts.{Reading, joined, within, text_of, truth_of, number_of, plain_of, optional_of, items_read, list_of, pairs_read, map_of, members_of, next_member, first_field, no_more, word_of, has_word};
 
 use flow_model::{JsonFault, Mapping, Sequence, Text};
 use serde_json::Value;
@@ -273,22 +273,6 @@ pub(crate) fn expect_word(
 {
     match next_member(alloc, members, key)?.as_str() {
         Some(text) if text == word => Ok(()),
-        _ => Err(refused(alloc, key)),
-    }
-}
-
-/// Checks that the number at the next key is this one.
-pub(crate) fn expect_number(
-    alloc: Global,
-    members: &mut Iter<'_, String, Value>,
-    key: &str,
-    number: u64,
-) -> Result<(), Unread>
-    ensures { Gives (λ _. (tt, members_view members.new)) result
-        (first_field key.now (numeral_of number) (members_view members.old)) }
-{
-    match next_member(alloc, members, key)?.as_u64() {
-        Some(found) if found == number => Ok(()),
         _ => Err(refused(alloc, key)),
     }
 }

@@ -1,3 +1,4 @@
 pub mod Contexts
 pub mod Groups
 pub mod Pairs
+pub mod Variables

@@ -1,5 +1,5 @@
--- The items of a file of outputs, and what stands of them.
-use Rattle.std.proofs.Common.{◌≡◌, ◌↔◌, ◌⊎◌, inl, inr, ⊎_elim, ℕ, zero, Bool, true, false, cond, Option, Some, None, Result, Ok, Err, List, [], ◌∷◌, ◌++◌, Ordering, Less, Equal, Greater, nat_cmp, is_eq, refl, sym, ap, subst, ◌∙◌, arith}
+-- The items of a file of pairs, and what stands of them.
+use Rattle.std.proofs.Common.{◌≡◌, ◌↔◌, ◌⊎◌, inl, inr, ⊎_elim, ℕ, zero, Bool, true, false, cond, Option, Some, None, Ok, Err, List, [], ◌∷◌, ◌++◌, Ordering, Less, Equal, Greater, nat_cmp, is_eq, refl, sym, ap, subst, ◌∙◌, arith}
 use Rattle.std.proofs.lemmas.Slice.Eq.{bytes_eq-Decides}
 use Rattle.std.specs.Cmp.Lexicographic.{slice_cmp}
 use Rattle.std.specs.List.{Contains}
@@ -7,10 +7,10 @@ use Rattle.std.specs.List.Sorted.{IsStrictlySortedBy}
 use Rattle.std.specs.Str.{bytes_eq, is_utf8}
 use Rattle.flow_model.specs.Mapping.{value_at, with_pair, Ascends}
 use Rattle.flow_model.proofs.Lookups.{one_name, name_itself, turned, found_same, found_other, none_below, same_below, below_more, Ascends-with_pair}
-use Rattle.program_texts.specs.Laws.{IsLast, AreOutputs, OneGiving}
-use Rattle.program_texts.specs.Outputs.{Pair, pairs_of, with_pairs, are_within, limited, then_with, outputs}
+use Rattle.program_texts.specs.Laws.{IsLast, ArePairs, OneGiving}
+use Rattle.program_texts.specs.PairFiles.{Pair, Reading, pairs_of, with_pairs, kept, are_within, limited, then_with, pairs_in}
+use Rattle.program_texts.specs.declared.pair_file.PairFile.{PairFile}
 use Rattle.flow_model.specs.Lines.{lines_of}
-use Rattle.program_texts.specs.declared.output_fault.OutputFault.{OutputFault}
 use Rattle.program_texts.specs.declared.output_fault.OutputFault.TheVariants.{NotUtf8, TooMany}
 use Rattle.program_texts.proofs.Members.{later, first_or_later}
 use Rattle.program_texts.proofs.Items.{given_read, read_given}
@@ -148,42 +148,44 @@ agreed items xs ys hx hy name = by (value_at name xs) (value_at name ys) refl re
 
 -- ---- the file
 
-limit_passed : (m found : List Pair) → limited (Ok m) ≡ Ok found → (m ≡ found) × (are_within m ≡ true)
-limit_passed m found h = by_test (are_within m) refl h
+limit_passed : (file : PairFile) (m found : List Pair) → limited file (Ok m) ≡ Ok found → (m ≡ found) × (are_within file m ≡ true)
+limit_passed file m found h = by_test (are_within file m) refl h
   where
-    by_test : (t : Bool) → are_within m ≡ t → cond t (Ok m) (Err TooMany) ≡ Ok found → (m ≡ found) × (are_within m ≡ true)
+    by_test : (t : Bool) → are_within file m ≡ t → cond t (Ok m) (Err TooMany) ≡ Ok found → (m ≡ found) × (are_within file m ≡ true)
     by_test true is k = (cc, is)
     by_test false is k = cc
 
-gives : (bytes : List ℕ) (found : List Pair) → outputs bytes ≡ Ok found → AreOutputs bytes found
-gives bytes found h = by_test (is_utf8 bytes) refl h
+gives : (file : PairFile) (bytes : List ℕ) (found : List Pair) → pairs_in file bytes ≡ Ok found → ArePairs file bytes found
+gives file bytes found h = by_test (is_utf8 bytes) refl h
   where
-    by_read : is_utf8 bytes ≡ true → (r : Result (List Pair) OutputFault) → pairs_of (lines_of bytes) ≡ r
-        → limited (then_with [] r) ≡ Ok found → AreOutputs bytes found
+    by_read : is_utf8 bytes ≡ true → (r : Reading) → pairs_of file (lines_of bytes) ≡ r
+        → limited file (then_with file [] r) ≡ Ok found → ArePairs file bytes found
     by_read text (Err fault) is k = cc
     by_read text (Ok items) is k =
-        let passed = limit_passed (with_pairs [] items) found k in
+        let passed = limit_passed file (with_pairs [] (kept file items)) found k in
         record {
           text = text;
           items = items;
-          given = read_given (lines_of bytes) items is;
-          ordered = subst (λ (m : List Pair). Ascends m) passed.0 (ordered items);
-          stand = subst (StandsOf items) passed.0 (stand items);
-          within = subst (λ (m : List Pair). are_within m ≡ true) passed.0 passed.1;
+          given = read_given file (lines_of bytes) items is;
+          ordered = subst (λ (m : List Pair). Ascends m) passed.0 (ordered (kept file items));
+          stand = subst (StandsOf (kept file items)) passed.0 (stand (kept file items));
+          within = subst (λ (m : List Pair). are_within file m ≡ true) passed.0 passed.1;
         }
 
-    by_test : (t : Bool) → is_utf8 bytes ≡ t → cond t (limited (then_with [] (pairs_of (lines_of bytes)))) (Err NotUtf8) ≡ Ok found → AreOutputs bytes found
-    by_test true is k = by_read is (pairs_of (lines_of bytes)) refl k
+    by_test : (t : Bool) → is_utf8 bytes ≡ t
+        → cond t (limited file (then_with file [] (pairs_of file (lines_of bytes)))) (Err NotUtf8) ≡ Ok found → ArePairs file bytes found
+    by_test true is k = by_read is (pairs_of file (lines_of bytes)) refl k
     by_test false is k = cc
 
-given : (bytes : List ℕ) (found : List Pair) → AreOutputs bytes found → outputs bytes ≡ Ok found
-given bytes found h =
-    let same : with_pairs [] h.items ≡ found =
-    same_pairs (with_pairs [] h.items) found (ordered h.items) h.ordered (agreed h.items (with_pairs [] h.items) found (stand h.items) h.stand) in
-    ap (λ (t : Bool). cond t (limited (then_with [] (pairs_of (lines_of bytes)))) (Err NotUtf8)) h.text
-    ∙ ap (λ (r : Result (List Pair) OutputFault). limited (then_with [] r)) (given_read (lines_of bytes) h.items h.given)
-    ∙ ap (λ (m : List Pair). limited (Ok m)) same
+given : (file : PairFile) (bytes : List ℕ) (found : List Pair) → ArePairs file bytes found → pairs_in file bytes ≡ Ok found
+given file bytes found h =
+    let items = kept file h.items in
+    let same : with_pairs [] items ≡ found =
+    same_pairs (with_pairs [] items) found (ordered items) h.ordered (agreed items (with_pairs [] items) found (stand items) h.stand) in
+    ap (λ (t : Bool). cond t (limited file (then_with file [] (pairs_of file (lines_of bytes)))) (Err NotUtf8)) h.text
+    ∙ ap (λ (r : Reading). limited file (then_with file [] r)) (given_read file (lines_of bytes) h.items h.given)
+    ∙ ap (λ (m : List Pair). limited file (Ok m)) same
     ∙ ap (λ (t : Bool). cond t (Ok found) (Err TooMany)) h.within
 
 pub one_giving : OneGiving
-one_giving bytes found = (gives bytes found, given bytes found)
+one_giving file bytes found = (gives file bytes found, given file bytes found)

@@ -1,11 +1,11 @@
--- The blocks of a file of outputs, and what is read of a line.
+-- The blocks of a file of pairs, and what is read of a line.
 use Rattle.std.specs.Prelude.{◌≡◌, ℕ, Bool, true, if◌then◌else◌, List, [], ◌∷◌, ◌++◌, Option, Some, None}
 use Rattle.std.specs.Str.{bytes_eq}
-use Rattle.program_texts.specs.Outputs.{Head, blank, pair, block, preceded, joined}
+use Rattle.program_texts.specs.PairFiles.{Head, blank, pair, block, preceded, joined}
 use Rattle.program_texts.specs.declared.output_fault.OutputFault.{OutputFault}
 use Rattle.program_texts.specs.declared.output_fault.OutputFault.TheVariants.{NotUtf8, NoName, OpenBlock, TooMany, Memory}
-use Rattle.program_texts.specs.declared.output_file.Head as head
-use Rattle.program_texts.specs.declared.output_file.Head.TheVariants as kind
+use Rattle.program_texts.specs.declared.pair_file.Head as head
+use Rattle.program_texts.specs.declared.pair_file.Head.TheVariants as kind
 
 -- what a line is
 abbrev pub head_seen : head.Head → Head

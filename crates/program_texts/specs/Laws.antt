@@ -1,5 +1,5 @@
 -- Laws of the texts of programs, each the contract of a function of the module `laws`.
-use Rattle.std.specs.Prelude.{◌≡◌, ◌≢◌, ◌<◌, ◌≤◌, ◌↔◌, ℕ, true, List, [], ◌∷◌, ◌++◌, length, map, codes, Some, Ok, Err}
+use Rattle.std.specs.Prelude.{◌≡◌, ◌≢◌, ◌<◌, ◌≤◌, ◌↔◌, ℕ, true, false, List, [], ◌∷◌, ◌++◌, length, map, codes, Some, Ok, Err}
 use Rattle.std.specs.List.{list_all, AllByRecursion, Contains}
 use Rattle.std.specs.Str.{is_utf8}
 use Rattle.expr_reader.specs.Fold.{fold}
@@ -7,12 +7,13 @@ use Rattle.flow_model.specs.Lines.{lines_of}
 use Rattle.flow_model.specs.Mapping.{value_at, Ascends}
 use Rattle.program_texts.specs.CommandTexts.{command_of, commands, decoded, is_command}
 use Rattle.program_texts.specs.Mask.{masked}
-use Rattle.program_texts.specs.Outputs.{Pair, is_name, joined, pairs_of, are_within, outputs}
+use Rattle.program_texts.specs.PairFiles.{Pair, is_name, is_value, joined, pairs_of, kept, are_within, pairs_in}
 use Rattle.program_texts.specs.Splits.{is_blank, split_first}
 use Rattle.program_texts.specs.declared.escapes.Escapes.TheVariants.{Message, Value}
 use Rattle.program_texts.specs.declared.line.Line.{Line}
 use Rattle.program_texts.specs.declared.line.Line.TheVariants.{Plain, Command, Resume}
 use Rattle.program_texts.specs.declared.output_fault.OutputFault.TheVariants.{NoName, OpenBlock}
+use Rattle.program_texts.specs.declared.pair_file.PairFile.{PairFile}
 
 -- ---- marks
 
@@ -58,67 +59,78 @@ pub data Covers (masks : List (List ℕ)) : List ℕ → List ℕ → Type 0 whe
 abbrev pub OneCovering : Type 0
 OneCovering = (masks : List (List ℕ)) (text shown : List ℕ) → Covers masks text shown ↔ (shown ≡ masked masks text)
 
--- ---- files of outputs
+-- ---- files of pairs
 
--- a line is a name, `=` and a value; no name has an `=` or a `<`, so the `=` is the first, with no `<<` before it
-pub record IsPairLine (line name value : List ℕ) : Type 0 where
-  pub named : is_name name ≡ true
+-- a line is a name, `=` and a value; no name has an `=`, so the `=` is the first, and no `<<` stands before it
+pub record IsPairLine (file : PairFile) (line name value : List ℕ) : Type 0 where
+  pub named : is_name file name ≡ true
   pub spelled : line ≡ name ++ (codes "=" ++ value)
+  pub free : Lacks (codes "<<") name
 
--- a line is a name, `<<` and a delimiter, which has a byte: a block begins there
-pub record IsBlockLine (line name delimiter : List ℕ) : Type 0 where
-  pub named : is_name name ≡ true
+-- a line is a name, `<<`, which is the first, and a delimiter, which has a byte: a block begins there
+pub record IsBlockLine (file : PairFile) (line name delimiter : List ℕ) : Type 0 where
+  pub named : is_name file name ≡ true
   pub some : 0 < length delimiter
-  pub spelled : line ≡ name ++ (codes "<<" ++ delimiter)
+  pub cut : IsCutFirst (codes "<<") line name delimiter
 
 -- a line is not empty, and neither of these
-pub record IsNoLine (line : List ℕ) : Type 0 where
+pub record IsNoLine (file : PairFile) (line : List ℕ) : Type 0 where
   pub some : 0 < length line
-  pub no_pair : (name value : List ℕ) → IsPairLine line name value → ⊥
-  pub no_block : (name delimiter : List ℕ) → IsBlockLine line name delimiter → ⊥
+  pub no_pair : (name value : List ℕ) → IsPairLine file line name value → ⊥
+  pub no_block : (name delimiter : List ℕ) → IsBlockLine file line name delimiter → ⊥
 
--- Lines, and the items that they give. A block ends at the first line that is its delimiter, and its value is the lines
--- before that one, joined by newlines.
-pub data Give : List (List ℕ) → List Pair → Type 0 where
-  nothing : Give [] []
-  empty_line : {lines : List (List ℕ)} {items : List Pair} → Give lines items → Give ([] ∷ lines) items
-  pair_line : {line name value : List ℕ} {lines : List (List ℕ)} {items : List Pair} → IsPairLine line name value
-      → Give lines items → Give (line ∷ lines) ((name, value) ∷ items)
-  whole_block : (inner : List (List ℕ)) {line name delimiter : List ℕ} {lines : List (List ℕ)} {items : List Pair}
-      → IsBlockLine line name delimiter → (Contains inner delimiter → ⊥) → Give lines items
-      → Give (line ∷ (inner ++ delimiter ∷ lines)) ((name, joined inner) ∷ items)
+-- The first of some lines spell a name and its value, and the others follow: one line does, or a block. That ends at the
+-- first line that is its delimiter, and its value is the lines before that one, joined by newlines.
+pub data Spells (file : PairFile) : List (List ℕ) → List ℕ → List ℕ → List (List ℕ) → Type 0 where
+  pair_line : {line name value : List ℕ} {lines : List (List ℕ)} → IsPairLine file line name value
+      → Spells file (line ∷ lines) name value lines
+  whole_block : (inner : List (List ℕ)) {line name delimiter : List ℕ} {lines : List (List ℕ)}
+      → IsBlockLine file line name delimiter → (Contains inner delimiter → ⊥)
+      → Spells file (line ∷ (inner ++ delimiter ∷ lines)) name (joined inner) lines
 
--- after lines that give items stands one that gives none
-pub record HasNoLine (lines : List (List ℕ)) : Type 0 where
+-- Lines, and the items that they give.
+pub data Give (file : PairFile) : List (List ℕ) → List Pair → Type 0 where
+  nothing : Give file [] []
+  empty_line : {lines : List (List ℕ)} {items : List Pair} → Give file lines items → Give file ([] ∷ lines) items
+  one_item : {all lines : List (List ℕ)} {name value : List ℕ} {items : List Pair} → Spells file all name value lines
+      → is_value file value ≡ true → Give file lines items → Give file all ((name, value) ∷ items)
+
+-- lines begin with one that is none, or with a name whose value may not stand
+pub data GiveNone (file : PairFile) : List (List ℕ) → Type 0 where
+  no_line : {line : List ℕ} {lines : List (List ℕ)} → IsNoLine file line → GiveNone file (line ∷ lines)
+  no_value : {all lines : List (List ℕ)} {name value : List ℕ} → Spells file all name value lines
+      → is_value file value ≡ false → GiveNone file all
+
+-- after lines that give items stand such
+pub record HasNoItem (file : PairFile) (lines : List (List ℕ)) : Type 0 where
   pub before : List (List ℕ)
   pub items : List Pair
-  pub line : List ℕ
   pub after : List (List ℕ)
-  pub given : Give before items
-  pub bad : IsNoLine line
-  pub whole : lines ≡ before ++ line ∷ after
+  pub given : Give file before items
+  pub bad : GiveNone file after
+  pub whole : lines ≡ before ++ after
 
 -- after lines that give items a block begins, and no later line is its delimiter
-pub record StaysOpen (lines : List (List ℕ)) : Type 0 where
+pub record StaysOpen (file : PairFile) (lines : List (List ℕ)) : Type 0 where
   pub before : List (List ℕ)
   pub items : List Pair
   pub line : List ℕ
   pub name : List ℕ
   pub delimiter : List ℕ
   pub after : List (List ℕ)
-  pub given : Give before items
-  pub begins : IsBlockLine line name delimiter
+  pub given : Give file before items
+  pub begins : IsBlockLine file line name delimiter
   pub lacks : Contains after delimiter → ⊥
   pub whole : lines ≡ before ++ line ∷ after
 
--- Lines are read as the items that they give, and refused where they give none: for the first line that is none, or for
--- the block that stays open.
+-- Lines are read as the items that they give, and refused where they give none: for the first line that is none or name
+-- whose value may not stand, or for the block that stays open.
 abbrev pub OneReading : Type 0
 OneReading =
-    (lines : List (List ℕ))
-    → ((items : List Pair) → (pairs_of lines ≡ Ok items) ↔ Give lines items)
-    × ((pairs_of lines ≡ Err NoName) ↔ HasNoLine lines)
-    × ((pairs_of lines ≡ Err OpenBlock) ↔ StaysOpen lines)
+    (file : PairFile) (lines : List (List ℕ))
+    → ((items : List Pair) → (pairs_of file lines ≡ Ok items) ↔ Give file lines items)
+    × ((pairs_of file lines ≡ Err NoName) ↔ HasNoItem file lines)
+    × ((pairs_of file lines ≡ Err OpenBlock) ↔ StaysOpen file lines)
 
 -- the last item of a name has this value
 pub record IsLast (items : List Pair) (name value : List ℕ) : Type 0 where
@@ -127,18 +139,19 @@ pub record IsLast (items : List Pair) (name value : List ℕ) : Type 0 where
   pub whole : items ≡ before ++ (name, value) ∷ after
   pub last : (other : List ℕ) → Contains after (name, other) → ⊥
 
--- What the bytes of a file give: in the order of their names, for each name that an item has, the value of its last item.
-pub record AreOutputs (bytes : List ℕ) (found : List Pair) : Type 0 where
+-- What the bytes of a file give: in the order of their names, for each name that an item has which is kept, the value of
+-- its last item.
+pub record ArePairs (file : PairFile) (bytes : List ℕ) (found : List Pair) : Type 0 where
   pub text : is_utf8 bytes ≡ true
   pub items : List Pair
-  pub given : Give (lines_of bytes) items
+  pub given : Give file (lines_of bytes) items
   pub ordered : Ascends found
-  pub stand : (name value : List ℕ) → (value_at name found ≡ Some value) ↔ IsLast items name value
-  pub within : are_within found ≡ true
+  pub stand : (name value : List ℕ) → (value_at name found ≡ Some value) ↔ IsLast (kept file items) name value
+  pub within : are_within file found ≡ true
 
--- The outputs of a file are those and no others.
+-- The pairs of a file are those and no others.
 abbrev pub OneGiving : Type 0
-OneGiving = (bytes : List ℕ) (found : List Pair) → (outputs bytes ≡ Ok found) ↔ AreOutputs bytes found
+OneGiving = (file : PairFile) (bytes : List ℕ) (found : List Pair) → (pairs_in file bytes ≡ Ok found) ↔ ArePairs file bytes found
 
 -- ---- commands
 

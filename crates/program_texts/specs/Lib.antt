@@ -4,7 +4,7 @@ pub mod Laws
 pub mod Logs
 pub mod Mask
 pub mod OutputFaults
-pub mod Outputs
+pub mod PairFiles
 pub mod Replace
 pub mod Shell
 pub mod Shown

@@ -13,13 +13,14 @@ pub fn one_covering()
     ensures { OneCovering }
 {}
 
-/// The lines of a file of outputs are read as the items that they give, and refused where they give none: for a line that
-/// is neither a pair nor the first of a block, or for a block that stays open.
+/// The lines of a file of outputs or of variables are read as the items that they give, and refused where they give none:
+/// for a line that is neither a pair nor the first of a block, for a name whose value may not stand, or for a block that stays
+/// open.
 pub fn one_reading()
     ensures { OneReading }
 {}
 
-/// The outputs of a file are those of its items, of each name the last one's, and no others.
+/// The pairs of a file are those of its items that are kept, of each name the last one's, and no others.
 pub fn one_giving()
     ensures { OneGiving }
 {}

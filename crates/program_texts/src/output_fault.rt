@@ -1,4 +1,4 @@
-//! Why a file of outputs is refused.
+//! Why a file of outputs or of variables is refused.
 
 ghost use Rattle.std.specs.Prelude.{◌≡◌};
 ghost use Rattle.program_texts.specs.OutputFaults.{output_fault_name};
@@ -6,20 +6,20 @@ ghost use Rattle.program_texts.specs.OutputFaults.{output_fault_name};
 use std::alloc::AllocError;
 use thiserror::Error;
 
-/// Why a file of outputs is refused. Where several apply, the first of this list does.
+/// Why a file of outputs or of variables is refused. Where several apply, the first of this list does.
 #[derive(Clone, Copy, Debug, PartialEq, Eq, Error)]
 pub enum OutputFault {
     /// It is not UTF-8.
     #[error("NotUtf8")]
     NotUtf8,
-    /// A line is neither `name=value` nor `name<<delimiter`, its name is empty or has anything but letters, digits, `_`
-    /// and `-`, or its delimiter is empty.
+    /// A line is neither `name=value` nor `name<<delimiter`, its name is empty, or its delimiter is; or an output's name
+    /// has anything but letters, digits, `_` and `-`, or a variable's name or value has a zero byte.
     #[error("NoName")]
     NoName,
     /// A block is not ended by its delimiter.
     #[error("OpenBlock")]
     OpenBlock,
-    /// There are more outputs than 256, or a name or a value is longer than an answer's may be.
+    /// There are more pairs than 256, or a name or a value is longer than an answer's may be.
     #[error("TooMany")]
     TooMany,
     /// There is no memory.

@@ -3,7 +3,7 @@ use Rattle.std.specs.Prelude.{ℕ, Bool, ◌==◌, nat_lt, if◌then◌else◌, 
 use Rattle.std.specs.List.{after_first, before_first, position_or_len}
 use Rattle.std.specs.Str.{is_utf8}
 use Rattle.flow_model.specs.Mapping.{with_pair}
-use Rattle.program_texts.specs.Outputs.{Pair}
+use Rattle.program_texts.specs.PairFiles.{Pair}
 
 -- the sign `=`
 abbrev pub is_equals : ℕ → Bool

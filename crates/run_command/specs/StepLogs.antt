@@ -13,7 +13,7 @@ use Rattle.step_host.specs.Script.{Line}
 
 -- a program was started
 abbrev pub was_started : Answer → Bool
-was_started (Exit code outputs) = true
+was_started (Exit code outputs env) = true
 was_started NotStarted = false
 was_started BadOutput = true
 

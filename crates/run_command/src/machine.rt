@@ -38,7 +38,8 @@ pub trait Machine: Files {
         ensures { IfErr result IsOfMachine };
 
     /// The host that starts programs in a folder, with these stubs and those variables of this program that are texts, and
-    /// masks the outputs. Where the steps have names it tells on standard error of each, when it starts and when it ends.
+    /// masks the values of outputs and of variables that steps set. Where the steps have names it tells on standard error of
+    /// each, when it starts and when it ends.
     ///
     /// # Errors
     ///

@@ -21,7 +21,7 @@ use Rattle.settled_boards.specs.Alone.{leg_on, planned, IsAlone, IsIdle, EndsAs,
 use Rattle.settled_plans.specs.Agrees.{LegIsSettled}
 use Rattle.settled_plans.specs.Sees.{Spot}
 use Rattle.settled_plans.specs.Settled.{Answers, Finish, SettledLeg, counts, concludes, answered, ends_so, step_by, next_call, next_done, steps_then, steps_from, finish_of, leg_after, leg_settled}
-use Rattle.status_table.specs.Row.{next_step, failure_of, conclusion_of, failed_step, answered_step, outcome_of, outputs_of}
+use Rattle.status_table.specs.Row.{next_step, failure_of, conclusion_of, failed_step, answered_step, outcome_of, outputs_of, set_by}
 use Rattle.text_values.specs.Values.{Env}
 use Rattle.settled_plans.proofs.Seen.{spot_of, call_is, failure_is, tolerated_is, outputs_are}
 use Rattle.status_table.proofs.Lists.{same_some, no_some}
@@ -59,17 +59,17 @@ module _ (answers : Answers) (l : ℕ) (at : LegAt) (quiet : leg_result at ≡ c
   concluded outcome.Cancelled = refl
   concluded outcome.Skipped = refl
 
-  ended : (result : Outcome) (outputs : Env) → record { outcome = result; conclusion = conclusion_of at result; outputs = outputs } ≡ ends_so spot at.leg.steps step result outputs
-  ended result outputs = ap (λ (c : Outcome). (let x : DoneStep = record { outcome = result; conclusion = c; outputs = outputs } in x)) (concluded result)
+  ended : (result : Outcome) (outputs env : Env) → record { outcome = result; conclusion = conclusion_of at result; outputs = outputs; env = env } ≡ ends_so spot at.leg.steps step result outputs env
+  ended result outputs env = ap (λ (c : Outcome). (let x : DoneStep = record { outcome = result; conclusion = c; outputs = outputs; env = env } in x)) (concluded result)
 
   by_answer : (o : Option Answer) → option_map (answered_step at) o ≡ option_map (answered spot at.leg.steps step) o
   by_answer None = refl
-  by_answer (Some a) = ap (λ (d : DoneStep). Some d) (ended (outcome_of a) (outputs_of a))
+  by_answer (Some a) = ap (λ (d : DoneStep). Some d) (ended (outcome_of a) (outputs_of a) (set_by a))
 
   by_call : (x : Result (Option StepCall) ValueFault) → step_comes answers at x ≡ step_by answers spot at.leg.steps step x
   by_call (Ok None) = refl
   by_call (Ok (Some call)) = by_answer (answers call)
-  by_call (Err fault) = ap (λ (d : DoneStep). Some d) (ended outcome.Failure [])
+  by_call (Err fault) = ap (λ (d : DoneStep). Some d) (ended outcome.Failure [] [])
 
   pub comes_next : next_comes answers l at step ≡ next_done answers spot at.leg.steps step
   unfolding next_done

@@ -15,7 +15,7 @@ use board_decisions::derived::is_failure;
 use board_decisions::place::{LegPlace, SeenJob, SeenLeg};
 use flow_model::{Answer, DoneStep, Leg, LegState, Mapping, Outcome, Sequence, StepCall};
 use locked_board::same::is_same_mapping;
-use status_table::events::{Begun, beginning, failed_step, outputs_of, skipped_step};
+use status_table::events::{Begun, beginning, ended_step, failed_step, skipped_step};
 use std::alloc::{AllocError, Global};
 use step_host::{HostFault, StepHost};
 
@@ -24,7 +24,11 @@ fn succeeds(answer: &Answer) -> bool
     ensures { outcome_of answer.now ≡ spec.success_if result }
 {
     match answer {
-        Answer::Exit { code, outputs: _ } => *code == 0,
+        Answer::Exit {
+            code,
+            outputs: _,
+            env: _,
+        } => *code == 0,
         Answer::NotStarted => false,
         Answer::BadOutput => false,
     }
@@ -35,16 +39,10 @@ fn answered(alloc: Global, at: &SeenLeg, answer: Answer) -> Result<DoneStep, All
     ensures { IfOk result (λ done. done ≡ answered_step (leg_seen at.now) answer) }
 {
     if succeeds(&answer) {
-        let outputs = outputs_of(alloc, answer);
-        return Ok(DoneStep {
-            outcome: Outcome::Success,
-            conclusion: Outcome::Success,
-            outputs,
-        });
+        return Ok(ended_step(alloc, Outcome::Success, Outcome::Success, answer));
     }
-    let mut done = failed_step(alloc, at)?;
-    done.outputs = outputs_of(alloc, answer);
-    Ok(done)
+    let failed = failed_step(alloc, at)?;
+    Ok(ended_step(alloc, Outcome::Failure, failed.conclusion, answer))
 }
 
 /// The next step of a leg by its call, or none where there is no answer to it.

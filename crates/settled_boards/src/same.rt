@@ -25,6 +25,7 @@ fn is_same_step(one: &DoneStep, other: &DoneStep) -> bool
     is_same_outcome(one.outcome, other.outcome)
         && is_same_outcome(one.conclusion, other.conclusion)
         && is_same_mapping(&one.outputs, &other.outputs)
+        && is_same_mapping(&one.env, &other.env)
 }
 
 /// Whether two lists of steps that are done are the same.

@@ -8,6 +8,7 @@ use Rattle.board_decisions.specs.Derived.{is_failure, is_cancelled, is_closed, i
 use Rattle.board_decisions.specs.declared.place.JobPlace.{JobPlace}
 use Rattle.flow_model.specs.Plain.{Plain}
 use Rattle.flow_model.specs.declared.board.Board.{Board}
+use Rattle.flow_model.specs.declared.board.DoneStep.{DoneStep}
 use Rattle.flow_model.specs.declared.board.Job.{Job}
 use Rattle.flow_model.specs.declared.board.JobState.{JobState}
 use Rattle.flow_model.specs.declared.board.JobState.TheVariants as job_state
@@ -22,7 +23,7 @@ use Rattle.flow_model.specs.declared.plan.RunPlan.{RunPlan}
 use Rattle.flow_model.specs.declared.plan.StepPlan.{StepPlan}
 use Rattle.flow_model.specs.declared.reply.StepCall.{StepCall}
 use Rattle.board_decisions.specs.Decisions.{or_none}
-use Rattle.settled_plans.specs.Decided.{job_variables, outputs_of_leg}
+use Rattle.settled_plans.specs.Decided.{leg_variables, outputs_of_leg}
 use Rattle.settled_plans.specs.Free.{JobIsFree}
 use Rattle.settled_plans.specs.Sees.{Spot, Sight}
 use Rattle.settled_plans.specs.Settled.{Answers, Finish, SettledLeg, SettledJob, shut, opened, all_given, fails, worst, legs_come_to, seen_after, result_of, given_by, outputs_of_job, steps_from, finish_of, leg_after, leg_settled, spot_at, legs_from, legs_settled, needs_of, job_settled}
@@ -58,9 +59,9 @@ leg_is answers spot call leg result tolerated played is =
     ∙ ap (λ c. (let x : SettledLeg = record { steps = leg.steps; finish = if c then Some (finish_of spot leg.steps) else None } in x)) full
     ∙ ap (λ (f : Finish). (let x : SettledLeg = record { steps = leg.steps; finish = Some f } in x)) rightly.finish
 
-empty_outputs : (sees : Sight) (run : RunPlan) (job : JobPlan) → job.outputs ≡ [] → outputs_of_leg sees run job ≡ []
+empty_outputs : (sees : Sight) (run : RunPlan) (job : JobPlan) (done : List DoneStep) → job.outputs ≡ [] → outputs_of_leg sees run job done ≡ []
 unfolding outputs_of_leg outputs_value
-empty_outputs sees run job none = ap (outputs_value (sees place_name.StepEnv (or_none (job_variables sees run job)))) none
+empty_outputs sees run job done none = ap (outputs_value (sees place_name.StepEnv (or_none (leg_variables sees run job done)))) none
 
 -- a leg that is Ended, and what is settled of it
 pub record EndedAs (answers : Answers) (spot : Spot) (leg : Leg) : Type 0 where
@@ -75,7 +76,7 @@ unfolding finish_of
 ended_as answers spot call leg played ended = by leg.state refl ended
   where
     outputs : (result : Outcome) (tolerated : Bool) → finish_of spot leg.steps ≡ record { result = result; tolerated = tolerated; outputs = leg.outputs } → spot.job.outputs ≡ [] → leg.outputs ≡ []
-    outputs result tolerated is none = ap (λ (x : Finish). x.outputs) (sym is) ∙ empty_outputs (seen_after spot leg.steps) spot.run spot.job none
+    outputs result tolerated is none = ap (λ (x : Finish). x.outputs) (sym is) ∙ empty_outputs (seen_after spot leg.steps) spot.run spot.job leg.steps none
 
     by : (s : LegState) → leg.state ≡ s → is_ended s ≡ true → EndedAs answers spot leg
     by leg_state.Fresh is h = absurd (true≢false (sym h))

@@ -227,11 +227,11 @@ module _ (p : Plan) (fit : IsFit p) (answers : Answers) (open_calls' : ℕ → O
     decision : step_decision l at step ≡ next_call mine at.leg.steps step
     decision = call_is l at (calm under) step ∙ ap (λ (x : Spot). next_call x at.leg.steps step) (seen_so under)
 
-    failure : rows.failure_of at (rows.next_step at) ≡ failure_counts (seen_after mine at.leg.steps) at.run_plan at.job_plan step
-    failure = ap (rows.failure_of at) planned ∙ failure_is l at (calm under) step ∙ ap (λ (x : Spot). failure_counts (seen_after x at.leg.steps) at.run_plan at.job_plan step) (seen_so under)
+    failure : rows.failure_of at (rows.next_step at) ≡ failure_counts (seen_after mine at.leg.steps) at.run_plan at.job_plan at.leg.steps step
+    failure = ap (rows.failure_of at) planned ∙ failure_is l at (calm under) step ∙ ap (λ (x : Spot). failure_counts (seen_after x at.leg.steps) at.run_plan at.job_plan at.leg.steps step) (seen_so under)
 
-    failed : rows.failed_step at ≡ ends_so mine at.leg.steps step outcome.Failure []
-    failed = ap (λ c. (let x : DoneStep = record { outcome = outcome.Failure; conclusion = c; outputs = [] } in x)) failure
+    failed : rows.failed_step at ≡ ends_so mine at.leg.steps step outcome.Failure [] []
+    failed = ap (λ c. (let x : DoneStep = record { outcome = outcome.Failure; conclusion = c; outputs = []; env = [] } in x)) failure
 
     concluded : (result : Outcome) → rows.conclusion_of at result ≡ concludes mine at.leg.steps step result
     concluded outcome.Success = refl
@@ -240,7 +240,7 @@ module _ (p : Plan) (fit : IsFit p) (answers : Answers) (open_calls' : ℕ → O
     concluded outcome.Skipped = refl
 
     ended_so : (a : Answer) → rows.answered_step at a ≡ answered mine at.leg.steps step a
-    ended_so a = ap (λ c. (let x : DoneStep = record { outcome = rows.outcome_of a; conclusion = c; outputs = rows.outputs_of a } in x)) (concluded (rows.outcome_of a))
+    ended_so a = ap (λ c. (let x : DoneStep = record { outcome = rows.outcome_of a; conclusion = c; outputs = rows.outputs_of a; env = rows.set_by a } in x)) (concluded (rows.outcome_of a))
 
     -- what a step comes to by its call
     by_call : (d : Result (Option StepCall) ValueFault) (next : DoneStep) → step_decision l at step ≡ d → step_by answers mine at.leg.steps step d ≡ Some next → next_done answers mine at.leg.steps step ≡ Some next

@@ -1,7 +1,7 @@
 -- What a board shows of a place is what is seen by the plan, the needs and the steps that are done.
 use Rattle.std.proofs.Common.{◌≡◌, ℕ, ◌&&◌, Some, [], length, ap, refl, ◌∙◌}
 use Rattle.board_decisions.specs.Contexts.{run_values, job_values, needs_value, job_of, strategy_value, matrix_value, steps_value, leg_values_by}
-use Rattle.board_decisions.specs.Decisions.{job_condition, leg_result, leg_status, leg_values, seen_from, flow_env, job_env, step_env, step_decision, step_tolerates, job_tolerates, leg_outputs, status_of}
+use Rattle.board_decisions.specs.Decisions.{job_condition, leg_result, leg_status, leg_values, seen_from, flow_env, job_env, leg_env, step_env, step_decision, step_tolerates, job_tolerates, leg_outputs, status_of}
 use Rattle.board_decisions.specs.Derived.{is_failure}
 use Rattle.board_decisions.specs.Place.{JobAt, LegAt}
 use Rattle.expr_reader.specs.declared.tree.Context.{Context}
@@ -81,15 +81,15 @@ module _ (l : ℕ) (at : LegAt) (quiet : leg_result at ≡ counts at.leg.steps) 
 
   -- what beginning the next step comes to
   pub call_is : (step : StepPlan) → step_decision l at step ≡ next_call (spot_of l at) at.leg.steps step
-  unfolding next_call step_call step_decision step_env job_env flow_env
+  unfolding next_call step_call step_decision step_env leg_env job_env flow_env
   call_is step =
-      ap (λ (sees : Sight). step_call sees (leg_status at) at.run_plan at.job_plan l (length at.leg.steps) step) sight_is
-      ∙ ap (λ (r : Outcome). step_call (seen_after (spot_of l at) at.leg.steps) (status_of r) at.run_plan at.job_plan l (length at.leg.steps) step) quiet
+      ap (λ (sees : Sight). step_call sees (leg_status at) at.run_plan at.job_plan l at.leg.steps step) sight_is
+      ∙ ap (λ (r : Outcome). step_call (seen_after (spot_of l at) at.leg.steps) (status_of r) at.run_plan at.job_plan l at.leg.steps step) quiet
 
   -- how a failure of the next step counts
-  pub failure_is : (step : StepPlan) → failure_of at (Some step) ≡ failure_counts (seen_after (spot_of l at) at.leg.steps) at.run_plan at.job_plan step
-  unfolding step_passes step_tolerates step_env job_env flow_env
-  failure_is step = ap (λ (sees : Sight). failure_counts sees at.run_plan at.job_plan step) sight_is
+  pub failure_is : (step : StepPlan) → failure_of at (Some step) ≡ failure_counts (seen_after (spot_of l at) at.leg.steps) at.run_plan at.job_plan at.leg.steps step
+  unfolding step_passes step_tolerates step_env leg_env job_env flow_env
+  failure_is step = ap (λ (sees : Sight). failure_counts sees at.run_plan at.job_plan at.leg.steps step) sight_is
 
   -- whether the leg may fail
   pub tolerated_is : (result : Outcome) → is_failure result && job_tolerates at ≡ leg_passes (seen_after (spot_of l at) at.leg.steps) at.job_plan result
@@ -97,6 +97,6 @@ module _ (l : ℕ) (at : LegAt) (quiet : leg_result at ≡ counts at.leg.steps) 
   tolerated_is result = ap (λ (sees : Sight). leg_passes sees at.job_plan result) sight_is
 
   -- what the leg gives its job
-  pub outputs_are : leg_outputs at ≡ outputs_of_leg (seen_after (spot_of l at) at.leg.steps) at.run_plan at.job_plan
-  unfolding outputs_of_leg leg_outputs job_env flow_env
-  outputs_are = ap (λ (sees : Sight). outputs_of_leg sees at.run_plan at.job_plan) sight_is
+  pub outputs_are : leg_outputs at ≡ outputs_of_leg (seen_after (spot_of l at) at.leg.steps) at.run_plan at.job_plan at.leg.steps
+  unfolding outputs_of_leg leg_outputs leg_env job_env flow_env
+  outputs_are = ap (λ (sees : Sight). outputs_of_leg sees at.run_plan at.job_plan at.leg.steps) sight_is

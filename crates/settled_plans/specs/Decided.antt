@@ -1,8 +1,10 @@
 -- What is decided by the texts of a job and its steps, by what each place sees.
-use Rattle.std.specs.Prelude.{ℕ, ◌&&◌, Bool, true, false, [], Option, Some, None, Result, Ok, if◌then◌else◌}
+use Rattle.std.specs.Prelude.{ℕ, ◌&&◌, Bool, true, false, List, [], map, length, Option, Some, None, Result, Ok, if◌then◌else◌}
+use Rattle.board_decisions.specs.Contexts.{overlaid}
 use Rattle.board_decisions.specs.Decisions.{then_value, or_none, work_value}
 use Rattle.board_decisions.specs.Derived.{is_failure}
 use Rattle.expr_value.specs.declared.status.Status.{Status}
+use Rattle.flow_model.specs.declared.board.DoneStep.{DoneStep}
 use Rattle.flow_model.specs.declared.event.Outcome.{Outcome}
 use Rattle.flow_model.specs.declared.event.Outcome.TheVariants as outcome
 use Rattle.flow_model.specs.declared.plan.JobPlan.{JobPlan}
@@ -29,10 +31,18 @@ job_variables sees run job =
     then_value (flow_variables sees run) (λ below.
     then_value (env_value (sees place.JobEnv []) job.env) (λ above. Ok (laid_over above below)))
 
+-- What done steps set over others, each over those before it.
+abbrev pub set_over_by : List DoneStep → Env → Env
+set_over_by done below = overlaid (map (λ step. step.env) done) below
+
+-- The variables of a job, and over them what the done steps of a leg set.
+abbrev pub leg_variables : Sight → RunPlan → JobPlan → List DoneStep → Result Env ValueFault
+leg_variables sees run job done = then_value (job_variables sees run job) (λ below. Ok (set_over_by done below))
+
 -- The same, and those of a step over them.
-abbrev pub step_variables : Sight → RunPlan → JobPlan → StepPlan → Result Env ValueFault
-step_variables sees run job step =
-    then_value (job_variables sees run job) (λ below.
+abbrev pub step_variables : Sight → RunPlan → JobPlan → List DoneStep → StepPlan → Result Env ValueFault
+step_variables sees run job done step =
+    then_value (leg_variables sees run job done) (λ below.
     then_value (env_value (sees place.StepEnv below) step.env) (λ above. Ok (laid_over above below)))
 
 -- ---- what a step comes to
@@ -50,27 +60,30 @@ call_if sees l s step env false = Ok None
 
 -- The call of a step, or none where it is skipped: the variables first, then its condition with the status of
 -- the leg, and then the texts of the call. The first fault is the answer.
-unfoldable pub step_call : Sight → Status → RunPlan → JobPlan → ℕ → ℕ → StepPlan → Result (Option StepCall) ValueFault
-step_call sees status run job l s step =
-    then_value (step_variables sees run job step) (λ env.
-    then_value (condition_value (sees place.StepCondition env) status step.condition) (call_if sees l s step env))
+unfoldable pub step_call :
+    Sight → Status → RunPlan → JobPlan → ℕ → List DoneStep → StepPlan → Result (Option StepCall) ValueFault
+step_call sees status run job l done step =
+    then_value (step_variables sees run job done step) (λ env.
+    then_value (condition_value (sees place.StepCondition env) status step.condition)
+    (call_if sees l (length done) step env))
 
 -- ---- continue-on-error, and the outputs of a leg
 
 -- A failure of a step may be passed over. Where its variables have a fault, it sees none.
-unfoldable pub step_passes : Sight → RunPlan → JobPlan → StepPlan → Bool
-step_passes sees run job step =
-    flag_value (sees place.StepText (or_none (step_variables sees run job step))) step.tolerate
+unfoldable pub step_passes : Sight → RunPlan → JobPlan → List DoneStep → StepPlan → Bool
+step_passes sees run job done step =
+    flag_value (sees place.StepText (or_none (step_variables sees run job done step))) step.tolerate
 
 -- How a failure of a step counts: one that may be passed over counts as a success.
-abbrev pub failure_counts : Sight → RunPlan → JobPlan → StepPlan → Outcome
-failure_counts sees run job step = if step_passes sees run job step then outcome.Success else outcome.Failure
+abbrev pub failure_counts : Sight → RunPlan → JobPlan → List DoneStep → StepPlan → Outcome
+failure_counts sees run job done step =
+    if step_passes sees run job done step then outcome.Success else outcome.Failure
 
 -- A leg with a result may be passed over.
 unfoldable pub leg_passes : Sight → JobPlan → Outcome → Bool
 leg_passes sees job result = is_failure result && flag_value (sees place.JobGroup []) job.tolerate
 
 -- The outputs that a leg gives its job. Where its variables have a fault, they see none.
-unfoldable pub outputs_of_leg : Sight → RunPlan → JobPlan → Env
-outputs_of_leg sees run job =
-    outputs_value (sees place.StepEnv (or_none (job_variables sees run job))) job.outputs
+unfoldable pub outputs_of_leg : Sight → RunPlan → JobPlan → List DoneStep → Env
+outputs_of_leg sees run job done =
+    outputs_value (sees place.StepEnv (or_none (leg_variables sees run job done))) job.outputs

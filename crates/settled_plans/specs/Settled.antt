@@ -22,7 +22,7 @@ use Rattle.flow_model.specs.declared.reply.StepCall.{StepCall}
 use Rattle.flow_model.specs.declared.reply.ValueFault.{ValueFault}
 use Rattle.settled_plans.specs.Decided.{step_call, failure_counts, leg_passes, outputs_of_leg}
 use Rattle.settled_plans.specs.Sees.{Spot, Sight, sight, job_sees, leg_sees, need_shown}
-use Rattle.status_table.specs.Row.{skipped_step, outcome_of, outputs_of}
+use Rattle.status_table.specs.Row.{skipped_step, outcome_of, outputs_of, set_by}
 use Rattle.text_values.specs.Env.{laid_over}
 use Rattle.text_values.specs.Texts.{condition_value}
 use Rattle.text_values.specs.Values.{Env, contexts_at, with_env}
@@ -111,29 +111,29 @@ seen_after spot done = sight (leg_sees spot (counts done) done)
 -- The call of the next step, or none where it is skipped, or a fault of a text.
 unfoldable pub next_call : Spot → List DoneStep → StepPlan → Result (Option StepCall) ValueFault
 next_call spot done step =
-    step_call (seen_after spot done) (status_of (counts done)) spot.run spot.job spot.number (length done) step
+    step_call (seen_after spot done) (status_of (counts done)) spot.run spot.job spot.number done step
 
 -- How an outcome counts for the next step.
 abbrev pub concludes : Spot → List DoneStep → StepPlan → Outcome → Outcome
 concludes spot done step outcome.Success = outcome.Success
-concludes spot done step outcome.Failure = failure_counts (seen_after spot done) spot.run spot.job step
+concludes spot done step outcome.Failure = failure_counts (seen_after spot done) spot.run spot.job done step
 concludes spot done step outcome.Cancelled = outcome.Cancelled
 concludes spot done step outcome.Skipped = outcome.Skipped
 
--- The next step that ends so, with these outputs.
-abbrev pub ends_so : Spot → List DoneStep → StepPlan → Outcome → Env → DoneStep
-ends_so spot done step result outputs =
-    record { outcome = result; conclusion = concludes spot done step result; outputs = outputs }
+-- The next step that ends so, with these outputs and these variables that it set.
+abbrev pub ends_so : Spot → List DoneStep → StepPlan → Outcome → Env → Env → DoneStep
+ends_so spot done step result outputs env =
+    record { outcome = result; conclusion = concludes spot done step result; outputs = outputs; env = env }
 
 -- The next step that an answer ends.
 abbrev pub answered : Spot → List DoneStep → StepPlan → Answer → DoneStep
-answered spot done step answer = ends_so spot done step (outcome_of answer) (outputs_of answer)
+answered spot done step answer = ends_so spot done step (outcome_of answer) (outputs_of answer) (set_by answer)
 
--- What the next step comes to by its call: a fault of a text is a failure without outputs.
+-- What the next step comes to by its call: a fault of a text is a failure without outputs that sets nothing.
 abbrev pub step_by : Answers → Spot → List DoneStep → StepPlan → Result (Option StepCall) ValueFault → Option DoneStep
 step_by answers spot done step (Ok None) = Some skipped_step
 step_by answers spot done step (Ok (Some call)) = option_map (answered spot done step) (answers call)
-step_by answers spot done step (Err fault) = Some (ends_so spot done step outcome.Failure [])
+step_by answers spot done step (Err fault) = Some (ends_so spot done step outcome.Failure [] [])
 
 -- The next step, where it is given.
 unfoldable pub next_done : Answers → Spot → List DoneStep → StepPlan → Option DoneStep
@@ -159,7 +159,7 @@ finish_of spot done =
     record {
       result = counts done;
       tolerated = leg_passes (seen_after spot done) spot.job (counts done);
-      outputs = outputs_of_leg (seen_after spot done) spot.run spot.job;
+      outputs = outputs_of_leg (seen_after spot done) spot.run spot.job done;
     }
 
 -- A leg, by its steps: its end is given where all of them are.

@@ -1,10 +1,13 @@
 -- What the call of a step is made of.
-use Rattle.std.proofs.Common.{◌≡◌, ℕ, ◌==◌, Bool, true, false, [], Option, Some, None, Result, Ok, Err, length, nat_le, if◌then◌else◌, refl, sym, ap, subst, ◌∙◌}
-use Rattle.board_decisions.specs.Decisions.{then_value, seen_from, flow_env, job_env, step_env, directory_value, work_value, called_if, leg_status, step_decision}
+use Rattle.std.proofs.Common.{◌≡◌, ℕ, suc, ◌==◌, Bool, true, false, List, [], ◌∷◌, map, Option, Some, None, Result, Ok, Err, length, nat_le, if◌then◌else◌, refl, sym, ap, subst, ◌∙◌}
+use Rattle.std.specs.List.Sorted.{IsStrictlySortedBy}
+use Rattle.board_decisions.specs.Decisions.{then_value, seen_from, flow_env, job_env, set_over, leg_env, step_env, directory_value, work_value, called_if, leg_status, step_decision}
+use Rattle.board_decisions.specs.Contexts.{overlaid}
 use Rattle.board_decisions.specs.Place.{LegAt, leg_at}
 use Rattle.expr_value.specs.Context.{Contexts}
 use Rattle.flow_model.specs.Mapping.{value_at, Ascends}
 use Rattle.flow_model.specs.declared.board.Board.{Board}
+use Rattle.flow_model.specs.declared.board.DoneStep.{DoneStep}
 use Rattle.flow_model.specs.declared.plan.Plan.{Plan}
 use Rattle.flow_model.specs.declared.plan.StepPlan.{StepPlan}
 use Rattle.flow_model.specs.declared.plan.Work.{Work}
@@ -14,9 +17,9 @@ use Rattle.flow_model.specs.declared.reply.CallWork.TheVariants as call_work
 use Rattle.flow_model.specs.declared.reply.StepCall.{StepCall}
 use Rattle.flow_model.specs.declared.reply.ValueFault.{ValueFault}
 use Rattle.status_table.specs.declared.fault.EventFault.TheVariants as fault
-use Rattle.status_table.specs.CallLaws.{StepInOrder, WorkInOrder, PlanInOrder, IfCalled, AskedInOrder, CallInOrder, CallsAreInOrder, MostSpecificIsGiven, CallsAreMostSpecific}
+use Rattle.status_table.specs.CallLaws.{last_set, SetInOrder, StepInOrder, WorkInOrder, PlanInOrder, IfCalled, AskedInOrder, CallInOrder, CallsAreInOrder, MostSpecificIsGiven, CallsAreMostSpecific}
 use Rattle.status_table.specs.Row.{decided, next_step, idle_owner, beginning_by, begin_leg, begin_found}
-use Rattle.text_values.specs.Env.{env_value, laid_over}
+use Rattle.text_values.specs.Env.{env_value, laid_over, or_below}
 use Rattle.text_values.specs.Laws.{EnvHasItsNames, LevelsStayInOrder, MostSpecificWins}
 use Rattle.text_values.specs.Texts.{text_text, condition_value}
 use Rattle.text_values.specs.Values.{Env}
@@ -45,17 +48,19 @@ record Levels (at : LegAt) (step : StepPlan) (env : Env) : Type 0 where
   own : Env
   workflow_is : env_value (seen_from at place.WorkflowEnv []) at.run_plan.env ≡ Ok workflow
   job_is : env_value (seen_from at place.JobEnv []) at.job_plan.env ≡ Ok job
-  own_is : env_value (seen_from at place.StepEnv (laid_over job workflow)) step.env ≡ Ok own
-  laid : laid_over own (laid_over job workflow) ≡ env
+  own_is : env_value (seen_from at place.StepEnv (set_over at (laid_over job workflow))) step.env ≡ Ok own
+  laid : laid_over own (set_over at (laid_over job workflow)) ≡ env
 
 levels : (at : LegAt) (step : StepPlan) (env : Env) → step_env at step ≡ Ok env → Levels at step env
-unfolding step_env job_env flow_env
+unfolding step_env leg_env job_env flow_env
 levels at step env h =
-    let below = then-ok (job_env at) (λ below. then_value (env_value (seen_from at place.StepEnv below) step.env) (λ above. Ok (laid_over above below))) env h in
+    let below = then-ok (leg_env at) (λ below. then_value (env_value (seen_from at place.StepEnv below) step.env) (λ above. Ok (laid_over above below))) env h in
     let own = then-ok (env_value (seen_from at place.StepEnv below.0) step.env) (λ above. Ok (laid_over above below.0)) env below.2 in
-    let flow = then-ok (flow_env at) (λ under. then_value (env_value (seen_from at place.JobEnv []) at.job_plan.env) (λ above. Ok (laid_over above under))) below.0 below.1 in
-    let job = then-ok (env_value (seen_from at place.JobEnv []) at.job_plan.env) (λ above. Ok (laid_over above flow.0)) below.0 flow.2 in
-    let two : laid_over job.0 flow.0 ≡ below.0 = same-ok (laid_over job.0 flow.0) below.0 (Ok (laid_over job.0 flow.0)) refl job.2 in
+    let of_job = then-ok (job_env at) (λ under. Ok (set_over at under)) below.0 below.1 in
+    let flow = then-ok (flow_env at) (λ under. then_value (env_value (seen_from at place.JobEnv []) at.job_plan.env) (λ above. Ok (laid_over above under))) of_job.0 of_job.1 in
+    let job = then-ok (env_value (seen_from at place.JobEnv []) at.job_plan.env) (λ above. Ok (laid_over above flow.0)) of_job.0 flow.2 in
+    let under : laid_over job.0 flow.0 ≡ of_job.0 = same-ok (laid_over job.0 flow.0) of_job.0 (Ok (laid_over job.0 flow.0)) refl job.2 in
+    let two : set_over at (laid_over job.0 flow.0) ≡ below.0 = ap (set_over at) under ∙ same-ok (set_over at of_job.0) below.0 (Ok (set_over at of_job.0)) refl of_job.2 in
     let all : laid_over own.0 below.0 ≡ env = same-ok (laid_over own.0 below.0) env (Ok (laid_over own.0 below.0)) refl own.2 in
     record {
       workflow = flow.0;
@@ -123,20 +128,47 @@ ordered_here p b l at step ordered is next =
     let job = run.jobs at.place.job at.job_plan there.job_plan in
     record { workflow = run.env; job = job.env; own = job.steps (length at.leg.steps) step next }
 
+-- ---- what done steps set
+
+set_in_order : LevelsStayInOrder → (levels : List Env) (below : Env) → Ascends below → Ascends (overlaid levels below)
+set_in_order stay [] below h = h
+set_in_order stay (level ∷ levels) below h = set_in_order stay levels (laid_over level below) (stay below level h)
+
+below_through : (x y z : Option (List ℕ)) → or_below x (or_below y z) ≡ or_below (or_below x y) z
+below_through None y z = refl
+below_through (Some v) y z = refl
+
+-- one level over another, as the law says it of three
+one_found : MostSpecificWins → (level below : Env) (name : List ℕ) → Ascends level → value_at name (laid_over level below) ≡ or_below (value_at name level) (value_at name below)
+unfolding laid_over IsStrictlySortedBy
+one_found wins level below name h = wins below [] level name tt h
+
+abbrev levels_of : List DoneStep → List Env
+levels_of steps = map (λ done. done.env) steps
+
+set_found : MostSpecificWins → (steps : List DoneStep) (below : Env) (name : List ℕ) → SetInOrder steps
+    → value_at name (overlaid (levels_of steps) below) ≡ or_below (last_set name steps) (value_at name below)
+set_found wins [] below name h = refl
+set_found wins (done ∷ later) below name h =
+    set_found wins later (laid_over done.env below) name (λ i x at. h (suc i) x at)
+    ∙ ap (or_below (last_set name later)) (one_found wins done.env below name (h 0 done refl))
+    ∙ below_through (last_set name later) (value_at name done.env) (value_at name below)
+
 call_in_order : EnvHasItsNames → LevelsStayInOrder → (at : LegAt) (step : StepPlan) (call : StepCall) → OrderedHere at step → Asked at step call → CallInOrder call
 call_in_order names stay at step call ordered made =
     let three = levels at step call.env made.env in
     let flow = (names (seen_from at place.WorkflowEnv []) at.run_plan.env three.workflow ordered.workflow three.workflow_is).1 in
     record {
-      env = subst (λ (e : Env). Ascends e) three.laid (stay (laid_over three.job three.workflow) three.own (stay three.workflow three.job flow));
+      env = subst (λ (e : Env). Ascends e) three.laid (stay (set_over at (laid_over three.job three.workflow)) three.own
+          (set_in_order stay (levels_of at.leg.steps) (laid_over three.job three.workflow) (stay three.workflow three.job flow)));
       work = asked_in_order names (seen_from at place.StepText call.env) step.work call.work ordered.own.work made.work;
     }
 
-call_most_specific : EnvHasItsNames → MostSpecificWins → (at : LegAt) (step : StepPlan) (call : StepCall) → OrderedHere at step → Asked at step call → MostSpecificIsGiven at step call
-call_most_specific names wins at step call ordered made =
+call_most_specific : EnvHasItsNames → MostSpecificWins → (at : LegAt) (step : StepPlan) (call : StepCall) → OrderedHere at step → SetInOrder at.leg.steps → Asked at step call → MostSpecificIsGiven at step call
+call_most_specific names wins at step call ordered set made =
     let three = levels at step call.env made.env in
     let job = (names (seen_from at place.JobEnv []) at.job_plan.env three.job ordered.job three.job_is).1 in
-    let own = (names (seen_from at place.StepEnv (laid_over three.job three.workflow)) step.env three.own ordered.own.env three.own_is).1 in
+    let own = (names (seen_from at place.StepEnv (set_over at (laid_over three.job three.workflow))) step.env three.own ordered.own.env three.own_is).1 in
     record {
       workflow = three.workflow;
       job = three.job;
@@ -144,7 +176,11 @@ call_most_specific names wins at step call ordered made =
       workflow_is = three.workflow_is;
       job_is = three.job_is;
       own_is = three.own_is;
-      given = λ name. ap (λ (e : Env). value_at name e) (sym three.laid) ∙ wins three.workflow three.job three.own name job own;
+      given = λ name.
+          ap (λ (e : Env). value_at name e) (sym three.laid)
+          ∙ one_found wins three.own (set_over at (laid_over three.job three.workflow)) name own
+          ∙ ap (or_below (value_at name three.own)) (set_found wins at.leg.steps (laid_over three.job three.workflow) name set
+          ∙ ap (or_below (last_set name at.leg.steps)) (one_found wins three.job three.workflow name job));
     }
 
 -- ---- the row
@@ -175,11 +211,11 @@ calls_are_in_order names stay p b worker l ordered =
         call_in_order names stay at s call (ordered_here p b l at s ordered is next) (asked l at s call h))
 
 pub calls_are_most_specific : EnvHasItsNames → MostSpecificWins → CallsAreMostSpecific
-calls_are_most_specific names wins p b worker l at step ordered is next =
+calls_are_most_specific names wins p b worker l at step ordered set is next =
     by_test (IfCalled (MostSpecificIsGiven at step)) (nat_le worker 15) (begin_found b worker l (leg_at p b l)) (Err fault.NoSuch)
     (subst (λ (o : Option LegAt). IfCalled (MostSpecificIsGiven at step) (begin_found b worker l o)) (sym is)
     (if_begun (MostSpecificIsGiven at step) b worker l at (idle_owner at.leg.state) (next_step at) (λ s at_s call h.
     let same : s ≡ step = same_some s step (sym at_s ∙ next) in
-    call_most_specific names wins at step call (ordered_here p b l at step ordered is next)
+    call_most_specific names wins at step call (ordered_here p b l at step ordered is next) set
     (asked l at step call (ap (λ z. step_decision l at z) (sym same) ∙ h)))))
     tt

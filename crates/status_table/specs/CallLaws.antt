@@ -1,10 +1,11 @@
 -- Laws of the call that a step makes: the variables that it is given, and the inputs of its action.
-use Rattle.std.specs.Prelude.{◌≡◌, ℕ, List, [], Some, Ok, Err}
-use Rattle.board_decisions.specs.Decisions.{seen_from}
+use Rattle.std.specs.Prelude.{◌≡◌, ℕ, List, [], ◌∷◌, Option, Some, None, Ok, Err}
+use Rattle.board_decisions.specs.Decisions.{seen_from, set_over}
 use Rattle.board_decisions.specs.Place.{LegAt, leg_at}
 use Rattle.flow_model.specs.Mapping.{value_at, Ascends}
 use Rattle.flow_model.specs.Sound.{Each}
 use Rattle.flow_model.specs.declared.board.Board.{Board}
+use Rattle.flow_model.specs.declared.board.DoneStep.{DoneStep}
 use Rattle.flow_model.specs.declared.event.Event.TheVariants as event
 use Rattle.flow_model.specs.declared.plan.JobPlan.{JobPlan}
 use Rattle.flow_model.specs.declared.plan.Plan.{Plan}
@@ -80,23 +81,35 @@ CallsAreInOrder =
     (p : Plan) (b : Board) (worker l : ℕ)
     → PlanInOrder p → IfCalled CallInOrder (row p b worker (event.Begin l))
 
--- The variables of a call are those of three levels: of the workflow, which see no variables, of the job,
--- which see none, and of the step, which see those of the two. The most specific level that has a name gives
--- its value, and a name that none of them has is not there.
+-- What the last of some done steps that set a name set it to, where one did.
+abbrev pub last_set : List ℕ → List DoneStep → Option (List ℕ)
+last_set name [] = None
+last_set name (done ∷ later) = or_below (last_set name later) (value_at name done.env)
+
+-- What each of some done steps set names each variable once, in the byte order of the names; a `Mapping` never does
+-- otherwise.
+abbrev pub SetInOrder : List DoneStep → Type 0
+SetInOrder steps = Each (λ done. Ascends done.env) steps
+
+-- The variables of a call are those of four levels: of the workflow, which see no variables, of the job,
+-- which see none, what the done steps of the leg set, and of the step, which see those of the three. The most
+-- specific level that has a name gives its value, of the done steps the last that set it, and a name that
+-- none of them has is not there.
 pub record MostSpecificIsGiven (at : LegAt) (step : StepPlan) (call : StepCall) : Type 0 where
   pub workflow : Env
   pub job : Env
   pub own : Env
   pub workflow_is : env_value (seen_from at place.WorkflowEnv []) at.run_plan.env ≡ Ok workflow
   pub job_is : env_value (seen_from at place.JobEnv []) at.job_plan.env ≡ Ok job
-  pub own_is : env_value (seen_from at place.StepEnv (laid_over job workflow)) step.env ≡ Ok own
+  pub own_is : env_value (seen_from at place.StepEnv (set_over at (laid_over job workflow))) step.env ≡ Ok own
   pub given : (name : List ℕ)
       → value_at name call.env
-      ≡ or_below (value_at name own) (or_below (value_at name job) (value_at name workflow))
+      ≡ or_below (value_at name own) (or_below (last_set name at.leg.steps)
+      (or_below (value_at name job) (value_at name workflow)))
 
 -- That is so of each call that a legal Begin makes of the next step of a leg.
 abbrev pub CallsAreMostSpecific : Type 0
 CallsAreMostSpecific =
     (p : Plan) (b : Board) (worker l : ℕ) (at : LegAt) (step : StepPlan)
-    → PlanInOrder p → leg_at p b l ≡ Some at → next_step at ≡ Some step
+    → PlanInOrder p → SetInOrder at.leg.steps → leg_at p b l ≡ Some at → next_step at ≡ Some step
     → IfCalled (MostSpecificIsGiven at step) (row p b worker (event.Begin l))

@@ -250,11 +250,12 @@ failure_of at (Some step) = if step_tolerates at step then outcome.Success else 
 
 -- a step that was skipped
 abbrev pub skipped_step : DoneStep
-skipped_step = record { outcome = outcome.Skipped; conclusion = outcome.Skipped; outputs = [] }
+skipped_step = record { outcome = outcome.Skipped; conclusion = outcome.Skipped; outputs = []; env = [] }
 
 -- a step that failed before its call
 abbrev pub failed_step : LegAt → DoneStep
-failed_step at = record { outcome = outcome.Failure; conclusion = failure_of at (next_step at); outputs = [] }
+failed_step at =
+    record { outcome = outcome.Failure; conclusion = failure_of at (next_step at); outputs = []; env = [] }
 
 -- the leg is in a call, or has one more step done
 abbrev pub begin_leg : Board → ℕ → LegAt → Result Beginning EventFault → Row
@@ -287,17 +288,23 @@ calling_owner (leg_state.Ended result tolerated) = None
 
 -- success exactly for an exit with code 0
 abbrev pub outcome_of : Answer → Outcome
-outcome_of (answer.Exit (pos zero) outputs) = outcome.Success
-outcome_of (answer.Exit (pos (suc n)) outputs) = outcome.Failure
-outcome_of (answer.Exit (negsuc n) outputs) = outcome.Failure
+outcome_of (answer.Exit (pos zero) outputs env) = outcome.Success
+outcome_of (answer.Exit (pos (suc n)) outputs env) = outcome.Failure
+outcome_of (answer.Exit (negsuc n) outputs env) = outcome.Failure
 outcome_of answer.NotStarted = outcome.Failure
 outcome_of answer.BadOutput = outcome.Failure
 
 -- the outputs of an exit are kept, whatever its code
 abbrev pub outputs_of : Answer → List (List ℕ × List ℕ)
-outputs_of (answer.Exit code outputs) = outputs
+outputs_of (answer.Exit code outputs env) = outputs
 outputs_of answer.NotStarted = []
 outputs_of answer.BadOutput = []
+
+-- so are the variables that it set
+abbrev pub set_by : Answer → List (List ℕ × List ℕ)
+set_by (answer.Exit code outputs env) = env
+set_by answer.NotStarted = []
+set_by answer.BadOutput = []
 
 -- how an outcome counts for a step
 abbrev pub conclusion_of : LegAt → Outcome → Outcome
@@ -309,7 +316,12 @@ conclusion_of at outcome.Skipped = outcome.Skipped
 -- the step that an answer ends
 abbrev pub answered_step : LegAt → Answer → DoneStep
 answered_step at a =
-    record { outcome = outcome_of a; conclusion = conclusion_of at (outcome_of a); outputs = outputs_of a }
+    record {
+      outcome = outcome_of a;
+      conclusion = conclusion_of at (outcome_of a);
+      outputs = outputs_of a;
+      env = set_by a;
+    }
 
 -- the step that is done by an answer, or why it is not, by the worker whose call is open
 abbrev pub ending_by : ℕ → LegAt → Answer → Option ℕ → Result DoneStep EventFault

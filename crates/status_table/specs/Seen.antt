@@ -11,7 +11,7 @@ use Rattle.flow_model.specs.declared.event.Member.TheVariants as member
 use Rattle.flow_model.specs.declared.event.Outcome.{Outcome}
 use Rattle.flow_model.specs.declared.event.Outcome.TheVariants as outcome
 use Rattle.status_table.specs.Answers.{DecidesAs}
-use Rattle.status_table.specs.Row.{Beginning, calls, skips, faults, outputs_of, ending}
+use Rattle.status_table.specs.Row.{Beginning, calls, skips, faults, outputs_of, set_by, ending}
 use Rattle.status_table.specs.Change.{with_numbered_leg}
 use Rattle.status_table.specs.Groups.{Standing, holds_name, waits_name, closed}
 use Rattle.status_table.specs.declared.change.LegChange.{LegChange}
@@ -28,9 +28,9 @@ begun_seen (begun.Call call) = calls call
 begun_seen begun.Skips = skips
 begun_seen (begun.Faults fault) = faults fault
 
--- an outcome and a conclusion, with the outputs of the answer
+-- an outcome and a conclusion, with what the answer gave and set
 abbrev pub ended_step : Outcome × Outcome → Answer → DoneStep
-ended_step x a = record { outcome = x.0; conclusion = x.1; outputs = outputs_of a }
+ended_step x a = record { outcome = x.0; conclusion = x.1; outputs = outputs_of a; env = set_by a }
 
 -- how an answer ends a step is decided as it is defined
 abbrev pub DecidesEnding : ℕ → LegAt → Answer → Result (Outcome × Outcome) EventFault → Type 0

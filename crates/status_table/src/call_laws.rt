@@ -5,8 +5,9 @@ ghost use Rattle.status_table.specs.CallLaws.{CallsAreInOrder, CallsAreMostSpeci
 use text_values::{env_has_its_names, levels_stay_in_order, most_specific_wins};
 
 /// A call names each variable once, in the byte order of the names, and each input
-/// likewise; and of the workflow's, the job's and the step's variables it has the
-/// most specific. The maps of the plan are in order, as each `Mapping` is.
+/// likewise; and of the workflow's and the job's variables, what done steps set, and the
+/// step's own it has the most specific. The maps of the plan and of the done steps are in
+/// order, as each `Mapping` is.
 pub fn calls_are_in_order()
     ensures order { CallsAreInOrder }
     ensures levels { CallsAreMostSpecific }

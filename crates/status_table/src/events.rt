@@ -13,6 +13,7 @@ ghost use Rattle.status_table.specs.Answers.{Answers, Decides, DecidesAs};
 ghost use Rattle.status_table.specs.InPlay.{InPlay};
 ghost use Rattle.status_table.specs.Row as spec;
 ghost use Rattle.status_table.specs.Seen.{begun_seen, DecidesEnding};
+ghost use Rattle.status_table.specs.Seen as seen;
 ghost use Rattle.status_table.specs.Shape.{HasFewLegs};
 
 use crate::change::{add_step, set_ended, set_job_state, set_leg_state};
@@ -30,7 +31,7 @@ use board_decisions::derived::{
 use board_decisions::place::{SeenJob, SeenLeg, SeenRun, find_job, find_leg, find_run};
 use flow_model::{
     Answer, Board, DoneStep, JobState, LegState, Mapping, Member, Outcome, Plan, Reply, RunState,
-    StepCall, StepPlan, Text, ValueFault, What,
+    StepCall, StepPlan, ValueFault, What,
 };
 use std::alloc::{AllocError, Global};
 
@@ -381,11 +382,11 @@ pub fn beginning(alloc: Global, worker: u8, number: u64, at: &SeenLeg) -> Result
 pub fn skipped_step(alloc: Global) -> DoneStep
     ensures { result ≡ spec.skipped_step }
 {
-    let outputs = Mapping::empty(alloc);
     DoneStep {
         outcome: Outcome::Skipped,
         conclusion: Outcome::Skipped,
-        outputs,
+        outputs: Mapping::empty(alloc),
+        env: Mapping::empty(alloc),
     }
 }
 
@@ -394,11 +395,11 @@ pub fn failed_step(alloc: Global, at: &SeenLeg) -> Result<DoneStep, AllocError>
     ensures { IfOk result (λ done. done ≡ spec.failed_step (leg_seen at.now)) }
 {
     let conclusion = failure_of(alloc, at)?;
-    let outputs = Mapping::empty(alloc);
     Ok(DoneStep {
         outcome: Outcome::Failure,
         conclusion,
-        outputs,
+        outputs: Mapping::empty(alloc),
+        env: Mapping::empty(alloc),
     })
 }
 
@@ -445,7 +446,11 @@ fn outcome_of(answer: &Answer) -> Outcome
     ensures { result ≡ spec.outcome_of answer.now }
 {
     match answer {
-        Answer::Exit { code, outputs: _ } => if *code == 0 {
+        Answer::Exit {
+            code,
+            outputs: _,
+            env: _,
+        } => if *code == 0 {
             Outcome::Success
         } else {
             Outcome::Failure
@@ -455,14 +460,25 @@ fn outcome_of(answer: &Answer) -> Outcome
     }
 }
 
-/// The outputs of a step: those of its exit.
-pub fn outputs_of(alloc: Global, answer: Answer) -> Mapping<Text>
-    ensures { result ≡ spec.outputs_of answer }
+/// A step that is done by an answer, with its outcome and its conclusion: it keeps the outputs and the variables of an
+/// exit, whatever its code.
+pub fn ended_step(alloc: Global, outcome: Outcome, conclusion: Outcome, answer: Answer) -> DoneStep
+    ensures { result ≡ seen.ended_step (outcome, conclusion) answer }
 {
-    match answer {
-        Answer::Exit { code: _, outputs } => outputs,
-        Answer::NotStarted => Mapping::empty(alloc),
-        Answer::BadOutput => Mapping::empty(alloc),
+    let (outputs, env) = match answer {
+        Answer::Exit {
+            code: _,
+            outputs,
+            env,
+        } => (outputs, env),
+        Answer::NotStarted => (Mapping::empty(alloc), Mapping::empty(alloc)),
+        Answer::BadOutput => (Mapping::empty(alloc), Mapping::empty(alloc)),
+    };
+    DoneStep {
+        outcome,
+        conclusion,
+        outputs,
+        env,
     }
 }
 
@@ -533,17 +549,8 @@ pub(crate) fn end(
     };
     let place = at.place;
     let (outcome, conclusion) = ending(alloc, worker, &at, &answer)?;
-    let outputs = outputs_of(alloc, answer);
-    add_step(
-        board,
-        place,
-        worker,
-        DoneStep {
-            outcome,
-            conclusion,
-            outputs,
-        },
-    )?;
+    let done = ended_step(alloc, outcome, conclusion, answer);
+    add_step(board, place, worker, done)?;
     Ok(moved())
 }
 

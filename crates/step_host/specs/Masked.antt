@@ -1,4 +1,4 @@
--- Answers whose outputs are masked.
+-- Answers whose values are masked.
 use Rattle.std.specs.Prelude.{◌≡◌, ℕ, Bool, true, false, if◌then◌else◌, List, refl}
 use Rattle.flow_model.specs.Answer.{is_well_formed}
 use Rattle.flow_model.specs.Mapping.{map_values}
@@ -6,13 +6,15 @@ use Rattle.flow_model.specs.declared.event.Answer.{Answer}
 use Rattle.flow_model.specs.declared.event.Answer.TheVariants.{Exit, NotStarted, BadOutput}
 use Rattle.program_texts.specs.Mask.{masked}
 
--- the answer, if it may end a call; else its outputs are bad
+-- the answer, if it may end a call; else what it gives is bad
 abbrev pub checked : Answer → Answer
 checked answer = if is_well_formed answer then answer else BadOutput
 
--- The masked form of an answer: the values of its outputs are masked, and its names are not. A value may grow by that.
+-- The masked form of an answer: the values of its outputs and variables are masked, and their names are not. A value may
+-- grow by that.
 abbrev pub masked_answer : List (List ℕ) → Answer → Answer
-masked_answer masks (Exit code outputs) = checked (Exit code (map_values (masked masks) outputs))
+masked_answer masks (Exit code outputs env) =
+    checked (Exit code (map_values (masked masks) outputs) (map_values (masked masks) env))
 masked_answer masks NotStarted = NotStarted
 masked_answer masks BadOutput = BadOutput
 
@@ -29,7 +31,8 @@ checked_by answer true h = h
 checked_by answer false h = refl
 
 pub masked_is_well_formed : (masks : List (List ℕ)) (answer : Answer) → is_well_formed (masked_answer masks answer) ≡ true
-masked_is_well_formed masks (Exit code outputs) = checked_by (Exit code (map_values (masked masks) outputs)) _ refl
+masked_is_well_formed masks (Exit code outputs env) =
+    checked_by (Exit code (map_values (masked masks) outputs) (map_values (masked masks) env)) _ refl
 masked_is_well_formed masks NotStarted = refl
 masked_is_well_formed masks BadOutput = refl
 

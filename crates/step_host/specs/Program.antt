@@ -10,17 +10,15 @@ use Rattle.std.specs.declared.io.Error.{Error}
 use Rattle.std.specs.declared.io.ErrorKind.TheVariants.{OutOfMemory}
 use Rattle.std.specs.declared.process.command.Command.{Command}
 use Rattle.std.specs.declared.alloc.Global.{Global}
-use Rattle.flow_model.specs.Mapping.{with_pair}
 use Rattle.flow_model.specs.declared.event.Answer.{Answer}
 use Rattle.flow_model.specs.declared.event.Answer.TheVariants.{Exit, BadOutput}
 use Rattle.flow_model.specs.declared.plan.Shell.{Shell}
 use Rattle.flow_model.specs.declared.plan.Shell.TheVariants.{Default, Sh, Bash}
 use Rattle.flow_model.specs.declared.reply.StepCall.{StepCall}
-use Rattle.program_texts.specs.Outputs.{Pair, outputs, with_pairs}
+use Rattle.program_texts.specs.PairFiles.{Pair, Reading, outputs, env, with_pairs}
 use Rattle.program_texts.specs.Replace.{replaced}
 use Rattle.program_texts.specs.Shell.{words}
 use Rattle.flow_model.specs.Lines.{newline}
-use Rattle.program_texts.specs.declared.output_fault.OutputFault.{OutputFault}
 use Rattle.step_host.specs.declared.launch.Launch.{Launch}
 
 -- ---- files and folders
@@ -29,9 +27,12 @@ use Rattle.step_host.specs.declared.launch.Launch.{Launch}
 abbrev pub step_file : List ℕ → ℕ → ℕ → List ℕ → List ℕ
 step_file work leg step ending = work ++ (codes "/step-" ++ (decimal leg ++ (codes "-" ++ (decimal step ++ ending))))
 
--- the file of its outputs, that of its script, and that of what it printed
+-- the file of its outputs, that of the variables that it sets, that of its script, and that of what it printed
 abbrev pub out_file : List ℕ → StepCall → List ℕ
 out_file work call = step_file work call.leg call.step (codes ".out")
+
+abbrev pub env_file : List ℕ → StepCall → List ℕ
+env_file work call = step_file work call.leg call.step (codes ".env")
 
 abbrev pub script_file : List ℕ → StepCall → List ℕ
 script_file work call = step_file work call.leg call.step (codes ".sh")
@@ -65,10 +66,15 @@ input_name name = codes "INPUT_" ++ map to_ascii_uppercase (replaced space_by na
 abbrev pub inputs_of : List Pair → List Pair
 inputs_of given = map (λ p. (input_name p.0, p.1)) given
 
--- The variables of a program: those of the base, over them those of the call, then its inputs, and last the file of its
--- outputs.
-abbrev pub variables : List Pair → List Pair → List Pair → List ℕ → List Pair
-variables base env given out = with_pair (codes "GITHUB_OUTPUT") out (with_pairs (with_pairs base env) (inputs_of given))
+-- the variables that tell a program its files: that of its outputs, and that of the variables that it sets
+abbrev pub file_variables : List ℕ → StepCall → List Pair
+file_variables work call =
+    (codes "GITHUB_OUTPUT", out_file work call) ∷ (codes "GITHUB_ENV", env_file work call) ∷ []
+
+-- The variables of a program: those of the base, over them those of the call, then its inputs, and last its files.
+abbrev pub variables : List ℕ → List Pair → StepCall → List Pair → List Pair
+variables work base call given =
+    with_pairs (with_pairs (with_pairs base call.env) (inputs_of given)) (file_variables work call)
 
 -- ---- what is started
 
@@ -77,7 +83,7 @@ abbrev pub script_launch : List ℕ → List Pair → StepCall → Shell → Opt
 script_launch work base call shell dir =
     record {
       words = words shell (script_file work call);
-      variables = variables base call.env [] (out_file work call);
+      variables = variables work base call [];
       folder = folder_of work dir;
     }
 
@@ -86,7 +92,7 @@ abbrev pub stub_launch : List ℕ → List Pair → StepCall → List ℕ → Li
 stub_launch work base call program given =
     record {
       words = program ∷ [];
-      variables = variables base call.env given (out_file work call);
+      variables = variables work base call given;
       folder = work;
     }
 
@@ -130,14 +136,20 @@ abbrev pub code_of : Option ℤ → ℤ
 code_of (Some code) = code
 code_of None = pos 255
 
--- the answer of a program that ended with a code, by the outputs that it gave
-abbrev pub with_outputs : ℤ → Result (List Pair) OutputFault → Answer
-with_outputs code (Ok given) = Exit code given
-with_outputs code (Err fault) = BadOutput
+-- the pairs that a file gives, if it is not refused
+abbrev pub accepted : Reading → Option (List Pair)
+accepted (Ok pairs) = Some pairs
+accepted (Err fault) = None
 
--- The answer of a program, by its exit code and the bytes in the file of its outputs.
-abbrev pub ended : Option ℤ → List ℕ → Answer
-ended code bytes = with_outputs (code_of code) (outputs bytes)
+-- the answer of a program that ended with a code, by the outputs that it gave and the variables that it set
+abbrev pub answered : ℤ → Option (List Pair) → Option (List Pair) → Answer
+answered code None set = BadOutput
+answered code (Some given) None = BadOutput
+answered code (Some given) (Some set) = Exit code given set
+
+-- The answer of a program, by its exit code and the bytes in the file of its outputs and in that of its variables.
+abbrev pub ended : Option ℤ → List ℕ → List ℕ → Answer
+ended code given set = answered (code_of code) (accepted (outputs given)) (accepted (env set))
 
 -- ---- what may fail
 

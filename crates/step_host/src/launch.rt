@@ -1,8 +1,7 @@
 //! How the program of a step is started: its words, its variables and its folder.
 
 ghost use Rattle.std.specs.Prelude.{◌≡◌, [], ◌∷◌, IfOk, codes};
-ghost use Rattle.flow_model.specs.Mapping.{with_pair};
-ghost use Rattle.program_texts.specs.Outputs.{with_pairs};
+ghost use Rattle.program_texts.specs.PairFiles.{with_pairs};
 ghost use Rattle.step_host.specs.Program as spec;
 
 use flow_model::{Duplicate, Mapping, Sequence, Shell, StepCall, Text};
@@ -39,6 +38,13 @@ pub(crate) fn out_file(alloc: Global, work: &str, call: &StepCall) -> Result<Tex
     ensures { IfOk result (λ made. made ≡ spec.out_file work.now call.now) }
 {
     step_file(alloc, work, call.leg, call.step, ".out")
+}
+
+/// The file of the variables that the step of a call sets.
+pub(crate) fn env_file(alloc: Global, work: &str, call: &StepCall) -> Result<Text, AllocError>
+    ensures { IfOk result (λ made. made ≡ spec.env_file work.now call.now) }
+{
+    step_file(alloc, work, call.leg, call.step, ".env")
 }
 
 /// The file of the script of a call.
@@ -159,19 +165,19 @@ fn base_and_env(
     laid_over(alloc, under, env)
 }
 
-/// Sets the file of outputs, over all other variables.
-fn with_out_file(
+/// Sets the files of a call, over all other variables.
+fn with_files(
     alloc: Global,
     under: Mapping<Text>,
     work: &str,
     call: &StepCall,
 ) -> Result<Mapping<Text>, AllocError>
     ensures { IfOk result (λ made.
-        made ≡ with_pair (codes "GITHUB_OUTPUT") (spec.out_file work.now call.now) under) }
+        made ≡ with_pairs under (spec.file_variables work.now call.now)) }
 {
     let mut made = under;
-    let out = out_file(alloc, work, call)?;
-    made.set(alloc, "GITHUB_OUTPUT", out)?;
+    made.set(alloc, "GITHUB_OUTPUT", out_file(alloc, work, call)?)?;
+    made.set(alloc, "GITHUB_ENV", env_file(alloc, work, call)?)?;
     Ok(made)
 }
 
@@ -184,11 +190,11 @@ fn variables_of(
     given: &Mapping<Text>,
 ) -> Result<Mapping<Text>, AllocError>
     ensures { IfOk result (λ made.
-        made ≡ spec.variables base.now call.now.env given.now (spec.out_file work.now call.now)) }
+        made ≡ spec.variables work.now base.now call.now given.now) }
 {
     let under = base_and_env(alloc, base, &call.env)?;
     let under = with_inputs(alloc, under, given)?;
-    with_out_file(alloc, under, work, call)
+    with_files(alloc, under, work, call)
 }
 
 /// How a script is started.

@@ -6,9 +6,9 @@
 //! admits, is in `specs/Lawful.antt`, and what follows from that in `laws`.
 //!
 //! Two hosts are decided, and look at the leg and the step of a call alone: `ScriptHost` admits the answers of a list, and
-//! `ReplayHost` those that a legal list of entries gave, which is lawful over it. `Masked` gives the answers of another host with
-//! the values of their outputs masked. `ProgramHost` starts a program for each step, and admits every well-formed answer: how a
-//! program is started and what its end answers is said of values (`specs/Program.antt`).
+//! `ReplayHost` those that a legal list of entries gave, which is lawful over it. `Masked` gives the answers of another host
+//! with the values of their outputs and variables masked. `ProgramHost` starts a program for each step, and admits every
+//! well-formed answer: how a program is started and what its end answers is said of values (`specs/Program.antt`).
 //!
 //! The crate stands on `status_table`, whose table says which call a step makes, on `flat_board`, the board on which plans
 //! are played (`PlayBoard`), on `board_decisions` for where a leg stands, on `program_texts`, which reads and makes the texts

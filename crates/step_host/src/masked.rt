@@ -14,7 +14,7 @@ use flow_model::{Answer, Mapping, Sequence, StepCall, Text};
 use program_texts::mask;
 use std::alloc::{AllocError, Global};
 
-/// The host that gives the answers of another with the values of their outputs masked.
+/// The host that gives the answers of another with the values of their outputs and variables masked.
 #[derive(Drop)]
 pub struct Masked<H> {
     host: H,
@@ -23,9 +23,9 @@ pub struct Masked<H> {
 }
 
 impl<H: StepHost> Masked<H> {
-    /// The host that admits the masked forms of what this one admits: the values of outputs are masked, and where the
-    /// answer is no longer well-formed then, `Answer::BadOutput` stands for it. It declines what this one does. It
-    /// keeps the allocator, and takes no memory.
+    /// The host that admits the masked forms of what this one admits: the values of outputs and of variables are masked,
+    /// and where the answer is no longer well-formed then, `Answer::BadOutput` stands for it. It declines what this one
+    /// does. It keeps the allocator, and takes no memory.
     pub fn new(alloc: Global, host: H, masks: Sequence<Text>) -> Masked<H>
         ensures admits { (call : StepCall) (answer : Answer)
             → ⟦<Masked<H> as StepHost>⟧.admits result call answer
@@ -37,15 +37,15 @@ impl<H: StepHost> Masked<H> {
     }
 }
 
-/// The outputs, with their values masked.
-fn masked_outputs(
+/// The pairs, with their values masked.
+fn masked_values(
     alloc: Global,
-    outputs: &Mapping<Text>,
+    pairs: &Mapping<Text>,
     masks: &[Text],
 ) -> Result<Mapping<Text>, AllocError>
-    ensures { IfOk result (λ made. made ≡ map_values (masked masks.now) outputs.now) }
+    ensures { IfOk result (λ made. made ≡ map_values (masked masks.now) pairs.now) }
 {
-    let from = outputs.iter();
+    let from = pairs.iter();
     let mut made = Mapping::empty(alloc);
     for (name, value) in from {
         made.set(alloc, name.as_str(), mask(alloc, value.as_str(), masks)?)?;
@@ -53,7 +53,7 @@ fn masked_outputs(
     Ok(made)
 }
 
-/// The answer, if it may end a call; else its outputs are bad.
+/// The answer, if it may end a call; else what it gives is bad.
 fn checked(answer: Answer) -> Answer
     ensures { result ≡ checked_of answer }
 {
@@ -69,9 +69,10 @@ fn masked_answer(alloc: Global, answer: Answer, masks: &[Text]) -> Result<Answer
     ensures { IfOk result (λ made. made ≡ masked_answer_of masks.now answer) }
 {
     match answer {
-        Answer::Exit { code, outputs } => {
-            let outputs = masked_outputs(alloc, &outputs, masks)?;
-            Ok(checked(Answer::Exit { code, outputs }))
+        Answer::Exit { code, outputs, env } => {
+            let outputs = masked_values(alloc, &outputs, masks)?;
+            let env = masked_values(alloc, &env, masks)?;
+            Ok(checked(Answer::Exit { code, outputs, env }))
         },
         Answer::NotStarted => Ok(Answer::NotStarted),
         Answer::BadOutput => Ok(Answer::BadOutput),

@@ -12,8 +12,8 @@ use crate::fault::HostFault;
 use crate::files::{Printed, bytes_now, file_bytes, printed_file, write_file};
 use crate::host::{StepHost, WatchedHost};
 use crate::launch::{
-    Launch, err_file, log_file, other_shell, out_file, print_file, script_file, script_launch,
-    stub_launch,
+    Launch, env_file, err_file, log_file, other_shell, out_file, print_file, script_file,
+    script_launch, stub_launch,
 };
 use crate::watch::{Nobody, Unstarted, Watch};
 use flow_model::{Answer, CallWork, Mapping, Shell, StepCall, Text};
@@ -122,8 +122,14 @@ impl<R: Processes + Files<File = File>> ProgramHost<R> {
     /// Makes the files empty that a program writes and that hold what it printed. The answer is whether they could be.
     fn clears(&self, call: &StepCall) -> Result<bool, AllocError> {
         let log = log_file(self.alloc, self.work.as_str(), call.leg, call.step)?;
+        Ok(self.writes(&log, b"")? && self.clears_pairs(call)?)
+    }
+
+    /// Makes the files empty of a call's outputs and of its variables. The answer is whether they could be.
+    fn clears_pairs(&self, call: &StepCall) -> Result<bool, AllocError> {
         let out = out_file(self.alloc, self.work.as_str(), call)?;
-        Ok(self.writes(&log, b"")? && self.writes(&out, b"")?)
+        let env = env_file(self.alloc, self.work.as_str(), call)?;
+        Ok(self.writes(&out, b"")? && self.writes(&env, b"")?)
     }
 
     /// Why a file cannot be written in the work folder.
@@ -261,6 +267,12 @@ impl<R: Processes + Files<File = File>> ProgramHost<R> {
         unless_memory(file_bytes(self.alloc, &self.runtime, name.as_str()))
     }
 
+    /// The bytes in the file of a call's variables, if it can be read.
+    fn env(&self, call: &StepCall) -> Result<Option<Vec<u8>>, AllocError> {
+        let name = env_file(self.alloc, self.work.as_str(), call)?;
+        unless_memory(file_bytes(self.alloc, &self.runtime, name.as_str()))
+    }
+
     /// Waits until a program has ended, whatever it leaves behind, and answers for it.
     fn finished(&self, call: &StepCall, started: Started<R::Started>) -> Result<Answer, AllocError>
         ensures { IfOk result (λ a. is_well_formed a ≡ true) }
@@ -285,7 +297,22 @@ impl<R: Processes + Files<File = File>> ProgramHost<R> {
             return Ok(Answer::BadOutput);
         };
         match self.outputs(call)? {
-            Some(bytes) => ended(self.alloc, status, bytes.as_slice()),
+            Some(outputs) => self.answer_with(call, status, outputs.as_slice()),
+            None => Ok(Answer::BadOutput),
+        }
+    }
+
+    /// The answer of a program with this exit status, which wrote this into the file of its outputs.
+    fn answer_with(
+        &self,
+        call: &StepCall,
+        status: ExitStatus,
+        outputs: &[u8],
+    ) -> Result<Answer, AllocError>
+        ensures { IfOk result (λ a. is_well_formed a ≡ true) }
+    {
+        match self.env(call)? {
+            Some(env) => ended(self.alloc, status, outputs, env.as_slice()),
             None => Ok(Answer::BadOutput),
         }
     }

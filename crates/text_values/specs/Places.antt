@@ -36,7 +36,7 @@ abbrev pub step_condition : List Context
 step_condition = filter (λ x. not (is_same_context Secrets x)) step_env
 
 -- A step's texts and its continue-on-error see the same contexts as its env, where `env` then has the
--- variables of all three levels, the workflow's, the job's and the step's own.
+-- variables of all levels: the workflow's, the job's, what done steps set, and the step's own.
 abbrev pub step_text : List Context
 step_text = step_env
 

@@ -19,12 +19,12 @@ pub enum Place {
     WorkflowEnv,
     /// A job's `env`.
     JobEnv,
-    /// A step's `env`, and a job's outputs, which see `env` of the workflow and the job.
+    /// A step's `env`, and a job's outputs, which see `env` of the workflow and the job, and what done steps set over it.
     StepEnv,
-    /// A step's condition, which sees `env` of all three levels.
+    /// A step's condition, which sees the step's own `env` too.
     StepCondition,
     /// A step's `run`, `with` and working directory, and its
-    /// continue-on-error, which see `env` of all three levels.
+    /// continue-on-error, which see the step's own `env` too.
     StepText,
 }
 

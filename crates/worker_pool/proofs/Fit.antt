@@ -2,8 +2,8 @@
 use Rattle.std.proofs.Common.{sym, subst, ◌∙◌, refl}
 use Rattle.flow_model.specs.declared.event.Answer.{Answer}
 use Rattle.flow_model.specs.declared.reply.StepCall.{StepCall}
+use Rattle.ready_queue.specs.Passes.{TicketQueue}
 use Rattle.ready_queue.specs.declared.pass.Pass.{Pass}
-use Rattle.ready_queue.specs.declared.queue.TicketQueue.{TicketQueue}
 use Rattle.worker_pool.specs.Log.{AreAdmitted, answers_of}
 use Rattle.worker_pool.specs.Worker.{KeepsPass, IsFit, StaysFit, LogsNoCall}
 use Rattle.worker_pool.specs.declared.worker.Worker.{Worker}

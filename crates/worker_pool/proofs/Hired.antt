@@ -9,10 +9,9 @@ use Rattle.flow_model.specs.declared.event.Answer.{Answer}
 use Rattle.flow_model.specs.declared.event.Entry.{Entry}
 use Rattle.flow_model.specs.declared.reply.StepCall.{StepCall}
 use Rattle.ready_queue.specs.Names.{Name}
-use Rattle.ready_queue.specs.Passes.{IsPassOf, records_of}
+use Rattle.ready_queue.specs.Passes.{TicketQueue, IsPassOf, records_of}
 use Rattle.ready_queue.specs.Records.{DividesNames, KeepsNames, keepers}
 use Rattle.ready_queue.specs.declared.pass.Pass.{Pass}
-use Rattle.ready_queue.specs.declared.queue.TicketQueue.{TicketQueue}
 use Rattle.worker_pool.specs.Log.{AreAdmitted, Answered, HaltsFor, answers_of}
 use Rattle.worker_pool.specs.Logs.{AreAnswered}
 use Rattle.worker_pool.specs.Worker.{IsFit, crew_keepers}

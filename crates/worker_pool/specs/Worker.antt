@@ -3,11 +3,10 @@ use Rattle.std.specs.Prelude.{◌≡◌, ℕ, ◌+◌, ◌≤◌, List, [], ◌�
 use Rattle.std.specs.Global.{Global}
 use Rattle.flow_model.specs.declared.event.Answer.{Answer}
 use Rattle.flow_model.specs.declared.reply.StepCall.{StepCall}
-use Rattle.ready_queue.specs.Passes.{IsPassOf, records_of}
+use Rattle.ready_queue.specs.Passes.{TicketQueue, IsPassOf, records_of}
 use Rattle.ready_queue.specs.Names.{Name}
 use Rattle.ready_queue.specs.Records.{IsWhole, KeepsNames, keepers}
 use Rattle.ready_queue.specs.declared.pass.Pass.{Pass}
-use Rattle.ready_queue.specs.declared.queue.TicketQueue.{TicketQueue}
 use Rattle.worker_pool.specs.Log.{Answered, HasSameCalls}
 use Rattle.worker_pool.specs.declared.many.Start.{Start}
 use Rattle.worker_pool.specs.declared.worker.Worker.{Worker}

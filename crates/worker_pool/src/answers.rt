@@ -11,12 +11,13 @@ pub(crate) fn is_same_answer(one: &Answer, other: &Answer) -> bool
 {
     match (one, other) {
         (
-            Answer::Exit { code, outputs },
+            Answer::Exit { code, outputs, env },
             Answer::Exit {
                 code: twin,
                 outputs: given,
+                env: set,
             },
-        ) => *code == *twin && is_same_mapping(outputs, given),
+        ) => *code == *twin && is_same_mapping(outputs, given) && is_same_mapping(env, set),
         (Answer::Exit { .. }, _) => false,
         (Answer::NotStarted, Answer::NotStarted) => true,
         (Answer::NotStarted, _) => false,

@@ -1,4 +1,4 @@
-use Rattle.std.proofs.Common.{◌≡◌, ◌++◌, ◌+◌, string_bytes, drop, length}
+use Rattle.std.proofs.Common.{◌≡◌, ◌++◌, ◌+◌, string_bytes, drop}
 use Rattle.plan_text.specs.BoardText.{legs_text}
 use Rattle.plan_text.proofs.board.write_legs.Given as goal
 

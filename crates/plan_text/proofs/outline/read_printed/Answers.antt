@@ -4,5 +4,5 @@ use Rattle.plan_text.proofs.outline.read_printed.Goals as goal
 
 pub returns-in-Ok-check : goal.returns-in-Ok-check
 returns-in-Ok-check c =
-    document_loads c.args.bytes.now c.in-Ok.text.now c.in_ok-plan.plan c.in-Ok-check.checked c.in-Ok.ensures.cases.0 c.in-Ok.ensures.cases.1 c.in_ok-plan.ensures
+    document_loads c.args.bytes.now c.in-Ok.text.now c.in_ok-plan.field-0-1 c.in_ok-plan.plan c.in-Ok-check.checked c.in-Ok.ensures.cases.0 c.in-Ok.ensures.cases.1 c.in_ok-plan.ensures
     c.in-Ok-check.ensures.accepted (search rules)

@@ -1,4 +1,3 @@
-use Rattle.std.proofs.Common.{◌∙◌, rules}
 use Rattle.plan_text.proofs.OutlineLaws.{number_stands}
 use Rattle.serde_json.specs.View.{view}
 use Rattle.plan_text.proofs.tree.number_tree.Goals as goal

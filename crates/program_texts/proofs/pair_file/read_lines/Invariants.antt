@@ -3,11 +3,11 @@ use Rattle.std.proofs.Common.{◌≡◌, [], length}
 use denote.Shadow.{shadow}
 use denote.Text.{Utf8}
 use Rattle.flow_model.specs.Lines.{lines_of}
-use Rattle.program_texts.specs.Outputs.{pairs_of, then_with}
-use Rattle.program_texts.proofs.output_file.read_lines.Given as goal
+use Rattle.program_texts.specs.PairFiles.{pairs_of, then_with}
+use Rattle.program_texts.proofs.pair_file.read_lines.Given as goal
 
 abbrev pub invariant-loop-rest : goal.invariant-loop-rest
-invariant-loop-rest l = (then_with l.found (pairs_of (lines_of l.rest)) ≡ then_with [] (pairs_of (lines_of l.text))) × shadow (Utf8 l.rest)
+invariant-loop-rest l = (then_with l.file l.found (pairs_of l.file (lines_of l.rest)) ≡ then_with l.file [] (pairs_of l.file (lines_of l.text))) × shadow (Utf8 l.rest)
 
 abbrev pub decreases-loop-rest : goal.decreases-loop-rest
 decreases-loop-rest l = length l.rest

@@ -1,9 +1,9 @@
--- The outputs that were set and those that are left are all.
+-- The pairs that were set and those that are left are all.
 use Rattle.std.proofs.Common.{◌≡◌, ◌++◌}
 use Rattle.flow_model.specs.Mapping.{pairs_of, map_values}
 use Rattle.program_texts.specs.Mask.{masked}
-use Rattle.step_host.proofs.masked.masked_outputs.Given as goal
+use Rattle.step_host.proofs.masked.masked_values.Given as goal
 
 abbrev pub invariant-loop-name : goal.invariant-loop-name
 invariant-loop-name l =
-    l.made ++ map_values (masked l.masks) (pairs_of l.name-iterator) ≡ map_values (masked l.masks) l.outputs
+    l.made ++ map_values (masked l.masks) (pairs_of l.name-iterator) ≡ map_values (masked l.masks) l.pairs

@@ -2,13 +2,13 @@ use Rattle.std.proofs.Common.{◌≡◌, ◌∷◌, ◌++◌, string_bytes, ap, 
 use Rattle.flow_model.specs.Mapping.{pairs_of, map_values}
 use Rattle.flow_model.proofs.Pairs.{with_pair-next, Ascends-map_values}
 use Rattle.program_texts.specs.Mask.{masked}
-use Rattle.step_host.proofs.masked.masked_outputs.Goals as goal
+use Rattle.step_host.proofs.masked.masked_values.Goals as goal
 
 pub loop-name-preserved : goal.loop-name-preserved
 loop-name-preserved c =
     let f = masked c.args.masks.now in
     let left = c.next.new.self in
-    let all : c.loop-name.made ++ (string_bytes c.in-Some.name.now, f c.in-Some.value.now) ∷ map_values f (pairs_of left) ≡ map_values f c.args.outputs.now =
+    let all : c.loop-name.made ++ (string_bytes c.in-Some.name.now, f c.in-Some.value.now) ∷ map_values f (pairs_of left) ≡ map_values f c.args.pairs.now =
     ap (λ es. c.loop-name.made ++ map_values f (pairs_of es)) (sym c.in-Some.ensures.steps) ∙ c.loop-name.invariant in
     rw (c.in_ok-set.ensures.ok, c.as_str.ensures.value, c.in_ok-mask.ensures, c.as_str-in-loop-name.ensures)
     (with_pair-next c.loop-name.made (string_bytes c.in-Some.name.now) (f c.in-Some.value.now) (map_values f (pairs_of left)) _ all

@@ -4,7 +4,7 @@ use denote.Shadow.{shadow}
 use denote.Text.{Utf8}
 use Rattle.flow_model.specs.Lines.{lines_of}
 use Rattle.program_texts.specs.Blocks.{block_lines, value_from, block_value}
-use Rattle.program_texts.proofs.output_file.read_block.Given as goal
+use Rattle.program_texts.proofs.pair_file.read_block.Given as goal
 
 abbrev pub invariant-loop-delimiter : goal.invariant-loop-delimiter
 invariant-loop-delimiter l =
