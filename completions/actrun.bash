@@ -3,7 +3,7 @@ _actrun() {
   local word=${COMP_WORDS[COMP_CWORD]} before=${COMP_WORDS[COMP_CWORD - 1]} command=${COMP_WORDS[1]} offered
   COMPREPLY=()
   if [ "$COMP_CWORD" -eq 1 ]; then
-    offered='plan list lint run table replay graph debug eval --help --version --prove'
+    offered='plan list lint run table replay why graph timeline debug eval --help --version --prove'
     mapfile -t COMPREPLY < <(compgen -W "$offered" -- "$word")
     return
   fi
@@ -23,7 +23,11 @@ _actrun() {
   esac
   if [[ $word == -* ]]; then
     mapfile -t COMPREPLY < <(compgen -W "$offered" -- "$word")
-  elif [[ $command == plan || $command == list || $command == lint || $command == run || $command == replay || $command == graph || $command == debug ]]; then
+  elif [[ $command == why && $COMP_CWORD -eq 3 ]]; then
+    mapfile -t COMPREPLY < <(compgen -W 'run job leg step' -- "$word")
+  elif [[ $command == why && $COMP_CWORD -gt 3 ]]; then
+    return
+  elif [[ $command == plan || $command == list || $command == lint || $command == run || $command == replay || $command == why || $command == graph || $command == timeline || $command == debug ]]; then
     compopt -o filenames
     mapfile -t COMPREPLY < <(compgen -f -- "$word")
   fi

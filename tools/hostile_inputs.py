@@ -9,8 +9,8 @@ import os
 import re
 
 TOP = os.path.join(os.path.dirname(os.path.abspath(__file__)), "..")
-COMMANDS = ("eval", "plan", "list", "lint", "table", "replay", "graph", "debug", "words")
-WEIGHTS = (24, 16, 4, 10, 10, 11, 6, 13, 6)
+COMMANDS = ("eval", "plan", "list", "lint", "table", "replay", "graph", "timeline", "why", "debug", "words")
+WEIGHTS = (22, 15, 4, 10, 8, 10, 6, 8, 12, 12, 6)
 LONGEST_WORD = 131000
 # a changed text has fewer bytes
 MOST = 16 << 20
@@ -57,7 +57,14 @@ class Tried:
 
     def has_strange_words(self):
         """Whether its words may be refused."""
-        return self.free or self.words[-1].startswith(b"-") or any(it.decode("utf-8", "replace").encode() != it for it in self.words)
+        names_nothing = self.command == "why" and not is_subject(self.words[2:])
+        return self.free or names_nothing or self.words[-1].startswith(b"-") or any(it.decode("utf-8", "replace").encode() != it for it in self.words)
+
+
+def is_subject(words):
+    """Whether words name what `why` may be asked about, or there are none."""
+    counts = {b"run": 1, b"job": 1, b"leg": 1, b"step": 2}
+    return not words or len(words) - 1 == counts.get(words[0]) and all(it.isdigit() for it in words[1:])
 
 
 class Seeds:
@@ -237,7 +244,9 @@ def spelled(value):
         raws.append(raw.text)
         return f"@@raw {len(raws) - 1}@@"
     text = json.dumps(value, default=lay, separators=(",", ":"), ensure_ascii=False)
-    return re.sub(r'"@@raw ([0-9]+)@@"', lambda it: raws[int(it[1])], text).encode("utf-8", "surrogatepass")
+    if raws:
+        text = re.sub(r'"@@raw ([0-9]+)@@"', lambda it: raws[int(it[1])], text)
+    return text.encode("utf-8", "surrogatepass")
 
 
 def strange_value(chance):
@@ -333,13 +342,13 @@ def wide_flow(chance):
     count, steps = chance.choice((1, 5, 64, 255, 256, 257)), chance.choice((0, 1, 2, 255, 256, 257))
     if count > 64 and steps > 2:
         steps = 1
-    jobs = {}
+    jobs, done = {}, [{"run": "true", "id": f"s{it}"} for it in range(steps)]
     for number in range(count):
         few = chance.choice((0, 1, 1, 2, 8, number))
         needs = [f"j{chance.randrange(number + (chance.random() < 0.002))}" for _ in range(few)] if number else []
         if chance.random() < 0.3 and number:
             needs = f"j{number - 1}"
-        jobs[f"j{number}"] = {"needs": needs, "steps": [{"run": "true", "id": f"s{it}"} for it in range(steps)]}
+        jobs[f"j{number}"] = {"needs": needs, "steps": done}
     return {"on": chance.choice(("push", ["push", "push"], {}, [])), "jobs": jobs}
 
 
@@ -486,15 +495,40 @@ def made_graph(chance):
     return Tried([b"graph", b"record"], {"record": text})
 
 
+def made_timeline(chance):
+    return Tried([b"timeline", b"record"], {"record": record(chance)})
+
+
+def subject(chance):
+    """Words that may name what `why` is asked about."""
+    words = [chance.choice(("run", "job", "leg", "step", "step"))]
+    for _ in range(1 + (words[0] == "step")):
+        words.append(chance.choice(("0", "0", "0", "1", "1", "2", "3", "4", "7", "16")) if chance.random() < 0.8 else chance.choice(NUMBERS))
+    words = [sometimes_garbled(chance, it.encode(), 0.04) for it in words]
+    way = chance.randrange(20)
+    if way == 0:
+        del words[chance.randrange(len(words))]
+    elif way == 1:
+        words.insert(chance.randrange(len(words) + 1), chance.choice((b"0", b"1", b"-1", b"run", b"leg", b"Step", b"group", b"", b" ", b"\xff")))
+    elif way == 2:
+        words = [b" ".join(words)]
+    return words
+
+
+def made_why(chance):
+    return Tried([b"why", b"record"] + (subject(chance) if chance.random() < 0.6 else []), {"record": record(chance)})
+
+
 def made_debug(chance):
     return Tried([b"debug", b"record"], {"record": record(chance)}, questions(chance))
 
 
 def made_words(chance):
     """Words at random. `run` is none of them, since it starts programs."""
-    some = (b"eval", b"table", b"plan", b"list", b"lint", b"replay", b"graph", b"debug", b"--settled", b"--contexts", b"--event", b"--job", b"--workers", b"--stubs", b"--record",
-            b"--work", b"--", b"-", b"-h", b"--help", b"--version", b"help", b"", b" ", b"1", b"push", b"a", b"a.json", b"record", b"contexts.json",
-            b"missing.json", b"--contexts=contexts.json", b"--event=push", b"--job=a", b"-1", b"\xff", b"--contexts=", b"/", b".", b"x" * 300)
+    some = (b"eval", b"table", b"plan", b"list", b"lint", b"replay", b"graph", b"timeline", b"why", b"debug", b"job", b"leg", b"step", b"0",
+            b"--settled", b"--contexts", b"--event", b"--job", b"--workers", b"--stubs", b"--record", b"--work", b"--", b"-", b"-h", b"--help",
+            b"--version", b"help", b"", b" ", b"1", b"push", b"a", b"a.json", b"record", b"contexts.json", b"missing.json",
+            b"--contexts=contexts.json", b"--event=push", b"--job=a", b"-1", b"\xff", b"--contexts=", b"/", b".", b"x" * 300)
     words = [chance.choice(some) for _ in range(chance.choice((0, 1, 1, 2, 3, 4, 6)))]
     files = {"a.json": chance.choice(SEEDS.flows), "record": chance.choice(SEEDS.records), "contexts.json": chance.choice(SEEDS.contexts)}
     return Tried(words, files, chance.choice(SEEDS.records), free=True)

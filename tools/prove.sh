@@ -123,10 +123,10 @@ start_proofs() {
     [ "$idle" -gt 0 ] || return
     read -r name tenths behind below <<<"$line"
     jobs=$((idle - ${#ready[@]} + 1))
-    # each job loads all libraries below, so more than two of an upper crate cost more than they bring
+    # each job loads all libraries below, so more than two of an upper crate cost more than they bring, unless nothing else is to be done
     # shellcheck disable=SC2086
     set -- $below
-    most=$(($# > 3 ? 2 : 4))
+    most=$(($# > 3 && busy + ${#ready[@]} > 1 ? 2 : 4))
     jobs=$((jobs < 1 ? 1 : jobs > most ? most : jobs))
     # shellcheck disable=SC2086
     prove "$jobs" "$name" $below </dev/null >"$logs/$name" 2>&1 9<&- &

@@ -315,6 +315,8 @@ def tasks():
         yield f"table {name}", lambda it, text=text: command(it, ["table"], text)
         yield f"replay {name}", lambda it, path=path: command(it, ["replay", path])
         yield f"graph {name}", lambda it, path=path: command(it, ["graph", path])
+        yield f"timeline {name}", lambda it, path=path: command(it, ["timeline", path])
+        yield f"why {name}", lambda it, path=path: command(it, ["why", path])
         yield f"debug {name}", lambda it, path=path: command(it, ["debug", path], DEBUGGED.encode(), True)
     for path in sorted(glob.glob(f"{EXAMPLES}/*.json") + glob.glob(f"{EXAMPLES}/refused/*.json")):
         name = os.path.basename(path)

@@ -10,6 +10,7 @@ use Rattle.expr_reader.specs.Fold.{fold}
 use Rattle.expr_value.specs.Context.{Contexts}
 use Rattle.expr_value.specs.declared.status.Status.{Status}
 use Rattle.expr_value.specs.declared.status.Status.TheVariants as status
+use Rattle.flow_model.specs.declared.board.DoneStep.{DoneStep}
 use Rattle.flow_model.specs.declared.event.Outcome.{Outcome}
 use Rattle.flow_model.specs.declared.event.Outcome.TheVariants as outcome
 use Rattle.flow_model.specs.declared.plan.Group.{Group}
@@ -97,14 +98,14 @@ job_env_over at below =
 unfoldable pub job_env : LegAt → Result Env ValueFault
 job_env at = then_value (flow_env at) (job_env_over at)
 
--- What the done steps of a leg set over others, each over those before it (GitHub Docs, "Workflow commands": setting an
+-- What done steps set over other variables, each over those before it (GitHub Docs, "Workflow commands": setting an
 -- environment variable).
-abbrev pub set_over : LegAt → Env → Env
-set_over at below = overlaid (map (λ step. step.env) at.leg.steps) below
+abbrev pub set_over : List DoneStep → Env → Env
+set_over done below = overlaid (map (λ step. step.env) done) below
 
 -- The variables of the job, and over them what the done steps of the leg set.
 unfoldable pub leg_env : LegAt → Result Env ValueFault
-leg_env at = then_value (job_env at) (λ below. Ok (set_over at below))
+leg_env at = then_value (job_env at) (λ below. Ok (set_over at.leg.steps below))
 
 -- The same, and those of a step over them.
 unfoldable pub step_env : LegAt → StepPlan → Result Env ValueFault

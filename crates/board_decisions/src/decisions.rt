@@ -155,7 +155,7 @@ fn know_job_env(alloc: Global, at: &SeenLeg, known: &mut Known) -> Result<(), Va
 fn know_set(alloc: Global, at: &SeenLeg, known: &mut Known) -> Result<(), AllocError>
     requires { IsKnownOf (leg_scene at.now) known.old }
     ensures value { OnOk result
-        (known_env known.new ≡ spec.set_over (leg_seen at.now) (known_env known.old)) }
+        (known_env known.new ≡ spec.set_over (leg_seen at.now).leg.steps (known_env known.old)) }
     ensures known { IsKnownOf (leg_scene at.now) known.new }
 {
     let steps = at.leg.steps.as_slice();

@@ -5,12 +5,15 @@ use Rattle.std.specs.declared.io.ErrorKind.TheVariants.{InvalidData, OutOfMemory
 use Rattle.plan_assembler.specs.declared.choice.Choice.{Choice}
 use Rattle.debug_session.specs.Debug.{DebugTells}
 use Rattle.commands.specs.Eval.{EvalTells}
+use Rattle.board_causes.specs.declared.question.Question.{Question}
 use Rattle.command_io.specs.Files.{File}
 use Rattle.commands.specs.Lint.{LintTells}
 use Rattle.commands.specs.List.{ListTells}
 use Rattle.commands.specs.Plan.{PlanTells}
 use Rattle.commands.specs.Replay.{ReplayTells, SettledTells}
 use Rattle.graph_command.specs.Graph.{GraphTells}
+use Rattle.timeline_command.specs.Timeline.{TimelineTells}
+use Rattle.why_command.specs.Why.{WhyTells}
 use Rattle.run_command.specs.RecordFile.{Keeping, Writes}
 use Rattle.run_command.specs.Run as run
 use Rattle.command_io.specs.Stream.{Stream}
@@ -53,6 +56,17 @@ abbrev pub RunsGraph : Stream → Stream → Stream → Stream → ℕ → Type 
 RunsGraph out out' err err' status =
     ((input input' : Stream) × GraphTells input input' out out' err err' status) ⊎ TellsSome out out' err err' status
 
+-- What `timeline` tells of some record; or a trouble is told.
+abbrev pub RunsTimeline : Stream → Stream → Stream → Stream → ℕ → Type 0
+RunsTimeline out out' err err' status =
+    ((input input' : Stream) × TimelineTells input input' out out' err err' status) ⊎ TellsSome out out' err err' status
+
+-- What `why` tells of some record and of what is asked about; or a trouble is told.
+abbrev pub RunsWhy : Stream → Stream → Stream → Stream → ℕ → Type 0
+RunsWhy out out' err err' status =
+    ((asked : Option Question) × (input input' : Stream) × WhyTells asked input input' out out' err err' status)
+    ⊎ TellsSome out out' err err' status
+
 -- What `run` tells of some plan, and keeps of it in some file, where a machine writes files so; or a trouble is told.
 abbrev pub RunsRun : Writes → Stream → Stream → Stream → Stream → ℕ → Type 0
 RunsRun writes out out' err err' status =
@@ -65,8 +79,8 @@ abbrev pub RunsDebug : Stream → Stream → Stream → Stream → Stream → St
 RunsDebug input input' out out' err err' status =
     ((file file' : Stream) × DebugTells file file' input input' out out' err err' status) ⊎ TellsSome out out' err err' status
 
--- What `table` or `debug` tells of the input, or what `eval`, `plan`, `list`, `lint`, `replay`, `graph` or `run` tells, or a
--- trouble.
+-- What `table` or `debug` tells of the input, or what `eval`, `plan`, `list`, `lint`, `replay`, `graph`, `timeline`, `why` or
+-- `run` tells, or a trouble.
 abbrev pub RunTells : Writes → Stream → Stream → Stream → Stream → Stream → Stream → ℕ → Type 0
 RunTells writes input input' out out' err err' status =
     TableTells input input' out out' err err' status
@@ -76,7 +90,9 @@ RunTells writes input input' out out' err err' status =
     ⊎ (RunsLint out out' err err' status
     ⊎ (RunsReplay out out' err err' status
     ⊎ (RunsGraph out out' err err' status
-    ⊎ (RunsRun writes out out' err err' status ⊎ RunsDebug input input' out out' err err' status)))))))
+    ⊎ (RunsTimeline out out' err err' status
+    ⊎ (RunsWhy out out' err err' status
+    ⊎ (RunsRun writes out out' err err' status ⊎ RunsDebug input input' out out' err err' status)))))))))
 
 -- A command line that cannot be had is told by its kind: one that is no UTF-8 asks for no command.
 pub record TellsLine (kind : ErrorKind) (out out' err err' : Stream) (status : ℕ) : Type 0 where

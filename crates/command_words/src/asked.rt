@@ -4,6 +4,8 @@ ghost use Rattle.std.specs.Prelude.{◌≡◌, IfOk, map};
 
 use crate::choice::{choice_of, text_of};
 use crate::folder::Folder;
+use crate::question::question_of;
+use board_causes::question::Question;
 use clap::ArgMatches;
 use command_io::files::{NamedSource, OptionalFile};
 use command_io::trouble::Trouble;
@@ -43,6 +45,14 @@ pub(crate) struct AskedReplay<S> {
     pub(crate) settled: bool,
 }
 
+/// What `why` is asked for.
+#[derive(Drop)]
+pub(crate) struct AskedWhy<S> {
+    pub(crate) record: S,
+    /// What is asked about, if it is named.
+    pub(crate) question: Option<Question>,
+}
+
 /// A command that is asked for.
 #[derive(Drop)]
 pub(crate) enum Asked<'w, S> {
@@ -53,6 +63,8 @@ pub(crate) enum Asked<'w, S> {
     Lint(Vec<NamedSource<S>>),
     Replay(AskedReplay<S>),
     Graph(S),
+    Timeline(S),
+    Why(AskedWhy<S>),
     Run(AskedRun<'w, S>),
     Debug(S),
 }
@@ -169,6 +181,16 @@ impl<'m, 'w, F: Folder> Asking<'m, 'w, F> {
         Ok(AskedReplay { record, settled })
     }
 
+    /// What `why` is asked for.
+    fn asked_why(&self) -> Result<AskedWhy<F::File>, Trouble> {
+        let question = match self.words.get_strs("what") {
+            Some(words) => question_of(words)?,
+            None => None,
+        };
+        let record = self.open_required("record")?;
+        Ok(AskedWhy { record, question })
+    }
+
     /// What the words ask for after the name of their command.
     fn asked(&self, name: &str) -> Result<Asked<'w, F::File>, Trouble> {
         match name {
@@ -179,6 +201,8 @@ impl<'m, 'w, F: Folder> Asking<'m, 'w, F> {
             "lint" => Ok(Asked::Lint(self.open_flows()?)),
             "replay" => Ok(Asked::Replay(self.asked_replay()?)),
             "graph" => Ok(Asked::Graph(self.open_required("file")?)),
+            "timeline" => Ok(Asked::Timeline(self.open_required("record")?)),
+            "why" => Ok(Asked::Why(self.asked_why()?)),
             "run" => Ok(Asked::Run(self.asked_run()?)),
             "debug" => Ok(Asked::Debug(self.open_required("record")?)),
             _ => Err(Trouble::Words),

@@ -42,6 +42,11 @@ fn known_replay<'a>(alloc: Global) -> Result<Command<'a>, AllocError> {
     known_file(alloc, "replay", "record")?.arg(settled)
 }
 
+/// The command `why`.
+fn known_why<'a>(alloc: Global) -> Result<Command<'a>, AllocError> {
+    known_file(alloc, "why", "record")?.arg(Arg::new(alloc, "what").num_args(1..))
+}
+
 /// The command `run`.
 fn known_run<'a>(alloc: Global) -> Result<Command<'a>, AllocError> {
     let workers = Arg::new(alloc, "workers")
@@ -77,6 +82,8 @@ pub(crate) fn known_commands<'a>(alloc: Global) -> Result<Command<'a>, AllocErro
     let known = with(known, known_flows(alloc, "lint"))?;
     let known = with(known, known_replay(alloc))?;
     let known = with(known, known_file(alloc, "graph", "file"))?;
+    let known = with(known, known_file(alloc, "timeline", "record"))?;
+    let known = with(known, known_why(alloc))?;
     let known = with(known, known_run(alloc))?;
     with(known, known_file(alloc, "debug", "record"))
 }

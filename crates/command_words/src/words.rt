@@ -5,7 +5,7 @@ ghost use Rattle.std.specs.IoError.{error_kind};
 ghost use Rattle.command_words.specs.Words as spec;
 ghost use Rattle.command_words.specs.Words.{RunTells};
 
-use crate::asked::{Asked, AskedEval, AskedPlan, AskedReplay, AskedRun, asked_by};
+use crate::asked::{Asked, AskedEval, AskedPlan, AskedReplay, AskedRun, AskedWhy, asked_by};
 use crate::folder::Folder;
 use crate::known::known_commands;
 use clap::{ArgMatches, Error};
@@ -29,6 +29,8 @@ use std::io;
 use std::io::ErrorKind;
 use std::sync::Wait;
 use std::thread::Threads;
+use timeline_command::timeline::timeline;
+use why_command::why::why;
 
 /// Runs `eval`.
 fn perform_eval<S: Source + Drop, O: Sink, E: Sink>(
@@ -133,6 +135,36 @@ fn perform_graph<S: Source + Drop, O: Sink, E: Sink>(
     graph(alloc, &mut text, out, err)
 }
 
+/// Runs `timeline`.
+fn perform_timeline<S: Source + Drop, O: Sink, E: Sink>(
+    alloc: Global,
+    mut record: S,
+    out: &mut O,
+    err: &mut E,
+) -> u8
+    ensures { spec.RunsTimeline (O.seen out.old) (O.seen out.new)
+        (E.seen err.old) (E.seen err.new) result }
+{
+    timeline(alloc, &mut record, out, err)
+}
+
+/// Runs `why`.
+fn perform_why<S: Source + Drop, O: Sink, E: Sink>(
+    alloc: Global,
+    asked: AskedWhy<S>,
+    out: &mut O,
+    err: &mut E,
+) -> u8
+    ensures { spec.RunsWhy (O.seen out.old) (O.seen out.new)
+        (E.seen err.old) (E.seen err.new) result }
+{
+    let AskedWhy {
+        mut record,
+        question,
+    } = asked;
+    why(alloc, &mut record, question, out, err)
+}
+
 /// Runs `run`.
 fn perform_run<M: Machine + Threads + Wait + Sync, S: Source + Drop, O: Sink, E: Sink>(
     alloc: Global,
@@ -186,6 +218,8 @@ fn perform<M: Machine + Threads + Wait + Sync, S: Source + Drop, I: LineSource, 
         Asked::Lint(flows) => perform_lint(alloc, flows, out, err),
         Asked::Replay(asked) => perform_replay(alloc, asked, out, err),
         Asked::Graph(text) => perform_graph(alloc, text, out, err),
+        Asked::Timeline(record) => perform_timeline(alloc, record, out, err),
+        Asked::Why(asked) => perform_why(alloc, asked, out, err),
         Asked::Run(asked) => perform_run(alloc, machine, asked, out, err),
         Asked::Debug(record) => perform_debug(alloc, record, input, out, err),
     }

@@ -1,7 +1,8 @@
 -- Which answers may end a call.
 use Rattle.std.specs.Prelude.{ℕ, ℤ, pos, negsuc, ◌&&◌, Bool, true, false, not, nat_le, List, length}
 use Rattle.std.specs.List.{list_all, list_any}
-use Rattle.flow_model.specs.Name.{is_output_name, is_pair_name, is_zero}
+use Rattle.flow_model.specs.Name.{is_output_name, is_zero}
+use Rattle.flow_model.specs.Rules.{is_variable_name}
 use Rattle.flow_model.specs.declared.event.Answer.{Answer}
 use Rattle.flow_model.specs.declared.event.Answer.TheVariants.{Exit, NotStarted, BadOutput}
 
@@ -14,9 +15,10 @@ is_exit_code (negsuc n) = false
 abbrev pub is_output : List ℕ × List ℕ → Bool
 is_output p = is_output_name p.0 && nat_le (length p.1) 65536
 
--- a name of a variable that a step sets, and a value of at most 65,536 bytes without zero bytes
+-- a name of a variable, of at most 256 bytes, and a value of at most 65,536 bytes without zero bytes
 abbrev pub is_pair : List ℕ × List ℕ → Bool
-is_pair p = is_pair_name p.0 && nat_le (length p.1) 65536 && not (list_any is_zero p.1)
+is_pair p =
+    is_variable_name p.0 && nat_le (length p.0) 256 && nat_le (length p.1) 65536 && not (list_any is_zero p.1)
 
 -- an Exit has a code from 0 to 255, at most 256 outputs and at most 256 variables; the other answers are free
 abbrev pub is_well_formed : Answer → Bool

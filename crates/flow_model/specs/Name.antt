@@ -1,5 +1,5 @@
 -- The names of jobs, steps, outputs and variables.
-use Rattle.std.specs.Prelude.{ℕ, ◌&&◌, ◌||◌, Bool, false, not, nat_eq, nat_le, List, [], ◌∷◌, codes, length}
+use Rattle.std.specs.Prelude.{ℕ, ◌&&◌, ◌||◌, Bool, false, nat_eq, nat_le, List, [], ◌∷◌, codes, length}
 use Rattle.std.specs.List.{list_all, list_any}
 pub use Rattle.expr_reader.specs.Bytes.{is_letter, is_digit}
 
@@ -27,11 +27,3 @@ is_output_name name = nat_le 1 (length name) && nat_le (length name) 256 && are_
 -- the zero byte
 abbrev pub is_zero : ℕ → Bool
 is_zero b = nat_eq b 0
-
--- `=`, or the zero byte
-abbrev pub ends_pair_name : ℕ → Bool
-ends_pair_name b = is_zero b || is_one_of (codes "=") b
-
--- a variable that a step sets is named by 1 to 256 bytes without `=` and zero bytes
-abbrev pub is_pair_name : List ℕ → Bool
-is_pair_name name = nat_le 1 (length name) && nat_le (length name) 256 && not (list_any ends_pair_name name)

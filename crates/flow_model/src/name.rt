@@ -49,17 +49,3 @@ pub fn has_zero(bytes: &[u8]) -> bool
 {
     bytes.iter().any(|byte| *byte == 0)
 }
-
-/// Whether there is a `=` or a zero byte.
-fn has_end_of_pair_name(bytes: &[u8]) -> bool
-    ensures { result ≡ list_any spec.ends_pair_name bytes.now }
-{
-    bytes.iter().any(|byte| *byte == 0 || *byte == b'=')
-}
-
-/// Whether a text may name a variable that a step sets: 1 to 256 bytes without `=` and zero bytes.
-pub(crate) fn is_pair_name(text: &str) -> bool
-    ensures { result ≡ spec.is_pair_name text.now }
-{
-    1 <= text.len() && text.len() <= 256 && !has_end_of_pair_name(text.as_bytes())
-}

@@ -21,6 +21,6 @@ pub nothing_set : NothingSetIsTheJobs
 unfolding leg_env
 nothing_set at none = by (job_env at)
   where
-    by : (r : Result Env ValueFault) → then_value r (λ below. Ok (set_over at below)) ≡ r
+    by : (r : Result Env ValueFault) → then_value r (λ below. Ok (set_over at.leg.steps below)) ≡ r
     by (Ok below) = ap (λ (e : Env). (let r : Result Env ValueFault = Ok e in r)) (nothing_laid at.leg.steps below none)
     by (Err f) = refl

@@ -6,8 +6,9 @@ use Rattle.flow_model.specs.Answer.{is_well_formed}
 use Rattle.flow_model.specs.declared.event.Answer.{Answer}
 use Rattle.flow_model.specs.declared.event.Answer.TheVariants.{Exit}
 use Rattle.flow_model.specs.Mapping.{with_pair}
-use Rattle.flow_model.specs.Name.{is_name_byte, is_zero, ends_pair_name}
+use Rattle.flow_model.specs.Name.{is_name_byte, is_zero}
 use Rattle.flow_model.specs.Lines.{newline, lines_of}
+use Rattle.flow_model.specs.Rules.{is_variable_byte}
 use Rattle.program_texts.specs.Splits.{split_first}
 use Rattle.program_texts.specs.declared.output_fault.OutputFault.{OutputFault}
 use Rattle.program_texts.specs.declared.output_fault.OutputFault.TheVariants.{NotUtf8, NoName, OpenBlock, TooMany, Memory}
@@ -27,7 +28,7 @@ Reading = Result (List Pair) OutputFault
 -- A byte of a name: of an output a letter, a digit, `_` or `-`, and of a variable anything but `=` and the zero byte.
 abbrev pub names : PairFile → ℕ → Bool
 names Outputs b = is_name_byte b
-names Env b = not (ends_pair_name b)
+names Env b = is_variable_byte b
 
 -- A name has such bytes alone, and one at least.
 abbrev pub is_name : PairFile → List ℕ → Bool

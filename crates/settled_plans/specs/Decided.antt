@@ -1,7 +1,6 @@
 -- What is decided by the texts of a job and its steps, by what each place sees.
-use Rattle.std.specs.Prelude.{ℕ, ◌&&◌, Bool, true, false, List, [], map, length, Option, Some, None, Result, Ok, if◌then◌else◌}
-use Rattle.board_decisions.specs.Contexts.{overlaid}
-use Rattle.board_decisions.specs.Decisions.{then_value, or_none, work_value}
+use Rattle.std.specs.Prelude.{ℕ, ◌&&◌, Bool, true, false, List, [], length, Option, Some, None, Result, Ok, if◌then◌else◌}
+use Rattle.board_decisions.specs.Decisions.{then_value, or_none, work_value, set_over}
 use Rattle.board_decisions.specs.Derived.{is_failure}
 use Rattle.expr_value.specs.declared.status.Status.{Status}
 use Rattle.flow_model.specs.declared.board.DoneStep.{DoneStep}
@@ -31,13 +30,9 @@ job_variables sees run job =
     then_value (flow_variables sees run) (λ below.
     then_value (env_value (sees place.JobEnv []) job.env) (λ above. Ok (laid_over above below)))
 
--- What done steps set over others, each over those before it.
-abbrev pub set_over_by : List DoneStep → Env → Env
-set_over_by done below = overlaid (map (λ step. step.env) done) below
-
 -- The variables of a job, and over them what the done steps of a leg set.
 abbrev pub leg_variables : Sight → RunPlan → JobPlan → List DoneStep → Result Env ValueFault
-leg_variables sees run job done = then_value (job_variables sees run job) (λ below. Ok (set_over_by done below))
+leg_variables sees run job done = then_value (job_variables sees run job) (λ below. Ok (set_over done below))
 
 -- The same, and those of a step over them.
 abbrev pub step_variables : Sight → RunPlan → JobPlan → List DoneStep → StepPlan → Result Env ValueFault

@@ -48,19 +48,19 @@ record Levels (at : LegAt) (step : StepPlan) (env : Env) : Type 0 where
   own : Env
   workflow_is : env_value (seen_from at place.WorkflowEnv []) at.run_plan.env ≡ Ok workflow
   job_is : env_value (seen_from at place.JobEnv []) at.job_plan.env ≡ Ok job
-  own_is : env_value (seen_from at place.StepEnv (set_over at (laid_over job workflow))) step.env ≡ Ok own
-  laid : laid_over own (set_over at (laid_over job workflow)) ≡ env
+  own_is : env_value (seen_from at place.StepEnv (set_over at.leg.steps (laid_over job workflow))) step.env ≡ Ok own
+  laid : laid_over own (set_over at.leg.steps (laid_over job workflow)) ≡ env
 
 levels : (at : LegAt) (step : StepPlan) (env : Env) → step_env at step ≡ Ok env → Levels at step env
 unfolding step_env leg_env job_env flow_env
 levels at step env h =
     let below = then-ok (leg_env at) (λ below. then_value (env_value (seen_from at place.StepEnv below) step.env) (λ above. Ok (laid_over above below))) env h in
     let own = then-ok (env_value (seen_from at place.StepEnv below.0) step.env) (λ above. Ok (laid_over above below.0)) env below.2 in
-    let of_job = then-ok (job_env at) (λ under. Ok (set_over at under)) below.0 below.1 in
+    let of_job = then-ok (job_env at) (λ under. Ok (set_over at.leg.steps under)) below.0 below.1 in
     let flow = then-ok (flow_env at) (λ under. then_value (env_value (seen_from at place.JobEnv []) at.job_plan.env) (λ above. Ok (laid_over above under))) of_job.0 of_job.1 in
     let job = then-ok (env_value (seen_from at place.JobEnv []) at.job_plan.env) (λ above. Ok (laid_over above flow.0)) of_job.0 flow.2 in
     let under : laid_over job.0 flow.0 ≡ of_job.0 = same-ok (laid_over job.0 flow.0) of_job.0 (Ok (laid_over job.0 flow.0)) refl job.2 in
-    let two : set_over at (laid_over job.0 flow.0) ≡ below.0 = ap (set_over at) under ∙ same-ok (set_over at of_job.0) below.0 (Ok (set_over at of_job.0)) refl of_job.2 in
+    let two : set_over at.leg.steps (laid_over job.0 flow.0) ≡ below.0 = ap (set_over at.leg.steps) under ∙ same-ok (set_over at.leg.steps of_job.0) below.0 (Ok (set_over at.leg.steps of_job.0)) refl of_job.2 in
     let all : laid_over own.0 below.0 ≡ env = same-ok (laid_over own.0 below.0) env (Ok (laid_over own.0 below.0)) refl own.2 in
     record {
       workflow = flow.0;
@@ -159,7 +159,7 @@ call_in_order names stay at step call ordered made =
     let three = levels at step call.env made.env in
     let flow = (names (seen_from at place.WorkflowEnv []) at.run_plan.env three.workflow ordered.workflow three.workflow_is).1 in
     record {
-      env = subst (λ (e : Env). Ascends e) three.laid (stay (set_over at (laid_over three.job three.workflow)) three.own
+      env = subst (λ (e : Env). Ascends e) three.laid (stay (set_over at.leg.steps (laid_over three.job three.workflow)) three.own
           (set_in_order stay (levels_of at.leg.steps) (laid_over three.job three.workflow) (stay three.workflow three.job flow)));
       work = asked_in_order names (seen_from at place.StepText call.env) step.work call.work ordered.own.work made.work;
     }
@@ -168,7 +168,7 @@ call_most_specific : EnvHasItsNames → MostSpecificWins → (at : LegAt) (step 
 call_most_specific names wins at step call ordered set made =
     let three = levels at step call.env made.env in
     let job = (names (seen_from at place.JobEnv []) at.job_plan.env three.job ordered.job three.job_is).1 in
-    let own = (names (seen_from at place.StepEnv (set_over at (laid_over three.job three.workflow))) step.env three.own ordered.own.env three.own_is).1 in
+    let own = (names (seen_from at place.StepEnv (set_over at.leg.steps (laid_over three.job three.workflow))) step.env three.own ordered.own.env three.own_is).1 in
     record {
       workflow = three.workflow;
       job = three.job;
@@ -178,7 +178,7 @@ call_most_specific names wins at step call ordered set made =
       own_is = three.own_is;
       given = λ name.
           ap (λ (e : Env). value_at name e) (sym three.laid)
-          ∙ one_found wins three.own (set_over at (laid_over three.job three.workflow)) name own
+          ∙ one_found wins three.own (set_over at.leg.steps (laid_over three.job three.workflow)) name own
           ∙ ap (or_below (value_at name three.own)) (set_found wins at.leg.steps (laid_over three.job three.workflow) name set
           ∙ ap (or_below (last_set name at.leg.steps)) (one_found wins three.job three.workflow name job));
     }

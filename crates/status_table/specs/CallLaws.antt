@@ -101,7 +101,8 @@ pub record MostSpecificIsGiven (at : LegAt) (step : StepPlan) (call : StepCall) 
   pub own : Env
   pub workflow_is : env_value (seen_from at place.WorkflowEnv []) at.run_plan.env ≡ Ok workflow
   pub job_is : env_value (seen_from at place.JobEnv []) at.job_plan.env ≡ Ok job
-  pub own_is : env_value (seen_from at place.StepEnv (set_over at (laid_over job workflow))) step.env ≡ Ok own
+  pub own_is :
+      env_value (seen_from at place.StepEnv (set_over at.leg.steps (laid_over job workflow))) step.env ≡ Ok own
   pub given : (name : List ℕ)
       → value_at name call.env
       ≡ or_below (value_at name own) (or_below (last_set name at.leg.steps)

@@ -1,0 +1,6 @@
+mod Agreeing
+mod Becoming
+mod Going
+mod Grouping
+mod Members
+mod Noting

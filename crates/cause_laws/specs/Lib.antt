@@ -1,0 +1,4 @@
+pub mod Agrees
+pub mod Becomes
+pub mod Made
+pub mod Stands

@@ -1,0 +1,42 @@
+//! What the words of `why` ask about.
+
+use board_causes::question::Question;
+use command_io::trouble::Trouble;
+
+/// The number that digits write; one beyond the greatest of 64 bits counts as that.
+fn number_of(digits: &str) -> Result<u64, Trouble> {
+    if digits.is_empty() {
+        return Err(Trouble::Words);
+    }
+    let mut number: u64 = 0;
+    for byte in digits.as_bytes() {
+        let Some(digit) = char::from(*byte).to_digit(10) else {
+            return Err(Trouble::Words);
+        };
+        number = number.saturating_mul(10).saturating_add(u64::from(digit));
+    }
+    Ok(number)
+}
+
+/// The run, the job or the leg with that number.
+fn named_question(kind: &str, number: u64) -> Result<Question, Trouble> {
+    match kind {
+        "run" => Ok(Question::Run(number)),
+        "job" => Ok(Question::Job(number)),
+        "leg" => Ok(Question::Leg(number)),
+        _ => Err(Trouble::Words),
+    }
+}
+
+/// What words ask about: a run, a job, a leg, or a step of a leg, each by its number; no words ask about nothing by name.
+pub(crate) fn question_of(words: &[&str]) -> Result<Option<Question>, Trouble> {
+    match words {
+        [] => Ok(None),
+        [kind, number] => Ok(Some(named_question(kind, number_of(number)?)?)),
+        ["step", leg, step] => Ok(Some(Question::Step {
+            leg: number_of(leg)?,
+            step: number_of(step)?,
+        })),
+        _ => Err(Trouble::Words),
+    }
+}

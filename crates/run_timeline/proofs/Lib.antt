@@ -1,0 +1,4 @@
+mod Ascending
+mod Entries
+mod NewRows
+mod Parts

@@ -1,0 +1,10 @@
+pub mod Bars
+pub mod Frames
+pub mod Laws
+pub mod Layout
+pub mod Legend
+pub mod Noted
+pub mod Phases
+pub mod Played
+pub mod Rows
+pub mod Words

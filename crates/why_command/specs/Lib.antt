@@ -1,0 +1,4 @@
+pub mod Names
+pub mod Roots
+pub mod Why
+pub mod Words
