@@ -206,10 +206,10 @@ text_words step_text.Work = codes "a text of what it does"
 
 -- what a program ended with
 abbrev pub exit_words : ℕ → Option DoneStep → ℤ → List ℕ
-exit_words n done (pos zero) = codes " succeeded" ++ at_line n
-exit_words n done (pos (suc code)) =
-    (codes " failed" ++ at_line n) ++ ((codes ": the program ended with " ++ decimal (suc code)) ++ passed_words done)
-exit_words n done (negsuc code) = (codes " failed" ++ at_line n) ++ passed_words done
+exit_words n step (pos zero) = codes " succeeded" ++ at_line n
+exit_words n step (pos (suc code)) =
+    (codes " failed" ++ at_line n) ++ ((codes ": the program ended with " ++ decimal (suc code)) ++ passed_words step)
+exit_words n step (negsuc code) = (codes " failed" ++ at_line n) ++ passed_words step
 
 -- the condition of a step
 abbrev pub step_condition : Option StepPlan → Option (List ℕ)
