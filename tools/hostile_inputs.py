@@ -13,7 +13,7 @@ COMMANDS = ("eval", "plan", "list", "lint", "table", "replay", "graph", "timelin
 WEIGHTS = (22, 15, 4, 10, 8, 10, 6, 8, 12, 12, 6)
 LONGEST_WORD = 131000
 # a changed text has fewer bytes
-MOST = 16 << 20
+MOST = 4 << 20
 
 EVENTS = {"open": "run", "close": "run", "cancel": "run", "judge": "job"}
 EVENTS.update(dict.fromkeys(("ask", "drop", "take", "begin", "end", "finish"), "leg"))
@@ -298,7 +298,8 @@ def change(chance, value):
         del place[chance.randrange(len(place))]
     elif chance.random() < 0.3 and place:
         again, count = chance.choice(place), chance.choice((1, 2, 16, 255, 256))
-        place += [again] * (count if count * len(spelled(again)) < MOST else 1)
+        # (copies, so that what is changed next grows in one place alone)
+        place += [copy.deepcopy(again) for _ in range(count if count * len(spelled(again)) < MOST else 1)]
     else:
         place.insert(chance.randrange(len(place) + 1), strange_value(chance))
 
@@ -317,7 +318,6 @@ def changed_json(chance, text, often=0.25):
             made = spelled(value)
         except MemoryError:
             return garbled(chance, text)
-        # (what stands in many places may have grown since)
         text = made if len(made) < MOST else text
     return sometimes_garbled(chance, text, often)
 
