@@ -95,6 +95,8 @@ def main():
     asked = [it for it in everything if not sys.argv[1:] or it.name in sys.argv[1:]]
     names = {it.name for crate in asked for it in [crate, *crate.below()]}
     crates = [it for it in everything if it.name in names]
+    # (no other `rt` works in these crates until this run ends)
+    held = rt.rtlib.lock(crates)
     behind, processors, began = chains(crates), rt.processors(), time.monotonic()
     proved = {it.name for it in crates if is_built(rt, it)}
     left, failed, running = [it for it in crates if it.name not in proved], set(), {}
@@ -117,6 +119,8 @@ def main():
     if failed:
         print(f"not proved: {' '.join(sorted(failed))}; not tried: {' '.join(it.name for it in left) or 'none'}")
     print(f"{len(proved)} of {len(crates)} crates are built, after {(time.monotonic() - began) / 60:.0f} minutes")
+    for it in held:
+        os.close(it)
     return 1 if failed else 0
 
 
