@@ -294,7 +294,8 @@ impl Counted {
 
     /// How the legs of the job at a place stand.
     pub fn tally(&self, place: JobPlace) -> Tally
-        ensures { (job : Job) → job_there self.now.board place ≡ Some job → result ≡ tally_of_job job }
+        ensures { (job : Job)
+            → job_there self.now.board place ≡ Some job → result ≡ tally_of_job job }
     {
         let Some(row) = self.tallies.as_slice().get(place.run) else {
             return no_legs();

@@ -189,7 +189,8 @@ impl Tracked {
     /// Takes back that a leg was noted, where nothing else is to be taken back any more. It takes no memory.
     pub fn pop_end(&mut self, alloc: Global)
         ensures plan { self.new.plan ≡ self.old.plan }
-        ensures board { (b : Board) (l : ℕ) → self.old.board ≡ spec.noted_last b l → self.new.board ≡ b }
+        ensures board { (b : Board) (l : ℕ)
+            → self.old.board ≡ spec.noted_last b l → self.new.board ≡ b }
     {
         self.counted.pop_end(alloc);
     }

@@ -1,6 +1,6 @@
 //! The queue of tickets.
 
-ghost use Rattle.std.specs.Prelude.{◌≡◌, ◌<◌, [], ◌∷◌, length, IfOk, IfErr, IfNone};
+ghost use Rattle.std.specs.Prelude.{◌≡◌, ◌<◌, [], ◌∷◌, length, IfOk, OnErr, IfNone};
 ghost use Rattle.crossbeam_queue.specs.Fifo.{Held};
 ghost use Rattle.crossbeam_queue.specs.Passes.{view, IsSamePass, IsPassOf as IsSeatOf};
 ghost use Rattle.ready_queue.specs.Passes.{IsPassOf, records_of, capacity_of, PutStep, TakeStep, IsCountOf};
@@ -55,7 +55,7 @@ impl<H: HouseRule> HouseQueue<H> {
         requires house { StaysAtPut H.holds (capacity_of self.now) (records_of pass.old) ticket }
         ensures pass { IsPassOf self.now pass.new }
         ensures step { PutStep self.now pass.old ticket result pass.new }
-        ensures full { IfErr result (λ back. Held (capacity_of self.now) (HeldAt H.holds (records_of pass.old))) }
+        ensures full { OnErr result (Held (capacity_of self.now) (HeldAt H.holds (records_of pass.old))) }
         ensures names { KeepsNames (records_of pass.old) (records_of pass.new) }
     {
         self.put_within::<Brand, R>(rt, &mut pass.seat, ticket)?;
@@ -76,7 +76,7 @@ impl<H: HouseRule> HouseQueue<H> {
         requires house { StaysAtPut H.holds (capacity_of self.now) (view seat.old) ticket }
         ensures pass { IsSamePass seat.old seat.new }
         ensures step { step.PutTells N.room (view seat.old) ticket result (view seat.new) }
-        ensures full { IfErr result (λ back. Held (capacity_of self.now) (HeldAt H.holds (view seat.old))) }
+        ensures full { OnErr result (Held (capacity_of self.now) (HeldAt H.holds (view seat.old))) }
     {
         // Read for its range: the queue holds fewer tickets than a word counts.
         let _capacity = self.tickets.capacity();
