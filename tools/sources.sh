@@ -37,7 +37,7 @@ sources() {
     crates | while read -r name _; do
       cd "$top/crates/$name" && find src specs proofs -type f -print0 2>/dev/null | LC_ALL=C sort -z | xargs -0 -r sha256sum
     done
-    cat "$top/crates.txt" "$top/tools/prove.sh" "$top/tools/sources.sh"
+    cat "$top/crates.txt" "$top/tools/prove.sh" "$top/tools/sources.sh" "$top/tools/verdicts.py"
   } | sha256sum
 }
 

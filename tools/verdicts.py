@@ -9,7 +9,8 @@ so, and of which nothing changed, nor of a crate below, is not proved again. No 
 the gate's alone.
 
 A crate gets up to three processors where others wait for it, so that the longest chain of crates, by the figures of
-docs/GATE.md, ends soon. What the prover said stands in crates/NAME/out/verdict. The status is 1 where a crate is not proved.
+docs/GATE.md, ends soon. A line is told for each crate that is proved, and for one that is not the end of what the prover
+said, all of which stands in crates/NAME/out/verdict. The status is 1 where a crate is not proved.
 
 It works by the toolchain's own `rt`, which it loads as a module; the libraries serve `rt check` in the crates above too.
 """
@@ -49,11 +50,11 @@ def figures():
     return {row[1]: float(row[4]) for row in rows if len(row) > 4 and re.fullmatch(r"[0-9.]+", row[4])}
 
 
-def chains(crates):
+def chains(crates, takes):
     """Returns what the longest chain of proofs takes that begins with each crate. The crates are given lowest first."""
-    takes, found = figures(), {it.name: 0.0 for it in crates}
+    found = {it.name: 0.0 for it in crates}
     for crate in reversed(crates):
-        found[crate.name] += takes.get(crate.name, 1.0)
+        found[crate.name] += takes[crate.name]
         for below in crate.below():
             found[below.name] = max(found[below.name], found[crate.name])
     return found
@@ -65,9 +66,9 @@ def mark_of(crate):
 
 
 def is_built(rt, crate):
-    # (an `rt lib` after this run builds a library anew, and this file goes with it)
-    with_statements = crate.is_program or os.path.exists(f"{crate.folder}/out/rlib/statements")
-    return with_statements and rt.rtlib.text_of(mark_of(crate)) == crate.stamp()
+    # (an `rt lib` after this run builds a library anew, and that file goes with it)
+    made = f"{crate.folder}/out/{crate.name if crate.is_program else 'rlib/statements'}"
+    return os.path.exists(made) and rt.rtlib.text_of(mark_of(crate)) == crate.stamp()
 
 
 def prove(rt, crates, crate, jobs):
@@ -88,6 +89,14 @@ def prove(rt, crates, crate, jobs):
     return status == 0
 
 
+def tell_end(crate):
+    """Tells the end of what the prover said of a crate, without the lines that only count."""
+    counts = re.compile(r"(checked|so far|statements|library|logic)[ =:]|.*: proved$")
+    with open(f"{crate.folder}/out/verdict", encoding="utf-8", errors="replace") as it:
+        lines = [line for line in it if not counts.match(line)]
+    print("".join(lines[-20:]), end="", flush=True)
+
+
 def main():
     rt = load()
     rt.rtlib.guarded()
@@ -97,10 +106,13 @@ def main():
     crates = [it for it in everything if it.name in names]
     # (no other `rt` works in these crates until this run ends)
     held = rt.rtlib.lock(crates)
-    behind, processors, began = chains(crates), rt.processors(), time.monotonic()
+    measured = figures()
+    takes = {it.name: measured.get(it.name, 1.0) for it in crates}
+    behind, processors, began = chains(crates, takes), rt.processors(), time.monotonic()
     proved = {it.name for it in crates if is_built(rt, it)}
     left, failed, running = [it for it in crates if it.name not in proved], set(), {}
-    print(f"{len(proved)} crates are built, {len(left)} are left", flush=True)
+    minutes = lambda: round(sum(takes[it.name] for it in crates if it.name not in proved))
+    print(f"{len(proved)} of {len(crates)} crates are built; the others take some {minutes()} processor minutes", flush=True)
     with ThreadPoolExecutor(processors) as pool:
         while left or running:
             ready = sorted((it for it in left if all(below.name in proved for below in it.below())), key=lambda it: -behind[it.name])
@@ -115,7 +127,12 @@ def main():
             for done in wait(running, return_when=FIRST_COMPLETED).done:
                 crate, jobs, at = running.pop(done)
                 (proved if done.result() else failed).add(crate.name)
-                print(f"{crate.name} {'proved' if crate.name in proved else 'NOT PROVED'} in {time.monotonic() - at:.0f} s by {jobs}", flush=True)
+                took = f"in {time.monotonic() - at:.0f} s by {jobs} {'job' if jobs == 1 else 'jobs'}"
+                if crate.name in proved:
+                    print(f"proved {crate.name} {took}, {len(proved)} of {len(crates)}; some {minutes()} processor minutes are left", flush=True)
+                else:
+                    tell_end(crate)
+                    print(f"{crate.name} IS NOT PROVED, {took}", flush=True)
     if failed:
         print(f"not proved: {' '.join(sorted(failed))}; not tried: {' '.join(it.name for it in left) or 'none'}")
     print(f"{len(proved)} of {len(crates)} crates are built, after {(time.monotonic() - began) / 60:.0f} minutes")
