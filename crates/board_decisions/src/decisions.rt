@@ -135,7 +135,7 @@ fn know_job_over(
 {
     let job = env_at(alloc, at, known, Place::JobEnv, &at.job_plan.env)?;
     known.set_env(below);
-    known.lay_env(alloc, &job)?;
+    known.lay_own_env(alloc, job)?;
     Ok(())
 }
 
@@ -195,7 +195,7 @@ fn know_step_env(
 {
     know_leg_env(alloc, at, known)?;
     let own = env_at(alloc, at, known, Place::StepEnv, &step.env)?;
-    known.lay_env(alloc, &own)?;
+    known.lay_own_env(alloc, own)?;
     Ok(())
 }
 
@@ -278,7 +278,7 @@ fn work_value(
     }
 }
 
-/// The call of a step, whose variables are known.
+/// The call of a step, whose variables are known; it takes them.
 fn call_value(
     alloc: Global,
     number: u64,
@@ -291,8 +291,8 @@ fn call_value(
         (spec.call_value number (leg_seen at.now) step.now (known_env known.old)) }
     ensures known { IsKnownOf (leg_scene at.now) known.new }
 {
-    let env = known.env().copy(alloc)?;
     let work = work_value(alloc, at, known, &step.work)?;
+    let env = known.take_env(alloc);
     Ok(StepCall {
         leg: number,
         step: at.leg.steps.len() as u64,

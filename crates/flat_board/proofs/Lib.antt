@@ -5,3 +5,4 @@ pub mod Kept
 pub mod Named
 pub mod Playing
 pub mod Reached
+pub mod FirstMove

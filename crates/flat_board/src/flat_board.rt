@@ -12,7 +12,7 @@ ghost use Rattle.status_table.specs.Runs.{new_play};
 
 use crate::events::{ask, begin, cancel, close, discard, end, finish, judge, open, take};
 use crate::laws::events_keep_the_groups;
-use crate::moves::find_moves;
+use crate::moves::{find_first, find_moves};
 use crate::undo::Undo;
 use flat_counters::Tracked;
 use flow_model::{Board, CheckedPlan, Duplicate, Entry, Event, Reply, Sequence};
@@ -230,6 +230,10 @@ impl Table for FlatBoard {
     fn moves(&self) -> Result<Sequence<Event>, AllocError> {
         let events = find_moves(self.alloc, self.state.counted())?;
         Ok(Sequence::new(events))
+    }
+
+    fn first_move(&self) -> Result<Option<Event>, AllocError> {
+        find_first(self.alloc, self.state.counted())
     }
 }
 

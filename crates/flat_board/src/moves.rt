@@ -1,6 +1,8 @@
 //! What a clerk may do: those of its events that the table accepts, by the counters.
 
-ghost use Rattle.std.specs.Prelude.{◌≡◌, ◌++◌, IfOk, filter};
+ghost use Rattle.std.specs.Prelude.{◌≡◌, ◌++◌, IfOk, List, filter, length, slice_get};
+ghost use Rattle.flow_model.specs.Numbers.{board_jobs, board_legs};
+ghost use Rattle.flow_model.specs.declared.event.Event.{Event as EventOf};
 ghost use Rattle.flow_model.specs.declared.event.Event.TheVariants as event;
 ghost use Rattle.status_table.specs.InPlay.{InPlay};
 ghost use Rattle.status_table.specs.Kinds as spec;
@@ -114,18 +116,92 @@ fn add_moves(
     Ok(all)
 }
 
+/// How many runs, jobs and legs a board has.
+#[derive(Clone, Copy)]
+struct Counts {
+    runs: usize,
+    jobs: usize,
+    legs: usize,
+}
+
+/// Counts the runs, jobs and legs of a board.
+fn counts(state: &Counted) -> Counts
+    requires { InPlay state.now.plan state.now.board }
+    ensures runs { result.runs ≡ length state.now.board.runs }
+    ensures jobs { result.jobs ≡ length (board_jobs state.now.board) }
+    ensures legs { result.legs ≡ length (board_legs state.now.board) }
+{
+    let _plan = state.plan();
+    let runs = state.board().runs.as_slice();
+    Counts {
+        runs: runs.len(),
+        jobs: count_jobs(runs),
+        legs: count_legs(runs),
+    }
+}
+
 /// The clerk's events that the table accepts on a board.
 pub(crate) fn find_moves(alloc: Global, state: &Counted) -> Result<Vec<Event>, AllocError>
     requires { InPlay state.now.plan state.now.board }
     ensures { IfOk result (λ all. all.items ≡ rule.moves state.now.plan state.now.board) }
 {
-    let _plan = state.plan();
-    let runs = state.board().runs.as_slice();
-    let jobs = count_jobs(runs);
-    let legs = count_legs(runs);
-    let closed = add_moves(alloc, state, Kind::Close, runs.len(), Vec::new(alloc))?;
-    let opened = add_moves(alloc, state, Kind::Open, runs.len(), closed)?;
-    let judged = add_moves(alloc, state, Kind::Judge, jobs, opened)?;
-    let dropped = add_moves(alloc, state, Kind::Drop, legs, judged)?;
-    add_moves(alloc, state, Kind::Ask, legs, dropped)
+    let counts = counts(state);
+    let closed = add_moves(alloc, state, Kind::Close, counts.runs, Vec::new(alloc))?;
+    let opened = add_moves(alloc, state, Kind::Open, counts.runs, closed)?;
+    let judged = add_moves(alloc, state, Kind::Judge, counts.jobs, opened)?;
+    let dropped = add_moves(alloc, state, Kind::Drop, counts.legs, judged)?;
+    add_moves(alloc, state, Kind::Ask, counts.legs, dropped)
+}
+
+/// The first event of a kind that the table accepts, by ascending number.
+#[tactic(auto, using(crate::proofs::FirstMove::none_yet, crate::proofs::FirstMove::first_there))]
+fn first_of(
+    alloc: Global,
+    state: &Counted,
+    kind: Kind,
+    count: usize,
+) -> Result<Option<Event>, AllocError>
+    requires { InPlay state.now.plan state.now.board }
+    ensures { IfOk result (λ first. first ≡ slice_get
+        (filter (rule.accepts state.now.plan state.now.board) (spec.events_of kind count)) 0) }
+{
+    for number in 0..count {
+        if accepts(alloc, state, kind, number as u64)? {
+            return Ok(Some(event_of(kind, number as u64)));
+        }
+    }
+    Ok(None)
+}
+
+/// The first of some events, or else the first of a kind that the table accepts.
+#[tactic(auto, using(crate::proofs::FirstMove::first_stays, crate::proofs::FirstMove::first_later))]
+fn first_or(
+    alloc: Global,
+    state: &Counted,
+    first: Option<Event>,
+    kind: Kind,
+    count: usize,
+) -> Result<Option<Event>, AllocError>
+    requires { InPlay state.now.plan state.now.board }
+    ensures { (before : List EventOf) → first ≡ slice_get before 0
+        → IfOk result (λ found. found ≡ slice_get (before
+        ++ filter (rule.accepts state.now.plan state.now.board) (spec.events_of kind count)) 0) }
+{
+    match first {
+        Some(event) => Ok(Some(event)),
+        None => first_of(alloc, state, kind, count),
+    }
+}
+
+/// The first of the clerk's events that the table accepts on a board, if there is one.
+pub(crate) fn find_first(alloc: Global, state: &Counted) -> Result<Option<Event>, AllocError>
+    requires { InPlay state.now.plan state.now.board }
+    ensures { IfOk result (λ first. first ≡ rule.first_move state.now.plan state.now.board) }
+{
+    let counts = counts(state);
+    let closes = first_of(alloc, state, Kind::Close, counts.runs)?;
+    let opens = first_or(alloc, state, closes, Kind::Open, counts.runs)?;
+    let judges = first_or(alloc, state, opens, Kind::Judge, counts.jobs)?;
+    let drops = first_or(alloc, state, judges, Kind::Drop, counts.legs)?;
+    first_or(alloc, state, drops, Kind::Ask, counts.legs)
 }

@@ -31,7 +31,7 @@ filter_append {A} t (x ∷ xs) ys = go (t x) (filter_append t xs ys)
     go true h = ap (λ zs. x ∷ zs) h
     go false h = h
 
-step : {A : Type 0} (t : A → Bool) (f : ℕ → A) (n : ℕ) → filter t (map f (numbers (n + 1))) ≡ filter t (map f (numbers n)) ++ filter t (f n ∷ [])
+pub step : {A : Type 0} (t : A → Bool) (f : ℕ → A) (n : ℕ) → filter t (map f (numbers (n + 1))) ≡ filter t (map f (numbers n)) ++ filter t (f n ∷ [])
 step t f n =
     let e : n + 1 ≡ suc n = omega arith in
     rw e (ap (filter t) (map-append f (numbers n) (n ∷ [])) ∙ filter_append t (map f (numbers n)) (f n ∷ []))

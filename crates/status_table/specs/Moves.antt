@@ -1,5 +1,5 @@
 -- What a clerk may do on a board, whether all is done, and whether nothing can go on.
-use Rattle.std.specs.Prelude.{ℕ, zero, suc, ◌&&◌, ◌++◌, Bool, true, false, not, List, [], ◌∷◌, length, map, filter, Ok, Err}
+use Rattle.std.specs.Prelude.{ℕ, zero, suc, ◌&&◌, ◌++◌, Bool, true, false, not, List, [], ◌∷◌, length, map, filter, slice_get, Option, Ok, Err}
 use Rattle.std.specs.List.{list_all, list_any}
 use Rattle.board_decisions.specs.Derived.{is_closed}
 use Rattle.flow_model.specs.Numbers.{board_jobs, board_legs}
@@ -35,6 +35,10 @@ accepts p b e = is_accepted (row p b 0 e)
 -- Those of the clerk's events that are accepted.
 abbrev pub moves : Plan → Board → List Event
 moves p b = filter (accepts p b) (clerk_events b)
+
+-- The first of them, if there is one.
+abbrev pub first_move : Plan → Board → Option Event
+first_move p b = slice_get (moves p b) 0
 
 -- Every run is Closed.
 abbrev pub finished : Board → Bool

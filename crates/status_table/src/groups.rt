@@ -196,7 +196,7 @@ fn waiter_of(board: &Board, group: &Option<Text>) -> Option<Member>
 }
 
 /// Who is next in the group of a run.
-pub(crate) fn next_after_run(board: &Board, run: &Run) -> Option<Member>
+pub fn next_after_run(board: &Board, run: &Run) -> Option<Member>
     requires { HasFewLegs board.now }
     ensures { result ≡ spec.next_after board.now (spec.run_standing run.now) }
 {
@@ -209,7 +209,7 @@ pub(crate) fn next_after_run(board: &Board, run: &Run) -> Option<Member>
 }
 
 /// Who is next in the group of a leg.
-pub(crate) fn next_after_leg(board: &Board, leg: &Leg) -> Option<Member>
+pub fn next_after_leg(board: &Board, leg: &Leg) -> Option<Member>
     requires { HasFewLegs board.now }
     ensures { result ≡ spec.next_after board.now (spec.leg_standing leg.now) }
 {

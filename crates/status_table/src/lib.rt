@@ -25,7 +25,7 @@ pub mod events;
 pub mod fault;
 pub mod groups;
 pub mod laws;
-mod members;
+pub mod members;
 pub mod moves;
 pub mod new_board;
 pub mod plain_board;

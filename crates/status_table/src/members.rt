@@ -18,7 +18,7 @@ const MOST_LEGS: usize = 4096;
 
 /// Who is looked for at a name: its holder, or who waits for it.
 #[derive(Clone, Copy)]
-pub(crate) enum Role {
+pub enum Role {
     Holder,
     Waiter,
 }
@@ -94,7 +94,7 @@ fn find_leg(board: &Board, role: Role, name: &str) -> Option<u64>
 }
 
 /// The first run, else the first leg, that has a role at a name.
-pub(crate) fn find_member(board: &Board, role: Role, name: &str) -> Option<Member>
+pub fn find_member(board: &Board, role: Role, name: &str) -> Option<Member>
     requires { HasFewLegs board.now }
     ensures { result ≡ spec.first_member (has_role role name.now) board.now }
 {

@@ -4,6 +4,7 @@ ghost use Rattle.std.specs.Prelude.{◌≡◌, IfOk};
 ghost use Rattle.flow_model.specs.declared.board.Board.{Board};
 ghost use Rattle.status_table.specs.Answers.{Answers};
 ghost use Rattle.status_table.specs.InPlay.{InPlay};
+ghost use Rattle.status_table.specs.Moves.{moves};
 ghost use Rattle.status_table.specs.Row.{event_row};
 ghost use Rattle.status_table.specs.Runs.{new_play};
 ghost use Rattle.status_table.specs.Shape.{HasFewLegs};
@@ -65,6 +66,13 @@ impl PlainBoard {
     {
         &self.board
     }
+
+    /// The clerk's events that the table accepts.
+    fn clerk_moves(&self) -> Result<Vec<Event>, AllocError>
+        ensures { IfOk result (λ all. all.items ≡ moves self.now.plan self.now.board) }
+    {
+        find_moves(self.alloc, self.plan.plan(), &self.board)
+    }
 }
 
 /// Plays an event that a worker from 0 to 15 reports.
@@ -115,8 +123,11 @@ impl Table for PlainBoard {
     }
 
     fn moves(&self) -> Result<Sequence<Event>, AllocError> {
-        let events = find_moves(self.alloc, self.plan.plan(), &self.board)?;
-        Ok(Sequence::new(events))
+        Ok(Sequence::new(self.clerk_moves()?))
+    }
+
+    fn first_move(&self) -> Result<Option<Event>, AllocError> {
+        Ok(self.clerk_moves()?.into_iter().next())
     }
 }
 

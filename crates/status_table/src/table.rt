@@ -50,4 +50,12 @@ pub trait Table {
     /// `AllocError` where there is no memory for them.
     fn moves(&self) -> Result<Sequence<Event>, AllocError>
         ensures { IfOk result (λ es. es ≡ spec.moves (plan self.now) (board self.now)) };
+
+    /// The first of these events, if there is one.
+    ///
+    /// # Errors
+    ///
+    /// `AllocError` where there is no memory to find it.
+    fn first_move(&self) -> Result<Option<Event>, AllocError>
+        ensures { IfOk result (λ first. first ≡ spec.first_move (plan self.now) (board self.now)) };
 }

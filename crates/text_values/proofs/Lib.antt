@@ -6,3 +6,4 @@ mod OwnTexts
 mod Looking
 mod Onto
 mod Lawful
+mod LaidOver

@@ -4,8 +4,9 @@ use Rattle.std.proofs.lemmas.Bool.Decides.{nat_tests}
 use Rattle.expr_reader.specs.Accepts.{WhatStandsForItselfIsRead, stands_for_itself}
 use Rattle.expr_value.specs.Context.{Contexts}
 use Rattle.expr_value.specs.Limit.{limited}
+use Rattle.expr_value.specs.Template.{text_answer}
 use Rattle.flow_model.specs.Plain.{text}
-use Rattle.text_values.specs.Texts.{read_value, text_value}
+use Rattle.text_values.specs.Texts.{read_value, text_text, text_value}
 
 within : (bytes : List ℕ) → length bytes ≤ 1048576 → limited bytes ≡ Ok (text bytes)
 within bytes short =
@@ -23,3 +24,8 @@ own_value read c (b ∷ bs) holds =
     ap (read_value c) (read (b ∷ bs) holds)
     ∙ ap (λ (bytes : List ℕ). limited bytes) (append-nil (b ∷ bs))
     ∙ within (b ∷ bs) (short_of (b ∷ bs) holds)
+
+-- It is its own text.
+pub own_text : WhatStandsForItselfIsRead → (c : Contexts) (bytes : List ℕ) → stands_for_itself bytes ≡ true → text_text c bytes ≡ Ok bytes
+unfolding text_text
+own_text read c bytes holds = ap text_answer (own_value read c bytes holds)

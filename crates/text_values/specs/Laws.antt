@@ -1,5 +1,5 @@
 -- Laws of the values, each the contract of a function that does nothing.
-use Rattle.std.specs.Prelude.{◌≡◌, ◌≤◌, ℕ, Bool, true, false, if◌then◌else◌, Some, None, Ok, Err, List, [], ◌∷◌, ◌++◌, length}
+use Rattle.std.specs.Prelude.{◌≡◌, ℕ, Bool, true, false, if◌then◌else◌, Some, None, Ok, Err, List, [], ◌∷◌, ◌++◌}
 use Rattle.expr_reader.specs.Accepts.{condition_read, stands_for_itself}
 use Rattle.expr_reader.specs.Expr.{call, none}
 use Rattle.expr_reader.specs.Template.{Piece, marked, names_status, SpellsCondition}

@@ -6,7 +6,7 @@ ghost use Rattle.text_values.specs.Env.{laid_over};
 ghost use Rattle.text_values.specs.Known.{IsKnownOf, known_env, value_made as value_made_of, with_value};
 ghost use Rattle.text_values.specs.Values.{Values, is_env as is_env_of};
 
-use crate::levels::lay_over;
+use crate::levels::{lay_all_over, lay_over};
 use expr_reader::Context;
 use flow_model::{Mapping, Text, Value};
 use std::alloc::{AllocError, Global};
@@ -56,17 +56,46 @@ impl Known {
     }
 
     /// A level laid over the variables from now on; where memory runs out, there are none.
-    #[tactic(auto, using(crate::proofs::Making::other_known))]
+    #[tactic(auto, using(crate::proofs::Making::other_known, crate::proofs::LaidOver::none_over))]
     pub fn lay_env(&mut self, alloc: Global, above: &Mapping<Text>) -> Result<(), AllocError>
         ensures ok { OnOk result (known_env self.new ≡ laid_over above.now (known_env self.old)) }
         ensures err { OnErr result (known_env self.new ≡ []) }
         ensures known { (values : Values)
             → IsKnownOf values self.old → IsKnownOf values self.new }
     {
+        if above.is_empty() {
+            return Ok(());
+        }
         let below = mem::replace(&mut self.env, Mapping::empty(alloc));
         self.env_value = None;
         self.env = lay_over(alloc, below, above)?;
         Ok(())
+    }
+
+    /// The same with a level that is not needed any more, and is not copied.
+    #[tactic(auto, using(crate::proofs::Making::other_known))]
+    pub fn lay_own_env(&mut self, alloc: Global, above: Mapping<Text>) -> Result<(), AllocError>
+        ensures ok { OnOk result (known_env self.new ≡ laid_over above (known_env self.old)) }
+        ensures err { OnErr result (known_env self.new ≡ []) }
+        ensures known { (values : Values)
+            → IsKnownOf values self.old → IsKnownOf values self.new }
+    {
+        let below = mem::replace(&mut self.env, Mapping::empty(alloc));
+        self.env_value = None;
+        self.env = lay_all_over(below, above)?;
+        Ok(())
+    }
+
+    /// Gives the variables away; from now on there are none.
+    #[tactic(auto, using(crate::proofs::Making::other_known))]
+    pub fn take_env(&mut self, alloc: Global) -> Mapping<Text>
+        ensures env { result ≡ known_env self.old }
+        ensures none { known_env self.new ≡ [] }
+        ensures known { (values : Values)
+            → IsKnownOf values self.old → IsKnownOf values self.new }
+    {
+        self.env_value = None;
+        mem::replace(&mut self.env, Mapping::empty(alloc))
     }
 
     /// The value of a context, where it was made.

@@ -38,6 +38,16 @@ fn own_value(alloc: Global, text: &str) -> Result<Value, AllocError>
     value_of(alloc, text)
 }
 
+// The text of a text that stands for itself.
+#[tactic(auto, using(crate::proofs::OwnTexts::own_text))]
+fn own_text(alloc: Global, text: &str) -> Result<Text, AllocError>
+    requires { stands_for_itself_of text.now ≡ true }
+    ensures { (c : Contexts) → IfOk result (λ own. text_text c text.now ≡ Ok own) }
+{
+    itself_reading();
+    Text::from_str(alloc, text)
+}
+
 // The value of what is no template.
 fn unread_value(alloc: Global, fault: ExprFault) -> Result<Value, ValueFault>
     ensures { (c : Contexts) (pieces : Option (List Piece))
@@ -62,8 +72,29 @@ fn unread_holds(fault: ExprFault) -> Result<bool, ValueFault>
     Ok(false)
 }
 
-/// The value of a text at a place.
+// The value of a text at a place, by its template.
 #[tactic(auto, unfolding(crate::specs::Texts::text_value))]
+fn evaluated_at<S: Scene>(
+    alloc: Global,
+    scene: &S,
+    known: &mut Known,
+    place: Place,
+    text: &str,
+) -> Result<Value, ValueFault>
+    requires { IsKnownOf (S.values scene.now) known.old }
+    ensures value { Gives (λ value. value) result
+        (text_value (contexts_at place (with_env (known_env known.old) (S.values scene.now)))
+        text.now) }
+    ensures env { known_env known.new ≡ known_env known.old }
+    ensures known { IsKnownOf (S.values scene.now) known.new }
+{
+    match read_template(alloc, text) {
+        Ok(template) => template_at(alloc, scene, known, place, &template),
+        Err(fault) => unread_value(alloc, fault),
+    }
+}
+
+/// The value of a text at a place.
 pub(crate) fn value_at<S: Scene>(
     alloc: Global,
     scene: &S,
@@ -81,10 +112,7 @@ pub(crate) fn value_at<S: Scene>(
     if stands_for_itself(text) {
         return Ok(own_value(alloc, text)?);
     }
-    match read_template(alloc, text) {
-        Ok(template) => template_at(alloc, scene, known, place, &template),
-        Err(fault) => unread_value(alloc, fault),
-    }
+    evaluated_at(alloc, scene, known, place, text)
 }
 
 /// The value of a text at a place, turned to text: `run`, a working directory, a group's name.
@@ -107,7 +135,10 @@ pub fn text_at<S: Scene>(
     ensures env { known_env known.new ≡ known_env known.old }
     ensures known { IsKnownOf (S.values scene.now) known.new }
 {
-    let value = value_at(alloc, scene, known, place, text)?;
+    if stands_for_itself(text) {
+        return Ok(own_text(alloc, text)?);
+    }
+    let value = evaluated_at(alloc, scene, known, place, text)?;
     Ok(to_text(alloc, &value)?)
 }
 

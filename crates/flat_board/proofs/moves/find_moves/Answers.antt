@@ -1,44 +1,20 @@
-use Rattle.std.proofs.Common.{◌≡◌, ◌++◌, List, filter, length, sum_by, ap, sym, ◌∙◌, arith}
+use Rattle.std.proofs.Common.{◌≡◌, ◌++◌, List, filter, length, ap, ◌∙◌}
 use Rattle.std.proofs.lemmas.Result.{IfOk-weaker}
-use Rattle.flow_model.specs.Numbers.{board_jobs, board_legs}
-use Rattle.flow_model.specs.declared.board.Board.{Board}
-use Rattle.flow_model.specs.declared.board.Run.{Run}
 use Rattle.flow_model.specs.declared.event.Event.{Event}
 use Rattle.status_table.specs.Kinds.{events_of}
 use Rattle.status_table.specs.Moves.{accepts}
 use Rattle.status_table.specs.declared.moves.Kind.TheVariants as kind
-use Rattle.status_table.proofs.Accepting.{in_order, jobs_counted, legs_counted}
-use Rattle.status_table.proofs.InPlay.{few_in_play, few_jobs_in_play}
+use Rattle.status_table.proofs.Accepting.{in_order}
+use Rattle.flat_board.proofs.FirstMove.{as_counted}
 use Rattle.flat_board.proofs.moves.find_moves.Goals as goal
-
-pub count_jobs-jobs-requires : goal.count_jobs-jobs-requires
-count_jobs-jobs-requires c =
-    let b = c.args.state.now.board in
-    let same = ap (sum_by (λ (run : Run). length run.jobs)) (c.as_slice-runs.ensures ∙ ap (λ (x : Board). x.runs) c.board.ensures.board) in
-    let counted = jobs_counted b in
-    let few = few_jobs_in_play c.args.state.now.plan c.plan-plan.result.now b c.plan-plan.ensures.same c.plan-plan.ensures.rules c.requires in
-    omega (arith, same, counted, few)
-
-pub count_legs-legs-requires : goal.count_legs-legs-requires
-count_legs-legs-requires c =
-    let b = c.args.state.now.board in
-    let same = ap (sum_by (λ (run : Run). sum_by (λ job. length job.legs) run.jobs)) (c.as_slice-runs.ensures ∙ ap (λ (x : Board). x.runs) c.board.ensures.board) in
-    let counted = legs_counted b in
-    let few = few_in_play c.args.state.now.plan c.plan-plan.result.now b c.plan-plan.ensures.same c.plan-plan.ensures.rules c.requires in
-    omega (arith, same, counted, few)
 
 pub returns : goal.returns
 returns c =
     let b = c.args.state.now.board in
-    let runs_are = c.as_slice-runs.ensures ∙ ap (λ (x : Board). x.runs) c.board.ensures.board in
     let t = accepts c.args.state.now.plan b in
-    let n = length c.as_slice-runs.result.now in
-    let j = c.count_jobs-jobs.result in
-    let l = c.count_legs-legs.result in
-    let n_is : n ≡ length b.runs = ap length runs_are in
-    let j_is : j ≡ length (board_jobs b) = c.count_jobs-jobs.ensures ∙ ap (sum_by (λ (run : Run). length run.jobs)) runs_are ∙ sym (jobs_counted b) in
-    let l_is : l ≡ length (board_legs b) =
-    c.count_legs-legs.ensures ∙ ap (sum_by (λ (run : Run). sum_by (λ job. length job.legs) run.jobs)) runs_are ∙ sym (legs_counted b) in
+    let n = c.counts.result.runs in
+    let j = c.counts.result.jobs in
+    let l = c.counts.result.legs in
     let closed = c.in_ok-closed.ensures ∙ ap (λ (xs : List Event). xs ++ filter t (events_of kind.Close n)) c.new.ensures.items in
     let opened = c.in_ok-opened.ensures ∙ ap (λ (xs : List Event). xs ++ filter t (events_of kind.Open n)) closed in
     let judged = c.in_ok-judged.ensures ∙ ap (λ (xs : List Event). xs ++ filter t (events_of kind.Judge j)) opened in
@@ -46,7 +22,5 @@ returns c =
     IfOk-weaker c.add_moves-5.result _ _ (λ all h.
     h ∙ ap (λ (xs : List Event). xs ++ filter t (events_of kind.Ask l)) dropped
     ∙ in_order t (events_of kind.Close n) (events_of kind.Open n) (events_of kind.Judge j) (events_of kind.Drop l) (events_of kind.Ask l)
-    ∙ ap (λ m. filter t (events_of kind.Close m ++ (events_of kind.Open m ++ (events_of kind.Judge j ++ (events_of kind.Drop l ++ events_of kind.Ask l))))) n_is
-    ∙ ap (λ m. filter t (events_of kind.Close (length b.runs) ++ (events_of kind.Open (length b.runs) ++ (events_of kind.Judge m ++ (events_of kind.Drop l ++ events_of kind.Ask l))))) j_is
-    ∙ ap (λ m. filter t (events_of kind.Close (length b.runs) ++ (events_of kind.Open (length b.runs) ++ (events_of kind.Judge (length (board_jobs b)) ++ (events_of kind.Drop m ++ events_of kind.Ask m))))) l_is)
+    ∙ ap (filter t) (as_counted b n j l c.counts.ensures.runs c.counts.ensures.jobs c.counts.ensures.legs))
     c.add_moves-5.ensures

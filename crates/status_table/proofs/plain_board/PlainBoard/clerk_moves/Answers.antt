@@ -1,5 +1,5 @@
 use Rattle.status_table.proofs.InPlay.{few_in_play, few_jobs_in_play}
-use Rattle.status_table.proofs.plain_board.PlainBoardTable.moves.Goals as goal
+use Rattle.status_table.proofs.plain_board.PlainBoard.clerk_moves.Goals as goal
 
 pub find_moves-requires-clause-jobs : goal.find_moves-requires-clause-jobs
 find_moves-requires-clause-jobs c =

@@ -1,0 +1,50 @@
+-- The first of the clerk's events that are accepted.
+use Rattle.std.proofs.Common.{◌≡◌, ℕ, zero, suc, ◌+◌, ◌-◌, ◌<◌, ◌++◌, Bool, true, false, List, [], ◌∷◌, Option, Some, None, length, map, filter, slice_get, ap, sym, refl, subst, ◌∙◌, arith}
+use Rattle.flow_model.specs.Numbers.{board_jobs, board_legs}
+use Rattle.flow_model.specs.declared.board.Board.{Board}
+use Rattle.flow_model.specs.declared.event.Event.{Event}
+use Rattle.status_table.specs.Kinds.{events_of}
+use Rattle.status_table.specs.declared.moves.Kind.TheVariants as kind
+use Rattle.status_table.specs.Moves.{numbers, clerk_events}
+use Rattle.status_table.proofs.Accepting.{step}
+use Rattle.flat_board.proofs.Accepting.{one_more, none_more}
+
+-- what is first stays so whatever comes after it
+pub first_stays : {A : Type 0} (xs ys : List A) (x : A) → Some x ≡ slice_get xs 0 → Some x ≡ slice_get (xs ++ ys) 0
+first_stays [] ys x e = cc
+first_stays (z ∷ xs) ys x e = e
+
+-- where there is none the first is that of what comes after
+pub first_later : {A : Type 0} (xs ys : List A) → None ≡ slice_get xs 0 → slice_get (xs ++ ys) 0 ≡ slice_get ys 0
+first_later [] ys e = refl
+first_later (x ∷ xs) ys e = cc
+
+-- none of one number more
+pub none_yet : {A : Type 0} (t : A → Bool) (f : ℕ → A) (n : ℕ) → filter t (map f (numbers n)) ≡ [] → t (f n) ≡ false → filter t (map f (numbers (n + 1))) ≡ []
+none_yet t f n none h = none_more t f n [] h ∙ none
+
+-- the first that is accepted, of so many numbers more
+of_more : {A : Type 0} (t : A → Bool) (f : ℕ → A) (n d : ℕ) → filter t (map f (numbers n)) ≡ [] → t (f n) ≡ true
+    → Some (f n) ≡ slice_get (filter t (map f (numbers (d + (n + 1))))) 0
+of_more {A} t f n zero none yes =
+    let e : zero + (n + 1) ≡ n + 1 = omega arith in
+    rw e (sym (ap (λ (xs : List A). slice_get xs 0) (one_more t f n [] yes ∙ ap (λ (xs : List A). xs ++ f n ∷ []) none)))
+of_more {A} t f n (suc d) none yes =
+    let e : suc d + (n + 1) ≡ (d + (n + 1)) + 1 = omega arith in
+    rw e (first_stays (filter t (map f (numbers (d + (n + 1))))) (filter t (f (d + (n + 1)) ∷ [])) (f n) (of_more t f n d none yes)
+    ∙ sym (ap (λ (xs : List A). slice_get xs 0) (step t f (d + (n + 1)))))
+
+-- It is the first of all below a count.
+pub first_there : {A : Type 0} (t : A → Bool) (f : ℕ → A) (n count : ℕ) → n < count → filter t (map f (numbers n)) ≡ [] → t (f n) ≡ true
+    → Some (f n) ≡ slice_get (filter t (map f (numbers count))) 0
+first_there t f n count below none yes =
+    let e : (count - (n + 1)) + (n + 1) ≡ count = omega (arith, below) in
+    subst (λ (c : ℕ). Some (f n) ≡ slice_get (filter t (map f (numbers c))) 0) e (of_more t f n (count - (n + 1)) none yes)
+
+-- The clerk's events by their kinds, where the counts are those of a board.
+pub as_counted : (b : Board) (n j l : ℕ) → n ≡ length b.runs → j ≡ length (board_jobs b) → l ≡ length (board_legs b)
+    → events_of kind.Close n ++ (events_of kind.Open n ++ (events_of kind.Judge j ++ (events_of kind.Drop l ++ events_of kind.Ask l))) ≡ clerk_events b
+as_counted b n j l n_is j_is l_is =
+    ap (λ m. events_of kind.Close m ++ (events_of kind.Open m ++ (events_of kind.Judge j ++ (events_of kind.Drop l ++ events_of kind.Ask l)))) n_is
+    ∙ ap (λ m. events_of kind.Close (length b.runs) ++ (events_of kind.Open (length b.runs) ++ (events_of kind.Judge m ++ (events_of kind.Drop l ++ events_of kind.Ask l)))) j_is
+    ∙ ap (λ m. events_of kind.Close (length b.runs) ++ (events_of kind.Open (length b.runs) ++ (events_of kind.Judge (length (board_jobs b)) ++ (events_of kind.Drop m ++ events_of kind.Ask m)))) l_is

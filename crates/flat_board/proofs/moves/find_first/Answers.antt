@@ -1,0 +1,29 @@
+use Rattle.std.proofs.Common.{◌≡◌, ◌++◌, List, filter, slice_get, ap, ◌∙◌}
+use Rattle.std.proofs.lemmas.Result.{IfOk-weaker}
+use Rattle.flow_model.specs.declared.event.Event.{Event}
+use Rattle.status_table.specs.Kinds.{events_of}
+use Rattle.status_table.specs.Moves.{accepts}
+use Rattle.status_table.specs.declared.moves.Kind.TheVariants as kind
+use Rattle.status_table.proofs.Accepting.{in_order}
+use Rattle.flat_board.proofs.FirstMove.{as_counted}
+use Rattle.flat_board.proofs.moves.find_first.Goals as goal
+
+pub returns : goal.returns
+returns c =
+    let b = c.args.state.now.board in
+    let t = accepts c.args.state.now.plan b in
+    let n = c.counts.result.runs in
+    let j = c.counts.result.jobs in
+    let l = c.counts.result.legs in
+    let close : List Event = filter t (events_of kind.Close n) in
+    let open_too : List Event = close ++ filter t (events_of kind.Open n) in
+    let judge_too : List Event = open_too ++ filter t (events_of kind.Judge j) in
+    let drop_too : List Event = judge_too ++ filter t (events_of kind.Drop l) in
+    let opens = c.in_ok-opens.ensures close c.in_ok-closes.ensures in
+    let judges = c.in_ok-judges.ensures open_too opens in
+    let drops = c.in_ok-drops.ensures judge_too judges in
+    IfOk-weaker c.first_or-4.result _ _ (λ first h.
+    h ∙ ap (λ (xs : List Event). slice_get xs 0)
+    (in_order t (events_of kind.Close n) (events_of kind.Open n) (events_of kind.Judge j) (events_of kind.Drop l) (events_of kind.Ask l)
+    ∙ ap (filter t) (as_counted b n j l c.counts.ensures.runs c.counts.ensures.jobs c.counts.ensures.legs)))
+    (c.first_or-4.ensures drop_too drops)
