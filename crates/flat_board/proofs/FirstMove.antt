@@ -1,8 +1,7 @@
 -- The first of the clerk's events that are accepted.
-use Rattle.std.proofs.Common.{◌≡◌, ℕ, zero, suc, ◌+◌, ◌-◌, ◌<◌, ◌++◌, Bool, true, false, List, [], ◌∷◌, Option, Some, None, length, map, filter, slice_get, ap, sym, refl, subst, ◌∙◌, arith}
+use Rattle.std.proofs.Common.{◌≡◌, ℕ, zero, suc, ◌+◌, ◌-◌, ◌<◌, ◌++◌, Bool, true, false, List, [], ◌∷◌, Some, None, length, map, filter, slice_get, ap, sym, refl, subst, ◌∙◌, arith}
 use Rattle.flow_model.specs.Numbers.{board_jobs, board_legs}
 use Rattle.flow_model.specs.declared.board.Board.{Board}
-use Rattle.flow_model.specs.declared.event.Event.{Event}
 use Rattle.status_table.specs.Kinds.{events_of}
 use Rattle.status_table.specs.declared.moves.Kind.TheVariants as kind
 use Rattle.status_table.specs.Moves.{numbers, clerk_events}
@@ -26,20 +25,20 @@ none_yet t f n none h = none_more t f n [] h ∙ none
 -- the first that is accepted, of so many numbers more
 of_more : {A : Type 0} (t : A → Bool) (f : ℕ → A) (n d : ℕ) → filter t (map f (numbers n)) ≡ [] → t (f n) ≡ true
     → Some (f n) ≡ slice_get (filter t (map f (numbers (d + (n + 1))))) 0
-of_more {A} t f n zero none yes =
+of_more {A} t f n zero none holds =
     let e : zero + (n + 1) ≡ n + 1 = omega arith in
-    rw e (sym (ap (λ (xs : List A). slice_get xs 0) (one_more t f n [] yes ∙ ap (λ (xs : List A). xs ++ f n ∷ []) none)))
-of_more {A} t f n (suc d) none yes =
+    rw e (sym (ap (λ (xs : List A). slice_get xs 0) (one_more t f n [] holds ∙ ap (λ (xs : List A). xs ++ f n ∷ []) none)))
+of_more {A} t f n (suc d) none holds =
     let e : suc d + (n + 1) ≡ (d + (n + 1)) + 1 = omega arith in
-    rw e (first_stays (filter t (map f (numbers (d + (n + 1))))) (filter t (f (d + (n + 1)) ∷ [])) (f n) (of_more t f n d none yes)
+    rw e (first_stays (filter t (map f (numbers (d + (n + 1))))) (filter t (f (d + (n + 1)) ∷ [])) (f n) (of_more t f n d none holds)
     ∙ sym (ap (λ (xs : List A). slice_get xs 0) (step t f (d + (n + 1)))))
 
 -- It is the first of all below a count.
 pub first_there : {A : Type 0} (t : A → Bool) (f : ℕ → A) (n count : ℕ) → n < count → filter t (map f (numbers n)) ≡ [] → t (f n) ≡ true
     → Some (f n) ≡ slice_get (filter t (map f (numbers count))) 0
-first_there t f n count below none yes =
+first_there t f n count below none holds =
     let e : (count - (n + 1)) + (n + 1) ≡ count = omega (arith, below) in
-    subst (λ (c : ℕ). Some (f n) ≡ slice_get (filter t (map f (numbers c))) 0) e (of_more t f n (count - (n + 1)) none yes)
+    subst (λ (c : ℕ). Some (f n) ≡ slice_get (filter t (map f (numbers c))) 0) e (of_more t f n (count - (n + 1)) none holds)
 
 -- The clerk's events by their kinds, where the counts are those of a board.
 pub as_counted : (b : Board) (n j l : ℕ) → n ≡ length b.runs → j ≡ length (board_jobs b) → l ≡ length (board_legs b)

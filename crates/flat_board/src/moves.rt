@@ -125,7 +125,7 @@ struct Counts {
 }
 
 /// Counts the runs, jobs and legs of a board.
-fn counts(state: &Counted) -> Counts
+fn count_all(state: &Counted) -> Counts
     requires { InPlay state.now.plan state.now.board }
     ensures runs { result.runs ≡ length state.now.board.runs }
     ensures jobs { result.jobs ≡ length (board_jobs state.now.board) }
@@ -145,7 +145,7 @@ pub(crate) fn find_moves(alloc: Global, state: &Counted) -> Result<Vec<Event>, A
     requires { InPlay state.now.plan state.now.board }
     ensures { IfOk result (λ all. all.items ≡ rule.moves state.now.plan state.now.board) }
 {
-    let counts = counts(state);
+    let counts = count_all(state);
     let closed = add_moves(alloc, state, Kind::Close, counts.runs, Vec::new(alloc))?;
     let opened = add_moves(alloc, state, Kind::Open, counts.runs, closed)?;
     let judged = add_moves(alloc, state, Kind::Judge, counts.jobs, opened)?;
@@ -198,7 +198,7 @@ pub(crate) fn find_first(alloc: Global, state: &Counted) -> Result<Option<Event>
     requires { InPlay state.now.plan state.now.board }
     ensures { IfOk result (λ first. first ≡ rule.first_move state.now.plan state.now.board) }
 {
-    let counts = counts(state);
+    let counts = count_all(state);
     let closes = first_of(alloc, state, Kind::Close, counts.runs)?;
     let opens = first_or(alloc, state, closes, Kind::Open, counts.runs)?;
     let judges = first_or(alloc, state, opens, Kind::Judge, counts.jobs)?;

@@ -1,4 +1,4 @@
-use Rattle.std.proofs.Common.{◌≡◌, ◌++◌, List, filter, slice_get, ap, ◌∙◌}
+use Rattle.std.proofs.Common.{◌++◌, List, filter, slice_get, ap, ◌∙◌}
 use Rattle.std.proofs.lemmas.Result.{IfOk-weaker}
 use Rattle.flow_model.specs.declared.event.Event.{Event}
 use Rattle.status_table.specs.Kinds.{events_of}
@@ -12,9 +12,9 @@ pub returns : goal.returns
 returns c =
     let b = c.args.state.now.board in
     let t = accepts c.args.state.now.plan b in
-    let n = c.counts.result.runs in
-    let j = c.counts.result.jobs in
-    let l = c.counts.result.legs in
+    let n = c.count_all-counts.result.runs in
+    let j = c.count_all-counts.result.jobs in
+    let l = c.count_all-counts.result.legs in
     let close : List Event = filter t (events_of kind.Close n) in
     let open_too : List Event = close ++ filter t (events_of kind.Open n) in
     let judge_too : List Event = open_too ++ filter t (events_of kind.Judge j) in
@@ -25,5 +25,5 @@ returns c =
     IfOk-weaker c.first_or-4.result _ _ (λ first h.
     h ∙ ap (λ (xs : List Event). slice_get xs 0)
     (in_order t (events_of kind.Close n) (events_of kind.Open n) (events_of kind.Judge j) (events_of kind.Drop l) (events_of kind.Ask l)
-    ∙ ap (filter t) (as_counted b n j l c.counts.ensures.runs c.counts.ensures.jobs c.counts.ensures.legs)))
+    ∙ ap (filter t) (as_counted b n j l c.count_all-counts.ensures.runs c.count_all-counts.ensures.jobs c.count_all-counts.ensures.legs)))
     (c.first_or-4.ensures drop_too drops)

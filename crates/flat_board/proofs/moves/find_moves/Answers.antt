@@ -1,4 +1,4 @@
-use Rattle.std.proofs.Common.{◌≡◌, ◌++◌, List, filter, length, ap, ◌∙◌}
+use Rattle.std.proofs.Common.{◌++◌, List, filter, ap, ◌∙◌}
 use Rattle.std.proofs.lemmas.Result.{IfOk-weaker}
 use Rattle.flow_model.specs.declared.event.Event.{Event}
 use Rattle.status_table.specs.Kinds.{events_of}
@@ -12,9 +12,9 @@ pub returns : goal.returns
 returns c =
     let b = c.args.state.now.board in
     let t = accepts c.args.state.now.plan b in
-    let n = c.counts.result.runs in
-    let j = c.counts.result.jobs in
-    let l = c.counts.result.legs in
+    let n = c.count_all-counts.result.runs in
+    let j = c.count_all-counts.result.jobs in
+    let l = c.count_all-counts.result.legs in
     let closed = c.in_ok-closed.ensures ∙ ap (λ (xs : List Event). xs ++ filter t (events_of kind.Close n)) c.new.ensures.items in
     let opened = c.in_ok-opened.ensures ∙ ap (λ (xs : List Event). xs ++ filter t (events_of kind.Open n)) closed in
     let judged = c.in_ok-judged.ensures ∙ ap (λ (xs : List Event). xs ++ filter t (events_of kind.Judge j)) opened in
@@ -22,5 +22,5 @@ returns c =
     IfOk-weaker c.add_moves-5.result _ _ (λ all h.
     h ∙ ap (λ (xs : List Event). xs ++ filter t (events_of kind.Ask l)) dropped
     ∙ in_order t (events_of kind.Close n) (events_of kind.Open n) (events_of kind.Judge j) (events_of kind.Drop l) (events_of kind.Ask l)
-    ∙ ap (filter t) (as_counted b n j l c.counts.ensures.runs c.counts.ensures.jobs c.counts.ensures.legs))
+    ∙ ap (filter t) (as_counted b n j l c.count_all-counts.ensures.runs c.count_all-counts.ensures.jobs c.count_all-counts.ensures.legs))
     c.add_moves-5.ensures
