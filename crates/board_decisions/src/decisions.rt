@@ -21,7 +21,9 @@ use flow_model::{
     CallWork, Duplicate, Group, Mapping, Outcome, StepCall, StepPlan, Text, ValueFault, Work,
 };
 use std::alloc::{AllocError, Global};
-use text_values::{Known, Place, Scene, condition_at, env_at, flag_at, outputs_at, text_at};
+use text_values::{
+    Known, Place, Scene, condition_at, env_at, env_over_at, flag_at, outputs_at, text_at,
+};
 
 /// Whether a job's condition holds under a status.
 #[tactic(auto, unfolding(crate::specs::Decisions::job_condition))]
@@ -133,9 +135,9 @@ fn know_job_over(
         (spec.job_env_over (leg_seen at.now) below) }
     ensures known { IsKnownOf (leg_scene at.now) known.new }
 {
-    let job = env_at(alloc, at, known, Place::JobEnv, &at.job_plan.env)?;
-    known.set_env(below);
-    known.lay_own_env(alloc, job)?;
+    let env = &at.job_plan.env;
+    let made = env_over_at(alloc, at, known, Place::JobEnv, env, below)?;
+    known.set_env(made);
     Ok(())
 }
 

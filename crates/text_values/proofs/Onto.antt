@@ -8,7 +8,7 @@ use Rattle.flow_model.specs.Mapping.{with_pair, keys_of, Ascends}
 use Rattle.flow_model.specs.Plain.{Plain}
 use Rattle.flow_model.specs.declared.reply.ValueFault.{ValueFault}
 use Rattle.flow_model.proofs.LastPair.{with_pair-above, keys_of-next}
-use Rattle.text_values.specs.Env.{env_text, with_variable, env_value}
+use Rattle.text_values.specs.Env.{env_text, with_variable, env_value, laid_over, set_over_below}
 use Rattle.text_values.specs.Outputs.{with_output, outputs_value, with_output_set}
 use Rattle.text_values.specs.Texts.{text_text}
 use Rattle.text_values.specs.Values.{Env}
@@ -59,6 +59,24 @@ after_none (Err fault) = refl
 -- Set over nothing they are the environment.
 pub env_onto_none : (c : Contexts) (ps : List (List ℕ × Plain)) → Ascends ps → env_onto c ps [] ≡ env_value c ps
 env_onto_none c ps h = env_is c ps [] (keys_of ps) refl h ∙ after_none (env_value c ps)
+
+below_by : (c : Contexts) (name : List ℕ) (ps : List (List ℕ × Plain)) (below : Env) (r : Result (List ℕ) ValueFault) (others : Result Env ValueFault)
+    → ((made : Env) → env_onto c ps made ≡ set_over_below others made)
+    → set_text (env_onto c ps) name below r ≡ set_over_below (with_variable name r others) below
+unfolding laid_over
+below_by c name ps below (Ok bytes) (Ok env) rest = rest (with_pair name bytes below)
+below_by c name ps below (Ok bytes) (Err fault) rest = rest (with_pair name bytes below)
+below_by c name ps below (Err fault) others rest = refl
+
+-- Set over others they are the environment laid over these.
+pub env_onto_below : (c : Contexts) (ps : List (List ℕ × Plain)) (below : Env) → env_onto c ps below ≡ set_over_below (env_value c ps) below
+unfolding env_value laid_over
+env_onto_below c [] below = refl
+env_onto_below c (p ∷ ps) below = below_by c p.0 ps below (env_text c p.1) (env_value c ps) (env_onto_below c ps)
+
+-- Set over none they are the environment.
+pub env_over_none : (c : Contexts) (ps : List (List ℕ × Plain)) → Ascends ps → set_over_below (env_value c ps) [] ≡ env_value c ps
+env_over_none c ps h = sym (env_onto_below c ps []) ∙ env_onto_none c ps h
 
 below_without : (a : List ℕ) (xs : List (List ℕ)) (k : List ℕ) (ys : List (List ℕ)) → AllByRecursion (λ y. slice_cmp nat_cmp a y ≡ Less) (xs ++ k ∷ ys) → AllByRecursion (λ y. slice_cmp nat_cmp a y ≡ Less) (xs ++ ys)
 below_without a [] k ys h = h.1

@@ -34,6 +34,11 @@ unfoldable pub laid_over : {V : Type 0} → List (List ℕ × V) → List (List 
 laid_over [] below = below
 laid_over (p ∷ ps) below = laid_over ps (with_pair p.0 p.1 below)
 
+-- The variables of an `env` set over those below it, or the first fault.
+abbrev pub set_over_below : Result Env ValueFault → Env → Result Env ValueFault
+set_over_below (Ok env) below = Ok (laid_over env below)
+set_over_below (Err fault) below = Err fault
+
 -- What is there, or else what is below.
 abbrev pub or_below : {V : Type 0} → Option V → Option V → Option V
 or_below None below = below

@@ -2,7 +2,7 @@
 
 ghost use Rattle.std.specs.Prelude.{◌≡◌};
 ghost use Rattle.expr_value.specs.Answer.{Gives};
-ghost use Rattle.text_values.specs.Env.{env_text, env_value};
+ghost use Rattle.text_values.specs.Env.{env_text, env_value, set_over_below};
 ghost use Rattle.text_values.specs.Known.{IsKnownOf, known_env};
 ghost use Rattle.text_values.specs.Values.{contexts_at, with_env};
 
@@ -38,13 +38,42 @@ fn env_text_at<S: Scene>(
     }
 }
 
+/// The variables of an `env` at a place, each name with the text of its value, set over others.
+///
+/// # Errors
+///
+/// The fault of the first name whose text has one, or `Memory`.
+#[tactic(auto, using(crate::proofs::Onto::env_onto_below))]
+pub fn env_over_at<S: Scene>(
+    alloc: Global,
+    scene: &S,
+    known: &mut Known,
+    place: Place,
+    env: &Mapping<Value>,
+    below: Mapping<Text>,
+) -> Result<Mapping<Text>, ValueFault>
+    requires { IsKnownOf (S.values scene.now) known.old }
+    ensures value { Gives (λ env. env) result (set_over_below
+        (env_value (contexts_at place (with_env (known_env known.old) (S.values scene.now)))
+        env.now) below) }
+    ensures env { known_env known.new ≡ known_env known.old }
+    ensures known { IsKnownOf (S.values scene.now) known.new }
+{
+    let mut made = below;
+    for (name, value) in env.iter() {
+        let text = env_text_at(alloc, scene, known, place, value)?;
+        made.set(alloc, name.as_str(), text)?;
+    }
+    Ok(made)
+}
+
 /// The variables of an `env` at a place: each name with the text of its value, in the order of the names. The
 /// inputs of an action, its `with`, are evaluated in the same way.
 ///
 /// # Errors
 ///
 /// The fault of the first name whose text has one, or `Memory`.
-#[tactic(auto, using(crate::proofs::Onto::env_onto_none))]
+#[tactic(auto, using(crate::proofs::Onto::env_over_none))]
 pub fn env_at<S: Scene>(
     alloc: Global,
     scene: &S,
@@ -59,10 +88,6 @@ pub fn env_at<S: Scene>(
     ensures env { known_env known.new ≡ known_env known.old }
     ensures known { IsKnownOf (S.values scene.now) known.new }
 {
-    let mut made = Mapping::empty(alloc);
-    for (name, value) in env.iter() {
-        let text = env_text_at(alloc, scene, known, place, value)?;
-        made.set(alloc, name.as_str(), text)?;
-    }
-    Ok(made)
+    let _pairs = env.iter();
+    env_over_at(alloc, scene, known, place, env, Mapping::empty(alloc))
 }

@@ -24,7 +24,7 @@ mod scene;
 mod sight;
 mod texts;
 
-pub use env::env_at;
+pub use env::{env_at, env_over_at};
 pub use flag::flag_at;
 pub use known::Known;
 pub use laws::{
