@@ -1,11 +1,11 @@
 -- One question more of a tree.
 use Rattle.std.proofs.Common.{◌≡◌, ◌<◌, ◌+◌, ◌-◌, ◌++◌, ℕ, zero, suc, Bool, List, [], ◌∷◌, reverse, refl, sym, ap, ◌∙◌, append_assoc, arith}
 use Rattle.std.proofs.lemmas.List.{reverse-append}
-use Rattle.board_causes.specs.Account.{Account}
 use Rattle.board_causes.specs.Tree.{asked_below, is_told, lines, lines_of, told_after}
 use Rattle.board_causes.specs.declared.tree.Asked.{Asked}
 use Rattle.board_causes.specs.declared.tree.Line.{Line}
 use Rattle.board_causes.specs.declared.tree.Told.{Told}
+use Rattle.board_notes.specs.Account.{Account}
 
 -- the last of a list is the first of the list turned round
 pub turned : (s t : List Asked) (x : Asked) → s ≡ t ++ x ∷ [] → reverse s ≡ x ∷ reverse t

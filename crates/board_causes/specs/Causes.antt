@@ -4,25 +4,25 @@ use Rattle.std.specs.Prelude.{ℕ, zero, suc, ◌+◌, ◌-◌, ◌++◌, ◌==�
 use Rattle.board_decisions.specs.Contexts.{first_number}
 use Rattle.board_decisions.specs.Derived.{has_failed, holds_at, is_cancelled, is_ended, is_failure, is_full, is_going, is_open, is_success, is_under_way, job_has_ended, job_result, legs_result, was_cancelled}
 use Rattle.board_decisions.specs.Place.{RunAt, JobAt, LegAt, run_at, job_at, leg_at}
-use Rattle.board_causes.specs.Account.{Account}
-use Rattle.board_causes.specs.declared.fact.JobFact.{JobFact}
-use Rattle.board_causes.specs.declared.fact.JobFact.TheVariants as job_fact
-use Rattle.board_causes.specs.declared.fact.MemberFact.{MemberFact}
-use Rattle.board_causes.specs.declared.fact.MemberFact.TheVariants as member_fact
-use Rattle.board_causes.specs.declared.fact.StepFact.{StepFact}
-use Rattle.board_causes.specs.declared.fact.StepFact.TheVariants as step_fact
-use Rattle.board_causes.specs.declared.fact.StopCause.{StopCause}
-use Rattle.board_causes.specs.declared.fact.StopCause.TheVariants as stop_cause
-use Rattle.board_causes.specs.declared.notes.JobNote.{JobNote}
-use Rattle.board_causes.specs.declared.notes.JobNotes.{JobNotes}
-use Rattle.board_causes.specs.declared.notes.LegNotes.{LegNotes}
-use Rattle.board_causes.specs.declared.notes.MemberNote.{MemberNote}
-use Rattle.board_causes.specs.declared.notes.RunNotes.{RunNotes}
-use Rattle.board_causes.specs.declared.notes.StepNote.{StepNote}
 use Rattle.board_causes.specs.declared.question.Question.{Question}
 use Rattle.board_causes.specs.declared.question.Question.TheVariants as question
 use Rattle.board_causes.specs.declared.sought.Sought.{Sought}
 use Rattle.board_causes.specs.declared.sought.Sought.TheVariants as sought
+use Rattle.board_notes.specs.Account.{Account}
+use Rattle.board_notes.specs.declared.fact.JobFact.{JobFact}
+use Rattle.board_notes.specs.declared.fact.JobFact.TheVariants as job_fact
+use Rattle.board_notes.specs.declared.fact.MemberFact.{MemberFact}
+use Rattle.board_notes.specs.declared.fact.MemberFact.TheVariants as member_fact
+use Rattle.board_notes.specs.declared.fact.StepFact.{StepFact}
+use Rattle.board_notes.specs.declared.fact.StepFact.TheVariants as step_fact
+use Rattle.board_notes.specs.declared.fact.StopCause.{StopCause}
+use Rattle.board_notes.specs.declared.fact.StopCause.TheVariants as stop_cause
+use Rattle.board_notes.specs.declared.notes.JobNote.{JobNote}
+use Rattle.board_notes.specs.declared.notes.JobNotes.{JobNotes}
+use Rattle.board_notes.specs.declared.notes.LegNotes.{LegNotes}
+use Rattle.board_notes.specs.declared.notes.MemberNote.{MemberNote}
+use Rattle.board_notes.specs.declared.notes.RunNotes.{RunNotes}
+use Rattle.board_notes.specs.declared.notes.StepNote.{StepNote}
 use Rattle.flow_model.specs.declared.board.DoneStep.{DoneStep}
 use Rattle.flow_model.specs.declared.board.Job.{Job}
 use Rattle.flow_model.specs.declared.board.JobState.{JobState}

@@ -1,10 +1,3 @@
-pub mod Account
-pub mod Adds
 pub mod Causes
-pub mod Changes
-pub mod Conditions
-pub mod Laws
-pub mod Notes
 pub mod Once
-pub mod Roles
 pub mod Tree

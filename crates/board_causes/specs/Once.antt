@@ -1,12 +1,12 @@
 -- Nothing is asked twice: in a tree each run, job and leg, and that a run was told to stop, stands with what made it so at one
 -- place at most; wherever else it is told, it is told as told already.
 use Rattle.std.specs.Prelude.{◌≡◌, ◌≤◌, ℕ, ◌+◌, ◌==◌, ◌&&◌, Bool, true, false, not, is_some, List, [], ◌∷◌, Option, Some, None, slice_get}
-use Rattle.board_causes.specs.Account.{Account}
 use Rattle.board_causes.specs.Tree.{nothing_told, tree}
 use Rattle.board_causes.specs.declared.question.Question.{Question}
 use Rattle.board_causes.specs.declared.question.Question.TheVariants as question
 use Rattle.board_causes.specs.declared.tree.Line.{Line}
 use Rattle.board_causes.specs.declared.tree.Told.{Told}
+use Rattle.board_notes.specs.Account.{Account}
 use Rattle.flow_model.specs.declared.event.Member.TheVariants as member
 
 -- ---- marks

@@ -2,13 +2,13 @@
 -- already is not asked again.
 use Rattle.std.specs.Prelude.{ℕ, zero, suc, ◌==◌, ◌++◌, ◌&&◌, Bool, true, false, List, [], ◌∷◌, length, map, replicate, if◌then◌else◌}
 use Rattle.board_decisions.specs.Derived.{holds_at}
-use Rattle.board_causes.specs.Account.{Account}
 use Rattle.board_causes.specs.Causes.{causes}
 use Rattle.board_causes.specs.declared.question.Question.{Question}
 use Rattle.board_causes.specs.declared.question.Question.TheVariants as question
 use Rattle.board_causes.specs.declared.tree.Asked.{Asked}
 use Rattle.board_causes.specs.declared.tree.Line.{Line}
 use Rattle.board_causes.specs.declared.tree.Told.{Told}
+use Rattle.board_notes.specs.Account.{Account}
 use Rattle.flow_model.specs.declared.event.Member.TheVariants as member
 use Rattle.status_table.specs.Change.{changed}
 

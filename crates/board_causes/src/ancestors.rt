@@ -1,10 +1,10 @@
 //! The ancestors of a job that had no success.
 
 ghost use Rattle.std.specs.Prelude.{◌≡◌, ◌+◌, IfOk, OnOk, slice_get, true};
-ghost use Rattle.board_causes.specs.Adds.{Adds};
 ghost use Rattle.board_causes.specs.Causes as spec;
 ghost use Rattle.board_decisions.specs.Derived as derived;
 ghost use Rattle.board_decisions.specs.Seen.{job_seen};
+ghost use Rattle.board_notes.specs.Adds.{Adds};
 ghost use Rattle.status_table.specs.Change.{changed};
 
 use crate::question::Question;

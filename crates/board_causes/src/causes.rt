@@ -2,25 +2,25 @@
 
 ghost use Rattle.std.specs.Prelude.{◌≡◌, ◌&&◌, ◌∷◌, [], OnOk, map};
 ghost use Rattle.std.specs.Option.{option_copied};
-ghost use Rattle.board_causes.specs.Account.{account_seen};
-ghost use Rattle.board_causes.specs.Adds.{Adds};
 ghost use Rattle.board_causes.specs.Causes as spec;
 ghost use Rattle.board_decisions.specs.Contexts as contexts;
 ghost use Rattle.board_decisions.specs.Derived as derived;
 ghost use Rattle.board_decisions.specs.Place.{job_at, leg_at, run_at};
 ghost use Rattle.board_decisions.specs.Seen.{job_seen, leg_seen, run_seen};
+ghost use Rattle.board_notes.specs.Account.{account_seen};
+ghost use Rattle.board_notes.specs.Adds.{Adds};
 
-use crate::account::SeenAccount;
 use crate::ancestors::add_unsuccessful;
-use crate::changes::first_failure;
-use crate::fact::{JobFact, MemberFact, StepFact, StopCause};
-use crate::notes::{JobNote, JobNotes, LegNotes, MemberNote, RunNotes, StepNote};
 use crate::numbers::next_number;
 use crate::question::{Question, about};
 use crate::results::job_has_ended;
 use crate::sought::{Sought, job_sought, leg_sought, opened_sought};
 use board_decisions::derived::is_full;
 use board_decisions::place::{SeenJob, SeenLeg, SeenRun, find_job, find_leg, find_run, item_at};
+use board_notes::account::SeenAccount;
+use board_notes::fact::{JobFact, MemberFact, StepFact, StopCause};
+use board_notes::failures::first_failure;
+use board_notes::notes::{JobNote, JobNotes, LegNotes, MemberNote, RunNotes, StepNote};
 use flow_model::{DoneStep, JobPlan, JobState, Leg, LegState, Member, Outcome, Run, RunState};
 use std::alloc::{AllocError, Global};
 

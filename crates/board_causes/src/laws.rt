@@ -1,30 +1,6 @@
-//! What holds of what an entry makes so, beside the row of its event.
+//! What holds of a tree of facts, beside its lines.
 
-ghost use Rattle.board_causes.specs.Laws as spec;
 ghost use Rattle.board_causes.specs.Once.{NothingIsAskedTwice};
-
-/// The board of a record's account is the board after its entries.
-#[tactic(auto, using(crate::proofs::Lawful::accounts_follow_the_table))]
-pub fn accounts_follow_the_table()
-    ensures { spec.AccountsFollowTheTable }
-{}
-
-/// What an accepted entry makes so names whom the reply of its row names.
-pub fn changes_name_whom_the_row_names()
-    ensures { spec.ChangesNameWhomTheRowNames }
-{}
-
-/// A job is judged into the state of what is told to have become of it.
-#[tactic(auto, using(crate::proofs::Lawful::jobs_are_judged_as_told))]
-pub fn jobs_are_judged_as_told()
-    ensures { spec.JobsAreJudgedAsTold }
-{}
-
-/// The cause that is named why a leg is to stop holds on the board.
-#[tactic(auto, using(crate::proofs::Lawful::stops_are_caused))]
-pub fn stops_are_caused()
-    ensures { spec.StopsAreCaused }
-{}
 
 /// In a tree each run, job and leg, and that a run was told to stop, is answered once at most.
 #[tactic(auto, using(crate::proofs::AskedOnce::nothing_is_asked_twice))]

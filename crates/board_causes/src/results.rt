@@ -4,8 +4,8 @@ ghost use Rattle.std.specs.Prelude.{◌≡◌};
 ghost use Rattle.std.specs.List.{list_any};
 ghost use Rattle.board_decisions.specs.Derived as spec;
 
-use crate::stopping::has_failed;
 use board_decisions::derived::is_closed;
+use board_notes::failures::has_failed;
 use flow_model::{Job, JobState, Leg, LegState, Outcome, Run, RunState};
 
 /// Whether a leg has ended by itself.

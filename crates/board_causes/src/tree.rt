@@ -1,15 +1,15 @@
 //! The tree of what is asked, line by line.
 
 ghost use Rattle.std.specs.Prelude.{◌≡◌, ◌++◌, ◌∷◌, [], IfOk, MatchOption, OnOk, replicate, reverse, false};
-ghost use Rattle.board_causes.specs.Account.{account_seen};
-ghost use Rattle.board_causes.specs.Adds.{Adds};
 ghost use Rattle.board_causes.specs.Tree as spec;
 ghost use Rattle.board_decisions.specs.Derived.{holds_at};
+ghost use Rattle.board_notes.specs.Account.{account_seen};
+ghost use Rattle.board_notes.specs.Adds.{Adds};
 
-use crate::account::SeenAccount;
 use crate::causes::add_causes;
 use crate::numbers::next_number;
 use crate::question::Question;
+use board_notes::account::SeenAccount;
 use flow_model::{Member, Sequence};
 use std::alloc::{AllocError, Global};
 

@@ -3,24 +3,24 @@ use Rattle.std.proofs.Common.{◌≡◌, ℕ, zero, suc, ◌+◌, ◌-◌, ◌<�
 use Rattle.std.specs.List.{flat_map, AllZip}
 use Rattle.std.proofs.lemmas.List.{map-append}
 use Rattle.std.proofs.lemmas.Option.{slice_get_within}
-use Rattle.board_causes.specs.Laws.{judged_to}
-use Rattle.board_causes.specs.Notes as spec
-use Rattle.board_causes.specs.Notes.{noted}
-use Rattle.board_causes.specs.declared.fact.Change.TheVariants as change
-use Rattle.board_causes.specs.declared.fact.JobFact.{JobFact}
-use Rattle.board_causes.specs.declared.fact.MemberFact.{MemberFact}
-use Rattle.board_causes.specs.declared.fact.MemberFact.TheVariants as member_fact
-use Rattle.board_causes.specs.declared.fact.StepFact.{StepFact}
-use Rattle.board_causes.specs.declared.fact.Teller.{Teller}
-use Rattle.board_causes.specs.declared.notes.JobNotes.{JobNotes}
-use Rattle.board_causes.specs.declared.notes.LegNotes.{LegNotes}
-use Rattle.board_causes.specs.declared.notes.MemberNote.{MemberNote}
-use Rattle.board_causes.specs.declared.notes.Notes.{Notes}
-use Rattle.board_causes.specs.declared.notes.RunNotes.{RunNotes}
-use Rattle.board_causes.specs.declared.notes.StepNote.{StepNote}
-use Rattle.board_causes.specs.declared.notes.StopNote.{StopNote}
 use Rattle.board_decisions.specs.Place.{JobAt, LegAt, job_at, leg_place}
 use Rattle.board_decisions.specs.declared.place.LegPlace.{LegPlace}
+use Rattle.board_notes.specs.Laws.{judged_to}
+use Rattle.board_notes.specs.Notes as spec
+use Rattle.board_notes.specs.Notes.{noted}
+use Rattle.board_notes.specs.declared.fact.Change.TheVariants as change
+use Rattle.board_notes.specs.declared.fact.JobFact.{JobFact}
+use Rattle.board_notes.specs.declared.fact.MemberFact.{MemberFact}
+use Rattle.board_notes.specs.declared.fact.MemberFact.TheVariants as member_fact
+use Rattle.board_notes.specs.declared.fact.StepFact.{StepFact}
+use Rattle.board_notes.specs.declared.fact.Teller.{Teller}
+use Rattle.board_notes.specs.declared.notes.JobNotes.{JobNotes}
+use Rattle.board_notes.specs.declared.notes.LegNotes.{LegNotes}
+use Rattle.board_notes.specs.declared.notes.MemberNote.{MemberNote}
+use Rattle.board_notes.specs.declared.notes.Notes.{Notes}
+use Rattle.board_notes.specs.declared.notes.RunNotes.{RunNotes}
+use Rattle.board_notes.specs.declared.notes.StepNote.{StepNote}
+use Rattle.board_notes.specs.declared.notes.StopNote.{StopNote}
 use Rattle.cause_laws.specs.Agrees.{Agrees, JobAgrees, JobNow, LegAgrees, LegNow, LegStill, RunAgrees}
 use Rattle.cause_laws.specs.Stands.{RunIs, outcome_told}
 use Rattle.flow_model.specs.Numbers.{board_jobs, board_legs}

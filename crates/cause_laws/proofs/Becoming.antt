@@ -3,24 +3,25 @@ use Rattle.std.proofs.Common.{◌≡◌, ◌||◌, ◌&&◌, ◌==◌, ℕ, pos,
 use Rattle.std.proofs.lemmas.Bool.{true≢false}
 use Rattle.std.specs.List.{list_any}
 use Rattle.std.specs.Option.{option_map}
-use Rattle.board_causes.specs.Changes as causes
-use Rattle.board_causes.specs.Changes.{changes}
-use Rattle.board_causes.specs.Conditions.{waits_in_vain, faulted_text}
-use Rattle.board_causes.specs.Laws.{judged_to}
-use Rattle.board_causes.specs.declared.fact.Change.{Change}
-use Rattle.board_causes.specs.declared.fact.Change.TheVariants as change
-use Rattle.board_causes.specs.declared.fact.JobFact.{JobFact}
-use Rattle.board_causes.specs.declared.fact.JobFact.TheVariants as job_fact
-use Rattle.board_causes.specs.declared.fact.MemberFact.TheVariants as member_fact
-use Rattle.board_causes.specs.declared.fact.StepFact.{StepFact}
-use Rattle.board_causes.specs.declared.fact.StepFact.TheVariants as step_fact
-use Rattle.board_causes.specs.declared.fact.Teller.TheVariants as teller
 use Rattle.board_decisions.specs.Decisions.{is_stopping, job_tolerates, leg_outputs, leg_result, leg_status, step_decision}
 use Rattle.board_decisions.specs.Derived.{is_closed, is_failure, job_status, jobs_have_ended, run_result}
 use Rattle.board_decisions.specs.Numbered.{job_there}
 use Rattle.board_decisions.specs.Place.{◌>>=◌, RunAt, JobAt, LegAt, job_at, job_place_from, leg_at, run_at}
 use Rattle.board_decisions.specs.declared.place.JobPlace.{JobPlace}
-use Rattle.board_causes.specs.Notes.{noted}
+use Rattle.board_notes.proofs.Lawful.{jobs_are_judged_as_told}
+use Rattle.board_notes.specs.Changes as causes
+use Rattle.board_notes.specs.Changes.{changes}
+use Rattle.board_notes.specs.Conditions.{waits_in_vain, faulted_text}
+use Rattle.board_notes.specs.Laws.{judged_to}
+use Rattle.board_notes.specs.Notes.{noted}
+use Rattle.board_notes.specs.declared.fact.Change.{Change}
+use Rattle.board_notes.specs.declared.fact.Change.TheVariants as change
+use Rattle.board_notes.specs.declared.fact.JobFact.{JobFact}
+use Rattle.board_notes.specs.declared.fact.JobFact.TheVariants as job_fact
+use Rattle.board_notes.specs.declared.fact.MemberFact.TheVariants as member_fact
+use Rattle.board_notes.specs.declared.fact.StepFact.{StepFact}
+use Rattle.board_notes.specs.declared.fact.StepFact.TheVariants as step_fact
+use Rattle.board_notes.specs.declared.fact.Teller.TheVariants as teller
 use Rattle.cause_laws.specs.Agrees.{LegStill}
 use Rattle.cause_laws.specs.Becomes.{Becomes, ChangesBecomeSo}
 use Rattle.cause_laws.specs.Stands.{IsCalled, LegIs, MemberStands, outcome_told}
@@ -57,7 +58,6 @@ use Rattle.status_table.specs.Groups.{Standing, apart, holding, waiting, cancell
 use Rattle.status_table.specs.Groups as groups
 use Rattle.status_table.specs.Row.{Row, Beginning, beginning_by, decided, event_row, next_step}
 use Rattle.status_table.specs.Row as table
-use Rattle.board_causes.proofs.Lawful.{jobs_are_judged_as_told}
 use Rattle.cause_laws.proofs.Agreeing.{called_agrees, closed_agrees, ends_agree, judged_agrees, member_agrees, step_agrees, told_agrees}
 use Rattle.cause_laws.proofs.Members.{Exists, Quiet, any_leg, any_run, closed_quiet, closed_there, job_quiet, kept, leg_clash, leg_in, quiet_change, quiet_runs, run_clash, run_in, same_runs, stopped_others, stopped_there, untold_run}
 use Rattle.status_table.proofs.Found.{JobStands as JobIsThere, LegStands, job_stands, leg_item, leg_stands, run_stands}

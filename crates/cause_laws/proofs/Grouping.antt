@@ -2,18 +2,18 @@
 use Rattle.std.proofs.Common.{◌≡◌, ◌≢◌, ◌&&◌, ℕ, Bool, true, false, not, List, [], ◌∷◌, ◌++◌, Option, Some, None, Result, Ok, Err, slice_get, if◌then◌else◌, ap, subst, sym, refl, ◌∙◌}
 use Rattle.std.proofs.lemmas.Bool.{true≢false}
 use Rattle.std.specs.Option.{option_map}
-use Rattle.board_causes.specs.Changes as causes
-use Rattle.board_causes.specs.Changes.{changes}
-use Rattle.board_causes.specs.declared.fact.Change.TheVariants as change
-use Rattle.board_causes.specs.declared.fact.MemberFact.{MemberFact}
-use Rattle.board_causes.specs.declared.fact.MemberFact.TheVariants as member_fact
-use Rattle.board_causes.specs.declared.fact.Teller.TheVariants as teller
 use Rattle.board_decisions.specs.Decisions.{is_stopping, leg_entrance, run_entrance}
 use Rattle.board_decisions.specs.Derived.{is_fresh, is_full, is_going, is_open, is_untaken}
 use Rattle.board_decisions.specs.Place.{RunAt, LegAt, leg_at, run_at}
 use Rattle.board_decisions.specs.declared.entrance.Entrance.{Entrance}
-use Rattle.board_causes.specs.Notes.{noted}
-use Rattle.board_causes.specs.declared.notes.Notes.{Notes}
+use Rattle.board_notes.specs.Changes as causes
+use Rattle.board_notes.specs.Changes.{changes}
+use Rattle.board_notes.specs.Notes.{noted}
+use Rattle.board_notes.specs.declared.fact.Change.TheVariants as change
+use Rattle.board_notes.specs.declared.fact.MemberFact.{MemberFact}
+use Rattle.board_notes.specs.declared.fact.MemberFact.TheVariants as member_fact
+use Rattle.board_notes.specs.declared.fact.Teller.TheVariants as teller
+use Rattle.board_notes.specs.declared.notes.Notes.{Notes}
 use Rattle.cause_laws.specs.Agrees.{Agrees}
 use Rattle.cause_laws.specs.Becomes.{Becomes}
 use Rattle.cause_laws.specs.Stands.{Has, LegIs, MemberStands, RunIs}

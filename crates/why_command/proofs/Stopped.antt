@@ -1,7 +1,7 @@
 -- A list whose entry is refused stops on that entry's line.
 use Rattle.std.proofs.Common.{◌≡◌, ℕ, ◌+◌, Bool, true, false, List, Option, Some, Result, Ok, Err, if◌then◌else◌, refl, sym, subst}
-use Rattle.board_causes.specs.Account.{Account, Stops, account_of}
 use Rattle.board_causes.specs.declared.question.Question.{Question}
+use Rattle.board_notes.specs.Account.{Account, Stops, account_of}
 use Rattle.flow_model.specs.declared.board.Board.{Board}
 use Rattle.flow_model.specs.declared.event.Entry.{Entry}
 use Rattle.flow_model.specs.declared.plan.Plan.{Plan}

@@ -2,9 +2,9 @@
 -- its picture, so that a line stays one line.
 use Rattle.std.specs.Prelude.{ℕ, ◌==◌, ◌+◌, ◌++◌, nat_lt, if◌then◌else◌, List, [], ◌∷◌, codes, decimal, Option, Some, None, slice_get}
 use Rattle.std.specs.List.{flat_map}
-use Rattle.board_causes.specs.Account.{Account}
 use Rattle.board_decisions.specs.Contexts.{pairs_in}
 use Rattle.board_decisions.specs.Place.{RunAt, JobAt, LegAt, run_at, job_at, leg_at}
+use Rattle.board_notes.specs.Account.{Account}
 use Rattle.expr_value.specs.Convert.{text_of}
 use Rattle.expr_value.specs.Kind.{kind_of as kind_of_value}
 use Rattle.flow_model.specs.Plain.{Plain}

@@ -1,11 +1,11 @@
 -- What is asked where nothing is named: all that did not end in success.
 use Rattle.std.specs.Prelude.{ℕ, ◌+◌, ◌++◌, ◌&&◌, ◌||◌, Bool, true, false, not, nat_lt, is_some, List, [], ◌∷◌, length, Option, Some, None}
-use Rattle.board_causes.specs.Account.{Account}
 use Rattle.board_causes.specs.Causes.{asked, is_judged}
 use Rattle.board_causes.specs.declared.question.Question.{Question}
 use Rattle.board_causes.specs.declared.question.Question.TheVariants as question
 use Rattle.board_decisions.specs.Derived.{is_going, is_open, is_success, job_has_ended, job_result}
 use Rattle.board_decisions.specs.Place.{LegAt, run_at, job_at, leg_at}
+use Rattle.board_notes.specs.Account.{Account}
 use Rattle.command_io.specs.Runs.{has_succeeded}
 use Rattle.flow_model.specs.declared.board.Job.{Job}
 use Rattle.flow_model.specs.declared.board.Leg.{Leg}

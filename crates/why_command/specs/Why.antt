@@ -3,9 +3,9 @@
 use Rattle.std.specs.Prelude.{◌≡◌, ℕ, ◌⊎◌, List, codes, Option, Some, None, Result, Ok, Err, Vec}
 use Rattle.std.specs.Option.{option_map}
 use Rattle.std.specs.declared.alloc.Global.{Global}
-use Rattle.board_causes.specs.Account.{Account, account_of}
 use Rattle.board_causes.specs.Tree.{tree}
 use Rattle.board_causes.specs.declared.question.Question.{Question}
+use Rattle.board_notes.specs.Account.{Account, account_of}
 use Rattle.flow_model.specs.declared.event.Entry.{Entry}
 use Rattle.flow_model.specs.declared.plan.Plan.{Plan}
 use Rattle.command_io.specs.Records.{IsNotPlayed, IsStopped, OfRecord}

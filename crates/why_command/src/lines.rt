@@ -3,20 +3,20 @@
 ghost use Rattle.std.specs.Prelude.{◌≡◌, OnOk};
 ghost use Rattle.std.specs.List.{flat_map};
 ghost use Rattle.std.specs.Option.{option_copied};
-ghost use Rattle.board_causes.specs.Account.{account_seen};
-ghost use Rattle.board_causes.specs.Adds.{Adds};
+ghost use Rattle.board_notes.specs.Account.{account_seen};
+ghost use Rattle.board_notes.specs.Adds.{Adds};
 ghost use Rattle.why_command.specs.Words as spec;
 
 use crate::names::{add_job_name, add_leg_name, add_member_name, add_run_name, add_step_name};
 use crate::steps::add_step_words;
 use crate::words::{add_job_words, add_leg_words, add_run_words};
 use crate::writing::{add, add_number};
-use board_causes::account::SeenAccount;
-use board_causes::fact::Teller;
-use board_causes::notes::{LegNotes, RunNotes, StopNote};
 use board_causes::question::Question;
 use board_causes::tree::Line;
 use board_decisions::place::item_at;
+use board_notes::account::SeenAccount;
+use board_notes::fact::Teller;
+use board_notes::notes::{LegNotes, RunNotes, StopNote};
 use flow_model::Member;
 use std::alloc::{AllocError, Global};
 

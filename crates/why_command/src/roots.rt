@@ -1,18 +1,18 @@
 //! What is asked where nothing is named: all that did not end in success.
 
 ghost use Rattle.std.specs.Prelude.{◌≡◌, ◌+◌, ◌||◌, IfOk, OnOk, length, option_map};
-ghost use Rattle.board_causes.specs.Account.{account_seen};
-ghost use Rattle.board_causes.specs.Adds.{Adds};
 ghost use Rattle.board_causes.specs.Causes.{asked};
 ghost use Rattle.board_causes.specs.Causes as causes;
 ghost use Rattle.board_decisions.specs.Place.{leg_at};
 ghost use Rattle.board_decisions.specs.Derived as derived;
+ghost use Rattle.board_notes.specs.Account.{account_seen};
+ghost use Rattle.board_notes.specs.Adds.{Adds};
 ghost use Rattle.why_command.specs.Roots as spec;
 
-use board_causes::account::SeenAccount;
 use board_causes::question::Question;
 use board_causes::results::{job_has_ended, job_result};
 use board_decisions::place::{find_job, find_leg, find_run};
+use board_notes::account::SeenAccount;
 use flow_model::{Job, JobState, Leg, LegState, Outcome, Run, RunState};
 use std::alloc::{AllocError, Global};
 

@@ -1,17 +1,17 @@
 //! `actrun why`: why something is as it is after a record.
 
 ghost use Rattle.std.specs.Prelude.{◌≡◌, IfOk, List, Some};
-ghost use Rattle.board_causes.specs.Account.{account_of, account_seen};
+ghost use Rattle.board_notes.specs.Account.{account_of, account_seen};
 ghost use Rattle.flow_model.specs.declared.event.Entry.{Entry as EntryOf};
 ghost use Rattle.why_command.specs.Why as spec;
 ghost use Rattle.why_command.specs.Why.{GivesTree, GivesWhy, IsWhyAnswer, TellsWhy, WhyTells};
 
 use crate::lines::add_lines;
 use crate::roots::roots;
-use board_causes::account::{SeenAccount, account};
-use board_causes::notes::Notes;
 use board_causes::question::Question;
 use board_causes::tree::tree;
+use board_notes::account::{SeenAccount, account};
+use board_notes::notes::Notes;
 use command_io::records::{load_trouble, stop_trouble};
 use command_io::stream::{Sink, Source};
 use command_io::tell::{refuse, refuse_source};

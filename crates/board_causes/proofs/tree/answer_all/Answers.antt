@@ -1,11 +1,11 @@
 use Rattle.std.proofs.Common.{◌≡◌, ◌-◌, ◌++◌, List, reverse, sym, ap, ◌∙◌}
 use Rattle.std.proofs.lemmas.List.{append-nil}
 use Rattle.board_causes.proofs.Trees.{no_more, one_more}
-use Rattle.board_causes.specs.Account.{account_seen}
 use Rattle.board_causes.specs.Tree.{lines, most_lines}
 use Rattle.board_causes.specs.declared.tree.Asked.{Asked}
 use Rattle.board_causes.specs.declared.tree.Line.{Line}
 use Rattle.board_causes.proofs.tree.answer_all.Goals as goal
+use Rattle.board_notes.specs.Account.{account_seen}
 
 pub returns-in_default : goal.returns-in_default
 returns-in_default c =

@@ -1,7 +1,7 @@
 use Rattle.std.proofs.Common.{◌≡◌, ◌-◌, ◌++◌, reverse}
-use Rattle.board_causes.specs.Account.{account_seen}
 use Rattle.board_causes.specs.Tree.{lines, most_lines}
 use Rattle.board_causes.proofs.tree.answer_all.Given as goal
+use Rattle.board_notes.specs.Account.{account_seen}
 
 abbrev pub invariant-loop-turn : goal.invariant-loop-turn
 invariant-loop-turn l =

@@ -1,5 +1,5 @@
 use Rattle.std.proofs.Common.{◌≡◌, ◌++◌, take}
-use Rattle.board_causes.specs.Account.{account_seen}
+use Rattle.board_notes.specs.Account.{account_seen}
 use Rattle.why_command.specs.Words.{tree_text}
 use Rattle.why_command.proofs.lines.add_lines.Given as goal
 

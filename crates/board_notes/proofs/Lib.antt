@@ -1,0 +1,3 @@
+pub mod Accounts
+pub mod Lawful
+pub mod Named

@@ -1,0 +1,20 @@
+//! board_notes: what becomes of all that a plan has, along a record.
+//!
+//! `account` plays a record and notes of each run, job, leg and step what became of it last, at which line and by what:
+//! what an entry makes so is defined in `specs/Changes`, on the board before it and by the definitions with which the row
+//! of its event decides; `laws` has what holds of that.
+//!
+//! The crate stands on `flow_model`, on `board_decisions` and `text_values` for what texts decide, on `expr_reader` and
+//! `expr_value` for what these speak of, on `status_table` for the table, and on `flat_board`, which plays.
+
+#![tactic(auto)]
+
+pub mod account;
+mod changes;
+mod conditions;
+pub mod fact;
+pub mod failures;
+pub mod laws;
+pub mod notes;
+mod stopping;
+mod texts;
