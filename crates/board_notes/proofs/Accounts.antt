@@ -1,6 +1,5 @@
 -- One entry more of an account.
 use Rattle.std.proofs.Common.{◌≡◌, ℕ, suc, List, [], ◌∷◌, Option, Some, None, Ok, Err, ap}
-use Rattle.std.specs.Option.{option_map}
 use Rattle.board_notes.specs.Account.{Account, account_from, entry_noted, then_account}
 use Rattle.board_notes.specs.declared.notes.Notes.{Notes}
 use Rattle.flow_model.specs.declared.board.Board.{Board}

@@ -1,37 +1,24 @@
 -- The laws of what an entry makes so.
-use Rattle.std.proofs.Common.{◌≡◌, ℕ, suc, ◌-◌, ◌&&◌, ◌||◌, Bool, true, false, not, List, [], ◌∷◌, Option, Some, None, Result, Ok, Err, refl, sym, ap, ◌∙◌, if◌then◌else◌, cond}
-use Rattle.std.specs.List.{list_any}
-use Rattle.board_decisions.specs.Decisions.{is_stopping, job_condition, stops_anyway}
-use Rattle.board_decisions.specs.Derived.{has_failed, is_going, job_status, needs_have_ended}
-use Rattle.board_decisions.specs.Place.{RunAt, JobAt, LegAt, job_at, leg_at, run_at}
-use Rattle.board_decisions.specs.declared.entrance.Entrance.{Entrance}
+use Rattle.std.proofs.Common.{◌≡◌, ℕ, suc, ◌-◌, ◌&&◌, ◌||◌, Bool, true, false, List, [], ◌∷◌, Option, Some, None, Result, Ok, Err, refl, sym, ap, ◌∙◌, if◌then◌else◌, cond}
+use Rattle.board_decisions.specs.Decisions.{job_condition, stops_anyway}
+use Rattle.board_decisions.specs.Derived.{job_status, needs_have_ended}
 use Rattle.board_notes.proofs.Accounts.{board_of}
 use Rattle.board_notes.specs.Account.{Account, account_from, entry_noted, then_account}
-use Rattle.board_notes.specs.Changes as causes
-use Rattle.board_notes.specs.Changes.{cause_of_stop, changes, failed_of, first_failed, judged, judged_under, stop_by, unopened}
+use Rattle.board_notes.specs.Changes.{failed_of, first_failed, judged, judged_under, stop_by}
 use Rattle.board_notes.specs.Conditions.{waits_in_vain}
-use Rattle.board_notes.specs.Laws.{AccountsFollowTheTable, CauseHolds, ChangesNameWhomTheRowNames, JobsAreJudgedAsTold, NameTheSame, StopsAreCaused, judged_to}
-use Rattle.board_notes.specs.declared.fact.MemberFact.{MemberFact}
+use Rattle.board_notes.specs.Laws.{AccountsFollowTheTable, CauseHolds, JobsAreJudgedAsTold, StopsAreCaused, judged_to}
 use Rattle.board_notes.specs.declared.notes.Notes.{Notes}
 use Rattle.expr_value.specs.declared.status.Status.{Status}
 use Rattle.flow_model.specs.declared.board.Board.{Board}
 use Rattle.flow_model.specs.declared.board.JobState.{JobState}
 use Rattle.flow_model.specs.declared.board.JobState.TheVariants as job_state
 use Rattle.flow_model.specs.declared.board.Leg.{Leg}
-use Rattle.flow_model.specs.declared.board.LegState.{LegState}
-use Rattle.flow_model.specs.declared.board.LegState.TheVariants as leg_state
 use Rattle.flow_model.specs.declared.board.RunState.{RunState}
 use Rattle.flow_model.specs.declared.board.RunState.TheVariants as run_state
 use Rattle.flow_model.specs.declared.event.Entry.{Entry}
-use Rattle.flow_model.specs.declared.event.Event.{Event}
-use Rattle.flow_model.specs.declared.event.Event.TheVariants as event
-use Rattle.flow_model.specs.declared.event.Member.{Member}
-use Rattle.flow_model.specs.declared.event.Member.TheVariants as member
 use Rattle.flow_model.specs.declared.plan.Plan.{Plan}
-use Rattle.flow_model.specs.declared.reply.Reply.{Reply}
-use Rattle.flow_model.specs.declared.reply.StepCall.{StepCall}
 use Rattle.flow_model.specs.declared.reply.ValueFault.{ValueFault}
-use Rattle.status_table.specs.Row.{Row, row, event_row, first_of, judged_state, judgement, judgement_by, judgement_ready}
+use Rattle.status_table.specs.Row.{Row, row, first_of, judged_state, judgement_by}
 use Rattle.status_table.specs.Runs.{after_from, new_board, then_after}
 use Rattle.status_table.specs.declared.fault.EventFault.{EventFault}
 use Rattle.status_table.specs.declared.fault.EventFault.TheVariants as fault

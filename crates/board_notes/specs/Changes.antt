@@ -1,6 +1,6 @@
 -- What an accepted entry makes so, and by what: each case names who and what the row of its event looks at, by the
 -- definitions with which the row decides.
-use Rattle.std.specs.Prelude.{ℕ, ◌-◌, ◌++◌, ◌&&◌, Bool, true, false, not, nat_le, List, [], ◌∷◌, length, Option, Some, None, Result, Ok, Err, slice_get, if◌then◌else◌}
+use Rattle.std.specs.Prelude.{ℕ, ◌-◌, ◌++◌, ◌&&◌, Bool, true, false, nat_le, List, [], ◌∷◌, Option, Some, None, Result, Ok, Err, slice_get, if◌then◌else◌}
 use Rattle.board_decisions.specs.Decisions.{job_condition, is_stopping, leg_result, leg_status, step_decision, run_entrance, leg_entrance}
 use Rattle.board_decisions.specs.Derived.{has_failed, is_failure, job_status, run_result}
 use Rattle.board_decisions.specs.Place.{RunAt, JobAt, LegAt, run_at, job_at, leg_at}

@@ -1,5 +1,5 @@
 -- What holds of what an entry makes so, beside the row of its event.
-use Rattle.std.specs.Prelude.{◌≡◌, ℕ, ◌-◌, Bool, true, false, List, [], ◌∷◌, Option, Some, None, Result, Ok, Err}
+use Rattle.std.specs.Prelude.{◌≡◌, ℕ, ◌-◌, Bool, true, false, List, [], ◌∷◌, Option, Some, None, Ok}
 use Rattle.board_decisions.specs.Decisions.{is_stopping, stops_anyway}
 use Rattle.board_decisions.specs.Derived.{job_status}
 use Rattle.board_decisions.specs.Place.{JobAt, LegAt}

@@ -4,7 +4,6 @@ use Rattle.std.specs.Prelude.{ℕ, ◌++◌, List, [], ◌∷◌, length, map, O
 use Rattle.board_notes.specs.declared.fact.Change.{Change}
 use Rattle.board_notes.specs.declared.fact.Change.TheVariants as change
 use Rattle.board_notes.specs.declared.notes.JobNote.{JobNote}
-use Rattle.board_notes.specs.declared.notes.JobNotes.{JobNotes}
 use Rattle.board_notes.specs.declared.notes.LegNotes.{LegNotes}
 use Rattle.board_notes.specs.declared.notes.MemberNote.{MemberNote}
 use Rattle.board_notes.specs.declared.notes.Notes.{Notes}

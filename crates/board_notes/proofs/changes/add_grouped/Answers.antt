@@ -1,4 +1,4 @@
-use Rattle.std.proofs.Common.{◌≡◌, Option, OnOk, ap, sym, subst, ◌∙◌}
+use Rattle.std.proofs.Common.{Option, OnOk, ap, sym, subst, ◌∙◌}
 use Rattle.board_notes.proofs.changes.add_grouped.Goals as goal
 use Rattle.board_notes.specs.Adds.{Adds}
 use Rattle.board_notes.specs.Changes.{enters_held}
