@@ -1,7 +1,7 @@
 -- Nothing is asked twice.
-use Rattle.std.proofs.Common.{◌≡◌, ◌≢◌, ◌≤◌, ◌+◌, ◌++◌, ◌==◌, ◌&&◌, ℕ, zero, suc, Bool, true, false, not, List, [], ◌∷◌, Option, Some, None, slice_get, is_some, cond, refl, sym, ap, subst, ◌∙◌, zero-add, arith}
-use Rattle.board_causes.specs.Once.{Kind, runs, jobs, legs, stops, NothingIsAskedTwice, answers, is_answer, is_marked_by, mark_of, marks, one_if, same_kind}
-use Rattle.board_causes.specs.Tree.{asked_below, at_depth, is_told, lines, lines_of, most_lines, nothing_told, set_mark, told_after, tree, with_told}
+use Rattle.std.proofs.Common.{◌≡◌, ◌≢◌, ◌≤◌, ◌+◌, ◌++◌, ◌==◌, ◌&&◌, ℕ, zero, suc, Bool, true, false, List, [], ◌∷◌, Option, Some, None, slice_get, is_some, cond, refl, sym, ap, subst, ◌∙◌, zero-add, arith}
+use Rattle.board_causes.specs.Once.{Kind, runs, jobs, legs, stops, NothingIsAskedTwice, answers, is_marked_by, mark_of, marks, one_if, same_kind}
+use Rattle.board_causes.specs.Tree.{asked_below, at_depth, is_told, lines, lines_of, most_lines, nothing_told, set_mark, told_after, with_told}
 use Rattle.board_causes.specs.declared.question.Question.{Question}
 use Rattle.board_causes.specs.declared.question.Question.TheVariants as question
 use Rattle.board_causes.specs.declared.tree.Asked.{Asked}
@@ -11,7 +11,6 @@ use Rattle.board_decisions.specs.Derived.{holds, holds_at}
 use Rattle.board_notes.specs.Account.{Account}
 use Rattle.flow_model.specs.declared.event.Member.TheVariants as member
 use Rattle.status_table.proofs.Lists.{changed-elsewhere, changed-same, changed-there}
-use Rattle.status_table.specs.Change.{changed}
 
 -- ---- marks
 
