@@ -35,11 +35,12 @@ ended_at : (p : Plan) (es : List Entry) (b : Board) (how : Ending) → after p e
 ended_at p es b how leads h = record { board = b; leads = leads; ends = ends p b how h }
 
 pub ended_is_played : (admits : StepCall → Answer → Type 0) (p : Plan) (workers : ℕ) (played : Played) → workers ≡ 1
-    → EndsAlone admits p played → EndsPlayed p workers played.history
+    → EndsAlone admits p played → EndsPlayed p workers played
 ended_is_played admits p workers played one h =
     record {
       played = subst (λ n. IsPlayed p n played.history) (sym one) (alone_is_played admits p played.history h.history);
-      ended = ended_at p played.history h.board played.ending h.leads h.ends;
+      ended = ended_at p played.history played.left.board played.ending h.leads h.ends;
+      left = h.leads;
     }
 
 left_in_call : (declines : StepCall → Type 0) (p : Plan) (es : List Entry) (l step : ℕ) → IsUnanswered declines p es l step → IsLeftInCall p es
@@ -62,9 +63,13 @@ by_many admits p workers es h =
     record { board = h.lawful.legal.0; leads = h.lawful.legal.1; of_them = h.of_them; uncancelled = h.uncancelled }
 
 pub many_are_played : (admits : StepCall → Answer → Type 0) (p : Plan) (workers : ℕ) (played : Played)
-    → EndsByMany admits p workers played → EndsPlayed p workers played.history
+    → EndsByMany admits p workers played → EndsPlayed p workers played
 many_are_played admits p workers played h =
-    record { played = by_many admits p workers played.history h.history; ended = ended_at p played.history h.board played.ending h.leads h.ends }
+    record {
+      played = by_many admits p workers played.history h.history;
+      ended = ended_at p played.history played.left.board played.ending h.leads h.ends;
+      left = h.leads;
+    }
 
 pub many_stopped : (admits : StepCall → Answer → Type 0) (declines : StepCall → Type 0) (p : Plan) (workers : ℕ) (fault : PoolFault)
     → StopsByMany admits declines p workers fault → StopsPlayed p workers fault

@@ -1,5 +1,5 @@
 -- What is played of a plan.
-use Rattle.std.specs.Prelude.{◌≡◌, ℕ, ◌⊎◌, true, List, Option, Some, None}
+use Rattle.std.specs.Prelude.{◌≡◌, ℕ, ◌⊎◌, true, List, Option, Some, None, Result, Ok, Err}
 use Rattle.command_io.specs.declared.stop.Stop.{Stop}
 use Rattle.command_io.specs.declared.stop.Stop.TheVariants as stop
 use Rattle.flow_model.specs.declared.board.Board.{Board}
@@ -8,12 +8,14 @@ use Rattle.flow_model.specs.declared.plan.Plan.{Plan}
 use Rattle.flow_model.specs.declared.reply.StepCall.{StepCall}
 use Rattle.run_command.specs.declared.playing.Playing.{Playing}
 use Rattle.status_table.specs.Moves.{finished, stalled}
+use Rattle.status_table.specs.Play.{Play}
 use Rattle.status_table.specs.Runs.{after}
 use Rattle.worker_pool.specs.Fault.{InCall}
 use Rattle.worker_pool.specs.History.{NoCancel}
 use Rattle.worker_pool.specs.Many.{AreBelow, AreNoWorkers}
 use Rattle.worker_pool.specs.declared.fault.PoolFault.{PoolFault}
 use Rattle.worker_pool.specs.declared.fault.PoolFault.TheVariants as pool
+use Rattle.worker_pool.specs.declared.played.Played.{Played}
 
 -- A history that the table accepts, of workers below their number, in which no run is told to stop.
 pub record IsPlayed (plan : Plan) (workers : ℕ) (history : List Entry) : Type 0 where
@@ -45,10 +47,21 @@ Leaves plan history (Some stop.Workers) = ⊥
 
 -- ---- what the code answers on the way
 
--- A play came to its end.
-pub record EndsPlayed (plan : Plan) (workers : ℕ) (history : List Entry) : Type 0 where
-  pub played : IsPlayed plan workers history
-  pub ended : HasEnded plan history
+-- why a play was stopped, if it was; else it left a plan in play
+abbrev pub stop_of : Result Play Stop → Option Stop
+stop_of (Ok left) = None
+stop_of (Err stop) = Some stop
+
+-- A play that was not stopped left the board after its history.
+abbrev pub LeavesBoard : Plan → List Entry → Result Play Stop → Type 0
+LeavesBoard plan history (Ok left) = after plan history ≡ Some left.board
+LeavesBoard plan history (Err stop) = Unit {0}
+
+-- A play came to its end, and left the board after its history.
+pub record EndsPlayed (plan : Plan) (workers : ℕ) (come : Played) : Type 0 where
+  pub played : IsPlayed plan workers come.history
+  pub ended : HasEnded plan come.history
+  pub left : after plan come.history ≡ Some come.left.board
 
 -- What was played until a play was stopped: where there are not so many workers, nothing was.
 abbrev pub StopsPlayed : Plan → ℕ → PoolFault → Type 0
@@ -57,7 +70,13 @@ StopsPlayed plan workers (pool.Host leg step fault history) = IsPlayed plan work
 StopsPlayed plan workers (pool.Mismatch history) = IsPlayed plan workers history
 StopsPlayed plan workers (pool.Memory history) = IsPlayed plan workers history
 
+-- What was played by so many workers, with the board that is left of it.
+pub record IsPlaying (plan : Plan) (workers : ℕ) (playing : Playing) : Type 0 where
+  pub played : IsPlayed plan workers playing.history
+  pub leaves : Leaves plan playing.history (stop_of playing.end)
+  pub left : LeavesBoard plan playing.history playing.end
+
 -- What comes of a play by so many workers: what was played, or nothing, where there are not so many.
 abbrev pub ComesTo : Plan → ℕ → Option Playing → Type 0
-ComesTo plan workers (Some playing) = IsPlayed plan workers playing.history × Leaves plan playing.history playing.stop
+ComesTo plan workers (Some playing) = IsPlaying plan workers playing
 ComesTo plan workers None = AreNoWorkers workers

@@ -29,6 +29,10 @@ use Rattle.worker_pool.specs.Many.{AreNoWorkers}
 
 -- ---- the text of a history
 
+-- The lines tell how the runs of a board ended, and so does the status.
+abbrev pub TellsEnd : Board → List ℕ → ℕ → Type 0
+TellsEnd board lines done = (lines ≡ run_lines 0 board.runs) × (done ≡ runs_status board)
+
 -- A play that came to its end tells how its runs ended, by lines and by its status.
 pub record ShowsEnd (plan : Plan) (history : List Entry) (lines : List ℕ) (done : ℕ) : Type 0 where
   pub board : Board

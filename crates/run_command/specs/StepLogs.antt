@@ -1,13 +1,15 @@
 -- The logs of the steps that were started, and what is shown of them.
-use Rattle.std.specs.Prelude.{◌≡◌, ℕ, Bool, true, false, if◌then◌else◌, List, [], ◌∷◌, ◌++◌, flat_map, map, Result, Ok, Err}
+use Rattle.std.specs.Prelude.{◌≡◌, ℕ, Bool, true, false, if◌then◌else◌, List, [], ◌∷◌, ◌++◌, flat_map, map, Option, Some, None, Result, Ok, Err}
 use Rattle.std.specs.declared.alloc.AllocError.{AllocError}
 use Rattle.command_io.specs.Stream.{Stream, AppendsPart, IsKept, Puts}
 use Rattle.flow_model.specs.declared.event.Answer.{Answer}
 use Rattle.flow_model.specs.declared.event.Answer.TheVariants.{Exit, NotStarted, BadOutput}
 use Rattle.flow_model.specs.declared.event.Entry.{Entry}
+use Rattle.flow_model.specs.declared.event.Event.{Event}
 use Rattle.flow_model.specs.declared.plan.Plan.{Plan}
 use Rattle.program_texts.specs.Logs.{Log, logs_text}
 use Rattle.run_command.specs.PlanMasks.{plan_masks}
+use Rattle.step_host.specs.Counted.{answer_counted}
 use Rattle.step_host.specs.Replay.{recorded}
 use Rattle.step_host.specs.Script.{Line}
 
@@ -53,6 +55,23 @@ pub record PutsShown (plan : Plan) (history : List Entry) (out out' : Stream) (w
   pub puts : PutsText out out' shown written
 
 -- ---- what the code answers on the way
+
+-- the leg and the number of a step that was answered, if a program was started for it
+abbrev pub started_step : Line → List (ℕ × ℕ)
+started_step answered = if was_started answered.2 then (answered.0, answered.1) ∷ [] else []
+
+-- the step that an event ends, if a program was started for it, where so many steps of each leg are begun
+abbrev pub started_by : (ℕ → ℕ) → Event → List (ℕ × ℕ)
+started_by many e = flat_map started_step (answer_counted many e)
+
+-- a number that is kept, or 0
+abbrev pub or_zero : Option ℕ → ℕ
+or_zero None = 0
+or_zero (Some many) = many
+
+-- how many steps of a leg are begun, by what is kept of it
+abbrev pub begun_of : (ℕ → Option ℕ) → ℕ → ℕ
+begun_of kept leg = or_zero (kept leg)
 
 -- This is shown of a log of a leg, where the masks that its earlier logs added are these, and it adds others.
 pub record ShowsLog (given : List (List ℕ)) (leg : ℕ) (added added' : List (ℕ × List ℕ)) (shown : List ℕ) : Type 0 where

@@ -4,7 +4,7 @@
 //! nothing to tell or why the play stopped; it answers an exit status always. Its contract says what is told of some
 //! history that the table accepts. The crate stands on `command_io`, which reads, tells and refuses, on `plan_text`, which
 //! reads plans and prints records, on `step_host`, which starts programs, on `program_texts`, which shows what they printed,
-//! on `worker_pool`, which plays plans, and on `status_table`, whose board says how the runs ended.
+//! on `worker_pool`, which plays plans, and on `status_table`, whose words say what was played.
 
 #![tactic(auto)]
 

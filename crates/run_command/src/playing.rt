@@ -9,14 +9,27 @@ use flow_model::{CheckedPlan, Entry, Sequence};
 use std::alloc::Global;
 use std::sync::Wait;
 use std::thread::Threads;
-use step_host::StepHost;
+use step_host::{PlayBoard, StepHost};
 use worker_pool::{Played, PoolFault, play, play_alone};
 
-/// What was played of a plan, and why it was stopped, if it was.
+/// What was played of a plan.
 #[derive(Drop)]
 pub(crate) struct Playing {
     pub(crate) history: Sequence<Entry>,
-    pub(crate) stop: Option<Stop>,
+    /// The plan in play after it, or why the play was stopped.
+    pub(crate) end: Result<PlayBoard, Stop>,
+}
+
+impl Playing {
+    /// Why the play was stopped, if it was.
+    pub(crate) fn stop(&self) -> Option<Stop>
+        ensures { result ≡ spec.stop_of self.now.end }
+    {
+        match &self.end {
+            Ok(_) => None,
+            Err(stop) => Some(*stop),
+        }
+    }
 }
 
 /// Plays a plan by so many workers. One plays in the thread of the program, so that the same answers make the same history.
@@ -28,7 +41,7 @@ fn play_by<R: Threads + Wait + Sync, H: StepHost>(
     host: &H,
     workers: u64,
 ) -> Result<Played, PoolFault>
-    ensures played { IfOk result (λ played. spec.EndsPlayed plan.now workers played.history) }
+    ensures played { IfOk result (spec.EndsPlayed plan.now workers) }
     ensures stopped { IfErr result (spec.StopsPlayed plan.now workers) }
 {
     if workers == 1 {
@@ -46,15 +59,15 @@ fn stopped(fault: PoolFault) -> Option<Playing>
         PoolFault::Workers => None,
         PoolFault::Host { history, .. } => Some(Playing {
             history,
-            stop: Some(Stop::Host),
+            end: Err(Stop::Host),
         }),
         PoolFault::Mismatch { history } => Some(Playing {
             history,
-            stop: Some(Stop::Mismatch),
+            end: Err(Stop::Mismatch),
         }),
         PoolFault::Memory { history } => Some(Playing {
             history,
-            stop: Some(Stop::Memory),
+            end: Err(Stop::Memory),
         }),
     }
 }
@@ -72,7 +85,7 @@ pub(crate) fn played_by<R: Threads + Wait + Sync, H: StepHost>(
     match play_by(rt, alloc, plan, host, workers) {
         Ok(played) => Some(Playing {
             history: played.history,
-            stop: None,
+            end: Ok(played.left),
         }),
         Err(fault) => stopped(fault),
     }

@@ -1,18 +1,22 @@
 //! The logs of the steps that were started, and what is shown of them.
 
-ghost use Rattle.std.specs.Prelude.{◌≡◌, IfOk, flat_map, map};
-ghost use Rattle.step_host.specs.Replay.{recorded};
+ghost use Rattle.std.specs.Prelude.{◌≡◌, ◌++◌, ℕ, IfOk, OnOk, flat_map, map, nat_eq};
+ghost use Rattle.std.specs.HashMap.{get};
+ghost use Rattle.status_table.specs.Runs.{IsLegal};
+ghost use Rattle.step_host.specs.Counted.{begun_after, counted};
 ghost use Rattle.run_command.specs.StepLogs as spec;
 
 use crate::place::Place;
 use crate::plan_masks::masks_of;
 use command_io::stream::Sink;
-use flow_model::{Answer, CheckedPlan, Entry, Sequence, Text};
+use flow_model::{Answer, CheckedPlan, Entry, Event, Sequence, Text};
 use program_texts::{Log, tell_log};
 use std::alloc::{AllocError, Global};
+use std::collections::HashMap;
 use std::fs::Files;
 use std::io::ErrorKind;
-use step_host::{file_bytes, log_file, record_all};
+use step_host::laws::records_are_counted;
+use step_host::{file_bytes, log_file};
 
 /// Whether a program was started.
 fn was_started(answer: &Answer) -> bool
@@ -25,36 +29,81 @@ fn was_started(answer: &Answer) -> bool
     }
 }
 
-/// The legs and numbers of the steps for which a program was started, among answers.
-fn started_among(
-    alloc: Global,
-    answers: &[(u64, u64, Answer)],
-) -> Result<Vec<(u64, u64)>, AllocError>
-    ensures { IfOk result (λ steps.
-        map (λ step. step.0) steps.items ≡ flat_map spec.started_leg answers.now) }
+/// How many steps of each leg are begun, by the legs' numbers.
+type Begun = HashMap<u64, u64>;
+
+/// How many steps of a leg are begun.
+fn begun_of(begun: &Begun, leg: u64) -> u64
+    ensures { result ≡ spec.begun_of (get nat_eq begun.now) leg }
 {
-    let mut steps = Vec::new(alloc);
-    for answered in answers {
-        if was_started(&answered.2) {
-            steps.push((answered.0, answered.1))?;
-        }
+    match begun.get(&leg) {
+        Some(many) => *many,
+        None => 0,
     }
-    Ok(steps)
 }
 
-/// The legs and numbers of the steps for which a program was started, in the order in which they ended.
-fn started_steps(
-    alloc: Global,
-    plan: &CheckedPlan,
-    history: &[Entry],
-) -> Result<Vec<(u64, u64)>, AllocError>
-    ensures { IfOk result (λ steps. map (λ step. step.0) steps.items
-        ≡ flat_map spec.started_leg (recorded plan.now history.now)) }
+/// Counts one more step of a leg.
+fn count_step(begun: &mut Begun, leg: u64) -> Result<(), AllocError>
+    ensures { OnOk result ((l : ℕ) → spec.begun_of (get nat_eq begun.new) l
+        ≡ begun_after l (spec.begun_of (get nat_eq begun.old) l) (Event.Begin leg)) }
 {
-    match record_all(alloc, plan, history) {
-        Ok(answers) => started_among(alloc, answers.as_slice()),
-        Err(_) => Err(AllocError),
+    let Some(many) = begun_of(begun, leg).checked_add(1) else {
+        return Err(AllocError);
+    };
+    begun.insert(leg, many)?;
+    Ok(())
+}
+
+/// Lists the step of a leg that was begun last, if a program was started for it.
+fn list_step(
+    begun: &Begun,
+    leg: u64,
+    answer: &Answer,
+    steps: &mut Vec<(u64, u64)>,
+) -> Result<(), AllocError>
+    ensures { OnOk result (steps.new.items ≡ steps.old.items
+        ++ spec.started_by (spec.begun_of (get nat_eq begun.now)) (Event.End leg answer.now)) }
+{
+    if was_started(answer) {
+        let step = begun_of(begun, leg).saturating_sub(1);
+        steps.push((leg, step))?;
     }
+    Ok(())
+}
+
+/// Counts the step that an event begins, or lists the one that it ends, if a program was started for it.
+fn follow(begun: &mut Begun, event: &Event, steps: &mut Vec<(u64, u64)>) -> Result<(), AllocError>
+    ensures counts { OnOk result ((l : ℕ) → spec.begun_of (get nat_eq begun.new) l
+        ≡ begun_after l (spec.begun_of (get nat_eq begun.old) l) event.now) }
+    ensures lists { OnOk result (steps.new.items ≡ steps.old.items
+        ++ spec.started_by (spec.begun_of (get nat_eq begun.old)) event.now) }
+{
+    match event {
+        Event::Begin { leg } => count_step(begun, *leg),
+        Event::End { leg, answer } => list_step(begun, *leg, answer, steps),
+        Event::Open { .. } => Ok(()),
+        Event::Judge { .. } => Ok(()),
+        Event::Ask { .. } => Ok(()),
+        Event::Drop { .. } => Ok(()),
+        Event::Take { .. } => Ok(()),
+        Event::Finish { .. } => Ok(()),
+        Event::Close { .. } => Ok(()),
+        Event::Cancel { .. } => Ok(()),
+    }
+}
+
+/// The legs and numbers of the steps for which a program was started, in the order in which they ended. They are counted in
+/// the entries: nothing is played again.
+fn started_steps(alloc: Global, history: &[Entry]) -> Result<Vec<(u64, u64)>, AllocError>
+    ensures { IfOk result (λ steps.
+        steps.items ≡ flat_map spec.started_step (counted history.now)) }
+{
+    let mut begun = HashMap::new(alloc);
+    let mut steps = Vec::new(alloc);
+    for entry in history {
+        follow(&mut begun, &entry.event, &mut steps)?;
+    }
+    Ok(steps)
 }
 
 /// The log of a step of a leg, whose bytes are there if it can be read.
@@ -128,9 +177,11 @@ pub(crate) fn put_logs<F: Files, O: Sink>(
     history: &[Entry],
     out: &mut O,
 ) -> Result<bool, AllocError>
+    requires { IsLegal plan.now history.now }
     ensures { spec.PutsShown plan.now history.now (O.seen out.old) (O.seen out.new) result }
 {
+    records_are_counted();
     let masks = masks_of(alloc, plan.plan())?;
-    let steps = started_steps(alloc, plan, history)?;
+    let steps = started_steps(alloc, history)?;
     put_each(alloc, place, &masks, steps.as_slice(), out)
 }

@@ -1,5 +1,8 @@
-use Rattle.std.proofs.Common.{map, ap, ◌∙◌}
+use Rattle.std.proofs.Common.{flat_map, map, ap, ◌∙◌}
+use Rattle.step_host.specs.Counted.{counted}
 use Rattle.run_command.specs.PlanMasks.{plan_masks}
+use Rattle.run_command.specs.StepLogs.{started_leg}
+use Rattle.run_command.proofs.Counting.{started_legs}
 use Rattle.run_command.proofs.Telling.{logs_shown, none_shown}
 use Rattle.run_command.proofs.step_logs.put_logs.Goals as goal
 
@@ -11,4 +14,7 @@ returns-in_err-steps g c = none_shown _ _ _ _ c.from_residual-in_err-steps.ensur
 
 pub returns : goal.returns
 returns g c =
-    logs_shown _ _ _ _ _ _ _ (c.in_ok-masks.ensures ∙ ap plan_masks c.plan.ensures.same) (ap (map (λ step. step.0)) c.as_slice.ensures.value ∙ c.in_ok-steps.ensures) c.put_each.ensures
+    logs_shown _ _ _ _ _ _ _ (c.in_ok-masks.ensures ∙ ap plan_masks c.plan.ensures.same)
+    (ap (map (λ step. step.0)) (c.as_slice.ensures.value ∙ c.in_ok-steps.ensures) ∙ started_legs (counted c.args.history.now)
+    ∙ ap (flat_map started_leg) (c.records_are_counted.ensures c.args.plan.now c.args.history.now c.requires))
+    c.put_each.ensures
