@@ -31,15 +31,8 @@ pub fn perform(page: &mut Page<'_>) -> bool {
         "template" => template(page, text),
         "holds" => holds(page, text, other),
         "value" => value(page, text),
-        "equal" => {
-            let left = value_in(page, text);
-            let right = value_in(page, other);
-            page.print(loose_eq(&left, &right));
-        },
-        "fold" => {
-            page.print(fold(page.alloc, text));
-            write!(page, "\n{}", same_text(text, other));
-        },
+        "equal" => equal(page, text, other),
+        "fold" => put_folded(page, text, other),
         _ => return pattern_sweeps::perform(page),
     }
     true
@@ -103,7 +96,20 @@ fn value_in(page: &mut Page<'_>, text: &str) -> Value {
     value_of(page.alloc, &json).unwrap_or(Value::new(Node::Null))
 }
 
-/// The value of a template as JSON.
+/// Whether two values are equal, or the fault.
+fn equal(page: &mut Page<'_>, left: &str, right: &str) {
+    let left = value_in(page, left);
+    let right = value_in(page, right);
+    page.print(loose_eq(&left, &right));
+}
+
+/// A text folded, and whether it is another one ignoring case.
+fn put_folded(page: &mut Page<'_>, text: &str, other: &str) {
+    page.print(fold(page.alloc, text));
+    write!(page, "\n{}", same_text(text, other));
+}
+
+/// The value of a template as JSON, or the fault of the text.
 fn template(page: &mut Page<'_>, text: &str) {
     let contexts = contexts(page);
     match read_template(page.alloc, text) {
@@ -126,22 +132,31 @@ fn status_of(name: &str) -> Status {
     }
 }
 
-/// Whether a condition holds under a status.
+/// Whether a condition holds under a status, or the fault of the text.
 fn holds(page: &mut Page<'_>, status: &str, text: &str) {
-    let contexts = contexts(page);
     if let Some(condition) = page.have(read_condition(page.alloc, text)) {
-        let status = status_of(status);
-        page.print(eval_condition(page.alloc, &condition, &contexts, status));
+        put_holds(page, status_of(status), &condition);
     }
+}
+
+/// Whether a condition holds under a status, over the contexts of the file.
+fn put_holds(page: &mut Page<'_>, status: Status, condition: &Template) {
+    let contexts = contexts(page);
+    page.print(eval_condition(page.alloc, condition, &contexts, status));
 }
 
 /// A copy of a value as JSON, as a text and as a truth value.
 fn value(page: &mut Page<'_>, json: &str) {
     let value = value_in(page, json);
     if let Some(twin) = page.have(value.copy(page.alloc)) {
-        page.print(json_of(page.alloc, &twin));
-        if let Some(text) = page.have(to_text(page.alloc, &twin)) {
-            write!(page, "\n{}\n{}", text.as_str(), truthy(&twin));
-        }
+        put_value(page, &twin);
+    }
+}
+
+/// A value as JSON, as a text and as a truth value.
+fn put_value(page: &mut Page<'_>, value: &Value) {
+    page.print(json_of(page.alloc, value));
+    if let Some(text) = page.have(to_text(page.alloc, value)) {
+        write!(page, "\n{}\n{}", text.as_str(), truthy(value));
     }
 }
