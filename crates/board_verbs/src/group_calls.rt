@@ -38,13 +38,16 @@ fn answer(page: &mut Page<'_>, groups: &mut Groups, line: &str) {
         "withdraw" => write!(page, "{}", groups.withdraw(member)),
         "holder" => put_member(page, groups.holder(first)),
         "waiting" => put_member(page, groups.waiting(first)),
-        "copy" => {
-            if let Some(twin) = page.have(groups.copy(page.alloc)) {
-                *groups = twin;
-                page.put("copied");
-            }
-        },
+        "copy" => copy(page, groups),
         _ => page.put("no such call"),
+    }
+}
+
+/// Has a copy take the place of the groups.
+fn copy(page: &mut Page<'_>, groups: &mut Groups) {
+    if let Some(twin) = page.have(groups.copy(page.alloc)) {
+        *groups = twin;
+        page.put("copied");
     }
 }
 

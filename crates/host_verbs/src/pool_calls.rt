@@ -209,29 +209,40 @@ fn outline<'a, R: Threads + Wait + Sync>(
     outline
 }
 
-/// Plays the workflows in files by 1, 2 and 16 workers over a script, and writes of each play whether its board is all of
-/// what is settled, and whether it is that of the first but for the order of the ends.
+/// Plays the workflows in files by 1, 2 and 16 workers over a script.
 fn settles<R: Threads + Wait + Sync>(rt: &R, page: &mut Page<'_>) {
     if let Some(plan) = plan_all(page, 1) {
         if let Some(script) = script_of(page, page.input) {
             let alloc = page.alloc;
-            let host = Uneven { script, alloc };
-            let first = board_by(rt, page, &plan, &host, 1);
-            for workers in [1, 2, 16] {
-                let other = board_by(rt, page, &plan, &host, workers);
-                let same = other.text() == first.text();
-                writeln!(page, "{workers} {same}");
-            }
-            for line in first.text().lines().filter(|line| is_summary(line)) {
-                writeln!(page, "{line}");
-            }
+            put_settled(rt, page, &plan, &Uneven { script, alloc });
         }
     }
 }
 
-/// Whether a line says how many legs ended, or whether the board is settled.
-fn is_summary(line: &str) -> bool {
-    line.ends_with(" ended") || line.starts_with("settled")
+/// Writes of plays by 1, 2 and 16 workers whether the board is that of the first but for the order of the ends, and of the first
+/// how many legs ended and whether its board is all of what is settled.
+fn put_settled<R: Threads + Wait + Sync>(
+    rt: &R,
+    page: &mut Page<'_>,
+    plan: &CheckedPlan,
+    host: &Uneven,
+) {
+    let first = board_by(rt, page, plan, host, 1);
+    for workers in [1, 2, 16] {
+        let other = board_by(rt, page, plan, host, workers);
+        let same = other.text() == first.text();
+        writeln!(page, "{workers} {same}");
+    }
+    put_summary(page, first.text());
+}
+
+/// Writes the lines that say how many legs ended, and whether the board is settled.
+fn put_summary(page: &mut Page<'_>, told: &str) {
+    for line in told.lines() {
+        if line.ends_with(" ended") || line.starts_with("settled") {
+            writeln!(page, "{line}");
+        }
+    }
 }
 
 /// The board by so many workers, without the order of the ends and with as many legs in a row as ended alike in a line, and
@@ -245,18 +256,20 @@ fn board_by<'a, R: Threads + Wait + Sync>(
 ) -> Page<'a> {
     let mut made = page.scratch();
     match play(rt, page.alloc, plan, host, workers) {
-        Ok(played) => {
-            let history = played.history.as_slice();
-            let shown = replay(page, plan, history);
-            put_unordered(&mut made, shown.text());
-            match settled_check(page.alloc, plan, history) {
-                Ok(yes) => writeln!(&mut made, "settled {yes}"),
-                Err(fault) => put_fault(&mut made, &fault),
-            }
-        },
+        Ok(played) => put_board_after(&mut made, plan, played.history.as_slice()),
         Err(fault) => put_fault(&mut made, &fault),
     }
     made
+}
+
+/// Writes the board after a history, and whether it is settled.
+fn put_board_after(page: &mut Page<'_>, plan: &CheckedPlan, history: &[Entry]) {
+    let shown = replay(page, plan, history);
+    put_unordered(page, shown.text());
+    match settled_check(page.alloc, plan, history) {
+        Ok(yes) => writeln!(page, "settled {yes}"),
+        Err(fault) => put_fault(page, &fault),
+    }
 }
 
 /// A play over a script.
