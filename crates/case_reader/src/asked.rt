@@ -1,4 +1,4 @@
-//! What a case asks for, who plays it, and what came of it.
+//! What a case asks for, and what came of it.
 
 use crate::streams::{Behind, Feed, Limits};
 use std::alloc::Global;
@@ -63,10 +63,4 @@ pub struct Found {
     pub out: Vec<u8>,
     pub err: Vec<u8>,
     pub status: u8,
-}
-
-/// Who plays cases.
-pub trait Player {
-    /// Does what a case asks.
-    fn play(&self, alloc: Global, asked: &Asked<'_>) -> Found;
 }

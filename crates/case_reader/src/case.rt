@@ -1,6 +1,6 @@
-//! The cases of a file: their marks are read, each is played, and what differs is told.
+//! The cases of a file: their marks are read, and where what came of one is not what it wants, that is told.
 
-use crate::asked::{Asked, CONTEXTS, Files, Found, Player, Spoiled};
+use crate::asked::{Asked, CONTEXTS, Files, Found, Spoiled};
 use crate::page::parted;
 use crate::streams::{Behind, Limits};
 use std::alloc::{AllocError, Global};
@@ -61,7 +61,7 @@ fn kind_of(mark: &str) -> (Kind, bool) {
 
 /// A case as it is read.
 #[derive(Drop)]
-struct Case {
+pub struct Case {
     name: Vec<u8>,
     /// The words, of which the first names the program, or none.
     words: Vec<String>,
@@ -154,8 +154,16 @@ fn add_words(words: &mut Vec<String>, alloc: Global, line: &str) -> Result<(), A
 }
 
 impl Case {
+    /// A case of which nothing is known but an empty file of contexts.
+    pub fn new(alloc: Global) -> Result<Case, AllocError> {
+        let mut case = Case::empty(alloc);
+        case.begin()?;
+        keep(&mut case.files, alloc, CONTEXTS, b"")?;
+        Ok(case)
+    }
+
     /// A case of which nothing is known.
-    fn new(alloc: Global) -> Case {
+    fn empty(alloc: Global) -> Case {
         Case {
             name: Vec::new(alloc),
             words: Vec::new(alloc),
@@ -178,7 +186,7 @@ impl Case {
     }
 
     /// Forgets all but the name, the files and the named texts.
-    fn begin(&mut self) -> Result<(), AllocError> {
+    pub fn begin(&mut self) -> Result<(), AllocError> {
         self.words.clear();
         self.is_verb = false;
         self.file_name.clear();
@@ -190,6 +198,12 @@ impl Case {
         self.limits = Limits::none();
         self.endless.clear();
         self.file_name.push_str(CONTEXTS)
+    }
+
+    /// Ends the case, and answers whether something is asked or wanted.
+    pub fn end(&mut self, alloc: Global) -> Result<bool, AllocError> {
+        self.start(alloc, "", "")?;
+        Ok(self.is_asked())
     }
 
     /// Whether something is asked or wanted.
@@ -304,8 +318,8 @@ impl Case {
         Ok(())
     }
 
-    /// Reads a line of a file of cases.
-    fn read_line(&mut self, alloc: Global, line: &str) -> Result<(), AllocError> {
+    /// Reads a line of a file of cases, which is not empty.
+    pub fn read_line(&mut self, alloc: Global, line: &str) -> Result<(), AllocError> {
         let (mark, text) = parted(line);
         match mark {
             "+" => self.text.extend_from_slice(text.as_bytes()),
@@ -327,7 +341,7 @@ impl Case {
     }
 
     /// What the case asks for.
-    fn asked(&self) -> Asked<'_> {
+    pub fn asked(&self) -> Asked<'_> {
         Asked {
             is_verb: self.is_verb,
             words: self.words.as_slice(),
@@ -342,21 +356,14 @@ impl Case {
         }
     }
 
-    /// Plays the case, and tells where it differs.
-    fn play<P: Player, O: Write>(
-        &self,
-        player: &P,
-        alloc: Global,
-        told: &mut Told,
-        out: &mut O,
-    ) -> io::Result<()> {
-        let found = player.play(alloc, &self.asked());
-        let agrees = self.agrees(&found);
+    /// Counts the case, of which this came, and tells where it differs.
+    pub fn judge<O: Write>(&self, found: &Found, told: &mut Told, out: &mut O) -> io::Result<()> {
+        let agrees = self.agrees(found);
         told.count(agrees);
         if agrees {
             return Ok(());
         }
-        self.tell(&found, out)
+        self.tell(found, out)
     }
 
     /// Whether this is what is wanted.
@@ -385,40 +392,4 @@ impl Case {
 fn write_both<O: Write>(out: &mut O, first: &[u8], second: &[u8]) -> io::Result<()> {
     out.write_all(first)?;
     out.write_all(second)
-}
-
-/// Plays the cases of a text, and counts which agree.
-pub fn run_cases<P: Player, O: Write>(
-    player: &P,
-    alloc: Global,
-    text: &str,
-    told: &mut Told,
-    out: &mut O,
-) -> io::Result<()> {
-    let mut case = Case::new(alloc);
-    case.begin()?;
-    keep(&mut case.files, alloc, CONTEXTS, b"")?;
-    for line in text.lines() {
-        if line.is_empty() {
-            end_case(player, alloc, &mut case, told, out)?;
-        } else {
-            case.read_line(alloc, line)?;
-        }
-    }
-    end_case(player, alloc, &mut case, told, out)
-}
-
-/// Plays the case that ends, if there is one.
-fn end_case<P: Player, O: Write>(
-    player: &P,
-    alloc: Global,
-    case: &mut Case,
-    told: &mut Told,
-    out: &mut O,
-) -> io::Result<()> {
-    case.start(alloc, "", "")?;
-    if case.is_asked() {
-        case.play(player, alloc, told, out)?;
-    }
-    Ok(case.begin()?)
 }

@@ -1,4 +1,4 @@
-//! case_reader: cases as text, and where what they ask for comes to something else than what they want.
+//! case_reader: cases as text, what each asks for, and where that comes to something else than what it wants.
 //!
 //! A file of cases is text. A line that begins with a mark and a space (or is the mark alone) says something, and every
 //! other line is for the reader. A case is what stands between two empty lines.
@@ -27,8 +27,8 @@
 //!   - TEXT      the first such part is taken out, and what follows stands in its place
 //!   \           the line has no newline
 //!
-//! There are no escapes: a text goes to the end of its line. Who plays a case is a `Player`; a verb writes its answer on a
-//! `Page`. It stands on no other crate.
+//! There are no escapes: a text goes to the end of its line. A `Case` takes the lines, says what is asked, and is handed what
+//! came of that; a verb writes its answer on a `Page`. It stands on no other crate.
 
 #![tactic(auto)]
 
@@ -37,6 +37,6 @@ mod case;
 pub mod page;
 pub mod streams;
 
-pub use asked::{Asked, Files, Found, Player, Spoiled};
-pub use case::{Told, run_cases};
+pub use asked::{Asked, Files, Found, Spoiled};
+pub use case::{Case, Told};
 pub use page::{Page, parted};

@@ -13,7 +13,7 @@ mod program_calls;
 mod record_sweeps;
 mod verbs;
 
-use case_reader::{Told, run_cases};
+use case_reader::{Case, Told};
 use run_command::machine::Machine;
 use std::alloc::Global;
 use std::io::Write;
@@ -21,7 +21,7 @@ use std::process::ExitCode;
 use std::sync::Wait;
 use std::thread::Threads;
 use std::{env, fs, io};
-use verbs::Program;
+use verbs::perform;
 
 fn main(rt: HostRuntime) -> io::Result<ExitCode> {
     let mut out = io::writer(&rt);
@@ -46,10 +46,43 @@ fn run_files<R: Machine + Threads + Wait + Sync + Alloc<A = Global>, O: Write>(
         agree: 0,
         differ: 0,
     };
-    let player = Program { rt };
     for file in words.iter().skip(1) {
         let text = fs::read_to_string(rt, file.as_str())?;
-        run_cases(&player, alloc, text.as_str(), &mut told, out)?;
+        run_cases(rt, alloc, text.as_str(), &mut told, out)?;
     }
     Ok(told)
+}
+
+/// Plays the cases of a text.
+fn run_cases<R: Machine + Threads + Wait + Sync, O: Write>(
+    rt: &R,
+    alloc: Global,
+    text: &str,
+    told: &mut Told,
+    out: &mut O,
+) -> io::Result<()> {
+    let mut case = Case::new(alloc)?;
+    for line in text.lines() {
+        if line.is_empty() {
+            end_case(rt, alloc, &mut case, told, out)?;
+        } else {
+            case.read_line(alloc, line)?;
+        }
+    }
+    end_case(rt, alloc, &mut case, told, out)
+}
+
+/// Plays the case that ends, if there is one.
+fn end_case<R: Machine + Threads + Wait + Sync, O: Write>(
+    rt: &R,
+    alloc: Global,
+    case: &mut Case,
+    told: &mut Told,
+    out: &mut O,
+) -> io::Result<()> {
+    if case.end(alloc)? {
+        let found = perform(rt, alloc, &case.asked());
+        case.judge(&found, told, out)?;
+    }
+    Ok(case.begin()?)
 }

@@ -1,8 +1,9 @@
 //! What a case asks for: a command, by the words of the command line, or a verb.
 
 use crate::{command_sweeps, program_calls, record_sweeps};
+use board_verbs::compare;
 use case_reader::streams::{Feed, Sheet};
-use case_reader::{Asked, Found, Page, Player};
+use case_reader::{Asked, Found, Page};
 use command_io::bounded::{Bounded, MOST_READS};
 use command_io::stream::{Input, Output};
 use command_io::trouble::FAILED;
@@ -65,24 +66,20 @@ fn record_of<'a>(asked: &Asked<'a>) -> &'a [u8] {
     }
 }
 
-/// Who plays the cases: the program, where programs run.
-#[derive(Drop)]
-pub struct Program<'a, R> {
-    pub rt: &'a R,
-}
-
-impl<'a, R: Machine + Threads + Wait + Sync> Player for Program<'a, R> {
-    /// Does what is asked, and tells on `err` where the record that is played comes to two things on the two boards.
-    fn play(&self, alloc: Global, asked: &Asked<'_>) -> Found {
-        let mut found = answered(self.rt, alloc, asked);
-        let words = asked.words.get(1..).unwrap_or(&[]);
-        let mut page = Page::new(alloc, words, asked.files, record_of(asked));
-        board_verbs::compare(&mut page);
-        if found.err.extend_from_slice(page.text().as_bytes()).is_err() {
-            found.status = FAILED;
-        }
-        found
+/// Does what is asked, and tells on `err` where the record that is played comes to two things on the two boards.
+pub fn perform<R: Machine + Threads + Wait + Sync>(
+    rt: &R,
+    alloc: Global,
+    asked: &Asked<'_>,
+) -> Found {
+    let mut found = answered(rt, alloc, asked);
+    let words = asked.words.get(1..).unwrap_or(&[]);
+    let mut page = Page::new(alloc, words, asked.files, record_of(asked));
+    compare(&mut page);
+    if found.err.extend_from_slice(page.text().as_bytes()).is_err() {
+        found.status = FAILED;
     }
+    found
 }
 
 /// Does what is asked. A verb writes its answer to `out`, faults too; its status is 0.
@@ -96,13 +93,13 @@ fn answered<R: Machine + Threads + Wait + Sync>(rt: &R, alloc: Global, asked: &A
         "program" => program_calls::program(rt, &mut page),
         "cut" | "ends" | "broken" | "writers" | "kept" => command_sweeps::perform(rt, &mut page),
         "garbled" | "lines" | "raised" | "places" => record_sweeps::perform(&mut page),
-        _ => perform(rt, &mut page),
+        _ => answer(rt, &mut page),
     }
     page.into_found()
 }
 
 /// Does what a verb of the libraries asks.
-fn perform<R: Threads + Wait + Sync>(rt: &R, page: &mut Page<'_>) {
+fn answer<R: Threads + Wait + Sync>(rt: &R, page: &mut Page<'_>) {
     let is_known = expression_verbs::perform(page)
         || record_verbs::perform(page)
         || workflow_verbs::perform(page)
