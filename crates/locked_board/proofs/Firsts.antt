@@ -123,6 +123,11 @@ first_cons (y ∷ ys) x h = (ys, ap (λ z. z ∷ ys) (same h))
     same : Some y ≡ Some x → y ≡ x
     same h' = cc
 
+-- the list that has no first item
+pub first_none : {A : Type 0} (xs : List A) → slice_get xs 0 ≡ None → xs ≡ []
+first_none [] h = refl
+first_none (y ∷ ys) h = absurd (cc)
+
 pub first_move_posted : (p : Plan) (b : Board) (e : Event) → slice_get (moves p b) 0 ≡ Some e → IsPosted e
 first_move_posted p b e h = let is = first_cons (moves p b) e h in first_posted p b e is.0 is.1
 

@@ -60,8 +60,8 @@ Goes p answers calls b e (Err f) = Unit {0}
 
 pub goes-if : (p : Plan) (answers : Answers) (calls : ℕ → Option StepCall) (b : Board) (e : Event) (c : Bool) (r s : Row)
     → (c ≡ true → Goes p answers calls b e r) → (c ≡ false → Goes p answers calls b e s) → Goes p answers calls b e (if c then r else s)
-goes-if p answers calls b e true r s first second = first refl
-goes-if p answers calls b e false r s first second = second refl
+goes-if p answers calls b e true r s holds fails = holds refl
+goes-if p answers calls b e false r s holds fails = fails refl
 
 not-not : (c : Bool) → not c ≡ false → c ≡ true
 not-not true h = refl

@@ -139,10 +139,11 @@ beyond_jobs r k (x ∷ xs) m =
           ∙ later.1,
     )
 
-found_in_runs : (k : ℕ) (runs : List Run) (i j l : ℕ) (run : Run) (job : Job) → slice_get runs i ≡ Some run → slice_get run.jobs j ≡ Some job → l < length job.legs
+-- by which number the leg at a place is found
+pub leg_numbered : (k : ℕ) (runs : List Run) (i j l : ℕ) (run : Run) (job : Job) → slice_get runs i ≡ Some run → slice_get run.jobs j ≡ Some job → l < length job.legs
     → (n : ℕ) × (leg_place_from k runs n ≡ Some (leg_spot (k + i) j l))
-found_in_runs k [] i j l run job at there within = absurd (no_some run at)
-found_in_runs k (x ∷ xs) zero j l run job at there within =
+leg_numbered k [] i j l run job at there within = absurd (no_some run at)
+leg_numbered k (x ∷ xs) zero j l run job at there within =
     let here = found_in_jobs k 0 x.jobs j l job (ap (λ (y : Run). slice_get y.jobs j) (same_some x run at) ∙ there) within in
     let none : 0 + j ≡ j = omega arith in
     let same : k ≡ k + 0 = omega arith in (
@@ -151,8 +152,8 @@ found_in_runs k (x ∷ xs) zero j l run job at there within =
           ∙ ap (λ i. Some (leg_spot k i l)) none
           ∙ ap (λ r. Some (leg_spot r j l)) same,
     )
-found_in_runs k (x ∷ xs) (suc i) j l run job at there within =
-    let later = found_in_runs (suc k) xs i j l run job at there within in
+leg_numbered k (x ∷ xs) (suc i) j l run job at there within =
+    let later = leg_numbered (suc k) xs i j l run job at there within in
     let before = beyond_jobs k 0 x.jobs later.0 in
     let more : suc k + i ≡ k + suc i = omega arith in (
       before.0,
@@ -165,7 +166,7 @@ found_in_runs k (x ∷ xs) (suc i) j l run job at there within =
 pub place_at : (p : Plan) (b : Board) (r j l : ℕ) (plan : RunPlan) (run : Run) (job : Job) → HasShape p b → slice_get p.runs r ≡ Some plan → slice_get b.runs r ≡ Some run
     → slice_get run.jobs j ≡ Some job → l < length job.legs → leg_place b (before_run r p.runs + (before_job j plan.jobs + l)) ≡ Some (leg_spot r j l)
 place_at p b r j l plan run job shape planned in_board there within =
-    let found = found_in_runs 0 b.runs r j l run job in_board there within in
+    let found = leg_numbered 0 b.runs r j l run job in_board there within in
     let none : 0 + r ≡ r = omega arith in
     let place : leg_place b found.0 ≡ Some (leg_spot r j l) = found.1 ∙ ap (λ i. Some (leg_spot i j l)) none in
     ap (leg_place b) (sym (number_at p b found.0 (leg_spot r j l) plan shape place planned)) ∙ place

@@ -1,3 +1,4 @@
+pub mod Counted
 pub mod Kept
 pub mod LastCalls
 pub mod Lawfulness

@@ -1,10 +1,11 @@
--- Changes that begin and end no step: each leg keeps the steps that it has done, and none is in a call that was in none.
-use Rattle.std.proofs.Common.{◌≡◌, ℕ, zero, suc, Bool, true, false, List, [], ◌∷◌, Option, Some, None, slice_get, if◌then◌else◌, ap, subst, sym, refl, ◌∙◌}
+-- Changes that begin and end no step: each leg keeps the steps that it has done, and is in a call where it was in one, unless it has ended.
+use Rattle.std.proofs.Common.{◌≡◌, ◌≢◌, ℕ, ◌==◌, arith, Bool, true, false, List, Option, Some, None, slice_get, if◌then◌else◌, ap, subst, sym, refl, ◌∙◌}
 use Rattle.std.specs.List.{flat_map}
 use Rattle.std.proofs.lemmas.Bool.{true≢false}
 use Rattle.board_decisions.specs.declared.entrance.Entrance.{Entrance}
 use Rattle.board_decisions.specs.declared.place.JobPlace.{JobPlace}
 use Rattle.board_decisions.specs.declared.place.LegPlace.{LegPlace}
+use Rattle.board_decisions.specs.Derived.{is_untaken, is_ended}
 use Rattle.board_decisions.specs.Place.{leg_place}
 use Rattle.flow_model.specs.Numbers.{board_legs}
 use Rattle.flow_model.specs.declared.board.Board.{Board}
@@ -18,11 +19,12 @@ use Rattle.flow_model.specs.declared.board.LegState.TheVariants as leg_state
 use Rattle.flow_model.specs.declared.event.Member.{Member}
 use Rattle.flow_model.specs.declared.event.Member.TheVariants as member
 use Rattle.flow_model.specs.declared.event.Outcome.{Outcome}
-use Rattle.status_table.specs.Change.{changed, with_run, with_leg, with_numbered_leg}
-use Rattle.status_table.specs.Groups.{Standing, closed, dropped, admitted, waits, passed_on, cancelled, displaced, stopped, moved, Done, is_own, queued, enters_held, enters, holder, waiter, next_after, leaves}
+use Rattle.status_table.specs.Change.{put, changed, with_run, with_leg, with_numbered_leg}
+use Rattle.status_table.specs.Groups.{Standing, apart, holding, waiting, leg_stands, waits_name, closed, dropped, admitted, waits, passed_on, cancelled, displaced, stopped, moved, Done, is_own, queued, enters_held, enters, holder, waiter, next_after, leaves}
 use Rattle.status_table.specs.Row.{job_state_set}
-use Rattle.status_table.proofs.Lists.{changed-cons, flat_map-kept, flat_map-twice}
+use Rattle.status_table.proofs.Lists.{same_some, no_some, changed-there, changed-elsewhere, flat_map-kept, flat_map-twice}
 use Rattle.status_table.proofs.Numbers.{board_legs-changed, numbered_leg-changed}
+use Rattle.status_table.proofs.Standings.{leg_found}
 
 -- whether a leg in this state is in a call
 abbrev pub is_calling : LegState → Bool
@@ -32,10 +34,10 @@ is_calling leg_state.Admitted = false
 is_calling (leg_state.Running worker in_call) = in_call
 is_calling (leg_state.Ended result tolerated) = false
 
--- the leg has done the steps that it had done, and is in no call in which it was not
+-- The leg has done the steps that it had done; and if it has not ended, it had not, and is in a call where it was in one.
 pub record Quiet (old new : Leg) : Type 0 where
   pub steps : new.steps ≡ old.steps
-  pub call : is_calling new.state ≡ true → is_calling old.state ≡ true
+  pub goes_on : is_ended new.state ≡ false → (is_ended old.state ≡ false) × (is_calling new.state ≡ is_calling old.state)
 
 -- the same where there may be no leg
 abbrev pub QuietAt : Option Leg → Option Leg → Type 0
@@ -54,8 +56,25 @@ Quieted b c = (k : ℕ) → QuietAt (leg_of b k) (leg_of c k)
 
 -- ---- nothing changed, one change after the other, one leg changed
 
-quiet-same : (leg : Leg) → Quiet leg leg
-quiet-same leg = record { steps = refl; call = λ h. h }
+pub quiet-same : (leg : Leg) → Quiet leg leg
+quiet-same leg = record { steps = refl; goes_on = λ h. (h, refl) }
+
+quiet-both : (x y z : Leg) → Quiet x y → Quiet y z → Quiet x z
+quiet-both x y z h k = record {
+  steps = k.steps ∙ h.steps;
+  goes_on = λ e. let later = k.goes_on e in let earlier = h.goes_on later.0 in (earlier.0, later.1 ∙ earlier.1);
+}
+
+pub calling-unended : (s : LegState) → is_calling s ≡ true → is_ended s ≡ false
+calling-unended leg_state.Fresh h = refl
+calling-unended leg_state.Waiting h = refl
+calling-unended leg_state.Admitted h = refl
+calling-unended (leg_state.Running worker in_call) h = refl
+calling-unended (leg_state.Ended result tolerated) h = absurd (true≢false (sym h))
+
+-- a leg that is in a call was in one
+pub quiet-called : (old new : Leg) → Quiet old new → is_calling new.state ≡ true → is_calling old.state ≡ true
+quiet-called old new q h = sym (q.goes_on (calling-unended new.state h)).1 ∙ h
 
 pub quiet_at-same : (o : Option Leg) → QuietAt o o
 quiet_at-same None = tt
@@ -67,7 +86,7 @@ quiet_at-then None None (Some c) h k = k
 quiet_at-then None (Some b) z h k = absurd h
 quiet_at-then (Some a) None z h k = absurd h
 quiet_at-then (Some a) (Some b) None h k = k
-quiet_at-then (Some a) (Some b) (Some c) h k = record { steps = k.steps ∙ h.steps; call = λ e. h.call (k.call e) }
+quiet_at-then (Some a) (Some b) (Some c) h k = quiet-both a b c h k
 
 pub quiet-then : (a b c : Board) → Quieted a b → Quieted b c → Quieted a c
 quiet-then a b c h k i = quiet_at-then (leg_of a i) (leg_of b i) (leg_of c i) (h i) (k i)
@@ -78,20 +97,59 @@ quiet-legs b c h k = subst (λ legs. QuietAt (leg_of b k) (slice_get legs k)) (s
 pub quiet-unchanged : (b : Board) → Quieted b b
 quiet-unchanged b = quiet-legs b b refl
 
-quiet-changed : (legs : List Leg) (i : ℕ) (f : Leg → Leg) → ((x : Leg) → Quiet x (f x)) → (k : ℕ) → QuietAt (slice_get legs k) (slice_get (changed legs i f) k)
-quiet-changed [] i f q k = tt
-quiet-changed (x ∷ xs) zero f q zero = q x
-quiet-changed (x ∷ xs) zero f q (suc k) = quiet_at-same (slice_get xs k)
-quiet-changed (x ∷ xs) (suc i) f q zero = subst (λ zs. QuietAt (Some x) (slice_get zs 0)) (sym (changed-cons x xs i f)) (quiet-same x)
-quiet-changed (x ∷ xs) (suc i) f q (suc k) = subst (λ zs. QuietAt (slice_get xs k) (slice_get zs (suc k))) (sym (changed-cons x xs i f)) (quiet-changed xs i f q k)
+-- a leg is put in a state of no call, which no worker had taken
+pub quiet-untaken : (x y z : Leg) → Quiet x y → z.steps ≡ y.steps → is_calling z.state ≡ false → is_untaken x.state ≡ true → Quiet x z
+quiet-untaken x y z q steps none untaken = record { steps = steps ∙ q.steps; goes_on = λ e. by x.state untaken }
+  where
+    by : (s : LegState) → is_untaken s ≡ true → (is_ended s ≡ false) × (is_calling z.state ≡ is_calling s)
+    by leg_state.Fresh h = (refl, none)
+    by leg_state.Waiting h = (refl, none)
+    by leg_state.Admitted h = (refl, none)
+    by (leg_state.Running worker in_call) h = absurd (true≢false (sym h))
+    by (leg_state.Ended result tolerated) h = absurd (true≢false (sym h))
 
-pub quiet-leg : (b : Board) (l : ℕ) (at : LegPlace) (f : Leg → Leg) → leg_place b l ≡ Some at → ((x : Leg) → Quiet x (f x)) → Quieted b (with_leg b at f)
+-- a leg ends
+pub quiet-ended : (x y z : Leg) → Quiet x y → z.steps ≡ y.steps → is_ended z.state ≡ true → Quiet x z
+quiet-ended x y z q steps over = record { steps = steps ∙ q.steps; goes_on = λ e. absurd (true≢false (sym over ∙ e)) }
+
+-- a leg stays in its state
+quiet-like : (x y z : Leg) → Quiet x y → z.steps ≡ y.steps → z.state ≡ y.state → Quiet x z
+quiet-like x y z q steps same =
+    record { steps = steps ∙ q.steps; goes_on = λ e. let was = q.goes_on (ap is_ended (sym same) ∙ e) in (was.0, ap is_calling same ∙ was.1) }
+
+-- an item of the second list is changed, beside the first
+quiet-changed : (olds legs : List Leg) (i : ℕ) (f : Leg → Leg) → ((k : ℕ) → QuietAt (slice_get olds k) (slice_get legs k))
+    → ((x y : Leg) → slice_get olds i ≡ Some x → slice_get legs i ≡ Some y → Quiet x y → Quiet x (f y))
+    → (k : ℕ) → QuietAt (slice_get olds k) (slice_get (changed legs i f) k)
+quiet-changed olds legs i f h q k = by (k == i) refl
+  where
+    here : (o n : Option Leg) → slice_get olds i ≡ o → slice_get legs i ≡ n → QuietAt o n → QuietAt o (slice_get (changed legs i f) i)
+    here None None was is same = subst (QuietAt None) (sym (ap (λ (x : Option Leg). slice_get (put legs i f x) i) is ∙ is)) tt
+    here None (Some y) was is same = absurd same
+    here (Some x) None was is same = absurd same
+    here (Some x) (Some y) was is same = subst (QuietAt (Some x)) (sym (changed-there legs i f y is)) (q x y was is same)
+
+    by : (t : Bool) → (k == i) ≡ t → QuietAt (slice_get olds k) (slice_get (changed legs i f) k)
+    by true e =
+        let same : i ≡ k = grind (arith, e) in
+        subst (λ n. QuietAt (slice_get olds n) (slice_get (changed legs i f) n)) same (here (slice_get olds i) (slice_get legs i) refl refl (h i))
+    by false e =
+        let apart : k ≢ i = grind (arith, e) in
+        subst (QuietAt (slice_get olds k)) (sym (changed-elsewhere legs i f k apart)) (h k)
+
+-- the same of a leg of a board
+quiet-one : (b : Board) (l : ℕ) (f : Leg → Leg) → ((x : Leg) → leg_of b l ≡ Some x → Quiet x (f x)) → (k : ℕ)
+    → QuietAt (leg_of b k) (slice_get (changed (board_legs b) l f) k)
+quiet-one b l f q =
+    quiet-changed (board_legs b) (board_legs b) l f (λ k. quiet_at-same (leg_of b k)) (λ x y was is same. quiet-both x y (f y) same (q y is))
+
+pub quiet-leg : (b : Board) (l : ℕ) (at : LegPlace) (f : Leg → Leg) → leg_place b l ≡ Some at → ((x : Leg) → leg_of b l ≡ Some x → Quiet x (f x)) → Quieted b (with_leg b at f)
 quiet-leg b l at f is q k =
-    subst (λ legs. QuietAt (leg_of b k) (slice_get legs k)) (sym (board_legs-changed b l at f is)) (quiet-changed (board_legs b) l f q k)
+    subst (λ legs. QuietAt (leg_of b k) (slice_get legs k)) (sym (board_legs-changed b l at f is)) (quiet-one b l f q k)
 
-quiet-numbered : (b : Board) (l : ℕ) (f : Leg → Leg) → ((x : Leg) → Quiet x (f x)) → Quieted b (with_numbered_leg b l f)
+quiet-numbered : (b : Board) (l : ℕ) (f : Leg → Leg) → ((x : Leg) → leg_of b l ≡ Some x → Quiet x (f x)) → Quieted b (with_numbered_leg b l f)
 quiet-numbered b l f q k =
-    subst (λ legs. QuietAt (leg_of b k) (slice_get legs k)) (sym (numbered_leg-changed b l f)) (quiet-changed (board_legs b) l f q k)
+    subst (λ legs. QuietAt (leg_of b k) (slice_get legs k)) (sym (numbered_leg-changed b l f)) (quiet-one b l f q k)
 
 -- ---- runs and jobs are changed, but not their legs
 
@@ -112,30 +170,30 @@ quiet-job b place state = quiet-legs b (job_state_set b place state) (
 
 -- ---- members of groups
 
--- a leg is put in a state of no call
-pub quiet-state : (s : LegState) → is_calling s ≡ false → (leg : Leg) → Quiet leg (record leg { state = s })
-quiet-state s none leg = record { steps = refl; call = λ h. absurd (true≢false (sym h ∙ none)) }
+-- a member is no leg that a worker took, or that has ended
+abbrev pub IsUntaken : Board → Member → Type 0
+IsUntaken b (member.Run r) = Unit {0}
+IsUntaken b (member.Leg l) = (leg : Leg) → leg_of b l ≡ Some leg → is_untaken leg.state ≡ true
 
 pub quiet-closed : (b : Board) (r : ℕ) (result : Outcome) → Quieted b (closed b r result)
 quiet-closed b r result = quiet-run b r (λ run. record run { state = run_state.Closed result }) (λ x. refl)
 
 pub quiet-dropped : (b : Board) (l : ℕ) (result : Outcome) → Quieted b (dropped b l result)
-quiet-dropped b l result = quiet-numbered b l (λ leg. record leg { state = leg_state.Ended result false }) (quiet-state (leg_state.Ended result false) refl)
+quiet-dropped b l result =
+    quiet-numbered b l (λ leg. record leg { state = leg_state.Ended result false })
+    (λ x there. quiet-ended x x (record x { state = leg_state.Ended result false }) (quiet-same x) refl refl)
 
-quiet-admitted : (b : Board) (name : Option (List ℕ)) (m : Member) → Quieted b (admitted b name m)
-quiet-admitted b name (member.Run r) = quiet-run b r (λ run. record run { state = run_state.Going; group = name }) (λ x. refl)
-quiet-admitted b name (member.Leg l) =
-    quiet-numbered b l (λ leg. record leg { state = leg_state.Admitted; group = name }) (λ leg. record { steps = refl; call = λ h. absurd (true≢false (sym h)) })
+quiet-admitted : (b : Board) (name : Option (List ℕ)) (m : Member) → IsUntaken b m → Quieted b (admitted b name m)
+quiet-admitted b name (member.Run r) u = quiet-run b r (λ run. record run { state = run_state.Going; group = name }) (λ x. refl)
+quiet-admitted b name (member.Leg l) u =
+    quiet-numbered b l (λ leg. record leg { state = leg_state.Admitted; group = name })
+    (λ x there. quiet-untaken x x (record x { state = leg_state.Admitted; group = name }) (quiet-same x) refl refl (u x there))
 
-quiet-waits : (b : Board) (name : List ℕ) (m : Member) → Quieted b (waits b name m)
-quiet-waits b name (member.Run r) = quiet-run b r (λ run. record run { state = run_state.Waiting; group = Some name }) (λ x. refl)
-quiet-waits b name (member.Leg l) =
-    quiet-numbered b l (λ leg. record leg { state = leg_state.Waiting; group = Some name }) (λ leg. record { steps = refl; call = λ h. absurd (true≢false (sym h)) })
-
-quiet-passed_on : (b : Board) (o : Option Member) → Quieted b (passed_on b o)
-quiet-passed_on b None = quiet-unchanged b
-quiet-passed_on b (Some (member.Run r)) = quiet-run b r (λ run. record run { state = run_state.Going }) (λ x. refl)
-quiet-passed_on b (Some (member.Leg l)) = quiet-numbered b l (λ leg. record leg { state = leg_state.Admitted }) (quiet-state leg_state.Admitted refl)
+quiet-waits : (b : Board) (name : List ℕ) (m : Member) → IsUntaken b m → Quieted b (waits b name m)
+quiet-waits b name (member.Run r) u = quiet-run b r (λ run. record run { state = run_state.Waiting; group = Some name }) (λ x. refl)
+quiet-waits b name (member.Leg l) u =
+    quiet-numbered b l (λ leg. record leg { state = leg_state.Waiting; group = Some name })
+    (λ x there. quiet-untaken x x (record x { state = leg_state.Waiting; group = Some name }) (quiet-same x) refl refl (u x there))
 
 quiet-cancelled : (b : Board) (m : Member) → Quieted b (cancelled b m)
 quiet-cancelled b (member.Run r) = quiet-closed b r _
@@ -148,25 +206,57 @@ quiet-displaced b (Some m) = quiet-cancelled b m
 pub quiet-stopped : (b : Board) (c : Bool) (m : Member) → Quieted b (stopped b c m)
 quiet-stopped b false m = quiet-unchanged b
 quiet-stopped b true (member.Run r) = quiet-run b r (λ run. record run { stop = true }) (λ x. refl)
-quiet-stopped b true (member.Leg l) = quiet-numbered b l (λ leg. record leg { stop = true }) (λ leg. record { steps = refl; call = λ h. h })
+quiet-stopped b true (member.Leg l) =
+    quiet-numbered b l (λ leg. record leg { stop = true }) (λ x there. quiet-like x x (record x { stop = true }) (quiet-same x) refl refl)
 
-quiet-queued : (b : Board) (m : Member) (group : Entrance) (h : Member) (w : Option Member) → Quieted b (queued b m group h w).0
-quiet-queued b m group h w =
+quiet-queued : (b : Board) (m : Member) (group : Entrance) (h : Member) (w : Option Member) → IsUntaken b m → Quieted b (queued b m group h w).0
+quiet-queued b m group h w u =
     let waiting = waits b group.name m in
     let lost = displaced waiting w in
-    quiet-then b lost (stopped lost group.cancel h) (quiet-then b waiting lost (quiet-waits b group.name m) (quiet-displaced waiting w)) (quiet-stopped lost group.cancel h)
+    quiet-then b lost (stopped lost group.cancel h) (quiet-then b waiting lost (quiet-waits b group.name m u) (quiet-displaced waiting w)) (quiet-stopped lost group.cancel h)
 
-pub quiet-enters : (b : Board) (m : Member) (own : Option ℕ) (group : Option Entrance) → Quieted b (enters b m own group).0
-quiet-enters b m own None = quiet-admitted b None m
-quiet-enters b m own (Some group) = held (holder b group.name) (waiter b group.name)
+pub quiet-enters : (b : Board) (m : Member) (own : Option ℕ) (group : Option Entrance) → IsUntaken b m → Quieted b (enters b m own group).0
+quiet-enters b m own None u = quiet-admitted b None m u
+quiet-enters b m own (Some group) u = held (holder b group.name) (waiter b group.name)
   where
     held : (o w : Option Member) → Quieted b (enters_held b m own group o w).0
-    held None w = quiet-admitted b (Some group.name) m
+    held None w = quiet-admitted b (Some group.name) m u
     held (Some h) w = by (is_own own h)
       where
         by : (c : Bool) → Quieted b (let d : Done = if c then (cancelled b m, moved) else queued b m group h w in d).0
         by true = quiet-cancelled b m
-        by false = quiet-queued b m group h w
+        by false = quiet-queued b m group h w u
+
+-- ---- who is next in a group, which waited
+
+waits-untaken : (s : LegState) (group : Option (List ℕ)) (name : List ℕ) → waits_name name (leg_stands s group) ≡ true → is_untaken s ≡ true
+waits-untaken leg_state.Fresh group name h = refl
+waits-untaken leg_state.Waiting group name h = refl
+waits-untaken leg_state.Admitted group name h = refl
+waits-untaken (leg_state.Running worker in_call) group name h = absurd (true≢false (sym h))
+waits-untaken (leg_state.Ended result tolerated) group name h = absurd (true≢false (sym h))
+
+waiter-untaken : (b : Board) (name : List ℕ) (m : Member) → waiter b name ≡ Some m → IsUntaken b m
+waiter-untaken b name (member.Run r) h = tt
+waiter-untaken b name (member.Leg l) h = λ leg there.
+    let found = leg_found b (waits_name name) l h in
+    let same : found.leg ≡ leg = same_some found.leg leg (sym found.there ∙ there) in
+    ap (λ (x : Leg). is_untaken x.state) (sym same) ∙ waits-untaken found.leg.state found.leg.group name found.passes
+
+next-untaken : (b : Board) (s : Standing) (m : Member) → next_after b s ≡ Some m → IsUntaken b m
+next-untaken b apart m h = absurd (no_some m h)
+next-untaken b (waiting name) m h = absurd (no_some m h)
+next-untaken b (holding None) m h = absurd (no_some m h)
+next-untaken b (holding (Some name)) m h = waiter-untaken b name m h
+
+-- who is next goes on beside a board on which it waited
+quiet-passed_on : (b c : Board) (o : Option Member) → Quieted b c → ((m : Member) → o ≡ Some m → IsUntaken b m) → Quieted b (passed_on c o)
+quiet-passed_on b c None h u = h
+quiet-passed_on b c (Some (member.Run r)) h u = quiet-then b c (passed_on c (Some (member.Run r))) h (quiet-run c r (λ run. record run { state = run_state.Going }) (λ x. refl))
+quiet-passed_on b c (Some (member.Leg l)) h u = λ k.
+    let f : Leg → Leg = λ leg. record leg { state = leg_state.Admitted } in
+    subst (λ legs. QuietAt (leg_of b k) (slice_get legs k)) (sym (numbered_leg-changed c l f))
+    (quiet-changed (board_legs b) (board_legs c) l f h (λ x y was is same. quiet-untaken x y (f y) same refl refl (u (member.Leg l) refl x was)) k)
 
 pub quiet-leaves : (b : Board) (s : Standing) (new : Board) → Quieted b new → Quieted b (leaves b s new).0
-quiet-leaves b s new h = quiet-then b new (passed_on new (next_after b s)) h (quiet-passed_on new (next_after b s))
+quiet-leaves b s new h = quiet-passed_on b new (next_after b s) h (next-untaken b s)

@@ -1,11 +1,11 @@
 -- What each event does to the steps of the legs.
-use Rattle.std.proofs.Common.{◌≡◌, ◌≢◌, ℕ, suc, ◌==◌, ◌++◌, ◌||◌, Bool, true, false, not, List, [], ◌∷◌, Option, Some, None, Result, Ok, Err, length, slice_get, nat_lt, if◌then◌else◌, ap, subst, sym, refl, ◌∙◌, arith}
+use Rattle.std.proofs.Common.{◌≡◌, ◌≢◌, ℕ, suc, ◌==◌, ◌++◌, ◌&&◌, ◌||◌, Bool, true, false, not, List, [], ◌∷◌, Option, Some, None, Result, Ok, Err, length, slice_get, nat_lt, if◌then◌else◌, ap, subst, sym, refl, ◌∙◌, arith}
 use Rattle.std.proofs.lemmas.Bool.{true≢false}
 use Rattle.std.proofs.lemmas.List.{length-append}
 use Rattle.board_decisions.specs.declared.entrance.Entrance.{Entrance}
 use Rattle.board_decisions.specs.declared.place.JobPlace.{JobPlace}
 use Rattle.board_decisions.specs.Decisions.{then_value, step_env, called_if, is_stopping, leg_result, step_decision, leg_outputs, leg_entrance, run_entrance}
-use Rattle.board_decisions.specs.Derived.{is_closed, is_full, jobs_have_ended, run_result}
+use Rattle.board_decisions.specs.Derived.{is_going, is_closed, is_open, is_fresh, is_untaken, is_ended, is_full, jobs_have_ended, run_result}
 use Rattle.board_decisions.specs.Place.{RunAt, JobAt, LegAt, run_at, job_at, leg_at}
 use Rattle.flow_model.specs.Answer.{is_well_formed}
 use Rattle.flow_model.specs.Numbers.{board_legs}
@@ -35,11 +35,12 @@ use Rattle.status_table.specs.Change.{with_leg}
 use Rattle.status_table.specs.Groups.{run_standing, leg_standing, closed, dropped, stopped, moved, leaves}
 use Rattle.status_table.specs.Row as rows
 use Rattle.status_table.specs.Row.{Row, Beginning, calls, skips, faults, job_state_set, leg_state_set, step_done, skipped_step, failed_step, decided}
+use Rattle.board_decisions.proofs.Lists.{and-right}
 use Rattle.status_table.proofs.Decided.{by_test}
 use Rattle.status_table.proofs.Found.{leg_stands, leg_item}
-use Rattle.status_table.proofs.Lists.{no_some, changed-there, changed-elsewhere}
+use Rattle.status_table.proofs.Lists.{same_some, no_some, changed-there, changed-elsewhere}
 use Rattle.status_table.proofs.Numbers.{board_legs-changed}
-use Rattle.step_host.proofs.Quiet.{is_calling, QuietAt, quiet_at-same, leg_of, Quieted, quiet-leg, quiet-job, quiet-state, quiet-closed, quiet-dropped, quiet-stopped, quiet-enters, quiet-leaves}
+use Rattle.step_host.proofs.Quiet.{is_calling, QuietAt, quiet-same, quiet_at-same, leg_of, Quieted, quiet-untaken, quiet-ended, quiet-leg, quiet-job, IsUntaken, quiet-closed, quiet-dropped, quiet-stopped, quiet-enters, quiet-leaves}
 
 -- ---- events that begin and end no step
 
@@ -52,7 +53,7 @@ unfolding QuietRow
 open-quiet p b r = found (run_at p b r)
   where
     entered : (x : Result (Option Entrance) ValueFault) → QuietRow b (rows.run_enters b r x)
-    entered (Ok group) = quiet-enters b (member.Run r) None group
+    entered (Ok group) = quiet-enters b (member.Run r) None group tt
     entered (Err f) = quiet-closed b r outcome.Failure
 
     by_state : (at : RunAt) (s : RunState) (stop : Bool) → QuietRow b (rows.open_run b r at s stop)
@@ -78,20 +79,37 @@ judge-quiet p b j = found (job_at p b j)
     found None = tt
     found (Some at) = judged at.place (rows.judgement j at)
 
+-- a leg that is found is no other
+is_untaken-there : (p : Plan) (b : Board) (l : ℕ) (at : LegAt) → leg_at p b l ≡ Some at → is_untaken at.leg.state ≡ true → IsUntaken b (member.Leg l)
+is_untaken-there p b l at is untaken = λ leg there.
+    ap (λ (x : Leg). is_untaken x.state) (same_some leg at.leg (sym there ∙ leg_item p b l at (leg_stands p b l at is))) ∙ untaken
+
+fresh-untaken : (s : LegState) → is_fresh s ≡ true → is_untaken s ≡ true
+fresh-untaken leg_state.Fresh h = refl
+fresh-untaken leg_state.Waiting h = refl
+fresh-untaken leg_state.Admitted h = refl
+fresh-untaken (leg_state.Running worker in_call) h = absurd (true≢false (sym h))
+fresh-untaken (leg_state.Ended result tolerated) h = absurd (true≢false (sym h))
+
 pub ask-quiet : (p : Plan) (b : Board) (l : ℕ) → QuietRow b (rows.ask_row p b l)
 unfolding QuietRow
-ask-quiet p b l = found (leg_at p b l)
+ask-quiet p b l = found (leg_at p b l) refl
   where
-    entered : (at : LegAt) (x : Result (Option Entrance) ValueFault) → QuietRow b (rows.leg_enters b l at x)
-    entered at (Ok group) = quiet-enters b (member.Leg l) (Some at.place.run) group
-    entered at (Err f) = quiet-dropped b l outcome.Failure
+    entered : (at : LegAt) → IsUntaken b (member.Leg l) → (x : Result (Option Entrance) ValueFault) → QuietRow b (rows.leg_enters b l at x)
+    entered at untaken (Ok group) = quiet-enters b (member.Leg l) (Some at.place.run) group untaken
+    entered at untaken (Err f) = quiet-dropped b l outcome.Failure
 
-    found : (o : Option LegAt) → QuietRow b (rows.ask_found b l o)
-    found None = tt
-    found (Some at) =
-        by_test (QuietRow b) (not (rows.may_ask at)) (Err fault.WrongState) _ tt
-        (by_test (QuietRow b) (is_full at.job_plan at.job) (Err fault.SlotsFull) _ tt
-        (by_test (QuietRow b) (is_stopping at) (Err fault.Stopping) _ tt (entered at (leg_entrance at))))
+    asked : (at : LegAt) → leg_at p b l ≡ Some at → (c : Bool) → rows.may_ask at ≡ c
+        → QuietRow b (if not c then Err fault.WrongState else (if is_full at.job_plan at.job then Err fault.SlotsFull else (if is_stopping at then Err fault.Stopping else rows.leg_enters b l at (leg_entrance at))))
+    asked at is false may = tt
+    asked at is true may =
+        let fresh : is_fresh at.leg.state ≡ true = and-right (is_going at.run.state && is_open at.job.state) (is_fresh at.leg.state) may in
+        by_test (QuietRow b) (is_full at.job_plan at.job) (Err fault.SlotsFull) _ tt
+        (by_test (QuietRow b) (is_stopping at) (Err fault.Stopping) _ tt (entered at (is_untaken-there p b l at is (fresh-untaken at.leg.state fresh)) (leg_entrance at)))
+
+    found : (o : Option LegAt) → leg_at p b l ≡ o → QuietRow b (rows.ask_found b l o)
+    found None is = tt
+    found (Some at) is = asked at is (rows.may_ask at) refl
 
 pub drop-quiet : (p : Plan) (b : Board) (l : ℕ) → QuietRow b (rows.drop_row p b l)
 unfolding QuietRow
@@ -108,18 +126,19 @@ pub take-quiet : (p : Plan) (b : Board) (worker l : ℕ) → QuietRow b (rows.ta
 unfolding QuietRow
 take-quiet p b worker l = found (leg_at p b l) refl
   where
-    taken : (at : LegAt) → leg_at p b l ≡ Some at → (s : LegState) → QuietRow b (rows.take_leg b worker at s)
-    taken at is leg_state.Fresh = tt
-    taken at is leg_state.Waiting = tt
-    taken at is leg_state.Admitted =
+    taken : (at : LegAt) → leg_at p b l ≡ Some at → (s : LegState) → at.leg.state ≡ s → QuietRow b (rows.take_leg b worker at s)
+    taken at is leg_state.Fresh was = tt
+    taken at is leg_state.Waiting was = tt
+    taken at is leg_state.Admitted was =
         by_test (QuietRow b) (is_stopping at) (Err fault.Stopping) (Ok (leg_state_set b at.place (leg_state.Running worker false), moved)) tt
-        (quiet-leg b l at.place (λ leg. record leg { state = leg_state.Running worker false }) (leg_stands p b l at is).place (quiet-state (leg_state.Running worker false) refl))
-    taken at is (leg_state.Running other in_call) = tt
-    taken at is (leg_state.Ended result tolerated) = tt
+        (quiet-leg b l at.place (λ leg. record leg { state = leg_state.Running worker false }) (leg_stands p b l at is).place
+        (λ x there. quiet-untaken x x (record x { state = leg_state.Running worker false }) (quiet-same x) refl refl (is_untaken-there p b l at is (ap is_untaken was) x there)))
+    taken at is (leg_state.Running other in_call) was = tt
+    taken at is (leg_state.Ended result tolerated) was = tt
 
     found : (o : Option LegAt) → leg_at p b l ≡ o → QuietRow b (rows.take_found b worker o)
     found None is = tt
-    found (Some at) is = taken at is at.leg.state
+    found (Some at) is = taken at is at.leg.state refl
 
 pub finish-quiet : (p : Plan) (b : Board) (worker l : ℕ) → QuietRow b (rows.finish_row p b worker l)
 unfolding QuietRow
@@ -129,7 +148,7 @@ finish-quiet p b worker l = found (leg_at p b l) refl
     ended at is result tolerated =
         quiet-leaves b (leg_standing at.leg) (rows.leg_ended b at.place l (leg_state.Ended result tolerated) (leg_outputs at))
         (quiet-leg b l at.place (λ leg. record leg { state = leg_state.Ended result tolerated; outputs = leg_outputs at }) (leg_stands p b l at is).place
-        (λ leg. record { steps = refl; call = λ h. absurd (true≢false (sym h)) }))
+        (λ x there. quiet-ended x x (record x { state = leg_state.Ended result tolerated; outputs = leg_outputs at }) (quiet-same x) refl refl))
 
     by_owner : (at : LegAt) → leg_at p b l ≡ Some at → (owner : Option ℕ) → QuietRow b (rows.finish_leg b l at (rows.finishing_by worker at owner))
     by_owner at is None = tt
@@ -212,15 +231,20 @@ pub record OneMore (old new : Leg) : Type 0 where
 -- by the reply, the leg is in that call of its next step, or it has done one more
 abbrev pub Begun : ℕ → What → Leg → Leg → Type 0
 Begun l what.Moved old new = ⊥
-Begun l (what.Call call) old new = (call.leg ≡ l) × (call.step ≡ length old.steps) × (new.steps ≡ old.steps)
+Begun l (what.Call call) old new = (call.leg ≡ l) × (call.step ≡ length old.steps) × (new.steps ≡ old.steps) × (is_calling new.state ≡ true)
 Begun l what.Skipped old new = OneMore old new
 Begun l (what.Faulted f) old new = OneMore old new
+
+-- a leg has a worker, and is in no call
+abbrev pub IsIdle : LegState → Type 0
+IsIdle s = (is_ended s ≡ false) × (is_calling s ≡ false)
 
 pub record BeginTurns (b c : Board) (l : ℕ) (told : What) : Type 0 where
   pub old : Leg
   pub new : Leg
   pub was : leg_of b l ≡ Some old
   pub is : leg_of c l ≡ Some new
+  pub idle : IsIdle old.state
   pub begun : Begun l told old new
   pub others : QuietElsewhere l b c
 
@@ -258,34 +282,44 @@ module _ (p : Plan) (b : Board) (l : ℕ) (at : LegAt) (found : leg_at p b l ≡
   one_more : (worker : ℕ) (done : DoneStep) → OneMore at.leg (record at.leg { state = leg_state.Running worker false; steps = at.leg.steps ++ done ∷ [] })
   one_more worker done = let more = length-append at.leg.steps (done ∷ []) in record { steps = omega (arith, more); idle = refl }
 
-  step_turns : (worker : ℕ) (done : DoneStep) (told : What) → (OneMore at.leg (record at.leg { state = leg_state.Running worker false; steps = at.leg.steps ++ done ∷ [] })
+  step_turns : (worker : ℕ) (done : DoneStep) (told : What) → IsIdle at.leg.state → (OneMore at.leg (record at.leg { state = leg_state.Running worker false; steps = at.leg.steps ++ done ∷ [] })
       → Begun l told at.leg (record at.leg { state = leg_state.Running worker false; steps = at.leg.steps ++ done ∷ [] })) → BeginTurns b (step_done b at.place worker done) l told
-  step_turns worker done told how =
+  step_turns worker done told idle how =
       let f : Leg → Leg = λ leg. record leg { state = leg_state.Running worker false; steps = leg.steps ++ done ∷ [] } in
-      record { old = at.leg; new = f at.leg; was = was_there; is = is_there f; begun = how (one_more worker done); others = elsewhere f }
+      record { old = at.leg; new = f at.leg; was = was_there; is = is_there f; idle = idle; begun = how (one_more worker done); others = elsewhere f }
 
-  call_turns : (worker : ℕ) (call : StepCall) → call.leg ≡ l → call.step ≡ length at.leg.steps
+  call_turns : (worker : ℕ) (call : StepCall) → IsIdle at.leg.state → call.leg ≡ l → call.step ≡ length at.leg.steps
       → BeginTurns b (leg_state_set b at.place (leg_state.Running worker true)) l (what.Call call)
-  call_turns worker call of_leg of_step =
+  call_turns worker call idle of_leg of_step =
       let f : Leg → Leg = λ leg. record leg { state = leg_state.Running worker true } in
-      record { old = at.leg; new = f at.leg; was = was_there; is = is_there f; begun = (of_leg, of_step, refl); others = elsewhere f }
+      record { old = at.leg; new = f at.leg; was = was_there; is = is_there f; idle = idle; begun = (of_leg, of_step, refl, refl); others = elsewhere f }
 
-  begun_turns : (worker : ℕ) (step : StepPlan) (x : Result (Option StepCall) ValueFault) → step_decision l at step ≡ x → BeginRow b l (rows.begin_leg b worker at (Ok (decided x)))
+  begun_turns : (worker : ℕ) (step : StepPlan) → IsIdle at.leg.state → (x : Result (Option StepCall) ValueFault) → step_decision l at step ≡ x
+      → BeginRow b l (rows.begin_leg b worker at (Ok (decided x)))
   unfolding BeginRow
-  begun_turns worker step (Ok None) is = step_turns worker skipped_step what.Skipped (λ h. h)
-  begun_turns worker step (Ok (Some call)) is =
+  begun_turns worker step idle (Ok None) is = step_turns worker skipped_step what.Skipped idle (λ h. h)
+  begun_turns worker step idle (Ok (Some call)) is =
       let made = subst (PlacedCall l (length at.leg.steps)) is (decision_placed l at step) in
-      call_turns worker call made.0 made.1
-  begun_turns worker step (Err f) is = step_turns worker (failed_step at) (what.Faulted f) (λ h. h)
+      call_turns worker call idle made.0 made.1
+  begun_turns worker step idle (Err f) is = step_turns worker (failed_step at) (what.Faulted f) idle (λ h. h)
 
-  begin_by : (worker : ℕ) (owner : Option ℕ) (step : Option StepPlan) → BeginRow b l (rows.begin_leg b worker at (rows.beginning_by worker l at owner step))
+  owner-idle : (s : LegState) (owner : ℕ) → rows.idle_owner s ≡ Some owner → IsIdle s
+  owner-idle leg_state.Fresh owner h = absurd (no_some owner h)
+  owner-idle leg_state.Waiting owner h = absurd (no_some owner h)
+  owner-idle leg_state.Admitted owner h = absurd (no_some owner h)
+  owner-idle (leg_state.Running worker true) owner h = absurd (no_some owner h)
+  owner-idle (leg_state.Running worker false) owner h = (refl, refl)
+  owner-idle (leg_state.Ended result tolerated) owner h = absurd (no_some owner h)
+
+  begin_by : (worker : ℕ) (owner : Option ℕ) → rows.idle_owner at.leg.state ≡ owner → (step : Option StepPlan)
+      → BeginRow b l (rows.begin_leg b worker at (rows.beginning_by worker l at owner step))
   unfolding BeginRow
-  begin_by worker None step = tt
-  begin_by worker (Some owner) None = tt
-  begin_by worker (Some owner) (Some step) = tests (worker == owner)
+  begin_by worker None is step = tt
+  begin_by worker (Some owner) is None = tt
+  begin_by worker (Some owner) is (Some step) = tests (worker == owner)
     where
       tests : (c : Bool) → BeginRow b l (rows.begin_leg b worker at (if c then Ok (decided (step_decision l at step)) else Err fault.OtherWorker))
-      tests true = begun_turns worker step (step_decision l at step) refl
+      tests true = begun_turns worker step (owner-idle at.leg.state owner is) (step_decision l at step) refl
       tests false = tt
 
   end_by : (worker : ℕ) (a : Answer) (owner : Option ℕ) → rows.calling_owner at.leg.state ≡ owner → EndRow b l a (rows.end_leg b worker at (rows.ending_by worker at a owner))
@@ -324,7 +358,7 @@ begin_turns p b worker l = found (leg_at p b l) refl
   where
     found : (o : Option LegAt) → leg_at p b l ≡ o → BeginRow b l (rows.begin_found b worker l o)
     found None is = tt
-    found (Some at) is = begin_by p b l at is worker (rows.idle_owner at.leg.state) (rows.next_step at)
+    found (Some at) is = begin_by p b l at is worker (rows.idle_owner at.leg.state) refl (rows.next_step at)
 
 pub end_turns : (p : Plan) (b : Board) (worker l : ℕ) (a : Answer) → EndRow b l a (rows.end_row p b worker l a)
 unfolding EndRow

@@ -13,6 +13,7 @@ use Rattle.status_table.specs.Row.{row}
 use Rattle.status_table.specs.Runs.{after, new_board, IsLegal}
 use Rattle.step_host.specs.Lawful.{IsLastCalled, EndsAdmitted, Lawful}
 use Rattle.status_table.specs.Calls.{open_call, call_after}
+use Rattle.step_host.specs.Counted.{counted}
 use Rattle.step_host.specs.Replay.{recorded, IsRecorded}
 use Rattle.step_host.specs.Script.{IsScript}
 
@@ -59,3 +60,7 @@ RecordsAreScripts = (p : Plan) (es : List Entry) → IsLegal p es → IsScript (
 -- A legal list is lawful over what it records.
 abbrev pub RecordsAreLawful : Type 0
 RecordsAreLawful = (p : Plan) (es : List Entry) → IsLegal p es → Lawful (IsRecorded p es) p es
+
+-- What a legal list records can be counted in its entries, without a board.
+abbrev pub RecordsAreCounted : Type 0
+RecordsAreCounted = (p : Plan) (es : List Entry) → IsLegal p es → counted es ≡ recorded p es

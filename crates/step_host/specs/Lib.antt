@@ -1,3 +1,4 @@
+pub mod Counted
 pub mod Entries
 pub mod Faults
 pub mod Host

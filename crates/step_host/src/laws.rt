@@ -1,6 +1,6 @@
 //! Laws of lists that are lawful over a host, each a clause of a function that does nothing.
 
-ghost use Rattle.step_host.specs.Laws.{CalledLegsHaveCalls, OpenCallsAreLast, CallFollows, LawfulBegins, LawfulGrows, NoneIsLawful, RecordsAreLawful, RecordsAreScripts};
+ghost use Rattle.step_host.specs.Laws.{CalledLegsHaveCalls, OpenCallsAreLast, CallFollows, LawfulBegins, LawfulGrows, NoneIsLawful, RecordsAreCounted, RecordsAreLawful, RecordsAreScripts};
 
 use crate::host::StepHost;
 
@@ -25,4 +25,9 @@ pub fn open_calls_are_last()
 pub fn records_are_lawful()
     ensures script { RecordsAreScripts }
     ensures lawful { RecordsAreLawful }
+{}
+
+/// What a legal list records can be counted in its entries: each answer is for the step of its leg that was begun last.
+pub fn records_are_counted()
+    ensures { RecordsAreCounted }
 {}

@@ -38,7 +38,7 @@ pub use host::{DecidedHost, StepHost, WatchedHost};
 pub use launch::log_file;
 pub use masked::Masked;
 pub use program::ProgramHost;
-pub use replay::{ReplayHost, record_all};
+pub use replay::ReplayHost;
 pub use script::ScriptHost;
 pub use watch::{Unstarted, Watch};
 pub use watched::Watched;

@@ -1,10 +1,9 @@
 -- Each job and each leg of a board has a number, by which it is found.
-use Rattle.std.proofs.Common.{◌≡◌, ℕ, zero, suc, ◌+◌, ◌-◌, ◌<◌, true, false, List, [], ◌∷◌, Some, Ok, Err, length, slice_get, nat_lt, if◌then◌else◌, ap, subst, sym, refl, ◌∙◌, arith}
+use Rattle.std.proofs.Common.{◌≡◌, ℕ, zero, suc, ◌+◌, ◌-◌, ◌<◌, true, false, List, [], ◌∷◌, Some, length, slice_get, nat_lt, if◌then◌else◌, ap, subst, sym, refl, ◌∙◌, arith}
 use Rattle.std.proofs.lemmas.Bool.Decides.{nat_tests}
 use Rattle.std.proofs.lemmas.Option.{slice_get_within}
-use Rattle.board_decisions.specs.Place.{job_at, leg_at, job_place_from, leg_in_jobs, leg_place_from, else_from}
+use Rattle.board_decisions.specs.Place.{job_at, leg_at, job_place_from, leg_place_from}
 use Rattle.board_decisions.specs.declared.place.JobPlace.{JobPlace}
-use Rattle.board_decisions.specs.declared.place.LegPlace.{LegPlace}
 use Rattle.flow_model.specs.declared.plan.Plan.{Plan}
 use Rattle.flow_model.specs.declared.plan.RunPlan.{RunPlan}
 use Rattle.flow_model.specs.declared.plan.JobPlan.{JobPlan}
@@ -12,15 +11,13 @@ use Rattle.flow_model.specs.declared.board.Board.{Board}
 use Rattle.flow_model.specs.declared.board.Run.{Run}
 use Rattle.flow_model.specs.declared.board.Job.{Job}
 use Rattle.flow_model.specs.declared.board.Leg.{Leg}
+use Rattle.settled_plans.proofs.Numbers.{leg_spot, leg_numbered}
 use Rattle.status_table.specs.Shape.{JobShape, RunShape, HasShape}
 use Rattle.status_table.proofs.Counts.{zip-left}
 use Rattle.status_table.proofs.Lists.{same_some, no_some}
 
 abbrev pub job_spot : ℕ → ℕ → JobPlace
 job_spot r j = record { run = r; job = j }
-
-abbrev pub leg_spot : ℕ → ℕ → ℕ → LegPlace
-leg_spot r j l = record { run = r; job = j; leg = l }
 
 past : (n m : ℕ) → nat_lt (n + m) n ≡ false
 past n m = grind (arith, nat_tests)
@@ -66,57 +63,6 @@ number_of_job_at p b r j run job shape in_board there =
     record { n = number.0; run_plan = run_plan.0; plan = plan.0; found = rw (place, run_plan.1, in_board, plan.1, there) refl }
 
 -- ---- legs
-
-leg_numbered_in_jobs : (r k : ℕ) (jobs : List Job) (j l : ℕ) (job : Job) → slice_get jobs j ≡ Some job → l < length job.legs
-    → (n : ℕ) × (leg_in_jobs r k jobs n ≡ Ok (leg_spot r (k + j) l))
-leg_numbered_in_jobs r k [] j l job at within = absurd (no_some job at)
-leg_numbered_in_jobs r k (x ∷ xs) zero l job at within =
-    let less : l < length x.legs = subst (λ (y : Job). l < length y.legs) (sym (same_some x job at)) within in
-    let here : nat_lt l (length x.legs) ≡ true = grind (arith, nat_tests, less) in
-    let none : k ≡ k + 0 = omega arith in
-    (l, ap (λ c. if c then Ok (leg_spot r k l) else leg_in_jobs r (suc k) xs (l - length x.legs)) here ∙ ap (λ i. Ok (leg_spot r i l)) none)
-leg_numbered_in_jobs r k (x ∷ xs) (suc j) l job at within =
-    let later = leg_numbered_in_jobs r (suc k) xs j l job at within in
-    let more : suc k + j ≡ k + suc j = omega arith in (
-      length x.legs + later.0,
-      ap (λ c. if c then Ok (leg_spot r k (length x.legs + later.0)) else leg_in_jobs r (suc k) xs (length x.legs + later.0 - length x.legs)) (past (length x.legs) later.0)
-          ∙ ap (leg_in_jobs r (suc k) xs) (rest (length x.legs) later.0)
-          ∙ later.1
-          ∙ ap (λ i. Ok (leg_spot r i l)) more,
-    )
-
--- the number that stands so far beyond the legs of a run
-beyond_jobs : (r k : ℕ) (jobs : List Job) (m : ℕ) → (n : ℕ) × (leg_in_jobs r k jobs n ≡ Err m)
-beyond_jobs r k [] m = (m, refl)
-beyond_jobs r k (x ∷ xs) m =
-    let later = beyond_jobs r (suc k) xs m in (
-      length x.legs + later.0,
-      ap (λ c. if c then Ok (leg_spot r k (length x.legs + later.0)) else leg_in_jobs r (suc k) xs (length x.legs + later.0 - length x.legs)) (past (length x.legs) later.0)
-          ∙ ap (leg_in_jobs r (suc k) xs) (rest (length x.legs) later.0)
-          ∙ later.1,
-    )
-
-leg_numbered : (k : ℕ) (runs : List Run) (i j l : ℕ) (run : Run) (job : Job) → slice_get runs i ≡ Some run → slice_get run.jobs j ≡ Some job → l < length job.legs
-    → (n : ℕ) × (leg_place_from k runs n ≡ Some (leg_spot (k + i) j l))
-leg_numbered k [] i j l run job at there within = absurd (no_some run at)
-leg_numbered k (x ∷ xs) zero j l run job at there within =
-    let here = leg_numbered_in_jobs k 0 x.jobs j l job (ap (λ (y : Run). slice_get y.jobs j) (same_some x run at) ∙ there) within in
-    let none : 0 + j ≡ j = omega arith in
-    let same : k ≡ k + 0 = omega arith in (
-      here.0,
-      ap (λ o. else_from o (λ left. leg_place_from (suc k) xs left)) here.1
-          ∙ ap (λ i. Some (leg_spot k i l)) none
-          ∙ ap (λ r. Some (leg_spot r j l)) same,
-    )
-leg_numbered k (x ∷ xs) (suc i) j l run job at there within =
-    let later = leg_numbered (suc k) xs i j l run job at there within in
-    let before = beyond_jobs k 0 x.jobs later.0 in
-    let more : suc k + i ≡ k + suc i = omega arith in (
-      before.0,
-      ap (λ o. else_from o (λ left. leg_place_from (suc k) xs left)) before.1
-          ∙ later.1
-          ∙ ap (λ r. Some (leg_spot r j l)) more,
-    )
 
 -- the number by which a leg is found, with its plan
 pub record LegNumbered (p : Plan) (b : Board) (r j l : ℕ) (run : Run) (job : Job) (leg : Leg) : Type 0 where

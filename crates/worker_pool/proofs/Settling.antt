@@ -54,7 +54,7 @@ settles law admits p played rules lawful quiet board leads ends free answers onl
     }) (subst (λ (x : Board). finished x ≡ true) same done)
 
 pub many_settle : FinishesAsSettled → (admits : StepCall → Answer → Type 0) → ManySettle admits
-many_settle law admits p workers played rules h = settles law admits p played rules h.history.lawful h.history.uncancelled h.board h.leads h.ends
+many_settle law admits p workers played rules h = settles law admits p played rules h.history.lawful h.history.uncancelled played.left.board h.leads h.ends
 
 pub one_settles : FinishesAsSettled → (admits : StepCall → Answer → Type 0) → OneSettles admits
-one_settles law admits p played rules h = settles law admits p played rules h.history.lawful h.history.uncancelled h.board h.leads h.ends
+one_settles law admits p played rules h = settles law admits p played rules h.history.lawful h.history.uncancelled played.left.board h.leads h.ends

@@ -27,6 +27,7 @@ use Rattle.flow_model.specs.declared.board.LegState.{LegState}
 use Rattle.flow_model.specs.declared.board.LegState.TheVariants as leg_state
 use Rattle.flow_model.specs.declared.event.Entry.{Entry}
 use Rattle.flow_model.specs.declared.reply.ValueFault.{ValueFault}
+use Rattle.settled_plans.proofs.Numbers.{leg_spot}
 use Rattle.status_table.specs.Groups.{Standing, apart, holding, waiting, leg_standing, leg_stands}
 use Rattle.status_table.specs.InPlay.{InPlay}
 use Rattle.status_table.specs.Members.{is_waiting}
@@ -45,7 +46,7 @@ use Rattle.status_table.proofs.Sound.{stands_after_needs}
 use Rattle.worker_pool.proofs.Holding.{IsQuiet, has_name, run_waits_for, leg_waits_for}
 use Rattle.worker_pool.proofs.Keeping.{Passes, AllStand, legal_stands}
 use Rattle.worker_pool.proofs.NoMoves.{Idle, idle, going_or_waits, some_job_left, was_judged, has_asked}
-use Rattle.worker_pool.proofs.Numbered.{job_spot, leg_spot, JobNumbered, LegNumbered, number_of_job_at, number_of_leg_at}
+use Rattle.worker_pool.proofs.Numbered.{job_spot, JobNumbered, LegNumbered, number_of_job_at, number_of_leg_at}
 
 -- ---- lists
 

@@ -92,9 +92,8 @@ abbrev pub EndsSo : Plan → Board → Ending → Type 0
 EndsSo p b ending.Done = finished b ≡ true
 EndsSo p b ending.Stalled = stalled p b ≡ true
 
--- A play by one thread has such a history, and all is finished on the board after it, or nothing goes on.
+-- A play by one thread has such a history, and leaves the board after it, on which all is finished, or nothing goes on.
 pub record EndsAlone (admits : StepCall → Answer → Type 0) (p : Plan) (played : Played) : Type 0 where
   pub history : PlayedAlone admits p played.history
-  pub board : Board
-  pub leads : after p played.history ≡ Some board
-  pub ends : EndsSo p board played.ending
+  pub leads : after p played.history ≡ Some played.left.board
+  pub ends : EndsSo p played.left.board played.ending

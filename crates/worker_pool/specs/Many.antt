@@ -2,7 +2,6 @@
 use Rattle.std.specs.Prelude.{◌≡◌, ◌⊎◌, ℕ, ◌<◌, List, Some}
 use Rattle.flow_model.specs.Sound.{Each}
 use Rattle.flow_model.specs.declared.plan.Plan.{Plan}
-use Rattle.flow_model.specs.declared.board.Board.{Board}
 use Rattle.flow_model.specs.declared.event.Answer.{Answer}
 use Rattle.flow_model.specs.declared.event.Entry.{Entry}
 use Rattle.flow_model.specs.declared.reply.StepCall.{StepCall}
@@ -26,12 +25,11 @@ pub record PlayedByMany (admits : StepCall → Answer → Type 0) (p : Plan) (wo
   pub of_them : AreBelow workers es
   pub uncancelled : NoCancel es
 
--- A play by several workers has such a history, and all is finished on the board after it, or nothing goes on.
+-- A play by several workers has such a history, and leaves the board after it, on which all is finished, or nothing goes on.
 pub record EndsByMany (admits : StepCall → Answer → Type 0) (p : Plan) (workers : ℕ) (played : Played) : Type 0 where
   pub history : PlayedByMany admits p workers played.history
-  pub board : Board
-  pub leads : after p played.history ≡ Some board
-  pub ends : EndsSo p board played.ending
+  pub leads : after p played.history ≡ Some played.left.board
+  pub ends : EndsSo p played.left.board played.ending
 
 -- there are no workers, or too many
 abbrev pub AreNoWorkers : ℕ → Type 0

@@ -113,17 +113,16 @@ fn prepare<N: Names, T: Reversible + Send + Drop>(
 fn play_start<
     N: Names + Send + Sync,
     T: Reversible + Send + Drop,
-    V: Table + Drop,
     R: Threads + Wait + Sync,
     H: StepHost + Sync,
->(rt: &R, start: Start<N, T>, again: V, host: &H, workers: u8) -> Result<Played, PoolFault>
-    requires fresh { V.board again ≡ new_board (V.plan again) }
+>(rt: &R, start: Start<N, T>, again: PlayBoard, host: &H, workers: u8) -> Result<Played, PoolFault>
+    requires fresh { again.board ≡ new_board again.plan }
     requires number { (1 ≤ workers) × (workers ≤ 16) }
     requires parts { N.parts ≡ workers }
     requires ready { IsReady workers start }
-    ensures played { IfOk result (EndsByMany (H.admits host.now) (V.plan again) workers) }
+    ensures played { IfOk result (EndsByMany (H.admits host.now) again.plan workers) }
     ensures stopped { IfErr result
-        (StopsByMany (H.admits host.now) (H.declines host.now) (V.plan again) workers) }
+        (StopsByMany (H.admits host.now) (H.declines host.now) again.plan workers) }
 {
     let Start {
         pool,
@@ -161,20 +160,20 @@ fn play_named<
 >(
     rt: &R,
     alloc: Global,
-    tables: (T, T),
+    tables: (T, PlayBoard),
     host: &H,
     blank: Blank,
     workers: u8,
 ) -> Result<Result<Played, PoolFault>, AllocError>
     requires fresh { T.board tables.0 ≡ new_board (T.plan tables.0) }
-    requires again { T.board tables.1 ≡ new_board (T.plan tables.1) }
+    requires again { tables.1.board ≡ new_board tables.1.plan }
     requires name { blank.name ≡ N.name }
     requires parts { (blank.parts ≡ N.parts) × (blank.parts ≡ workers) }
     requires number { (1 ≤ workers) × (workers ≤ 16) }
     ensures played { IfOk result (λ come. IfOk come
-        (EndsByMany (H.admits host.now) (T.plan tables.1) workers)) }
+        (EndsByMany (H.admits host.now) tables.1.plan workers)) }
     ensures stopped { IfOk result (λ come. IfErr come
-        (StopsByMany (H.admits host.now) (H.declines host.now) (T.plan tables.1) workers)) }
+        (StopsByMany (H.admits host.now) (H.declines host.now) tables.1.plan workers)) }
 {
     let (table, again) = tables;
     let start = prepare::<N, T>(alloc, table, blank, workers)?;
@@ -201,8 +200,8 @@ fn play_counted<R: Threads + Wait + Sync, H: StepHost + Sync>(
 
 /// Plays a plan by 1 to 16 workers, each in a thread of its own where one can be made. Each posts what a clerk may, and else takes a
 /// leg that may be taken and plays it to its Finish with the host's answers, of which it may be asked for several at once. At
-/// the end the history is played again on a board of the plan on which all is new, and held against what each worker logged.
-/// A plan without job groups never stalls.
+/// the end the history is played again on a board of the plan on which all is new, which is left, and held against what each
+/// worker logged. A plan without job groups never stalls.
 ///
 /// # Errors
 ///

@@ -1,6 +1,7 @@
 //! What a play comes to.
 
 use flow_model::{Entry, Sequence};
+use step_host::PlayBoard;
 
 /// How a play ended.
 #[derive(Clone, Copy)]
@@ -17,4 +18,6 @@ pub struct Played {
     /// The entries that the table accepted, in their order.
     pub history: Sequence<Entry>,
     pub ending: Ending,
+    /// The plan in play after them.
+    pub left: PlayBoard,
 }

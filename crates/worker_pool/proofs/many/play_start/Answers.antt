@@ -1,7 +1,8 @@
-use Rattle.std.proofs.Common.{rules, ◌≡◌, ◌+◌, length, List, ap, subst, sym, ◌∙◌}
+use Rattle.std.proofs.Common.{rules, ◌≡◌, ◌+◌, length, List, IfSome, ap, subst, sym, ◌∙◌}
 use Rattle.std.specs.List.{All}
 use Rattle.ready_queue.specs.Passes.{records_of}
 use Rattle.ready_queue.specs.Records.{keepers}
+use Rattle.worker_pool.specs.Log.{HaltsFor}
 use Rattle.worker_pool.specs.Worker.{IsFit, crew_keepers}
 use Rattle.worker_pool.specs.declared.worker.Worker.{Worker}
 use Rattle.worker_pool.proofs.Hired.{written}
@@ -23,3 +24,11 @@ gather-pass-requires-clause-fit g c κs within =
     let same : length c.play_each.new.workers ≡ length crew.items = search rules in
     subst (λ (ws : List (Worker g.row.N.Denot)). All (IsFit (g.H.StepHost.admits c.args.host.now) c.args.start.pool.queue) ws)
     (sym (written crew.len crew.items c.play_each.new.workers long same)) c.play_each.ensures.fit
+
+pub gather-pass-requires-clause-halts : goal.gather-pass-requires-clause-halts
+gather-pass-requires-clause-halts g c κs within =
+    let crew = c.hire-rest.new.crew in
+    let long : crew.len ≡ length crew.items = search rules in
+    let same : length c.play_each.new.workers ≡ length crew.items = search rules in
+    subst (λ (ws : List (Worker g.row.N.Denot)). All (λ w. IfSome w.halt (HaltsFor (g.H.StepHost.declines c.args.host.now))) ws)
+    (sym (written crew.len crew.items c.play_each.new.workers long same)) c.play_each.ensures.halts
