@@ -9,11 +9,12 @@
 //! What is told is one line: the status, then the lines of `out`, each behind `>`, and those of `err`, each behind `!`. Of `out` the
 //! last two tell `part`, a beginning of what is written without a limit, or `whole`.
 
-use crate::page::Page;
 use crate::record_sweeps::put_lines;
-use crate::streams::{Behind, Limits, Sheet};
-use crate::verbs::{Asked, Found, Spoiled, run};
+use crate::verbs::run;
+use case_reader::streams::{Behind, Limits, Sheet};
+use case_reader::{Asked, Found, Page, Spoiled};
 use command_io::stream::{Output, Sink};
+use record_verbs::loads::record_in;
 use run_command::machine::Machine;
 use run_command::record_file::text_of_record;
 use std::sync::Wait;
@@ -120,7 +121,7 @@ fn writers<R: Machine + Threads + Wait + Sync>(rt: &R, page: &mut Page<'_>) {
 fn kept(page: &mut Page<'_>) {
     let step = page.number(1) as usize;
     let whole = page.input;
-    let Some((plan, entries)) = page.record() else {
+    let Some((plan, entries)) = record_in(page) else {
         return;
     };
     let Some(text) = page.have(text_of_record(page.alloc, &plan, entries.as_slice())) else {

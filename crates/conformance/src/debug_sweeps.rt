@@ -6,19 +6,20 @@
 //! What is told of a place is whether it was reached `on` or `back`, and `as table`, or both boards where they differ. The
 //! debugger goes over the plain board, and over the flat one, which have to come to the same.
 
-use crate::both_boards::put_difference;
-use crate::page::Page;
-use crate::plays::shown;
 use crate::record_sweeps::{put_lines, put_told};
+use board_verbs::put_difference;
+use case_reader::Page;
 use debugger::{DebugFault, Debugger};
 use flat_board::FlatBoard;
 use flow_model::{Duplicate, Entry, Sequence};
+use record_verbs::boards::shown;
+use record_verbs::loads::record_in;
 use status_table::{PlainBoard, Reversible};
 use std::alloc::AllocError;
 
 /// Does what the verb asks.
 pub fn places(page: &mut Page<'_>) {
-    if let Some((plan, entries)) = page.record() {
+    if let Some((plan, entries)) = record_in(page) {
         let twins = entries.copy(page.alloc);
         let plain = swept(page, PlainBoard::new(page.alloc, &plan), Ok(entries));
         let flat = swept(page, FlatBoard::new(page.alloc, &plan), twins);

@@ -8,8 +8,8 @@
 //! sweep over its places stands in `debug_sweeps`.
 
 use crate::debug_sweeps::places;
-use crate::page::Page;
-use crate::streams::{Behind, Feed, Limits, Sheet};
+use case_reader::Page;
+use case_reader::streams::{Behind, Feed, Limits, Sheet};
 use command_io::bounded::{Bounded, MOST_READS};
 use command_io::stream::{Input, Output};
 use commands::table::table;
@@ -24,8 +24,7 @@ pub fn perform(page: &mut Page<'_>) {
         "garbled" => garbled(page),
         "lines" => lines(page),
         "raised" => raised(page),
-        "places" => places(page),
-        _ => page.put("no such verb"),
+        _ => places(page),
     }
 }
 

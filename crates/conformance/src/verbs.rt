@@ -1,10 +1,9 @@
-//! What a case asks for: a command, by the words of the command line, or a verb of this program's own.
+//! What a case asks for: a command, by the words of the command line, or a verb.
 
-use crate::page::Page;
-use crate::streams::{Behind, Feed, Limits, Sheet};
-use crate::{
-    board_calls, both_boards, command_sweeps, plan_calls, pool_calls, program_calls, ticket_calls,
-};
+use crate::{command_sweeps, program_calls, record_sweeps};
+use board_verbs::compare;
+use case_reader::streams::{Feed, Sheet};
+use case_reader::{Asked, Found, Page};
 use command_io::bounded::{Bounded, MOST_READS};
 use command_io::stream::{Input, Output};
 use command_io::trouble::FAILED;
@@ -12,72 +11,10 @@ use command_words::folder::Folder;
 use command_words::words;
 use run_command::machine::Machine;
 use std::alloc::Global;
-use std::collections::BTreeMap;
 use std::io;
 use std::io::{BufReader, ErrorKind};
 use std::sync::Wait;
 use std::thread::Threads;
-
-/// The name of the file whose lines stand without one.
-pub const CONTEXTS: &str = "contexts.json";
-
-/// The files of a case, by their names.
-pub type Files = BTreeMap<String, Vec<u8>>;
-
-/// A file whose reader does not give it to its end.
-#[derive(Clone, Copy)]
-pub struct Spoiled<'a> {
-    /// The name of the file; `-` is the input.
-    pub name: &'a str,
-    /// How many bytes the reader gives.
-    pub length: usize,
-    /// What it does behind them.
-    pub behind: Behind,
-}
-
-impl<'a> Spoiled<'a> {
-    /// A file that has no name, and so none.
-    pub fn none() -> Spoiled<'a> {
-        Spoiled {
-            name: "",
-            length: 0,
-            behind: Behind::Ends,
-        }
-    }
-
-    /// A reader of a file.
-    fn feed(&self, name: &str, bytes: &'a [u8], limits: Limits) -> Feed<'a> {
-        if name == self.name {
-            let bytes = bytes.get(..self.length).unwrap_or(bytes);
-            return Feed::new(bytes, limits.step, self.behind);
-        }
-        if limits.read_fails {
-            return Feed::new(bytes, limits.step, Behind::Fails);
-        }
-        Feed::new(bytes, limits.step, Behind::Ends)
-    }
-}
-
-/// What a case asks for.
-#[derive(Clone, Copy)]
-pub struct Asked<'a> {
-    /// Whether the words are those of a verb of this program, and not of the command line.
-    pub is_verb: bool,
-    /// The words, of which the first names the program.
-    pub words: &'a [String],
-    pub files: &'a Files,
-    pub input: &'a [u8],
-    pub limits: Limits,
-    pub spoiled: Spoiled<'a>,
-}
-
-/// What came of it.
-#[derive(Drop)]
-pub struct Found {
-    pub out: Vec<u8>,
-    pub err: Vec<u8>,
-    pub status: u8,
-}
 
 /// The folder of a case, and where its programs run. A reader is given up after so many reads.
 #[derive(Drop)]
@@ -138,7 +75,7 @@ pub fn perform<R: Machine + Threads + Wait + Sync>(
     let mut found = answered(rt, alloc, asked);
     let words = asked.words.get(1..).unwrap_or(&[]);
     let mut page = Page::new(alloc, words, asked.files, record_of(asked));
-    both_boards::compare(&mut page);
+    compare(&mut page);
     if found.err.extend_from_slice(page.text().as_bytes()).is_err() {
         found.status = FAILED;
     }
@@ -154,13 +91,23 @@ fn answered<R: Machine + Threads + Wait + Sync>(rt: &R, alloc: Global, asked: &A
     let mut page = Page::new(alloc, words, asked.files, asked.input);
     match page.word(0) {
         "program" => program_calls::program(rt, &mut page),
-        "pool" | "meet" | "rounds" | "settles" | "agree" => pool_calls::perform(rt, &mut page),
-        "posts" | "threads" => board_calls::perform(rt, &mut page),
-        "tickets" => ticket_calls::perform(rt, &mut page),
         "cut" | "ends" | "broken" | "writers" | "kept" => command_sweeps::perform(rt, &mut page),
-        _ => plan_calls::perform(&mut page),
+        "garbled" | "lines" | "raised" | "places" => record_sweeps::perform(&mut page),
+        _ => answer(rt, &mut page),
     }
     page.into_found()
+}
+
+/// Does what a verb of the libraries asks.
+fn answer<R: Threads + Wait + Sync>(rt: &R, page: &mut Page<'_>) {
+    let is_known = expression_verbs::perform(page)
+        || record_verbs::perform(page)
+        || workflow_verbs::perform(page)
+        || board_verbs::perform(page)
+        || host_verbs::perform(rt, page);
+    if !is_known {
+        page.put("no such verb");
+    }
 }
 
 /// Runs the command that the words ask for, or none where they are no UTF-8.
