@@ -50,7 +50,8 @@ pub fn perform<R: Threads + Wait + Sync>(rt: &R, page: &mut Page<'_>) {
 
 /// Two boards of a plan on which all is new.
 fn boards(alloc: Global, plan: &CheckedPlan) -> Result<(PlayBoard, PlayBoard), AllocError>
-    ensures { IfOk result (λ two. (two.0.board ≡ new_board two.0.plan) × (two.1.board ≡ new_board two.1.plan)) }
+    ensures { IfOk result (λ two. (two.0.board ≡ new_board two.0.plan)
+        × (two.1.board ≡ new_board two.1.plan)) }
 {
     Ok((PlayBoard::new(alloc, plan)?, PlayBoard::new(alloc, plan)?))
 }
