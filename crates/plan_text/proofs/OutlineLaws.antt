@@ -1,5 +1,9 @@
 -- What the outline of a text stands for, part by part.
-use Rattle.std.proofs.Common.{◌≡◌, ◌≤◌, ℕ, Bool, List, [], ◌∷◌, Some, map, option_and_then, Ok, refl, sym, ap, ◌∙◌, append-nil, arith}
+use Rattle.std.proofs.Common.{◌≡◌, ◌≤◌, ◌<◌, ◌+◌, ◌^◌, ℕ, List, [], ◌∷◌, Some, map, decimal, drop, get_or, length, option_map, option_and_then, Ok, Ordering, Less, Equal, Greater, nat_cmp, refl, sym, ap, ◌∙◌, append-nil, arith}
+use Rattle.std.proofs.lemmas.List.{drop_more}
+use Rattle.std.specs.Borrow.{Bor}
+use Rattle.std.specs.Cmp.Lexicographic.{slice_cmp}
+use Rattle.std.specs.Ordering.{match_ordering}
 use Rattle.std.specs.Str.{IsUtf8}
 use Rattle.json.specs.Json as json
 use Rattle.json.specs.Json.{Json, if_last, value}
@@ -7,19 +11,21 @@ use Rattle.json.specs.Print.{print, print_from, IsNumber}
 use Rattle.json.specs.Tree.{json_tokens, depth, HasNumbers}
 use Rattle.json.proofs.Printed.Tokens.{tokens-print}
 use Rattle.json.proofs.Printed.Trees.{value-json_tokens, ArePrintable-json_tokens}
-use Rattle.json.specs.Value.{items_of as outlines_of}
-use Rattle.serde_json.specs.Data.{Data}
-use Rattle.serde_json.specs.Read.{of_json, of_items, read}
+use Rattle.json.specs.Value.{value_view, items_of as outlines_of, members_view}
+use Rattle.json.specs.declared.value.Value.{Value}
+use Rattle.serde_json.specs.Data.{Data, number, member, put}
+use Rattle.serde_json.specs.Read.{number_of, of_json, of_items, of_members, read}
 use Rattle.serde_json.specs.View.{items_of}
+use Rattle.serde_json.proofs.Numbers.{number_of-decimal}
+use Rattle.flow_model.specs.Mapping.{with_pair}
 use Rattle.flow_model.specs.declared.plan.Plan.{Plan}
 use Rattle.flow_model.proofs.JsonTexts.{json_read-utf8}
 use Rattle.plan_text.specs.Document.{document_in}
 use Rattle.flow_model.specs.Rules.{IsPlan}
 use Rattle.plan_text.specs.Load.{load}
-use Rattle.plan_text.specs.Outline.{IsOutlineOf, StandsFor, EachStandsFor, IsReadOf}
-use Rattle.plan_text.specs.Parts.{Reading}
+use Rattle.plan_text.specs.Outline.{IsOutlineOf, StandsFor, EachStandsFor}
+use Rattle.plan_text.specs.Parts.{number_data, pair_members}
 use Rattle.plan_text.specs.declared.version.Version.{Version}
-use Rattle.plan_text.proofs.Laws.{Reads}
 use Rattle.plan_text.proofs.LoadLemmas.{load_again}
 
 -- ---- a text
@@ -38,12 +44,9 @@ number-text s = append-nil s
 pub number_stands : (s : List ℕ) (d : Data) → IsNumber s → read s ≡ Some d → StandsFor (json.number s) d
 number_stands s d is e = sym (read-printed (json.number s) is (omega arith)) ∙ ap read (number-text s) ∙ e
 
--- ---- a part
-
--- a part that is read of what its outline stands for has that as its document
-pub part_stands : {A : Type 0} {write : A → Data} {reading : Data → Reading A} {fits : A → Bool} {n : ℕ} (law : Reads write reading fits n) (j : Json) (a : A)
-    → IsReadOf reading j a → StandsFor j (write a)
-part_stands law j a h = h.1.0 ∙ ap Some (law.only h.0 a h.1.1)
+-- the digits of a number are read as it
+pub digits_stand : (s : List ℕ) (n : ℕ) → s ≡ decimal n → n < 2 ^ 64 → StandsFor (json.number s) (number_data n)
+digits_stand s n is fits = ap (λ t. option_map number (number_of t)) is ∙ ap (option_map number) (number_of-decimal n fits)
 
 -- ---- a list
 
@@ -57,6 +60,31 @@ items_stand outline data_of (x ∷ xs) (y ∷ ys) e =
     let first : of_json (outline x) ≡ Some (data_of y) = cc in
     let rest : of_items (outlines_of (map outline xs)) ≡ Some (items_of (map data_of ys)) = items_stand outline data_of xs ys (cc) in
     rw (first, rest) refl
+
+-- ---- a map
+
+placed : {A : Type 0} (write : A → Data) (key : List ℕ) (a : A) (p : List ℕ × A) (ps : List (List ℕ × A)) → put key (write a) (pair_members write ps) ≡ pair_members write (with_pair key a ps)
+    → (o : Ordering)
+    → match_ordering o (member key (write a) (pair_members write (p ∷ ps))) (member p.0 (write a) (pair_members write ps)) (member p.0 (write p.1) (put key (write a) (pair_members write ps)))
+    ≡ pair_members write (match_ordering o ((key, a) ∷ p ∷ ps) ((p.0, a) ∷ ps) (p ∷ with_pair key a ps))
+placed write key a p ps later Less = refl
+placed write key a p ps later Equal = refl
+placed write key a p ps later Greater = ap (member p.0 (write p.1)) later
+
+-- a member is put as the pair is set
+put_pair : {A : Type 0} (write : A → Data) (key : List ℕ) (a : A) (ps : List (List ℕ × A)) → put key (write a) (pair_members write ps) ≡ pair_members write (with_pair key a ps)
+put_pair write key a [] = refl
+put_pair write key a (p ∷ ps) = placed write key a p ps (put_pair write key a ps) (slice_cmp nat_cmp key p.0)
+
+-- what is left of an object's members goes into what was read, one member on
+pub member_step : {A B : Type 0} (write : A → Data) (from : List (Bor (List ℕ) × Value B)) (i : ℕ) (m : Bor (List ℕ) × Value B) (a : A) (ps qs : List (List ℕ × A))
+    → i < length from → m ≡ get_or from i m → StandsFor (value_view m.1) (write a) → qs ≡ with_pair m.0.now a ps
+    → of_members (members_view (drop i from)) (pair_members write ps) ≡ of_members (members_view (drop (i + 1) from)) (pair_members write qs)
+member_step write from i m a ps qs within is stands set =
+    let left = members_view (drop (i + 1) from) in
+    ap (λ ms. of_members (members_view ms) (pair_members write ps)) (drop_more from i m within ∙ ap (λ n. n ∷ drop (i + 1) from) (sym is))
+    ∙ ap (option_and_then (λ d. of_members left (put m.0.now d (pair_members write ps)))) stands
+    ∙ ap (of_members left) (put_pair write m.0.now a ps ∙ ap (pair_members write) (sym set))
 
 -- ---- a plan
 

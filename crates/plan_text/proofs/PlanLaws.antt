@@ -45,7 +45,7 @@ plain_reads = record {
 abbrev pub values_fit : Values → Bool
 values_fit ps = list_all (λ p. is_within 100 p.1) ps
 
-pub values_reads : Reads (map_data json_of) values_of values_fit 101
+values_reads : Reads (map_data json_of) values_of values_fit 101
 values_reads = map_reads plain_reads
 
 -- ---- the parts of a plan
@@ -78,14 +78,14 @@ group_reads =
     object_reads (field_reads (codes "cancel") (flag_reads 0) (field_reads (codes "name") (text_reads 0) (no_more_reads 0))) group_from
     (λ g. (g.cancel, (g.name, tt))) (λ _. refl) (λ _. refl)
 
-pub group_or_null : (n : ℕ) → 1 ≤ n → Reads (optional_data group_data) (optional_of group_of) (λ _. true) n
+group_or_null : (n : ℕ) → 1 ≤ n → Reads (optional_data group_data) (optional_of group_of) (λ _. true) n
 group_or_null n le = or_null (deeper group_reads n le) [] refl
 
 -- whether the values of the roots fit
 abbrev pub roots_fit : Roots → Bool
 roots_fit r = values_fit r.github && (values_fit r.inputs && (values_fit r.secrets && (values_fit r.vars && true)))
 
-pub roots_reads : Reads roots_data roots_of roots_fit 102
+roots_reads : Reads roots_data roots_of roots_fit 102
 roots_reads =
     object_reads (field_reads (codes "github") values_reads (field_reads (codes "inputs") values_reads
     (field_reads (codes "secrets") values_reads (field_reads (codes "vars") values_reads (no_more_reads 101))))) roots_from
@@ -211,7 +211,7 @@ step_reads =
 abbrev pub job_fits : JobPlan → Bool
 job_fits j = values_fit j.env && (list_all values_fit j.legs && (list_all step_fits j.steps && true))
 
-pub job_reads : Reads job_data job_of job_fits 105
+job_reads : Reads job_data job_of job_fits 105
 unfolding job_tail
 job_reads =
     object_reads (field_reads (codes "condition") (text_or_null 104) (field_reads (codes "env") (deeper values_reads 104 (omega arith))

@@ -1,11 +1,10 @@
 -- The outline of a text: its JSON as it is spelled, before it is turned to data.
-use Rattle.std.specs.Prelude.{◌≡◌, ℕ, List, [], map, Some, Ok}
+use Rattle.std.specs.Prelude.{◌≡◌, ℕ, List, [], map, Some}
 use Rattle.json.specs.Json as json
 use Rattle.json.specs.Lex.{tokens}
 use Rattle.serde_json.specs.Data.{Data, Members, no_members}
 use Rattle.serde_json.specs.Read.{of_json, of_members}
 use Rattle.plan_text.specs.Fields.{put_each}
-use Rattle.plan_text.specs.Parts.{Reading}
 
 -- this is the JSON of the whole text, nested to 127
 abbrev pub IsOutlineOf : List ℕ → json.Json → Type 0
@@ -22,10 +21,6 @@ EachStandsFor outline data_of xs ys = map (λ x. of_json (outline x)) xs ≡ map
 -- the members of an object stand for these
 abbrev pub MembersStandFor : json.Members → Members → Type 0
 MembersStandFor js ds = of_members js no_members ≡ Some ds
-
--- this part is read of the data that it stands for
-abbrev pub IsReadOf : {A : Type 0} → (Data → Reading A) → json.Json → A → Type 0
-IsReadOf reading j a = (d : Data) × ((of_json j ≡ Some d) × (reading d ≡ Ok a))
 
 -- the members of an object stand for these, whatever stands before them
 abbrev pub StandFor : json.Members → List (List ℕ × Data) → Type 0

@@ -9,8 +9,25 @@ use flow_model::{Combo, Flag, Group, JobPlan, Mapping, Sequence, StepPlan, Text}
 use serde_json::Value;
 use std::alloc::Global;
 
+/// The keys of a job, in their order.
+pub(crate) const JOB_KEYS: [&str; 13] = [
+    "condition",
+    "env",
+    "fail_fast",
+    "group",
+    "id",
+    "legs",
+    "max_parallel",
+    "name",
+    "needs",
+    "number",
+    "outputs",
+    "steps",
+    "tolerate",
+];
+
 /// The parts of a job from `name` on, in the order of their keys.
-type JobTail = (
+pub(crate) type JobTail = (
     Text,
     (
         Sequence<u64>,
@@ -19,7 +36,7 @@ type JobTail = (
 );
 
 /// The parts of a job, in the order of their keys.
-type JobParts = (
+pub(crate) type JobParts = (
     Option<Text>,
     (
         Mapping<flow_model::Value>,
@@ -34,7 +51,7 @@ type JobParts = (
 );
 
 /// The job that has these parts.
-fn job_from(parts: JobParts) -> JobPlan
+pub(crate) fn job_from(parts: JobParts) -> JobPlan
     ensures { result ≡ job_from parts }
 {
     let (condition, (env, (fail_fast, (group, (id, (legs, (max_parallel, tail))))))) = parts;
@@ -63,21 +80,6 @@ impl FromJson for JobPlan {
 
     #[tactic(auto, unfolding(crate::specs::Reading::job_tail))]
     fn from_json(alloc: Global, json: &Value) -> Result<JobPlan, Unread> {
-        let keys = [
-            "condition",
-            "env",
-            "fail_fast",
-            "group",
-            "id",
-            "legs",
-            "max_parallel",
-            "name",
-            "needs",
-            "number",
-            "outputs",
-            "steps",
-            "tolerate",
-        ];
-        Ok(job_from(read_object::<JobParts>(alloc, json, &keys)?))
+        Ok(job_from(read_object::<JobParts>(alloc, json, &JOB_KEYS)?))
     }
 }

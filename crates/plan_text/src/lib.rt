@@ -9,6 +9,7 @@
 #![tactic(auto)]
 
 mod board;
+mod digits;
 mod entry;
 mod entry_reading;
 mod entry_writing;
@@ -17,6 +18,7 @@ mod fields;
 mod job_reading;
 mod outline;
 mod plan;
+mod plan_outline;
 mod plan_reading;
 mod plan_writing;
 mod printed;

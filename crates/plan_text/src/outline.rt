@@ -1,31 +1,25 @@
-//! A plan from the text that is printed of it, job by job.
+//! The parts of a document that are read of the outline of its text, whose texts lie in the text itself.
 //!
-//! An outline of the text is kept, whose texts lie in the text itself, and a tree is made of one job
-//! at a time. The outline takes some five times the text, and a tree of the whole would take fifteen
-//! times the text. What is spelled in another order is refused here: it is for the reading of whole
-//! trees.
+//! The members of an object have to stand in the order in which they are printed, and a number is one of
+//! at most 15 digits. What is spelled otherwise is refused here: it is for the reading of whole trees.
 
-ghost use Rattle.std.specs.Prelude.{◌≡◌, IfOk, Some, Ok};
+ghost use Rattle.std.specs.Prelude.{◌≡◌, ◌<◌, IfOk, IfSome, map};
+ghost use Rattle.json.specs.Json as spec;
 ghost use Rattle.json.specs.Value.{value_view};
-ghost use Rattle.serde_json.specs.Read.{read};
-ghost use Rattle.plan_text.specs.Document.{document_in};
-ghost use Rattle.plan_text.specs.Load.{load};
-ghost use Rattle.plan_text.specs.Outline.{IsOutlineOf, StandsFor, IsReadOf};
+ghost use Rattle.serde_json.specs.Data.{object, no_members};
+ghost use Rattle.flow_model.specs.Json.{json_of};
+ghost use Rattle.plan_text.specs.Fields.{put_each};
+ghost use Rattle.plan_text.specs.Outline.{StandsFor};
+ghost use Rattle.plan_text.specs.Parts.{number_data};
 
-use crate::reading::{FromJson, Unread, refused};
+use crate::digits::{MORE_THAN_15_DIGITS, whole_number};
+use crate::reading::{Unread, refused};
 use crate::tree::tree_of;
-use crate::version::Version;
-use flow_model::{
-    Broken, CheckedPlan, Group, JobPlan, Mapping, Plan, Roots, RunPlan, Sequence, Text,
-};
-use json::{Error, Reader, Scratch};
+use flow_model::{JsonFault, Mapping, Node, Sequence, Text};
 use std::alloc::Global;
 
-/// How deep a text may nest.
-const MAX_DEPTH: usize = 127;
-
-/// A part of a plan that is read of its outline.
-trait FromOutline {
+/// A part of a document that is read of its outline.
+pub(crate) trait FromOutline {
     ghost use Rattle.serde_json.specs.Data.{Data};
 
     /// Its document.
@@ -37,92 +31,151 @@ trait FromOutline {
         ensures { IfOk result (λ part. StandsFor (value_view outline.now) (document part)) };
 }
 
-/// A part that is read of its tree.
-fn part_of<T: FromJson>(alloc: Global, outline: &json::Value<'_>) -> Result<T, Unread>
-    ensures { IfOk result (λ part. IsReadOf T.reading (value_view outline.now) part) }
-{
-    let tree = tree_of(alloc, outline)?;
-    T::from_json(alloc, &tree)
-}
-
-impl FromOutline for Version {
-    ghost use Rattle.plan_text.specs.Version.{version_data};
-
-    ghost document = { version_data };
-
-    fn from_outline(alloc: Global, outline: &json::Value<'_>) -> Result<Version, Unread> {
-        part_of(alloc, outline)
-    }
-}
-
 impl FromOutline for Text {
     ghost use Rattle.serde_json.specs.Data.{string};
 
     ghost document = { string };
 
     fn from_outline(alloc: Global, outline: &json::Value<'_>) -> Result<Text, Unread> {
-        part_of(alloc, outline)
+        match outline {
+            json::Value::String(text) => Ok(Text::from_str(alloc, *text)?),
+            _ => Err(refused(alloc, "")),
+        }
     }
 }
 
-impl FromOutline for Option<Text> {
-    ghost use Rattle.serde_json.specs.Data.{string};
-    ghost use Rattle.plan_text.specs.Parts.{optional_data};
+impl FromOutline for bool {
+    ghost use Rattle.serde_json.specs.Data.{boolean};
 
-    ghost document = { optional_data string };
+    ghost document = { boolean };
 
-    fn from_outline(alloc: Global, outline: &json::Value<'_>) -> Result<Option<Text>, Unread> {
-        part_of(alloc, outline)
+    fn from_outline(alloc: Global, outline: &json::Value<'_>) -> Result<bool, Unread> {
+        match outline {
+            json::Value::Bool(truth) => Ok(*truth),
+            _ => Err(refused(alloc, "")),
+        }
     }
 }
 
-impl FromOutline for Option<Group> {
-    ghost use Rattle.plan_text.specs.Document.{group_data};
-    ghost use Rattle.plan_text.specs.Parts.{optional_data};
+impl FromOutline for u64 {
+    ghost use Rattle.plan_text.specs.Parts.{number_data};
 
-    ghost document = { optional_data group_data };
+    ghost document = { number_data };
 
-    fn from_outline(alloc: Global, outline: &json::Value<'_>) -> Result<Option<Group>, Unread> {
-        part_of(alloc, outline)
+    fn from_outline(alloc: Global, outline: &json::Value<'_>) -> Result<u64, Unread> {
+        let json::Value::Number(text) = outline else {
+            return Err(refused(alloc, ""));
+        };
+        match number_of(*text) {
+            Some(number) => Ok(number),
+            None => Err(refused(alloc, "")),
+        }
     }
 }
 
-impl FromOutline for Mapping<flow_model::Value> {
+/// The number that a text is printed of.
+fn number_of(text: &str) -> Option<u64>
+    ensures stands { IfSome result
+        (λ number. StandsFor (spec.number text.now) (number_data number)) }
+    ensures bounded { IfSome result (λ number. number < MORE_THAN_15_DIGITS) }
+{
+    whole_number(text.as_bytes())
+}
+
+/// A list and a map are read of their tree, and so is a number that is not one of at most 15 digits.
+impl FromOutline for flow_model::Value {
     ghost use Rattle.flow_model.specs.Json.{json_of};
+
+    ghost document = { json_of };
+
+    fn from_outline(alloc: Global, outline: &json::Value<'_>) -> Result<flow_model::Value, Unread> {
+        match outline {
+            json::Value::Null => Ok(flow_model::Value::new(Node::Null)),
+            json::Value::Bool(truth) => Ok(flow_model::Value::new(Node::Truth(*truth))),
+            json::Value::Number(text) => match number_of(*text) {
+                Some(number) => Ok(whole_value(number)),
+                None => value_of_tree(alloc, outline),
+            },
+            json::Value::String(text) => {
+                let text = Text::from_str(alloc, *text)?;
+                Ok(flow_model::Value::new(Node::Text(text)))
+            },
+            _ => value_of_tree(alloc, outline),
+        }
+    }
+}
+
+fn whole_value(number: u64) -> flow_model::Value
+    requires { number < MORE_THAN_15_DIGITS }
+    ensures { json_of result ≡ number_data number }
+{
+    flow_model::Value::new(Node::Whole(number as i64))
+}
+
+/// The value of the tree of an outline.
+fn value_of_tree(alloc: Global, outline: &json::Value<'_>) -> Result<flow_model::Value, Unread>
+    ensures { IfOk result (λ value. StandsFor (value_view outline.now) (json_of value)) }
+{
+    let tree = tree_of(alloc, outline)?;
+    match flow_model::into_value(alloc, tree) {
+        Ok(value) => Ok(value),
+        Err(JsonFault::NotWhole) => Err(refused(alloc, "")),
+        Err(JsonFault::Memory) => Err(Unread::Memory),
+    }
+}
+
+impl<T: FromOutline> FromOutline for Option<T> {
+    ghost use Rattle.plan_text.specs.Parts.{optional_data};
+
+    ghost document = { optional_data T.document };
+
+    fn from_outline(alloc: Global, outline: &json::Value<'_>) -> Result<Option<T>, Unread> {
+        match outline {
+            json::Value::Null => Ok(None),
+            other => Ok(Some(T::from_outline(alloc, other)?)),
+        }
+    }
+}
+
+impl<T: FromOutline + Drop> FromOutline for Sequence<T> {
+    ghost use Rattle.plan_text.specs.Parts.{list_data};
+
+    ghost document = { list_data T.document };
+
+    fn from_outline(alloc: Global, outline: &json::Value<'_>) -> Result<Sequence<T>, Unread> {
+        let json::Value::Array(items) = outline else {
+            return Err(refused(alloc, ""));
+        };
+        let from = items.as_slice();
+        let mut parts = Vec::with_capacity(alloc, from.len())?;
+        for item in from {
+            parts.push(T::from_outline(alloc, item)?)?;
+        }
+        Ok(Sequence::new(parts))
+    }
+}
+
+impl<V: FromOutline + Drop> FromOutline for Mapping<V> {
     ghost use Rattle.plan_text.specs.Parts.{map_data};
 
-    ghost document = { map_data json_of };
+    ghost document = { map_data V.document };
 
-    fn from_outline(
-        alloc: Global,
-        outline: &json::Value<'_>,
-    ) -> Result<Mapping<flow_model::Value>, Unread> {
-        part_of(alloc, outline)
-    }
-}
-
-impl FromOutline for Roots {
-    ghost use Rattle.plan_text.specs.Document.{roots_data};
-
-    ghost document = { roots_data };
-
-    fn from_outline(alloc: Global, outline: &json::Value<'_>) -> Result<Roots, Unread> {
-        part_of(alloc, outline)
-    }
-}
-
-impl FromOutline for JobPlan {
-    ghost use Rattle.plan_text.specs.Document.{job_data};
-
-    ghost document = { job_data };
-
-    fn from_outline(alloc: Global, outline: &json::Value<'_>) -> Result<JobPlan, Unread> {
-        part_of(alloc, outline)
+    fn from_outline(alloc: Global, outline: &json::Value<'_>) -> Result<Mapping<V>, Unread> {
+        let json::Value::Object(members) = outline else {
+            return Err(refused(alloc, ""));
+        };
+        let from = members.as_slice();
+        let mut pairs = Mapping::empty(alloc);
+        for member in from {
+            let value = V::from_outline(alloc, &member.1)?;
+            pairs.set(alloc, member.0, value)?;
+        }
+        Ok(pairs)
     }
 }
 
 /// Members of an outline, up to the last: a part and the members after it, or none.
-trait OutlineFields {
+pub(crate) trait OutlineFields {
     ghost use Rattle.std.specs.Prelude.{ℕ, List, map};
     ghost use Rattle.serde_json.specs.Data.{Data};
     ghost use Rattle.json.specs.Value.{members_view};
@@ -177,110 +230,17 @@ impl<A: FromOutline + Drop, R: OutlineFields> OutlineFields for (A, R) {
     }
 }
 
-impl<T: FromOutline + Drop> FromOutline for Sequence<T> {
-    ghost use Rattle.plan_text.specs.Parts.{list_data};
-
-    ghost document = { list_data T.document };
-
-    fn from_outline(alloc: Global, outline: &json::Value<'_>) -> Result<Sequence<T>, Unread> {
-        let json::Value::Array(items) = outline else {
-            return Err(refused(alloc, ""));
-        };
-        let from = items.as_slice();
-        let mut parts = Sequence::empty(alloc);
-        for item in from {
-            parts.push(T::from_outline(alloc, item)?)?;
-        }
-        Ok(parts)
-    }
-}
-
-impl FromOutline for RunPlan {
-    ghost use Rattle.plan_text.specs.Document.{run_data};
-
-    ghost document = { run_data };
-
-    fn from_outline(alloc: Global, outline: &json::Value<'_>) -> Result<RunPlan, Unread> {
-        let json::Value::Object(members) = outline else {
-            return Err(refused(alloc, ""));
-        };
-        let keys = ["env", "event", "flow", "group", "jobs", "roots"];
-        let (env, (event, (flow, (group, (jobs, (roots, ())))))) = OutlineFields::read(
-            alloc,
-            members.as_slice(),
-            &keys,
-        )?;
-        Ok(RunPlan {
-            env,
-            event,
-            flow,
-            group,
-            jobs,
-            roots,
-        })
-    }
-}
-
-/// A plan and the version of its document.
-impl FromOutline for (Plan, Version) {
-    ghost use Rattle.plan_text.specs.Document.{document_in};
-
-    ghost document = { λ found. document_in found.1 found.0 };
-
-    fn from_outline(alloc: Global, outline: &json::Value<'_>) -> Result<(Plan, Version), Unread> {
-        let json::Value::Object(members) = outline else {
-            return Err(refused(alloc, ""));
-        };
-        let keys = ["runs", "version"];
-        let (runs, (version, ())): (Sequence<RunPlan>, (Version, ())) = OutlineFields::read(
-            alloc,
-            members.as_slice(),
-            &keys,
-        )?;
-        Ok((Plan { runs }, version))
-    }
-}
-
-/// The outline of a text.
-fn outline_of<'a>(
+/// The parts of an object whose members stand at these keys, in their order.
+pub(crate) fn read_outline<F: OutlineFields>(
     alloc: Global,
-    text: &'a str,
-    scratch: &'a mut Scratch,
-) -> Result<json::Value<'a>, Unread>
-    ensures { IfOk result (λ outline. IsOutlineOf text.now (value_view outline)) }
+    outline: &json::Value<'_>,
+    keys: &[&str],
+) -> Result<F, Unread>
+    ensures { IfOk result (λ parts. StandsFor (value_view outline.now)
+        (object (put_each (F.documents (map (λ key. key.now) keys.now) parts) no_members))) }
 {
-    let mut reader = Reader::new(text, scratch)?;
-    let outline = match json::Value::read(alloc, &mut reader, MAX_DEPTH) {
-        Ok(outline) => outline,
-        Err(Error::OutOfMemory) => return Err(Unread::Memory),
-        Err(_) => return Err(refused(alloc, "")),
-    };
-    if reader.next().is_some() {
-        return Err(refused(alloc, ""));
-    }
-    Ok(outline)
-}
-
-/// The plan of whose document a text is the outline, and the document's version.
-fn read_text(alloc: Global, text: &str) -> Result<(Plan, Version), Unread>
-    ensures { IfOk result (λ found. read text.now ≡ Some (document_in found.1 found.0)) }
-{
-    let mut scratch = Scratch::new(alloc);
-    let outline = outline_of(alloc, text, &mut scratch)?;
-    FromOutline::from_outline(alloc, &outline)
-}
-
-/// The plan whose document a text is, in either version, spelled in the order in which it is printed.
-pub(crate) fn read_printed(alloc: Global, bytes: &[u8]) -> Result<CheckedPlan, Unread>
-    ensures { IfOk result (λ plan. load bytes.now ≡ Ok plan) }
-{
-    let Ok(text) = std::str::from_utf8(bytes) else {
+    let json::Value::Object(members) = outline else {
         return Err(refused(alloc, ""));
     };
-    let (plan, _) = read_text(alloc, text)?;
-    match plan.check(alloc) {
-        Ok(checked) => Ok(checked),
-        Err(Broken::Rule(path)) => Err(Unread::Refused(path)),
-        Err(Broken::Memory) => Err(Unread::Memory),
-    }
+    F::read(alloc, members.as_slice(), keys)
 }

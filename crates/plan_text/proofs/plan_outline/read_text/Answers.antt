@@ -2,7 +2,7 @@ use Rattle.std.proofs.lemmas.Result.{IfOk-weaker}
 use Rattle.json.specs.Value.{value_view}
 use Rattle.plan_text.specs.Document.{document_in}
 use Rattle.plan_text.proofs.OutlineLaws.{outline_read}
-use Rattle.plan_text.proofs.outline.read_text.Goals as goal
+use Rattle.plan_text.proofs.plan_outline.read_text.Goals as goal
 
 pub returns : goal.returns
 returns c =

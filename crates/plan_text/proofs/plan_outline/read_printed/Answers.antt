@@ -1,6 +1,6 @@
 use Rattle.std.proofs.Common.{rules}
 use Rattle.plan_text.proofs.OutlineLaws.{document_loads}
-use Rattle.plan_text.proofs.outline.read_printed.Goals as goal
+use Rattle.plan_text.proofs.plan_outline.read_printed.Goals as goal
 
 pub returns-in-Ok-check : goal.returns-in-Ok-check
 returns-in-Ok-check c =

@@ -1,13 +1,14 @@
 use Rattle.std.proofs.Common.{◌≡◌, option_map, sym, ap, ◌∙◌}
+use Rattle.std.proofs.lemmas.Result.{IfOk-weaker}
 use Rattle.json.specs.Json.{object}
 use Rattle.json.specs.Value.{value_view, members_view}
 use Rattle.json.proofs.Trees.{view-Object}
 use Rattle.serde_json.specs.Data as held
 use Rattle.serde_json.specs.Read.{of_json}
-use Rattle.plan_text.proofs.outline.Tuple2PlanVersionFromOutline.from_outline.Goals as goal
+use Rattle.plan_text.proofs.outline.read_outline.Goals as goal
 
 pub returns : goal.returns
-returns c =
+returns g c =
     let seen : value_view c.args.outline.now ≡ object (members_view c.as_slice.result.now) =
     ap value_view c.in-Object.is ∙ view-Object c.in-Object.members ∙ ap (λ ms. object (members_view ms)) (sym c.as_slice.ensures.value) in
-    ap of_json seen ∙ ap (option_map held.object) (c.in_ok-runs.ensures held.no_members)
+    IfOk-weaker c.read.result _ _ (λ parts h. ap of_json seen ∙ ap (option_map held.object) (h held.no_members)) c.read.ensures
