@@ -10,8 +10,8 @@
 //! exactly. What follows from its definitions alone stands in `laws`: the rules of a plan in their own words, how
 //! deep values nest, and the numbers of jobs.
 //!
-//! It stands on `expr_reader`, which reads the texts that are evaluated, on `serde_json`, and on `thiserror` for
-//! its errors.
+//! It stands on `expr_reader`, which reads the texts that are evaluated, on `serde_json`, on `memchr`, which finds
+//! where a line ends, and on `thiserror` for its errors.
 
 #![tactic(auto)]
 
