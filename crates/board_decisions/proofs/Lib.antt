@@ -1,4 +1,5 @@
 pub mod Backwards
 pub mod Lists
 pub mod Maps
+pub mod OwnSteps
 pub mod Overlays

@@ -153,6 +153,12 @@ step_decision l at step =
     then_value (condition_value (seen_from at place.StepCondition env) (leg_status at) step.condition)
     (called_if l at step env))
 
+-- A step is called, or not, or its texts have a fault.
+abbrev pub is_called : Result (Option StepCall) ValueFault → Result Bool ValueFault
+is_called (Ok None) = Ok false
+is_called (Ok (Some call)) = Ok true
+is_called (Err f) = Err f
+
 -- ---- continue-on-error, and the outputs of a leg
 
 -- A failure of a step may be passed over. Where its variables have a fault, it sees none.

@@ -18,7 +18,7 @@ use crate::place::{SeenJob, SeenLeg, SeenRun};
 use expr_reader::fold;
 use expr_value::Status;
 use flow_model::{
-    CallWork, Duplicate, Group, Mapping, Outcome, StepCall, StepPlan, Text, ValueFault, Work,
+    CallWork, Duplicate, Flag, Group, Mapping, Outcome, StepCall, StepPlan, Text, ValueFault, Work,
 };
 use std::alloc::{AllocError, Global};
 use text_values::{
@@ -102,12 +102,20 @@ fn counted(at: &SeenLeg, stops: bool) -> Outcome
     }
 }
 
+/// How a leg counts so far, of which it is known whether it is to stop whatever its job's condition.
+pub fn leg_result_given(alloc: Global, at: &SeenLeg, anyway: bool) -> Result<Outcome, AllocError>
+    requires { anyway ≡ spec.stops_anyway (leg_seen at.now) }
+    ensures { IfOk result (λ how. how ≡ spec.leg_result (leg_seen at.now)) }
+{
+    let stops = is_stopping_given(alloc, at, anyway)?;
+    Ok(counted(at, stops))
+}
+
 /// How a leg counts so far.
 pub fn leg_result(alloc: Global, at: &SeenLeg) -> Result<Outcome, AllocError>
     ensures { IfOk result (λ how. how ≡ spec.leg_result (leg_seen at.now)) }
 {
-    let stops = is_stopping(alloc, at)?;
-    Ok(counted(at, stops))
+    leg_result_given(alloc, at, stops_anyway(at))
 }
 
 /// A result as a status.
@@ -364,11 +372,14 @@ pub fn step_decision(
 }
 
 /// Whether a failure of a step may be passed over.
-#[tactic(auto, unfolding(crate::specs::Decisions::step_tolerates))]
+#[tactic(auto, unfolding(crate::specs::Decisions::step_tolerates, text_values::specs::Texts::flag_value))]
 pub fn step_tolerates(alloc: Global, at: &SeenLeg, step: &StepPlan) -> Result<bool, AllocError>
     ensures { IfOk result
         (λ tolerates. tolerates ≡ spec.step_tolerates (leg_seen at.now) step.now) }
 {
+    if let Flag::Truth(holds) = &step.tolerate {
+        return Ok(*holds);
+    }
     let mut known = Known::empty(alloc);
     let evaluated = know_step_env(alloc, at, &mut known, step);
     known_or_none(alloc, &mut known, evaluated)?;
@@ -391,10 +402,13 @@ pub fn job_tolerates(alloc: Global, at: &SeenLeg) -> Result<bool, AllocError>
 }
 
 /// The outputs that a leg gives its job.
-#[tactic(auto, unfolding(crate::specs::Decisions::leg_outputs))]
+#[tactic(auto, unfolding(crate::specs::Decisions::leg_outputs, text_values::specs::Outputs::outputs_value))]
 pub fn leg_outputs(alloc: Global, at: &SeenLeg) -> Result<Mapping<Text>, AllocError>
     ensures { IfOk result (λ outputs. outputs ≡ spec.leg_outputs (leg_seen at.now)) }
 {
+    if at.job_plan.outputs.is_empty() {
+        return Ok(Mapping::empty(alloc));
+    }
     let mut known = Known::empty(alloc);
     let evaluated = know_leg_env(alloc, at, &mut known);
     known_or_none(alloc, &mut known, evaluated)?;

@@ -8,7 +8,7 @@ use Rattle.flow_model.specs.declared.event.Event.TheVariants as event
 use Rattle.flow_model.specs.declared.plan.Plan.{Plan}
 use Rattle.flow_model.specs.declared.reply.Reply.{Reply}
 use Rattle.group_admission.specs.Content.{Content}
-use Rattle.flat_board.specs.Index.{Follows, EventsKeep, asks_groups, groups_put_back, if_asked}
+use Rattle.flat_board.specs.Index.{Follows, FollowsUnasked, EventsKeep, asks_groups, groups_put_back, if_asked}
 use Rattle.flat_board.specs.Sound.{IsSound}
 use Rattle.flat_board.specs.Undo.{Fits, board_before}
 use Rattle.flat_board.specs.declared.undo.Undo.{Undo}
@@ -16,7 +16,8 @@ use Rattle.flat_board.proofs.Playing.{sound_after}
 use Rattle.status_table.specs.Grouped.{KeptAsShown, after_event}
 use Rattle.status_table.specs.InPlay.{InPlay}
 use Rattle.status_table.specs.Play.{Play}
-use Rattle.status_table.specs.Reversible.{answer_of}
+use Rattle.status_table.specs.Reversible.{answer_of, done_of}
+use Rattle.status_table.specs.Unasked.{without_reply}
 use Rattle.status_table.specs.declared.fault.EventFault.{EventFault}
 
 -- two boards that show the same groups show all the same
@@ -70,6 +71,18 @@ pub fits_all : EventsKeep → (old new : Play) (groups after : Content) (worker 
 fits_all law old new groups after worker e few sound (Ok both) follows back kept_is =
     fits_back law old new groups after worker e few sound both.0 follows both.1 back kept_is
 fits_all law old new groups after worker e few sound (Err f) follows back kept_is = tt
+
+-- and with each that came without a reply
+pub fits_unasked : EventsKeep → (old new : Play) (groups after : Content) (worker : ℕ) (e : Event) → worker ≤ 15 → IsSound old groups
+    → (result : Result Undo EventFault) → FollowsUnasked old new groups after worker e (done_of result)
+    → IfOk result (λ undo. board_before undo new.board ≡ old.board) → IfOk result (λ undo. undo.groups ≡ if_asked e groups)
+    → IfOk result (λ undo. Fits undo new.plan new.board)
+fits_unasked law old new groups after worker e few sound (Ok undo) follows back kept_is = by_answer follows.answer follows.follows follows.same
+  where
+    by_answer : (answer : Result Reply EventFault) → Follows old new groups after worker e answer → Ok tt ≡ without_reply answer → Fits undo new.plan new.board
+    by_answer (Ok reply) told is = fits_back law old new groups after worker e few sound reply told undo back kept_is
+    by_answer (Err f) told is = absurd (cc)
+fits_unasked law old new groups after worker e few sound (Err f) follows back kept_is = tt
 
 -- the board before is as sound
 pub sound_before : (old new : Play) (groups after : Content) (undo : Undo) → IsSound old groups → Fits undo old.plan old.board

@@ -1,24 +1,30 @@
 -- A plan in play with its groups, after an event.
-use Rattle.std.proofs.Common.{◌≡◌, ℕ, ◌≤◌, [], Result, Ok, Err, nat_le, if◌then◌else◌, ap, subst, sym, refl, ◌∙◌}
+use Rattle.std.proofs.Common.{◌≡◌, ℕ, ◌≤◌, Bool, [], Result, Ok, Err, nat_le, if◌then◌else◌, ap, subst, sym, refl, ◌∙◌}
 use Rattle.std.proofs.lemmas.Bool.{le-leb}
 use Rattle.flow_model.specs.Rules.{IsPlan}
 use Rattle.flow_model.specs.Sound.{SoundPlan}
+use Rattle.flow_model.specs.declared.board.Board.{Board}
+use Rattle.flow_model.specs.declared.event.Entry.{Entry}
 use Rattle.flow_model.specs.declared.event.Event.{Event}
+use Rattle.flow_model.specs.declared.event.Event.TheVariants as event
 use Rattle.flow_model.specs.declared.plan.Plan.{Plan}
 use Rattle.flow_model.specs.declared.reply.Reply.{Reply}
 use Rattle.group_admission.specs.Content.{Content}
-use Rattle.flat_board.specs.Index.{Follows, EventsKeep}
+use Rattle.flat_board.specs.Index.{Follows, FollowsUnasked, Goes, EventsKeep}
 use Rattle.flat_board.specs.Sound.{IsSound}
-use Rattle.status_table.specs.Grouped.{KeptAsShown}
+use Rattle.status_table.specs.Answers.{Answers}
+use Rattle.status_table.specs.Grouped.{KeptAsShown, after_event}
 use Rattle.status_table.specs.InPlay.{InPlay}
 use Rattle.status_table.specs.Play.{Play}
-use Rattle.status_table.specs.Row.{event_row}
-use Rattle.status_table.specs.Runs.{new_board, new_play}
+use Rattle.status_table.specs.Row.{Row, row, event_row, begin_row}
+use Rattle.status_table.specs.Runs.{Plays, new_board, new_play}
 use Rattle.status_table.specs.Stays.{Stays}
+use Rattle.status_table.specs.Unasked.{Leads}
 use Rattle.status_table.specs.declared.fault.EventFault.{EventFault}
 use Rattle.status_table.specs.declared.fault.EventFault.TheVariants as fault
 use Rattle.status_table.proofs.Grouped.{new_kept}
 use Rattle.status_table.proofs.InPlay.{new_in_play, answer_in_play}
+use Rattle.status_table.proofs.Unasked.{left_of, left_plays}
 
 -- the board on which all is new shows that nobody is in a group
 pub new_sound : (p : Plan) (made : Play) (groups : Content) → IsPlan p → SoundPlan p → made ≡ new_play p → groups ≡ [] → IsSound made groups
@@ -49,3 +55,27 @@ module _ (law : EventsKeep) (old new : Play) (groups after : Content) (worker : 
   -- and what had ended is as it was
   pub stays_after : (result : Result Reply EventFault) → Follows old new groups after worker e result → Stays old.board new.board
   stays_after result follows = (led result follows).1
+
+-- A step that is begun without a reply leaves the groups as they are.
+groups_stay : (p : Plan) (b : Board) (l : ℕ) (groups : Content) (answer : Result Reply EventFault) → Goes answer groups (after_event p b groups (event.Begin l)) groups
+groups_stay p b l groups (Ok reply) = refl
+groups_stay p b l groups (Err f) = refl
+
+pub begun_unasked : (old new : Play) (groups : Content) (worker l : ℕ) (result : Result (Unit {0}) EventFault) → new.plan ≡ old.plan
+    → Leads (begin_row old.plan old.board worker l) old.board result new.board → FollowsUnasked old new groups groups worker (event.Begin l) result
+begun_unasked old new groups worker l result plan leads =
+    let left = left_of (begin_row old.plan old.board worker l) old.board result new.board leads in
+    record {
+      answer = left.answer;
+      follows = record { plan = plan; answers = left.answers; groups = groups_stay old.plan old.board l groups left.answer };
+      same = left.same;
+    }
+
+-- An event without its reply is as the entry's answer without it.
+pub plays_unasked : (old new : Play) (groups after : Content) (e : Entry) (result : Result (Unit {0}) EventFault) → e.worker ≤ 15
+    → FollowsUnasked old new groups after e.worker e.event result → Plays old.plan old.board e result new.board
+plays_unasked old new groups after e result few follows =
+    let r = event_row old.plan old.board e.worker e.event in
+    let row_is : row old.plan old.board e.worker e.event ≡ r = ap (λ (c : Bool). if c then r else Err fault.NoSuch) (le-leb e.worker 15 few) in
+    subst (λ (x : Result (Unit {0}) EventFault). Plays old.plan old.board e x new.board) (sym follows.same)
+    (left_plays old.plan old.board e follows.answer new.board (subst (λ (x : Row). Answers x old.board follows.answer new.board) (sym row_is) follows.follows.answers))

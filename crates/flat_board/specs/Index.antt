@@ -16,6 +16,7 @@ use Rattle.status_table.specs.Grouped.{KeptAsShown, EntersFromOutside, after_eve
 use Rattle.status_table.specs.Lawful.{Lawful}
 use Rattle.status_table.specs.Play.{Play}
 use Rattle.status_table.specs.Row.{row, event_row}
+use Rattle.status_table.specs.Unasked.{without_reply}
 use Rattle.status_table.specs.declared.fault.EventFault.{EventFault}
 
 -- ---- names
@@ -85,6 +86,13 @@ pub record Follows (old new : Play) (before after : Content) (worker : ℕ) (e :
   pub plan : new.plan ≡ old.plan
   pub answers : Answers (event_row old.plan old.board worker e) old.board result new.board
   pub groups : Goes result before (after_event old.plan old.board before e) after
+
+-- The same where nobody asks for the reply: some answer goes with it.
+pub record FollowsUnasked (old new : Play) (before after : Content) (worker : ℕ) (e : Event)
+    (result : Result (Unit {0}) EventFault) : Type 0 where
+  pub answer : Result Reply EventFault
+  pub follows : Follows old new before after worker e answer
+  pub same : result ≡ without_reply answer
 
 -- ---- laws
 

@@ -1,18 +1,19 @@
 //! The flat body of the table: the board changed in place, with counters and an index of groups beside it.
 
 ghost use Rattle.std.specs.Prelude.{◌≡◌, ◌≤◌, true, IfOk, OnOk};
-ghost use Rattle.flat_board.specs.Index.{Follows, asks_groups, groups_put_back, if_asked, most_changes};
+ghost use Rattle.flat_board.specs.Index.{Follows, FollowsUnasked, asks_groups, groups_put_back, if_asked, most_changes};
 ghost use Rattle.flat_board.specs.Undo.{board_before};
 ghost use Rattle.flat_counters.specs.Track.{play_of};
 ghost use Rattle.flow_model.specs.declared.board.Board.{Board};
 ghost use Rattle.status_table.specs.Grouped.{KeptAsShown};
 ghost use Rattle.status_table.specs.InPlay.{InPlay};
-ghost use Rattle.status_table.specs.Reversible.{answer_of};
+ghost use Rattle.status_table.specs.Reversible.{answer_of, done_of};
 ghost use Rattle.status_table.specs.Runs.{new_play};
 
 use crate::events::{ask, begin, cancel, close, discard, end, finish, judge, open, take};
 use crate::laws::events_keep_the_groups;
 use crate::moves::{find_first, find_moves};
+use crate::unasked::begin_unasked;
 use crate::undo::Undo;
 use flat_counters::Tracked;
 use flow_model::{Board, CheckedPlan, Duplicate, Entry, Event, Reply, Sequence};
@@ -137,6 +138,28 @@ fn play_event(
     apply_event(alloc, state, groups, worker, event)
 }
 
+/// Plays an event whose reply nobody asks for, and keeps what takes it back.
+fn advance_event(
+    alloc: Global,
+    state: &mut Tracked,
+    groups: &mut Groups,
+    worker: u8,
+    event: Event,
+) -> Result<(), EventFault>
+    requires in_play { InPlay state.old.plan state.old.board }
+    requires kept { KeptAsShown groups.old state.old.board }
+    ensures follows { FollowsUnasked (play_of state.old) (play_of state.new)
+        groups.old groups.new worker event result }
+    ensures back { OnOk result (state.new.back ≡ state.old.board) }
+{
+    if let Event::Begin { leg } = &event {
+        state.begin(1)?;
+        return begin_unasked(alloc, state, worker, *leg);
+    }
+    play_event(alloc, state, groups, worker, event)?;
+    Ok(())
+}
+
 /// Whether an event may ask something of the groups.
 fn asks_groups(event: &Event) -> bool
     ensures { result ≡ asks_groups event.now }
@@ -190,6 +213,30 @@ fn play_with_undo(
     ))
 }
 
+/// Plays an event whose reply nobody asks for, and gives what takes it back.
+fn advance_with_undo(
+    alloc: Global,
+    state: &mut Tracked,
+    groups: &mut Groups,
+    worker: u8,
+    event: Event,
+) -> Result<Undo, EventFault>
+    requires in_play { InPlay state.old.plan state.old.board }
+    requires kept { KeptAsShown groups.old state.old.board }
+    ensures follows { FollowsUnasked (play_of state.old) (play_of state.new)
+        groups.old groups.new worker event (done_of result) }
+    ensures back { IfOk result (λ undo. board_before undo state.new.board ≡ state.old.board) }
+    ensures groups { IfOk result (λ undo. undo.groups ≡ if_asked event groups.old) }
+{
+    let before = groups_before(alloc, groups, &event)?;
+    advance_event(alloc, state, groups, worker, event)?;
+    let changes = state.take_changes(alloc);
+    Ok(Undo {
+        changes,
+        groups: before,
+    })
+}
+
 /// Puts the groups back, where they were kept.
 fn put_back(groups: &mut Groups, before: Option<Groups>)
     ensures { groups.new ≡ groups_put_back before groups.old }
@@ -211,6 +258,21 @@ impl Table for FlatBoard {
             return Err(EventFault::NoSuch);
         }
         play_event(
+            alloc,
+            &mut self.state,
+            &mut self.groups,
+            entry.worker,
+            entry.event,
+        )
+    }
+
+    fn advance(&mut self, entry: Entry) -> Result<(), EventFault> {
+        events_keep_the_groups();
+        let alloc = self.alloc;
+        if entry.worker > 15 {
+            return Err(EventFault::NoSuch);
+        }
+        advance_event(
             alloc,
             &mut self.state,
             &mut self.groups,
@@ -253,6 +315,21 @@ impl Reversible for FlatBoard {
             return Err(EventFault::NoSuch);
         }
         play_with_undo(
+            alloc,
+            &mut self.state,
+            &mut self.groups,
+            entry.worker,
+            entry.event,
+        )
+    }
+
+    fn advance_with_undo(&mut self, entry: Entry) -> Result<Undo, EventFault> {
+        events_keep_the_groups();
+        let alloc = self.alloc;
+        if entry.worker > 15 {
+            return Err(EventFault::NoSuch);
+        }
+        advance_with_undo(
             alloc,
             &mut self.state,
             &mut self.groups,

@@ -47,7 +47,7 @@ pub(crate) fn is_full(leg: &TalliedLeg) -> bool
 
 /// Whether a leg is to stop whatever its job's condition:
 /// by itself, or since its job fails fast and has failed.
-fn stops_anyway(leg: &TalliedLeg) -> bool
+pub(crate) fn stops_anyway(leg: &TalliedLeg) -> bool
     ensures { result ≡ decision.stops_anyway (leg_seen leg.now.at) }
 {
     leg.at.leg.stop || (leg.at.job_plan.fail_fast && leg.tally.failed > 0)

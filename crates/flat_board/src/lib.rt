@@ -19,6 +19,7 @@ mod groups;
 mod laws;
 mod members;
 mod moves;
+mod unasked;
 mod undo;
 
 pub use flat_board::FlatBoard;

@@ -21,3 +21,4 @@ pub mod Runs
 pub mod Seen
 pub mod Shape
 pub mod Stays
+pub mod Unasked

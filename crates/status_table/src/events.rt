@@ -2,9 +2,10 @@
 //!
 //! Each function looks for a refusal first, makes what room it needs, and only then changes the board.
 
-ghost use Rattle.std.specs.Prelude.{◌≡◌, [], Bool, Option, Result, Ok, IfOk};
+ghost use Rattle.std.specs.Prelude.{◌≡◌, ℕ, [], Bool, Option, Result, Ok, IfOk};
 ghost use Rattle.std.specs.Option.{option_copied};
 ghost use Rattle.board_decisions.specs.Ancestors.{StandsAfterNeeds};
+ghost use Rattle.board_decisions.specs.Decisions.{step_decision as step_decision_of};
 ghost use Rattle.board_decisions.specs.Seen.{job_seen, leg_seen};
 ghost use Rattle.expr_value.specs.Answer.{Gives};
 ghost use Rattle.flow_model.specs.declared.reply.StepCall.{StepCall as StepCallOf};
@@ -362,9 +363,11 @@ fn told_begun(decision: Result<Option<StepCall>, ValueFault>) -> Result<Begun, E
     }
 }
 
-/// What beginning the next step of a leg comes to, or why it is not begun.
-pub fn beginning(alloc: Global, worker: u8, number: u64, at: &SeenLeg) -> Result<Begun, EventFault>
-    ensures { DecidesAs begun_seen (spec.beginning worker number (leg_seen at.now)) result }
+/// The step that a worker begins of a leg, or why it begins none.
+pub(crate) fn step_to_begin<'a>(worker: u8, at: &SeenLeg<'a>) -> Result<&'a StepPlan, EventFault>
+    ensures { (l : ℕ) → DecidesAs
+        (λ step. spec.decided (step_decision_of l (leg_seen at.now) step.now))
+        (spec.beginning worker l (leg_seen at.now)) result }
 {
     let Some(owner) = idle_owner(at.leg.state) else {
         return Err(EventFault::WrongState);
@@ -375,6 +378,14 @@ pub fn beginning(alloc: Global, worker: u8, number: u64, at: &SeenLeg) -> Result
     if worker != owner {
         return Err(EventFault::OtherWorker);
     }
+    Ok(step)
+}
+
+/// What beginning the next step of a leg comes to, or why it is not begun.
+pub fn beginning(alloc: Global, worker: u8, number: u64, at: &SeenLeg) -> Result<Begun, EventFault>
+    ensures { DecidesAs begun_seen (spec.beginning worker number (leg_seen at.now)) result }
+{
+    let step = step_to_begin(worker, at)?;
     told_begun(step_decision(alloc, number, at, step))
 }
 

@@ -32,6 +32,7 @@ pub mod plain_board;
 pub mod reversible;
 pub mod runs;
 pub mod table;
+pub mod unasked;
 
 pub use fault::EventFault;
 pub use plain_board::PlainBoard;

@@ -114,6 +114,11 @@ impl Table for PlainBoard {
         apply_event(self.alloc, plan, &mut self.board, entry.worker, entry.event)
     }
 
+    fn advance(&mut self, entry: Entry) -> Result<(), EventFault> {
+        self.apply(entry)?;
+        Ok(())
+    }
+
     fn lend(&self) -> &Board {
         &self.board
     }
@@ -145,6 +150,12 @@ impl Reversible for PlainBoard {
         let before = self.view()?;
         let reply = self.apply(entry)?;
         Ok((reply, before))
+    }
+
+    fn advance_with_undo(&mut self, entry: Entry) -> Result<Board, EventFault> {
+        let before = self.view()?;
+        self.advance(entry)?;
+        Ok(before)
     }
 
     fn revert(&mut self, undo: Board) {

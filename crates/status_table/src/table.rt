@@ -6,6 +6,7 @@ ghost use Rattle.flow_model.specs.declared.board.Board.{Board};
 ghost use Rattle.status_table.specs.Answers.{AnswersEntry};
 ghost use Rattle.status_table.specs.InPlay.{InPlay};
 ghost use Rattle.status_table.specs.Moves as spec;
+ghost use Rattle.status_table.specs.Runs.{Plays};
 ghost use Rattle.status_table.specs.Stays.{Stays};
 
 use crate::fault::EventFault;
@@ -29,6 +30,17 @@ pub trait Table {
         ensures plan_stays { plan self.new ≡ plan self.old }
         ensures answers { AnswersEntry (plan self.old) (board self.old)
             entry result (board self.new) }
+        ensures in_play { InPlay (plan self.new) (board self.new) }
+        ensures ended_stays { Stays (board self.old) (board self.new) };
+
+    /// Plays one entry as `apply` does, where nobody asks for its reply, of which nothing is made then.
+    ///
+    /// # Errors
+    ///
+    /// The row's refusal, or `EventFault::Memory`. Nothing is changed then.
+    fn advance(&mut self, entry: Entry) -> Result<(), EventFault>
+        ensures plan_stays { plan self.new ≡ plan self.old }
+        ensures plays { Plays (plan self.old) (board self.old) entry result (board self.new) }
         ensures in_play { InPlay (plan self.new) (board self.new) }
         ensures ended_stays { Stays (board self.old) (board self.new) };
 

@@ -2,6 +2,7 @@ pub mod Env
 pub mod Known
 pub mod Laws
 pub mod Outputs
+pub mod Own
 pub mod Places
 pub mod Sight
 pub mod Texts

@@ -19,6 +19,7 @@ mod laws;
 mod levels;
 mod make;
 mod outputs;
+mod own;
 mod place;
 mod scene;
 mod sight;
@@ -35,6 +36,7 @@ pub use laws::{
 pub use levels::lay_over;
 pub use make::env_value;
 pub use outputs::outputs_at;
+pub use own::{is_own_env, is_own_text};
 pub use place::Place;
 pub use scene::Scene;
 pub use texts::{condition_at, text_at};

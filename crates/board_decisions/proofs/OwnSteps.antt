@@ -1,0 +1,81 @@
+-- A step of whose texts none is evaluated has no fault: it is called where its leg counts as success so far.
+use Rattle.std.proofs.Common.{◌≡◌, ℕ, Bool, true, false, List, Option, None, Some, Result, Ok, Err, length, refl, ap}
+use Rattle.board_decisions.specs.Decisions.{then_value, flow_env, job_env, leg_env, step_env, seen_from, directory_value, work_value, called_if, step_decision, is_called, leg_status}
+use Rattle.board_decisions.specs.Own.{IsOwnStep}
+use Rattle.board_decisions.specs.Place.{LegAt}
+use Rattle.expr_value.specs.Answer.{Gives}
+use Rattle.expr_value.specs.Context.{Contexts}
+use Rattle.expr_value.specs.Functions.{is_success}
+use Rattle.flow_model.specs.declared.plan.Shell.{Shell}
+use Rattle.flow_model.specs.declared.plan.StepPlan.{StepPlan}
+use Rattle.flow_model.specs.declared.plan.Work.TheVariants as work
+use Rattle.flow_model.specs.declared.reply.CallWork.{CallWork}
+use Rattle.flow_model.specs.declared.reply.StepCall.{StepCall}
+use Rattle.flow_model.specs.declared.reply.ValueFault.{ValueFault}
+use Rattle.flow_model.specs.declared.reply.ValueFault.TheVariants.{NotWhole, NoIdentity, BadFormat, BadJson, TooLarge, Memory}
+use Rattle.flow_model.specs.Plain.{Plain}
+use Rattle.text_values.specs.Env.{env_value}
+use Rattle.text_values.specs.Own.{HasNoFault}
+use Rattle.text_values.specs.Texts.{text_text, condition_value}
+use Rattle.text_values.specs.Values.{Env}
+use Rattle.text_values.specs.declared.place.Place.TheVariants as place
+
+then_none : {A B : Type 0} (r : Result A ValueFault) (next : A → Result B ValueFault) → HasNoFault r → ((x : A) → HasNoFault (next x)) → HasNoFault (then_value r next)
+then_none (Ok x) next h k = k x
+then_none (Err fault) next h k = absurd h
+
+-- A directory that has no fault.
+pub no_directory : (c : Contexts) → HasNoFault (directory_value c None)
+no_directory c = tt
+
+pub some_directory : (c : Contexts) (dir : List ℕ) → HasNoFault (text_text c dir) → HasNoFault (directory_value c (Some dir))
+some_directory c dir h = then_none (text_text c dir) (λ bytes. Ok (Some bytes)) h (λ bytes. tt)
+
+-- A script whose text and directory have none.
+pub own_script : (c : Contexts) (dir : Option (List ℕ)) (run : List ℕ) (shell : Shell) → HasNoFault (text_text c run) → HasNoFault (directory_value c dir) → HasNoFault (work_value c (work.Run dir run shell))
+unfolding work_value
+own_script c dir run shell h k = then_none (text_text c run) _ h (λ script. then_none (directory_value c dir) _ k (λ there. tt))
+
+-- An action whose inputs have none.
+pub own_action : (c : Contexts) (uses : List ℕ) (given : List (List ℕ × Plain)) → HasNoFault (env_value c given) → HasNoFault (work_value c (work.Uses uses given))
+unfolding work_value
+own_action c uses given h = then_none (env_value c given) _ h (λ inputs. tt)
+
+own_env : (at : LegAt) (step : StepPlan) → IsOwnStep at step → HasNoFault (step_env at step)
+unfolding flow_env job_env leg_env step_env
+own_env at step own =
+    then_none _ _ (then_none _ _ (then_none _ _ (own.flow _) (λ below. then_none _ _ (own.job _) (λ above. tt))) (λ below. tt))
+    (λ below. then_none _ _ (own.own _) (λ above. tt))
+
+called_by : (l : ℕ) (at : LegAt) (step : StepPlan) (env : Env) (holds : Bool) → IsOwnStep at step → is_called (called_if l at step env holds) ≡ Ok holds
+called_by l at step env false own = refl
+called_by l at step env true own = by_work (work_value (seen_from at place.StepText env) step.work) (own.work _)
+  where
+    by_work : (r : Result CallWork ValueFault) → HasNoFault r → is_called (then_value r (λ asked. Ok (Some (record { leg = l; step = length at.leg.steps; work = asked; env = env })))) ≡ Ok true
+    by_work (Ok asked) h = refl
+    by_work (Err fault) h = absurd h
+
+-- It is called where its leg counts as success so far, and is skipped else.
+pub own_step : (l : ℕ) (at : LegAt) (step : StepPlan) → IsOwnStep at step → is_called (step_decision l at step) ≡ Ok (is_success (leg_status at))
+unfolding step_decision condition_value
+own_step l at step own = by_env (step_env at step) (own_env at step own)
+  where
+    by_condition : (env : Env) (condition : Option (List ℕ)) → condition ≡ None
+        → is_called (then_value (condition_value (seen_from at place.StepCondition env) (leg_status at) condition) (called_if l at step env)) ≡ Ok (is_success (leg_status at))
+    by_condition env None is = called_by l at step env (is_success (leg_status at)) own
+    by_condition env (Some bytes) is = absurd (cc)
+    by_env : (r : Result Env ValueFault) → HasNoFault r
+        → is_called (then_value r (λ env. then_value (condition_value (seen_from at place.StepCondition env) (leg_status at) step.condition) (called_if l at step env))) ≡ Ok (is_success (leg_status at))
+    by_env (Ok env) h = by_condition env step.condition own.plain
+    by_env (Err fault) h = absurd h
+
+-- What is given as a decision is given as whether there is a call.
+pub gives_called : (r d : Result (Option StepCall) ValueFault) → Gives (λ call. call) r d → Gives (λ called. called) (is_called r) (is_called d)
+gives_called (Ok None) d h = ap is_called h
+gives_called (Ok (Some call)) d h = ap is_called h
+gives_called (Err NotWhole) d h = ap is_called h
+gives_called (Err NoIdentity) d h = ap is_called h
+gives_called (Err BadFormat) d h = ap is_called h
+gives_called (Err BadJson) d h = ap is_called h
+gives_called (Err TooLarge) d h = ap is_called h
+gives_called (Err Memory) d h = tt

@@ -1,0 +1,17 @@
+-- Steps of whose texts none is evaluated.
+use Rattle.std.specs.Prelude.{◌≡◌, None}
+use Rattle.board_decisions.specs.Decisions.{work_value}
+use Rattle.board_decisions.specs.Place.{LegAt}
+use Rattle.expr_value.specs.Context.{Contexts}
+use Rattle.flow_model.specs.declared.plan.StepPlan.{StepPlan}
+use Rattle.text_values.specs.Env.{env_value}
+use Rattle.text_values.specs.Own.{HasNoFault}
+
+-- Whatever the contexts are, the variables of no level have a fault, and neither has what the call asks for; and the
+-- step has no condition.
+pub record IsOwnStep (at : LegAt) (step : StepPlan) : Type 0 where
+  pub flow : (c : Contexts) → HasNoFault (env_value c at.run_plan.env)
+  pub job : (c : Contexts) → HasNoFault (env_value c at.job_plan.env)
+  pub own : (c : Contexts) → HasNoFault (env_value c step.env)
+  pub work : (c : Contexts) → HasNoFault (work_value c step.work)
+  pub plain : step.condition ≡ None

@@ -1,0 +1,91 @@
+//! Whether a step is called, where nobody asks for its call: of a step of whose texts none is evaluated nothing is made.
+
+ghost use Rattle.std.specs.Prelude.{◌≡◌, true};
+ghost use Rattle.board_decisions.specs.Decisions as spec;
+ghost use Rattle.board_decisions.specs.Own.{IsOwnStep};
+ghost use Rattle.board_decisions.specs.Seen.{leg_seen};
+ghost use Rattle.expr_value.specs.Answer.{Gives};
+ghost use Rattle.expr_value.specs.Context.{Contexts};
+ghost use Rattle.expr_value.specs.Functions.{is_success as is_success_of};
+ghost use Rattle.text_values.specs.Own.{HasNoFault};
+
+use crate::decisions::{leg_result_given, step_decision};
+use crate::place::SeenLeg;
+use flow_model::{Outcome, StepCall, StepPlan, Text, ValueFault, Work};
+use std::alloc::Global;
+use text_values::{is_own_env, is_own_text};
+
+/// Whether nothing of a working directory is evaluated.
+#[tactic(auto, using(crate::proofs::OwnSteps::no_directory, crate::proofs::OwnSteps::some_directory))]
+fn is_own_directory(dir: &Option<Text>) -> bool
+    ensures { (c : Contexts) → result ≡ true → HasNoFault (spec.directory_value c dir.now) }
+{
+    match dir {
+        Some(dir) => is_own_text(dir.as_str()),
+        None => true,
+    }
+}
+
+/// Whether nothing of what a step asks for is evaluated.
+#[tactic(auto, using(crate::proofs::OwnSteps::own_script, crate::proofs::OwnSteps::own_action))]
+fn is_own_work(work: &Work) -> bool
+    ensures { (c : Contexts) → result ≡ true → HasNoFault (spec.work_value c work.now) }
+{
+    match work {
+        Work::Run { dir, run, shell: _ } => is_own_text(run.as_str()) && is_own_directory(dir),
+        Work::Uses { uses: _, given } => is_own_env(given),
+    }
+}
+
+/// Whether none of the texts of a step is evaluated, nor of those of the variables that it sees.
+fn is_own_step(at: &SeenLeg, step: &StepPlan) -> bool
+    ensures { result ≡ true → IsOwnStep (leg_seen at.now) step.now }
+{
+    if step.condition.is_some() {
+        return false;
+    }
+    if !is_own_env(&at.run_plan.env) || !is_own_env(&at.job_plan.env) {
+        return false;
+    }
+    is_own_env(&step.env) && is_own_work(&step.work)
+}
+
+/// Whether a result is a success.
+fn is_success(how: Outcome) -> bool
+    ensures { result ≡ is_success_of (spec.status_of how) }
+{
+    match how {
+        Outcome::Success => true,
+        Outcome::Failure | Outcome::Cancelled | Outcome::Skipped => false,
+    }
+}
+
+/// Whether there is a call.
+fn is_called(decision: Result<Option<StepCall>, ValueFault>) -> Result<bool, ValueFault>
+    ensures { result ≡ spec.is_called decision }
+{
+    match decision {
+        Ok(Some(_call)) => Ok(true),
+        Ok(None) => Ok(false),
+        Err(fault) => Err(fault),
+    }
+}
+
+/// Whether a step of a leg is called, of which it is known whether it is to stop whatever its job's condition.
+#[tactic(auto, using(crate::proofs::OwnSteps::own_step, crate::proofs::OwnSteps::gives_called))]
+pub fn is_step_called(
+    alloc: Global,
+    number: u64,
+    at: &SeenLeg,
+    step: &StepPlan,
+    anyway: bool,
+) -> Result<bool, ValueFault>
+    requires { anyway ≡ spec.stops_anyway (leg_seen at.now) }
+    ensures { Gives (λ called. called) result
+        (spec.is_called (spec.step_decision number (leg_seen at.now) step.now)) }
+{
+    if is_own_step(at, step) {
+        return Ok(is_success(leg_result_given(alloc, at, anyway)?));
+    }
+    is_called(step_decision(alloc, number, at, step))
+}

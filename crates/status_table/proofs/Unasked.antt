@@ -1,0 +1,59 @@
+-- Entries whose reply nobody asks for.
+use Rattle.std.proofs.Common.{◌≡◌, ℕ, Bool, Option, Some, None, Result, Ok, Err, refl, ap, sym, subst, ◌∙◌}
+use Rattle.board_decisions.specs.Decisions.{is_called, step_decision}
+use Rattle.board_decisions.specs.Place.{LegAt}
+use Rattle.flow_model.specs.declared.board.Board.{Board}
+use Rattle.flow_model.specs.declared.event.Entry.{Entry}
+use Rattle.flow_model.specs.declared.plan.Plan.{Plan}
+use Rattle.flow_model.specs.declared.plan.StepPlan.{StepPlan}
+use Rattle.flow_model.specs.declared.reply.Reply.{Reply}
+use Rattle.flow_model.specs.declared.reply.StepCall.{StepCall}
+use Rattle.flow_model.specs.declared.reply.ValueFault.{ValueFault}
+use Rattle.status_table.specs.Answers.{Answers, AnswersEntry, Decides}
+use Rattle.status_table.specs.Row.{Row, Beginning, calls, skips, faults, decided, begin_leg, row}
+use Rattle.status_table.specs.Runs.{Plays, then_after}
+use Rattle.status_table.specs.Unasked.{begins_by, begins_of, begins_called, begun_board, IsLeftOf, Leads, without_reply}
+use Rattle.status_table.specs.declared.fault.EventFault.{EventFault}
+use Rattle.status_table.specs.declared.unasked.Begins.{Begins}
+
+decided_is : (d : Result (Option StepCall) ValueFault) → begins_called (is_called d) ≡ begins_of (decided d)
+decided_is (Ok None) = refl
+decided_is (Ok (Some call)) = refl
+decided_is (Err f) = refl
+
+-- A step that is begun by whether it is called is begun as it is decided.
+pub begins_as_decided : (x : Result Beginning EventFault) (d : Result (Option StepCall) ValueFault) (result : Result Begins EventFault)
+    → x ≡ Ok (decided d) → Decides (Ok (begins_called (is_called d))) result → Decides (begins_by x) result
+begins_as_decided x d result is told =
+    subst (λ (y : Result Beginning EventFault). Decides (begins_by y) result) (sym is)
+    (subst (λ (k : Begins). Decides (Ok k) result) (decided_is d) told)
+
+-- the board after a step was begun, if it was
+begun : Board → ℕ → LegAt → Result Begins EventFault → Option Board
+begun b worker at (Ok k) = Some (begun_board b worker at k)
+begun b worker at (Err f) = None
+
+begun_is : (b : Board) (worker : ℕ) (at : LegAt) (x : Result Beginning EventFault) → then_after (begin_leg b worker at x) (λ next. Some next) ≡ begun b worker at (begins_by x)
+begun_is b worker at (Ok (calls call)) = refl
+begun_is b worker at (Ok skips) = refl
+begun_is b worker at (Ok (faults f)) = refl
+begun_is b worker at (Err f) = refl
+
+-- A step that is begun so leads to this board.
+pub begun_leads : (b : Board) (worker : ℕ) (at : LegAt) (x : Result Beginning EventFault) (k : Begins) → begins_by x ≡ Ok k
+    → then_after (begin_leg b worker at x) (λ next. Some next) ≡ Some (begun_board b worker at k)
+begun_leads b worker at x k is = begun_is b worker at x ∙ ap (begun b worker at) is
+
+-- What leads to the row's board is left of an answer.
+pub left_of : (r : Row) (old : Board) (result : Result (Unit {0}) EventFault) (new : Board) → Leads r old result new → IsLeftOf r old result new
+left_of (Ok x) old (Ok done) new h = record { answer = Ok x.1; answers = ap Ok (λ i. (board_is i, x.1)); same = refl }
+  where
+    board_is : x.0 ≡ new
+    board_is = cc
+left_of (Err f) old (Ok done) new h = absurd (cc)
+left_of r old (Err f) new h = record { answer = Err f; answers = h; same = refl }
+
+-- What is left of an entry's answer plays it.
+pub left_plays : (p : Plan) (old : Board) (e : Entry) (answer : Result Reply EventFault) (new : Board) → AnswersEntry p old e answer new → Plays p old e (without_reply answer) new
+left_plays p old e (Ok reply) new h = ap (λ (r : Row). then_after r (λ next. Some next)) h
+left_plays p old e (Err f) new h = h

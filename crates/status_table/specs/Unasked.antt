@@ -1,0 +1,52 @@
+-- Entries whose reply nobody asks for.
+use Rattle.std.specs.Prelude.{◌≡◌, ℕ, Bool, true, false, Option, Some, None, Result, Ok, Err}
+use Rattle.board_decisions.specs.Place.{LegAt}
+use Rattle.flow_model.specs.declared.board.Board.{Board}
+use Rattle.flow_model.specs.declared.board.LegState.TheVariants as leg_state
+use Rattle.flow_model.specs.declared.reply.Reply.{Reply}
+use Rattle.flow_model.specs.declared.reply.ValueFault.{ValueFault}
+use Rattle.status_table.specs.Answers.{Answers, Refuses}
+use Rattle.status_table.specs.Row.{Row, Beginning, calls, skips, faults, leg_state_set, step_done, skipped_step, failed_step}
+use Rattle.status_table.specs.Runs.{then_after}
+use Rattle.status_table.specs.declared.fault.EventFault.{EventFault}
+use Rattle.status_table.specs.declared.unasked.Begins.{Begins}
+use Rattle.status_table.specs.declared.unasked.Begins.TheVariants.{Calls, Skips, Faults}
+
+-- what beginning a step comes to, without its call or its fault
+abbrev pub begins_of : Beginning → Begins
+begins_of (calls call) = Calls
+begins_of skips = Skips
+begins_of (faults f) = Faults
+
+-- the same, or why it is not begun
+abbrev pub begins_by : Result Beginning EventFault → Result Begins EventFault
+begins_by (Ok x) = Ok (begins_of x)
+begins_by (Err f) = Err f
+
+-- the same by whether the step is called
+abbrev pub begins_called : Result Bool ValueFault → Begins
+begins_called (Ok true) = Calls
+begins_called (Ok false) = Skips
+begins_called (Err f) = Faults
+
+-- the board after a step of a leg was begun by its worker
+abbrev pub begun_board : Board → ℕ → LegAt → Begins → Board
+begun_board b worker at Calls = leg_state_set b at.place (leg_state.Running worker true)
+begun_board b worker at Skips = step_done b at.place worker skipped_step
+begun_board b worker at Faults = step_done b at.place worker (failed_step at)
+
+-- What is done leads to the row's board, and what is refused is refused as the row is, and changes nothing.
+abbrev pub Leads : Row → Board → Result (Unit {0}) EventFault → Board → Type 0
+Leads r old (Ok done) new = then_after r (λ next. Some next) ≡ Some new
+Leads r old (Err f) new = Refuses r f × (new ≡ old)
+
+-- an answer without its reply
+abbrev pub without_reply : Result Reply EventFault → Result (Unit {0}) EventFault
+without_reply (Ok reply) = Ok tt
+without_reply (Err f) = Err f
+
+-- It is what is left of an answer whose reply nobody asked for.
+pub record IsLeftOf (r : Row) (old : Board) (result : Result (Unit {0}) EventFault) (new : Board) : Type 0 where
+  pub answer : Result Reply EventFault
+  pub answers : Answers r old answer new
+  pub same : result ≡ without_reply answer
