@@ -24,7 +24,7 @@ use Rattle.status_table.specs.declared.fault.EventFault.{EventFault}
 use Rattle.status_table.specs.declared.fault.EventFault.TheVariants as fault
 use Rattle.status_table.proofs.Grouped.{new_kept}
 use Rattle.status_table.proofs.InPlay.{new_in_play, answer_in_play}
-use Rattle.status_table.proofs.Unasked.{left_of, left_plays}
+use Rattle.status_table.proofs.WithoutReply.{left_of, left_plays}
 
 -- the board on which all is new shows that nobody is in a group
 pub new_sound : (p : Plan) (made : Play) (groups : Content) → IsPlan p → SoundPlan p → made ≡ new_play p → groups ≡ [] → IsSound made groups

@@ -9,7 +9,7 @@ use flat_counters::{LegChange, Tracked};
 use flow_model::LegState;
 use status_table::EventFault;
 use status_table::events::{failed_step, skipped_step};
-use status_table::unasked::{Begins, begins};
+use status_table::unasked::{Begins, beginning_unasked};
 use std::alloc::Global;
 
 /// Begins the next step of a leg, whose call nobody asks for.
@@ -29,7 +29,7 @@ pub(crate) fn begin_unasked(
         return Err(EventFault::NoSuch);
     };
     let place = leg.at.place;
-    match begins(alloc, worker, number, &leg.at, stops_anyway(&leg))? {
+    match beginning_unasked(alloc, worker, number, &leg.at, stops_anyway(&leg))? {
         Begins::Calls => {
             let in_call = true;
             state.change_leg(

@@ -27,4 +27,4 @@ pub mod Steps
 pub mod Still
 pub mod Turnover
 pub mod Turns
-pub mod Unasked
+pub mod WithoutReply

@@ -45,8 +45,8 @@ fn told_begins(called: Result<bool, ValueFault>) -> Result<Begins, EventFault>
 
 /// What beginning the next step of a leg comes to, or why it is not begun. It is known whether the leg is to stop whatever
 /// its job's condition.
-#[tactic(auto, using(crate::proofs::Unasked::begins_as_decided))]
-pub fn begins(
+#[tactic(auto, using(crate::proofs::WithoutReply::begins_as_decided))]
+pub fn beginning_unasked(
     alloc: Global,
     worker: u8,
     number: u64,

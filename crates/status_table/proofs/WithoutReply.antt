@@ -9,11 +9,12 @@ use Rattle.flow_model.specs.declared.plan.StepPlan.{StepPlan}
 use Rattle.flow_model.specs.declared.reply.Reply.{Reply}
 use Rattle.flow_model.specs.declared.reply.StepCall.{StepCall}
 use Rattle.flow_model.specs.declared.reply.ValueFault.{ValueFault}
-use Rattle.status_table.specs.Answers.{Answers, AnswersEntry, Decides}
+use Rattle.status_table.specs.Answers.{Answers, AnswersEntry, Decides, Refuses}
 use Rattle.status_table.specs.Row.{Row, Beginning, calls, skips, faults, decided, begin_leg, row}
 use Rattle.status_table.specs.Runs.{Plays, then_after}
 use Rattle.status_table.specs.Unasked.{begins_by, begins_of, begins_called, begun_board, IsLeftOf, Leads, without_reply}
 use Rattle.status_table.specs.declared.fault.EventFault.{EventFault}
+use Rattle.status_table.specs.declared.fault.EventFault.TheVariants as fault
 use Rattle.status_table.specs.declared.unasked.Begins.{Begins}
 
 decided_is : (d : Result (Option StepCall) ValueFault) → begins_called (is_called d) ≡ begins_of (decided d)
@@ -28,8 +29,21 @@ begins_as_decided x d result is told =
     subst (λ (y : Result Beginning EventFault). Decides (begins_by y) result) (sym is)
     (subst (λ (k : Begins). Decides (Ok k) result) (decided_is d) told)
 
+-- What is refused is refused without a reply.
+pub refused_unasked : (x : Result Beginning EventFault) (f : EventFault) → Refuses x f → Refuses (begins_by x) f
+refused_unasked x fault.NoSuch h = ap begins_by h
+refused_unasked x fault.WrongState h = ap begins_by h
+refused_unasked x fault.OtherWorker h = ap begins_by h
+refused_unasked x fault.NeedsOpen h = ap begins_by h
+refused_unasked x fault.SlotsFull h = ap begins_by h
+refused_unasked x fault.Stopping h = ap begins_by h
+refused_unasked x fault.NotStopping h = ap begins_by h
+refused_unasked x fault.StepsLeft h = ap begins_by h
+refused_unasked x fault.BadAnswer h = ap begins_by h
+refused_unasked x fault.Memory h = tt
+
 -- the board after a step was begun, if it was
-begun : Board → ℕ → LegAt → Result Begins EventFault → Option Board
+abbrev begun : Board → ℕ → LegAt → Result Begins EventFault → Option Board
 begun b worker at (Ok k) = Some (begun_board b worker at k)
 begun b worker at (Err f) = None
 
