@@ -61,15 +61,26 @@ groups_stay : (p : Plan) (b : Board) (l : ℕ) (groups : Content) (answer : Resu
 groups_stay p b l groups (Ok reply) = refl
 groups_stay p b l groups (Err f) = refl
 
-pub begun_unasked : (old new : Play) (groups : Content) (worker l : ℕ) (result : Result (Unit {0}) EventFault) → new.plan ≡ old.plan
-    → Leads (begin_row old.plan old.board worker l) old.board result new.board → FollowsUnasked old new groups groups worker (event.Begin l) result
-begun_unasked old new groups worker l result plan leads =
-    let left = left_of (begin_row old.plan old.board worker l) old.board result new.board leads in
+pub begun_unasked : (old mid new : Play) (groups : Content) (worker l : ℕ) (result : Result (Unit {0}) EventFault) → mid.plan ≡ old.plan → mid.board ≡ old.board
+    → new.plan ≡ mid.plan → Leads (begin_row mid.plan mid.board worker l) mid.board result new.board → FollowsUnasked old new groups groups worker (event.Begin l) result
+begun_unasked old mid new groups worker l result same_plan same_board plan leads =
+    let here = subst (λ (p : Plan). Leads (begin_row p old.board worker l) old.board result new.board) same_plan
+        (subst (λ (b : Board). Leads (begin_row mid.plan b worker l) b result new.board) same_board leads) in
+    let left = left_of (begin_row old.plan old.board worker l) old.board result new.board here in
     record {
       answer = left.answer;
-      follows = record { plan = plan; answers = left.answers; groups = groups_stay old.plan old.board l groups left.answer };
+      follows = record { plan = plan ∙ same_plan; answers = left.answers; groups = groups_stay old.plan old.board l groups left.answer };
       same = left.same;
     }
+
+-- Where there is no memory nothing is changed.
+pub nothing_unasked : (old new : Play) (groups : Content) (worker : ℕ) (e : Event) → new.plan ≡ old.plan → new.board ≡ old.board
+    → FollowsUnasked old new groups groups worker e (Err fault.Memory)
+nothing_unasked old new groups worker e plan board = record {
+  answer = Err fault.Memory;
+  follows = record { plan = plan; answers = (tt, board); groups = refl };
+  same = refl;
+}
 
 -- An event without its reply is as the entry's answer without it.
 pub plays_unasked : (old new : Play) (groups after : Content) (e : Entry) (result : Result (Unit {0}) EventFault) → e.worker ≤ 15
