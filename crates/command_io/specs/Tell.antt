@@ -1,5 +1,5 @@
 -- What a command leaves on its two writers, and its exit status.
-use Rattle.std.specs.Prelude.{◌≡◌, ℕ, ◌⊎◌, List, String, string_bytes, Result, Ok, Err}
+use Rattle.std.specs.Prelude.{◌≡◌, ℕ, ◌⊎◌, List, String, string_bytes, Result, Ok, Err, Vec}
 use Rattle.std.specs.declared.alloc.Global.{Global}
 use Rattle.command_io.specs.Stream.{Stream, IsKept, IsWritten, IsCutOff}
 use Rattle.command_io.specs.Trouble.{line, trouble_status, UnlessMemory}
@@ -16,6 +16,19 @@ Answer = Result (List ℕ) Trouble
 abbrev pub answer_seen : Result (String Global) Trouble → Answer
 answer_seen (Ok text) = Ok (string_bytes text)
 answer_seen (Err trouble) = Err trouble
+
+-- What is drawn as a text, with its exit status.
+abbrev pub Drawn : Type 0
+Drawn = Vec ℕ Global × ℕ
+
+-- What it comes to, and its status; that of a trouble is its own.
+abbrev pub drawn_text : Result Drawn Trouble → Answer
+drawn_text (Ok both) = Ok both.0.items
+drawn_text (Err trouble) = Err trouble
+
+abbrev pub drawn_status : Result Drawn Trouble → ℕ
+drawn_status (Ok both) = both.1
+drawn_status (Err trouble) = 0
 
 -- ---- what is written
 

@@ -3,9 +3,9 @@
 //! A source is read to its end, a sink takes a text whole or a beginning of it, and both know whether a call on them has
 //! failed. What keeps a command from its answer is a trouble, which is told in one line; `trouble` has all exit statuses
 //! and `tell` what a command leaves of its answer. `files` reads files by name, `contexts` the contexts of a file,
-//! `records` says why a record is not played, `laws` that what was played can be loaded again, `stop` why a play stopped,
-//! and `runs` how runs ended. The crate stands on the crates whose faults it tells: `expr_reader`, `flow_model`,
-//! `flow_reader`, `plan_assembler`, `plan_text` and `status_table`.
+//! `records` plays a record that is loaded or says why it is not played, `laws` that what was played can be loaded again,
+//! `stop` why a play stopped, and `runs` how runs ended. The crate stands on the crates whose faults it tells: `expr_reader`,
+//! `flow_model`, `flow_reader`, `plan_assembler`, `plan_text` and `status_table`.
 
 #![tactic(auto)]
 

@@ -1,7 +1,7 @@
 //! What a command leaves of its answer: a text on `out`, or one line on `err`, and an exit status.
 
 ghost use Rattle.std.specs.Prelude.{◌≡◌};
-ghost use Rattle.command_io.specs.Tell.{Says, Tells, TellsBy, answer_seen};
+ghost use Rattle.command_io.specs.Tell.{Says, Tells, TellsBy, answer_seen, drawn_status, drawn_text};
 ghost use Rattle.command_io.specs.Trouble.{line, source_trouble, trouble_status};
 
 use crate::stream::{Sink, SourceFault};
@@ -49,6 +49,26 @@ pub fn tell_by<O: Sink, E: Sink>(
     match answer {
         Ok(text) => {
             if out.put(text.as_bytes()) {
+                return done;
+            }
+            refuse(err, &Trouble::Io)
+        },
+        Err(trouble) => refuse(err, &trouble),
+    }
+}
+
+/// Writes what is drawn to `out` and gives the status that goes with it, or the line of the trouble to `err`.
+pub fn tell_drawn<O: Sink, E: Sink>(
+    answer: Result<(Vec<u8>, u8), Trouble>,
+    out: &mut O,
+    err: &mut E,
+) -> u8
+    ensures { TellsBy (drawn_status answer) (drawn_text answer)
+        (O.seen out.old) (O.seen out.new) (E.seen err.old) (E.seen err.new) result }
+{
+    match answer {
+        Ok((drawn, done)) => {
+            if out.put(drawn.as_slice()) {
                 return done;
             }
             refuse(err, &Trouble::Io)
