@@ -1,34 +1,28 @@
 //! `actrun graph`: a plan or the board after a record, as a graph.
 
-ghost use Rattle.std.specs.Prelude.{◌≡◌};
-ghost use Rattle.command_io.specs.Tell.{TellsBy};
-ghost use Rattle.graph_command.specs.Graph as spec;
-ghost use Rattle.graph_command.specs.Graph.{GivesBoard, GivesDrawn, GivesGraph, GivesPlay, GraphTells};
+ghost use Rattle.command_io.specs.Records.{GivesDrawing, GivesPlay};
+ghost use Rattle.graph_command.specs.Graph.{GivesBoard, GivesDrawn, GraphTells, ShowsGraph};
 
-use command_io::records::{load_trouble, stop_trouble};
+use command_io::records::{load_trouble, play_record};
 use command_io::runs::runs_status;
 use command_io::stream::{Sink, Source};
-use command_io::tell::{refuse, refuse_source};
+use command_io::tell::{refuse_source, tell_drawn};
 use command_io::trouble::{DONE, Trouble};
 use flat_board::FlatBoard;
 use flow_model::{CheckedPlan, Entry};
 use plan_graph::{board_graph, plan_graph};
 use plan_text::load_record;
-use status_table::run_entries;
 use std::alloc::Global;
 
 /// The plan in play after entries.
-#[tactic(auto, using(crate::proofs::Played::has_line))]
 fn played(alloc: Global, plan: &CheckedPlan, entries: &[Entry]) -> Result<FlatBoard, Trouble>
     ensures { GivesPlay plan.now entries.now result }
 {
     let Ok(mut board) = FlatBoard::new(alloc, plan) else {
         return Err(Trouble::Memory);
     };
-    match run_entries(alloc, &mut board, entries) {
-        Ok(()) => Ok(board),
-        Err((place, fault)) => Err(stop_trouble(place, fault)),
-    }
+    play_record(alloc, &mut board, entries)?;
+    Ok(board)
 }
 
 /// The graph of the board after entries, and the status of that board.
@@ -61,27 +55,11 @@ fn drawn(alloc: Global, plan: &CheckedPlan, entries: &[Entry]) -> Result<(Vec<u8
 
 /// The graph of a text, and the status that goes with it.
 fn text_drawn(alloc: Global, text: &[u8]) -> Result<(Vec<u8>, u8), Trouble>
-    ensures { GivesGraph text.now result }
+    ensures { GivesDrawing ShowsGraph text.now result }
 {
     match load_record(alloc, text) {
         Ok((plan, entries)) => drawn(alloc, &plan, entries.as_slice()),
         Err(fault) => Err(load_trouble(fault)),
-    }
-}
-
-/// Writes a graph to `out` and answers its status, or the line of a trouble to `err`.
-fn tell<O: Sink, E: Sink>(answer: Result<(Vec<u8>, u8), Trouble>, out: &mut O, err: &mut E) -> u8
-    ensures { TellsBy (spec.status_of answer) (spec.text_of answer)
-        (O.seen out.old) (O.seen out.new) (E.seen err.old) (E.seen err.new) result }
-{
-    match answer {
-        Ok((graph, done)) => {
-            if out.put(graph.as_slice()) {
-                return done;
-            }
-            refuse(err, &Trouble::Io)
-        },
-        Err(trouble) => refuse(err, &trouble),
     }
 }
 
@@ -98,7 +76,7 @@ pub fn graph<I: Source, O: Sink, E: Sink>(
         (O.seen out.old) (O.seen out.new) (E.seen err.old) (E.seen err.new) result }
 {
     match input.read_all(alloc) {
-        Ok(text) => tell(text_drawn(alloc, text.as_slice()), out, err),
+        Ok(text) => tell_drawn(text_drawn(alloc, text.as_slice()), out, err),
         Err(fault) => refuse_source(err, fault),
     }
 }

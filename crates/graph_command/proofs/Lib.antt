@@ -1,2 +1,0 @@
-mod Played
-mod Drawn
