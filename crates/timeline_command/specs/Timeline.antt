@@ -1,7 +1,6 @@
 -- What `actrun timeline` tells of a record: the picture of how each run, job and leg stood along its lines, with the exit status that
 -- tells how the runs ended; or why there is none.
-use Rattle.std.specs.Prelude.{◌≡◌, ◌+◌, ℕ, List, length, Some, Result, Ok, Err, Vec}
-use Rattle.std.specs.declared.alloc.Global.{Global}
+use Rattle.std.specs.Prelude.{◌≡◌, ◌+◌, ℕ, List, length, Some, Result, Ok, Err}
 use Rattle.flow_model.specs.declared.board.Board.{Board}
 use Rattle.flow_model.specs.declared.event.Entry.{Entry}
 use Rattle.flow_model.specs.declared.plan.Plan.{Plan}
@@ -12,12 +11,10 @@ use Rattle.run_timeline.specs.declared.noted.Track.{Track}
 use Rattle.timeline_picture.specs.Picture.{picture}
 use Rattle.status_table.specs.Play.{Play}
 use Rattle.status_table.specs.Runs.{after}
-use Rattle.command_io.specs.Records.{IsNotPlayed, IsStopped, OfRecord}
+use Rattle.command_io.specs.Records.{IsStopped, OfRecord, TellsShown}
 use Rattle.command_io.specs.Runs.{runs_status}
-use Rattle.command_io.specs.Stream.{Stream, IsRead}
-use Rattle.command_io.specs.Tell.{Answer, AnswersRead, TellsBy}
-use Rattle.command_io.specs.Trouble.{UnlessMemory}
-use Rattle.command_io.specs.declared.stream.SourceFault.{SourceFault}
+use Rattle.command_io.specs.Stream.{Stream}
+use Rattle.command_io.specs.Tell.{Drawn}
 use Rattle.command_io.specs.declared.trouble.Trouble.{Trouble}
 
 -- ---- what a text comes to
@@ -43,19 +40,9 @@ pub record IsDrawn (shown : List ℕ) (status : ℕ) (plan : Plan) (entries : Li
 abbrev pub ShowsTimeline : List ℕ → List ℕ → ℕ → Type 0
 ShowsTimeline text shown status = OfRecord text (IsDrawn shown status)
 
--- An answer to a text, with the exit status of a picture.
-abbrev pub IsTimelineAnswer : ℕ → List ℕ → Answer → Type 0
-IsTimelineAnswer status text (Ok shown) = ShowsTimeline text shown status
-IsTimelineAnswer status text (Err trouble) = IsNotPlayed text trouble
-
 -- What `timeline` leaves: it reads a text to its end, and tells an answer to it; want of memory may always be answered.
-pub record TimelineTells (input input' out out' err err' : Stream) (status : ℕ) : Type 0 where
-  pub done : ℕ
-  pub read : Result (List ℕ) SourceFault
-  pub reads : IsRead input input' read
-  pub answer : Answer
-  pub answers : AnswersRead (IsTimelineAnswer done) read answer
-  pub told : TellsBy done answer out out' err err' status
+abbrev pub TimelineTells : Stream → Stream → Stream → Stream → Stream → Stream → ℕ → Type 0
+TimelineTells = TellsShown ShowsTimeline
 
 -- ---- what the code answers on the way; want of memory may always be answered
 
@@ -68,25 +55,7 @@ abbrev pub GivesNoted : Plan → List Entry → Result (Play × Track) Trouble �
 GivesNoted plan entries (Ok both) = IsNoted plan entries both.0 both.1
 GivesNoted plan entries (Err trouble) = IsStopped plan entries trouble
 
--- A picture with its status.
-abbrev pub Drawn : Type 0
-Drawn = Vec ℕ Global × ℕ
-
 -- The picture of a plan and entries.
 abbrev pub GivesDrawn : Plan → List Entry → Result Drawn Trouble → Type 0
 GivesDrawn plan entries (Ok both) = IsDrawn both.0.items both.1 plan entries
 GivesDrawn plan entries (Err trouble) = IsStopped plan entries trouble
-
--- The picture of a text.
-abbrev pub GivesTimeline : List ℕ → Result Drawn Trouble → Type 0
-GivesTimeline text (Ok both) = ShowsTimeline text both.0.items both.1
-GivesTimeline text (Err trouble) = UnlessMemory trouble (IsNotPlayed text trouble)
-
--- What is told of it: the text, and its status.
-abbrev pub text_of : Result Drawn Trouble → Answer
-text_of (Ok both) = Ok both.0.items
-text_of (Err trouble) = Err trouble
-
-abbrev pub status_of : Result Drawn Trouble → ℕ
-status_of (Ok both) = both.1
-status_of (Err trouble) = 0

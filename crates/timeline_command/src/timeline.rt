@@ -1,14 +1,14 @@
 //! `actrun timeline`: a record, as a picture.
 
 ghost use Rattle.std.specs.Prelude.{◌≡◌, ◌+◌, IfOk, length};
-ghost use Rattle.command_io.specs.Tell.{TellsBy};
+ghost use Rattle.command_io.specs.Records.{GivesDrawing};
 ghost use Rattle.timeline_command.specs.Timeline as spec;
-ghost use Rattle.timeline_command.specs.Timeline.{GivesDrawn, GivesNoted, GivesTimeline, TimelineTells};
+ghost use Rattle.timeline_command.specs.Timeline.{GivesDrawn, GivesNoted, ShowsTimeline, TimelineTells};
 
 use command_io::records::{load_trouble, stop_trouble};
 use command_io::runs::runs_status;
 use command_io::stream::{Sink, Source};
-use command_io::tell::{refuse, refuse_source};
+use command_io::tell::{refuse_source, tell_drawn};
 use command_io::trouble::Trouble;
 use flat_board::FlatBoard;
 use flow_model::{CheckedPlan, Entry, Plan};
@@ -18,7 +18,7 @@ use std::alloc::{AllocError, Global};
 use timeline_picture::picture;
 
 /// The plan in play after entries, and what was noted of them.
-#[tactic(auto, using(crate::proofs::Noted::has_line))]
+#[tactic(auto, using(command_io::proofs::Stopped::has_line))]
 fn noted(
     alloc: Global,
     plan: &CheckedPlan,
@@ -65,27 +65,11 @@ fn drawn(alloc: Global, plan: &CheckedPlan, entries: &[Entry]) -> Result<(Vec<u8
 
 /// The picture of a text, and the status that goes with it.
 fn text_drawn(alloc: Global, text: &[u8]) -> Result<(Vec<u8>, u8), Trouble>
-    ensures { GivesTimeline text.now result }
+    ensures { GivesDrawing ShowsTimeline text.now result }
 {
     match load_record(alloc, text) {
         Ok((plan, entries)) => drawn(alloc, &plan, entries.as_slice()),
         Err(fault) => Err(load_trouble(fault)),
-    }
-}
-
-/// Writes a picture to `out` and answers its status, or the line of a trouble to `err`.
-fn tell<O: Sink, E: Sink>(answer: Result<(Vec<u8>, u8), Trouble>, out: &mut O, err: &mut E) -> u8
-    ensures { TellsBy (spec.status_of answer) (spec.text_of answer)
-        (O.seen out.old) (O.seen out.new) (E.seen err.old) (E.seen err.new) result }
-{
-    match answer {
-        Ok((text, done)) => {
-            if out.put(text.as_slice()) {
-                return done;
-            }
-            refuse(err, &Trouble::Io)
-        },
-        Err(trouble) => refuse(err, &trouble),
     }
 }
 
@@ -102,7 +86,7 @@ pub fn timeline<I: Source, O: Sink, E: Sink>(
         (O.seen out.old) (O.seen out.new) (E.seen err.old) (E.seen err.new) result }
 {
     match input.read_all(alloc) {
-        Ok(text) => tell(text_drawn(alloc, text.as_slice()), out, err),
+        Ok(text) => tell_drawn(text_drawn(alloc, text.as_slice()), out, err),
         Err(fault) => refuse_source(err, fault),
     }
 }
