@@ -1,5 +1,5 @@
 -- What the debugger answers, as it is told.
-use Rattle.std.proofs.Common.{◌≡◌, ◌<◌, ◌≤◌, ℕ, ◌+◌, Bool, true, false, List, ◌++◌, take, length, codes, String, Global, string_bytes, Some, None, Result, Ok, Err, OnOk, if◌then◌else◌, inl, inr, refl, sym, ap, ◌∙◌, arith}
+use Rattle.std.proofs.Common.{◌≡◌, ◌<◌, ◌≤◌, ℕ, List, ◌++◌, take, length, codes, String, Global, string_bytes, Some, None, Result, Ok, Err, OnOk, if◌then◌else◌, inl, inr, refl, sym, ap, ◌∙◌, arith}
 use Rattle.std.proofs.lemmas.Option.{slice_get_within}
 use Rattle.std.proofs.lemmas.List.{length-take-le}
 use Rattle.debugger.specs.Breaks.{is_set, with_break, without_break}
@@ -17,12 +17,11 @@ use Rattle.status_table.specs.declared.fault.EventFault.{EventFault}
 use Rattle.plan_text.specs.BoardText.{Adds}
 use Rattle.debug_session.specs.Answers.{AddsSome, IsMove, TellsGo, TellsMove, TellsOneLine, TellsRequest, move_line}
 use Rattle.debug_session.specs.Debug.{HasOpenLine, open_trouble}
+use Rattle.command_io.proofs.Stopped.{has_line, refused_there}
 use Rattle.command_io.specs.Records.{HasLine, IsStopped}
-use Rattle.status_table.specs.Fault.{is_memory}
 use Rattle.debug_session.specs.Requests.{Asks, FindsOne}
 use Rattle.debug_session.specs.declared.requests.Request.{Request}
 use Rattle.debug_session.specs.declared.requests.Request.TheVariants.{Set, Clear}
-use Rattle.command_io.specs.declared.trouble.Trouble.TheVariants.{Memory, Refused}
 
 -- ---- moves
 
@@ -44,22 +43,9 @@ move_told target s found next h = (ap (move_line (length s.entries)) h.0, h.1)
 
 -- ---- records that are opened
 
-stops_by : (p : Plan) (es : List Entry) (i : ℕ) (f : EventFault) (kind : Bool) → RefusedAt p (new_board p) es i f → is_memory f ≡ kind
-    → IsStopped p es (if kind then Memory else Refused (i + 2) f)
-stops_by p es i f true w is = tt
-stops_by p es i f false w is = record {
-  place = i;
-  board = w.0;
-  entry = w.2.0;
-  legal = w.1;
-  there = w.2.1;
-  refused = w.2.2;
-  counted = refl;
-}
-
 -- a record that is not opened stops there
 pub stopped : (p : Plan) (es : List Entry) (why : DebugFault) → NotOpened p (new_board p) es why → IsStopped p es (open_trouble why)
-stopped p es (fault.BadRecord i f) w = stops_by p es i f (is_memory f) w refl
+stopped p es (fault.BadRecord i f) w = refused_there p es i f (λ named. w)
 stopped p es fault.AtStart w = absurd w
 stopped p es fault.AtEnd w = absurd w
 stopped p es fault.NoPlace w = absurd w
@@ -68,11 +54,11 @@ stopped p es fault.Memory w = tt
 
 line_by : ((p : Plan) → IsPlan p → (es : List Entry) (b : Board) → after p es ≡ Some b → length es ≤ 2113728)
     → (p : Plan) → IsPlan p → (es : List Entry) (i : ℕ) (f : EventFault) → RefusedAt p (new_board p) es i f → HasLine i f
-line_by short p rules es i f w named =
+line_by short p rules es i f w =
     let inside : i < length es = slice_get_within es i w.2.0 w.2.1 in
     let few : length (take i es) ≤ 2113728 = short p rules (take i es) w.0 w.1 in
     let same : length (take i es) ≡ i = length-take-le i es (omega (arith, inside)) in
-    omega (arith, few, same)
+    has_line i f (omega (arith, few, same))
 
 pub has_open_line : ((p : Plan) → IsPlan p → (es : List Entry) (b : Board) → after p es ≡ Some b → length es ≤ 2113728)
     → (p : Plan) → IsPlan p → (es : List Entry) (why : DebugFault) → NotOpened p (new_board p) es why → HasOpenLine why
