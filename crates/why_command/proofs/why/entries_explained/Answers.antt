@@ -1,7 +1,7 @@
 use Rattle.std.proofs.Common.{subst, sym}
+use Rattle.command_io.proofs.Stopped.{stopped}
 use Rattle.command_io.specs.Records.{IsStopped}
 use Rattle.command_io.specs.declared.trouble.Trouble.{Trouble}
-use Rattle.why_command.proofs.Stopped.{stops}
 use Rattle.why_command.proofs.why.entries_explained.Goals as goal
 
 pub returns-in-Ok : goal.returns-in-Ok
@@ -11,4 +11,4 @@ returns-in-Ok c =
 pub returns-in-Err : goal.returns-in-Err
 returns-in-Err c =
     subst (λ (trouble : Trouble). IsStopped c.args.plan.now c.args.entries.now trouble) (sym c.stop_trouble.ensures)
-    (stops c.args.plan.now c.args.entries.now c.in-Err.place c.in-Err.fault c.in-Err.ensures.accounts)
+    (stopped c.args.plan.now c.args.entries.now c.in-Err.place c.in-Err.fault c.in-Err.ensures.accounts)

@@ -1,4 +1,4 @@
-use Rattle.why_command.proofs.Stopped.{told_of}
+use Rattle.why_command.proofs.Answered.{told_of}
 use Rattle.why_command.proofs.why.play_told.Goals as goal
 
 pub returns : goal.returns
