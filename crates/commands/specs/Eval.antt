@@ -19,7 +19,6 @@ use Rattle.flow_model.specs.declared.reply.ValueFault.TheVariants as value_fault
 use Rattle.command_io.specs.Contexts.{file_contexts}
 use Rattle.command_io.specs.Stream.{Stream, IsRead}
 use Rattle.command_io.specs.Tell.{Answer, OrMemory, TellsOf, answer_seen}
-use Rattle.command_io.specs.declared.contexts.ContextsFault.{ContextsFault}
 use Rattle.command_io.specs.declared.trouble.Trouble.{Trouble}
 use Rattle.command_io.specs.declared.trouble.Trouble.TheVariants.{NoExpression, NoValue, NoContexts, NoFlow, NotPlanned, NoPlan, NoEntry, Refused, Words, Io, Memory}
 
