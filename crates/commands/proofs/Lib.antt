@@ -6,5 +6,4 @@ pub mod Linted
 pub mod OneAnswer
 pub mod Pictures
 pub mod Replayed
-pub mod Stopped
 pub mod Unplanned

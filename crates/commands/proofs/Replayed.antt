@@ -1,43 +1,12 @@
 -- A replay is told as its answer.
-use Rattle.std.proofs.Common.{◌≡◌, ℕ, List, Result, Ok, Err, String, Global, refl}
-use Rattle.command_io.proofs.Told.{IsKept-same}
-use Rattle.commands.specs.Replay.{Shown, GivesShown, IsReplayAnswer, TellsShown, status_of, text_of}
-use Rattle.command_io.specs.Stream.{Stream, IsRead}
-use Rattle.command_io.specs.Tell.{Answer, OrMemory, Says, TellsBy}
-use Rattle.command_io.specs.Trouble.{line, source_trouble, trouble_status}
-use Rattle.command_io.specs.declared.stream.SourceFault.{SourceFault}
-use Rattle.command_io.specs.declared.stream.SourceFault.TheVariants as source_fault
+use Rattle.std.proofs.Common.{ℕ, List, Result, Ok, Err, String, Global}
+use Rattle.command_io.specs.Records.{IsShownAnswer, Shown}
+use Rattle.command_io.specs.Tell.{OrMemory}
 use Rattle.command_io.specs.declared.trouble.Trouble.{Trouble}
+use Rattle.commands.specs.Replay.{GivesShown, status_of, text_of}
 
 -- what the code answers is an answer
 pub answered : (shows : Shown) (text : List ℕ) (result : Result (String Global × ℕ) Trouble) → GivesShown shows text result
-    → OrMemory (text_of result) (IsReplayAnswer shows (status_of result) text (text_of result))
+    → OrMemory (text_of result) (IsShownAnswer shows (status_of result) text (text_of result))
 answered shows text (Ok both) gives = gives
 answered shows text (Err trouble) gives = gives
-
-pub replay_told : (shows : Shown) (input input' out out' err err' : Stream) (text : List ℕ) (done : ℕ) (answer : Answer) (status : ℕ)
-    → IsRead input input' (Ok text) → OrMemory answer (IsReplayAnswer shows done text answer) → TellsBy done answer out out' err err' status
-    → TellsShown shows input input' out out' err err' status
-replay_told shows input input' out out' err err' text done answer status reads answers told =
-    record { done = done; read = Ok text; reads = reads; answer = answer; answers = answers; told = told }
-
--- what was not read is told as its trouble
-pub unread_replay : (shows : Shown) (input input' out err err' : Stream) (fault : SourceFault) (status : ℕ)
-    → IsRead input input' (Err fault) → Says err err' (line (source_trouble fault)) → status ≡ trouble_status (source_trouble fault)
-    → TellsShown shows input input' out out err err' status
-unread_replay shows input input' out err err' source_fault.Failed status reads said is = record {
-  done = 0;
-  read = Err source_fault.Failed;
-  reads = reads;
-  answer = Err (source_trouble source_fault.Failed);
-  answers = refl;
-  told = record { kept = IsKept-same out; said = said; is = is };
-}
-unread_replay shows input input' out err err' source_fault.Memory status reads said is = record {
-  done = 0;
-  read = Err source_fault.Memory;
-  reads = reads;
-  answer = Err (source_trouble source_fault.Memory);
-  answers = refl;
-  told = record { kept = IsKept-same out; said = said; is = is };
-}

@@ -7,8 +7,8 @@
 //! always. The crate stands on `command_io`, which reads, tells and refuses, on `plan_text`, which reads records and prints
 //! boards and plans, on `flat_board`, which plays records, on `expr_reader` and `expr_value`, which read expressions and
 //! evaluate them, on `flow_reader` and `plan_assembler`, which read workflows and plan them, on `flow_places`, `flow_lint` and
-//! `flow_hints`, which find the places of their faults and what else is to be known of them, and on `step_host` and
-//! `worker_pool`, which play records again.
+//! `flow_hints`, which find the places of their faults and what else is to be known of them, and on `worker_pool`, which says
+//! whether a record came to what is settled.
 
 #![tactic(auto)]
 

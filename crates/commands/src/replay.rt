@@ -1,52 +1,39 @@
 //! `actrun replay`: the board after a record, which is played again.
 
 ghost use Rattle.std.specs.Prelude.{◌≡◌, ◌++◌, OnOk, string_bytes};
-ghost use Rattle.worker_pool.specs.Entries.{IsMemory};
 ghost use Rattle.commands.specs.Replay as spec;
+ghost use Rattle.command_io.specs.Records.{GivesPlay};
 ghost use Rattle.command_io.specs.Tell.{TellsBy};
-ghost use Rattle.commands.specs.Replay.{GivesBoard, GivesBoth, GivesBothOf, GivesEntries, GivesSettled, GivesShown, ReplayTells, SettledTells, ShowsReplay, ShowsSettled, settled_line};
+ghost use Rattle.commands.specs.Replay.{GivesBoard, GivesBoth, GivesBothOf, GivesSettled, GivesShown, ReplayTells, SettledTells, ShowsReplay, ShowsSettled, settled_line};
 
-use command_io::records::{load_trouble, stop_trouble};
+use command_io::records::{load_trouble, play_record};
 use command_io::runs::runs_status;
 use command_io::stream::{Sink, Source};
 use command_io::tell::{refuse_source, tell_by};
 use command_io::trouble::{DONE, Trouble};
-use flow_model::{Board, CheckedPlan, Entry};
+use flat_board::FlatBoard;
+use flow_model::{CheckedPlan, Duplicate, Entry};
 use plan_text::{board_text, load_record};
-use status_table::board_laws::legal_lists_are_short;
 use std::alloc::{AllocError, Global};
-use step_host::ReplayHost;
-use worker_pool::{PoolFault, play_entries, settled_check};
+use worker_pool::settled_check;
 
-/// Why entries are not played again over the host of their own answers: there is no memory.
-fn replay_trouble(_fault: &PoolFault) -> Trouble
-    requires { IsMemory _fault.now }
-    ensures { result ≡ Trouble.Memory }
+/// The plan in play after entries.
+fn played(alloc: Global, plan: CheckedPlan, entries: &[Entry]) -> Result<FlatBoard, Trouble>
+    ensures { GivesPlay plan entries.now result }
 {
-    Trouble::Memory
+    let Ok(mut board) = FlatBoard::from_plan(alloc, plan) else {
+        return Err(Trouble::Memory);
+    };
+    play_record(alloc, &mut board, entries)?;
+    Ok(board)
 }
 
-/// The board after entries, which are played again: each call is answered as the list answers it.
-#[tactic(auto, using(crate::proofs::Stopped::has_line, crate::proofs::Stopped::stops))]
-fn played_again(alloc: Global, plan: &CheckedPlan, entries: &[Entry]) -> Result<Board, Trouble>
-    ensures { GivesEntries plan.now entries.now result }
-{
-    legal_lists_are_short();
-    match ReplayHost::new(alloc, plan, entries) {
-        Ok(host) => match play_entries(alloc, plan, entries, &host) {
-            Ok(board) => Ok(board),
-            Err(fault) => Err(replay_trouble(&fault)),
-        },
-        Err((place, fault)) => Err(stop_trouble(place, fault)),
-    }
-}
-
-/// The board after a record.
-fn replayed(alloc: Global, text: &[u8]) -> Result<Board, Trouble>
+/// The plan of a record in play after its entries.
+fn replayed(alloc: Global, text: &[u8]) -> Result<FlatBoard, Trouble>
     ensures { GivesBoard text.now result }
 {
     match load_record(alloc, text) {
-        Ok((plan, entries)) => played_again(alloc, &plan, entries.as_slice()),
+        Ok((plan, entries)) => played(alloc, plan, entries.as_slice()),
         Err(fault) => Err(load_trouble(fault)),
     }
 }
@@ -55,9 +42,9 @@ fn replayed(alloc: Global, text: &[u8]) -> Result<Board, Trouble>
 fn shown_replay(alloc: Global, text: &[u8]) -> Result<(String, u8), Trouble>
     ensures { GivesShown ShowsReplay text.now result }
 {
-    let board = replayed(alloc, text)?;
-    match board_text(alloc, &board) {
-        Ok(shown) => Ok((shown, runs_status(&board))),
+    let play = replayed(alloc, text)?;
+    match board_text(alloc, play.board()) {
+        Ok(shown) => Ok((shown, runs_status(play.board()))),
         Err(_) => Err(Trouble::Memory),
     }
 }
@@ -73,21 +60,24 @@ fn checked(alloc: Global, plan: &CheckedPlan, entries: &[Entry]) -> Result<bool,
     }
 }
 
-/// The board after entries, which are played again, and whether it is all of what is settled.
+/// The plan in play after entries, and whether its board is all of what is settled.
 fn played_and_checked(
     alloc: Global,
     plan: &CheckedPlan,
     entries: &[Entry],
-) -> Result<(Board, bool), Trouble>
+) -> Result<(FlatBoard, bool), Trouble>
     ensures { GivesBoth plan.now entries.now result }
 {
-    let board = played_again(alloc, plan, entries)?;
+    let Ok(twin) = plan.copy(alloc) else {
+        return Err(Trouble::Memory);
+    };
+    let play = played(alloc, twin, entries)?;
     let yes = checked(alloc, plan, entries)?;
-    Ok((board, yes))
+    Ok((play, yes))
 }
 
-/// The board after a record, and whether it is all of what is settled.
-fn replayed_and_checked(alloc: Global, text: &[u8]) -> Result<(Board, bool), Trouble>
+/// The plan of a record in play after its entries, and whether its board is all of what is settled.
+fn replayed_and_checked(alloc: Global, text: &[u8]) -> Result<(FlatBoard, bool), Trouble>
     ensures { GivesBothOf text.now result }
 {
     match load_record(alloc, text) {
@@ -107,12 +97,12 @@ fn add_settled(shown: &mut String, yes: bool) -> Result<(), AllocError>
 fn shown_settled(alloc: Global, text: &[u8]) -> Result<(String, u8), Trouble>
     ensures { GivesShown ShowsSettled text.now result }
 {
-    let (board, yes) = replayed_and_checked(alloc, text)?;
-    let Ok(mut shown) = board_text(alloc, &board) else {
+    let (play, yes) = replayed_and_checked(alloc, text)?;
+    let Ok(mut shown) = board_text(alloc, play.board()) else {
         return Err(Trouble::Memory);
     };
     match add_settled(&mut shown, yes) {
-        Ok(()) => Ok((shown, runs_status(&board))),
+        Ok(()) => Ok((shown, runs_status(play.board()))),
         Err(_) => Err(Trouble::Memory),
     }
 }

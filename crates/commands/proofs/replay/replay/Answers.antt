@@ -1,17 +1,19 @@
 use Rattle.std.proofs.Common.{ℕ, List, subst}
-use Rattle.commands.proofs.Replayed.{answered, replay_told, unread_replay}
-use Rattle.commands.specs.Replay.{ShowsReplay, IsReplayAnswer, status_of, text_of}
+use Rattle.command_io.proofs.Shown.{shown_told, unread_shown}
+use Rattle.command_io.specs.Records.{IsShownAnswer}
 use Rattle.command_io.specs.Tell.{OrMemory}
+use Rattle.commands.proofs.Replayed.{answered}
+use Rattle.commands.specs.Replay.{ShowsReplay, status_of, text_of}
 use Rattle.commands.proofs.replay.replay.Goals as goal
 
 pub returns-in-Ok : goal.returns-in-Ok
 returns-in-Ok g c =
     let found = text_of c.shown_replay.result in
     let done = status_of c.shown_replay.result in
-    replay_told ShowsReplay _ _ _ _ _ _ c.in-Ok.text.items done found _ c.in-Ok.ensures
-    (subst (λ (text : List ℕ). OrMemory found (IsReplayAnswer ShowsReplay done text found)) c.as_slice.ensures.value
+    shown_told ShowsReplay _ _ _ _ _ _ c.in-Ok.text.items done found _ c.in-Ok.ensures
+    (subst (λ (text : List ℕ). OrMemory found (IsShownAnswer ShowsReplay done text found)) c.as_slice.ensures.value
     (answered ShowsReplay c.as_slice.result.now c.shown_replay.result c.shown_replay.ensures))
     c.tell_with.ensures
 
 pub returns-in-Err : goal.returns-in-Err
-returns-in-Err g c = unread_replay ShowsReplay _ _ _ _ _ c.in-Err.fault _ c.in-Err.ensures c.refuse_source.ensures.line c.refuse_source.ensures.status
+returns-in-Err g c = unread_shown ShowsReplay _ _ _ _ _ c.in-Err.fault _ c.in-Err.ensures c.refuse_source.ensures.line c.refuse_source.ensures.status
