@@ -1,8 +1,9 @@
 //! Records that are played on both boards of the table.
 //!
 //! Whatever a case plays of a record, by a command or by a verb, the record is played besides on the plain board and on the
-//! flat one: on, back to the start, and on again. At each place the text of the board and the moves that are open, and of
-//! each entry the reply with its members or the refusal, have to be the same; where they differ, both are told on `err`.
+//! flat one: on, back to the start, and on and back again without replies; then on, and every other entry without its reply. At
+//! each place the text of the board and the moves that are open, and of each entry the reply with its members or the
+//! refusal, have to be the same; where they differ, both are told on `err`.
 
 ghost use Rattle.std.specs.Prelude.{◌≡◌};
 
@@ -54,6 +55,7 @@ fn told_by<'a, M: Reversible + Drop>(
     let mut told = page.scratch();
     if let Some(mut table) = told.have(made) {
         go_and_return(&mut told, &mut table, entries);
+        return_unasked(&mut told, &mut table, entries);
         go(&mut told, &mut table, entries);
     }
     told
@@ -105,13 +107,54 @@ fn go_and_return<M: Reversible>(page: &mut Page<'_>, table: &mut M, entries: &[E
     }
 }
 
-/// Goes over entries.
+/// Writes what comes of an entry without its reply.
+fn put_done(page: &mut Page<'_>, done: Result<(), EventFault>) {
+    match done {
+        Ok(()) => page.put("done\n"),
+        Err(fault) => writeln!(page, "refused {fault}"),
+    }
+}
+
+/// Goes over entries without their replies, and back by what takes each back.
+fn return_unasked<M: Reversible>(page: &mut Page<'_>, table: &mut M, entries: &[Entry])
+    ensures plan { M.plan table.new ≡ M.plan table.old }
+    ensures board { M.board table.new ≡ M.board table.old }
+{
+    let [entry, others @ ..] = entries else {
+        return;
+    };
+    let Some(entry) = reported(page, entry) else {
+        return;
+    };
+    match table.advance_with_undo(entry) {
+        Ok(undo) => {
+            put_done(page, Ok(()));
+            put_place(page, table);
+            return_unasked(page, table, others);
+            table.revert(undo);
+            put_place(page, table);
+        },
+        Err(fault) => {
+            put_done(page, Err(fault));
+            return_unasked(page, table, others);
+        },
+    }
+}
+
+/// Goes over entries, over every other one without its reply.
 fn go<T: Table>(page: &mut Page<'_>, table: &mut T, entries: &[Entry]) {
+    let mut asks = true;
     for entry in entries {
         if let Some(entry) = reported(page, entry) {
-            let answer = table.apply(entry);
-            put_answer(page, answer);
+            if asks {
+                let answer = table.apply(entry);
+                put_answer(page, answer);
+            } else {
+                let done = table.advance(entry);
+                put_done(page, done);
+            }
             put_place(page, table);
         }
+        asks = !asks;
     }
 }
