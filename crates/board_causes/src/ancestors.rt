@@ -8,7 +8,7 @@ ghost use Rattle.board_notes.specs.Adds.{Adds};
 ghost use Rattle.status_table.specs.Change.{changed};
 
 use crate::question::Question;
-use crate::results::job_result;
+use board_decisions::derived::job_result;
 use board_decisions::place::SeenJob;
 use flow_model::{JobPlan, Outcome, Run, Sequence};
 use std::alloc::{AllocError, Global};

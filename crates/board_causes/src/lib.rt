@@ -13,6 +13,5 @@ pub mod causes;
 pub mod laws;
 mod numbers;
 pub mod question;
-pub mod results;
 mod sought;
 pub mod tree;

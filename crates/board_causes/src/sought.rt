@@ -3,10 +3,9 @@
 ghost use Rattle.std.specs.Prelude.{◌≡◌};
 ghost use Rattle.board_causes.specs.Causes as spec;
 
-use crate::results::{
-    is_ended, is_under_way, job_has_ended, job_result, legs_result, was_cancelled,
+use board_decisions::derived::{
+    has_failed, is_ended, is_under_way, job_has_ended, job_result, legs_result, was_cancelled,
 };
-use board_notes::failures::has_failed;
 use flow_model::{Job, JobState, Leg, LegState, Outcome, Run};
 
 /// What is looked for among jobs and legs.

@@ -31,14 +31,14 @@ pub fn is_untaken(state: LegState) -> bool
 }
 
 /// Whether a leg has ended by itself.
-fn is_ended(state: LegState) -> bool
+pub fn is_ended(state: LegState) -> bool
     ensures { result ≡ spec.is_ended state }
 {
     matches!(state, LegState::Ended { .. })
 }
 
 /// Whether a leg has asked and has not ended.
-fn is_under_way(state: LegState) -> bool
+pub fn is_under_way(state: LegState) -> bool
     ensures { result ≡ spec.is_under_way state }
 {
     matches!(
@@ -69,7 +69,7 @@ fn is_cancelled(outcome: Outcome) -> bool
 }
 
 /// Whether a leg ended with a failure that is not tolerated.
-fn has_failed(state: LegState) -> bool
+pub fn has_failed(state: LegState) -> bool
     ensures { result ≡ spec.has_failed state }
 {
     match state {
@@ -85,7 +85,7 @@ fn has_failed(state: LegState) -> bool
 }
 
 /// Whether a leg ended cancelled.
-fn was_cancelled(state: LegState) -> bool
+pub fn was_cancelled(state: LegState) -> bool
     ensures { result ≡ spec.was_cancelled state }
 {
     match state {
@@ -108,7 +108,7 @@ fn leg_has_ended(run: &Run, job: &Job, leg: &Leg) -> bool
 }
 
 /// Whether all legs of a job have ended.
-fn job_has_ended(run: &Run, job: &Job) -> bool
+pub fn job_has_ended(run: &Run, job: &Job) -> bool
     ensures { result ≡ spec.job_has_ended run.now job.now }
 {
     job.legs
@@ -142,7 +142,7 @@ fn is_any_cancelled(legs: &[Leg]) -> bool
 }
 
 /// What the ends of its legs make of a job: a failure before cancelled ones.
-fn legs_result(legs: &[Leg]) -> Outcome
+pub fn legs_result(legs: &[Leg]) -> Outcome
     ensures { result ≡ spec.legs_result legs.now }
 {
     if is_any_failed(legs) {
@@ -155,7 +155,7 @@ fn legs_result(legs: &[Leg]) -> Outcome
 }
 
 /// The result of a job.
-pub(crate) fn job_result(run: &Run, job: &Job) -> Outcome
+pub fn job_result(run: &Run, job: &Job) -> Outcome
     ensures { result ≡ spec.job_result run.now job.now }
 {
     match (job.state, run.state) {

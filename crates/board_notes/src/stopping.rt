@@ -5,7 +5,7 @@ ghost use Rattle.board_decisions.specs.Seen.{leg_seen};
 ghost use Rattle.board_notes.specs.Changes as spec;
 
 use crate::fact::StopCause;
-use crate::failures::has_failed;
+use board_decisions::derived::has_failed;
 use board_decisions::place::SeenLeg;
 use flow_model::Leg;
 

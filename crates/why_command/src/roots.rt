@@ -10,7 +10,7 @@ ghost use Rattle.board_notes.specs.Adds.{Adds};
 ghost use Rattle.why_command.specs.Roots as spec;
 
 use board_causes::question::Question;
-use board_causes::results::{job_has_ended, job_result};
+use board_decisions::derived::{job_has_ended, job_result};
 use board_decisions::place::{find_job, find_leg, find_run};
 use board_notes::account::SeenAccount;
 use flow_model::{Job, JobState, Leg, LegState, Outcome, Run, RunState};

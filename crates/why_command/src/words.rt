@@ -12,7 +12,7 @@ ghost use Rattle.why_command.specs.Words as spec;
 use crate::names::{add_leg_name, add_member_name};
 use crate::writing::{add, add_number, add_shown};
 use board_causes::causes::{job_last, leg_last, run_last};
-use board_causes::results::{job_has_ended, legs_result};
+use board_decisions::derived::{job_has_ended, legs_result};
 use board_decisions::place::{SeenJob, SeenLeg, SeenRun, find_job, find_leg, find_run, item_at};
 use board_notes::account::SeenAccount;
 use board_notes::fact::{JobFact, MemberFact, StopCause};
