@@ -8,8 +8,8 @@ beyond what `rt check` does, as a pattern in a definition that is spelled like a
 so, and of which nothing changed, nor of a crate below, is not proved again. No edit, case or test is tried: the verdict is
 the gate's alone.
 
-The first crate of the longest chain, by the figures of docs/GATE.md, gets up to three of the processors that no other crate
-which can be proved wants, so that the chain ends soon. A line is told for each crate that is proved, and for one that is not the end of what the prover
+A crate gets up to three processors where others wait for it, so that the longest chain of crates, by the figures of
+docs/GATE.md, ends soon. A line is told for each crate that is proved, and for one that is not the end of what the prover
 said, all of which stands in crates/NAME/out/verdict. The status is 1 where a crate is not proved.
 
 It works by the toolchain's own `rt`, which it loads as a module; the libraries serve `rt check` in the crates above too.
@@ -119,7 +119,7 @@ def main():
             for crate in ready:
                 idle = processors - sum(jobs for _, jobs, _ in running.values())
                 if idle > 0:
-                    jobs = max(1, min(3, idle - len(ready) + 1)) if crate is ready[0] else 1
+                    jobs = min(3, idle) if crate is ready[0] else 1
                     left.remove(crate)
                     running[pool.submit(prove, rt, everything, crate, jobs)] = crate, jobs, time.monotonic()
             if not running:

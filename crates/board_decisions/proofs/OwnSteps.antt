@@ -64,6 +64,7 @@ own_step l at step own = by_env (step_env at step) (own_env at step own)
         → is_called (then_value (condition_value (seen_from at place.StepCondition env) (leg_status at) condition) (called_if l at step env)) ≡ Ok (is_success (leg_status at))
     by_condition env None is = called_by l at step env (is_success (leg_status at)) own
     by_condition env (Some bytes) is = absurd (cc)
+
     by_env : (r : Result Env ValueFault) → HasNoFault r
         → is_called (then_value r (λ env. then_value (condition_value (seen_from at place.StepCondition env) (leg_status at) step.condition) (called_if l at step env))) ≡ Ok (is_success (leg_status at))
     by_env (Ok env) h = by_condition env step.condition own.plain

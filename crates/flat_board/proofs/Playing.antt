@@ -65,7 +65,7 @@ pub begun_unasked : (old mid new : Play) (groups : Content) (worker l : ℕ) (re
     → new.plan ≡ mid.plan → Leads (begin_row mid.plan mid.board worker l) mid.board result new.board → FollowsUnasked old new groups groups worker (event.Begin l) result
 begun_unasked old mid new groups worker l result same_plan same_board plan leads =
     let here = subst (λ (p : Plan). Leads (begin_row p old.board worker l) old.board result new.board) same_plan
-        (subst (λ (b : Board). Leads (begin_row mid.plan b worker l) b result new.board) same_board leads) in
+    (subst (λ (b : Board). Leads (begin_row mid.plan b worker l) b result new.board) same_board leads) in
     let left = left_of (begin_row old.plan old.board worker l) old.board result new.board here in
     record {
       answer = left.answer;

@@ -1,15 +1,14 @@
 -- Entries whose reply nobody asks for.
-use Rattle.std.proofs.Common.{◌≡◌, ℕ, Bool, Option, Some, None, Result, Ok, Err, refl, ap, sym, subst, ◌∙◌}
-use Rattle.board_decisions.specs.Decisions.{is_called, step_decision}
+use Rattle.std.proofs.Common.{◌≡◌, ℕ, Option, Some, None, Result, Ok, Err, refl, ap, sym, subst, ◌∙◌}
+use Rattle.board_decisions.specs.Decisions.{is_called}
 use Rattle.board_decisions.specs.Place.{LegAt}
 use Rattle.flow_model.specs.declared.board.Board.{Board}
 use Rattle.flow_model.specs.declared.event.Entry.{Entry}
 use Rattle.flow_model.specs.declared.plan.Plan.{Plan}
-use Rattle.flow_model.specs.declared.plan.StepPlan.{StepPlan}
 use Rattle.flow_model.specs.declared.reply.Reply.{Reply}
 use Rattle.flow_model.specs.declared.reply.StepCall.{StepCall}
 use Rattle.flow_model.specs.declared.reply.ValueFault.{ValueFault}
-use Rattle.status_table.specs.Answers.{Answers, AnswersEntry, Decides, Refuses}
+use Rattle.status_table.specs.Answers.{AnswersEntry, Decides, Refuses}
 use Rattle.status_table.specs.Row.{Row, Beginning, calls, skips, faults, decided, begin_leg, row}
 use Rattle.status_table.specs.Runs.{Plays, then_after}
 use Rattle.status_table.specs.Unasked.{begins_by, begins_of, begins_called, begun_board, IsLeftOf, Leads, without_reply}

@@ -1,5 +1,5 @@
 -- Entries whose reply nobody asks for.
-use Rattle.std.specs.Prelude.{◌≡◌, ℕ, Bool, true, false, Option, Some, None, Result, Ok, Err}
+use Rattle.std.specs.Prelude.{◌≡◌, ℕ, Bool, true, false, Some, Result, Ok, Err}
 use Rattle.board_decisions.specs.Place.{LegAt}
 use Rattle.flow_model.specs.declared.board.Board.{Board}
 use Rattle.flow_model.specs.declared.board.LegState.TheVariants as leg_state
