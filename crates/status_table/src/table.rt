@@ -33,7 +33,7 @@ pub trait Table {
         ensures in_play { InPlay (plan self.new) (board self.new) }
         ensures ended_stays { Stays (board self.old) (board self.new) };
 
-    /// Plays one entry as `apply` does, where nobody asks for its reply, of which nothing is made then.
+    /// Plays one entry as `apply` does, where nobody asks for its reply.
     ///
     /// # Errors
     ///
