@@ -9,4 +9,5 @@ mod OutlineLaws
 pub mod PlanLaws
 mod PrintedLaws
 mod RecordLemmas
+mod SpelledLaws
 mod Steps

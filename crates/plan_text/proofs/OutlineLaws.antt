@@ -1,7 +1,5 @@
 -- What the outline of a text stands for, part by part.
-use Rattle.std.proofs.Common.{◌≡◌, ◌≤◌, ◌<◌, ◌+◌, ◌^◌, ℕ, List, [], ◌∷◌, Some, map, decimal, drop, get_or, length, option_map, option_and_then, Ok, Ordering, Less, Equal, Greater, nat_cmp, refl, sym, ap, ◌∙◌, append-nil, arith}
-use Rattle.std.proofs.lemmas.List.{drop_more}
-use Rattle.std.specs.Borrow.{Bor}
+use Rattle.std.proofs.Common.{◌≡◌, ◌≤◌, ◌<◌, ◌^◌, ℕ, List, [], ◌∷◌, Some, map, decimal, option_map, option_and_then, Ok, Ordering, Less, Equal, Greater, nat_cmp, refl, sym, ap, ◌∙◌, append-nil, arith}
 use Rattle.std.specs.Cmp.Lexicographic.{slice_cmp}
 use Rattle.std.specs.Ordering.{match_ordering}
 use Rattle.std.specs.Str.{IsUtf8}
@@ -11,10 +9,9 @@ use Rattle.json.specs.Print.{print, print_from, IsNumber}
 use Rattle.json.specs.Tree.{json_tokens, depth, HasNumbers}
 use Rattle.json.proofs.Printed.Tokens.{tokens-print}
 use Rattle.json.proofs.Printed.Trees.{value-json_tokens, ArePrintable-json_tokens}
-use Rattle.json.specs.Value.{value_view, items_of as outlines_of, members_view}
-use Rattle.json.specs.declared.value.Value.{Value}
+use Rattle.json.specs.Value.{items_of as outlines_of}
 use Rattle.serde_json.specs.Data.{Data, number, member, put}
-use Rattle.serde_json.specs.Read.{number_of, of_json, of_items, of_members, read}
+use Rattle.serde_json.specs.Read.{number_of, of_json, of_items, read}
 use Rattle.serde_json.specs.View.{items_of}
 use Rattle.serde_json.proofs.Numbers.{number_of-decimal}
 use Rattle.flow_model.specs.Mapping.{with_pair}
@@ -23,7 +20,7 @@ use Rattle.flow_model.proofs.JsonTexts.{json_read-utf8}
 use Rattle.plan_text.specs.Document.{document_in}
 use Rattle.flow_model.specs.Rules.{IsPlan}
 use Rattle.plan_text.specs.Load.{load}
-use Rattle.plan_text.specs.Outline.{IsOutlineOf, StandsFor, EachStandsFor}
+use Rattle.plan_text.specs.Outline.{StandsFor, EachStandsFor}
 use Rattle.plan_text.specs.Parts.{number_data, pair_members}
 use Rattle.plan_text.specs.declared.version.Version.{Version}
 use Rattle.plan_text.proofs.LoadLemmas.{load_again}
@@ -72,25 +69,11 @@ placed write key a p ps later Equal = refl
 placed write key a p ps later Greater = ap (member p.0 (write p.1)) later
 
 -- a member is put as the pair is set
-put_pair : {A : Type 0} (write : A → Data) (key : List ℕ) (a : A) (ps : List (List ℕ × A)) → put key (write a) (pair_members write ps) ≡ pair_members write (with_pair key a ps)
+pub put_pair : {A : Type 0} (write : A → Data) (key : List ℕ) (a : A) (ps : List (List ℕ × A)) → put key (write a) (pair_members write ps) ≡ pair_members write (with_pair key a ps)
 put_pair write key a [] = refl
 put_pair write key a (p ∷ ps) = placed write key a p ps (put_pair write key a ps) (slice_cmp nat_cmp key p.0)
 
--- what is left of an object's members goes into what was read, one member on
-pub member_step : {A B : Type 0} (write : A → Data) (from : List (Bor (List ℕ) × Value B)) (i : ℕ) (m : Bor (List ℕ) × Value B) (a : A) (ps qs : List (List ℕ × A))
-    → i < length from → m ≡ get_or from i m → StandsFor (value_view m.1) (write a) → qs ≡ with_pair m.0.now a ps
-    → of_members (members_view (drop i from)) (pair_members write ps) ≡ of_members (members_view (drop (i + 1) from)) (pair_members write qs)
-member_step write from i m a ps qs within is stands set =
-    let left = members_view (drop (i + 1) from) in
-    ap (λ ms. of_members (members_view ms) (pair_members write ps)) (drop_more from i m within ∙ ap (λ n. n ∷ drop (i + 1) from) (sym is))
-    ∙ ap (option_and_then (λ d. of_members left (put m.0.now d (pair_members write ps)))) stands
-    ∙ ap (of_members left) (put_pair write m.0.now a ps ∙ ap (pair_members write) (sym set))
-
 -- ---- a plan
-
--- a text is read as what its outline stands for
-pub outline_read : (text : List ℕ) (j : Json) (d : Data) → IsOutlineOf text j → StandsFor j d → read text ≡ Some d
-outline_read text j d is stands = ap (λ o. option_and_then of_json (option_and_then (λ x. if_last x.0 x.1) o)) is ∙ stands
 
 -- a text that is read as a document of a sound plan loads as the plan
 pub document_loads : (bytes text : List ℕ) (v : Version) (p q : Plan) → text ≡ bytes → IsUtf8 bytes → read text ≡ Some (document_in v p) → q ≡ p → IsPlan q → load bytes ≡ Ok q

@@ -13,4 +13,5 @@ pub mod PrintedEntry
 pub mod Reading
 pub mod Record
 pub mod Report
+pub mod Spelled
 pub mod Version

@@ -1,14 +1,8 @@
--- The outline of a text: its JSON as it is spelled, before it is turned to data.
-use Rattle.std.specs.Prelude.{◌≡◌, ℕ, List, [], map, Some}
+-- An outline: JSON as it is spelled, before it is turned to data.
+use Rattle.std.specs.Prelude.{◌≡◌, List, map, Some}
 use Rattle.json.specs.Json as json
-use Rattle.json.specs.Lex.{tokens}
 use Rattle.serde_json.specs.Data.{Data, Members, no_members}
 use Rattle.serde_json.specs.Read.{of_json, of_members}
-use Rattle.plan_text.specs.Fields.{put_each}
-
--- this is the JSON of the whole text, nested to 127
-abbrev pub IsOutlineOf : List ℕ → json.Json → Type 0
-IsOutlineOf text j = json.value 127 (tokens text) ≡ Some (j, [])
 
 -- it stands for this data
 abbrev pub StandsFor : json.Json → Data → Type 0
@@ -21,7 +15,3 @@ EachStandsFor outline data_of xs ys = map (λ x. of_json (outline x)) xs ≡ map
 -- the members of an object stand for these
 abbrev pub MembersStandFor : json.Members → Members → Type 0
 MembersStandFor js ds = of_members js no_members ≡ Some ds
-
--- the members of an object stand for these, whatever stands before them
-abbrev pub StandFor : json.Members → List (List ℕ × Data) → Type 0
-StandFor ms ps = (found : Members) → of_members ms found ≡ Some (put_each ps found)

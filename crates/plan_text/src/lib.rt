@@ -4,7 +4,7 @@
 //! entry, that each fault comes exactly in its case, and that what it prints is the compact text of the
 //! document and is read as the same plan or entry again. It stands on `flow_model`, which has the data
 //! and its rules, on `serde_json`, which reads and prints JSON (RFC 8259), and on `json`, which gives
-//! the outline of a text.
+//! the tokens of a text.
 
 #![tactic(auto)]
 
@@ -16,15 +16,15 @@ mod entry_writing;
 mod fault;
 mod fields;
 mod job_reading;
-mod outline;
 mod plan;
-mod plan_outline;
 mod plan_reading;
+mod plan_tokens;
 mod plan_writing;
 mod printed;
 mod reading;
 mod record;
 mod report;
+mod tokens;
 mod tree;
 mod version;
 mod writing;

@@ -11,7 +11,7 @@ ghost use Rattle.plan_text.specs.Document.{document, IsPlanDocument};
 ghost use Rattle.plan_text.specs.Load.{IsTextOf, has_known_version, has_other_version, loaded, load, accepted, Gives};
 
 use crate::fault::LoadFault;
-use crate::plan_outline::read_printed;
+use crate::plan_tokens::read_printed;
 use crate::reading::{FromJson, Unread};
 use crate::writing::ToJson;
 use flow_model::{Broken, CheckedPlan, Plan, read_json};

@@ -1,0 +1,25 @@
+-- What the tokens of a text spell, part by part: the JSON that they are stands for the data of the part.
+use Rattle.std.specs.Prelude.{◌≡◌, ◌≤◌, ℕ, List, [], ◌∷◌, ◌++◌}
+use Rattle.json.specs.Token.{Token}
+use Rattle.json.specs.Json.{Json}
+use Rattle.json.specs.Tree.{json_tokens, depth}
+use Rattle.serde_json.specs.Data.{Data}
+use Rattle.plan_text.specs.Outline.{StandsFor}
+
+-- The first tokens are a part, nested to so many levels, and the rest follows.
+pub record Spells (levels : ℕ) (ts : List Token) (d : Data) (rest : List Token) : Type 0 where
+  pub json : Json
+  pub tokens : ts ≡ json_tokens json ++ rest
+  pub low : depth json ≤ levels
+  pub stands : StandsFor json d
+
+-- The first tokens are these parts in turn, and the rest follows.
+abbrev pub SpellEach : ℕ → List Token → List Data → List Token → Type 0
+SpellEach levels ts [] rest = ts ≡ rest
+SpellEach levels ts (d ∷ ds) rest = (after : List Token) × Spells levels ts d after × SpellEach levels after ds rest
+
+-- The first tokens are these keys in turn, each with its part, and the rest follows.
+abbrev pub SpellMembers : ℕ → List Token → List (List ℕ × Data) → List Token → Type 0
+SpellMembers levels ts [] rest = ts ≡ rest
+SpellMembers levels ts (p ∷ ps) rest =
+    (before after : List Token) × (ts ≡ Token.key p.0 ∷ before) × Spells levels before p.1 after × SpellMembers levels after ps rest
