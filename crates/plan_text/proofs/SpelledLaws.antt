@@ -68,6 +68,10 @@ spells_fewer n ts d rest s = omega (arith, ap length s.tokens, length-append (js
 pub spells_within : (n m : ℕ) (ts : List Token) (d : Data) (rest : List Token) → n ≤ m → Spells n ts d rest → Spells m ts d rest
 spells_within n m ts d rest within s = record { json = s.json; tokens = s.tokens; low = omega (arith, within, s.low); stands = s.stands }
 
+-- an object of texts alone may stand for a step's work
+pub within_102 : (ts : List Token) (d : Data) (rest : List Token) → Spells 1 ts d rest → Spells 102 ts d rest
+within_102 ts d rest s = spells_within 1 102 ts d rest (omega arith) s
+
 pub max_left : (n m : ℕ) → n ≤ max n m
 max_left n m = omega arith
 

@@ -1,8 +1,9 @@
 //! The parts of a document that are read of the tokens of its text, one after the other, so that nothing
 //! stands between the text and what is made of it.
 //!
-//! The members of an object have to stand in the order in which they are printed, and a number is one of
-//! at most 15 digits. What is spelled otherwise is refused here: it is for the reading of whole trees.
+//! The members of an object have to stand in the order in which they are printed, and a number of a job
+//! or a version is one of at most 15 digits. What is spelled otherwise is refused here: it is for the
+//! reading of whole trees.
 
 ghost use Rattle.std.specs.Prelude.{◌≡◌, ◌∷◌, ◌++◌, ◌<◌, ◌≤◌, max, suc, IfOk, IfSome, map};
 ghost use Rattle.json.specs.Json as spec;
@@ -20,7 +21,7 @@ ghost use Rattle.plan_text.specs.Spelled.{Spells, SpellMembers};
 
 use crate::digits::{MORE_THAN_15_DIGITS, whole_number};
 use crate::reading::{Unread, refused};
-use crate::tree::tree_of;
+use crate::tree::{number_tree, tree_of};
 use flow_model::{JsonFault, Mapping, Node, Sequence, Text};
 use json::{Error, Reader, Token};
 use serde_json::Map;
@@ -114,7 +115,7 @@ fn number_of(text: &str) -> Option<u64>
     whole_number(text.as_bytes())
 }
 
-/// A list and a map are read of their trees.
+/// A list and a map are read of their trees, and so is a number that is not one of at most 15 digits.
 impl FromTokens for flow_model::Value {
     ghost use Rattle.flow_model.specs.Json.{json_of};
 
@@ -157,13 +158,13 @@ fn text_value(text: Text) -> flow_model::Value
     flow_model::Value::new(Node::Text(text))
 }
 
-/// The whole number that a text is printed of, as a value.
+/// The value of the text of a number: by its tree where it is not one of at most 15 digits.
 fn whole_value(alloc: Global, text: &str) -> Result<flow_model::Value, Unread>
     ensures { IfOk result (λ value. StandsFor (spec.number text.now) (json_of value)) }
 {
     match number_of(text) {
         Some(number) => Ok(number_value(number)),
-        None => Err(refused(alloc, "")),
+        None => value_of_tree(alloc, number_tree(alloc, text)?),
     }
 }
 

@@ -1,4 +1,4 @@
-//! The tree of an outline.
+//! The tree of an outline, and of a number.
 
 ghost use Rattle.std.specs.Prelude.{◌≡◌, IfOk};
 ghost use Rattle.json.specs.Json as spec;
@@ -55,7 +55,7 @@ fn member_trees(
 }
 
 /// The tree of the text of a number.
-fn number_tree(alloc: Global, text: &str) -> Result<Value, Unread>
+pub(crate) fn number_tree(alloc: Global, text: &str) -> Result<Value, Unread>
     ensures { IfOk result (λ tree. StandsFor (spec.number text.now) (view tree)) }
 {
     if !json::is_number(text) {
