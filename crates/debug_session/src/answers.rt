@@ -182,6 +182,9 @@ fn add_line<M: Reversible>(
     }
 }
 
+/// How many bytes most answers have at most.
+const ANSWER_LENGTH: usize = 32;
+
 /// What is told of a line, which is done.
 pub(crate) fn line_told<M: Reversible>(
     alloc: Global,
@@ -191,7 +194,7 @@ pub(crate) fn line_told<M: Reversible>(
     ensures { IfOk result
         (λ told. TellsOneLine debugger.old line.now (string_bytes told) debugger.new) }
 {
-    let mut told = String::new(alloc);
+    let mut told = String::with_capacity(alloc, ANSWER_LENGTH)?;
     add_line(alloc, &mut told, debugger, line)?;
     Ok(told)
 }
