@@ -1,11 +1,10 @@
 -- A step of whose texts none is evaluated has no fault: it is called where its leg counts as success so far.
-use Rattle.std.proofs.Common.{◌≡◌, ℕ, Bool, true, false, List, Option, None, Some, Result, Ok, Err, length, refl, ap}
+use Rattle.std.proofs.Common.{◌≡◌, ℕ, Bool, true, false, List, Option, None, Some, Result, Ok, Err, length, refl, ap, ◌∙◌}
 use Rattle.board_decisions.specs.Decisions.{then_value, flow_env, job_env, leg_env, step_env, seen_from, directory_value, work_value, called_if, step_decision, is_called, leg_status}
 use Rattle.board_decisions.specs.Own.{IsOwnStep}
 use Rattle.board_decisions.specs.Place.{LegAt}
 use Rattle.expr_value.specs.Answer.{Gives}
 use Rattle.expr_value.specs.Context.{Contexts}
-use Rattle.expr_value.specs.Functions.{is_success}
 use Rattle.flow_model.specs.declared.plan.Shell.{Shell}
 use Rattle.flow_model.specs.declared.plan.StepPlan.{StepPlan}
 use Rattle.flow_model.specs.declared.plan.Work.TheVariants as work
@@ -41,13 +40,13 @@ pub own_action : (c : Contexts) (uses : List ℕ) (given : List (List ℕ × Pla
 unfolding work_value
 own_action c uses given h = then_none (env_value c given) _ h (λ inputs. tt)
 
-own_env : (at : LegAt) (step : StepPlan) → IsOwnStep at step → HasNoFault (step_env at step)
+own_env : (at : LegAt) (step : StepPlan) → IsOwnStep at (record step { condition = None }) → HasNoFault (step_env at step)
 unfolding flow_env job_env leg_env step_env
 own_env at step own =
     then_none _ _ (then_none _ _ (then_none _ _ (own.flow _) (λ below. then_none _ _ (own.job _) (λ above. tt))) (λ below. tt))
     (λ below. then_none _ _ (own.own _) (λ above. tt))
 
-called_by : (l : ℕ) (at : LegAt) (step : StepPlan) (env : Env) (holds : Bool) → IsOwnStep at step → is_called (called_if l at step env holds) ≡ Ok holds
+called_by : (l : ℕ) (at : LegAt) (step : StepPlan) (env : Env) (holds : Bool) → IsOwnStep at (record step { condition = None }) → is_called (called_if l at step env holds) ≡ Ok holds
 called_by l at step env false own = refl
 called_by l at step env true own = by_work (work_value (seen_from at place.StepText env) step.work) (own.work _)
   where
@@ -55,19 +54,17 @@ called_by l at step env true own = by_work (work_value (seen_from at place.StepT
     by_work (Ok asked) h = refl
     by_work (Err fault) h = absurd h
 
--- It is called where its leg counts as success so far, and is skipped else.
-pub own_step : (l : ℕ) (at : LegAt) (step : StepPlan) → IsOwnStep at step → is_called (step_decision l at step) ≡ Ok (is_success (leg_status at))
-unfolding step_decision condition_value
-own_step l at step own = by_env (step_env at step) (own_env at step own)
+-- It is called where its condition holds, and is skipped else, if that has a value whatever the contexts are.
+pub own_step : (l : ℕ) (at : LegAt) (step : StepPlan) (holds : Bool) → IsOwnStep at (record step { condition = None })
+    → ((c : Contexts) → condition_value c (leg_status at) step.condition ≡ Ok holds) → is_called (step_decision l at step) ≡ Ok holds
+unfolding step_decision
+own_step l at step holds own held = by_env (step_env at step) (own_env at step own)
   where
-    by_condition : (env : Env) (condition : Option (List ℕ)) → condition ≡ None
-        → is_called (then_value (condition_value (seen_from at place.StepCondition env) (leg_status at) condition) (called_if l at step env)) ≡ Ok (is_success (leg_status at))
-    by_condition env None is = called_by l at step env (is_success (leg_status at)) own
-    by_condition env (Some bytes) is = absurd (cc)
-
     by_env : (r : Result Env ValueFault) → HasNoFault r
-        → is_called (then_value r (λ env. then_value (condition_value (seen_from at place.StepCondition env) (leg_status at) step.condition) (called_if l at step env))) ≡ Ok (is_success (leg_status at))
-    by_env (Ok env) h = by_condition env step.condition own.plain
+        → is_called (then_value r (λ env. then_value (condition_value (seen_from at place.StepCondition env) (leg_status at) step.condition) (called_if l at step env))) ≡ Ok holds
+    by_env (Ok env) h =
+        ap (λ (r : Result Bool ValueFault). is_called (then_value r (called_if l at step env))) (held (seen_from at place.StepCondition env))
+        ∙ called_by l at step env holds own
     by_env (Err fault) h = absurd h
 
 -- What is given as a decision is given as whether there is a call.

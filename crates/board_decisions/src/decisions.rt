@@ -119,7 +119,7 @@ pub fn leg_result(alloc: Global, at: &SeenLeg) -> Result<Outcome, AllocError>
 }
 
 /// A result as a status.
-fn status_of(how: Outcome) -> Status
+pub(crate) fn status_of(how: Outcome) -> Status
     ensures { result ≡ spec.status_of how }
 {
     match how {

@@ -18,6 +18,7 @@
 #![tactic(auto)]
 
 pub mod ancestors;
+mod anywhere;
 mod contexts;
 pub mod decisions;
 pub mod derived;

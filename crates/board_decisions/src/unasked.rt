@@ -1,17 +1,17 @@
 //! Whether a step is called, where nobody asks for its call: of a step of whose texts none is evaluated nothing is made.
 
-ghost use Rattle.std.specs.Prelude.{◌≡◌, true};
+ghost use Rattle.std.specs.Prelude.{◌≡◌, true, None};
 ghost use Rattle.board_decisions.specs.Decisions as spec;
 ghost use Rattle.board_decisions.specs.Own.{IsOwnStep};
 ghost use Rattle.board_decisions.specs.Seen.{leg_seen};
 ghost use Rattle.expr_value.specs.Answer.{Gives};
 ghost use Rattle.expr_value.specs.Context.{Contexts};
-ghost use Rattle.expr_value.specs.Functions.{is_success as is_success_of};
 ghost use Rattle.text_values.specs.Own.{HasNoFault};
 
-use crate::decisions::{leg_result_given, step_decision};
+use crate::anywhere::holds_anywhere;
+use crate::decisions::{leg_result_given, status_of, step_decision};
 use crate::place::SeenLeg;
-use flow_model::{Outcome, StepCall, StepPlan, Text, ValueFault, Work};
+use flow_model::{StepCall, StepPlan, Text, ValueFault, Work};
 use std::alloc::Global;
 use text_values::{is_own_env, is_own_text};
 
@@ -37,27 +37,15 @@ fn is_own_work(work: &Work) -> bool
     }
 }
 
-/// Whether none of the texts of a step is evaluated, nor of those of the variables that it sees.
-fn is_own_step(at: &SeenLeg, step: &StepPlan) -> bool
-    ensures { result ≡ true → IsOwnStep (leg_seen at.now) step.now }
+/// Whether none of the texts of a step but its condition is evaluated, nor of those of the variables that it sees.
+fn has_own_texts(at: &SeenLeg, step: &StepPlan) -> bool
+    ensures { result ≡ true
+        → IsOwnStep (leg_seen at.now) (record step.now { condition = None }) }
 {
-    if step.condition.is_some() {
-        return false;
-    }
     if !is_own_env(&at.run_plan.env) || !is_own_env(&at.job_plan.env) {
         return false;
     }
     is_own_env(&step.env) && is_own_work(&step.work)
-}
-
-/// Whether a result is a success.
-fn is_success(how: Outcome) -> bool
-    ensures { result ≡ is_success_of (spec.status_of how) }
-{
-    match how {
-        Outcome::Success => true,
-        Outcome::Failure | Outcome::Cancelled | Outcome::Skipped => false,
-    }
 }
 
 /// Whether there is a call.
@@ -84,8 +72,11 @@ pub fn is_step_called(
     ensures { Gives (λ called. called) result
         (spec.is_called (spec.step_decision number (leg_seen at.now) step.now)) }
 {
-    if is_own_step(at, step) {
-        return Ok(is_success(leg_result_given(alloc, at, anyway)?));
+    if has_own_texts(at, step) {
+        let status = status_of(leg_result_given(alloc, at, anyway)?);
+        if let Some(holds) = holds_anywhere(alloc, &step.condition, status) {
+            return Ok(holds);
+        }
     }
     is_called(step_decision(alloc, number, at, step))
 }
