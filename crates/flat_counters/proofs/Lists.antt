@@ -41,6 +41,12 @@ map-past g [] i at = refl
 map-past g (y ∷ ys) zero at = absurd (no_some y (sym at))
 map-past g (y ∷ ys) (suc i) at = map-past g ys i at
 
+-- where each item stays, nothing is changed
+pub changed-same : {T : Type 0} (xs : List T) (i : ℕ) (f : T → T) → ((x : T) → f x ≡ x) → changed xs i f ≡ xs
+changed-same [] i f same = refl
+changed-same (x ∷ xs) zero f same = ap (λ y. y ∷ xs) (same x)
+changed-same (x ∷ xs) (suc i) f same = changed-cons x xs i f ∙ ap (λ ys. x ∷ ys) (changed-same xs i f same)
+
 -- where there is no item, nothing is changed
 pub changed-none : {T : Type 0} (xs : List T) (i : ℕ) (f : T → T) → slice_get xs i ≡ None → changed xs i f ≡ xs
 changed-none xs i f at = ap (put xs i f) at

@@ -1,5 +1,5 @@
 -- The names on a board after a change.
-use Rattle.std.proofs.Common.{◌≡◌, ℕ, zero, suc, List, [], ◌∷◌, Option, Some, None, map, slice_get, ap, subst, sym, refl, ◌∙◌}
+use Rattle.std.proofs.Common.{◌≡◌, ℕ, zero, suc, List, [], ◌∷◌, Option, Some, None, map, slice_get, subst, sym, refl}
 use Rattle.board_decisions.specs.Numbered.{leg_there}
 use Rattle.board_decisions.specs.Place.{◌>>=◌}
 use Rattle.board_decisions.specs.declared.place.JobPlace.{JobPlace}

@@ -1,5 +1,5 @@
 -- What was changed and is taken back is as it was.
-use Rattle.std.proofs.Common.{◌≡◌, ℕ, zero, suc, ◌+◌, ◌-◌, false, List, [], ◌∷◌, ◌++◌, Option, Some, length, take, slice_get, length-append, ap, sym, refl, ◌∙◌, arith}
+use Rattle.std.proofs.Common.{◌≡◌, ℕ, zero, suc, ◌-◌, false, List, [], ◌∷◌, ◌++◌, Some, length, take, slice_get, length-append, ap, sym, refl, ◌∙◌, arith}
 use Rattle.std.proofs.Math.Seq.{take-append_seam}
 use Rattle.board_decisions.specs.Numbered.{job_there, leg_there}
 use Rattle.board_decisions.specs.Place.{◌>>=◌}

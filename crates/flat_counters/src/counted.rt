@@ -3,7 +3,8 @@
 ghost use Rattle.std.specs.Prelude.{◌≡◌, true, ℕ, None, Some, IfOk, OnOk, OnErr, map, slice_get};
 ghost use Rattle.board_decisions.specs.Numbered.{job_there};
 ghost use Rattle.flat_counters.specs.Changes as spec;
-ghost use Rattle.flat_counters.specs.Counters.{needs_none, needs_there, needs_of as needs_of_runs, tallies_of, tally_of as tally_of_job, tally_there};
+ghost use Rattle.flat_counters.specs.Counters.{moved as moved_of, needs_none, needs_there, needs_of as needs_of_runs, tallies_of, tally_of as tally_of_job, tally_there};
+ghost use Rattle.flat_counters.specs.declared.tally.Tally.{Tally as TallyOf};
 ghost use Rattle.status_table.specs.Change.{with_leg, with_run};
 
 use crate::change::{
@@ -12,7 +13,7 @@ use crate::change::{
 };
 use crate::need::{Need, are_settled, is_settled_at, needs_of, recount};
 use crate::places::leg_places;
-use crate::tally::{Tally, moved, tally_of};
+use crate::tally::{Tally, are_alike, moved, tally_of};
 use crate::undo::{Change, LegBack, RunBack};
 use board_decisions::place::{JobPlace, LegPlace, leg_there};
 use flow_model::laws::needs_point_back;
@@ -172,6 +173,30 @@ pub fn job_of(place: LegPlace) -> JobPlace
     }
 }
 
+/// Counts again after a leg came from a state to another.
+fn recount_leg(
+    settled: bool,
+    was: LegState,
+    is: LegState,
+    board: &Board,
+    tallies: &mut Sequence<Sequence<Tally>>,
+    needs: &mut Sequence<Sequence<Need>>,
+    place: LegPlace,
+)
+    requires tallied { spec.retallied place was is tallies.old ≡ tallies_of board.now }
+    requires settled { ((tally : TallyOf) → moved_of was is tally ≡ tally)
+        → settled ≡ spec.settled_in (slice_get board.now.runs place.run) place.job }
+    ensures tallies { tallies.new ≡ spec.retallied place was is tallies.old }
+    ensures needs { let run = slice_get board.now.runs place.run in
+        needs.new ≡ spec.recounted_if settled (spec.settled_in run place.job) run place.run needs.old }
+{
+    if are_alike(was, is) {
+        return;
+    }
+    retally(tallies, place, was, is);
+    recount_if(settled, board, tallies.as_slice(), needs, job_of(place));
+}
+
 /// How the legs of a job stand that has none.
 fn no_legs() -> Tally
     ensures { result ≡ tally_there None }
@@ -313,18 +338,18 @@ impl Counted {
         ensures board { self.new.board ≡ with_leg self.old.board place (spec.leg_after how) }
         ensures back { board_before result self.new.board ≡ self.old.board }
     {
-        let job = job_of(place);
         let was = state_there(&self.board, place);
-        let settled = is_settled(&self.board, self.tallies.as_slice(), job);
+        let settled = is_settled(&self.board, self.tallies.as_slice(), job_of(place));
         let how = exchange_leg_at(&mut self.board, place, how);
         let is = state_there(&self.board, place);
-        retally(&mut self.tallies, place, was, is);
-        recount_if(
+        recount_leg(
             settled,
+            was,
+            is,
             &self.board,
-            self.tallies.as_slice(),
+            &mut self.tallies,
             &mut self.needs,
-            job,
+            place,
         );
         Change::Leg(LegBack { place, how })
     }
@@ -362,18 +387,18 @@ impl Counted {
         ensures err { OnErr result (self.new.board ≡ self.old.board) }
         ensures back { IfOk result (λ change. board_before change self.new.board ≡ self.old.board) }
     {
-        let job = job_of(place);
         let was = state_there(&self.board, place);
-        let settled = is_settled(&self.board, self.tallies.as_slice(), job);
+        let settled = is_settled(&self.board, self.tallies.as_slice(), job_of(place));
         add_step(&mut self.board, place, worker, done)?;
         let is = state_there(&self.board, place);
-        retally(&mut self.tallies, place, was, is);
-        recount_if(
+        recount_leg(
             settled,
+            was,
+            is,
             &self.board,
-            self.tallies.as_slice(),
+            &mut self.tallies,
             &mut self.needs,
-            job,
+            place,
         );
         Ok(Change::Step(place, was))
     }
@@ -383,18 +408,18 @@ impl Counted {
         ensures plan { self.new.plan ≡ self.old.plan }
         ensures board { self.new.board ≡ with_leg self.old.board place (spec.step_taken state) }
     {
-        let job = job_of(place);
         let was = state_there(&self.board, place);
-        let settled = is_settled(&self.board, self.tallies.as_slice(), job);
+        let settled = is_settled(&self.board, self.tallies.as_slice(), job_of(place));
         take_step_at(alloc, &mut self.board, place, state);
         let is = state_there(&self.board, place);
-        retally(&mut self.tallies, place, was, is);
-        recount_if(
+        recount_leg(
             settled,
+            was,
+            is,
             &self.board,
-            self.tallies.as_slice(),
+            &mut self.tallies,
             &mut self.needs,
-            job,
+            place,
         );
     }
 

@@ -1,7 +1,8 @@
 //! The legs of a job, counted by how they stand.
 
-ghost use Rattle.std.specs.Prelude.{◌≡◌};
+ghost use Rattle.std.specs.Prelude.{◌≡◌, true};
 ghost use Rattle.flat_counters.specs.Counters as spec;
+ghost use Rattle.flat_counters.specs.declared.tally.Tally.{Tally as TallyOf};
 
 use board_decisions::derived::is_failure;
 use flow_model::{Job, Leg, LegState};
@@ -102,6 +103,13 @@ fn turned_by(counter: Counter, all: usize, count: usize, was: LegState, is: LegS
     ensures { result ≡ spec.turned all count (spec.counts counter was) (spec.counts counter is) }
 {
     turned(all, count, counts(counter, was), counts(counter, is))
+}
+
+/// Whether a leg is counted alike in two states: it runs in both.
+pub(crate) fn are_alike(was: LegState, is: LegState) -> bool
+    ensures { (tally : TallyOf) → result ≡ true → spec.moved was is tally ≡ tally }
+{
+    matches!(was, LegState::Running { .. }) && matches!(is, LegState::Running { .. })
 }
 
 /// The counts where one leg came from a state to another.
