@@ -8,21 +8,22 @@ use Rattle.board_causes.specs.declared.question.Question.{Question}
 use Rattle.board_causes.specs.declared.question.Question.TheVariants as question
 use Rattle.board_causes.specs.declared.sought.Sought.{Sought}
 use Rattle.board_causes.specs.declared.sought.Sought.TheVariants as sought
+use Rattle.board_facts.specs.Ancestors.{first_unsuccessful}
+use Rattle.board_facts.specs.declared.fact.JobFact.{JobFact}
+use Rattle.board_facts.specs.declared.fact.JobFact.TheVariants as job_fact
+use Rattle.board_facts.specs.declared.fact.MemberFact.{MemberFact}
+use Rattle.board_facts.specs.declared.fact.MemberFact.TheVariants as member_fact
+use Rattle.board_facts.specs.declared.fact.StepFact.{StepFact}
+use Rattle.board_facts.specs.declared.fact.StepFact.TheVariants as step_fact
+use Rattle.board_facts.specs.declared.fact.StopCause.{StopCause}
+use Rattle.board_facts.specs.declared.fact.StopCause.TheVariants as stop_cause
+use Rattle.board_facts.specs.declared.notes.JobNote.{JobNote}
+use Rattle.board_facts.specs.declared.notes.JobNotes.{JobNotes}
+use Rattle.board_facts.specs.declared.notes.LegNotes.{LegNotes}
+use Rattle.board_facts.specs.declared.notes.MemberNote.{MemberNote}
+use Rattle.board_facts.specs.declared.notes.RunNotes.{RunNotes}
+use Rattle.board_facts.specs.declared.notes.StepNote.{StepNote}
 use Rattle.board_notes.specs.Account.{Account}
-use Rattle.board_notes.specs.declared.fact.JobFact.{JobFact}
-use Rattle.board_notes.specs.declared.fact.JobFact.TheVariants as job_fact
-use Rattle.board_notes.specs.declared.fact.MemberFact.{MemberFact}
-use Rattle.board_notes.specs.declared.fact.MemberFact.TheVariants as member_fact
-use Rattle.board_notes.specs.declared.fact.StepFact.{StepFact}
-use Rattle.board_notes.specs.declared.fact.StepFact.TheVariants as step_fact
-use Rattle.board_notes.specs.declared.fact.StopCause.{StopCause}
-use Rattle.board_notes.specs.declared.fact.StopCause.TheVariants as stop_cause
-use Rattle.board_notes.specs.declared.notes.JobNote.{JobNote}
-use Rattle.board_notes.specs.declared.notes.JobNotes.{JobNotes}
-use Rattle.board_notes.specs.declared.notes.LegNotes.{LegNotes}
-use Rattle.board_notes.specs.declared.notes.MemberNote.{MemberNote}
-use Rattle.board_notes.specs.declared.notes.RunNotes.{RunNotes}
-use Rattle.board_notes.specs.declared.notes.StepNote.{StepNote}
 use Rattle.flow_model.specs.declared.board.DoneStep.{DoneStep}
 use Rattle.flow_model.specs.declared.board.Job.{Job}
 use Rattle.flow_model.specs.declared.board.JobState.{JobState}
@@ -36,7 +37,6 @@ use Rattle.flow_model.specs.declared.event.Member.TheVariants as member
 use Rattle.flow_model.specs.declared.event.Outcome.{Outcome}
 use Rattle.flow_model.specs.declared.event.Outcome.TheVariants as outcome
 use Rattle.flow_model.specs.declared.plan.JobPlan.{JobPlan}
-use Rattle.status_table.specs.Change.{changed}
 use Rattle.status_table.specs.Groups.{first_place}
 
 -- ---- what is noted
@@ -171,45 +171,9 @@ needs_asked first run (need ∷ needs) =
     if holds_at (map (job_has_ended run) run.jobs) (need - first) then needs_asked first run needs
     else question.Job need ∷ needs_asked first run needs
 
--- places that are marked, where there are such
-abbrev pub marked : ℕ → List Bool → List ℕ → List Bool
-marked first marks [] = marks
-marked first marks (need ∷ needs) = marked first (changed marks (need - first) (λ mark. true)) needs
-
--- the needs of the job at a place are marked
-abbrev pub needs_marked : ℕ → List Bool → Option JobPlan → List Bool
-needs_marked first marks None = marks
-needs_marked first marks (Some job) = marked first marks job.needs
-
--- whether the job at a place had success
-abbrev pub succeeded_at : Run → ℕ → Bool
-succeeded_at run k = holds_at (map (λ job. is_success (job_result run job)) run.jobs) k
-
--- the job at a place, where it is marked and had no success
-abbrev pub asked_at : ℕ → Run → List Bool → ℕ → List Question
-asked_at first run marks k =
-    if holds_at marks k && not (succeeded_at run k) then question.Job (first + k) ∷ [] else []
-
--- one that is marked and had success hands its mark on to what it needs
-abbrev pub marks_after : ℕ → List JobPlan → Run → List Bool → ℕ → List Bool
-marks_after first jobs run marks k =
-    if holds_at marks k && succeeded_at run k then needs_marked first marks (slice_get jobs k) else marks
-
--- Of the first so many jobs those that are marked and had no success, the last first, where marks are handed on: these
--- are the ancestors without success that are met first.
-abbrev pub unsuccessful : ℕ → List JobPlan → Run → ℕ → List Bool → List Question
-unsuccessful first jobs run zero marks = []
-unsuccessful first jobs run (suc k) marks =
-    asked_at first run marks k ++ unsuccessful first jobs run k (marks_after first jobs run marks k)
-
--- a mark for each place, none of them set
-abbrev pub unmarked : List JobPlan → List Bool
-unmarked jobs = replicate (length jobs) false
-
 -- the ancestors of a job that had no success and are met first
 abbrev pub unsuccessful_asked : ℕ → JobAt → List Question
-unsuccessful_asked first at =
-    unsuccessful first at.run_plan.jobs at.run at.place.job (marked first (unmarked at.run_plan.jobs) at.plan.needs)
+unsuccessful_asked first at = map question.Job (first_unsuccessful first at)
 
 -- by what became of a job that was shut
 abbrev pub shut_asked : ℕ → JobAt → Option JobNote → List Question

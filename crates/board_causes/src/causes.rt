@@ -7,19 +7,19 @@ ghost use Rattle.board_decisions.specs.Contexts as contexts;
 ghost use Rattle.board_decisions.specs.Derived as derived;
 ghost use Rattle.board_decisions.specs.Place.{job_at, leg_at, run_at};
 ghost use Rattle.board_decisions.specs.Seen.{job_seen, leg_seen, run_seen};
+ghost use Rattle.board_facts.specs.Adds.{Adds};
 ghost use Rattle.board_notes.specs.Account.{account_seen};
-ghost use Rattle.board_notes.specs.Adds.{Adds};
 
-use crate::ancestors::add_unsuccessful;
 use crate::numbers::next_number;
 use crate::question::{Question, about};
 use crate::sought::{Sought, job_sought, leg_sought, opened_sought};
 use board_decisions::derived::{is_full, job_has_ended};
 use board_decisions::place::{SeenJob, SeenLeg, SeenRun, find_job, find_leg, find_run, item_at};
+use board_facts::ancestors;
+use board_facts::fact::{JobFact, MemberFact, StepFact, StopCause};
+use board_facts::failures::first_failure;
+use board_facts::notes::{JobNote, JobNotes, LegNotes, MemberNote, RunNotes, StepNote};
 use board_notes::account::SeenAccount;
-use board_notes::fact::{JobFact, MemberFact, StepFact, StopCause};
-use board_notes::failures::first_failure;
-use board_notes::notes::{JobNote, JobNotes, LegNotes, MemberNote, RunNotes, StepNote};
 use flow_model::{DoneStep, JobPlan, JobState, Leg, LegState, Member, Outcome, Run, RunState};
 use std::alloc::{AllocError, Global};
 
@@ -273,6 +273,32 @@ pub fn job_last(notes: Option<&JobNotes>) -> Option<JobNote>
         Some(notes) => notes.last,
         None => None,
     }
+}
+
+/// Adds jobs by their numbers.
+fn add_numbered(out: &mut Vec<Question>, numbers: &[u64]) -> Result<(), AllocError>
+    ensures { OnOk result
+        (Adds out.old.items out.new.items (map Question.Job numbers.now)) }
+{
+    for number in numbers {
+        out.push(Question::Job(*number))?;
+    }
+    Ok(())
+}
+
+/// Adds the ancestors of a job that had no success and are met first.
+fn add_unsuccessful(
+    alloc: Global,
+    out: &mut Vec<Question>,
+    first: u64,
+    at: &SeenJob,
+) -> Result<(), AllocError>
+    ensures { OnOk result (Adds out.old.items out.new.items
+        (spec.unsuccessful_asked first (job_seen at.now))) }
+{
+    let mut numbers = Vec::new(alloc);
+    ancestors::add_unsuccessful(alloc, &mut numbers, first, at)?;
+    add_numbered(out, numbers.as_slice())
 }
 
 /// Adds what made a job so that was shut.

@@ -3,8 +3,8 @@
 ghost use Rattle.std.specs.Prelude.{◌≡◌, ◌++◌, ◌∷◌, [], IfOk, MatchOption, OnOk, replicate, reverse, false};
 ghost use Rattle.board_causes.specs.Tree as spec;
 ghost use Rattle.board_decisions.specs.Derived.{holds_at};
+ghost use Rattle.board_facts.specs.Adds.{Adds};
 ghost use Rattle.board_notes.specs.Account.{account_seen};
-ghost use Rattle.board_notes.specs.Adds.{Adds};
 
 use crate::causes::add_causes;
 use crate::numbers::next_number;

@@ -1,7 +1,7 @@
 -- One entry more of an account.
 use Rattle.std.proofs.Common.{◌≡◌, ℕ, suc, List, [], ◌∷◌, Option, Some, None, Ok, Err, ap}
+use Rattle.board_facts.specs.declared.notes.Notes.{Notes}
 use Rattle.board_notes.specs.Account.{Account, account_from, entry_noted, then_account}
-use Rattle.board_notes.specs.declared.notes.Notes.{Notes}
 use Rattle.flow_model.specs.declared.board.Board.{Board}
 use Rattle.flow_model.specs.declared.event.Entry.{Entry}
 use Rattle.flow_model.specs.declared.plan.Plan.{Plan}

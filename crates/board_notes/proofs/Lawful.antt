@@ -2,12 +2,13 @@
 use Rattle.std.proofs.Common.{◌≡◌, ℕ, suc, ◌-◌, ◌&&◌, ◌||◌, Bool, true, false, List, [], ◌∷◌, Option, Some, None, Result, Ok, Err, refl, sym, ap, ◌∙◌, if◌then◌else◌, cond}
 use Rattle.board_decisions.specs.Decisions.{job_condition, stops_anyway}
 use Rattle.board_decisions.specs.Derived.{job_status, needs_have_ended}
+use Rattle.board_facts.specs.Stops.{failed_of, first_failed, stop_by}
+use Rattle.board_facts.specs.declared.notes.Notes.{Notes}
 use Rattle.board_notes.proofs.Accounts.{board_of}
 use Rattle.board_notes.specs.Account.{Account, account_from, entry_noted, then_account}
-use Rattle.board_notes.specs.Changes.{failed_of, first_failed, judged, judged_under, stop_by}
+use Rattle.board_notes.specs.Changes.{judged, judged_under}
 use Rattle.board_notes.specs.Conditions.{waits_in_vain}
 use Rattle.board_notes.specs.Laws.{AccountsFollowTheTable, CauseHolds, JobsAreJudgedAsTold, StopsAreCaused, judged_to}
-use Rattle.board_notes.specs.declared.notes.Notes.{Notes}
 use Rattle.expr_value.specs.declared.status.Status.{Status}
 use Rattle.flow_model.specs.declared.board.Board.{Board}
 use Rattle.flow_model.specs.declared.board.JobState.{JobState}

@@ -4,14 +4,16 @@ use Rattle.board_decisions.specs.Decisions.{is_stopping, leg_entrance, run_entra
 use Rattle.board_decisions.specs.Derived.{is_closed, is_full, jobs_have_ended, run_result}
 use Rattle.board_decisions.specs.Place.{RunAt, JobAt, LegAt, job_at, leg_at, run_at}
 use Rattle.board_decisions.specs.declared.entrance.Entrance.{Entrance}
+use Rattle.board_facts.specs.Queues as queueing
+use Rattle.board_facts.specs.Stops.{cause_of_stop}
+use Rattle.board_facts.specs.declared.fact.Change.{Change}
+use Rattle.board_facts.specs.declared.fact.Change.TheVariants as change
+use Rattle.board_facts.specs.declared.fact.MemberFact.{MemberFact}
+use Rattle.board_facts.specs.declared.fact.MemberFact.TheVariants as member_fact
+use Rattle.board_facts.specs.declared.fact.Teller.TheVariants as teller
 use Rattle.board_notes.specs.Changes as causes
 use Rattle.board_notes.specs.Changes.{changes}
 use Rattle.board_notes.specs.Laws.{ChangesNameWhomTheRowNames, NameTheSame, admits, loses, or_else, when}
-use Rattle.board_notes.specs.declared.fact.Change.{Change}
-use Rattle.board_notes.specs.declared.fact.Change.TheVariants as change
-use Rattle.board_notes.specs.declared.fact.MemberFact.{MemberFact}
-use Rattle.board_notes.specs.declared.fact.MemberFact.TheVariants as member_fact
-use Rattle.board_notes.specs.declared.fact.Teller.TheVariants as teller
 use Rattle.flow_model.specs.declared.board.Board.{Board}
 use Rattle.flow_model.specs.declared.board.DoneStep.{DoneStep}
 use Rattle.flow_model.specs.declared.board.JobState.{JobState}
@@ -49,7 +51,7 @@ of_reply cs r new reply h named = subst (λ (x : Reply). NameTheSame cs x) (ap r
 -- ---- entering
 
 queued : (m holds : Member) (cancel : Bool) (waited : Option Member)
-    → NameTheSame (change.Member m (member_fact.Waits holds) ∷ (causes.displaces m waited ++ causes.tells m cancel holds)) (told None waited (stop_told cancel holds))
+    → NameTheSame (change.Member m (member_fact.Waits holds) ∷ (queueing.displaces m waited ++ queueing.tells m cancel holds)) (told None waited (stop_told cancel holds))
 queued m holds false None = record { admitted = refl; displaced = refl; stopped = refl }
 queued m holds true None = record { admitted = refl; displaced = refl; stopped = refl }
 queued m holds false (Some w) = record { admitted = refl; displaced = refl; stopped = refl }
@@ -60,7 +62,7 @@ held : (b : Board) (m : Member) (own : Option ℕ) (group : Entrance) (holds wai
 held b m own group None waited = record { admitted = refl; displaced = refl; stopped = refl }
 held b m own group (Some h) waited = step (is_own own h)
   where
-    step : (c : Bool) → NameTheSame (if c then change.Member m member_fact.OwnRun ∷ [] else causes.queues m group h waited)
+    step : (c : Bool) → NameTheSame (if c then change.Member m member_fact.OwnRun ∷ [] else queueing.queues m group h waited)
         ((if c then (groups.cancelled b m, moved) else groups.queued b m group h waited).1)
     step true = record { admitted = refl; displaced = refl; stopped = refl }
     step false = queued m h group.cancel waited
@@ -131,7 +133,7 @@ dropped b new l (Some at) reply h = guarded (may_drop at) (is_stopping at) h
     guarded false stopping k = cc
     guarded true true k =
         of_reply _ _ new reply k
-        (left (member.Leg l) (member_fact.Stopped (causes.cause_of_stop l at)) (next_after b (leg_standing at.leg)) refl refl)
+        (left (member.Leg l) (member_fact.Stopped (cause_of_stop l at)) (next_after b (leg_standing at.leg)) refl refl)
     guarded true false k = cc
 
 -- how a leg ends whose steps are done names nobody

@@ -1,9 +1,9 @@
 -- What a record leaves: the board after its entries, and what is noted of all that its plan has.
 use Rattle.std.specs.Prelude.{◌≡◌, ℕ, suc, false, List, [], ◌∷◌, Option, Some, None, Result, Ok, Err}
+use Rattle.board_facts.specs.Notes.{all_noted, new_notes}
+use Rattle.board_facts.specs.declared.notes.Notes.{Notes}
 use Rattle.board_notes.specs.Changes.{changes}
-use Rattle.board_notes.specs.Notes.{all_noted, new_notes}
 use Rattle.board_notes.specs.declared.account.SeenAccount.{SeenAccount}
-use Rattle.board_notes.specs.declared.notes.Notes.{Notes}
 use Rattle.flow_model.specs.declared.board.Board.{Board}
 use Rattle.flow_model.specs.declared.event.Entry.{Entry}
 use Rattle.flow_model.specs.declared.plan.Plan.{Plan}

@@ -1,25 +1,24 @@
 -- What an accepted entry makes so, and by what: each case names who and what the row of its event looks at, by the
 -- definitions with which the row decides.
-use Rattle.std.specs.Prelude.{ℕ, ◌-◌, ◌++◌, ◌&&◌, Bool, true, false, nat_le, List, [], ◌∷◌, Option, Some, None, Result, Ok, Err, slice_get, if◌then◌else◌}
+use Rattle.std.specs.Prelude.{ℕ, Bool, true, false, List, [], ◌∷◌, Option, Some, None, Result, Ok, Err, if◌then◌else◌}
 use Rattle.board_decisions.specs.Decisions.{job_condition, is_stopping, leg_result, leg_status, step_decision, run_entrance, leg_entrance}
-use Rattle.board_decisions.specs.Derived.{has_failed, is_failure, job_status, run_result}
+use Rattle.board_decisions.specs.Derived.{is_failure, job_status, run_result}
 use Rattle.board_decisions.specs.Place.{RunAt, JobAt, LegAt, run_at, job_at, leg_at}
 use Rattle.board_decisions.specs.declared.entrance.Entrance.{Entrance}
+use Rattle.board_facts.specs.Queues.{queues}
+use Rattle.board_facts.specs.Stops.{cause_of_stop}
+use Rattle.board_facts.specs.declared.fact.Change.{Change}
+use Rattle.board_facts.specs.declared.fact.Change.TheVariants as change
+use Rattle.board_facts.specs.declared.fact.JobFact.{JobFact}
+use Rattle.board_facts.specs.declared.fact.JobFact.TheVariants as job_fact
+use Rattle.board_facts.specs.declared.fact.MemberFact.{MemberFact}
+use Rattle.board_facts.specs.declared.fact.MemberFact.TheVariants as member_fact
+use Rattle.board_facts.specs.declared.fact.StepFact.{StepFact}
+use Rattle.board_facts.specs.declared.fact.StepFact.TheVariants as step_fact
+use Rattle.board_facts.specs.declared.fact.Teller.TheVariants as teller
 use Rattle.board_notes.specs.Conditions.{faulted_text, waits_in_vain}
-use Rattle.board_notes.specs.declared.fact.Change.{Change}
-use Rattle.board_notes.specs.declared.fact.Change.TheVariants as change
-use Rattle.board_notes.specs.declared.fact.JobFact.{JobFact}
-use Rattle.board_notes.specs.declared.fact.JobFact.TheVariants as job_fact
-use Rattle.board_notes.specs.declared.fact.MemberFact.{MemberFact}
-use Rattle.board_notes.specs.declared.fact.MemberFact.TheVariants as member_fact
-use Rattle.board_notes.specs.declared.fact.StepFact.{StepFact}
-use Rattle.board_notes.specs.declared.fact.StepFact.TheVariants as step_fact
-use Rattle.board_notes.specs.declared.fact.StopCause.{StopCause}
-use Rattle.board_notes.specs.declared.fact.StopCause.TheVariants as stop_cause
-use Rattle.board_notes.specs.declared.fact.Teller.TheVariants as teller
 use Rattle.expr_value.specs.declared.status.Status.{Status}
 use Rattle.flow_model.specs.declared.board.Board.{Board}
-use Rattle.flow_model.specs.declared.board.Leg.{Leg}
 use Rattle.flow_model.specs.declared.board.Run.{Run}
 use Rattle.flow_model.specs.declared.board.RunState.{RunState}
 use Rattle.flow_model.specs.declared.board.RunState.TheVariants as run_state
@@ -38,52 +37,9 @@ use Rattle.flow_model.specs.declared.reply.ValueFault.{ValueFault}
 use Rattle.status_table.specs.Groups.{first_place, holder, is_own, leg_standing, next_after, run_standing, waiter}
 use Rattle.status_table.specs.Row.{first_of, next_step}
 
--- ---- why a leg is to stop, in the order in which it is asked
-
--- whether there is such a leg, and it failed
-abbrev pub failed_there : Option Leg → Bool
-failed_there None = false
-failed_there (Some leg) = has_failed leg.state
-
--- whether the leg with a number is one of a job's, of which the first has the number `first`, and failed
-abbrev pub failed_of : ℕ → List Leg → ℕ → Bool
-failed_of first legs l = nat_le first l && failed_there (slice_get legs (l - first))
-
--- the first of a job's legs that failed, of the legs in the order in which they ended
-abbrev pub first_failed : ℕ → List Leg → List ℕ → Option ℕ
-first_failed first legs [] = None
-first_failed first legs (l ∷ ends) = if failed_of first legs l then Some l else first_failed first legs ends
-
--- by whether the leg was told to, whether its job fails fast, and the first leg of it that failed
-abbrev pub stop_by : Bool → Bool → Option ℕ → StopCause
-stop_by true fast failed = stop_cause.Told
-stop_by false true (Some l) = stop_cause.FailFast l
-stop_by false true None = stop_cause.RunTold
-stop_by false false failed = stop_cause.RunTold
-
--- why the leg with a number is to stop, where it is
-abbrev pub cause_of_stop : ℕ → LegAt → StopCause
-cause_of_stop l at =
-    stop_by at.leg.stop at.job_plan.fail_fast (first_failed (l - at.place.leg) at.job.legs at.board.ends)
-
 -- ---- Open and Ask: a member enters its group
 
--- who waited, if somebody did, lost its place to a member
-abbrev pub displaces : Member → Option Member → List Change
-displaces m None = []
-displaces m (Some waited) = change.Member waited (member_fact.Displaced m) ∷ []
-
--- the holder is told to stop by a member, where that is wanted
-abbrev pub tells : Member → Bool → Member → List Change
-tells m false holds = []
-tells m true holds = change.Stop holds (teller.Newer m) ∷ []
-
--- what a member makes so that has to wait
-abbrev pub queues : Member → Entrance → Member → Option Member → List Change
-queues m group holds waited =
-    change.Member m (member_fact.Waits holds) ∷ (displaces m waited ++ tells m group.cancel holds)
-
--- the same of one that enters a group, by who holds its name and who waits for it
+-- what a member makes so that enters a group, by who holds its name and who waits for it
 abbrev pub enters_held : Member → Option ℕ → Entrance → Option Member → Option Member → List Change
 enters_held m own group None waited = change.Member m member_fact.Admitted ∷ []
 enters_held m own group (Some holds) waited =

@@ -2,8 +2,8 @@
 use Rattle.std.specs.Prelude.{ℕ, ◌&&◌, Bool, true, false, not, List, Option, Some, None, Result, Ok, Err}
 use Rattle.board_decisions.specs.Decisions.{flow_env, job_env_over, leg_status, seen_from, set_over, then_value}
 use Rattle.board_decisions.specs.Place.{LegAt}
-use Rattle.board_notes.specs.declared.fact.StepText.{StepText}
-use Rattle.board_notes.specs.declared.fact.StepText.TheVariants as step_text
+use Rattle.board_facts.specs.declared.fact.StepText.{StepText}
+use Rattle.board_facts.specs.declared.fact.StepText.TheVariants as step_text
 use Rattle.expr_reader.specs.Accepts.{condition_read}
 use Rattle.expr_reader.specs.Template.{Piece, names_status}
 use Rattle.expr_value.specs.Functions.{is_success}

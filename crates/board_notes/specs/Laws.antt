@@ -3,18 +3,19 @@ use Rattle.std.specs.Prelude.{◌≡◌, ℕ, ◌-◌, Bool, true, false, List, 
 use Rattle.board_decisions.specs.Decisions.{is_stopping, stops_anyway}
 use Rattle.board_decisions.specs.Derived.{job_status}
 use Rattle.board_decisions.specs.Place.{JobAt, LegAt}
+use Rattle.board_facts.specs.Stops.{cause_of_stop, failed_of}
+use Rattle.board_facts.specs.declared.fact.Change.{Change}
+use Rattle.board_facts.specs.declared.fact.Change.TheVariants as change
+use Rattle.board_facts.specs.declared.fact.JobFact.{JobFact}
+use Rattle.board_facts.specs.declared.fact.JobFact.TheVariants as job_fact
+use Rattle.board_facts.specs.declared.fact.MemberFact.{MemberFact}
+use Rattle.board_facts.specs.declared.fact.MemberFact.TheVariants as member_fact
+use Rattle.board_facts.specs.declared.fact.StopCause.{StopCause}
+use Rattle.board_facts.specs.declared.fact.StopCause.TheVariants as stop_cause
+use Rattle.board_facts.specs.declared.fact.Teller.{Teller}
+use Rattle.board_facts.specs.declared.fact.Teller.TheVariants as teller
 use Rattle.board_notes.specs.Account.{Account, account_of}
-use Rattle.board_notes.specs.Changes.{cause_of_stop, changes, failed_of, judged_under}
-use Rattle.board_notes.specs.declared.fact.Change.{Change}
-use Rattle.board_notes.specs.declared.fact.Change.TheVariants as change
-use Rattle.board_notes.specs.declared.fact.JobFact.{JobFact}
-use Rattle.board_notes.specs.declared.fact.JobFact.TheVariants as job_fact
-use Rattle.board_notes.specs.declared.fact.MemberFact.{MemberFact}
-use Rattle.board_notes.specs.declared.fact.MemberFact.TheVariants as member_fact
-use Rattle.board_notes.specs.declared.fact.StopCause.{StopCause}
-use Rattle.board_notes.specs.declared.fact.StopCause.TheVariants as stop_cause
-use Rattle.board_notes.specs.declared.fact.Teller.{Teller}
-use Rattle.board_notes.specs.declared.fact.Teller.TheVariants as teller
+use Rattle.board_notes.specs.Changes.{changes, judged_under}
 use Rattle.flow_model.specs.declared.board.Board.{Board}
 use Rattle.flow_model.specs.declared.board.JobState.{JobState}
 use Rattle.flow_model.specs.declared.board.JobState.TheVariants as job_state

@@ -9,7 +9,7 @@ ghost use Rattle.board_decisions.specs.Place.{job_at, leg_at, run_at};
 ghost use Rattle.board_decisions.specs.Seen.{job_seen, leg_seen, run_seen};
 ghost use Rattle.board_decisions.specs.Ancestors.{StandsAfterNeeds};
 ghost use Rattle.board_decisions.specs.declared.entrance.Entrance.{Entrance as EntranceOf};
-ghost use Rattle.board_notes.specs.Adds.{Adds};
+ghost use Rattle.board_facts.specs.Adds.{Adds};
 ghost use Rattle.board_notes.specs.Changes as spec;
 ghost use Rattle.board_notes.specs.Conditions as causes;
 ghost use Rattle.expr_value.specs.Answer.{Gives};
@@ -21,9 +21,6 @@ ghost use Rattle.status_table.specs.Row as row;
 ghost use Rattle.status_table.specs.Shape.{HasFewLegs};
 
 use crate::conditions::waits_in_vain;
-use crate::fact::{Change, JobFact, MemberFact, StepFact, Teller};
-use crate::failures::first_failure;
-use crate::stopping::cause_of_stop;
 use crate::texts::{faulted_text, leg_status};
 use board_decisions::ancestors::job_status;
 use board_decisions::decisions::{
@@ -32,6 +29,10 @@ use board_decisions::decisions::{
 use board_decisions::derived::run_result;
 use board_decisions::entrance::Entrance;
 use board_decisions::place::{SeenJob, SeenLeg, SeenRun, find_job, find_leg, find_run, item_at};
+use board_facts::fact::{Change, JobFact, MemberFact, StepFact, Teller};
+use board_facts::failures::first_failure;
+use board_facts::queueing::{add_fact, add_queued};
+use board_facts::stopping::cause_of_stop;
 use expr_value::Status;
 use flow_model::{
     Answer, Board, Event, Member, Outcome, Plan, Run, RunState, StepCall, StepPlan, ValueFault,
@@ -39,14 +40,6 @@ use flow_model::{
 use status_table::groups::{is_own, next_after_leg, next_after_run};
 use status_table::members::{Role, find_member};
 use std::alloc::{AllocError, Global};
-
-/// Adds what became of a member.
-fn add_fact(out: &mut Vec<Change>, who: Member, fact: MemberFact) -> Result<(), AllocError>
-    ensures { OnOk result (Adds out.old.items out.new.items (Change.Member who fact ∷ [])) }
-{
-    out.push(Change::Member { who, fact })?;
-    Ok(())
-}
 
 // ---- Open and Ask
 
@@ -64,54 +57,6 @@ fn waiter(board: &Board, name: &str) -> Option<Member>
     ensures { result ≡ groups.waiter board.now name.now }
 {
     find_member(board, Role::Waiter, name)
-}
-
-/// Adds that who waited lost its place to a member, if somebody waited.
-fn add_displaced(
-    out: &mut Vec<Change>,
-    who: Member,
-    waited: Option<Member>,
-) -> Result<(), AllocError>
-    ensures { OnOk result (Adds out.old.items out.new.items (spec.displaces who waited)) }
-{
-    match waited {
-        Some(waited) => add_fact(out, waited, MemberFact::Displaced(who)),
-        None => Ok(()),
-    }
-}
-
-/// Adds that a member tells the holder to stop, where that is wanted.
-fn add_told(
-    out: &mut Vec<Change>,
-    who: Member,
-    wanted: bool,
-    holds: Member,
-) -> Result<(), AllocError>
-    ensures { OnOk result (Adds out.old.items out.new.items (spec.tells who wanted holds)) }
-{
-    if wanted {
-        out.push(Change::Stop {
-            who: holds,
-            teller: Teller::Newer(who),
-        })?;
-    }
-    Ok(())
-}
-
-/// Adds what a member makes so that has to wait.
-fn add_queued(
-    out: &mut Vec<Change>,
-    who: Member,
-    group: &Entrance,
-    holds: Member,
-    waited: Option<Member>,
-) -> Result<(), AllocError>
-    ensures { OnOk result
-        (Adds out.old.items out.new.items (spec.queues who group.now holds waited)) }
-{
-    add_fact(out, who, MemberFact::Waits(holds))?;
-    add_displaced(out, who, waited)?;
-    add_told(out, who, group.cancel, holds)
 }
 
 /// Adds what a member makes so that enters a group which somebody holds.

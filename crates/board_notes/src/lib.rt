@@ -4,17 +4,14 @@
 //! what an entry makes so is defined in `specs/Changes`, on the board before it and by the definitions with which the row
 //! of its event decides; `laws` has what holds of that.
 //!
-//! The crate stands on `flow_model`, on `board_decisions` and `text_values` for what texts decide, on `expr_reader` and
-//! `expr_value` for what these speak of, on `status_table` for the table, and on `flat_board`, which plays.
+//! The crate stands on `board_facts` for the facts, their causes and what is noted of them, on `flow_model`, on
+//! `board_decisions` and `text_values` for what texts decide, on `expr_reader` and `expr_value` for what these speak of, on
+//! `status_table` for the table, and on `flat_board`, which plays.
 
 #![tactic(auto)]
 
 pub mod account;
 mod changes;
 mod conditions;
-pub mod fact;
-pub mod failures;
 pub mod laws;
-pub mod notes;
-mod stopping;
 mod texts;

@@ -10,9 +10,9 @@ ghost use Rattle.text_values.specs.Texts.{condition_value};
 ghost use Rattle.text_values.specs.Values.{contexts_at, with_env};
 ghost use Rattle.text_values.specs.declared.place.Place.TheVariants as place;
 
-use crate::fact::StepText;
 use board_decisions::decisions::leg_result;
 use board_decisions::place::SeenLeg;
+use board_facts::fact::StepText;
 use expr_value::Status;
 use flow_model::{Mapping, Outcome, StepPlan, Text, ValueFault};
 use std::alloc::{AllocError, Global};

@@ -5,22 +5,22 @@ use Rattle.std.proofs.lemmas.List.{map-append}
 use Rattle.std.proofs.lemmas.Option.{slice_get_within}
 use Rattle.board_decisions.specs.Place.{JobAt, LegAt, job_at, leg_place}
 use Rattle.board_decisions.specs.declared.place.LegPlace.{LegPlace}
+use Rattle.board_facts.specs.Notes as spec
+use Rattle.board_facts.specs.Notes.{noted}
+use Rattle.board_facts.specs.declared.fact.Change.TheVariants as change
+use Rattle.board_facts.specs.declared.fact.JobFact.{JobFact}
+use Rattle.board_facts.specs.declared.fact.MemberFact.{MemberFact}
+use Rattle.board_facts.specs.declared.fact.MemberFact.TheVariants as member_fact
+use Rattle.board_facts.specs.declared.fact.StepFact.{StepFact}
+use Rattle.board_facts.specs.declared.fact.Teller.{Teller}
+use Rattle.board_facts.specs.declared.notes.JobNotes.{JobNotes}
+use Rattle.board_facts.specs.declared.notes.LegNotes.{LegNotes}
+use Rattle.board_facts.specs.declared.notes.MemberNote.{MemberNote}
+use Rattle.board_facts.specs.declared.notes.Notes.{Notes}
+use Rattle.board_facts.specs.declared.notes.RunNotes.{RunNotes}
+use Rattle.board_facts.specs.declared.notes.StepNote.{StepNote}
+use Rattle.board_facts.specs.declared.notes.StopNote.{StopNote}
 use Rattle.board_notes.specs.Laws.{judged_to}
-use Rattle.board_notes.specs.Notes as spec
-use Rattle.board_notes.specs.Notes.{noted}
-use Rattle.board_notes.specs.declared.fact.Change.TheVariants as change
-use Rattle.board_notes.specs.declared.fact.JobFact.{JobFact}
-use Rattle.board_notes.specs.declared.fact.MemberFact.{MemberFact}
-use Rattle.board_notes.specs.declared.fact.MemberFact.TheVariants as member_fact
-use Rattle.board_notes.specs.declared.fact.StepFact.{StepFact}
-use Rattle.board_notes.specs.declared.fact.Teller.{Teller}
-use Rattle.board_notes.specs.declared.notes.JobNotes.{JobNotes}
-use Rattle.board_notes.specs.declared.notes.LegNotes.{LegNotes}
-use Rattle.board_notes.specs.declared.notes.MemberNote.{MemberNote}
-use Rattle.board_notes.specs.declared.notes.Notes.{Notes}
-use Rattle.board_notes.specs.declared.notes.RunNotes.{RunNotes}
-use Rattle.board_notes.specs.declared.notes.StepNote.{StepNote}
-use Rattle.board_notes.specs.declared.notes.StopNote.{StopNote}
 use Rattle.cause_laws.specs.Agrees.{Agrees, JobAgrees, JobNow, LegAgrees, LegNow, LegStill, RunAgrees}
 use Rattle.cause_laws.specs.Stands.{RunIs, outcome_told}
 use Rattle.flow_model.specs.Numbers.{board_jobs, board_legs}

@@ -8,20 +8,20 @@ use Rattle.board_decisions.specs.Derived.{is_closed, is_failure, job_status, job
 use Rattle.board_decisions.specs.Numbered.{job_there}
 use Rattle.board_decisions.specs.Place.{◌>>=◌, RunAt, JobAt, LegAt, job_at, job_place_from, leg_at, run_at}
 use Rattle.board_decisions.specs.declared.place.JobPlace.{JobPlace}
+use Rattle.board_facts.specs.Notes.{noted}
+use Rattle.board_facts.specs.declared.fact.Change.{Change}
+use Rattle.board_facts.specs.declared.fact.Change.TheVariants as change
+use Rattle.board_facts.specs.declared.fact.JobFact.{JobFact}
+use Rattle.board_facts.specs.declared.fact.JobFact.TheVariants as job_fact
+use Rattle.board_facts.specs.declared.fact.MemberFact.TheVariants as member_fact
+use Rattle.board_facts.specs.declared.fact.StepFact.{StepFact}
+use Rattle.board_facts.specs.declared.fact.StepFact.TheVariants as step_fact
+use Rattle.board_facts.specs.declared.fact.Teller.TheVariants as teller
 use Rattle.board_notes.proofs.Lawful.{jobs_are_judged_as_told}
 use Rattle.board_notes.specs.Changes as causes
 use Rattle.board_notes.specs.Changes.{changes}
 use Rattle.board_notes.specs.Conditions.{waits_in_vain, faulted_text}
 use Rattle.board_notes.specs.Laws.{judged_to}
-use Rattle.board_notes.specs.Notes.{noted}
-use Rattle.board_notes.specs.declared.fact.Change.{Change}
-use Rattle.board_notes.specs.declared.fact.Change.TheVariants as change
-use Rattle.board_notes.specs.declared.fact.JobFact.{JobFact}
-use Rattle.board_notes.specs.declared.fact.JobFact.TheVariants as job_fact
-use Rattle.board_notes.specs.declared.fact.MemberFact.TheVariants as member_fact
-use Rattle.board_notes.specs.declared.fact.StepFact.{StepFact}
-use Rattle.board_notes.specs.declared.fact.StepFact.TheVariants as step_fact
-use Rattle.board_notes.specs.declared.fact.Teller.TheVariants as teller
 use Rattle.cause_laws.specs.Agrees.{LegStill}
 use Rattle.cause_laws.specs.Becomes.{Becomes, ChangesBecomeSo}
 use Rattle.cause_laws.specs.Stands.{IsCalled, LegIs, MemberStands, outcome_told}

@@ -1,10 +1,10 @@
 -- What is shown of a row that is accepted.
 use Rattle.std.proofs.Common.{◌≡◌, ℕ, zero, suc, List, [], ◌∷◌, Some, Ok, Err, slice_get, ap, subst}
-use Rattle.board_notes.specs.Notes.{all_noted}
-use Rattle.board_notes.specs.declared.fact.Change.{Change}
-use Rattle.board_notes.specs.declared.fact.Change.TheVariants as change
-use Rattle.board_notes.specs.declared.fact.Teller.{Teller}
-use Rattle.board_notes.specs.declared.notes.Notes.{Notes}
+use Rattle.board_facts.specs.Notes.{all_noted}
+use Rattle.board_facts.specs.declared.fact.Change.{Change}
+use Rattle.board_facts.specs.declared.fact.Change.TheVariants as change
+use Rattle.board_facts.specs.declared.fact.Teller.{Teller}
+use Rattle.board_facts.specs.declared.notes.Notes.{Notes}
 use Rattle.cause_laws.specs.Agrees.{Agrees}
 use Rattle.cause_laws.specs.Becomes.{Becomes}
 use Rattle.cause_laws.specs.Stands.{Has}

@@ -6,14 +6,16 @@ use Rattle.board_decisions.specs.Decisions.{is_stopping, leg_entrance, run_entra
 use Rattle.board_decisions.specs.Derived.{is_fresh, is_full, is_going, is_open, is_untaken}
 use Rattle.board_decisions.specs.Place.{RunAt, LegAt, leg_at, run_at}
 use Rattle.board_decisions.specs.declared.entrance.Entrance.{Entrance}
+use Rattle.board_facts.specs.Notes.{noted}
+use Rattle.board_facts.specs.Queues as queueing
+use Rattle.board_facts.specs.Stops.{cause_of_stop}
+use Rattle.board_facts.specs.declared.fact.Change.TheVariants as change
+use Rattle.board_facts.specs.declared.fact.MemberFact.{MemberFact}
+use Rattle.board_facts.specs.declared.fact.MemberFact.TheVariants as member_fact
+use Rattle.board_facts.specs.declared.fact.Teller.TheVariants as teller
+use Rattle.board_facts.specs.declared.notes.Notes.{Notes}
 use Rattle.board_notes.specs.Changes as causes
 use Rattle.board_notes.specs.Changes.{changes}
-use Rattle.board_notes.specs.Notes.{noted}
-use Rattle.board_notes.specs.declared.fact.Change.TheVariants as change
-use Rattle.board_notes.specs.declared.fact.MemberFact.{MemberFact}
-use Rattle.board_notes.specs.declared.fact.MemberFact.TheVariants as member_fact
-use Rattle.board_notes.specs.declared.fact.Teller.TheVariants as teller
-use Rattle.board_notes.specs.declared.notes.Notes.{Notes}
 use Rattle.cause_laws.specs.Agrees.{Agrees}
 use Rattle.cause_laws.specs.Becomes.{Becomes}
 use Rattle.cause_laws.specs.Stands.{Has, LegIs, MemberStands, RunIs}
@@ -126,7 +128,7 @@ module _ (b : Board) (m : Member) (name : List ℕ) (holds : Member) (out : Outs
   lost_noted w line notes h = displaced_agrees first (noted line notes (change.Member m (member_fact.Waits holds))) w m line (waits_noted line notes h)
 
   queued_so : (waited : Option Member) (cancel : Bool) → ((w : Member) → waited ≡ Some w → Waits b w)
-      → Goes b (third waited cancel) (change.Member m (member_fact.Waits holds) ∷ (causes.displaces m waited ++ causes.tells m cancel holds))
+      → Goes b (third waited cancel) (change.Member m (member_fact.Waits holds) ∷ (queueing.displaces m waited ++ queueing.tells m cancel holds))
   queued_so None false who =
       quietly b (third None false) (change.Member m (member_fact.Waits holds) ∷ []) (only (Becomes b (third None false)) (change.Member m (member_fact.Waits holds)) (itself None false who))
       (calm None) waits_noted
@@ -174,7 +176,7 @@ held_so b m own group None waited is-holder is-waiter asks out = admitted_so b m
 held_so b m own group (Some h) waited is-holder is-waiter asks out = step (is_own own h) refl
   where
     step : (c : Bool) → is_own own h ≡ c
-        → Goes b (if c then (cancelled b m, moved) else groups.queued b m group h waited).0 (if c then change.Member m member_fact.OwnRun ∷ [] else causes.queues m group h waited)
+        → Goes b (if c then (cancelled b m, moved) else groups.queued b m group h waited).0 (if c then change.Member m member_fact.OwnRun ∷ [] else queueing.queues m group h waited)
     step true is = own_so b m own h asks is out
     step false is =
         queued_so b m group.name h out (holder_exists b group.name h is-holder) waited group.cancel (λ w found. waiter_waits b group.name w (is-waiter ∙ found))
@@ -309,9 +311,9 @@ dropped_so p b new l (Some at) reply is h = guarded (table.may_drop at) (is_stop
     guarded true false ready k = cc
     guarded true true ready k =
         led b _ _ new reply k
-        (left_so b (dropped b l outcome.Cancelled) (member.Leg l) (leg_standing at.leg) (member_fact.Stopped (causes.cause_of_stop l at)) (ap (option_map leg_standing) item)
+        (left_so b (dropped b l outcome.Cancelled) (member.Leg l) (leg_standing at.leg) (member_fact.Stopped (cause_of_stop l at)) (ap (option_map leg_standing) item)
         (leg_clash untaken (leg_in (leg_state.Ended outcome.Cancelled false)) b l (λ s told x y. true≢false (sym x ∙ ap is_untaken y))
         (at.leg, item, and-right (is_going at.run.state && is_open at.job.state) (is_untaken at.leg.state) ready))
         (dropped_there any_run any_run b l outcome.Cancelled (at.leg, item, tt))
         (λ w x. cancelled_exists b (member.Leg l) w x) (dropped_quiet b l outcome.Cancelled)
-        (λ line notes a. dropped_agrees b notes l outcome.Cancelled (member_fact.Stopped (causes.cause_of_stop l at)) line refl a))
+        (λ line notes a. dropped_agrees b notes l outcome.Cancelled (member_fact.Stopped (cause_of_stop l at)) line refl a))

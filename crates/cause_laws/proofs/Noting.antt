@@ -4,18 +4,18 @@ use Rattle.std.specs.List.{flat_map, AllZip}
 use Rattle.std.proofs.lemmas.Bool.{true≢false}
 use Rattle.std.proofs.lemmas.List.{append_assoc, append-nil, length-append, map-append}
 use Rattle.std.proofs.lemmas.List.Concat.{flat_map-append}
+use Rattle.board_facts.specs.Notes as spec
+use Rattle.board_facts.specs.Notes.{all_noted, new_leg_notes, new_notes, new_run_notes, noted}
+use Rattle.board_facts.specs.declared.fact.Change.{Change}
+use Rattle.board_facts.specs.declared.fact.Change.TheVariants as change
+use Rattle.board_facts.specs.declared.fact.Teller.{Teller}
+use Rattle.board_facts.specs.declared.notes.LegNotes.{LegNotes}
+use Rattle.board_facts.specs.declared.notes.Notes.{Notes}
+use Rattle.board_facts.specs.declared.notes.RunNotes.{RunNotes}
+use Rattle.board_facts.specs.declared.notes.StepNote.{StepNote}
+use Rattle.board_facts.specs.declared.notes.StopNote.{StopNote}
 use Rattle.board_notes.specs.Account.{Account, account_from, entry_noted, then_account}
 use Rattle.board_notes.specs.Changes.{changes}
-use Rattle.board_notes.specs.Notes as spec
-use Rattle.board_notes.specs.Notes.{all_noted, new_leg_notes, new_notes, new_run_notes, noted}
-use Rattle.board_notes.specs.declared.fact.Change.{Change}
-use Rattle.board_notes.specs.declared.fact.Change.TheVariants as change
-use Rattle.board_notes.specs.declared.fact.Teller.{Teller}
-use Rattle.board_notes.specs.declared.notes.LegNotes.{LegNotes}
-use Rattle.board_notes.specs.declared.notes.Notes.{Notes}
-use Rattle.board_notes.specs.declared.notes.RunNotes.{RunNotes}
-use Rattle.board_notes.specs.declared.notes.StepNote.{StepNote}
-use Rattle.board_notes.specs.declared.notes.StopNote.{StopNote}
 use Rattle.cause_laws.specs.Agrees.{Agrees, JobAgrees, LegAgrees, RunAgrees}
 use Rattle.cause_laws.specs.Made.{IsMade, IsNews, JobHolds, LegHolds, MadeAt, NotesAreMade, RunHolds}
 use Rattle.cause_laws.specs.Stands.{Has, IsTold}

@@ -1,16 +1,16 @@
 -- What is noted of all that a plan has is how it stands on a board.
 use Rattle.std.specs.Prelude.{◌≡◌, ℕ, Bool, map, Option, Some, None, is_some}
 use Rattle.std.specs.List.{AllZip}
+use Rattle.board_facts.specs.declared.fact.MemberFact.{MemberFact}
+use Rattle.board_facts.specs.declared.fact.MemberFact.TheVariants as member_fact
+use Rattle.board_facts.specs.declared.notes.JobNote.{JobNote}
+use Rattle.board_facts.specs.declared.notes.JobNotes.{JobNotes}
+use Rattle.board_facts.specs.declared.notes.LegNotes.{LegNotes}
+use Rattle.board_facts.specs.declared.notes.MemberNote.{MemberNote}
+use Rattle.board_facts.specs.declared.notes.Notes.{Notes}
+use Rattle.board_facts.specs.declared.notes.RunNotes.{RunNotes}
+use Rattle.board_facts.specs.declared.notes.StepNote.{StepNote}
 use Rattle.board_notes.specs.Laws.{judged_to}
-use Rattle.board_notes.specs.declared.fact.MemberFact.{MemberFact}
-use Rattle.board_notes.specs.declared.fact.MemberFact.TheVariants as member_fact
-use Rattle.board_notes.specs.declared.notes.JobNote.{JobNote}
-use Rattle.board_notes.specs.declared.notes.JobNotes.{JobNotes}
-use Rattle.board_notes.specs.declared.notes.LegNotes.{LegNotes}
-use Rattle.board_notes.specs.declared.notes.MemberNote.{MemberNote}
-use Rattle.board_notes.specs.declared.notes.Notes.{Notes}
-use Rattle.board_notes.specs.declared.notes.RunNotes.{RunNotes}
-use Rattle.board_notes.specs.declared.notes.StepNote.{StepNote}
 use Rattle.cause_laws.specs.Stands.{LegIs, RunIs, outcome_told}
 use Rattle.flow_model.specs.Numbers.{board_jobs, board_legs}
 use Rattle.flow_model.specs.declared.board.Board.{Board}

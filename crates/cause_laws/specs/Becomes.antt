@@ -1,11 +1,11 @@
 -- What an accepted entry makes so was not so on the board before it, and is so on the board after it.
 use Rattle.std.specs.Prelude.{◌≡◌, ◌++◌, ℕ, [], ◌∷◌, Some, Ok, slice_get}
+use Rattle.board_facts.specs.declared.fact.Change.{Change}
+use Rattle.board_facts.specs.declared.fact.Change.TheVariants as change
+use Rattle.board_facts.specs.declared.fact.StepFact.{StepFact}
+use Rattle.board_facts.specs.declared.fact.Teller.{Teller}
+use Rattle.board_facts.specs.declared.fact.Teller.TheVariants as teller
 use Rattle.board_notes.specs.Changes.{changes}
-use Rattle.board_notes.specs.declared.fact.Change.{Change}
-use Rattle.board_notes.specs.declared.fact.Change.TheVariants as change
-use Rattle.board_notes.specs.declared.fact.StepFact.{StepFact}
-use Rattle.board_notes.specs.declared.fact.Teller.{Teller}
-use Rattle.board_notes.specs.declared.fact.Teller.TheVariants as teller
 use Rattle.cause_laws.specs.Stands.{IsCalled, IsTold, JobStands, MemberStands, outcome_told}
 use Rattle.flow_model.specs.Numbers.{board_legs}
 use Rattle.flow_model.specs.Sound.{Each}

@@ -1,13 +1,13 @@
 -- What is noted in the account of a record was made so by the entry at the line that is noted, and is so at the end.
 use Rattle.std.specs.Prelude.{◌≡◌, ◌+◌, ◌++◌, ℕ, List, ◌∷◌, length, Some, Ok, IfSome, slice_get}
+use Rattle.board_facts.specs.declared.fact.Change.{Change}
+use Rattle.board_facts.specs.declared.fact.Change.TheVariants as change
+use Rattle.board_facts.specs.declared.notes.JobNotes.{JobNotes}
+use Rattle.board_facts.specs.declared.notes.LegNotes.{LegNotes}
+use Rattle.board_facts.specs.declared.notes.Notes.{Notes}
+use Rattle.board_facts.specs.declared.notes.RunNotes.{RunNotes}
+use Rattle.board_facts.specs.declared.notes.StepNote.{StepNote}
 use Rattle.board_notes.specs.Account.{Account, account_of}
-use Rattle.board_notes.specs.declared.fact.Change.{Change}
-use Rattle.board_notes.specs.declared.fact.Change.TheVariants as change
-use Rattle.board_notes.specs.declared.notes.JobNotes.{JobNotes}
-use Rattle.board_notes.specs.declared.notes.LegNotes.{LegNotes}
-use Rattle.board_notes.specs.declared.notes.Notes.{Notes}
-use Rattle.board_notes.specs.declared.notes.RunNotes.{RunNotes}
-use Rattle.board_notes.specs.declared.notes.StepNote.{StepNote}
 use Rattle.cause_laws.specs.Agrees.{Agrees}
 use Rattle.cause_laws.specs.Becomes.{Becomes}
 use Rattle.cause_laws.specs.Stands.{IsTold}

@@ -1,11 +1,11 @@
 -- Where what became of a run, a job, a leg or a step is so: how it then stands on a board.
 use Rattle.std.specs.Prelude.{◌≡◌, ℕ, pos, negsuc, zero, suc, Bool, true, false, Some, slice_get}
+use Rattle.board_facts.specs.declared.fact.JobFact.{JobFact}
+use Rattle.board_facts.specs.declared.fact.MemberFact.{MemberFact}
+use Rattle.board_facts.specs.declared.fact.MemberFact.TheVariants as member_fact
+use Rattle.board_facts.specs.declared.fact.StepFact.{StepFact}
+use Rattle.board_facts.specs.declared.fact.StepFact.TheVariants as step_fact
 use Rattle.board_notes.specs.Laws.{judged_to}
-use Rattle.board_notes.specs.declared.fact.JobFact.{JobFact}
-use Rattle.board_notes.specs.declared.fact.MemberFact.{MemberFact}
-use Rattle.board_notes.specs.declared.fact.MemberFact.TheVariants as member_fact
-use Rattle.board_notes.specs.declared.fact.StepFact.{StepFact}
-use Rattle.board_notes.specs.declared.fact.StepFact.TheVariants as step_fact
 use Rattle.flow_model.specs.Numbers.{board_jobs, board_legs}
 use Rattle.flow_model.specs.declared.board.Board.{Board}
 use Rattle.flow_model.specs.declared.board.Job.{Job}

@@ -7,25 +7,25 @@ use Rattle.board_causes.specs.declared.question.Question.TheVariants as question
 use Rattle.board_causes.specs.declared.tree.Line.{Line}
 use Rattle.board_decisions.specs.Derived.{job_has_ended, legs_result}
 use Rattle.board_decisions.specs.Place.{RunAt, JobAt, LegAt, run_at, job_at, leg_at}
+use Rattle.board_facts.specs.declared.fact.JobFact.{JobFact}
+use Rattle.board_facts.specs.declared.fact.JobFact.TheVariants as job_fact
+use Rattle.board_facts.specs.declared.fact.MemberFact.{MemberFact}
+use Rattle.board_facts.specs.declared.fact.MemberFact.TheVariants as member_fact
+use Rattle.board_facts.specs.declared.fact.StepFact.{StepFact}
+use Rattle.board_facts.specs.declared.fact.StepFact.TheVariants as step_fact
+use Rattle.board_facts.specs.declared.fact.StepText.{StepText}
+use Rattle.board_facts.specs.declared.fact.StepText.TheVariants as step_text
+use Rattle.board_facts.specs.declared.fact.StopCause.{StopCause}
+use Rattle.board_facts.specs.declared.fact.StopCause.TheVariants as stop_cause
+use Rattle.board_facts.specs.declared.fact.Teller.{Teller}
+use Rattle.board_facts.specs.declared.fact.Teller.TheVariants as teller
+use Rattle.board_facts.specs.declared.notes.JobNote.{JobNote}
+use Rattle.board_facts.specs.declared.notes.LegNotes.{LegNotes}
+use Rattle.board_facts.specs.declared.notes.MemberNote.{MemberNote}
+use Rattle.board_facts.specs.declared.notes.RunNotes.{RunNotes}
+use Rattle.board_facts.specs.declared.notes.StepNote.{StepNote}
+use Rattle.board_facts.specs.declared.notes.StopNote.{StopNote}
 use Rattle.board_notes.specs.Account.{Account}
-use Rattle.board_notes.specs.declared.fact.JobFact.{JobFact}
-use Rattle.board_notes.specs.declared.fact.JobFact.TheVariants as job_fact
-use Rattle.board_notes.specs.declared.fact.MemberFact.{MemberFact}
-use Rattle.board_notes.specs.declared.fact.MemberFact.TheVariants as member_fact
-use Rattle.board_notes.specs.declared.fact.StepFact.{StepFact}
-use Rattle.board_notes.specs.declared.fact.StepFact.TheVariants as step_fact
-use Rattle.board_notes.specs.declared.fact.StepText.{StepText}
-use Rattle.board_notes.specs.declared.fact.StepText.TheVariants as step_text
-use Rattle.board_notes.specs.declared.fact.StopCause.{StopCause}
-use Rattle.board_notes.specs.declared.fact.StopCause.TheVariants as stop_cause
-use Rattle.board_notes.specs.declared.fact.Teller.{Teller}
-use Rattle.board_notes.specs.declared.fact.Teller.TheVariants as teller
-use Rattle.board_notes.specs.declared.notes.JobNote.{JobNote}
-use Rattle.board_notes.specs.declared.notes.LegNotes.{LegNotes}
-use Rattle.board_notes.specs.declared.notes.MemberNote.{MemberNote}
-use Rattle.board_notes.specs.declared.notes.RunNotes.{RunNotes}
-use Rattle.board_notes.specs.declared.notes.StepNote.{StepNote}
-use Rattle.board_notes.specs.declared.notes.StopNote.{StopNote}
 use Rattle.flow_model.specs.Faults.{value_fault_name}
 use Rattle.flow_model.specs.declared.board.DoneStep.{DoneStep}
 use Rattle.flow_model.specs.declared.board.Job.{Job}

@@ -1,10 +1,10 @@
 //! why_command: the command `why`, which answers why something is as it is after a record.
 //!
 //! `why` reads a record to its end, plays it, and writes the tree that answers what is asked, or one line that says why there
-//! is none; it answers an exit status always. The crate stands on `board_notes`, which plays records, and `board_causes`,
-//! which finds what made each fact so, on `board_decisions`, `flow_model` and `expr_value` for what it names, on
-//! `command_io`, which reads, tells and refuses, on `plan_text`, which reads records, on `flat_board` and `status_table`, and
-//! on `itoa`, which prints numbers.
+//! is none; it answers an exit status always. The crate stands on `board_notes`, which plays records, on `board_facts` for what
+//! is noted of them, on `board_causes`, which finds what made each fact so, on `board_decisions`, `flow_model` and `expr_value`
+//! for what it names, on `command_io`, which reads, tells and refuses, on `plan_text`, which reads records, on `flat_board` and
+//! `status_table`, and on `itoa`, which prints numbers.
 
 #![tactic(auto)]
 

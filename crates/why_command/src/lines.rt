@@ -3,8 +3,8 @@
 ghost use Rattle.std.specs.Prelude.{◌≡◌, OnOk};
 ghost use Rattle.std.specs.List.{flat_map};
 ghost use Rattle.std.specs.Option.{option_copied};
+ghost use Rattle.board_facts.specs.Adds.{Adds};
 ghost use Rattle.board_notes.specs.Account.{account_seen};
-ghost use Rattle.board_notes.specs.Adds.{Adds};
 ghost use Rattle.why_command.specs.Words as spec;
 
 use crate::names::{add_job_name, add_leg_name, add_member_name, add_run_name, add_step_name};
@@ -14,9 +14,9 @@ use crate::writing::{add, add_number};
 use board_causes::question::Question;
 use board_causes::tree::Line;
 use board_decisions::place::item_at;
+use board_facts::fact::Teller;
+use board_facts::notes::{LegNotes, RunNotes, StopNote};
 use board_notes::account::SeenAccount;
-use board_notes::fact::Teller;
-use board_notes::notes::{LegNotes, RunNotes, StopNote};
 use flow_model::Member;
 use std::alloc::{AllocError, Global};
 

@@ -6,8 +6,8 @@ ghost use Rattle.std.specs.Option.{option_copied};
 ghost use Rattle.board_decisions.specs.Contexts.{pairs_in};
 ghost use Rattle.board_decisions.specs.Place.{job_at, leg_at, run_at};
 ghost use Rattle.board_decisions.specs.Seen.{leg_seen};
+ghost use Rattle.board_facts.specs.Adds.{Adds};
 ghost use Rattle.board_notes.specs.Account.{account_seen};
-ghost use Rattle.board_notes.specs.Adds.{Adds};
 ghost use Rattle.why_command.specs.Names as spec;
 
 use crate::writing::{add, add_first_line, add_number, add_shown};

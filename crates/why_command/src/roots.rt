@@ -5,8 +5,8 @@ ghost use Rattle.board_causes.specs.Causes.{asked};
 ghost use Rattle.board_causes.specs.Causes as causes;
 ghost use Rattle.board_decisions.specs.Place.{leg_at};
 ghost use Rattle.board_decisions.specs.Derived as derived;
+ghost use Rattle.board_facts.specs.Adds.{Adds};
 ghost use Rattle.board_notes.specs.Account.{account_seen};
-ghost use Rattle.board_notes.specs.Adds.{Adds};
 ghost use Rattle.why_command.specs.Roots as spec;
 
 use board_causes::question::Question;

@@ -1,8 +1,8 @@
 //! What is said of runs, jobs and legs.
 
 ghost use Rattle.std.specs.Prelude.{◌≡◌, ◌++◌, OnOk, codes};
+ghost use Rattle.board_facts.specs.Adds.{Adds};
 ghost use Rattle.board_notes.specs.Account.{account_seen};
-ghost use Rattle.board_notes.specs.Adds.{Adds};
 ghost use Rattle.flow_model.specs.Faults.{value_fault_name};
 ghost use Rattle.why_command.specs.Names as names;
 ghost use Rattle.board_decisions.specs.Place.{job_at, leg_at, run_at};
@@ -14,9 +14,9 @@ use crate::writing::{add, add_number, add_shown};
 use board_causes::causes::{job_last, leg_last, run_last};
 use board_decisions::derived::{job_has_ended, legs_result};
 use board_decisions::place::{SeenJob, SeenLeg, SeenRun, find_job, find_leg, find_run, item_at};
+use board_facts::fact::{JobFact, MemberFact, StopCause};
+use board_facts::notes::{JobNote, MemberNote};
 use board_notes::account::SeenAccount;
-use board_notes::fact::{JobFact, MemberFact, StopCause};
-use board_notes::notes::{JobNote, MemberNote};
 use flow_model::{JobState, LegState, Member, Outcome, Text, ValueFault};
 use std::alloc::{AllocError, Global};
 

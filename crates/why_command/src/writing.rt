@@ -2,7 +2,7 @@
 
 ghost use Rattle.std.specs.Prelude.{◌≡◌, ◌++◌, OnOk, decimal};
 ghost use Rattle.std.specs.List.{flat_map};
-ghost use Rattle.board_notes.specs.Adds.{Adds};
+ghost use Rattle.board_facts.specs.Adds.{Adds};
 ghost use Rattle.why_command.specs.Names as spec;
 
 use itoa::Buffer;

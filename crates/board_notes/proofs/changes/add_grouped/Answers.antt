@@ -1,6 +1,6 @@
 use Rattle.std.proofs.Common.{Option, OnOk, ap, sym, subst, ◌∙◌}
+use Rattle.board_facts.specs.Adds.{Adds}
 use Rattle.board_notes.proofs.changes.add_grouped.Goals as goal
-use Rattle.board_notes.specs.Adds.{Adds}
 use Rattle.board_notes.specs.Changes.{enters_held}
 use Rattle.flow_model.specs.declared.event.Member.{Member}
 use Rattle.status_table.specs.Groups.{holder, waiter}
