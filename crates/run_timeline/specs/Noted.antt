@@ -2,6 +2,7 @@
 -- names.
 use Rattle.std.specs.Prelude.{ℕ, ◌&&◌, Bool, if◌then◌else◌, List, length, Option, Some, None, slice_get}
 use Rattle.std.specs.List.{flat_map}
+use Rattle.board_decisions.specs.Derived.{is_ended}
 use Rattle.board_decisions.specs.Place.{JobAt, LegAt, job_at, leg_at}
 use Rattle.flow_model.specs.declared.board.Board.{Board}
 use Rattle.flow_model.specs.declared.board.Run.{Run}
@@ -13,7 +14,7 @@ use Rattle.flow_model.specs.declared.plan.JobPlan.{JobPlan}
 use Rattle.flow_model.specs.declared.plan.Plan.{Plan}
 use Rattle.flow_model.specs.declared.plan.RunPlan.{RunPlan}
 use Rattle.flow_model.specs.declared.reply.Reply.{Reply}
-use Rattle.run_timeline.specs.Phases.{is_ended, is_over, job_phase, leg_phase, run_phase}
+use Rattle.run_timeline.specs.Phases.{is_over, job_phase, leg_phase, run_phase}
 use Rattle.run_timeline.specs.Rows.{displaced, new_rows, seen, told}
 use Rattle.run_timeline.specs.declared.noted.About.{About}
 use Rattle.run_timeline.specs.declared.noted.About.TheVariants as about

@@ -1,6 +1,7 @@
 -- How runs, jobs and legs of a board stand, each by what the board says of it alone.
-use Rattle.std.specs.Prelude.{ℕ, ◌-◌, Bool, true, false, not, if◌then◌else◌, List, length, Option, Some, None, slice_get}
-use Rattle.std.specs.List.{list_all, list_any}
+use Rattle.std.specs.Prelude.{ℕ, ◌-◌, Bool, true, false, if◌then◌else◌, List, length, Option, Some, None, slice_get}
+use Rattle.std.specs.List.{list_all}
+use Rattle.board_decisions.specs.Derived.{is_ended, legs_result}
 use Rattle.flow_model.specs.declared.board.DoneStep.{DoneStep}
 use Rattle.flow_model.specs.declared.board.Job.{Job}
 use Rattle.flow_model.specs.declared.board.JobState.{JobState}
@@ -10,8 +11,6 @@ use Rattle.flow_model.specs.declared.board.LegState.{LegState}
 use Rattle.flow_model.specs.declared.board.LegState.TheVariants as leg_state
 use Rattle.flow_model.specs.declared.board.RunState.{RunState}
 use Rattle.flow_model.specs.declared.board.RunState.TheVariants as run_state
-use Rattle.flow_model.specs.declared.event.Outcome.{Outcome}
-use Rattle.flow_model.specs.declared.event.Outcome.TheVariants as outcome
 use Rattle.run_timeline.specs.declared.phase.Phase.{Phase}
 use Rattle.run_timeline.specs.declared.phase.Phase.TheVariants.{Fresh, Waiting, Admitted, Going, Taken, Calling, Done, Shut, Ended}
 
@@ -24,36 +23,6 @@ run_phase run_state.Going = Going
 run_phase (run_state.Closed how) = Ended how false
 
 -- ---- legs
-
--- A leg has ended.
-abbrev pub is_ended : LegState → Bool
-is_ended leg_state.Fresh = false
-is_ended leg_state.Waiting = false
-is_ended leg_state.Admitted = false
-is_ended (leg_state.Running worker in_call) = false
-is_ended (leg_state.Ended result tolerated) = true
-
--- A leg ended with a failure that is not tolerated.
-abbrev pub has_failed : LegState → Bool
-has_failed leg_state.Fresh = false
-has_failed leg_state.Waiting = false
-has_failed leg_state.Admitted = false
-has_failed (leg_state.Running worker in_call) = false
-has_failed (leg_state.Ended outcome.Success tolerated) = false
-has_failed (leg_state.Ended outcome.Failure tolerated) = not tolerated
-has_failed (leg_state.Ended outcome.Cancelled tolerated) = false
-has_failed (leg_state.Ended outcome.Skipped tolerated) = false
-
--- A leg ended cancelled.
-abbrev pub was_cancelled : LegState → Bool
-was_cancelled leg_state.Fresh = false
-was_cancelled leg_state.Waiting = false
-was_cancelled leg_state.Admitted = false
-was_cancelled (leg_state.Running worker in_call) = false
-was_cancelled (leg_state.Ended outcome.Success tolerated) = false
-was_cancelled (leg_state.Ended outcome.Failure tolerated) = false
-was_cancelled (leg_state.Ended outcome.Cancelled tolerated) = true
-was_cancelled (leg_state.Ended outcome.Skipped tolerated) = false
 
 -- Between two steps the last step tells, if there is one.
 abbrev pub last_done : ℕ → Option DoneStep → Phase
@@ -77,15 +46,9 @@ leg_phase leg = phase_by leg.state leg.steps
 
 -- ---- jobs
 
--- What legs that have ended come to: a failure that is not tolerated, else a cancellation, else a success.
-abbrev pub legs_outcome : List Leg → Outcome
-legs_outcome legs =
-    if list_any (λ leg. has_failed leg.state) legs then outcome.Failure
-    else (if list_any (λ leg. was_cancelled leg.state) legs then outcome.Cancelled else outcome.Success)
-
--- A job that was opened goes on until all its legs have ended.
+-- A job that was opened goes on until all its legs have ended, and has their result then.
 abbrev pub open_phase : List Leg → Phase
-open_phase legs = if list_all (λ leg. is_ended leg.state) legs then Ended (legs_outcome legs) false else Going
+open_phase legs = if list_all (λ leg. is_ended leg.state) legs then Ended (legs_result legs) false else Going
 
 abbrev pub job_phase_by : JobState → List Leg → Phase
 job_phase_by job_state.Unjudged legs = Fresh

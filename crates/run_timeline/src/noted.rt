@@ -2,11 +2,13 @@
 
 ghost use Rattle.std.specs.Prelude.{◌≡◌, ◌&&◌, ◌++◌, IfOk, OnOk};
 ghost use Rattle.std.specs.List.{flat_map};
+ghost use Rattle.board_decisions.specs.Derived as derived;
 ghost use Rattle.run_timeline.specs.Noted as spec;
 ghost use Rattle.run_timeline.specs.Phases as phases;
 
-use crate::phase::{is_ended, is_over, job_phase, leg_phase, run_phase};
+use crate::phase::{is_over, job_phase, leg_phase, run_phase};
 use crate::row::{Row, add_rows, displace, see, tell};
+use board_decisions::derived::is_ended;
 use board_decisions::place::{find_job, find_leg};
 use flow_model::{Board, Event, Job, JobPlan, Leg, Member, Plan, Reply, RunPlan, Sequence};
 use std::alloc::{AllocError, Global};
@@ -122,7 +124,7 @@ fn look_at_job(
 
 /// Whether a leg has ended, and all legs of its job with it.
 fn ends_job(leg: &Leg, job: &Job) -> bool
-    ensures { result ≡ (phases.is_ended leg.now.state && phases.is_over (phases.job_phase job.now)) }
+    ensures { result ≡ (derived.is_ended leg.now.state && phases.is_over (phases.job_phase job.now)) }
 {
     is_ended(leg.state) && is_over(job_phase(job))
 }

@@ -1,9 +1,11 @@
 //! How runs, jobs and legs stand.
 
 ghost use Rattle.std.specs.Prelude.{◌≡◌};
-ghost use Rattle.std.specs.List.{list_all, list_any};
+ghost use Rattle.std.specs.List.{list_all};
+ghost use Rattle.board_decisions.specs.Derived as derived;
 ghost use Rattle.run_timeline.specs.Phases as spec;
 
+use board_decisions::derived::{is_ended, legs_result};
 use flow_model::{DoneStep, Job, JobState, Leg, LegState, Outcome, RunState};
 
 /// How a run, a job or a leg stands.
@@ -58,68 +60,11 @@ pub(crate) fn run_phase(state: RunState) -> Phase
     }
 }
 
-/// Whether a leg has ended.
-pub(crate) fn is_ended(state: LegState) -> bool
-    ensures { result ≡ spec.is_ended state }
-{
-    matches!(state, LegState::Ended { .. })
-}
-
-/// Whether a leg ended with a failure that is not tolerated.
-fn has_failed(state: LegState) -> bool
-    ensures { result ≡ spec.has_failed state }
-{
-    matches!(
-        state,
-        LegState::Ended {
-            result: Outcome::Failure,
-            tolerated: false,
-        }
-    )
-}
-
-/// Whether a leg ended cancelled.
-fn was_cancelled(state: LegState) -> bool
-    ensures { result ≡ spec.was_cancelled state }
-{
-    matches!(
-        state,
-        LegState::Ended {
-            result: Outcome::Cancelled,
-            ..
-        }
-    )
-}
-
+/// Whether all of some legs have ended.
 fn are_ended(legs: &[Leg]) -> bool
-    ensures { result ≡ list_all (λ leg. spec.is_ended leg.state) legs.now }
+    ensures { result ≡ list_all (λ leg. derived.is_ended leg.state) legs.now }
 {
     legs.iter().all(|leg| is_ended(leg.state))
-}
-
-fn is_any_failed(legs: &[Leg]) -> bool
-    ensures { result ≡ list_any (λ leg. spec.has_failed leg.state) legs.now }
-{
-    legs.iter().any(|leg| has_failed(leg.state))
-}
-
-fn is_any_cancelled(legs: &[Leg]) -> bool
-    ensures { result ≡ list_any (λ leg. spec.was_cancelled leg.state) legs.now }
-{
-    legs.iter().any(|leg| was_cancelled(leg.state))
-}
-
-/// What legs that have ended come to.
-fn legs_outcome(legs: &[Leg]) -> Outcome
-    ensures { result ≡ spec.legs_outcome legs.now }
-{
-    if is_any_failed(legs) {
-        Outcome::Failure
-    } else if is_any_cancelled(legs) {
-        Outcome::Cancelled
-    } else {
-        Outcome::Success
-    }
 }
 
 /// How a job stands that was opened.
@@ -128,7 +73,7 @@ fn open_phase(legs: &[Leg]) -> Phase
 {
     if are_ended(legs) {
         Phase::Ended {
-            how: legs_outcome(legs),
+            how: legs_result(legs),
             tolerated: false,
         }
     } else {
