@@ -27,13 +27,6 @@ pub(crate) fn add_at(out: &mut Vec<u8>, line: u64) -> Result<(), AllocError>
     add_number(out, " at line ", line)
 }
 
-/// Adds since which line.
-pub(crate) fn add_since(out: &mut Vec<u8>, line: u64) -> Result<(), AllocError>
-    ensures { OnOk result (Adds out.old.items out.new.items (spec.since_line line)) }
-{
-    add_number(out, " since line ", line)
-}
-
 /// How a run or a job ended.
 fn ended_words(how: Outcome) -> &'static str
     ensures { result.now ≡ spec.ended_words how }
@@ -180,8 +173,7 @@ fn add_displaced(
 fn add_both(out: &mut Vec<u8>, words: &str, more: &str) -> Result<(), AllocError>
     ensures { OnOk result (Adds out.old.items out.new.items (words.now ++ more.now)) }
 {
-    add(out, &[words])?;
-    add(out, &[more])
+    add(out, &[words, more])
 }
 
 /// Adds that it has no value, and by which fault.
