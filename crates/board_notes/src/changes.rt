@@ -13,12 +13,13 @@ ghost use Rattle.board_facts.specs.Adds.{Adds};
 ghost use Rattle.board_notes.specs.Changes as spec;
 ghost use Rattle.board_notes.specs.Conditions as causes;
 ghost use Rattle.expr_value.specs.Answer.{Gives};
+ghost use Rattle.flat_board.specs.Index.{AsksNamed};
+ghost use Rattle.flat_counters.specs.Names.{IsName};
 ghost use Rattle.flow_model.specs.declared.reply.StepCall.{StepCall as StepCallOf};
 ghost use Rattle.flow_model.specs.declared.reply.ValueFault.{ValueFault as ValueFaultOf};
 ghost use Rattle.status_table.specs.Groups as groups;
 ghost use Rattle.status_table.specs.InPlay.{InPlay};
 ghost use Rattle.status_table.specs.Row as row;
-ghost use Rattle.status_table.specs.Shape.{HasFewLegs};
 
 use crate::conditions::waits_in_vain;
 use crate::texts::{faulted_text, leg_status};
@@ -34,65 +35,49 @@ use board_facts::failures::first_failure;
 use board_facts::queueing::{add_fact, add_queued};
 use board_facts::stopping::cause_of_stop;
 use expr_value::Status;
+use flat_board::FlatBoard;
 use flow_model::{
     Answer, Board, Event, Member, Outcome, Plan, Run, RunState, StepCall, StepPlan, ValueFault,
 };
-use status_table::groups::{is_own, next_after_leg, next_after_run};
-use status_table::members::{Role, find_member};
+use status_table::groups::is_own;
 use std::alloc::{AllocError, Global};
 
 // ---- Open and Ask
 
-/// The member that holds a name.
-fn holder(board: &Board, name: &str) -> Option<Member>
-    requires { HasFewLegs board.now }
-    ensures { result ≡ groups.holder board.now name.now }
-{
-    find_member(board, Role::Holder, name)
-}
-
-/// The member that waits for a name.
-fn waiter(board: &Board, name: &str) -> Option<Member>
-    requires { HasFewLegs board.now }
-    ensures { result ≡ groups.waiter board.now name.now }
-{
-    find_member(board, Role::Waiter, name)
-}
-
 /// Adds what a member makes so that enters a group which somebody holds.
 fn add_held(
     out: &mut Vec<Change>,
-    board: &Board,
+    table: &FlatBoard,
     who: Member,
     own: Option<u64>,
     group: &Entrance,
     holds: Member,
 ) -> Result<(), AllocError>
-    requires { HasFewLegs board.now }
+    requires { IsName group.now.name }
     ensures { OnOk result (Adds out.old.items out.new.items
-        (spec.enters_held who own group.now (Some holds) (groups.waiter board.now group.now.name))) }
+        (spec.enters_held who own group.now (Some holds) (groups.waiter table.now.board group.now.name))) }
 {
     if is_own(own, holds) {
         return add_fact(out, who, MemberFact::OwnRun);
     }
-    let waited = waiter(board, group.name.as_str());
+    let waited = table.waiter(group.name.as_str());
     add_queued(out, who, group, holds, waited)
 }
 
 /// Adds what a member makes so that enters a group.
 fn add_grouped(
     out: &mut Vec<Change>,
-    board: &Board,
+    table: &FlatBoard,
     who: Member,
     own: Option<u64>,
     group: &Entrance,
 ) -> Result<(), AllocError>
-    requires { HasFewLegs board.now }
+    requires { IsName group.now.name }
     ensures { OnOk result (Adds out.old.items out.new.items
-        (spec.enters board.now who own (Some group.now))) }
+        (spec.enters table.now.board who own (Some group.now))) }
 {
-    match holder(board, group.name.as_str()) {
-        Some(holds) => add_held(out, board, who, own, group, holds),
+    match table.holder(group.name.as_str()) {
+        Some(holds) => add_held(out, table, who, own, group, holds),
         None => add_fact(out, who, MemberFact::Admitted),
     }
 }
@@ -100,17 +85,17 @@ fn add_grouped(
 /// Adds what a member makes so that enters a group, or none; the text of the group may have no value.
 fn add_entered(
     out: &mut Vec<Change>,
-    board: &Board,
+    table: &FlatBoard,
     who: Member,
     own: Option<u64>,
     group: Result<Option<Entrance>, ValueFault>,
 ) -> Result<(), AllocError>
-    requires { HasFewLegs board.now }
+    requires { AsksNamed group }
     ensures { (meant : Result (Option EntranceOf) ValueFaultOf) → Gives (λ group. group) group meant
-        → OnOk result (Adds out.old.items out.new.items (spec.enters_by board.now who own meant)) }
+        → OnOk result (Adds out.old.items out.new.items (spec.enters_by table.now.board who own meant)) }
 {
     match group {
-        Ok(Some(group)) => add_grouped(out, board, who, own, &group),
+        Ok(Some(group)) => add_grouped(out, table, who, own, &group),
         Ok(None) => add_fact(out, who, MemberFact::Admitted),
         Err(ValueFault::Memory) => Err(AllocError),
         Err(ValueFault::NotWhole) => add_fact(out, who, MemberFact::NoGroup(ValueFault::NotWhole)),
@@ -129,17 +114,16 @@ fn add_open(
     alloc: Global,
     out: &mut Vec<Change>,
     plan: &Plan,
-    board: &Board,
+    table: &FlatBoard,
     number: u64,
 ) -> Result<(), AllocError>
-    requires { HasFewLegs board.now }
     ensures { OnOk result (Adds out.old.items out.new.items
-        (spec.opens board.now number (run_at plan.now board.now number))) }
+        (spec.opens table.now.board number (run_at plan.now table.now.board number))) }
 {
-    match find_run(plan, board, number as usize) {
+    match find_run(plan, table.board(), number as usize) {
         Some(at) => {
             let group = run_entrance(alloc, &at);
-            add_entered(out, board, Member::Run(number), None, group)
+            add_entered(out, table, Member::Run(number), None, group)
         },
         None => Ok(()),
     }
@@ -149,18 +133,17 @@ fn add_ask(
     alloc: Global,
     out: &mut Vec<Change>,
     plan: &Plan,
-    board: &Board,
+    table: &FlatBoard,
     number: u64,
 ) -> Result<(), AllocError>
-    requires { HasFewLegs board.now }
     ensures { OnOk result (Adds out.old.items out.new.items
-        (spec.asks board.now number (leg_at plan.now board.now number))) }
+        (spec.asks table.now.board number (leg_at plan.now table.now.board number))) }
 {
-    match find_leg(plan, board, number as usize) {
+    match find_leg(plan, table.board(), number as usize) {
         Some(at) => {
             let own = at.place.run as u64;
             let group = leg_entrance(alloc, &at);
-            add_entered(out, board, Member::Leg(number), Some(own), group)
+            add_entered(out, table, Member::Leg(number), Some(own), group)
         },
         None => Ok(()),
     }
@@ -250,21 +233,21 @@ fn add_passed(out: &mut Vec<Change>, who: Member, next: Option<Member>) -> Resul
     }
 }
 
+#[tactic(auto, using(flat_board::proofs::Reached::leg_found_named))]
 fn add_drop(
     out: &mut Vec<Change>,
     plan: &Plan,
-    board: &Board,
+    table: &FlatBoard,
     number: u64,
 ) -> Result<(), AllocError>
-    requires { HasFewLegs board.now }
     ensures { OnOk result (Adds out.old.items out.new.items
-        (spec.drops board.now number (leg_at plan.now board.now number))) }
+        (spec.drops table.now.board number (leg_at plan.now table.now.board number))) }
 {
-    match find_leg(plan, board, number as usize) {
+    match find_leg(plan, table.board(), number as usize) {
         Some(at) => {
             let fact = MemberFact::Stopped(cause_of_stop(number, &at));
             add_fact(out, Member::Leg(number), fact)?;
-            add_passed(out, Member::Leg(number), next_after_leg(board, at.leg))
+            add_passed(out, Member::Leg(number), table.next_after_leg(at.leg))
         },
         None => Ok(()),
     }
@@ -282,22 +265,22 @@ fn finished(alloc: Global, number: u64, at: &SeenLeg) -> Result<MemberFact, Allo
     Ok(MemberFact::Finished(how))
 }
 
+#[tactic(auto, using(flat_board::proofs::Reached::leg_found_named))]
 fn add_finish(
     alloc: Global,
     out: &mut Vec<Change>,
     plan: &Plan,
-    board: &Board,
+    table: &FlatBoard,
     number: u64,
 ) -> Result<(), AllocError>
-    requires { HasFewLegs board.now }
     ensures { OnOk result (Adds out.old.items out.new.items
-        (spec.finishes board.now number (leg_at plan.now board.now number))) }
+        (spec.finishes table.now.board number (leg_at plan.now table.now.board number))) }
 {
-    match find_leg(plan, board, number as usize) {
+    match find_leg(plan, table.board(), number as usize) {
         Some(at) => {
             let fact = finished(alloc, number, &at)?;
             add_fact(out, Member::Leg(number), fact)?;
-            add_passed(out, Member::Leg(number), next_after_leg(board, at.leg))
+            add_passed(out, Member::Leg(number), table.next_after_leg(at.leg))
         },
         None => Ok(()),
     }
@@ -315,21 +298,21 @@ fn closing(run: &Run) -> Outcome
     }
 }
 
+#[tactic(auto, using(flat_board::proofs::Reached::run_found_named))]
 fn add_close(
     out: &mut Vec<Change>,
     plan: &Plan,
-    board: &Board,
+    table: &FlatBoard,
     number: u64,
 ) -> Result<(), AllocError>
-    requires { HasFewLegs board.now }
     ensures { OnOk result (Adds out.old.items out.new.items
-        (spec.closes board.now number (run_at plan.now board.now number))) }
+        (spec.closes table.now.board number (run_at plan.now table.now.board number))) }
 {
-    match find_run(plan, board, number as usize) {
+    match find_run(plan, table.board(), number as usize) {
         Some(at) => {
             let fact = MemberFact::Closed(closing(at.run));
             add_fact(out, Member::Run(number), fact)?;
-            add_passed(out, Member::Run(number), next_after_run(board, at.run))
+            add_passed(out, Member::Run(number), table.next_after_run(at.run))
         },
         None => Ok(()),
     }
@@ -479,27 +462,26 @@ pub(crate) fn add_changes(
     alloc: Global,
     out: &mut Vec<Change>,
     plan: &Plan,
-    board: &Board,
+    table: &FlatBoard,
     event: &Event,
 ) -> Result<(), AllocError>
-    requires in_play { InPlay plan.now board.now }
-    requires few { HasFewLegs board.now }
+    requires { table.now.plan ≡ plan.now }
     ensures { OnOk result
-        (Adds out.old.items out.new.items (spec.changes plan.now board.now event.now)) }
+        (Adds out.old.items out.new.items (spec.changes plan.now table.now.board event.now)) }
 {
     match event {
-        Event::Open { run } => add_open(alloc, out, plan, board, *run),
-        Event::Judge { job } => add_judge(alloc, out, plan, board, *job),
-        Event::Ask { leg } => add_ask(alloc, out, plan, board, *leg),
-        Event::Drop { leg } => add_drop(out, plan, board, *leg),
+        Event::Open { run } => add_open(alloc, out, plan, table, *run),
+        Event::Judge { job } => add_judge(alloc, out, plan, table.board(), *job),
+        Event::Ask { leg } => add_ask(alloc, out, plan, table, *leg),
+        Event::Drop { leg } => add_drop(out, plan, table, *leg),
         Event::Take { leg } => add_fact(out, Member::Leg(*leg), MemberFact::Taken),
-        Event::Begin { leg } => add_begin(alloc, out, plan, board, *leg),
+        Event::Begin { leg } => add_begin(alloc, out, plan, table.board(), *leg),
         Event::End { leg, answer } => {
             let fact = answered(answer);
             add(out, Change::Step { leg: *leg, fact })
         },
-        Event::Finish { leg } => add_finish(alloc, out, plan, board, *leg),
-        Event::Close { run } => add_close(out, plan, board, *run),
+        Event::Finish { leg } => add_finish(alloc, out, plan, table, *leg),
+        Event::Close { run } => add_close(out, plan, table, *run),
         Event::Cancel { run } => {
             let who = Member::Run(*run);
             let teller = Teller::Cancel;

@@ -6,7 +6,8 @@
 //!
 //! The crate stands on `board_facts` for the facts, their causes and what is noted of them, on `flow_model`, on
 //! `board_decisions` and `text_values` for what texts decide, on `expr_reader` and `expr_value` for what these speak of, on
-//! `status_table` for the table, and on `flat_board`, which plays.
+//! `status_table` for the table, on `flat_board`, which plays and tells who holds and who waits for a name, and on
+//! `flat_counters` for what a name is.
 
 #![tactic(auto)]
 

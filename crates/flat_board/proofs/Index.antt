@@ -8,7 +8,7 @@ use Rattle.flow_model.specs.declared.event.Member.TheVariants as member
 use Rattle.group_admission.specs.Content.{Content, holder_of, waiter_of, after_enter, after_at, is_own as own_run}
 use Rattle.group_admission.specs.declared.held.Held.{Held}
 use Rattle.status_table.specs.Grouped.{KeptAsShown}
-use Rattle.status_table.specs.Groups.{is_own, waiter}
+use Rattle.status_table.specs.Groups.{holder, is_own, waiter}
 use Rattle.flat_board.specs.Index.{Goes}
 use Rattle.flat_counters.specs.Names.{IsName}
 use Rattle.status_table.proofs.Lists.{same_some, no_some}
@@ -17,6 +17,10 @@ use Rattle.status_table.proofs.Lists.{same_some, no_some}
 pub goes_same : {T E : Type 0} (r : Result T E) (groups : Content) → Goes r groups groups groups
 goes_same (Ok x) groups = refl
 goes_same (Err f) groups = refl
+
+-- who holds the name of a group, by the index
+pub holder_told : (groups : Content) (b : Board) (name : List ℕ) → IsName name → KeptAsShown groups b → holder_of (fold name) groups ≡ holder b name
+holder_told groups b name named kept = ap (λ n. holder_of n groups) named.folded ∙ kept.shown.holder name named.some
 
 -- who waits for the name of a group, by the index
 pub waiter_told : (groups : Content) (b : Board) (name : List ℕ) → IsName name → KeptAsShown groups b → waiter_of (fold name) groups ≡ waiter b name

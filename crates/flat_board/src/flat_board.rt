@@ -3,20 +3,23 @@
 ghost use Rattle.std.specs.Prelude.{◌≡◌, ◌≤◌, true, IfOk, OnOk};
 ghost use Rattle.flat_board.specs.Index.{Follows, FollowsUnasked, asks_groups, groups_put_back, if_asked, most_changes};
 ghost use Rattle.flat_board.specs.Undo.{board_before};
+ghost use Rattle.flat_counters.specs.Names.{IsGroup, IsName, IsNamed};
 ghost use Rattle.flat_counters.specs.Track.{play_of};
 ghost use Rattle.flow_model.specs.declared.board.Board.{Board};
 ghost use Rattle.status_table.specs.Grouped.{KeptAsShown};
+ghost use Rattle.status_table.specs.Groups as spec;
 ghost use Rattle.status_table.specs.InPlay.{InPlay};
 ghost use Rattle.status_table.specs.Reversible.{answer_of, done_of};
 ghost use Rattle.status_table.specs.Runs.{new_play};
 
 use crate::events::{ask, begin, cancel, close, discard, end, finish, judge, open, take};
+use crate::groups::{holder, leg_stand, next_after, run_stand, waiter};
 use crate::laws::events_keep_the_groups;
 use crate::moves::{find_first, find_moves};
 use crate::unasked::begin_unasked;
 use crate::undo::Undo;
 use flat_counters::Tracked;
-use flow_model::{Board, CheckedPlan, Duplicate, Entry, Event, Reply, Sequence};
+use flow_model::{Board, CheckedPlan, Duplicate, Entry, Event, Leg, Member, Reply, Run, Sequence};
 use group_admission::Groups;
 use status_table::{EventFault, Reversible, Table};
 use std::alloc::{AllocError, Global};
@@ -73,8 +76,41 @@ impl FlatBoard {
     pub fn board(&self) -> &Board
         ensures board { result.now ≡ self.now.board }
         ensures in_play { InPlay self.now.plan self.now.board }
+        ensures named { IsNamed self.now.board }
     {
         self.state.counted().board()
+    }
+
+    /// The member that holds the name of a group.
+    pub fn holder(&self, name: &str) -> Option<Member>
+        requires { IsName name.now }
+        ensures { result ≡ spec.holder self.now.board name.now }
+    {
+        holder(&self.groups, name)
+    }
+
+    /// The member that waits for the name of a group.
+    pub fn waiter(&self, name: &str) -> Option<Member>
+        requires { IsName name.now }
+        ensures { result ≡ spec.waiter self.now.board name.now }
+    {
+        waiter(&self.groups, name)
+    }
+
+    /// Who goes on in the group of a leg when that leaves it.
+    pub fn next_after_leg(&self, leg: &Leg) -> Option<Member>
+        requires { IsGroup leg.now.group }
+        ensures { result ≡ spec.next_after self.now.board (spec.leg_standing leg.now) }
+    {
+        next_after(&self.groups, leg_stand(leg.state), &leg.group)
+    }
+
+    /// Who goes on in the group of a run when that leaves it.
+    pub fn next_after_run(&self, run: &Run) -> Option<Member>
+        requires { IsGroup run.now.group }
+        ensures { result ≡ spec.next_after self.now.board (spec.run_standing run.now) }
+    {
+        next_after(&self.groups, run_stand(run.state), &run.group)
     }
 }
 

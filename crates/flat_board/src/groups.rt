@@ -248,6 +248,22 @@ pub(crate) fn leg_stand(state: LegState) -> Stand
     }
 }
 
+/// The member that holds the name of a group.
+pub(crate) fn holder(groups: &Groups, name: &str) -> Option<Member>
+    requires { IsName name.now }
+    ensures { (b : BoardOf) → KeptAsShown groups.now b → result ≡ spec.holder b name.now }
+{
+    groups.holder(name)
+}
+
+/// The member that waits for the name of a group.
+pub(crate) fn waiter(groups: &Groups, name: &str) -> Option<Member>
+    requires { IsName name.now }
+    ensures { (b : BoardOf) → KeptAsShown groups.now b → result ≡ spec.waiter b name.now }
+{
+    groups.waiting(name)
+}
+
 /// The member that waits for the name of a group, if the group has one.
 fn waiter_of(groups: &Groups, group: &Option<Text>) -> Option<Member>
     requires { IsGroup group.now }

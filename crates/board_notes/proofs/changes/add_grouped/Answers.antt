@@ -7,7 +7,7 @@ use Rattle.status_table.specs.Groups.{holder, waiter}
 
 pub returns-in-Some : goal.returns-in-Some
 returns-in-Some c =
-    let board = c.args.board.now in
+    let board = c.args.table.now.board in
     let group = c.args.group.now in
     subst (λ (held : Option Member). OnOk c.add_held.result
     (Adds c.args.out.now.items c.add_held.new.out.items (enters_held c.args.who c.args.own group held (waiter board group.name))))
