@@ -2,6 +2,7 @@ mod Accepted
 mod Agreeing
 mod Checking
 pub mod Crosses
+mod Firsts
 mod Fit
 mod Fresh
 mod Grows
