@@ -1,7 +1,7 @@
 //! Files that a host of programs makes, writes and reads. None of these calls waits for another program.
 
 use std::alloc::Global;
-use std::fs::{File, Files, OpenFile};
+use std::fs::{File, Files, OpenFile, OpenOptions};
 use std::io::{ErrorKind, Read, Write};
 use std::{fs, io};
 
@@ -9,27 +9,43 @@ use std::{fs, io};
 /// with the last program that has it open.
 pub(crate) type Printed<F> = (F, F);
 
-/// Takes away what has this name. Where that cannot be done, it is told by whoever makes the file anew.
-fn clear_name<F: Files>(files: &F, name: &str) {
-    drop(fs::remove_file(files, name));
+/// Makes a file of that name, which is opened so as to make it, in place of what has the name, which is not opened. What
+/// stands there is taken away only where something does: mostly nothing does, and looking for it would cost as much again
+/// as the file. Where it cannot be taken away, that is told by making the file once more.
+fn make_file<F: Files>(files: &F, how: &OpenOptions, name: &str) -> io::Result<F::File> {
+    match how.open(files, name) {
+        Err(error) if error.kind() == ErrorKind::AlreadyExists => {
+            drop(fs::remove_file(files, name));
+            how.open(files, name)
+        },
+        made => made,
+    }
 }
 
 /// Writes a file in place of what has this name, which is not opened.
 pub(crate) fn write_file<F: Files>(files: &F, name: &str, bytes: &[u8]) -> io::Result<()> {
-    clear_name(files, name);
-    let mut file = File::create_new(files, name)?;
+    let mut how = File::options();
+    how.write(true).create_new(true);
+    let mut file = make_file(files, &how, name)?;
     file.write_all(bytes)
 }
 
 /// Makes a file for what a program prints, which has this name until it is open. Each write goes to its end.
 pub(crate) fn printed_file<F: Files>(files: &F, name: &str) -> io::Result<Printed<F::File>> {
-    clear_name(files, name);
     let mut how = File::options();
     how.append(true).create_new(true);
-    let written = how.open(files, name)?;
+    let written = make_file(files, &how, name)?;
     let read = File::open(files, name)?;
     fs::remove_file(files, name)?;
     Ok((written, read))
+}
+
+/// Whether an empty file has that name. A link is none, whatever it leads to.
+pub(crate) fn is_empty_file<F: Files>(files: &F, name: &str) -> bool {
+    match fs::symlink_metadata(files, name) {
+        Ok(found) => found.is_file() && found.len() == 0,
+        Err(_) => false,
+    }
 }
 
 /// The bytes that a file has now. What is added while they are read is left out.
@@ -40,14 +56,18 @@ pub(crate) fn bytes_now<F: Read + OpenFile + Drop>(alloc: Global, file: F) -> io
     Ok(bytes)
 }
 
-/// The bytes of the file of that name.
+/// The bytes of the file of that name. An empty one is not opened.
 ///
 /// # Errors
 ///
 /// It cannot be read, or it is a pipe, a device, a folder or the like, which is not opened; or there is no memory.
 pub fn file_bytes<F: Files>(alloc: Global, files: &F, name: &str) -> io::Result<Vec<u8>> {
-    if !fs::metadata(files, name)?.is_file() {
+    let found = fs::metadata(files, name)?;
+    if !found.is_file() {
         return Err(io::Error::from(ErrorKind::InvalidInput));
+    }
+    if found.len() == 0 {
+        return Ok(Vec::new(alloc));
     }
     bytes_now(alloc, File::open(files, name)?)
 }

@@ -9,7 +9,7 @@ ghost use Rattle.step_host.specs.Program as spec;
 use crate::command::command_of;
 use crate::ending::{ended, logged};
 use crate::fault::HostFault;
-use crate::files::{Printed, bytes_now, file_bytes, printed_file, write_file};
+use crate::files::{Printed, bytes_now, file_bytes, is_empty_file, printed_file, write_file};
 use crate::host::{StepHost, WatchedHost};
 use crate::launch::{
     Launch, env_file, err_file, log_file, other_shell, out_file, print_file, script_file,
@@ -253,12 +253,18 @@ impl<R: Processes + Files<File = File>> ProgramHost<R> {
     /// Keeps what a program printed. The answer is whether it could be kept.
     fn keeps(&self, call: &StepCall, out: File, err: File) -> Result<bool, AllocError> {
         match unless_memory(printed(self.alloc, out, err))? {
-            Some(log) => {
-                let name = log_file(self.alloc, self.work.as_str(), call.leg, call.step)?;
-                self.writes(&name, log.as_slice())
-            },
+            Some(log) => self.keeps_log(call, log.as_slice()),
             None => Ok(false),
         }
+    }
+
+    /// Keeps a log. One of nothing is kept already where the file is still as it was made at the start.
+    fn keeps_log(&self, call: &StepCall, log: &[u8]) -> Result<bool, AllocError> {
+        let name = log_file(self.alloc, self.work.as_str(), call.leg, call.step)?;
+        if log.is_empty() && is_empty_file(&self.runtime, name.as_str()) {
+            return Ok(true);
+        }
+        self.writes(&name, log)
     }
 
     /// The bytes in the file of a call's outputs, if it can be read.
