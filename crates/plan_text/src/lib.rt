@@ -3,8 +3,8 @@
 //! It promises that a text is accepted exactly where it reads as the document of such a plan or
 //! entry, that each fault comes exactly in its case, and that what it prints is the compact text of the
 //! document and is read as the same plan or entry again. It stands on `flow_model`, which has the data
-//! and its rules, on `serde_json`, which reads and prints JSON (RFC 8259), and on `json`, which gives
-//! the tokens of a text.
+//! and its rules, on `serde_json`, which reads and prints JSON (RFC 8259), on `json`, which gives
+//! the tokens of a text, and on `itoa`, which prints numbers.
 
 #![tactic(auto)]
 
