@@ -1,4 +1,4 @@
--- A step of whose texts none is evaluated has no fault: it is called where its leg counts as success so far.
+-- A step of whose texts none is evaluated but its condition has no other fault: it is called where that holds.
 use Rattle.std.proofs.Common.{◌≡◌, ℕ, Bool, true, false, List, Option, None, Some, Result, Ok, Err, length, refl, ap, ◌∙◌}
 use Rattle.board_decisions.specs.Decisions.{then_value, flow_env, job_env, leg_env, step_env, seen_from, directory_value, work_value, called_if, step_decision, is_called, leg_status}
 use Rattle.board_decisions.specs.Own.{IsOwnStep}

@@ -1,4 +1,5 @@
-//! Whether a step is called, where nobody asks for its call: of a step of whose texts none is evaluated nothing is made.
+//! Whether a step is called, where nobody asks for its call: of a step of whose texts none is evaluated nothing is made, but
+//! what its condition comes to.
 
 ghost use Rattle.std.specs.Prelude.{◌≡◌, true, None};
 ghost use Rattle.board_decisions.specs.Decisions as spec;

@@ -21,11 +21,6 @@ needs-kept (plan ∷ plans) (run ∷ runs) zero f same =
 needs-kept (plan ∷ plans) (run ∷ runs) (suc r) f same =
     ap (needs_of (plan ∷ plans)) (changed-cons run runs r f) ∙ ap (λ (needs : List (List Need)). run_needs plan run ∷ needs) (needs-kept plans runs r f same)
 
--- they are not counted again where that stays
-pub needs-stay : (settled : Bool) (run : Option Run) (r : ℕ) (needs : List (List Need)) → needs ≡ recounted_if settled settled run r needs
-needs-stay false run r needs = refl
-needs-stay true run r needs = refl
-
 run-again : (plan : RunPlan) (old new : Run) → run_needs plan new ≡ map (recounted (settled_jobs new)) (run_needs plan old)
 run-again plan old new =
     sym (map-twice (need_of (first_number plan.jobs) (settled_jobs old)) (recounted (settled_jobs new)) (need_of (first_number plan.jobs) (settled_jobs new)) plan.jobs (λ job. refl))
