@@ -202,6 +202,9 @@ pub(crate) fn take(
         return Err(EventFault::Stopping);
     }
     let place = leg.at.place;
+    // a list that grows step by step would end up with up to twice the room
+    let steps = leg.at.job_plan.steps.len();
+    state.make_room(alloc, place, steps)?;
     state.change_leg(
         place,
         LegChange::State(LegState::Running {

@@ -1,5 +1,5 @@
 -- Lists with one item changed: what is made of each item, and how many pass a test.
-use Rattle.std.proofs.Common.{◌≡◌, ℕ, zero, suc, ◌+◌, ◌<◌, ◌≤◌, ◌||◌, Bool, true, false, List, [], ◌∷◌, ◌++◌, Some, None, length, map, take, drop, slice_get, nat_lt, count_by, if◌then◌else◌, ap, subst, sym, refl, ◌∙◌, arith}
+use Rattle.std.proofs.Common.{◌≡◌, ℕ, zero, suc, ◌+◌, ◌<◌, ◌≤◌, ◌||◌, Bool, true, false, List, [], ◌∷◌, ◌++◌, Some, None, length, map, take, drop, slice_get, slice_set, nat_lt, count_by, if◌then◌else◌, ap, subst, sym, refl, ◌∙◌, arith}
 use Rattle.std.specs.List.{list_any}
 use Rattle.std.proofs.lemmas.Bool.Decides.{nat_tests}
 use Rattle.std.proofs.lemmas.List.Sums.{sum_by-cons}
@@ -140,3 +140,9 @@ any-counted t (x ∷ xs) = by (any-counted t xs) (t x) refl
         let a = ap one is in let n = cons in
         let same : count_by t (x ∷ xs) ≡ count_by t xs = omega (arith, a, n) in
         ap (λ c. c || list_any t xs) is ∙ later ∙ ap (nat_lt 0) (sym same)
+
+-- an item that is put in its own place again changes nothing
+pub set_same : {T : Type 0} (xs : List T) (i : ℕ) (x y : T) → Some x ≡ slice_get xs i → y ≡ x → slice_set xs i y ≡ xs
+set_same [] i x y at same = absurd (no_some x (sym at))
+set_same (z ∷ xs) zero x y at same = ap (λ w. w ∷ xs) (same ∙ sym (same_some z x (sym at)))
+set_same (z ∷ xs) (suc i) x y at same = ap (λ ys. z ∷ ys) (set_same xs i x y at same)

@@ -8,7 +8,7 @@ ghost use Rattle.status_table.specs.Change.{with_leg, with_run};
 
 use board_decisions::place::{JobPlace, LegPlace, item_at};
 use flow_model::{Board, Job, JobState, Leg, LegState, Mapping, Run, RunState, Sequence, Text};
-use std::alloc::Global;
+use std::alloc::{AllocError, Global};
 use std::mem;
 
 /// What happens to a leg at once.
@@ -141,4 +141,33 @@ pub(crate) fn take_step_at(alloc: Global, board: &mut Board, place: LegPlace, st
             }
         }
     }
+}
+
+/// Makes room for so many steps in a leg of which none is done. Nothing is changed.
+fn make_leg_room(alloc: Global, leg: &mut Leg, steps: usize) -> Result<(), AllocError>
+    ensures { leg.new ≡ leg.old }
+{
+    if leg.steps.is_empty() {
+        leg.steps = Sequence::new(Vec::with_capacity(alloc, steps)?);
+    }
+    Ok(())
+}
+
+/// The same in the leg at a place, where there is one.
+pub(crate) fn make_room(
+    alloc: Global,
+    board: &mut Board,
+    place: LegPlace,
+    steps: usize,
+) -> Result<(), AllocError>
+    ensures { board.new ≡ board.old }
+{
+    if let Some(run) = board.runs.get_mut(place.run) {
+        if let Some(job) = run.jobs.get_mut(place.job) {
+            if let Some(leg) = job.legs.get_mut(place.leg) {
+                return make_leg_room(alloc, leg, steps);
+            }
+        }
+    }
+    Ok(())
 }

@@ -8,8 +8,8 @@ ghost use Rattle.flat_counters.specs.declared.tally.Tally.{Tally as TallyOf};
 ghost use Rattle.status_table.specs.Change.{with_leg, with_run};
 
 use crate::change::{
-    LegChange, RunChange, exchange_leg_at, exchange_run_at, job_state_there, take_step_at,
-    without_last,
+    LegChange, RunChange, exchange_leg_at, exchange_run_at, job_state_there, make_room,
+    take_step_at, without_last,
 };
 use crate::need::{Need, are_settled, is_settled_at, needs_of, recount};
 use crate::places::leg_places;
@@ -371,6 +371,19 @@ impl Counted {
             place,
         );
         Change::Job(place, was)
+    }
+
+    /// Makes room for so many steps in the leg at a place, where there is one and none of its steps is done. Nothing is
+    /// changed.
+    pub fn make_room(
+        &mut self,
+        alloc: Global,
+        place: LegPlace,
+        steps: usize,
+    ) -> Result<(), AllocError>
+        ensures { self.new ≡ self.old }
+    {
+        make_room(alloc, &mut self.board, place, steps)
     }
 
     /// Adds a done step to a leg, which is idle again, and gives what takes that back; where memory runs out,

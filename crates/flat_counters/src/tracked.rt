@@ -140,6 +140,19 @@ impl Tracked {
         keep(&mut self.changes, change);
     }
 
+    /// Makes room for so many steps in the leg at a place, where there is one and none of its steps is done. Nothing is
+    /// changed.
+    pub fn make_room(
+        &mut self,
+        alloc: Global,
+        place: LegPlace,
+        steps: usize,
+    ) -> Result<(), AllocError>
+        ensures { self.new ≡ self.old }
+    {
+        self.counted.make_room(alloc, place, steps)
+    }
+
     /// Adds a done step to a leg, which is idle again; where memory runs out, nothing is changed.
     pub fn add_done(
         &mut self,
