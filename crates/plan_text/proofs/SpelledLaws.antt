@@ -141,6 +141,12 @@ pub member_more : (n : ℕ) (ps : List (List ℕ × Data)) (key : List ℕ) (d :
 member_more n [] key d ts us vs rest is next s = (vs, rest, is ∙ next, s, refl)
 member_more n (p ∷ ps) key d ts us vs rest each next s = (each.0, each.1, each.2, each.3, member_more n ps key d each.1 us vs rest each.4 next s)
 
+-- a member, and then others
+pub member_then : (n m : ℕ) (key : List ℕ) (d : Data) (ps : List (List ℕ × Data)) (rest ts us : List Token) → n ≤ m
+    → SpellMembers n ts ((key, d) ∷ []) us → SpellMembers m us ps rest → SpellMembers m ts ((key, d) ∷ ps) rest
+member_then n m key d ps rest ts us within one more =
+    (one.0, one.1, one.2, spells_within n m one.0 d one.1 within one.3, subst (λ x. SpellMembers m x ps rest) (sym one.4) more)
+
 -- members may nest deeper
 pub members_within : (n m : ℕ) (ts : List Token) (ps : List (List ℕ × Data)) (rest : List Token) → n ≤ m → SpellMembers n ts ps rest → SpellMembers m ts ps rest
 members_within n m ts [] rest within is = is

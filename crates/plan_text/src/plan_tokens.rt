@@ -12,7 +12,7 @@ ghost use Rattle.plan_text.specs.Spelled.{Spells};
 
 use crate::job_reading::{JOB_KEYS, JobParts, job_from};
 use crate::reading::{Unread, refused};
-use crate::tokens::{FromTokens, next_part, read_after, read_object};
+use crate::tokens::{FromTokens, end_object, next_member, next_part, read_after, read_object};
 use crate::version::Version;
 use flow_model::{
     Broken, CheckedPlan, Flag, Group, JobPlan, Mapping, Plan, Roots, RunPlan, Sequence, Shell,
@@ -202,12 +202,11 @@ fn script_after_dir(alloc: Global, reader: &mut Reader<'_>) -> Result<Work, Unre
     ensures { IfOk result (λ work. Spells 102
         (token.begin_object ∷ token.key (codes "dir") ∷ reader.old) (work_data work) reader.new) }
 {
-    let (dir, (ScriptKind, (run, (shell, ())))) = read_after(
-        alloc,
-        reader,
-        "dir",
-        &["kind", "run", "shell"],
-    )?;
+    let dir = next_part(alloc, reader)?;
+    let ScriptKind = next_member(alloc, reader, "kind")?;
+    let run = next_member(alloc, reader, "run")?;
+    let shell = next_member(alloc, reader, "shell")?;
+    end_object(alloc, reader)?;
     Ok(Work::Run { dir, run, shell })
 }
 
@@ -220,6 +219,7 @@ fn action_after_kind(alloc: Global, reader: &mut Reader<'_>) -> Result<Work, Unr
     Ok(Work::Uses { uses, given })
 }
 
+/// Of a plan most is steps. So their members are read one by one: by pairs each would be moved once for each before it.
 impl FromTokens for StepPlan {
     ghost use Rattle.plan_text.specs.Document.{step_data};
 
@@ -232,10 +232,16 @@ impl FromTokens for StepPlan {
         first: Token<'_>,
         reader: &mut Reader<'_>,
     ) -> Result<StepPlan, Unread> {
-        let keys = ["condition", "env", "id", "name", "tolerate", "work"];
-        let (condition, (env, (id, (name, (tolerate, (work, ())))))) = read_object(
-            alloc, first, reader, &keys,
-        )?;
+        let Token::BeginObject = first else {
+            return Err(refused(alloc, ""));
+        };
+        let condition = next_member(alloc, reader, "condition")?;
+        let env = next_member(alloc, reader, "env")?;
+        let id = next_member(alloc, reader, "id")?;
+        let name = next_member(alloc, reader, "name")?;
+        let tolerate = next_member(alloc, reader, "tolerate")?;
+        let work = next_member(alloc, reader, "work")?;
+        end_object(alloc, reader)?;
         Ok(StepPlan {
             condition,
             env,

@@ -5,7 +5,7 @@
 //! or a version is one of at most 15 digits. What is spelled otherwise is refused here: it is for the
 //! reading of whole trees.
 
-ghost use Rattle.std.specs.Prelude.{◌≡◌, ◌∷◌, ◌++◌, ◌<◌, ◌≤◌, max, suc, IfOk, IfSome, map};
+ghost use Rattle.std.specs.Prelude.{◌≡◌, [], ◌∷◌, ◌++◌, ◌<◌, ◌≤◌, max, suc, IfOk, OnOk, IfSome, map};
 ghost use Rattle.json.specs.Json as spec;
 ghost use Rattle.json.specs.Reads.{token_of};
 ghost use Rattle.json.specs.Token as token;
@@ -391,4 +391,29 @@ pub(crate) fn read_object<F: TokenFields>(
         return Err(refused(alloc, ""));
     };
     F::read(alloc, reader, keys)
+}
+
+/// The part at this key, which comes next among the members of an object.
+pub(crate) fn next_member<T: FromTokens>(
+    alloc: Global,
+    reader: &mut Reader<'_>,
+    key: &str,
+) -> Result<T, Unread>
+    ensures { IfOk result (λ part. SpellMembers T.levels reader.old
+        ((key.now, T.document part) ∷ []) reader.new) }
+{
+    match reader.next() {
+        Some(Token::Key(found)) if found == key => next_part(alloc, reader),
+        _ => Err(refused(alloc, "")),
+    }
+}
+
+/// The brace that closes an object, which comes next.
+pub(crate) fn end_object(alloc: Global, reader: &mut Reader<'_>) -> Result<(), Unread>
+    ensures { OnOk result (reader.old ≡ token.end_object ∷ reader.new) }
+{
+    match reader.next() {
+        Some(Token::EndObject) => Ok(()),
+        _ => Err(refused(alloc, "")),
+    }
 }
