@@ -16,7 +16,7 @@ abbrev pub IsBelowAll : List ℕ → List Cell → Type 0
 IsBelowAll name cells = AllByRecursion (λ y. slice_cmp nat_cmp name y ≡ Less) (map (λ (cell : Cell). cell.name) cells)
 
 -- nobody holds a name that is below those of all cells
-none_below : (name : List ℕ) (cells : List Cell) → IsBelowAll name cells → value_at name (held_in cells) ≡ None
+pub none_below : (name : List ℕ) (cells : List Cell) → IsBelowAll name cells → value_at name (held_in cells) ≡ None
 none_below name [] h = refl
 none_below name (x ∷ xs) h = go x.held (none_below name xs h.1)
   where

@@ -56,7 +56,7 @@ withdrawn_waiter : (m : Member) (o : Option Held) → waiter_in o ≡ Some m →
 withdrawn_waiter m None is = refl
 withdrawn_waiter m (Some held) is = let itself : is_member m held.waiter ≡ true = ap (is_member m) is ∙ member_itself m in rw itself refl
 
-no_member : (m : Member) (w : Option Member) → w ≢ Some m → is_member m w ≡ false
+pub no_member : (m : Member) (w : Option Member) → w ≢ Some m → is_member m w ≡ false
 no_member m None differs = refl
 no_member m (Some w) differs = another m w differs
 

@@ -4,6 +4,7 @@ pub mod Kept
 pub mod Leaving
 pub mod Lookups
 pub mod Members
+pub mod Named
 pub mod Nowhere
 pub mod Once
 pub mod Search

@@ -7,7 +7,7 @@ use Rattle.flow_model.specs.Mapping.{value_at, Ascends}
 use Rattle.flow_model.specs.declared.event.Member.{Member}
 use Rattle.flow_model.proofs.Lookups.{name_itself, none_below, same_below}
 use Rattle.group_admission.proofs.Members.{one_member}
-use Rattle.group_admission.specs.Content.{Content, holds, is_member, waits}
+use Rattle.group_admission.specs.Content.{Content, after_release, after_withdraw, each_held, holder_of, holds, is_member, released, waiter_of, waits, with_held, withdrawn}
 use Rattle.group_admission.specs.Laws.{NowhereIsNoGroup}
 use Rattle.group_admission.specs.declared.held.Held.{Held}
 
@@ -62,4 +62,24 @@ as_map (Some held) = refl
 pub nowhere_is_no_group : NowhereIsNoGroup
 nowhere_is_no_group groups m sorted holder waiter = neither (holds m) (waits m) groups
     (nowhere (λ held. Some held.holder) m (holds m) (λ p is. ap (λ (x : Member). Some x) (sym (one_member m p.1.holder is))) groups sorted (λ q is. holder q (sym (as_map (value_at q groups)) ∙ is)))
+    (nowhere (λ held. held.waiter) m (waits m) (λ p is. is_there m p.1.waiter is) groups sorted waiter)
+
+-- each name is as it was where a change leaves each
+each_left : (f : Held → Option Held) (test : List ℕ × Held → Bool) → ((p : List ℕ × Held) → test p ≡ false → f p.1 ≡ Some p.1)
+    → (groups : Content) → list_any test groups ≡ false → each_held f groups ≡ groups
+each_left f test leaves [] none = refl
+each_left f test leaves (p ∷ ps) none = go (test p) refl none (each_left f test leaves ps)
+  where
+    go : (b : Bool) → test p ≡ b → (b || list_any test ps) ≡ false → (list_any test ps ≡ false → each_held f ps ≡ ps) → with_held p.0 (f p.1) (each_held f ps) ≡ p ∷ ps
+    go true is none ih = cc
+    go false is none ih = ap (λ (o : Option Held). with_held p.0 o (each_held f ps)) (leaves p is) ∙ ap (λ (rest : Content). p ∷ rest) (ih none)
+
+-- who holds nothing releases nothing
+pub nothing_released : (groups : Content) (m : Member) → Ascends groups → ((q : List ℕ) → holder_of q groups ≢ Some m) → after_release m groups ≡ groups
+nothing_released groups m sorted holder = each_left (released m) (holds m) (λ p is. rw is refl) groups
+    (nowhere (λ held. Some held.holder) m (holds m) (λ p is. ap (λ (x : Member). Some x) (sym (one_member m p.1.holder is))) groups sorted (λ q is. holder q (sym (as_map (value_at q groups)) ∙ is)))
+
+-- and who waits for nothing leaves no wait
+pub nothing_withdrawn : (groups : Content) (m : Member) → Ascends groups → ((q : List ℕ) → waiter_of q groups ≢ Some m) → after_withdraw m groups ≡ groups
+nothing_withdrawn groups m sorted waiter = each_left (withdrawn m) (waits m) (λ p is. rw is refl) groups
     (nowhere (λ held. held.waiter) m (waits m) (λ p is. is_there m p.1.waiter is) groups sorted waiter)

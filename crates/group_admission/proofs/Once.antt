@@ -132,7 +132,7 @@ once_stays groups m sorted once = record {
 }
 
 -- a name's members have their places
-has_places : (x : Member) (k : List ℕ) (held : Held) (ps : Content) → value_at k ps ≡ Some held → weight x held ≤ places_of x ps
+pub has_places : (x : Member) (k : List ℕ) (held : Held) (ps : Content) → value_at k ps ≡ Some held → weight x held ≤ places_of x ps
 has_places x k held [] is = absurd (none_some held is)
 has_places x k held (p ∷ ps) is = go (is_eq (slice_cmp nat_cmp k p.0)) is (has_places x k held ps)
   where

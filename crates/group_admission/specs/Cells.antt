@@ -63,3 +63,21 @@ with_cell name held (cell ∷ cells) =
 -- The cell, held as said of who held it.
 abbrev pub changed : (Held → Option Held) → Cell → Cell
 changed f cell = record cell { held = option_and_then f cell.held }
+
+-- The cells where that at a place, if one is there, is held as said of who held it.
+abbrev pub change_there : (Held → Option Held) → List Cell → ℕ → Option Cell → List Cell
+change_there f cells place None = cells
+change_there f cells place (Some cell) = slice_set cells place (changed f cell)
+
+-- The cells where that at a place is held as said of who held it.
+abbrev pub change_here : (Held → Option Held) → List Cell → ℕ → List Cell
+change_here f cells place = change_there f cells place (slice_get cells place)
+
+-- The cells where a name, if it has a cell, is held as said of who held it.
+abbrev pub changed_at : List ℕ → (Held → Option Held) → List Cell → List Cell
+changed_at name f [] = []
+changed_at name f (cell ∷ cells) =
+    match_ordering (slice_cmp nat_cmp name cell.name)
+    (cell ∷ cells)
+    (changed f cell ∷ cells)
+    (cell ∷ changed_at name f cells)

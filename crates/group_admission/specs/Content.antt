@@ -128,6 +128,10 @@ withdrawn m held =
     if is_member m held.waiter then Some (record { holder = held.holder; waiter = None })
     else Some held
 
+-- What is left of a name after a member left it: what it held is passed on, and its wait has ended.
+abbrev pub left_by : Member → Held → Option Held
+left_by m held = if same_member m held.holder then passed_on held.waiter else withdrawn m held
+
 -- The groups after a member released.
 abbrev pub after_release : Member → Content → Content
 after_release m groups = each_held (released m) groups

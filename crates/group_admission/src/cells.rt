@@ -6,10 +6,10 @@ ghost use Rattle.flow_model.specs.Mapping.{value_at, with_pair};
 ghost use Rattle.group_admission.specs.Cells.{Ascend, held_in};
 ghost use Rattle.group_admission.specs.Cells as spec;
 ghost use Rattle.group_admission.specs.Content as content;
-ghost use Rattle.group_admission.specs.Content.{released, withdrawn};
+ghost use Rattle.group_admission.specs.Content.{left_by, released, withdrawn};
 
 use crate::cell::{Cell, folded_order};
-use crate::held::{Held, released_at, withdrawn_at};
+use crate::held::{Held, left_at, released_at, withdrawn_at};
 use crate::member::{is_member, same_member};
 use expr_reader::fold;
 use flow_model::{Duplicate, Member, Text};
@@ -130,6 +130,29 @@ pub(crate) fn set_held(
 {
     write_held(cells, alloc, name, held)?;
     Ok(())
+}
+
+/// A member leaves the name of the cell at a place, if one is there.
+fn leave_here(cells: &mut Vec<Cell>, place: usize, member: Member)
+    ensures { cells.new.items ≡ spec.change_here (left_by member) cells.old.items place }
+{
+    if place < cells.len() {
+        let held = cells[place].held;
+        cells[place].held = left_at(held, member);
+    }
+}
+
+/// A member leaves a name, and no other cell changes. It looks at few cells, by halves.
+#[tactic(auto, using(crate::proofs::Named::change_cell, crate::proofs::Named::no_cell))]
+pub(crate) fn leave_name(cells: &mut Vec<Cell>, name: &str, member: Member)
+    requires { Ascend cells.old.items }
+    ensures { cells.new.items
+        ≡ spec.changed_at (fold name.now) (left_by member) cells.old.items }
+{
+    let place = place_of(cells, name);
+    if is_of(cells, place, name) {
+        leave_here(cells, place, member);
+    }
 }
 
 /// Every name that a member holds passes to its waiter, or nobody holds it.

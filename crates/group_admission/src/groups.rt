@@ -1,13 +1,14 @@
 //! The groups of a board in play: who holds each name, and who waits for it.
 
-ghost use Rattle.std.specs.Prelude.{◌≡◌, [], false, IfOk, OnOk, OnErr};
+ghost use Rattle.std.specs.Prelude.{◌≡◌, ◌≢◌, [], Some, false, IfOk, OnOk, OnErr};
 ghost use Rattle.expr_reader.specs.Fold.{fold};
 ghost use Rattle.flow_model.specs.Mapping.{value_at, with_pair, Ascends};
 ghost use Rattle.group_admission.specs.Content as spec;
 
 use crate::cell::Cell;
 use crate::cells::{
-    copy_cells, held_at, is_in_group, is_waiting, next_after, release_all, set_held, withdraw_all,
+    copy_cells, held_at, is_in_group, is_waiting, leave_name, next_after, release_all, set_held,
+    withdraw_all,
 };
 use crate::entered::Entered;
 use crate::held::{Held, first, joined};
@@ -21,7 +22,7 @@ use std::marker::Model;
 ///
 /// A name that was entered keeps its cell, so leaving takes no memory. A name is found by halves, and
 /// a new one moves the cells behind its place; what a member holds or waits for is found by a pass over
-/// all names that were entered.
+/// all names that were entered, unless its name is said.
 #[derive(Drop)]
 pub struct Groups {
     alloc: Global,
@@ -101,6 +102,20 @@ impl Groups {
         let waited = is_waiting(self.cells.as_slice(), member);
         withdraw_all(&mut self.cells, member);
         waited
+    }
+
+    /// A member leaves a name: what it holds there passes to its waiter, if there is one, and its wait
+    /// ends. Where it neither holds the name nor waits for it, nothing is changed. It takes no memory, and
+    /// finds the name by halves.
+    pub fn leave_name(&mut self, name: &str, member: Member)
+        ensures held { spec.holder_of (fold name.now) self.old ≡ Some member
+            → self.new ≡ spec.after_release member self.old }
+        ensures awaited { spec.waiter_of (fold name.now) self.old ≡ Some member
+            → self.new ≡ spec.after_withdraw member self.old }
+        ensures other { spec.holder_of (fold name.now) self.old ≢ Some member
+            → spec.waiter_of (fold name.now) self.old ≢ Some member → self.new ≡ self.old }
+    {
+        leave_name(&mut self.cells, name, member);
     }
 
     /// A member enters a name, as a leg of `own_run` if that is said. It is admitted where nobody

@@ -62,6 +62,26 @@ fn withdrawn(held: Held, member: Member) -> Option<Held>
     Some(held)
 }
 
+/// What is left of a name after a member left it: what it held is passed on, and its wait has ended.
+fn left(held: Held, member: Member) -> Option<Held>
+    ensures { result ≡ spec.left_by member held }
+{
+    if same_member(member, held.holder) {
+        return released(held, member);
+    }
+    withdrawn(held, member)
+}
+
+/// What is left of a name, if somebody holds it, after a member left it.
+pub(crate) fn left_at(held: Option<Held>, member: Member) -> Option<Held>
+    ensures { result ≡ option_and_then (spec.left_by member) held }
+{
+    match held {
+        Some(held) => left(held, member),
+        None => None,
+    }
+}
+
 /// What is left of a name, if somebody holds it, after a member released it.
 pub(crate) fn released_at(held: Option<Held>, member: Member) -> Option<Held>
     ensures { result ≡ option_and_then (spec.released member) held }
