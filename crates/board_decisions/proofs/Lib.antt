@@ -3,3 +3,4 @@ pub mod Lists
 pub mod Maps
 pub mod OwnSteps
 pub mod Overlays
+pub mod Succeeded

@@ -154,6 +154,10 @@ job_result run job = result_by run.state job.state job.legs
 abbrev pub job_results : Run → List Outcome
 job_results run = map (job_result run) run.jobs
 
+-- whether each job of a run counts as a success so far
+abbrev pub all_succeed : Run → Bool
+all_succeed run = list_all is_success (job_results run)
+
 -- whether a job of a run failed
 abbrev pub is_any_job_failed : Run → Bool
 is_any_job_failed run = list_any (λ job. is_failure (job_result run job)) run.jobs

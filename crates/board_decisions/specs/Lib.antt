@@ -2,6 +2,7 @@ pub mod Ancestors
 pub mod Contexts
 pub mod Decisions
 pub mod Derived
+pub mod Kept
 pub mod Numbered
 pub mod Own
 pub mod Place

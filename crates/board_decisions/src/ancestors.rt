@@ -2,7 +2,7 @@
 //!
 //! Needs point backwards, so one pass from the front finds which jobs have an ancestor that is looked for.
 
-ghost use Rattle.std.specs.Prelude.{◌≡◌, ◌<◌, IfOk, map, length};
+ghost use Rattle.std.specs.Prelude.{◌≡◌, ◌<◌, true, IfOk, map, length};
 ghost use Rattle.board_decisions.specs.Ancestors as spec;
 ghost use Rattle.board_decisions.specs.Derived as derived;
 ghost use Rattle.board_decisions.specs.Derived.{any_ancestor, job_results};
@@ -118,4 +118,21 @@ pub fn job_status(alloc: Global, first: u64, at: &SeenJob) -> Result<Status, All
         return Ok(Status::Other);
     }
     Ok(Status::Success)
+}
+
+/// The same, where it may be known that each job of the run succeeded so far, so that nobody is looked for.
+pub fn job_status_kept(
+    alloc: Global,
+    first: u64,
+    at: &SeenJob,
+    succeeded: bool,
+) -> Result<Status, AllocError>
+    requires stands { spec.StandsAfterNeeds first (job_seen at.now) }
+    requires kept { succeeded ≡ true → derived.all_succeed (job_seen at.now).run ≡ true }
+    ensures { IfOk result (λ status. status ≡ derived.job_status first (job_seen at.now)) }
+{
+    if succeeded && !at.run.stop {
+        return Ok(Status::Success);
+    }
+    job_status(alloc, first, at)
 }

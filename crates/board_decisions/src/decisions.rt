@@ -1,10 +1,12 @@
 //! What is decided by the texts of a plan: conditions, environments, the texts of a call, flags and outputs.
 
-ghost use Rattle.std.specs.Prelude.{◌≡◌, [], not, Some, IfOk, OnOk, Result, string_bytes};
+ghost use Rattle.std.specs.Prelude.{◌≡◌, [], not, Some, IfOk, OnOk, Result, if◌then◌else◌, string_bytes};
 ghost use Rattle.board_decisions.specs.Decisions as spec;
+ghost use Rattle.board_decisions.specs.Kept.{IsKeptOf};
 ghost use Rattle.board_decisions.specs.Seen.{job_seen, leg_scene, leg_seen, run_seen};
 ghost use Rattle.expr_value.specs.Answer.{Gives};
 ghost use Rattle.expr_value.specs.declared.status.Status.TheVariants as status;
+ghost use Rattle.flow_model.specs.declared.event.Outcome.TheVariants as outcome;
 ghost use Rattle.flow_model.specs.declared.reply.ValueFault.{ValueFault as ValueFaultOf};
 ghost use Rattle.text_values.specs.Known.{IsKnownOf, known_env};
 ghost use Rattle.text_values.specs.Texts.{condition_value};
@@ -14,6 +16,7 @@ ghost use Rattle.text_values.specs.declared.place.Place.TheVariants as place;
 use crate::contexts::job_of;
 use crate::derived::{is_any_failed, is_any_step_failed};
 use crate::entrance::Entrance;
+use crate::kept::Kept;
 use crate::place::{SeenJob, SeenLeg, SeenRun};
 use expr_reader::fold;
 use expr_value::Status;
@@ -88,34 +91,35 @@ pub fn is_stopping(alloc: Global, at: &SeenLeg) -> Result<bool, AllocError>
     is_stopping_given(alloc, at, stops_anyway(at))
 }
 
-/// How a leg counts that is to stop, or is not.
-fn counted(at: &SeenLeg, stops: bool) -> Outcome
-    ensures { stops ≡ spec.is_stopping (leg_seen at.now)
-        → result ≡ spec.leg_result (leg_seen at.now) }
+/// How a leg counts that is to stop, or is not, and of which a done step counts as a failure, or none does.
+fn counted(stops: bool, failed: bool) -> Outcome
+    ensures { result ≡ (if stops then outcome.Cancelled
+        else (if failed then outcome.Failure else outcome.Success)) }
 {
     if stops {
         Outcome::Cancelled
-    } else if is_any_step_failed(at.leg.steps.as_slice()) {
+    } else if failed {
         Outcome::Failure
     } else {
         Outcome::Success
     }
 }
 
-/// How a leg counts so far, of which it is known whether it is to stop whatever its job's condition.
-pub fn leg_result_given(alloc: Global, at: &SeenLeg, anyway: bool) -> Result<Outcome, AllocError>
-    requires { anyway ≡ spec.stops_anyway (leg_seen at.now) }
+/// How a leg counts so far, by what is kept of it.
+pub fn leg_result_kept(alloc: Global, at: &SeenLeg, kept: Kept) -> Result<Outcome, AllocError>
+    requires { IsKeptOf kept (leg_seen at.now) }
     ensures { IfOk result (λ how. how ≡ spec.leg_result (leg_seen at.now)) }
 {
-    let stops = is_stopping_given(alloc, at, anyway)?;
-    Ok(counted(at, stops))
+    let stops = is_stopping_given(alloc, at, kept.stops_anyway)?;
+    Ok(counted(stops, kept.has_failed_step))
 }
 
 /// How a leg counts so far.
 pub fn leg_result(alloc: Global, at: &SeenLeg) -> Result<Outcome, AllocError>
     ensures { IfOk result (λ how. how ≡ spec.leg_result (leg_seen at.now)) }
 {
-    leg_result_given(alloc, at, stops_anyway(at))
+    let stops = is_stopping(alloc, at)?;
+    Ok(counted(stops, is_any_step_failed(at.leg.steps.as_slice())))
 }
 
 /// A result as a status.

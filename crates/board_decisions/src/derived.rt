@@ -48,7 +48,7 @@ pub fn is_under_way(state: LegState) -> bool
 }
 
 /// Whether a result is a success.
-pub(crate) fn is_success(outcome: Outcome) -> bool
+pub fn is_success(outcome: Outcome) -> bool
     ensures { result ≡ spec.is_success outcome }
 {
     matches!(outcome, Outcome::Success)
@@ -62,7 +62,7 @@ pub fn is_failure(outcome: Outcome) -> bool
 }
 
 /// Whether a result is that of what was cancelled.
-fn is_cancelled(outcome: Outcome) -> bool
+pub fn is_cancelled(outcome: Outcome) -> bool
     ensures { result ≡ spec.is_cancelled outcome }
 {
     matches!(outcome, Outcome::Cancelled)
@@ -202,7 +202,7 @@ pub fn run_result(run: &Run) -> Outcome
 }
 
 /// Whether a done step counts as a failure.
-pub(crate) fn is_any_step_failed(steps: &[DoneStep]) -> bool
+pub fn is_any_step_failed(steps: &[DoneStep]) -> bool
     ensures { result ≡ list_any (λ step. spec.is_failure step.conclusion) steps.now }
 {
     steps.iter().any(|step| is_failure(step.conclusion))

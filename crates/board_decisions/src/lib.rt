@@ -7,11 +7,12 @@
 //! is judged. `decisions` says what the texts of a place come to: whether a job is opened, a
 //! leg is to stop, a step is called or passed over, what a call asks for, what a leg gives its
 //! job, and by which `entrance` a member enters a group; `unasked` whether a step is called, without its call.
+//! `kept` is what whoever counts beside a board knows of a leg, so that it isn't looked for.
 //! Nothing here changes a board.
 //!
 //! All are defined in `specs/`: `Place` (and `Numbered`: places are in the order of the numbers), `Derived`,
-//! `Ancestors`, `Contexts` (what the contexts of a place hold), `Decisions` and `Own` (steps of whose texts none is
-//! evaluated). The crate stands on
+//! `Ancestors`, `Contexts` (what the contexts of a place hold), `Decisions`, `Own` (steps of whose texts none is
+//! evaluated) and `Kept`. The crate stands on
 //! `flow_model` (plans and boards), on `text_values` (a text's value where it stands), and on `expr_reader`
 //! and `expr_value` for what these speak of.
 
@@ -23,6 +24,7 @@ mod contexts;
 pub mod decisions;
 pub mod derived;
 pub mod entrance;
+pub mod kept;
 mod nodes;
 pub mod place;
 mod scene;

@@ -3,16 +3,18 @@
 
 ghost use Rattle.std.specs.Prelude.{◌≡◌, true, None};
 ghost use Rattle.board_decisions.specs.Decisions as spec;
-ghost use Rattle.board_decisions.specs.Own.{IsOwnStep};
+ghost use Rattle.board_decisions.specs.Kept.{IsKeptOf};
+ghost use Rattle.board_decisions.specs.Own.{HasOwnEnv, IsOwnStep};
 ghost use Rattle.board_decisions.specs.Seen.{leg_seen};
 ghost use Rattle.expr_value.specs.Answer.{Gives};
 ghost use Rattle.expr_value.specs.Context.{Contexts};
 ghost use Rattle.text_values.specs.Own.{HasNoFault};
 
 use crate::anywhere::holds_anywhere;
-use crate::decisions::{leg_result_given, status_of, step_decision};
+use crate::decisions::{leg_result_kept, status_of, step_decision};
+use crate::kept::Kept;
 use crate::place::SeenLeg;
-use flow_model::{StepCall, StepPlan, Text, ValueFault, Work};
+use flow_model::{JobPlan, RunPlan, StepCall, StepPlan, Text, ValueFault, Work};
 use std::alloc::Global;
 use text_values::{is_own_env, is_own_text};
 
@@ -38,15 +40,20 @@ fn is_own_work(work: &Work) -> bool
     }
 }
 
+/// Whether no text of the variables of a workflow and a job is evaluated.
+pub fn has_own_env(run: &RunPlan, job: &JobPlan) -> bool
+    ensures { result ≡ true → HasOwnEnv run.now job.now }
+{
+    is_own_env(&run.env) && is_own_env(&job.env)
+}
+
 /// Whether none of the texts of a step but its condition is evaluated, nor of those of the variables that it sees.
-fn has_own_texts(at: &SeenLeg, step: &StepPlan) -> bool
+fn has_own_texts(at: &SeenLeg, step: &StepPlan, kept: Kept) -> bool
+    requires { IsKeptOf kept (leg_seen at.now) }
     ensures { result ≡ true
         → IsOwnStep (leg_seen at.now) (record step.now { condition = None }) }
 {
-    if !is_own_env(&at.run_plan.env) || !is_own_env(&at.job_plan.env) {
-        return false;
-    }
-    is_own_env(&step.env) && is_own_work(&step.work)
+    kept.has_own_env && is_own_env(&step.env) && is_own_work(&step.work)
 }
 
 /// Whether there is a call.
@@ -60,21 +67,21 @@ fn is_called(decision: Result<Option<StepCall>, ValueFault>) -> Result<bool, Val
     }
 }
 
-/// Whether a step of a leg is called, of which it is known whether it is to stop whatever its job's condition.
+/// Whether a step of a leg is called, by what is kept of the leg.
 #[tactic(auto, using(crate::proofs::OwnSteps::own_step, crate::proofs::OwnSteps::gives_called))]
 pub fn is_step_called(
     alloc: Global,
     number: u64,
     at: &SeenLeg,
     step: &StepPlan,
-    anyway: bool,
+    kept: Kept,
 ) -> Result<bool, ValueFault>
-    requires { anyway ≡ spec.stops_anyway (leg_seen at.now) }
+    requires { IsKeptOf kept (leg_seen at.now) }
     ensures { Gives (λ called. called) result
         (spec.is_called (spec.step_decision number (leg_seen at.now) step.now)) }
 {
-    if has_own_texts(at, step) {
-        let status = status_of(leg_result_given(alloc, at, anyway)?);
+    if has_own_texts(at, step, kept) {
+        let status = status_of(leg_result_kept(alloc, at, kept)?);
         if let Some(holds) = holds_anywhere(alloc, &step.condition, status) {
             return Ok(holds);
         }

@@ -35,32 +35,32 @@ going-not_closed run_state.Waiting h = refl
 going-not_closed run_state.Going h = refl
 going-not_closed (run_state.Closed result) h = absurd (true≢false (sym h))
 
-all-ended : (legs : List Leg) → list_all (λ leg. is_ended leg.state) legs ≡ (count_by (λ leg. not (is_ended leg.state)) legs == 0)
-all-ended [] = refl
-all-ended (x ∷ xs) = by (all-ended xs) (is_ended x.state) refl
+-- all pass a test where none is counted that does not
+pub all-counted : {A : Type 0} (t : A → Bool) (xs : List A) → list_all t xs ≡ (count_by (λ x. not (t x)) xs == 0)
+all-counted t [] = refl
+all-counted {A} t (x ∷ xs) = by (all-counted t xs) (t x) refl
   where
-    cons : count_by (λ leg. not (is_ended leg.state)) (x ∷ xs) ≡ one (not (is_ended x.state)) + count_by (λ leg. not (is_ended leg.state)) xs
-    cons = sum_by-cons (λ (leg : Leg). one (not (is_ended leg.state))) x xs
+    cons : count_by (λ y. not (t y)) (x ∷ xs) ≡ one (not (t x)) + count_by (λ y. not (t y)) xs
+    cons = sum_by-cons (λ (y : A). one (not (t y))) x xs
 
-    by : list_all (λ leg. is_ended leg.state) xs ≡ (count_by (λ leg. not (is_ended leg.state)) xs == 0) → (c : Bool) → is_ended x.state ≡ c
-        → list_all (λ leg. is_ended leg.state) (x ∷ xs) ≡ (count_by (λ leg. not (is_ended leg.state)) (x ∷ xs) == 0)
+    by : list_all t xs ≡ (count_by (λ y. not (t y)) xs == 0) → (c : Bool) → t x ≡ c → list_all t (x ∷ xs) ≡ (count_by (λ y. not (t y)) (x ∷ xs) == 0)
     by later true is =
         let a = ap (λ d. one (not d)) is in
         let n = cons in
-        let same : count_by (λ leg. not (is_ended leg.state)) (x ∷ xs) ≡ count_by (λ leg. not (is_ended leg.state)) xs = omega (arith, a, n) in
-        ap (λ d. d && list_all (λ (leg : Leg). is_ended leg.state) xs) is ∙ later ∙ ap (λ k. k == 0) (sym same)
+        let same : count_by (λ y. not (t y)) (x ∷ xs) ≡ count_by (λ y. not (t y)) xs = omega (arith, a, n) in
+        ap (λ d. d && list_all t xs) is ∙ later ∙ ap (λ k. k == 0) (sym same)
     by later false is =
         let a = ap (λ d. one (not d)) is in
         let n = cons in
-        let some : (count_by (λ leg. not (is_ended leg.state)) (x ∷ xs) == 0) ≡ false = grind (arith, nat_tests, a, n) in
-        ap (λ d. d && list_all (λ (leg : Leg). is_ended leg.state) xs) is ∙ sym some
+        let some : (count_by (λ y. not (t y)) (x ∷ xs) == 0) ≡ false = grind (arith, nat_tests, a, n) in
+        ap (λ d. d && list_all t xs) is ∙ sym some
 
 ended-by : (closed shut : Bool) → closed ≡ false → (legs : List Leg)
     → list_all (λ leg. closed || shut || is_ended leg.state) legs ≡ (shut || (count_by (λ leg. not (is_ended leg.state)) legs == 0))
 ended-by true shut is legs = absurd (true≢false is)
 ended-by false true is [] = refl
 ended-by false true is (x ∷ xs) = ended-by false true is xs
-ended-by false false is legs = all-ended legs
+ended-by false false is legs = all-counted (λ (leg : Leg). is_ended leg.state) legs
 
 settled-ended : (run : Run) (job : Job) → is_going run.state ≡ true → is_settled job ≡ job_has_ended run job
 settled-ended run job going = sym (ended-by (is_closed run.state) (is_shut job.state) (going-not_closed run.state going) job.legs)

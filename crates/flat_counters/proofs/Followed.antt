@@ -1,5 +1,5 @@
--- The counters after a change of the board.
-use Rattle.std.proofs.Common.{◌≡◌, ℕ, Bool, List, map, slice_get, ap, subst, sym, ◌∙◌}
+-- What is kept beside a board after a change of it.
+use Rattle.std.proofs.Common.{◌≡◌, ℕ, inl, inr, Bool, true, false, List, Option, map, slice_get, ap, subst, sym, refl, ◌∙◌}
 use Rattle.board_decisions.specs.declared.place.JobPlace.{JobPlace}
 use Rattle.board_decisions.specs.declared.place.LegPlace.{LegPlace}
 use Rattle.flow_model.specs.declared.plan.Plan.{Plan}
@@ -8,68 +8,137 @@ use Rattle.flow_model.specs.declared.board.Job.{Job}
 use Rattle.flow_model.specs.declared.board.JobState.{JobState}
 use Rattle.flow_model.specs.declared.board.Leg.{Leg}
 use Rattle.flow_model.specs.declared.board.LegState.{LegState}
-use Rattle.flat_counters.specs.Changes.{job_of, run_after, state_there, settled_in, retallied, recounted_if}
-use Rattle.flat_counters.specs.Counters.{is_settled, tallies_of, needs_of, IsCounted}
+use Rattle.flow_model.specs.declared.board.Run.{Run}
+use Rattle.flat_counters.specs.Changes.{CameTo, LegRecounted, recounted_if, run_after, standing_counted}
+use Rattle.flat_counters.specs.Counted.{AreCounts, IsCounted}
+use Rattle.flat_counters.specs.Counters.{is_settled, moved, needs_of, tallies_of}
+use Rattle.flat_counters.specs.Failing.{failing_of}
 use Rattle.flat_counters.specs.Names.{IsGroup, IsNamed, RunComesNamed}
+use Rattle.flat_counters.specs.Standing.{run_moved, run_tally, standing_in, standing_read}
 use Rattle.flat_counters.specs.declared.change.RunChange.{RunChange}
+use Rattle.flat_counters.specs.declared.counts.Counts.{Counts}
 use Rattle.flat_counters.specs.declared.need.Need.{Need}
+use Rattle.flat_counters.specs.declared.standing.JobStanding.{JobStanding}
+use Rattle.flat_counters.specs.declared.standing.RunTally.{RunTally}
 use Rattle.flat_counters.specs.declared.tally.Tally.{Tally}
+use Rattle.flat_counters.proofs.Failings.{job_failing_kept, run_failing_kept}
+use Rattle.flat_counters.proofs.Lists.{changed-same}
 use Rattle.flat_counters.proofs.Named.{leg_named, job_named, run_named, jobs_stay}
-use Rattle.flat_counters.proofs.Needs.{needs_follow, needs-kept}
+use Rattle.flat_counters.proofs.Needs.{needs_follow, needs-kept, settled_in}
 use Rattle.flat_counters.specs.Places.{leg_places}
 use Rattle.flat_counters.proofs.Placed.{leg_places_kept, job_leg_places, run_leg_places}
-use Rattle.flat_counters.proofs.Tallies.{leg_tallies, job_tallies, run_tallies}
+use Rattle.flat_counters.proofs.Standings.{moved_alike, read_before, read_in, run_tallies_kept, runs_follow, standing_settles}
+use Rattle.flat_counters.proofs.Tallies.{ComesSo, alike_tallies, job_tallies, moved_same, run_tallies, tallied_so}
 use Rattle.status_table.specs.Change.{changed, with_run, with_job, with_leg}
 
--- the tallies where a leg was changed
-pub leg_tallied : (b new : Board) (place : LegPlace) (f : Leg → Leg) (was is : LegState) (old made : List (List Tally)) → old ≡ tallies_of b → was ≡ state_there b place
-    → new ≡ with_leg b place f → is ≡ state_there new place → made ≡ retallied place was is old → made ≡ tallies_of new
-leg_tallied b new place f was is old made tallied was_is new_is is_is made_is =
-    made_is
-    ∙ (λ i. retallied place (was_is i) ((is_is ∙ ap (λ (x : Board). state_there x place) new_is) i) (tallied i))
-    ∙ leg_tallies b place f
-    ∙ ap tallies_of (sym new_is)
+-- where a leg is counted alike, nothing is counted again
+pub alike_recounted : (place : LegPlace) (was is : LegState) (run : Option Run) (counts : Counts) → ((t : Tally) → moved was is t ≡ t) → LegRecounted place was is run counts counts
+alike_recounted place was is run counts alike = record {
+  tallies = sym (alike_tallies place was is counts.tallies alike);
+  runs = sym (changed-same counts.runs place.run (run_moved standing standing) (moved_alike standing));
+  needs = sym (stays standing.is_settled);
+}
+  where
+    standing : JobStanding
+    standing = standing_counted place run counts
+
+    stays : (c : Bool) → recounted_if c c run place.run counts.needs ≡ counts.needs
+    stays true = refl
+    stays false = refl
+
+-- so it is where it would be counted alike where it came to, and came there or nowhere
+pub came_alike : (place : LegPlace) (was to is : LegState) (run : Option Run) (counts : Counts) → CameTo was to is → ((t : Tally) → moved was to t ≡ t) → LegRecounted place was is run counts counts
+came_alike place was to is run counts came alike = alike_recounted place was is run counts (λ t. elim came [
+  | inl there ↦ ap (λ (s : LegState). moved was s t) there ∙ alike t
+  | inr nowhere ↦ ap (λ (s : LegState). moved was s t) nowhere ∙ moved_same was t
+])
 
 -- the needs where a job was changed
-pub job_needed : (p : Plan) (b new : Board) (place : JobPlace) (g : Job → Job) (settled : Bool) (old made : List (List Need)) → old ≡ needs_of p.runs b.runs
-    → settled ≡ settled_in (slice_get b.runs place.run) place.job → new ≡ with_job b place g
-    → made ≡ recounted_if settled (settled_in (slice_get new.runs place.run) place.job) (slice_get new.runs place.run) place.run old → made ≡ needs_of p.runs new.runs
-job_needed p b new place g settled old made needed settled_is new_is made_is =
-    let runs : new.runs ≡ (with_job b place g).runs = ap (λ (x : Board). x.runs) new_is in
+job-needed : (p : Plan) (b new : Board) (r j : ℕ) (g : Job → Job) (was is : JobStanding) (old made : List (List Need)) → old ≡ needs_of p.runs b.runs
+    → new.runs ≡ changed b.runs r (λ run. record run { jobs = changed run.jobs j g }) → was ≡ standing_in (slice_get b.runs r) j → is ≡ standing_in (slice_get new.runs r) j
+    → made ≡ recounted_if was.is_settled is.is_settled (slice_get new.runs r) r old → made ≡ needs_of p.runs new.runs
+job-needed p b new r j g was is old made needed runs was_is is_is made_is =
+    let was_settled : was.is_settled ≡ settled_in (slice_get b.runs r) j = ap (λ (s : JobStanding). s.is_settled) was_is ∙ standing_settles (slice_get b.runs r) j in
+    let is_settled : is.is_settled ≡ settled_in (slice_get new.runs r) j = ap (λ (s : JobStanding). s.is_settled) is_is ∙ standing_settles (slice_get new.runs r) j in
     made_is
-    ∙ (λ i. recounted_if (settled_is i) (settled_in (slice_get (runs i) place.run) place.job) (slice_get (runs i) place.run) place.run (needed i))
-    ∙ needs_follow p.runs b.runs place.run place.job g
+    ∙ (λ i. recounted_if (was_settled i) (is_settled i) (slice_get new.runs r) r (needed i))
+    ∙ (λ i. recounted_if (settled_in (slice_get b.runs r) j) (settled_in (slice_get (runs i) r) j) (slice_get (runs i) r) r (needs_of p.runs b.runs))
+    ∙ needs_follow p.runs b.runs r j g
     ∙ ap (needs_of p.runs) (sym runs)
 
--- all of them where a leg was changed
-pub leg_counted : (p : Plan) (b new : Board) (place : LegPlace) (f : Leg → Leg) (was is : LegState) (settled : Bool) (ts ts1 : List (List Tally)) (ns ns1 : List (List Need)) (ls : List LegPlace)
-    → IsCounted p b ts ns ls → ((leg : Leg) → IsGroup leg.group → IsGroup (f leg).group) → was ≡ state_there b place
-    → settled ≡ settled_in (slice_get b.runs place.run) place.job → new ≡ with_leg b place f → is ≡ state_there new place → ts1 ≡ retallied place was is ts
-    → ns1 ≡ recounted_if settled (settled_in (slice_get new.runs place.run) place.job) (slice_get new.runs place.run) place.run ns → IsCounted p new ts1 ns1 ls
-leg_counted p b new place f was is settled ts ts1 ns ns1 ls counted names was_is settled_is new_is is_is ts_is ns_is = record {
-  tallied = leg_tallied b new place f was is ts ts1 counted.tallied was_is new_is is_is ts_is;
-  needed = job_needed p b new (job_of place) (λ job. record job { legs = changed job.legs place.leg f }) settled ns ns1 counted.needed settled_is new_is ns_is;
+-- how the jobs stand where one was changed
+jobs-stand : (b new : Board) (r j : ℕ) (g : Job → Job) (was is : JobStanding) (old made : List RunTally) → old ≡ map run_tally b.runs
+    → new.runs ≡ changed b.runs r (λ run. record run { jobs = changed run.jobs j g }) → was ≡ standing_in (slice_get b.runs r) j → is ≡ standing_in (slice_get new.runs r) j
+    → made ≡ changed old r (run_moved was is) → made ≡ map run_tally new.runs
+jobs-stand b new r j g was is old made stand runs was_is is_is made_is =
+    made_is
+    ∙ (λ i. changed (stand i) r (run_moved (was_is i) ((is_is ∙ ap (λ (xs : List Run). standing_in (slice_get xs r) j) runs) i)))
+    ∙ runs_follow j g b.runs r
+    ∙ ap (map run_tally) (sym runs)
+
+-- the counts where a leg was changed
+pub leg_counts : (p : Plan) (b new : Board) (place : LegPlace) (f : Leg → Leg) (was is : LegState) (old made : Counts) → AreCounts p b old → new ≡ with_leg b place f
+    → ComesSo b new place was is → LegRecounted place was is (slice_get new.runs place.run) old made → AreCounts p new made
+leg_counts p b new place f was is old made counted new_is so again =
+    let g : Job → Job = λ job. record job { legs = changed job.legs place.leg f } in
+    let runs : new.runs ≡ (with_leg b place f).runs = ap (λ (x : Board). x.runs) new_is in
+    let tallied : made.tallies ≡ tallies_of new = again.tallies ∙ tallied_so b new place f was is old.tallies counted.tallied new_is so in
+    let before : standing_counted place (slice_get new.runs place.run) old ≡ standing_in (slice_get b.runs place.run) place.job =
+    (λ i. standing_read (slice_get (runs i) place.run) (slice_get (counted.tallied i) place.run) place.job) ∙ read_before b place f in
+    let after : standing_counted place (slice_get new.runs place.run) made ≡ standing_in (slice_get new.runs place.run) place.job =
+    ap (λ ts. standing_read (slice_get new.runs place.run) (slice_get ts place.run) place.job) tallied ∙ read_in new place.run place.job in
+    record {
+      tallied = tallied;
+      stand = jobs-stand b new place.run place.job g _ _ old.runs made.runs counted.stand runs before after again.runs;
+      needed = job-needed p b new place.run place.job g _ _ old.needs made.needs counted.needed runs before after again.needs;
+    }
+
+-- all that is kept where a leg was changed
+pub leg_counted : (p : Plan) (b new : Board) (place : LegPlace) (f : Leg → Leg) (was is : LegState) (old made : Counts) (fs gs : List (List (List Bool))) (ls : List LegPlace)
+    → IsCounted p b old fs ls → ((leg : Leg) → IsGroup leg.group → IsGroup (f leg).group) → new ≡ with_leg b place f → ComesSo b new place was is
+    → LegRecounted place was is (slice_get new.runs place.run) old made → gs ≡ failing_of new → IsCounted p new made gs ls
+leg_counted p b new place f was is old made fs gs ls counted names new_is so again failed = record {
+  counted = leg_counts p b new place f was is old made counted.counted new_is so again;
+  failed = failed;
   named = subst IsNamed (sym new_is) (leg_named b place f names counted.named);
   placed = counted.placed ∙ sym (leg_places_kept b place f) ∙ ap leg_places (sym new_is);
 }
 
 -- where a job came into a state
-pub job_counted : (p : Plan) (b new : Board) (place : JobPlace) (state : JobState) (settled : Bool) (ts : List (List Tally)) (ns ns1 : List (List Need)) (ls : List LegPlace)
-    → IsCounted p b ts ns ls → settled ≡ settled_in (slice_get b.runs place.run) place.job → new ≡ with_job b place (λ job. record job { state = state })
-    → ns1 ≡ recounted_if settled (settled_in (slice_get new.runs place.run) place.job) (slice_get new.runs place.run) place.run ns → IsCounted p new ts ns1 ls
-job_counted p b new place state settled ts ns ns1 ls counted settled_is new_is ns_is = record {
-  tallied = counted.tallied ∙ sym (job_tallies b place state) ∙ ap tallies_of (sym new_is);
-  needed = job_needed p b new place (λ job. record job { state = state }) settled ns ns1 counted.needed settled_is new_is ns_is;
-  named = subst IsNamed (sym new_is) (job_named b place state counted.named);
-  placed = counted.placed ∙ sym (job_leg_places b place state) ∙ ap leg_places (sym new_is);
-}
+pub job_counted : (p : Plan) (b new : Board) (place : JobPlace) (state : JobState) (was is : JobStanding) (old made : Counts) (fs : List (List (List Bool))) (ls : List LegPlace)
+    → IsCounted p b old fs ls → new ≡ with_job b place (λ job. record job { state = state })
+    → was ≡ standing_read (slice_get b.runs place.run) (slice_get old.tallies place.run) place.job → is ≡ standing_read (slice_get new.runs place.run) (slice_get old.tallies place.run) place.job
+    → made.tallies ≡ old.tallies → made.runs ≡ changed old.runs place.run (run_moved was is)
+    → made.needs ≡ recounted_if was.is_settled is.is_settled (slice_get new.runs place.run) place.run old.needs → IsCounted p new made fs ls
+job_counted p b new place state was is old made fs ls counted new_is was_is is_is tallies_is runs_is needs_is =
+    let g : Job → Job = λ job. record job { state = state } in
+    let runs : new.runs ≡ (with_job b place g).runs = ap (λ (x : Board). x.runs) new_is in
+    let stay : old.tallies ≡ tallies_of new = counted.counted.tallied ∙ sym (job_tallies b place state) ∙ ap tallies_of (sym new_is) in
+    let before : was ≡ standing_in (slice_get b.runs place.run) place.job =
+    was_is ∙ ap (λ ts. standing_read (slice_get b.runs place.run) (slice_get ts place.run) place.job) counted.counted.tallied ∙ read_in b place.run place.job in
+    let after : is ≡ standing_in (slice_get new.runs place.run) place.job =
+    is_is ∙ ap (λ ts. standing_read (slice_get new.runs place.run) (slice_get ts place.run) place.job) stay ∙ read_in new place.run place.job in
+    record {
+      counted = record {
+        tallied = tallies_is ∙ stay;
+        stand = jobs-stand b new place.run place.job g was is old.runs made.runs counted.counted.stand runs before after runs_is;
+        needed = job-needed p b new place.run place.job g was is old.needs made.needs counted.counted.needed runs before after needs_is;
+      };
+      failed = counted.failed ∙ sym (job_failing_kept b place state) ∙ ap failing_of (sym new_is);
+      named = subst IsNamed (sym new_is) (job_named b place state counted.named);
+      placed = counted.placed ∙ sym (job_leg_places b place state) ∙ ap leg_places (sym new_is);
+    }
 
 -- where a run was changed, but not its jobs
-pub run_counted : (p : Plan) (b new : Board) (r : ℕ) (how : RunChange) (ts : List (List Tally)) (ns : List (List Need)) (ls : List LegPlace) → IsCounted p b ts ns ls → RunComesNamed how
-    → new ≡ with_run b r (run_after how) → IsCounted p new ts ns ls
-run_counted p b new r how ts ns ls counted comes new_is = subst (λ (x : Board). IsCounted p x ts ns ls) (sym new_is) (record {
-  tallied = counted.tallied ∙ sym (run_tallies b r (run_after how) (jobs_stay how));
-  needed = counted.needed ∙ sym (needs-kept p.runs b.runs r (run_after how) (λ run at. ap settled (jobs_stay how run)));
+pub run_counted : (p : Plan) (b new : Board) (r : ℕ) (how : RunChange) (counts : Counts) (fs : List (List (List Bool))) (ls : List LegPlace) → IsCounted p b counts fs ls → RunComesNamed how
+    → new ≡ with_run b r (run_after how) → IsCounted p new counts fs ls
+run_counted p b new r how counts fs ls counted comes new_is = subst (λ (x : Board). IsCounted p x counts fs ls) (sym new_is) (record {
+  counted = record {
+    tallied = counted.counted.tallied ∙ sym (run_tallies b r (run_after how) (jobs_stay how));
+    stand = counted.counted.stand ∙ sym (run_tallies_kept b.runs r (run_after how) (jobs_stay how));
+    needed = counted.counted.needed ∙ sym (needs-kept p.runs b.runs r (run_after how) (λ run at. ap settled (jobs_stay how run)));
+  };
+  failed = counted.failed ∙ sym (run_failing_kept b r (run_after how) (jobs_stay how));
   named = run_named b r how comes counted.named;
   placed = counted.placed ∙ sym (run_leg_places b r (run_after how) (jobs_stay how));
 })

@@ -1,8 +1,10 @@
 pub mod Ended
+pub mod Failings
 pub mod Followed
 pub mod Lists
 pub mod Named
 pub mod Needs
 pub mod Placed
+pub mod Standings
 pub mod Tallies
 pub mod Undone

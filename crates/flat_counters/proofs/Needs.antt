@@ -4,12 +4,17 @@ use Rattle.board_decisions.specs.Derived.{holds, holds_at}
 use Rattle.flow_model.specs.declared.board.Run.{Run}
 use Rattle.flow_model.specs.declared.board.Job.{Job}
 use Rattle.flow_model.specs.declared.plan.RunPlan.{RunPlan}
-use Rattle.flat_counters.specs.Changes.{settled_in, recounted_if}
+use Rattle.flat_counters.specs.Changes.{recounted_if}
 use Rattle.flat_counters.specs.Counters.{is_settled, settled_jobs, first_number, need_of, run_needs, needs_of, recounted}
 use Rattle.flat_counters.specs.declared.need.Need.{Need}
 use Rattle.flat_counters.proofs.Lists.{map-same, map-twice, map-get, changed-none}
 use Rattle.status_table.specs.Change.{changed}
 use Rattle.status_table.proofs.Lists.{same_some, no_some, changed-cons, changed-there}
+
+-- whether the job at a place of a run that may be there has ended by itself
+abbrev pub settled_in : Option Run → ℕ → Bool
+settled_in None job = false
+settled_in (Some run) job = holds_at (settled_jobs run) job
 
 -- needs stay where no job of the run that is changed becomes settled, or no longer is
 pub needs-kept : (plans : List RunPlan) (runs : List Run) (r : ℕ) (f : Run → Run) → ((run : Run) → slice_get runs r ≡ Some run → settled_jobs (f run) ≡ settled_jobs run)

@@ -1,7 +1,5 @@
 -- Changes of a board, and what is counted after them.
-use Rattle.std.specs.Prelude.{ℕ, ◌-◌, Bool, false, true, List, [], ◌∷◌, ◌++◌, length, map, take, Option, Some, None}
-use Rattle.std.specs.List.{list_all}
-use Rattle.board_decisions.specs.Derived.{holds_at}
+use Rattle.std.specs.Prelude.{◌≡◌, ℕ, ◌-◌, ◌⊎◌, Bool, false, true, List, [], ◌∷◌, ◌++◌, length, map, take, Option, Some, None, slice_get}
 use Rattle.board_decisions.specs.Numbered.{job_there, leg_there}
 use Rattle.board_decisions.specs.declared.place.JobPlace.{JobPlace}
 use Rattle.board_decisions.specs.declared.place.LegPlace.{LegPlace}
@@ -14,12 +12,15 @@ use Rattle.flow_model.specs.declared.board.Leg.{Leg}
 use Rattle.flow_model.specs.declared.board.LegState.{LegState}
 use Rattle.flow_model.specs.declared.board.LegState.TheVariants as leg_state
 use Rattle.status_table.specs.Change.{changed}
-use Rattle.flat_counters.specs.Counters.{is_settled, moved, recounted, settled_jobs}
+use Rattle.flat_counters.specs.Counters.{moved, recounted, settled_jobs}
+use Rattle.flat_counters.specs.Standing.{run_moved, standing_read}
 use Rattle.flat_counters.specs.declared.change.LegChange.{LegChange}
 use Rattle.flat_counters.specs.declared.change.LegChange.TheVariants as leg_change
 use Rattle.flat_counters.specs.declared.change.RunChange.{RunChange}
 use Rattle.flat_counters.specs.declared.change.RunChange.TheVariants as run_change
+use Rattle.flat_counters.specs.declared.counts.Counts.{Counts}
 use Rattle.flat_counters.specs.declared.need.Need.{Need}
+use Rattle.flat_counters.specs.declared.standing.JobStanding.{JobStanding}
 use Rattle.flat_counters.specs.declared.tally.Tally.{Tally}
 
 -- ---- a run, a job or a leg
@@ -47,6 +48,13 @@ leg_after (leg_change.State state) leg = record leg { state = state }
 leg_after (leg_change.Group state group) leg = record leg { state = state; group = group }
 leg_after (leg_change.Outputs state outputs) leg = record leg { state = state; outputs = outputs }
 leg_after (leg_change.Stop stop) leg = record leg { stop = stop }
+
+-- the state into which a leg comes; one whose stop flag is set stays in its own, for which one stands that counts like itself
+abbrev pub state_in : LegChange → LegState
+state_in (leg_change.State state) = state
+state_in (leg_change.Group state group) = state
+state_in (leg_change.Outputs state outputs) = state
+state_in (leg_change.Stop stop) = leg_state.Fresh
 
 -- what a leg had of what is changed
 abbrev pub leg_before : LegChange → Leg → LegChange
@@ -92,16 +100,6 @@ state_of (Some leg) = leg.state
 abbrev pub state_there : Board → LegPlace → LegState
 state_there b place = state_of (leg_there b place)
 
--- whether the job at a place of a run that may be there has ended by itself
-abbrev pub settled_in : Option Run → ℕ → Bool
-settled_in None job = false
-settled_in (Some run) job = holds_at (settled_jobs run) job
-
--- whether all jobs of a run that may be there have
-abbrev pub all_settled_in : Option Run → Bool
-all_settled_in None = false
-all_settled_in (Some run) = list_all is_settled run.jobs
-
 -- the tallies where the leg at a place came from a state to another
 abbrev pub retallied : LegPlace → LegState → LegState → List (List Tally) → List (List Tally)
 retallied place was is tallies = changed tallies place.run (λ row. changed row place.job (moved was is))
@@ -117,6 +115,21 @@ recounted_if false false run r needs = needs
 recounted_if false true run r needs = run_recounted run r needs
 recounted_if true false run r needs = run_recounted run r needs
 recounted_if true true run r needs = needs
+
+-- how the job of a leg stands by the tallies of these counts
+abbrev pub standing_counted : LegPlace → Option Run → Counts → JobStanding
+standing_counted place run counts = standing_read run (slice_get counts.tallies place.run) place.job
+
+-- The counts after the leg at a place came from a state to another: the tally of its job; and, as that job stands by the
+-- tallies before and after, those of the jobs of its run, and what these need.
+pub record LegRecounted (place : LegPlace) (was is : LegState) (run : Option Run) (old new : Counts) : Type 0 where
+  pub tallies : new.tallies ≡ retallied place was is old.tallies
+  pub runs : new.runs ≡ changed old.runs place.run (run_moved (standing_counted place run old) (standing_counted place run new))
+  pub needs : new.needs ≡ recounted_if (standing_counted place run old).is_settled (standing_counted place run new).is_settled run place.run old.needs
+
+-- A leg that was in a state, and has come into another, or is not there.
+abbrev pub CameTo : LegState → LegState → LegState → Type 0
+CameTo was to is = (is ≡ to) ⊎ (is ≡ was)
 
 -- the board with a leg noted as the last that ended
 abbrev pub noted_last : Board → ℕ → Board

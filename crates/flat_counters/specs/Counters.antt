@@ -1,7 +1,7 @@
 -- What is counted beside a board: the legs of each job by how
 -- they stand, and how many of the jobs that a job needs are open.
-use Rattle.std.specs.Prelude.{◌≡◌, ℕ, suc, ◌-◌, ◌==◌, ◌||◌, Bool, true, false, not, List, [], ◌∷◌, map, length, nat_lt, count_by, Option, Some, None, slice_get, if◌then◌else◌}
-use Rattle.board_decisions.specs.Derived.{is_shut, is_ended, is_under_way, has_failed, holds_at}
+use Rattle.std.specs.Prelude.{ℕ, suc, ◌-◌, ◌==◌, ◌||◌, Bool, true, false, not, List, [], ◌∷◌, map, length, nat_lt, count_by, Option, Some, None, slice_get, if◌then◌else◌}
+use Rattle.board_decisions.specs.Derived.{is_shut, is_ended, is_under_way, has_failed, was_cancelled, holds_at}
 use Rattle.board_decisions.specs.Place.{◌>>=◌}
 use Rattle.board_decisions.specs.declared.place.JobPlace.{JobPlace}
 use Rattle.flow_model.specs.declared.board.Board.{Board}
@@ -9,12 +9,8 @@ use Rattle.flow_model.specs.declared.board.Run.{Run}
 use Rattle.flow_model.specs.declared.board.Job.{Job}
 use Rattle.flow_model.specs.declared.board.Leg.{Leg}
 use Rattle.flow_model.specs.declared.board.LegState.{LegState}
-use Rattle.flow_model.specs.declared.plan.Plan.{Plan}
 use Rattle.flow_model.specs.declared.plan.RunPlan.{RunPlan}
 use Rattle.flow_model.specs.declared.plan.JobPlan.{JobPlan}
-use Rattle.board_decisions.specs.declared.place.LegPlace.{LegPlace}
-use Rattle.flat_counters.specs.Names.{IsNamed}
-use Rattle.flat_counters.specs.Places.{leg_places}
 use Rattle.flat_counters.specs.declared.tally.Counter.{Counter}
 use Rattle.flat_counters.specs.declared.tally.Counter.TheVariants as counter
 use Rattle.flat_counters.specs.declared.tally.Tally.{Tally}
@@ -27,6 +23,7 @@ abbrev pub counts : Counter → LegState → Bool
 counts counter.Open state = not (is_ended state)
 counts counter.Used state = is_under_way state
 counts counter.Failed state = has_failed state
+counts counter.Cancelled state = was_cancelled state
 
 -- how many of some legs are counted
 abbrev pub counted : Counter → List Leg → ℕ
@@ -40,6 +37,7 @@ tally_of job =
       pending = counted counter.Open job.legs;
       used = counted counter.Used job.legs;
       failed = counted counter.Failed job.legs;
+      cancelled = counted counter.Cancelled job.legs;
     }
 
 -- the same for each job of each run
@@ -61,11 +59,12 @@ moved was is t =
       pending = turned t.legs t.pending (counts counter.Open was) (counts counter.Open is);
       used = turned t.legs t.used (counts counter.Used was) (counts counter.Used is);
       failed = turned t.legs t.failed (counts counter.Failed was) (counts counter.Failed is);
+      cancelled = turned t.legs t.cancelled (counts counter.Cancelled was) (counts counter.Cancelled is);
     }
 
 -- what is counted of a job that may be there
 abbrev pub tally_there : Option Tally → Tally
-tally_there None = record { legs = 0; pending = 0; used = 0; failed = 0 }
+tally_there None = record { legs = 0; pending = 0; used = 0; failed = 0; cancelled = 0 }
 tally_there (Some tally) = tally
 
 -- ---- the needs of a job
@@ -118,14 +117,3 @@ needs_there needs place = slice_get needs place.run >>= λ row. slice_get row pl
 abbrev pub needs_none : Option Need → Bool
 needs_none None = false
 needs_none (Some need) = need.pending == 0
-
--- ---- all of them
-
--- The counters and the places of the legs are what follows from the plan and the board, and the names on the
--- board are such as a group may have.
-pub record IsCounted (p : Plan) (b : Board) (tallies : List (List Tally)) (needs : List (List Need))
-    (legs : List LegPlace) : Type 0 where
-  pub tallied : tallies ≡ tallies_of b
-  pub needed : needs ≡ needs_of p.runs b.runs
-  pub named : IsNamed b
-  pub placed : legs ≡ leg_places b

@@ -35,6 +35,18 @@ pub enum RunChange {
     Stop(bool),
 }
 
+/// The state into which a leg comes. One whose stop flag is set stays in its own, for which this one stands.
+pub(crate) fn state_in(how: &LegChange) -> LegState
+    ensures { result ≡ spec.state_in how.now }
+{
+    match how {
+        LegChange::State(state) => *state,
+        LegChange::Group(state, _) => *state,
+        LegChange::Outputs(state, _) => *state,
+        LegChange::Stop(_) => LegState::Fresh,
+    }
+}
+
 /// Changes a leg, and gives what was there.
 fn exchange_leg(leg: &mut Leg, how: LegChange) -> LegChange
     ensures leg { leg.new ≡ spec.leg_after how leg.old }

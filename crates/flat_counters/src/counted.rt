@@ -1,76 +1,31 @@
 //! A plan in play with its counters, which each change of the board keeps.
 
-ghost use Rattle.std.specs.Prelude.{◌≡◌, true, ℕ, None, Some, IfOk, OnOk, OnErr, map, slice_get};
-ghost use Rattle.board_decisions.specs.Numbered.{job_there};
+ghost use Rattle.std.specs.Prelude.{◌≡◌, true, ℕ, None, Some, IfOk, OnOk, OnErr, slice_get};
+ghost use Rattle.board_decisions.specs.Numbered.{job_there, leg_there};
 ghost use Rattle.flat_counters.specs.Changes as spec;
-ghost use Rattle.flat_counters.specs.Counters.{moved as moved_of, needs_none, needs_there, needs_of as needs_of_runs, tallies_of, tally_of as tally_of_job, tally_there};
-ghost use Rattle.flat_counters.specs.declared.tally.Tally.{Tally as TallyOf};
+ghost use Rattle.flat_counters.specs.Counters.{needs_none, needs_there, tallies_of, tally_of as tally_of_job, tally_there};
+ghost use Rattle.flat_counters.specs.Standing.{run_tally_there};
 ghost use Rattle.status_table.specs.Change.{with_leg, with_run};
 
 use crate::change::{
-    LegChange, RunChange, exchange_leg_at, exchange_run_at, job_state_there, make_room,
+    LegChange, RunChange, exchange_leg_at, exchange_run_at, job_state_there, make_room, state_in,
     take_step_at, without_last,
 };
-use crate::need::{Need, are_settled, is_settled_at, needs_of, recount};
+use crate::counts::{Counts, count_all, recount_job, recount_leg, standing_at};
+use crate::failing::{Failing, failing_at, note_done, note_taken, runs_failing};
+use crate::need::Need;
 use crate::places::leg_places;
-use crate::tally::{Tally, are_alike, moved, tally_of};
+use crate::standing::RunTally;
+use crate::tally::{Tally, are_alike};
 use crate::undo::{Change, LegBack, RunBack};
+use board_decisions::derived::is_failure;
 use board_decisions::place::{JobPlace, LegPlace, leg_there};
 use flow_model::laws::needs_point_back;
-use flow_model::{
-    Board, CheckedPlan, DoneStep, Job, JobState, LegState, Plan, Run, RunPlan, Sequence,
-};
+use flow_model::{Board, CheckedPlan, DoneStep, JobState, LegState, Outcome, Plan, Sequence};
 use status_table::change::{add_step, set_job_state};
 use status_table::new_board::make_board;
 use std::alloc::{AllocError, Global};
 use std::marker::Model;
-
-/// How the legs of each of some jobs stand.
-fn tally_jobs(alloc: Global, jobs: &[Job]) -> Result<Sequence<Tally>, AllocError>
-    ensures { IfOk result (λ tallies. tallies ≡ map tally_of_job jobs.now) }
-{
-    let mut tallies = Vec::with_capacity(alloc, jobs.len())?;
-    for job in jobs {
-        tallies.push(tally_of(job))?;
-    }
-    Ok(Sequence::new(tallies))
-}
-
-/// The same for each of some runs.
-fn tally_runs(alloc: Global, runs: &[Run]) -> Result<Sequence<Sequence<Tally>>, AllocError>
-    ensures { IfOk result
-        (λ tallies. tallies ≡ map (λ run. map tally_of_job run.jobs) runs.now) }
-{
-    let mut tallies = Vec::with_capacity(alloc, runs.len())?;
-    for run in runs {
-        tallies.push(tally_jobs(alloc, run.jobs.as_slice())?)?;
-    }
-    Ok(Sequence::new(tallies))
-}
-
-/// What each job of each run needs.
-fn needs_of_each(
-    alloc: Global,
-    plans: &[RunPlan],
-    runs: &[Run],
-    tallies: &[Sequence<Tally>],
-) -> Result<Sequence<Sequence<Need>>, AllocError>
-    requires { tallies.now ≡ map (λ run. map tally_of_job run.jobs) runs.now }
-    ensures { IfOk result (λ needs. needs ≡ needs_of_runs plans.now runs.now) }
-{
-    let mut needs = Vec::with_capacity(alloc, plans.len())?;
-    for (place, plan) in plans.iter().enumerate() {
-        let Some(run) = runs.get(place) else {
-            return Ok(Sequence::new(needs));
-        };
-        let Some(row) = tallies.get(place) else {
-            return Ok(Sequence::new(needs));
-        };
-        let made = needs_of(alloc, run, row.as_slice(), plan.jobs.as_slice())?;
-        needs.push(made)?;
-    }
-    Ok(Sequence::new(needs))
-}
 
 /// The state of the leg at a place.
 fn state_there(board: &Board, place: LegPlace) -> LegState
@@ -82,84 +37,32 @@ fn state_there(board: &Board, place: LegPlace) -> LegState
     }
 }
 
-/// Whether the job at a place of a board that is tallied has ended by itself.
-fn is_settled(board: &Board, tallies: &[Sequence<Tally>], place: JobPlace) -> bool
-    requires { tallies.now ≡ tallies_of board.now }
-    ensures { result ≡ spec.settled_in (slice_get board.now.runs place.run) place.job }
+/// How the legs of a job stand that has none.
+fn no_legs() -> Tally
+    ensures { result ≡ tally_there None }
 {
-    let Some(run) = board.runs.as_slice().get(place.run) else {
-        return false;
-    };
-    let Some(row) = tallies.get(place.run) else {
-        return false;
-    };
-    is_settled_at(run, row.as_slice(), place.job)
-}
-
-/// Whether all jobs of the run at a place of a board that is tallied have.
-fn are_jobs_settled(board: &Board, tallies: &[Sequence<Tally>], place: usize) -> bool
-    requires { tallies.now ≡ tallies_of board.now }
-    ensures { result ≡ spec.all_settled_in (slice_get board.now.runs place) }
-{
-    let Some(run) = board.runs.as_slice().get(place) else {
-        return false;
-    };
-    let Some(row) = tallies.get(place) else {
-        return false;
-    };
-    are_settled(run, row.as_slice())
-}
-
-/// Tallies the job of a leg that came from a state to another.
-fn retally(tallies: &mut Sequence<Sequence<Tally>>, place: LegPlace, was: LegState, is: LegState)
-    ensures { tallies.new ≡ spec.retallied place was is tallies.old }
-{
-    if let Some(row) = tallies.get_mut(place.run) {
-        if let Some(tally) = row.get_mut(place.job) {
-            *tally = moved(*tally, was, is);
-        }
+    Tally {
+        legs: 0,
+        pending: 0,
+        used: 0,
+        failed: 0,
+        cancelled: 0,
     }
 }
 
-/// Counts what the jobs of a run need again.
-fn recount_run(
-    board: &Board,
-    tallies: &[Sequence<Tally>],
-    needs: &mut Sequence<Sequence<Need>>,
-    place: usize,
-)
-    requires { tallies.now ≡ tallies_of board.now }
-    ensures { needs.new ≡ spec.run_recounted (slice_get board.now.runs place) place needs.old }
+/// How the jobs of the run at a place stand; of a run that is not there one is open.
+fn run_tally_at(runs: &[RunTally], place: usize) -> RunTally
+    ensures { result ≡ run_tally_there (slice_get runs.now place) }
 {
-    let Some(run) = board.runs.as_slice().get(place) else {
-        return;
-    };
-    let Some(row) = tallies.get(place) else {
-        return;
-    };
-    if let Some(needs) = needs.get_mut(place) {
-        recount(run, row.as_slice(), needs);
-    }
-}
-
-/// Counts what the jobs of a run need again, where one of them has become settled, or no longer is.
-fn recount_if(
-    was: bool,
-    board: &Board,
-    tallies: &[Sequence<Tally>],
-    needs: &mut Sequence<Sequence<Need>>,
-    place: JobPlace,
-)
-    requires { tallies.now ≡ tallies_of board.now }
-    ensures { let run = slice_get board.now.runs place.run in
-        needs.new ≡ spec.recounted_if was (spec.settled_in run place.job) run place.run needs.old }
-{
-    let is = is_settled(board, tallies, place);
-    match (was, is) {
-        (false, false) => {},
-        (true, true) => {},
-        (false, true) => recount_run(board, tallies, needs, place.run),
-        (true, false) => recount_run(board, tallies, needs, place.run),
+    match runs.get(place) {
+        Some(tally) => *tally,
+        None => RunTally {
+            jobs: 0,
+            pending: 1,
+            failed: 0,
+            cancelled: 0,
+            unsuccessful: 0,
+        },
     }
 }
 
@@ -170,42 +73,6 @@ pub fn job_of(place: LegPlace) -> JobPlace
     JobPlace {
         run: place.run,
         job: place.job,
-    }
-}
-
-/// Counts again after a leg came from a state to another.
-fn recount_leg(
-    settled: bool,
-    was: LegState,
-    is: LegState,
-    board: &Board,
-    tallies: &mut Sequence<Sequence<Tally>>,
-    needs: &mut Sequence<Sequence<Need>>,
-    place: LegPlace,
-)
-    requires tallied { spec.retallied place was is tallies.old ≡ tallies_of board.now }
-    requires settled { ((tally : TallyOf) → moved_of was is tally ≡ tally)
-        → settled ≡ spec.settled_in (slice_get board.now.runs place.run) place.job }
-    ensures tallies { tallies.new ≡ spec.retallied place was is tallies.old }
-    ensures needs { let run = slice_get board.now.runs place.run in
-        needs.new ≡ spec.recounted_if settled (spec.settled_in run place.job) run place.run needs.old }
-{
-    if are_alike(was, is) {
-        return;
-    }
-    retally(tallies, place, was, is);
-    recount_if(settled, board, tallies.as_slice(), needs, job_of(place));
-}
-
-/// How the legs of a job stand that has none.
-fn no_legs() -> Tally
-    ensures { result ≡ tally_there None }
-{
-    Tally {
-        legs: 0,
-        pending: 0,
-        used: 0,
-        failed: 0,
     }
 }
 
@@ -232,16 +99,32 @@ fn needs_none_at(needs: &[Sequence<Need>], place: JobPlace) -> bool
     }
 }
 
+/// Counts again after the leg at a place, where there is one, came from a state to another.
+fn recount_to(counts: &mut Counts, board: &Board, place: LegPlace, was: LegState, to: LegState)
+    requires came { spec.CameTo was to (spec.state_there board.now place) }
+    requires tallied { spec.retallied place was (spec.state_there board.now place)
+        counts.old.tallies ≡ tallies_of board.now }
+    ensures { spec.LegRecounted place was (spec.state_there board.now place)
+        (slice_get board.now.runs place.run) counts.old counts.new }
+{
+    if are_alike(was, to) {
+        return;
+    }
+    let is = state_there(board, place);
+    recount_leg(counts, board, place, was, is);
+}
+
 /// A plan, how far it is, and what is counted of that.
 ///
-/// A job's legs are tallied as they change; what the jobs of a run need is counted again when one of them
-/// ends. The places of the legs stand in the order of their numbers.
+/// A job's legs are tallied as they change, and so are the jobs of a run; what they need is counted again when one
+/// of them ends. The places of the legs stand in the order of their numbers.
 #[derive(Drop)]
 pub struct Counted {
     plan: CheckedPlan,
     board: Board,
-    tallies: Sequence<Sequence<Tally>>,
-    needs: Sequence<Sequence<Need>>,
+    counts: Counts,
+    /// Whether a done step of each leg counts as a failure.
+    failing: Failing,
     legs: Vec<LegPlace>,
 }
 
@@ -256,18 +139,20 @@ impl Model for Counted {
 
     ghost view = { λ c. record { plan = c.plan; board = c.board } };
 
-    ghost use Rattle.flat_counters.specs.Counters.{IsCounted};
+    ghost use Rattle.flat_counters.specs.Counted.{IsCounted};
 
-    ghost invariant = { λ c. IsCounted c.plan c.board c.tallies c.needs c.legs.items };
+    ghost invariant = { λ c. IsCounted c.plan c.board c.counts c.failing c.legs.items };
 }
 
 impl Counted {
     ghost use Rattle.flow_model.specs.Rules.{IsPlan};
     ghost use Rattle.flow_model.specs.Sound.{SoundPlan};
-    ghost use Rattle.board_decisions.specs.Derived.{is_going, jobs_have_ended, needs_have_ended};
+    ghost use Rattle.board_decisions.specs.Derived.{all_succeed, is_going, jobs_have_ended, needs_have_ended, run_result};
     ghost use Rattle.board_decisions.specs.Place.{JobAt, job_at, leg_place};
     ghost use Rattle.flow_model.specs.declared.board.Board.{Board};
     ghost use Rattle.flow_model.specs.declared.board.Job.{Job};
+    ghost use Rattle.flow_model.specs.declared.board.Leg.{Leg as LegOf};
+    ghost use Rattle.flat_counters.specs.Failing.{any_failed};
     ghost use Rattle.flow_model.specs.declared.board.Run.{Run as RunOf};
     ghost use Rattle.flat_counters.specs.Names.{IsNamed, LegComesNamed, RunComesNamed};
     ghost use Rattle.flat_counters.specs.Undo.{board_before};
@@ -281,14 +166,14 @@ impl Counted {
     {
         let board = make_board(alloc, plan.plan())?;
         let runs = board.runs.as_slice();
-        let tallies = tally_runs(alloc, runs)?;
+        let counts = count_all(alloc, plan.plan().runs.as_slice(), runs)?;
+        let failing = runs_failing(alloc, runs)?;
         let legs = leg_places(alloc, runs)?;
-        let needs = needs_of_each(alloc, plan.plan().runs.as_slice(), runs, tallies.as_slice())?;
         Ok(Counted {
             plan,
             board,
-            tallies,
-            needs,
+            counts,
+            failing,
             legs,
         })
     }
@@ -322,13 +207,21 @@ impl Counted {
         ensures { (job : Job)
             → job_there self.now.board place ≡ Some job → result ≡ tally_of_job job }
     {
-        let Some(row) = self.tallies.as_slice().get(place.run) else {
+        let Some(row) = self.counts.tallies.as_slice().get(place.run) else {
             return no_legs();
         };
         match row.as_slice().get(place.job) {
             Some(tally) => *tally,
             None => no_legs(),
         }
+    }
+
+    /// Whether a done step of the leg at a place counts as a failure.
+    pub fn has_failed_step(&self, place: LegPlace) -> bool
+        ensures { (leg : LegOf) → leg_there self.now.board place ≡ Some leg
+            → result ≡ any_failed leg.steps }
+    {
+        failing_at(&self.failing, place)
     }
 
     /// Changes the leg at a place, where there is one, and gives what takes that back.
@@ -338,19 +231,9 @@ impl Counted {
         ensures board { self.new.board ≡ with_leg self.old.board place (spec.leg_after how) }
         ensures back { board_before result self.new.board ≡ self.old.board }
     {
-        let was = state_there(&self.board, place);
-        let settled = is_settled(&self.board, self.tallies.as_slice(), job_of(place));
+        let is = state_in(&how);
         let how = exchange_leg_at(&mut self.board, place, how);
-        let is = state_there(&self.board, place);
-        recount_leg(
-            settled,
-            was,
-            is,
-            &self.board,
-            &mut self.tallies,
-            &mut self.needs,
-            place,
-        );
+        recount_leg(&mut self.counts, &self.board, place, state_in(&how), is);
         Change::Leg(LegBack { place, how })
     }
 
@@ -361,15 +244,10 @@ impl Counted {
         ensures back { board_before result self.new.board ≡ self.old.board }
     {
         let was = job_state_there(&self.board, place);
-        let settled = is_settled(&self.board, self.tallies.as_slice(), place);
+        let before = standing_at(&self.board, self.counts.tallies.as_slice(), place);
         set_job_state(&mut self.board, place, state);
-        recount_if(
-            settled,
-            &self.board,
-            self.tallies.as_slice(),
-            &mut self.needs,
-            place,
-        );
+        let after = standing_at(&self.board, self.counts.tallies.as_slice(), place);
+        recount_job(&mut self.counts, &self.board, place.run, before, after);
         Change::Job(place, was)
     }
 
@@ -401,17 +279,16 @@ impl Counted {
         ensures back { IfOk result (λ change. board_before change self.new.board ≡ self.old.board) }
     {
         let was = state_there(&self.board, place);
-        let settled = is_settled(&self.board, self.tallies.as_slice(), job_of(place));
+        let failed = is_failure(done.conclusion);
         add_step(&mut self.board, place, worker, done)?;
-        let is = state_there(&self.board, place);
-        recount_leg(
-            settled,
-            was,
-            is,
+        note_done(&mut self.failing, place, failed);
+        let in_call = false;
+        recount_to(
+            &mut self.counts,
             &self.board,
-            &mut self.tallies,
-            &mut self.needs,
             place,
+            was,
+            LegState::Running { worker, in_call },
         );
         Ok(Change::Step(place, was))
     }
@@ -422,18 +299,9 @@ impl Counted {
         ensures board { self.new.board ≡ with_leg self.old.board place (spec.step_taken state) }
     {
         let was = state_there(&self.board, place);
-        let settled = is_settled(&self.board, self.tallies.as_slice(), job_of(place));
         take_step_at(alloc, &mut self.board, place, state);
-        let is = state_there(&self.board, place);
-        recount_leg(
-            settled,
-            was,
-            is,
-            &self.board,
-            &mut self.tallies,
-            &mut self.needs,
-            place,
-        );
+        note_taken(&mut self.failing, &self.board, place);
+        recount_to(&mut self.counts, &self.board, place, was, state);
     }
 
     /// Changes the run at a place, where there is one, but not its jobs, and gives what takes that back.
@@ -489,7 +357,7 @@ impl Counted {
             → result ≡ needs_have_ended (row.first_of n at) at.run at.plan }
     {
         needs_point_back();
-        needs_none_at(self.needs.as_slice(), place)
+        needs_none_at(self.counts.needs.as_slice(), place)
     }
 
     /// Whether all jobs of a run have ended, where it is Going.
@@ -497,6 +365,22 @@ impl Counted {
         ensures { (run : RunOf) → slice_get self.now.board.runs place ≡ Some run
             → is_going run.state ≡ true → result ≡ jobs_have_ended run }
     {
-        are_jobs_settled(&self.board, self.tallies.as_slice(), place)
+        run_tally_at(self.counts.runs.as_slice(), place).pending == 0
+    }
+
+    /// Whether each job of a run counts as a success so far, where it is Going.
+    pub fn do_jobs_succeed(&self, place: usize) -> bool
+        ensures { (run : RunOf) → slice_get self.now.board.runs place ≡ Some run
+            → is_going run.state ≡ true → result ≡ all_succeed run }
+    {
+        run_tally_at(self.counts.runs.as_slice(), place).unsuccessful == 0
+    }
+
+    /// The result with which a run is closed that is Going, by whether it is told to stop.
+    pub fn run_result(&self, place: usize, stop: bool) -> Outcome
+        ensures { (run : RunOf) → slice_get self.now.board.runs place ≡ Some run
+            → is_going run.state ≡ true → stop ≡ run.stop → result ≡ run_result run }
+    {
+        run_tally_at(self.counts.runs.as_slice(), place).result(stop)
     }
 }

@@ -1,7 +1,6 @@
 //! What a job needs: how many of the jobs that it needs are open.
 
 ghost use Rattle.std.specs.Prelude.{◌≡◌, IfOk, map};
-ghost use Rattle.std.specs.List.{list_all};
 ghost use Rattle.board_decisions.specs.Derived.{holds_at};
 ghost use Rattle.flat_counters.specs.Counters as spec;
 ghost use Rattle.status_table.specs.Change.{changed};
@@ -27,7 +26,7 @@ fn is_settled(job: &Job, tally: Tally) -> bool
 }
 
 /// Whether the job at a place of a run whose jobs are tallied has; beyond the end there is none.
-pub(crate) fn is_settled_at(run: &Run, tallies: &[Tally], place: usize) -> bool
+fn is_settled_at(run: &Run, tallies: &[Tally], place: usize) -> bool
     requires { tallies.now ≡ map spec.tally_of run.now.jobs }
     ensures { result ≡ holds_at (spec.settled_jobs run.now) place }
 {
@@ -38,22 +37,6 @@ pub(crate) fn is_settled_at(run: &Run, tallies: &[Tally], place: usize) -> bool
         return false;
     };
     is_settled(job, *tally)
-}
-
-/// Whether all jobs of a run whose jobs are tallied have.
-pub(crate) fn are_settled(run: &Run, tallies: &[Tally]) -> bool
-    requires { tallies.now ≡ map spec.tally_of run.now.jobs }
-    ensures { result ≡ list_all spec.is_settled run.now.jobs }
-{
-    for (place, job) in run.jobs.as_slice().iter().enumerate() {
-        let Some(tally) = tallies.get(place) else {
-            return false;
-        };
-        if !is_settled(job, *tally) {
-            return false;
-        }
-    }
-    true
 }
 
 /// How many of the jobs at some places of a run have not.

@@ -4,7 +4,7 @@ ghost use Rattle.std.specs.Prelude.{◌≡◌, true};
 ghost use Rattle.flat_counters.specs.Counters as spec;
 ghost use Rattle.flat_counters.specs.declared.tally.Tally.{Tally as TallyOf};
 
-use board_decisions::derived::is_failure;
+use board_decisions::derived::{has_failed, is_ended, is_under_way, was_cancelled};
 use flow_model::{Job, Leg, LegState};
 
 /// What is counted of the legs of a job.
@@ -16,6 +16,8 @@ pub(crate) enum Counter {
     Used,
     /// Those that are Ended with a failure that is not tolerated.
     Failed,
+    /// Those that are Ended cancelled.
+    Cancelled,
 }
 
 /// How many legs a job has, and how many of them are counted so.
@@ -29,34 +31,19 @@ pub struct Tally {
     pub used: usize,
     /// Those that are Ended with a failure that is not tolerated.
     pub failed: usize,
+    /// Those that are Ended cancelled.
+    pub cancelled: usize,
 }
 
 /// Whether a leg in a state is counted.
 fn counts(counter: Counter, state: LegState) -> bool
     ensures { result ≡ spec.counts counter state }
 {
-    match (counter, state) {
-        (Counter::Open, LegState::Ended { .. }) => false,
-        (Counter::Open, LegState::Fresh) => true,
-        (Counter::Open, LegState::Waiting) => true,
-        (Counter::Open, LegState::Admitted) => true,
-        (Counter::Open, LegState::Running { .. }) => true,
-        (Counter::Used, LegState::Waiting) => true,
-        (Counter::Used, LegState::Admitted) => true,
-        (Counter::Used, LegState::Running { .. }) => true,
-        (Counter::Used, LegState::Fresh) => false,
-        (Counter::Used, LegState::Ended { .. }) => false,
-        (
-            Counter::Failed,
-            LegState::Ended {
-                result: how,
-                tolerated,
-            },
-        ) => is_failure(how) && !tolerated,
-        (Counter::Failed, LegState::Fresh) => false,
-        (Counter::Failed, LegState::Waiting) => false,
-        (Counter::Failed, LegState::Admitted) => false,
-        (Counter::Failed, LegState::Running { .. }) => false,
+    match counter {
+        Counter::Open => !is_ended(state),
+        Counter::Used => is_under_way(state),
+        Counter::Failed => has_failed(state),
+        Counter::Cancelled => was_cancelled(state),
     }
 }
 
@@ -83,11 +70,12 @@ pub(crate) fn tally_of(job: &Job) -> Tally
         pending: count(Counter::Open, legs),
         used: count(Counter::Used, legs),
         failed: count(Counter::Failed, legs),
+        cancelled: count(Counter::Cancelled, legs),
     }
 }
 
 /// A count of some of so many, where one of these was counted or not, and now is or is not.
-fn turned(all: usize, count: usize, was: bool, is: bool) -> usize
+pub(crate) fn turned(all: usize, count: usize, was: bool, is: bool) -> usize
     ensures { result ≡ spec.turned all count was is }
 {
     match (was, is) {
@@ -121,5 +109,6 @@ pub(crate) fn moved(tally: Tally, was: LegState, is: LegState) -> Tally
         pending: turned_by(Counter::Open, tally.legs, tally.pending, was, is),
         used: turned_by(Counter::Used, tally.legs, tally.used, was, is),
         failed: turned_by(Counter::Failed, tally.legs, tally.failed, was, is),
+        cancelled: turned_by(Counter::Cancelled, tally.legs, tally.cancelled, was, is),
     }
 }

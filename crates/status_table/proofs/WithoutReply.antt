@@ -9,7 +9,7 @@ use Rattle.flow_model.specs.declared.reply.Reply.{Reply}
 use Rattle.flow_model.specs.declared.reply.StepCall.{StepCall}
 use Rattle.flow_model.specs.declared.reply.ValueFault.{ValueFault}
 use Rattle.status_table.specs.Answers.{AnswersEntry, Decides, Refuses}
-use Rattle.status_table.specs.Row.{Row, Beginning, calls, skips, faults, decided, begin_leg, row}
+use Rattle.status_table.specs.Row.{Row, Beginning, calls, skips, faults, decided, begin_leg}
 use Rattle.status_table.specs.Runs.{Plays, then_after}
 use Rattle.status_table.specs.Unasked.{begins_by, begins_of, begins_called, begun_board, IsLeftOf, Leads, without_reply}
 use Rattle.status_table.specs.declared.fault.EventFault.{EventFault}

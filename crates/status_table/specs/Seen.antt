@@ -1,5 +1,6 @@
 -- What values of the code stand for.
-use Rattle.std.specs.Prelude.{ℕ, Bool, true, false, List, [], ◌∷◌, ◌++◌, Option, Some, None, Result}
+use Rattle.std.specs.Prelude.{◌≡◌, ℕ, Bool, true, false, List, [], ◌∷◌, ◌++◌, Option, Some, None, Result, Ok, Err}
+use Rattle.board_decisions.specs.Decisions.{leg_result}
 use Rattle.board_decisions.specs.Place.{LegAt}
 use Rattle.flow_model.specs.declared.board.Board.{Board}
 use Rattle.flow_model.specs.declared.board.DoneStep.{DoneStep}
@@ -10,8 +11,8 @@ use Rattle.flow_model.specs.declared.event.Member.{Member}
 use Rattle.flow_model.specs.declared.event.Member.TheVariants as member
 use Rattle.flow_model.specs.declared.event.Outcome.{Outcome}
 use Rattle.flow_model.specs.declared.event.Outcome.TheVariants as outcome
-use Rattle.status_table.specs.Answers.{DecidesAs}
-use Rattle.status_table.specs.Row.{Beginning, calls, skips, faults, outputs_of, set_by, ending}
+use Rattle.status_table.specs.Answers.{DecidesAs, Refuses}
+use Rattle.status_table.specs.Row.{Beginning, calls, skips, faults, outputs_of, set_by, ending, ended_state, finishing}
 use Rattle.status_table.specs.Change.{with_numbered_leg}
 use Rattle.status_table.specs.Groups.{Standing, holds_name, waits_name, closed}
 use Rattle.status_table.specs.declared.change.LegChange.{LegChange}
@@ -35,6 +36,11 @@ ended_step x a = record { outcome = x.0; conclusion = x.1; outputs = outputs_of 
 -- how an answer ends a step is decided as it is defined
 abbrev pub DecidesEnding : ℕ → LegAt → Answer → Result (Outcome × Outcome) EventFault → Type 0
 DecidesEnding worker at a r = DecidesAs (λ x. ended_step x a) (ending worker at a) r
+
+-- a worker may end a leg, in the state by which it counts so far; or why it may not
+abbrev pub MayFinish : ℕ → LegAt → Result (Unit {0}) EventFault → Type 0
+MayFinish worker at (Ok done) = finishing worker at ≡ Ok (ended_state at (leg_result at))
+MayFinish worker at (Err f) = Refuses (finishing worker at) f
 
 -- whether one that stands so has the role that is looked for, at a name
 abbrev pub has_role : Role → List ℕ → Standing → Bool

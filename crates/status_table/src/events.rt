@@ -6,6 +6,7 @@ ghost use Rattle.std.specs.Prelude.{◌≡◌, ℕ, [], Bool, Option, Result, Ok
 ghost use Rattle.std.specs.Option.{option_copied};
 ghost use Rattle.board_decisions.specs.Ancestors.{StandsAfterNeeds};
 ghost use Rattle.board_decisions.specs.Decisions.{step_decision as step_decision_of};
+ghost use Rattle.board_decisions.specs.Kept.{IsKeptOf};
 ghost use Rattle.board_decisions.specs.Seen.{job_seen, leg_seen};
 ghost use Rattle.expr_value.specs.Answer.{Gives};
 ghost use Rattle.flow_model.specs.declared.reply.StepCall.{StepCall as StepCallOf};
@@ -23,12 +24,13 @@ use crate::groups::{enter_leg, enter_run, moved, next_after_leg, next_after_run,
 use crate::members::{close_run, drop_leg, pass_on, stop_run};
 use board_decisions::ancestors::job_status;
 use board_decisions::decisions::{
-    is_stopping, job_condition, job_tolerates, leg_entrance, leg_outputs, leg_result, run_entrance,
-    step_decision, step_tolerates,
+    is_stopping, job_condition, job_tolerates, leg_entrance, leg_outputs, leg_result,
+    leg_result_kept, run_entrance, step_decision, step_tolerates,
 };
 use board_decisions::derived::{
     is_closed, is_failure, is_full, is_untaken, jobs_have_ended, needs_have_ended, run_result,
 };
+use board_decisions::kept::Kept;
 use board_decisions::place::{SeenJob, SeenLeg, SeenRun, find_job, find_leg, find_run};
 use flow_model::{
     Answer, Board, DoneStep, JobState, LegState, Mapping, Member, Outcome, Plan, Reply, RunState,
@@ -565,9 +567,9 @@ pub(crate) fn end(
     Ok(moved())
 }
 
-/// The state in which a leg ends, or why it does not.
-pub fn finishing(alloc: Global, worker: u8, at: &SeenLeg) -> Result<LegState, EventFault>
-    ensures { Decides (spec.finishing worker (leg_seen at.now)) result }
+/// Whether a worker may end a leg, or why not.
+fn may_finish(worker: u8, at: &SeenLeg) -> Result<(), EventFault>
+    ensures { seen.MayFinish worker (leg_seen at.now) result }
 {
     let Some(owner) = idle_owner(at.leg.state) else {
         return Err(EventFault::WrongState);
@@ -578,12 +580,46 @@ pub fn finishing(alloc: Global, worker: u8, at: &SeenLeg) -> Result<LegState, Ev
     if at.leg.steps.len() < at.job_plan.steps.len() {
         return Err(EventFault::StepsLeft);
     }
-    let how = leg_result(alloc, at)?;
+    Ok(())
+}
+
+/// The state in which a leg ends that counts so.
+fn ended_state(alloc: Global, at: &SeenLeg, how: Outcome) -> Result<LegState, AllocError>
+    ensures { IfOk result (λ state. state ≡ spec.ended_state (leg_seen at.now) how) }
+{
     let tolerated = is_failure(how) && job_tolerates(alloc, at)?;
     Ok(LegState::Ended {
         result: how,
         tolerated,
     })
+}
+
+/// The state in which a leg ends, or why it does not.
+pub fn finishing(alloc: Global, worker: u8, at: &SeenLeg) -> Result<LegState, EventFault>
+    ensures { Decides (spec.finishing worker (leg_seen at.now)) result }
+{
+    if let Err(fault) = may_finish(worker, at) {
+        return Err(fault);
+    }
+    let how = leg_result(alloc, at)?;
+    Ok(ended_state(alloc, at, how)?)
+}
+
+/// The same by what is kept of the leg.
+pub fn finishing_kept(
+    alloc: Global,
+    worker: u8,
+    at: &SeenLeg,
+    kept: Kept,
+) -> Result<LegState, EventFault>
+    requires { IsKeptOf kept (leg_seen at.now) }
+    ensures { Decides (spec.finishing worker (leg_seen at.now)) result }
+{
+    if let Err(fault) = may_finish(worker, at) {
+        return Err(fault);
+    }
+    let how = leg_result_kept(alloc, at, kept)?;
+    Ok(ended_state(alloc, at, how)?)
 }
 
 /// Ends a leg whose steps are done.

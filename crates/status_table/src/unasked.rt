@@ -1,7 +1,7 @@
 //! What beginning a step comes to, where nobody asks for its call.
 
 ghost use Rattle.std.specs.Prelude.{◌≡◌, Bool, Result, Ok};
-ghost use Rattle.board_decisions.specs.Decisions.{stops_anyway};
+ghost use Rattle.board_decisions.specs.Kept.{IsKeptOf};
 ghost use Rattle.board_decisions.specs.Seen.{leg_seen};
 ghost use Rattle.expr_value.specs.Answer.{Gives};
 ghost use Rattle.flow_model.specs.declared.reply.ValueFault.{ValueFault as ValueFaultOf};
@@ -11,6 +11,7 @@ ghost use Rattle.status_table.specs.Unasked.{begins_by, begins_called};
 
 use crate::events::step_to_begin;
 use crate::fault::EventFault;
+use board_decisions::kept::Kept;
 use board_decisions::place::SeenLeg;
 use board_decisions::unasked::is_step_called;
 use flow_model::ValueFault;
@@ -43,19 +44,18 @@ fn told_begins(called: Result<bool, ValueFault>) -> Result<Begins, EventFault>
     }
 }
 
-/// What beginning the next step of a leg comes to, or why it is not begun. It is known whether the leg is to stop whatever
-/// its job's condition.
+/// What beginning the next step of a leg comes to, or why it is not begun, by what is kept of the leg.
 #[tactic(auto, using(crate::proofs::WithoutReply::begins_as_decided))]
 pub fn beginning_unasked(
     alloc: Global,
     worker: u8,
     number: u64,
     at: &SeenLeg,
-    anyway: bool,
+    kept: Kept,
 ) -> Result<Begins, EventFault>
-    requires { anyway ≡ stops_anyway (leg_seen at.now) }
+    requires { IsKeptOf kept (leg_seen at.now) }
     ensures { Decides (begins_by (beginning worker number (leg_seen at.now))) result }
 {
     let step = step_to_begin(worker, at)?;
-    told_begins(is_step_called(alloc, number, at, step, anyway))
+    told_begins(is_step_called(alloc, number, at, step, kept))
 }

@@ -7,6 +7,7 @@ use Rattle.flat_counters.proofs.need.Need.TheSendSync as need
 use Rattle.flat_counters.proofs.tally.Tally.TheSendSync as tally
 use Rattle.flat_counters.proofs.undo.Change.TheSendSync as change
 use Rattle.flat_counters.specs.contracts.counted.Counted as Counted
+use Rattle.flat_counters.specs.contracts.counts.Counts as Counts
 use Rattle.flat_counters.specs.contracts.tracked.Tracked as Tracked
 use Rattle.flow_model.proofs.board.Board.TheSendSync as board
 use Rattle.flow_model.proofs.mapping.Mapping.TheSendSync as mapping
@@ -56,8 +57,11 @@ plan_crosses = search (run_plan_crosses, sequence.the_send, sendable) depth 60 f
 pub checked_plan_crosses : IsSend CheckedPlan.the_row
 checked_plan_crosses = search (plan_crosses, sendable) depth 60 fits 20000
 
+pub counts_crosses : IsSend Counts.the_field.row
+counts_crosses = search (tally.the_field_send, need.the_field_send, sequence.the_send, sendable) depth 60 fits 20000
+
 pub counted_crosses : IsSend Counted.the_row
-counted_crosses = search (checked_plan_crosses, board.the_field_send, tally.the_field_send, need.the_field_send, place.the_field_send, sequence.the_send, std.crosses, sendable) depth 60 fits 20000
+counted_crosses = search (checked_plan_crosses, counts_crosses, board.the_field_send, place.the_field_send, sequence.the_send, std.crosses, sendable) depth 60 fits 20000
 
 pub tracked_crosses : IsSend Tracked.the_row
 tracked_crosses = search (counted_crosses, change.the_field_send, std.crosses, sendable) depth 60 fits 20000

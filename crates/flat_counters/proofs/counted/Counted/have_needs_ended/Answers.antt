@@ -10,7 +10,7 @@ use Rattle.flat_counters.proofs.counted.Counted.have_needs_ended.Goals as goal
 
 pub returns : goal.returns
 returns c =
-    let needed = c.as_slice.ensures ∙ c.self.invariant.needed in
+    let needed = c.as_slice.ensures ∙ c.self.invariant.counted.needed in
     subst (λ (s : Play). (n : ℕ) (at : JobAt) → InPlay s.plan s.board → job_at s.plan s.board n ≡ Some at → at.place ≡ c.args.place → is_going at.run.state ≡ true
     → c.needs_none_at.result ≡ needs_have_ended (first_of n at) at.run at.plan) c.self.view_is
     (λ n at play is same going.

@@ -1,15 +1,21 @@
 use Rattle.std.proofs.Common.{List, map, ap, sym, subst, ◌∙◌}
 use Rattle.flow_model.specs.declared.board.Run.{Run}
 use Rattle.flat_counters.specs.Counters.{tally_of, needs_of}
+use Rattle.flat_counters.specs.Failing.{run_failing}
 use Rattle.flat_counters.specs.Names.{IsNamed}
 use Rattle.flat_counters.specs.Places.{all_legs_from, run_sizes}
+use Rattle.flat_counters.specs.Standing.{run_tally}
 use Rattle.flat_counters.proofs.Named.{new_named}
 use Rattle.flat_counters.proofs.counted.Counted.new.Goals as goal
 
 pub invariant_of-result : goal.invariant_of-result
 invariant_of-result c = record {
-  tallied = c.in_ok-tallies.ensures ∙ ap (λ (runs : List Run). map (λ run. map tally_of run.jobs) runs) c.as_slice-runs.ensures;
-  needed = c.in_ok-needs.ensures ∙ (λ i. needs_of ((c.as_slice.ensures ∙ ap (λ p. p.runs) c.plan-3.ensures.same) i) (c.as_slice-runs.ensures i));
+  counted = record {
+    tallied = c.in_ok-counts.ensures.tallies ∙ ap (λ (runs : List Run). map (λ run. map tally_of run.jobs) runs) c.as_slice-runs.ensures;
+    stand = c.in_ok-counts.ensures.runs ∙ ap (map run_tally) c.as_slice-runs.ensures;
+    needed = c.in_ok-counts.ensures.needs ∙ (λ i. needs_of ((c.as_slice.ensures ∙ ap (λ p. p.runs) c.plan-3.ensures.same) i) (c.as_slice-runs.ensures i));
+  };
+  failed = c.in_ok-failing.ensures ∙ ap (map run_failing) c.as_slice-runs.ensures;
   placed = c.in_ok-legs.ensures ∙ ap (λ (runs : List Run). all_legs_from 0 (run_sizes runs)) c.as_slice-runs.ensures;
   named = subst IsNamed (sym c.in_ok-board.ensures) (new_named c.plan-2.result.now);
 }

@@ -1,28 +1,22 @@
-use Rattle.std.proofs.Common.{ap, refl, ◌∙◌, slice_get}
-use Rattle.board_decisions.specs.declared.place.JobPlace.{JobPlace}
-use Rattle.flow_model.specs.declared.board.Leg.{Leg}
-use Rattle.flat_counters.specs.Changes.{settled_in, step_taken}
-use Rattle.flat_counters.proofs.Followed.{leg_tallied, leg_counted}
-use Rattle.flat_counters.proofs.Tallies.{settled_alike}
+use Rattle.std.proofs.Common.{refl}
+use Rattle.flat_counters.specs.Changes.{step_taken}
+use Rattle.flat_counters.proofs.Failings.{failing_off}
+use Rattle.flat_counters.proofs.Followed.{leg_counted}
+use Rattle.flat_counters.proofs.Tallies.{came_to, same_so, tallied_so}
 use Rattle.flat_counters.proofs.counted.Counted.take_done.Goals as goal
 
-pub recount_leg-requires-clause-tallied : goal.recount_leg-requires-clause-tallied
-recount_leg-requires-clause-tallied c =
-    let done : Leg → Leg = step_taken c.args.state in
-    leg_tallied c.self.inside.board c.take_step_at.new.board c.args.place done c.state_there-was.result c.state_there-is.result c.self.inside.tallies _
-    c.self.invariant.tallied c.state_there-was.ensures c.take_step_at.ensures c.state_there-is.ensures refl
+pub recount_to-requires-clause-came : goal.recount_to-requires-clause-came
+recount_to-requires-clause-came c =
+    came_to c.self.inside.board c.take_step_at.new.board c.args.place (step_taken c.args.state) c.state_there-was.result c.args.state c.state_there-was.ensures c.take_step_at.ensures (λ leg. refl)
 
-pub recount_leg-requires-clause-settled : goal.recount_leg-requires-clause-settled
-recount_leg-requires-clause-settled c =
-    let done : Leg → Leg = step_taken c.args.state in
-    settled_alike c.self.inside.board c.take_step_at.new.board c.args.place done c.state_there-was.result c.state_there-is.result c.is_settled-settled.result c.state_there-was.ensures
-    (c.is_settled-settled.ensures ∙ ap (λ (j : JobPlace). settled_in (slice_get c.self.inside.board.runs j.run) j.job) c.job_of.ensures)
-    c.take_step_at.ensures c.state_there-is.ensures
+pub recount_to-requires-clause-tallied : goal.recount_to-requires-clause-tallied
+recount_to-requires-clause-tallied c =
+    tallied_so c.self.inside.board c.take_step_at.new.board c.args.place (step_taken c.args.state) c.state_there-was.result _ c.self.inside.counts.tallies c.self.invariant.counted.tallied
+    c.take_step_at.ensures (same_so c.self.inside.board c.take_step_at.new.board c.args.place c.state_there-was.result _ c.state_there-was.ensures refl)
 
 pub invariant_of-self : goal.invariant_of-self
 invariant_of-self c =
-    let done : Leg → Leg = step_taken c.args.state in
-    leg_counted c.self.inside.plan c.self.inside.board c.take_step_at.new.board c.args.place done c.state_there-was.result c.state_there-is.result c.is_settled-settled.result c.self.inside.tallies
-    c.recount_leg.new.tallies c.self.inside.needs c.recount_leg.new.needs c.self.inside.legs.items c.self.invariant (λ leg h. h) c.state_there-was.ensures
-    (c.is_settled-settled.ensures ∙ ap (λ (j : JobPlace). settled_in (slice_get c.self.inside.board.runs j.run) j.job) c.job_of.ensures)
-    c.take_step_at.ensures c.state_there-is.ensures c.recount_leg.ensures.tallies c.recount_leg.ensures.needs
+    leg_counted c.self.inside.plan c.self.inside.board c.take_step_at.new.board c.args.place (step_taken c.args.state) c.state_there-was.result _ c.self.inside.counts c.recount_to.new.counts
+    c.self.inside.failing c.note_taken.new.failing c.self.inside.legs.items c.self.invariant (λ leg h. h) c.take_step_at.ensures
+    (same_so c.self.inside.board c.take_step_at.new.board c.args.place c.state_there-was.result _ c.state_there-was.ensures refl) c.recount_to.ensures
+    (failing_off c.self.inside.board c.take_step_at.new.board c.args.place c.args.state c.self.inside.failing c.note_taken.new.failing c.self.invariant.failed c.take_step_at.ensures c.note_taken.ensures)
