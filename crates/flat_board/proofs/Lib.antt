@@ -2,7 +2,9 @@ pub mod Accepting
 pub mod Back
 pub mod Index
 pub mod Kept
+pub mod Leaving
 pub mod Named
+pub mod NotAsked
 pub mod Playing
 pub mod Reached
 pub mod FirstMove

@@ -1,6 +1,6 @@
 -- The index of groups beside a board: names as they stand on
 -- the board, and the groups after what a member asks of them.
-use Rattle.std.specs.Prelude.{◌≡◌, ℕ, Bool, true, false, Option, Some, None, Result, Ok, Err, if◌then◌else◌}
+use Rattle.std.specs.Prelude.{◌≡◌, ℕ, Option, Some, None, Result, Ok, Err}
 use Rattle.board_decisions.specs.declared.entrance.Entrance.{Entrance}
 use Rattle.flat_counters.specs.Names.{IsName}
 use Rattle.flow_model.specs.declared.board.Board.{Board}
@@ -56,23 +56,6 @@ most_changes (event.End l a) = 1
 most_changes (event.Finish l) = 3
 most_changes (event.Close r) = 2
 most_changes (event.Cancel r) = 1
-
--- whether an event may ask something of the groups
-abbrev pub asks_groups : Event → Bool
-asks_groups (event.Open r) = true
-asks_groups (event.Judge j) = false
-asks_groups (event.Ask l) = true
-asks_groups (event.Drop l) = true
-asks_groups (event.Take l) = false
-asks_groups (event.Begin l) = false
-asks_groups (event.End l a) = false
-asks_groups (event.Finish l) = true
-asks_groups (event.Close r) = true
-asks_groups (event.Cancel r) = false
-
--- the groups, where an event may ask something of them
-abbrev pub if_asked : Event → Content → Option Content
-if_asked e groups = if asks_groups e then Some groups else None
 
 -- the groups before an event: as they were kept, or as they are
 abbrev pub groups_put_back : Option Content → Content → Content

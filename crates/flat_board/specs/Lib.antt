@@ -1,3 +1,4 @@
+pub mod Asked
 pub mod Index
 pub mod Sound
 pub mod Stands

@@ -11,21 +11,21 @@ ghost use Rattle.status_table.specs.Grouped.{KeptAsShown, leg_asked, leg_left, r
 ghost use Rattle.status_table.specs.InPlay.{InPlay};
 ghost use Rattle.status_table.specs.Row as spec;
 
-use crate::found::{find_leg, is_full, is_stopping};
-use crate::groups::{enter_leg, enter_run, leave, leg_stand, next_after, run_stand};
+use crate::found::{find_leg, is_full, is_stopping, keep};
+use crate::groups::{enter_leg, enter_run, leave, leave_leg, leg_stand, next_after, run_stand};
 use crate::laws::who_enters_is_outside;
 use crate::members::{close_run, drop_leg, pass_on, set_ended, stop_run};
-use board_decisions::ancestors::job_status;
+use board_decisions::ancestors::job_status_kept;
 use board_decisions::decisions::{job_condition, leg_entrance, leg_outputs, run_entrance};
-use board_decisions::derived::{is_closed, run_result};
+use board_decisions::derived::is_closed;
 use board_decisions::place::{SeenJob, find_job, find_run};
 use flat_counters::{Counted, LegChange, Tracked};
 use flow_model::{Answer, JobState, LegState, Member, Outcome, Reply, RunState, What};
 use group_admission::Groups;
 use status_table::EventFault;
 use status_table::events::{
-    Begun, beginning, ended_step, ending, failed_step, finishing, judged_state, may_ask, may_drop,
-    reply, skipped_step,
+    Begun, beginning, ended_step, ending, failed_step, finishing_kept, judged_state, may_ask,
+    may_drop, reply, skipped_step,
 };
 use status_table::groups::{moved, told};
 use std::alloc::Global;
@@ -85,7 +85,8 @@ fn judgement(
         return Err(EventFault::NeedsOpen);
     }
     let first = number.saturating_sub(at.place.job as u64);
-    let status = job_status(alloc, first, at)?;
+    let succeeded = state.do_jobs_succeed(at.place.run);
+    let status = job_status_kept(alloc, first, at, succeeded)?;
     Ok(judged_state(at.run.stop, job_condition(alloc, at, status))?)
 }
 
@@ -167,10 +168,11 @@ pub(crate) fn discard(
     if !is_stopping(alloc, &leg)? {
         return Err(EventFault::NotStopping);
     }
+    let place = leg.at.place;
     let stand = leg_stand(leg.at.leg.state);
     let next = next_after(groups, stand, &leg.at.leg.group);
     drop_leg(state, number, Outcome::Cancelled)?;
-    leave(groups, Member::Leg(number), stand);
+    leave_leg(groups, state.counted().board(), place, number);
     pass_on(state, next);
     Ok(told(next, None, None))
 }
@@ -296,16 +298,17 @@ pub(crate) fn finish(
         (leg_left groups.old number (leg_at state.old.plan state.old.board number)) groups.new }
     ensures back { OnOk result (state.new.back ≡ state.old.back) }
 {
-    let Some(leg) = find_leg(state.counted(), number) else {
+    let play = state.counted();
+    let Some(leg) = find_leg(play, number) else {
         return Err(EventFault::NoSuch);
     };
     let place = leg.at.place;
-    let to = finishing(alloc, worker, &leg.at)?;
+    let to = finishing_kept(alloc, worker, &leg.at, keep(play, &leg))?;
     let outputs = leg_outputs(alloc, &leg.at)?;
     let stand = leg_stand(leg.at.leg.state);
     let next = next_after(groups, stand, &leg.at.leg.group);
     set_ended(state, place, number, to, outputs)?;
-    leave(groups, Member::Leg(number), stand);
+    leave_leg(groups, state.counted().board(), place, number);
     pass_on(state, next);
     Ok(told(next, None, None))
 }
@@ -340,14 +343,14 @@ pub(crate) fn close(
             if !play.have_jobs_ended(number as usize) {
                 return Err(EventFault::NeedsOpen);
             }
-            run_result(at.run)
+            play.run_result(number as usize, at.run.stop)
         },
         RunState::Closed(_) => return Err(EventFault::WrongState),
     };
     let stand = run_stand(at.run.state);
     let next = next_after(groups, stand, &at.run.group);
+    leave(groups, Member::Run(number), &at.run.group);
     close_run(state, number, how);
-    leave(groups, Member::Run(number), stand);
     pass_on(state, next);
     Ok(told(next, None, None))
 }

@@ -1,7 +1,8 @@
 //! The flat body of the table: the board changed in place, with counters and an index of groups beside it.
 
 ghost use Rattle.std.specs.Prelude.{◌≡◌, ◌≤◌, true, IfOk, OnOk};
-ghost use Rattle.flat_board.specs.Index.{Follows, FollowsUnasked, asks_groups, groups_put_back, if_asked, most_changes};
+ghost use Rattle.flat_board.specs.Asked.{if_asked};
+ghost use Rattle.flat_board.specs.Index.{Follows, FollowsUnasked, groups_put_back, most_changes};
 ghost use Rattle.flat_board.specs.Undo.{board_before};
 ghost use Rattle.flat_counters.specs.Names.{IsGroup, IsName, IsNamed};
 ghost use Rattle.flat_counters.specs.Track.{play_of};
@@ -12,13 +13,14 @@ ghost use Rattle.status_table.specs.InPlay.{InPlay};
 ghost use Rattle.status_table.specs.Reversible.{answer_of, done_of};
 ghost use Rattle.status_table.specs.Runs.{new_play};
 
+use crate::asked::asks_groups;
 use crate::events::{ask, begin, cancel, close, discard, end, finish, judge, open, take};
 use crate::groups::{holder, leg_stand, next_after, run_stand, waiter};
 use crate::laws::events_keep_the_groups;
 use crate::moves::{find_first, find_moves};
 use crate::unasked::begin_unasked;
 use crate::undo::Undo;
-use flat_counters::Tracked;
+use flat_counters::{Counted, Tracked};
 use flow_model::{Board, CheckedPlan, Duplicate, Entry, Event, Leg, Member, Reply, Run, Sequence};
 use group_admission::Groups;
 use status_table::{EventFault, Reversible, Table};
@@ -196,27 +198,17 @@ fn advance_event(
     Ok(())
 }
 
-/// Whether an event may ask something of the groups.
-fn asks_groups(event: &Event) -> bool
-    ensures { result ≡ asks_groups event.now }
-{
-    match event {
-        Event::Open { .. } | Event::Close { .. } => true,
-        Event::Ask { .. } | Event::Drop { .. } | Event::Finish { .. } => true,
-        Event::Judge { .. } | Event::Take { .. } | Event::Begin { .. } => false,
-        Event::End { .. } | Event::Cancel { .. } => false,
-    }
-}
-
 /// A copy of the groups, where an event may ask something of them.
 fn groups_before(
     alloc: Global,
+    state: &Counted,
     groups: &Groups,
     event: &Event,
 ) -> Result<Option<Groups>, AllocError>
-    ensures { IfOk result (λ made. made ≡ if_asked event.now groups.now) }
+    ensures { IfOk result
+        (λ made. made ≡ if_asked state.now.plan state.now.board event.now groups.now) }
 {
-    if asks_groups(event) {
+    if asks_groups(state, event) {
         return Ok(Some(groups.copy(alloc)?));
     }
     Ok(None)
@@ -235,9 +227,10 @@ fn play_with_undo(
     ensures follows { Follows (play_of state.old) (play_of state.new)
         groups.old groups.new worker event (answer_of result) }
     ensures back { IfOk result (λ both. board_before both.1 state.new.board ≡ state.old.board) }
-    ensures groups { IfOk result (λ both. both.1.groups ≡ if_asked event groups.old) }
+    ensures groups { IfOk result
+        (λ both. both.1.groups ≡ if_asked state.old.plan state.old.board event groups.old) }
 {
-    let before = groups_before(alloc, groups, &event)?;
+    let before = groups_before(alloc, state.counted(), groups, &event)?;
     let reply = play_event(alloc, state, groups, worker, event)?;
     let changes = state.take_changes(alloc);
     Ok((
@@ -262,9 +255,10 @@ fn advance_with_undo(
     ensures follows { FollowsUnasked (play_of state.old) (play_of state.new)
         groups.old groups.new worker event (done_of result) }
     ensures back { IfOk result (λ undo. board_before undo state.new.board ≡ state.old.board) }
-    ensures groups { IfOk result (λ undo. undo.groups ≡ if_asked event groups.old) }
+    ensures groups { IfOk result
+        (λ undo. undo.groups ≡ if_asked state.old.plan state.old.board event groups.old) }
 {
-    let before = groups_before(alloc, groups, &event)?;
+    let before = groups_before(alloc, state.counted(), groups, &event)?;
     advance_event(alloc, state, groups, worker, event)?;
     let changes = state.take_changes(alloc);
     Ok(Undo {

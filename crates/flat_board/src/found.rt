@@ -1,15 +1,19 @@
 //! Legs as they are found, with the tally of their job, and what is read off it.
 
-ghost use Rattle.std.specs.Prelude.{◌≡◌, IfOk, option_map};
+ghost use Rattle.std.specs.Prelude.{◌≡◌, IfOk, IfSome, Some, option_map};
 ghost use Rattle.board_decisions.specs.Decisions as decision;
 ghost use Rattle.board_decisions.specs.Derived as derived;
+ghost use Rattle.board_decisions.specs.Kept.{IsKeptOf};
+ghost use Rattle.board_decisions.specs.Numbered.{leg_there};
 ghost use Rattle.board_decisions.specs.Place.{leg_at};
 ghost use Rattle.board_decisions.specs.Seen.{leg_seen};
 ghost use Rattle.flat_counters.specs.Counters.{tally_of};
 ghost use Rattle.flat_counters.specs.Names.{IsNamed};
 
 use board_decisions::decisions::is_stopping_given;
+use board_decisions::kept::Kept;
 use board_decisions::place::{SeenLeg, find_placed_leg};
+use board_decisions::unasked::has_own_env;
 use flat_counters::counted::job_of;
 use flat_counters::{Counted, Tally};
 use std::alloc::{AllocError, Global};
@@ -27,6 +31,8 @@ pub(crate) fn find_leg(state: &Counted, number: u64) -> Option<TalliedLeg<'_>>
     ensures found { option_map (λ found. leg_seen found.at) result
         ≡ leg_at state.now.plan state.now.board number }
     ensures named { IsNamed state.now.board }
+    ensures there { IfSome result
+        (λ found. leg_there state.now.board found.at.place ≡ Some (leg_seen found.at).leg) }
 {
     let board = state.board();
     let place = state.leg_place(number)?;
@@ -47,10 +53,22 @@ pub(crate) fn is_full(leg: &TalliedLeg) -> bool
 
 /// Whether a leg is to stop whatever its job's condition:
 /// by itself, or since its job fails fast and has failed.
-pub(crate) fn stops_anyway(leg: &TalliedLeg) -> bool
+fn stops_anyway(leg: &TalliedLeg) -> bool
     ensures { result ≡ decision.stops_anyway (leg_seen leg.now.at) }
 {
     leg.at.leg.stop || (leg.at.job_plan.fail_fast && leg.tally.failed > 0)
+}
+
+/// What is kept of a leg, so that nothing is walked over to know how it counts.
+pub(crate) fn keep(state: &Counted, leg: &TalliedLeg) -> Kept
+    requires { leg_there state.now.board leg.now.at.place ≡ Some (leg_seen leg.now.at).leg }
+    ensures { IsKeptOf result (leg_seen leg.now.at) }
+{
+    Kept {
+        stops_anyway: stops_anyway(leg),
+        has_failed_step: state.has_failed_step(leg.at.place),
+        has_own_env: has_own_env(leg.at.run_plan, leg.at.job_plan),
+    }
 }
 
 /// Whether a leg is to stop.

@@ -2,14 +2,17 @@
 //!
 //! Memory is asked for first; what comes after it changes the board in place.
 
-ghost use Rattle.std.specs.Prelude.{◌≡◌, ◌≤◌, ℕ, List, Ok, OnOk, Option, Result, false};
+ghost use Rattle.std.specs.Prelude.{◌≡◌, ◌≤◌, ℕ, List, Ok, OnOk, Option, Result, Some, false};
+ghost use Rattle.board_decisions.specs.Numbered.{leg_there as leg_there_of};
 ghost use Rattle.board_decisions.specs.Place.{LegAt};
 ghost use Rattle.board_decisions.specs.declared.entrance.Entrance.{Entrance as EntranceOf};
 ghost use Rattle.expr_value.specs.Answer.{Gives};
 ghost use Rattle.flat_board.specs.Index.{AsksNamed, EntersNamed, Goes, entered};
-ghost use Rattle.flat_board.specs.Stands.{standing_by};
-ghost use Rattle.flat_counters.specs.Names.{IsGroup, IsName};
+ghost use Rattle.flat_board.specs.Stands.{StandsOnlyThere, standing_by};
+ghost use Rattle.flat_board.specs.declared.groups.Stand.{Stand as StandOf};
+ghost use Rattle.flat_counters.specs.Names.{IsGroup, IsName, IsNamed};
 ghost use Rattle.flow_model.specs.declared.board.Board.{Board as BoardOf};
+ghost use Rattle.flow_model.specs.declared.board.Leg.{Leg as LegOf};
 ghost use Rattle.flow_model.specs.declared.event.Member.TheVariants as member;
 ghost use Rattle.flow_model.specs.declared.reply.ValueFault.{ValueFault as ValueFaultOf};
 ghost use Rattle.group_admission.specs.Content.{after_enter, holder_of, is_in_group};
@@ -21,8 +24,9 @@ ghost use Rattle.status_table.specs.Row.{leg_enters, run_enters};
 
 use crate::members::{admit, close_run, delay, drop_leg, forget_end, note_end, put_out, stop};
 use board_decisions::entrance::Entrance;
+use board_decisions::place::{LegPlace, leg_there};
 use flat_counters::Tracked;
-use flow_model::{LegState, Member, Outcome, Reply, RunState, Text, ValueFault};
+use flow_model::{Board, LegState, Member, Outcome, Reply, RunState, Text, ValueFault};
 use group_admission::Groups;
 use status_table::EventFault;
 use status_table::groups::{is_own, moved, stop_told, told};
@@ -288,18 +292,25 @@ pub(crate) fn next_after(groups: &Groups, stand: Stand, group: &Option<Text>) ->
     }
 }
 
-/// A member that ended leaves its group.
-pub(crate) fn leave(groups: &mut Groups, who: Member, stand: Stand)
-    ensures { (group : Option (List ℕ))
-        → groups.new ≡ left groups.old who (standing_by stand group) }
+/// A member that ended leaves its group, which is found by its name; one that has no group leaves none.
+pub(crate) fn leave(groups: &mut Groups, who: Member, group: &Option<Text>)
+    requires { IsGroup group.now }
+    ensures { (stood : StandOf) → StandsOnlyThere groups.old who (standing_by stood group.now)
+        → groups.new ≡ left groups.old who (standing_by stood group.now) }
 {
-    match stand {
-        Stand::Holding => {
-            groups.release(who);
-        },
-        Stand::Waiting => {
-            groups.withdraw(who);
-        },
-        Stand::Apart => {},
+    if let Some(name) = group {
+        groups.leave_name(name.as_str(), who);
+    }
+}
+
+/// A leg that ended leaves its group, whose name stands on the board still.
+pub(crate) fn leave_leg(groups: &mut Groups, board: &Board, place: LegPlace, number: u64)
+    requires { IsNamed board.now }
+    ensures { (leg : LegOf) (stood : StandOf) → leg_there_of board.now place ≡ Some leg
+        → StandsOnlyThere groups.old (member.Leg number) (standing_by stood leg.group)
+        → groups.new ≡ left groups.old (member.Leg number) (standing_by stood leg.group) }
+{
+    if let Some(leg) = leg_there(board, place) {
+        leave(groups, Member::Leg(number), &leg.group);
     }
 }

@@ -4,7 +4,8 @@
 //! (`flat_counters`) it keeps the concurrency groups by their names: so slots, needs, what is to stop at once, who
 //! holds a name and who is next are read off, and not looked for; who holds a name, who waits for it and who is next it
 //! tells callers too. `members` and `groups` are the changes of members and what comes of entering and leaving a group;
-//! `events` are the rows of the table; `undo` is what takes an entry back.
+//! `events` are the rows of the table; `undo` is what takes an entry back; `asked` says with which events the groups
+//! are kept for it.
 //!
 //! No contract of a caller speaks of the counters. The crate stands on `flat_counters`, on `status_table` for the
 //! table and for what does not look at counters, on `group_admission` for the index, and on `board_decisions` and
@@ -12,6 +13,7 @@
 
 #![tactic(auto)]
 
+mod asked;
 mod events;
 mod flat_board;
 mod found;

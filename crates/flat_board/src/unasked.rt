@@ -4,7 +4,7 @@ ghost use Rattle.std.specs.Prelude.{◌≡◌, ◌≤◌, OnOk};
 ghost use Rattle.status_table.specs.Row.{begin_row};
 ghost use Rattle.status_table.specs.Unasked.{Leads};
 
-use crate::found::{find_leg, stops_anyway};
+use crate::found::{find_leg, keep};
 use flat_counters::{LegChange, Tracked};
 use flow_model::LegState;
 use status_table::EventFault;
@@ -25,11 +25,12 @@ pub(crate) fn begin_unasked(
         state.old.board result state.new.board }
     ensures back { OnOk result (state.new.back ≡ state.old.back) }
 {
-    let Some(leg) = find_leg(state.counted(), number) else {
+    let play = state.counted();
+    let Some(leg) = find_leg(play, number) else {
         return Err(EventFault::NoSuch);
     };
     let place = leg.at.place;
-    match beginning_unasked(alloc, worker, number, &leg.at, stops_anyway(&leg))? {
+    match beginning_unasked(alloc, worker, number, &leg.at, keep(play, &leg))? {
         Begins::Calls => {
             let in_call = true;
             state.change_leg(

@@ -17,8 +17,8 @@ returns-then-not-have_needs_ended c =
     let ended = c.have_needs_ended.ensures c.args.number at c.requires.play c.requires.found refl (ap is_going c.in-Going-Unjudged.is-0) in
     judged_by c.args.number at false c.in-Going-Unjudged.is-0 c.in-Going-Unjudged.is-1 (sym ended ∙ c.if-not-have_needs_ended.true)
 
-pub job_status-requires : goal.job_status-requires
-job_status-requires c =
+pub job_status_kept-requires-clause-stands : goal.job_status_kept-requires-clause-stands
+job_status_kept-requires-clause-stands c =
     subst (λ (first : ℕ). StandsAfterNeeds first (job_seen c.args.at.now)) (sym c.saturating_sub-first.ensures)
     (stands_after_needs c.args.state.now.plan c.args.state.now.board c.args.number (job_seen c.args.at.now) c.requires.play c.requires.found)
 

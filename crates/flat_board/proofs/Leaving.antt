@@ -1,0 +1,180 @@
+-- A member that ended leaves its group, by the name of that.
+use Rattle.std.proofs.Common.{◌≡◌, ◌≢◌, ℕ, Bool, true, false, List, [], ◌∷◌, Option, Some, None, option_map, option_and_then, ap, subst, sym, refl, ◌∙◌}
+use Rattle.board_decisions.specs.Numbered.{leg_there}
+use Rattle.board_decisions.specs.Place.{RunAt, LegAt, leg_place, run_at, leg_at}
+use Rattle.flow_model.specs.declared.plan.Plan.{Plan}
+use Rattle.flow_model.specs.declared.board.Board.{Board}
+use Rattle.flow_model.specs.declared.board.Run.{Run}
+use Rattle.flow_model.specs.declared.board.Job.{Job}
+use Rattle.flow_model.specs.declared.board.Leg.{Leg}
+use Rattle.flow_model.specs.declared.board.LegState.{LegState}
+use Rattle.flow_model.specs.declared.board.LegState.TheVariants as leg_state
+use Rattle.flow_model.specs.declared.event.Member.{Member}
+use Rattle.flow_model.specs.declared.event.Member.TheVariants as member
+use Rattle.flow_model.specs.declared.event.Outcome.{Outcome}
+use Rattle.group_admission.specs.Content.{Content, after_release, after_withdraw, holder_of, same_member, waiter_of}
+use Rattle.group_admission.proofs.Members.{one_member, there as there_is}
+use Rattle.group_admission.proofs.Nowhere.{nothing_released, nothing_withdrawn}
+use Rattle.flat_board.specs.Stands.{StandsOnlyThere, standing_by}
+use Rattle.flat_board.specs.declared.groups.Stand.{Stand}
+use Rattle.flat_board.specs.declared.groups.Stand.TheVariants as stand
+use Rattle.flat_counters.proofs.Tallies.{there}
+use Rattle.status_table.specs.Admissions.{left}
+use Rattle.status_table.specs.Change.{changed, leg_changed, with_leg}
+use Rattle.status_table.specs.Grouped.{KeptAsShown, leg_left, run_left}
+use Rattle.status_table.specs.Groups.{Standing, apart, dropped, holding, waiting, run_stands as run_stands_so, run_standing, leg_stands as leg_stands_so, leg_standing}
+use Rattle.status_table.specs.Row.{leg_ended}
+use Rattle.status_table.proofs.Found.{leg_item, leg_stands, run_stands}
+use Rattle.status_table.proofs.Lists.{changed-there, same_some, no_some}
+use Rattle.status_table.proofs.Steps.{standing}
+use Rattle.status_table.proofs.Turnover.{a_holder, a_waiter, numbered}
+
+-- ---- a member stands only where the board says
+
+filled : (c : ℕ) (cs : List ℕ) → c ∷ cs ≢ []
+filled c cs e = cc
+
+stands_only : (groups : Content) (b : Board) (m : Member) (s : Standing) → KeptAsShown groups b → standing b m ≡ Some s → StandsOnlyThere groups m s
+stands_only groups b m s kept is = record { ordered = kept.ordered; holder = holds; waiter = waits }
+  where
+    holds : (name : List ℕ) → holder_of name groups ≡ Some m → s ≡ holding (Some name)
+    holds [] e = absurd (no_some m (sym (ap (λ o. option_map (λ held. held.holder) o) kept.named) ∙ e))
+    holds (c ∷ cs) e =
+        same_some s (holding (Some (c ∷ cs))) (sym is ∙ (a_holder b (c ∷ cs) m (sym (kept.shown.holder (c ∷ cs) (filled c cs)) ∙ e)).0)
+
+    waits : (name : List ℕ) → waiter_of name groups ≡ Some m → s ≡ waiting (Some name)
+    waits [] e = absurd (no_some m (sym (ap (λ o. option_and_then (λ held. held.waiter) o) kept.named) ∙ e))
+    waits (c ∷ cs) e =
+        same_some s (waiting (Some (c ∷ cs))) (sym is ∙ (a_waiter b (c ∷ cs) m (sym (kept.shown.waiter (c ∷ cs) (filled c cs)) ∙ e)).0)
+
+-- so it is with a run that is found
+pub run_stands_only : (p : Plan) (b : Board) (groups : Content) (n : ℕ) (at : RunAt) → KeptAsShown groups b → run_at p b n ≡ Some at → StandsOnlyThere groups (member.Run n) (run_standing at.run)
+run_stands_only p b groups n at kept is =
+    stands_only groups b (member.Run n) (run_standing at.run) kept (ap (option_map run_standing) (run_stands p b n at is).run)
+
+-- and with a leg
+pub leg_stands_only : (p : Plan) (b : Board) (groups : Content) (n : ℕ) (at : LegAt) → KeptAsShown groups b → leg_at p b n ≡ Some at → StandsOnlyThere groups (member.Leg n) (leg_standing at.leg)
+leg_stands_only p b groups n at kept is =
+    stands_only groups b (member.Leg n) (leg_standing at.leg) kept (ap (option_map leg_standing) (leg_item p b n at (leg_stands p b n at is)))
+
+-- ---- leaving by a name
+
+-- whether a member is there, or another, or none
+either : {X : Type 0} (m : Member) (o : Option Member) → (o ≡ Some m → X) → (o ≢ Some m → X) → X
+either m None so other = other (no_some m)
+either {X} m (Some h) so other = by (same_member m h) refl
+  where
+    by : (b : Bool) → same_member m h ≡ b → X
+    by true is = so (ap (λ (x : Member). Some x) (sym (one_member m h is)))
+    by false is = other (λ e. differs (sym is ∙ there_is m h e))
+      where
+        differs : false ≡ true → ⊥
+        differs e = cc
+
+module _ (groups : Content) (m : Member) where
+  -- one that has a group leaves that as it stood
+  pub name_left : (new : Content) (name : List ℕ) → (holder_of name groups ≡ Some m → new ≡ after_release m groups) → (waiter_of name groups ≡ Some m → new ≡ after_withdraw m groups)
+      → (holder_of name groups ≢ Some m → waiter_of name groups ≢ Some m → new ≡ groups)
+      → (s : Stand) → StandsOnlyThere groups m (standing_by s (Some name)) → new ≡ left groups m (standing_by s (Some name))
+  name_left new name held awaited other stand.Apart only = other (λ e. unlike (only.holder name e)) (λ e. unalike (only.waiter name e))
+    where
+      unlike : apart ≡ holding (Some name) → ⊥
+      unlike e = cc
+
+      unalike : apart ≡ waiting (Some name) → ⊥
+      unalike e = cc
+  name_left new name held awaited other stand.Holding only = either m (holder_of name groups) held (λ differs.
+      other differs (λ e. unlike (only.waiter name e))
+      ∙ sym (nothing_released groups m only.ordered (λ q e. differs (ap (λ n. holder_of n groups) (one_name q (only.holder q e)) ∙ e))))
+    where
+      unlike : holding (Some name) ≡ waiting (Some name) → ⊥
+      unlike e = cc
+
+      one_name : (q : List ℕ) → holding (Some name) ≡ holding (Some q) → name ≡ q
+      one_name q e = cc
+  name_left new name held awaited other stand.Waiting only = either m (waiter_of name groups) awaited (λ differs.
+      other (λ e. unlike (only.holder name e)) differs
+      ∙ sym (nothing_withdrawn groups m only.ordered (λ q e. differs (ap (λ n. waiter_of n groups) (one_name q (only.waiter q e)) ∙ e))))
+    where
+      unlike : waiting (Some name) ≡ holding (Some name) → ⊥
+      unlike e = cc
+
+      one_name : (q : List ℕ) → waiting (Some name) ≡ waiting (Some q) → name ≡ q
+      one_name q e = cc
+
+  -- and one that has none leaves none
+  pub none_left : (s : Stand) → StandsOnlyThere groups m (standing_by s None) → groups ≡ left groups m (standing_by s None)
+  none_left stand.Apart only = refl
+  none_left stand.Holding only = sym (nothing_released groups m only.ordered (λ q e. unlike q (only.holder q e)))
+    where
+      unlike : (q : List ℕ) → holding None ≡ holding (Some q) → ⊥
+      unlike q e = cc
+  none_left stand.Waiting only = sym (nothing_withdrawn groups m only.ordered (λ q e. unlike q (only.waiter q e)))
+    where
+      unlike : (q : List ℕ) → waiting None ≡ waiting (Some q) → ⊥
+      unlike q e = cc
+
+-- ---- the group of a leg that was changed
+
+module _ (p : Plan) (b : Board) (n : ℕ) (at : LegAt) (is : leg_at p b n ≡ Some at) (f : Leg → Leg) where
+  abbrev in_job : Job → Job
+  in_job job = record job { legs = changed job.legs at.place.leg f }
+
+  abbrev in_run : Run → Run
+  in_run run = record run { jobs = changed run.jobs at.place.job in_job }
+
+  changed_there : leg_there (with_leg b at.place f) at.place ≡ Some (f at.leg)
+  changed_there =
+      let stands = leg_stands p b n at is in
+      there (with_leg b at.place f) at.place (in_run at.run) (in_job at.job) (changed-there b.runs at.place.run in_run at.run stands.in_board)
+      (changed-there at.run.jobs at.place.job in_job at.job stands.job)
+      ∙ changed-there at.job.legs at.place.leg f at.leg stands.leg
+
+  -- the leg at its place is changed, where it was by its place
+  placed_there : (new : Board) → new.runs ≡ (with_leg b at.place f).runs → leg_there new at.place ≡ Some (f at.leg)
+  placed_there new runs = ap (λ (rs : List Run). leg_there (record new { runs = rs }) at.place) runs ∙ changed_there
+
+  -- and where it was by its number
+  numbered_there : (new : Board) → new.runs ≡ leg_changed b.runs (leg_place b n) f → leg_there new at.place ≡ Some (f at.leg)
+  numbered_there new runs = placed_there new (runs ∙ numbered b n at.place f (leg_stands p b n at is).place)
+
+-- A leg that was found, and stood so, may leave its group by the name that it still has.
+module _ (p : Plan) (b : Board) (groups : Content) (n : ℕ) (at : LegAt) (kept : KeptAsShown groups b) (is : leg_at p b n ≡ Some at)
+    (s : Stand) (stood : (group : Option (List ℕ)) → leg_stands_so at.leg.state group ≡ standing_by s group)
+    (new : Board) (now : Leg) (found : leg_there new at.place ≡ Some now) (same : now.group ≡ at.leg.group) where
+  stands : (leg : Leg) → leg_there new at.place ≡ Some leg → leg_standing at.leg ≡ standing_by s leg.group
+  stands leg there_now = stood at.leg.group ∙ ap (standing_by s) (sym same ∙ ap (λ (x : Leg). x.group) (same_some now leg (sym found ∙ there_now)))
+
+  only : (leg : Leg) → leg_there new at.place ≡ Some leg → StandsOnlyThere groups (member.Leg n) (standing_by s leg.group)
+  only leg there_now = subst (StandsOnlyThere groups (member.Leg n)) (stands leg there_now) (leg_stands_only p b groups n at kept is)
+
+  leg_has_left : (after : Content)
+      → ((leg : Leg) (t : Stand) → leg_there new at.place ≡ Some leg → StandsOnlyThere groups (member.Leg n) (standing_by t leg.group) → after ≡ left groups (member.Leg n) (standing_by t leg.group))
+      → after ≡ leg_left groups n (leg_at p b n)
+  leg_has_left after leaves =
+      leaves now s found (only now found) ∙ ap (left groups (member.Leg n)) (sym (stands now found)) ∙ ap (leg_left groups n) (sym is)
+
+module _ (p : Plan) (b : Board) (groups : Content) (n : ℕ) (at : LegAt) (kept : KeptAsShown groups b) (is : leg_at p b n ≡ Some at)
+    (s : Stand) (stood : (group : Option (List ℕ)) → leg_stands_so at.leg.state group ≡ standing_by s group) (new : Board) (after : Content)
+    (leaves : (leg : Leg) (t : Stand) → leg_there new at.place ≡ Some leg → StandsOnlyThere groups (member.Leg n) (standing_by t leg.group)
+    → after ≡ left groups (member.Leg n) (standing_by t leg.group)) where
+  -- so it is with a leg that was dropped
+  pub dropped_has_left : (result : Outcome) → new ≡ dropped b n result → after ≡ leg_left groups n (leg_at p b n)
+  dropped_has_left result new_is =
+      let found = numbered_there p b n at is (λ leg. record leg { state = leg_state.Ended result false }) new (ap (λ (x : Board). x.runs) new_is) in
+      leg_has_left p b groups n at kept is s stood new (record at.leg { state = leg_state.Ended result false }) found refl after leaves
+
+  -- and with one that has finished
+  pub ended_has_left : (state : LegState) (outputs : List (List ℕ × List ℕ)) → new ≡ leg_ended b at.place n state outputs → after ≡ leg_left groups n (leg_at p b n)
+  ended_has_left state outputs new_is =
+      let found = placed_there p b n at is (λ leg. record leg { state = state; outputs = outputs }) new (ap (λ (x : Board). x.runs) new_is) in
+      leg_has_left p b groups n at kept is s stood new (record at.leg { state = state; outputs = outputs }) found refl after leaves
+
+-- And so may a run that was found.
+pub run_has_left : (p : Plan) (b : Board) (groups : Content) (n : ℕ) (at : RunAt) → KeptAsShown groups b → run_at p b n ≡ Some at
+    → (s : Stand) → ((group : Option (List ℕ)) → run_stands_so at.run.state group ≡ standing_by s group) → (after : Content)
+    → ((t : Stand) → StandsOnlyThere groups (member.Run n) (standing_by t at.run.group) → after ≡ left groups (member.Run n) (standing_by t at.run.group))
+    → after ≡ run_left groups n (run_at p b n)
+run_has_left p b groups n at kept is s stood after leaves =
+    let stands = stood at.run.group in
+    leaves s (subst (StandsOnlyThere groups (member.Run n)) stands (run_stands_only p b groups n at kept is)) ∙ ap (left groups (member.Run n)) (sym stands) ∙ ap (run_left groups n) (sym is)
