@@ -5,6 +5,7 @@
 //!   enter KIND N NAME [own RUN|cancel]   the member enters the group; it is in its own run, or asks the holder to stop
 //!   release KIND N                       the member gives its group up
 //!   withdraw KIND N                      the member leaves the wait
+//!   leave KIND N NAME                    the member leaves the group, as its holder or out of the wait
 //!   holder NAME, waiting NAME            who holds the group, who waits for it
 //!   copy                                 a copy takes the place of the groups
 //!
@@ -36,11 +37,18 @@ fn answer(page: &mut Page<'_>, groups: &mut Groups, line: &str) {
         "enter" => enter(page, groups, member, rest),
         "release" => put_member(page, groups.release(member)),
         "withdraw" => write!(page, "{}", groups.withdraw(member)),
+        "leave" => leave(page, groups, member, rest),
         "holder" => put_member(page, groups.holder(first)),
         "waiting" => put_member(page, groups.waiting(first)),
         "copy" => copy(page, groups),
         _ => page.put("no such call"),
     }
+}
+
+/// Has a member leave the group of a name.
+fn leave(page: &mut Page<'_>, groups: &mut Groups, member: Member, name: &str) {
+    groups.leave_name(name, member);
+    page.put("left");
 }
 
 /// Has a copy take the place of the groups.
