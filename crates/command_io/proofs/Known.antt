@@ -28,6 +28,20 @@ piece_more text done rest n whole =
     whole ∙ ap (λ (l : List ℕ). done ++ l) (sym (take-append-drop n rest)) ∙ sym (append_assoc done (take n rest) (drop n rest))
     ∙ ap (λ (l : List ℕ). (done ++ take n rest) ++ l) (sym (take_rest rest n))
 
+-- where the writing of a text is cut off after another, that of both is
+pub cut_off_after : (a b c : Stream) (x y : List ℕ) → IsWritten a b x → IsCutOff b c y → IsCutOff a c (x ++ y)
+cut_off_after a b c x y written cut =
+    let (kept, failed) = cut in
+    let whole : y ≡ kept.part ++ kept.rest = kept.whole in (
+      record {
+        part = x ++ kept.part;
+        rest = kept.rest;
+        whole = ap (λ (l : List ℕ). x ++ l) whole ∙ sym (append_assoc x kept.part kept.rest);
+        appended = Appends-then _ _ _ x kept.part written.0 kept.appended;
+      },
+      failed,
+    )
+
 -- the texts of parts are those of the first i, of the next, and of the others
 flat_map-at : {X : Type 0} (f : X → List ℕ) (xs : List X) (i : ℕ) (d : X) → i < length xs
     → flat_map f xs ≡ flat_map f (take i xs) ++ (f (get_or xs i d) ++ flat_map f (drop (suc i) xs))

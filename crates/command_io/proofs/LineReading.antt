@@ -1,15 +1,16 @@
 -- Lines that are taken from the front of known bytes.
-use Rattle.std.proofs.Common.{◌≡◌, ◌≢◌, ◌<◌, ◌+◌, ◌-◌, ℕ, Bool, true, false, not, IsTrue, if◌then◌else◌, ◌==◌, List, [], ◌∷◌, ◌++◌, All, length, take, drop, get_or, Option, Some, None, IfSome, refl, ap, sym, subst, ◌∙◌, append_assoc, append-nil, le_refl, length-append, take_at, arith}
+use Rattle.std.proofs.Common.{◌≡◌, ◌≢◌, ◌<◌, ◌+◌, ◌-◌, ℕ, Bool, true, false, not, ◌&&◌, ◌||◌, IsTrue, if◌then◌else◌, ◌==◌, List, [], ◌∷◌, ◌++◌, All, length, take, drop, get_or, Option, Some, None, IfSome, refl, ap, sym, subst, ◌∙◌, append_assoc, append-nil, le_refl, length-append, take_at, take-append-drop, arith}
 use Rattle.std.proofs.lemmas.Bool.Decides.{nat_tests}
 use Rattle.std.proofs.lemmas.List.{drop_all, take_all}
 use Rattle.std.proofs.lemmas.List.Elements.{All-head, All-tail}
-use Rattle.std.specs.Io.{StopsAt}
+use Rattle.std.specs.Io.{StartsWith, StopsAt}
 use Rattle.std.specs.Io.BufRead.{DropsThrough, drop_through, take_through}
 use Rattle.std.specs.Io.KnownBytes.{Consumes}
+use Rattle.std.specs.List.{list_any}
 use Rattle.flow_model.specs.Lines.{is_line, lines_of}
 use Rattle.flow_model.proofs.LineLemmas.{line-passed, lines-ended, lines_of-line}
 use Rattle.flow_model.proofs.Tests.{both, pair}
-use Rattle.command_io.specs.Stream.{LosesPart, TakesLine}
+use Rattle.command_io.specs.Stream.{LiesReady, LosesPart, TakesLine}
 
 -- ---- bytes without a newline
 
@@ -90,3 +91,23 @@ takes_last (Some text) (Some left) read none empty stops open' some whole rest t
 pub loses : (old new : Option (List ℕ)) (read : List ℕ) → StopsAt read 10 → (0 < length read → get_or read (length read - 1) 0 ≢ 10) → Consumes old new read
     → LosesPart old new
 loses old new read stops open' taken = record { part = read; within = is_line-open read stops open'; lost = taken }
+
+-- ---- lines that lie ready
+
+-- bytes with a newline are no line, whatever follows them
+no_line : (ahead rest : List ℕ) → list_any (λ b. b == 10) ahead ≡ true → is_line (ahead ++ rest) ≡ false
+no_line [] rest h = absurd (cc)
+no_line (b ∷ ahead) rest h = by_first (b == 10) (list_any (λ x. x == 10) ahead) (is_line (ahead ++ rest)) h (no_line ahead rest)
+  where
+    by_first : (here later line : Bool) → here || later ≡ true → (later ≡ true → line ≡ false) → not here && line ≡ false
+    by_first true later line h there = refl
+    by_first false later line h there = there h
+
+-- a newline that was read ahead is among the bytes that are known
+pub lies_ready : (known : Option (List ℕ)) (failed : Bool) (ahead : List ℕ) (found : Bool) → IfSome known (λ bytes. StartsWith bytes ahead) → found ≡ list_any (λ b. b == 10) ahead
+    → LiesReady (record { bytes = known; failed = failed }) found
+lies_ready known failed ahead false front is = tt
+lies_ready None failed ahead true front is = tt
+lies_ready (Some text) failed ahead true front is =
+    let whole : text ≡ ahead ++ drop (length ahead) text = sym (take-append-drop (length ahead) text) ∙ ap (λ (l : List ℕ). l ++ drop (length ahead) text) front in
+    ap is_line whole ∙ no_line ahead (drop (length ahead) text) (sym is)

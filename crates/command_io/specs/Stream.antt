@@ -78,19 +78,24 @@ IsLineRead old new (Ok (Some line)) = TakesLine old.bytes new.bytes line × (new
 IsLineRead old new (Err Failed) = LosesPart old.bytes new.bytes × (new.failed ≡ true)
 IsLineRead old new (Err Memory) = LosesPart old.bytes new.bytes
 
--- The same of what the code answers.
-abbrev pub ReadsLine : Stream → Stream → Result (Option (Vec ℕ Global)) SourceFault → Type 0
-ReadsLine old new (Ok None) = IsLineRead old new (Ok None)
-ReadsLine old new (Ok (Some line)) = IsLineRead old new (Ok (Some line.items))
-ReadsLine old new (Err fault) = IsLineRead old new (Err fault)
+-- The same of what the code answers: whether there was a line, and which.
+abbrev pub ReadsLine : Stream → Stream → List ℕ → Result Bool SourceFault → Type 0
+ReadsLine old new line (Ok true) = IsLineRead old new (Ok (Some line))
+ReadsLine old new line (Ok false) = IsLineRead old new (Ok None)
+ReadsLine old new line (Err fault) = IsLineRead old new (Err fault)
+
+-- A line with its newline is known, where it is said to lie ready and the bytes are known.
+abbrev pub LiesReady : Stream → Bool → Type 0
+LiesReady now true = IfSome now.bytes (λ text. is_line text ≡ false)
+LiesReady now false = Unit {0}
 
 -- ---- what the code answers on the way
 
--- What reading a line of a reader comes to.
-abbrev pub ReadsNext : Option (List ℕ) → Option (List ℕ) → Result (Option (Vec ℕ Global)) SourceFault → Type 0
-ReadsNext old new (Ok None) = IsAtEnd old
-ReadsNext old new (Ok (Some line)) = TakesLine old new line.items
-ReadsNext old new (Err fault) = LosesPart old new
+-- What reading a line of a reader comes to: whether there was a line, and which.
+abbrev pub ReadsNext : Option (List ℕ) → Option (List ℕ) → List ℕ → Result Bool SourceFault → Type 0
+ReadsNext old new line (Ok true) = TakesLine old new line
+ReadsNext old new line (Ok false) = IsAtEnd old
+ReadsNext old new line (Err fault) = LosesPart old new
 
 -- A newline was taken off the end of bytes, or there was none.
 abbrev pub CutsNewline : List ℕ → List ℕ → Bool → Type 0

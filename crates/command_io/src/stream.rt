@@ -1,13 +1,14 @@
 //! Streams of bytes that know whether a call on them has failed.
 
-ghost use Rattle.std.specs.Prelude.{◌≡◌, ◌<◌, ◌≤◌, ℕ, List, Option, OnOk, map, flat_map};
-ghost use Rattle.command_io.specs.Stream.{Flushes, Stream, Puts, ReadsAll, ReadsLine};
+ghost use Rattle.std.specs.Prelude.{◌≡◌, ◌<◌, ◌≤◌, ℕ, List, Option, OnOk, IfSome, map, flat_map};
+ghost use Rattle.std.specs.Io.{StartsWith};
+ghost use Rattle.command_io.specs.Stream.{Flushes, LiesReady, Stream, Puts, ReadsAll, ReadsLine};
 ghost use Rattle.command_io.specs.Stream as spec;
 
 use crate::bounded::Counted;
 use std::alloc::Global;
 use std::io;
-use std::io::{BufRead, ErrorKind, Write};
+use std::io::{BufRead, BufReader, ErrorKind, Read, Write};
 
 /// Why a source was not read to its end.
 #[derive(Clone, Copy, PartialEq, Eq)]
@@ -45,14 +46,32 @@ pub trait LineSource: Source {
     /// How many more times a line may be asked for, before the source is given up as one that failed.
     ghost turns_left: { Self → ℕ };
 
-    /// The next line, without its newline, which the last may lack; none at the end.
+    /// Puts the next line in the place of what `line` holds, without its newline, which the last may lack, and answers
+    /// whether there was one: at the end there is none.
     ///
     /// # Errors
     ///
     /// A read that failed, or want of memory. What was read of the line until then is lost.
-    fn read_line(&mut self, alloc: Global) -> Result<Option<Vec<u8>>, SourceFault>
-        ensures reads { ReadsLine (Self.seen self.old) (Self.seen self.new) result }
+    fn read_line(&mut self, line: &mut Vec<u8>) -> Result<bool, SourceFault>
+        ensures reads { ReadsLine (Self.seen self.old) (Self.seen self.new) line.new.items result }
         ensures fewer { OnOk result (turns_left self.new < turns_left self.old) };
+
+    /// Whether the next line lies read already, with its newline, so that it can be had without waiting.
+    fn is_line_ready(&self) -> bool
+        ensures { LiesReady (Self.seen self.now) result };
+}
+
+/// A reader that reads ahead of what is taken of it.
+pub trait ReadAhead: BufRead {
+    /// The bytes that were read and not yet taken, which are the next.
+    fn ahead(&self) -> &[u8]
+        ensures { IfSome (Self.remaining self.now) (λ bytes. StartsWith bytes result.now) };
+}
+
+impl<R: Read> ReadAhead for BufReader<R> {
+    fn ahead(&self) -> &[u8] {
+        self.buffer()
+    }
 }
 
 /// What is written to.
@@ -139,40 +158,44 @@ fn cut_newline(bytes: &mut Vec<u8>) -> bool
     true
 }
 
-/// The next line of a reader, without its newline; none at the end.
-fn next_line<R: BufRead>(alloc: Global, reader: &mut R) -> Result<Option<Vec<u8>>, SourceFault>
-    ensures { spec.ReadsNext (R.remaining reader.old) (R.remaining reader.new) result }
+/// Puts the next line of a reader in the place of what `line` holds, without its newline; at the end there is none.
+fn next_line<R: BufRead>(reader: &mut R, line: &mut Vec<u8>) -> Result<bool, SourceFault>
+    ensures { spec.ReadsNext (R.remaining reader.old) (R.remaining reader.new) line.new.items result }
 {
-    let mut line = Vec::new(alloc);
-    let read = reader.read_until(b'\n', &mut line);
+    line.clear();
+    let read = reader.read_until(b'\n', line);
     // a line with its newline is whole, whatever came after it
-    if cut_newline(&mut line) {
-        return Ok(Some(line));
+    if cut_newline(line) {
+        return Ok(true);
     }
     match read {
-        Ok(0) => Ok(None),
-        Ok(_) => Ok(Some(line)),
+        Ok(0) => Ok(false),
+        Ok(_) => Ok(true),
         Err(error) => Err(source_fault(&error)),
     }
 }
 
-impl<R: BufRead + Counted> LineSource for Input<R> {
+impl<R: ReadAhead + Counted> LineSource for Input<R> {
     ghost turns_left = { λ s. s.turns };
 
-    fn read_line(&mut self, alloc: Global) -> Result<Option<Vec<u8>>, SourceFault> {
+    fn read_line(&mut self, line: &mut Vec<u8>) -> Result<bool, SourceFault> {
         if self.turns == 0 {
             self.failed = true;
             return Err(SourceFault::Failed);
         }
         self.turns -= 1;
-        match next_line(alloc, &mut self.reader) {
-            Ok(line) => Ok(line),
+        match next_line(&mut self.reader, line) {
+            Ok(found) => Ok(found),
             Err(SourceFault::Failed) => {
                 self.failed = true;
                 Err(SourceFault::Failed)
             },
             Err(SourceFault::Memory) => Err(SourceFault::Memory),
         }
+    }
+
+    fn is_line_ready(&self) -> bool {
+        self.reader.ahead().contains(&b'\n')
     }
 }
 

@@ -1,12 +1,12 @@
 -- Lines are answered one after the other.
-use Rattle.std.proofs.Common.{◌≡◌, ℕ, List, [], ◌∷◌, ◌++◌, Option, Some, None, IfSome, Ok, Err, refl, sym, ap, ◌∙◌, subst, append_assoc, append-nil}
+use Rattle.std.proofs.Common.{◌≡◌, ◌≢◌, ℕ, true, false, List, [], ◌∷◌, ◌++◌, Option, Some, None, IfSome, Result, Ok, Err, refl, sym, ap, ◌∙◌, subst, append_assoc, append-nil}
 use Rattle.std.specs.Io.KnownBytes.{IsAtEnd}
 use Rattle.debugger.specs.Session.{Session}
 use Rattle.flow_model.specs.Lines.{lines_of}
-use Rattle.command_io.specs.Stream.{Stream, IsLineRead, IsWritten, TakesLine, TakesLines}
-use Rattle.command_io.proofs.Known.{Appends-nothing, Appends-then}
+use Rattle.command_io.specs.Stream.{Stream, IsCutOff, IsWritten, TakesLine, TakesLines}
+use Rattle.command_io.proofs.Known.{Appends-nothing, Appends-then, cut_off_after}
 use Rattle.debug_session.specs.Answers.{TellsLines}
-use Rattle.debug_session.specs.Session.{Answers, AsksLine, Holds, Stands}
+use Rattle.debug_session.specs.Session.{Answers, AsksLine, Gathers, HandsOn, Holds, IsAnswered, IsGathered, ReadTo}
 use Rattle.debug_session.specs.declared.session.Halt.{Halt}
 use Rattle.debug_session.specs.declared.session.Halt.TheVariants as halt
 
@@ -30,97 +30,132 @@ take_all (Some text) None lines before end = absurd before
 take_all (Some text) (Some more) lines before end =
     sym (before ∙ ap (λ (l : List ℕ). lines ++ lines_of l) end ∙ append-nil lines)
 
+-- ---- texts that are written and gathered
+
+written_more : (a b c : Stream) (x y : List ℕ) → IsWritten a b x → IsWritten b c y → IsWritten a c (x ++ y)
+written_more a b c x y first next = (Appends-then _ _ _ x y first.0 next.0, next.1 ∙ first.1)
+
+-- what was gathered is handed on
+gathered_on : (a b c : Stream) (told gathered left : List ℕ) → IsGathered a b told gathered → IsGathered b c gathered left → IsGathered a c told left
+gathered_on a b c told gathered left (before, first, whole) (more, next, rest) =
+    (before ++ more, written_more a b c before more first next, whole ∙ ap (λ (l : List ℕ). before ++ l) rest ∙ sym (append_assoc before more left))
+
+-- more is gathered
+gathered_more : (a b : Stream) (told gathered words new : List ℕ) → IsGathered a b told gathered → new ≡ gathered ++ words → IsGathered a b (told ++ words) new
+gathered_more a b told gathered words new (before, first, whole) is =
+    (before, first, ap (λ (l : List ℕ). l ++ words) whole ∙ append_assoc before gathered words ∙ ap (λ (l : List ℕ). before ++ l) (sym is))
+
+-- a part of what was gathered is written
+gathered_cut : (a b c : Stream) (told gathered : List ℕ) → IsGathered a b told gathered → IsCutOff b c gathered → IsCutOff a c told
+gathered_cut a b c told gathered (before, first, whole) cut =
+    subst (λ (l : List ℕ). IsCutOff a c l) (sym whole) (cut_off_after a b c before gathered first cut)
+
 -- ---- a session under way
 
 -- These lines were answered, and a session that goes on from here goes on from all of them.
-pub record Going (first : Session) (input out : Stream) (now : Session) (input' out' : Stream) : Type 0 where
+pub record Going (first : Session) (input out : Stream) (now : Session) (input' out' : Stream) (gathered : List ℕ) : Type 0 where
   pub lines : List (List ℕ)
   pub told : List ℕ
   pub taken : TakesLines input.bytes input'.bytes lines
   pub sound : input'.failed ≡ input.failed
-  pub written : IsWritten out out' told
+  pub written : IsGathered out out' told gathered
   pub goes : (others : List (List ℕ)) (more : List ℕ) → TellsLines now others more → TellsLines first (lines ++ others) (told ++ more)
 
-pub begin : (s : Session) (input out : Stream) → Going s input out s input out
-begin s input out = record {
+pub begin : (s : Session) (input out : Stream) (gathered : List ℕ) → gathered ≡ [] → Going s input out s input out gathered
+begin s input out gathered none = record {
   lines = [];
   told = [];
   taken = take_none input.bytes;
   sound = refl;
-  written = (Appends-nothing out.bytes, refl);
+  written = ([], (Appends-nothing out.bytes, refl), sym none);
   goes = λ others more tells. tells;
 }
 
--- what is told so far, and stands
-so_far : (first : Session) (input out : Stream) (now : Session) (input' out' : Stream) → (g : Going first input out now input' out') → TellsLines first g.lines g.told
-so_far first input out now input' out' g =
-    subst (λ (l : List (List ℕ)). TellsLines first l g.told) (append-nil g.lines)
-    (subst (λ (t : List ℕ). TellsLines first (g.lines ++ []) t) (append-nil g.told) (g.goes [] [] refl))
+module _ (first : Session) (input out : Stream) (now : Session) (mid out' : Stream) (gathered : List ℕ) (g : Going first input out now mid out' gathered) where
+  -- what is told so far
+  so_far : TellsLines first g.lines g.told
+  so_far =
+      subst (λ (l : List (List ℕ)). TellsLines first l g.told) (append-nil g.lines)
+      (subst (λ (t : List ℕ). TellsLines first (g.lines ++ []) t) (append-nil g.told) (g.goes [] [] refl))
 
-stands : (first : Session) (input out : Stream) (now : Session) (input' out' : Stream) → (g : Going first input out now input' out') → Stands first g.lines out out'
-stands first input out now input' out' g = record { told = g.told; tells = so_far first input out now input' out' g; written = g.written }
+  answered_so_far : (input' : Stream) (ended : Result (Unit {0}) Halt) → ReadTo input input' g.lines ended → IsAnswered first input input' out out' gathered ended
+  answered_so_far input' ended read = record { lines = g.lines; told = g.told; read = read; tells = so_far; written = g.written }
 
-module _ (first : Session) (input out : Stream) (now : Session) (mid out' : Stream) (g : Going first input out now mid out') (input' : Stream) where
-  -- the input has ended
-  pub all_answered : IsLineRead mid input' (Ok None) → Holds first input input' out out' (Ok tt)
-  all_answered end = record {
+  -- what is gathered is handed on
+  pub handed : (out'' : Stream) (left : List ℕ) → HandsOn out' out'' gathered left (Ok tt) → Going first input out now mid out'' left
+  handed out'' left on = record {
     lines = g.lines;
-    all = take_all input.bytes mid.bytes g.lines g.taken end.0;
-    sound = end.1 ∙ g.sound;
-    stands = stands first input out now mid out' g;
-  }
-
-  -- it gives no line
-  pub unread : (why : Halt) → AsksLine mid input' (Err why) → Holds first input input' out out' (Err why)
-  unread halt.Unread lost = record {
-    lines = g.lines;
-    left = mid.bytes;
+    told = g.told;
     taken = g.taken;
-    lost = lost.0;
-    failed = lost.1;
-    stands = stands first input out now mid out' g;
+    sound = g.sound;
+    written = gathered_on out out' out'' g.told gathered left g.written on;
+    goes = g.goes;
   }
-  unread halt.Unwritten lost = absurd lost
-  unread halt.Memory lost = record { lines = g.lines; left = mid.bytes; taken = g.taken; stands = stands first input out now mid out' g }
 
-  module _ (line : List ℕ) (read : IsLineRead mid input' (Ok (Some line))) (next : Session) (out'' : Stream) where
-    -- a line is answered
-    pub answered : Answers now line next out' out'' (Ok tt) → Going first input out next input' out''
-    answered (words, one, put) = record {
-      lines = g.lines ++ line ∷ [];
-      told = g.told ++ words;
-      taken = take_more input.bytes mid.bytes input'.bytes g.lines line g.taken read.0;
-      sound = read.1 ∙ g.sound;
-      written = (Appends-then _ _ _ g.told words g.written.0 put.0, put.1 ∙ g.written.1);
-      goes = λ others more tells.
-          subst (λ (l : List (List ℕ)). TellsLines first l ((g.told ++ words) ++ more)) (sym (append_assoc g.lines (line ∷ []) others))
-          (subst (λ (t : List ℕ). TellsLines first (g.lines ++ line ∷ others) t) (sym (append_assoc g.told words more))
-          (g.goes (line ∷ others) (words ++ more) (next, words, more, one, tells, refl)));
-    }
+  -- or is not, or in part
+  pub unhanded : (out'' : Stream) (left : List ℕ) (why : Halt) → HandsOn out' out'' gathered left (Err why) → Gathers first input mid out out'' left (Err why)
+  unhanded out'' left halt.Unread h = absurd h
+  unhanded out'' left halt.Unwritten cut = record {
+    lines = g.lines;
+    told = g.told;
+    ended = Err halt.Unwritten;
+    read = (g.taken, g.sound);
+    tells = so_far;
+    cut_off = gathered_cut out out' out'' g.told gathered g.written cut;
+  }
+  unhanded out'' left halt.Memory h = absurd h
 
-    -- or is not, or in part
-    pub unanswered : (why : Halt) → Answers now line next out' out'' (Err why) → Holds first input input' out out'' (Err why)
-    unanswered halt.Unread h = absurd h
-    unanswered halt.Unwritten (words, one, (part, failed)) = record {
-      lines = g.lines;
-      next = line;
-      taken = take_more input.bytes mid.bytes input'.bytes g.lines line g.taken read.0;
-      sound = read.1 ∙ g.sound;
-      stands = record {
-        told = g.told;
-        part = part.part;
-        rest = part.rest;
-        tells = so_far first input out now mid out' g;
-        more =
-            subst (λ (t : List ℕ). TellsLines first (g.lines ++ line ∷ []) (g.told ++ t)) part.whole
-            (g.goes (line ∷ []) words (next, words, [], one, refl, sym (append-nil words)));
-        written = Appends-then _ _ _ g.told part.part g.written.0 part.appended;
-        failed = failed;
-      };
-    }
-    unanswered halt.Memory kept = record {
-      lines = g.lines;
-      left = mid.bytes;
-      taken = g.taken;
-      stands = subst (λ (o : Stream). Stands first g.lines out o) (sym kept) (stands first input out now mid out' g);
-    }
+  module _ (input' : Stream) (line : List ℕ) where
+    -- the input has ended
+    pub all_answered : AsksLine mid input' line (Ok false) → Gathers first input input' out out' gathered (Ok tt)
+    all_answered end = answered_so_far input' (Ok tt) (take_all input.bytes mid.bytes g.lines g.taken end.0, end.1 ∙ g.sound)
+
+    -- it gives no line
+    pub unread : (why : Halt) → AsksLine mid input' line (Err why) → Gathers first input input' out out' gathered (Err why)
+    unread halt.Unread lost = answered_so_far input' (Err halt.Unread) (mid.bytes, g.taken, lost.0, lost.1)
+    unread halt.Unwritten lost = absurd lost
+    unread halt.Memory lost = answered_so_far input' (Err halt.Memory) (mid.bytes, g.taken)
+
+    module _ (read : AsksLine mid input' line (Ok true)) (next : Session) (new : List ℕ) where
+      -- a line is answered
+      pub answered : Answers now line next gathered new (Ok tt) → Going first input out next input' out' new
+      answered (words, one, is) = record {
+        lines = g.lines ++ line ∷ [];
+        told = g.told ++ words;
+        taken = take_more input.bytes mid.bytes input'.bytes g.lines line g.taken read.0;
+        sound = read.1 ∙ g.sound;
+        written = gathered_more out out' g.told gathered words new g.written is;
+        goes = λ others more tells.
+            subst (λ (l : List (List ℕ)). TellsLines first l ((g.told ++ words) ++ more)) (sym (append_assoc g.lines (line ∷ []) others))
+            (subst (λ (t : List ℕ). TellsLines first (g.lines ++ line ∷ others) t) (sym (append_assoc g.told words more))
+            (g.goes (line ∷ others) (words ++ more) (next, words, more, one, tells, refl)));
+      }
+
+      -- or is not
+      pub unanswered : (why : Halt) → Answers now line next gathered new (Err why) → Gathers first input input' out out' new (Err why)
+      unanswered halt.Unread h = absurd h
+      unanswered halt.Unwritten h = absurd h
+      unanswered halt.Memory kept =
+          subst (λ (l : List ℕ). IsAnswered first input input' out out' l (Err halt.Memory)) (sym kept)
+          (answered_so_far input' (Err halt.Memory) (mid.bytes, g.taken))
+
+-- ---- how a session ends
+
+module _ (s : Session) (input input' out mid out' : Stream) (gathered : List ℕ) where
+  cut_short : (ended : Result (Unit {0}) Halt) → IsAnswered s input input' out mid gathered ended → IsCutOff mid out' gathered → Holds s input input' out out' (Err halt.Unwritten)
+  cut_short ended a cut = record {
+    lines = a.lines;
+    told = a.told;
+    ended = ended;
+    read = a.read;
+    tells = a.tells;
+    cut_off = gathered_cut out mid out' a.told gathered a.written cut;
+  }
+
+  -- the last answers are not written, or in part
+  pub not_written : (ended : Result (Unit {0}) Halt) → ended ≢ Err halt.Unwritten → Gathers s input input' out mid gathered ended → IsCutOff mid out' gathered
+      → Holds s input input' out out' (Err halt.Unwritten)
+  not_written (Ok done) goes a cut = cut_short (Ok done) a cut
+  not_written (Err halt.Unread) goes a cut = cut_short (Err halt.Unread) a cut
+  not_written (Err halt.Unwritten) goes a cut = absurd (goes refl)
+  not_written (Err halt.Memory) goes a cut = cut_short (Err halt.Memory) a cut

@@ -1,10 +1,8 @@
 -- A session with the debugger: what stands of the lines that were answered, however it ends.
-use Rattle.std.specs.Prelude.{◌≡◌, ℕ, true, ◌++◌, List, [], ◌∷◌, Option, IfSome, Result, Ok, Err, Vec}
-use Rattle.std.specs.Io.KnownBytes.{Appends}
-use Rattle.std.specs.declared.alloc.Global.{Global}
+use Rattle.std.specs.Prelude.{◌≡◌, ℕ, Bool, true, false, ◌++◌, List, Option, Some, None, IfSome, Result, Ok, Err}
 use Rattle.debugger.specs.Session.{Session}
 use Rattle.flow_model.specs.Lines.{lines_of}
-use Rattle.command_io.specs.Stream.{Stream, IsCutOff, IsKept, IsLineRead, IsWritten, LosesPart, ReadsLine, TakesLines}
+use Rattle.command_io.specs.Stream.{Stream, IsCutOff, IsKept, IsLineRead, IsWritten, LosesPart, TakesLines}
 use Rattle.command_io.specs.Tell.{Says}
 use Rattle.command_io.specs.Trouble.{line, trouble_status}
 use Rattle.command_io.specs.declared.stream.SourceFault.TheVariants as source_fault
@@ -20,15 +18,14 @@ pub record Stands (s : Session) (lines : List (List ℕ)) (out out' : Stream) : 
   pub tells : TellsLines s lines told
   pub written : IsWritten out out' told
 
--- The answers to these lines stand on out, and after them a beginning of the answer to one more, where a write failed.
-pub record StandsInPart (s : Session) (lines : List (List ℕ)) (next : List ℕ) (out out' : Stream) : Type 0 where
-  pub told : List ℕ
-  pub part : List ℕ
-  pub rest : List ℕ
-  pub tells : TellsLines s lines told
-  pub more : TellsLines s (lines ++ next ∷ []) (told ++ (part ++ rest))
-  pub written : Appends out.bytes out'.bytes (told ++ part)
-  pub failed : out'.failed ≡ true
+-- How far the input was read: these lines were taken of it, and then it had ended, a read failed within a line, there was
+-- no memory, or nothing more was asked of it.
+abbrev pub ReadTo : Stream → Stream → List (List ℕ) → Result (Unit {0}) Halt → Type 0
+ReadTo input input' lines (Ok done) = IfSome input.bytes (λ text. lines ≡ lines_of text) × (input'.failed ≡ input.failed)
+ReadTo input input' lines (Err halt.Unread) =
+    (left : Option (List ℕ)) × TakesLines input.bytes left lines × LosesPart left input'.bytes × (input'.failed ≡ true)
+ReadTo input input' lines (Err halt.Memory) = (left : Option (List ℕ)) × TakesLines input.bytes left lines
+ReadTo input input' lines (Err halt.Unwritten) = TakesLines input.bytes input'.bytes lines × (input'.failed ≡ input.failed)
 
 -- All lines of the input were answered.
 pub record AnswersAll (s : Session) (input input' out out' : Stream) : Type 0 where
@@ -46,13 +43,14 @@ pub record StopsUnread (s : Session) (input input' out out' : Stream) : Type 0 w
   pub failed : input'.failed ≡ true
   pub stands : Stands s lines out out'
 
--- A write failed within the answer to a line, the last one that was read, and the lines before it were answered.
+-- A write failed within the answers to the lines that were read, and a beginning of their text stands on out.
 pub record StopsUnwritten (s : Session) (input input' out out' : Stream) : Type 0 where
   pub lines : List (List ℕ)
-  pub next : List ℕ
-  pub taken : TakesLines input.bytes input'.bytes (lines ++ next ∷ [])
-  pub sound : input'.failed ≡ input.failed
-  pub stands : StandsInPart s lines next out out'
+  pub told : List ℕ
+  pub ended : Result (Unit {0}) Halt
+  pub read : ReadTo input input' lines ended
+  pub tells : TellsLines s lines told
+  pub cut_off : IsCutOff out out' told
 
 -- There was no memory to read a line or to answer it, and the lines before it were answered.
 pub record StopsForMemory (s : Session) (input out out' : Stream) : Type 0 where
@@ -91,16 +89,43 @@ pub record SessionTells (s : Session) (input input' out out' err err' : Stream) 
 
 -- ---- what the code answers on the way
 
--- The next line of the input, or why there is none.
-abbrev pub AsksLine : Stream → Stream → Result (Option (Vec ℕ Global)) Halt → Type 0
-AsksLine old new (Ok found) = ReadsLine old new (Ok found)
-AsksLine old new (Err halt.Unread) = IsLineRead old new (Err source_fault.Failed)
-AsksLine old new (Err halt.Unwritten) = ⊥
-AsksLine old new (Err halt.Memory) = IsLineRead old new (Err source_fault.Memory)
+-- The next line of the input: whether there was one and which, or why not.
+abbrev pub AsksLine : Stream → Stream → List ℕ → Result Bool Halt → Type 0
+AsksLine old new line (Ok true) = IsLineRead old new (Ok (Some line))
+AsksLine old new line (Ok false) = IsLineRead old new (Ok None)
+AsksLine old new line (Err halt.Unread) = IsLineRead old new (Err source_fault.Failed)
+AsksLine old new line (Err halt.Unwritten) = ⊥
+AsksLine old new line (Err halt.Memory) = IsLineRead old new (Err source_fault.Memory)
 
--- A line is done, and the answer to it is written.
-abbrev pub Answers : Session → List ℕ → Session → Stream → Stream → Result (Unit {0}) Halt → Type 0
-Answers s asked next out out' (Ok done) = (told : List ℕ) × TellsOneLine s asked told next × IsWritten out out' told
-Answers s asked next out out' (Err halt.Unread) = ⊥
-Answers s asked next out out' (Err halt.Unwritten) = (told : List ℕ) × TellsOneLine s asked told next × IsCutOff out out' told
-Answers s asked next out out' (Err halt.Memory) = out' ≡ out
+-- A line is done, and the answer to it is gathered after others, which stay as they were where there is no memory.
+abbrev pub Answers : Session → List ℕ → Session → List ℕ → List ℕ → Result (Unit {0}) Halt → Type 0
+Answers s asked next gathered gathered' (Ok done) = (told : List ℕ) × TellsOneLine s asked told next × (gathered' ≡ gathered ++ told)
+Answers s asked next gathered gathered' (Err halt.Unread) = ⊥
+Answers s asked next gathered gathered' (Err halt.Unwritten) = ⊥
+Answers s asked next gathered gathered' (Err halt.Memory) = gathered' ≡ gathered
+
+-- A text was written up to what is gathered, which is its rest.
+abbrev pub IsGathered : Stream → Stream → List ℕ → List ℕ → Type 0
+IsGathered out out' told gathered = (written : List ℕ) × IsWritten out out' written × (told ≡ written ++ gathered)
+
+-- What was gathered is written or still gathered, or a write failed within it.
+abbrev pub HandsOn : Stream → Stream → List ℕ → List ℕ → Result (Unit {0}) Halt → Type 0
+HandsOn out out' gathered gathered' (Ok done) = IsGathered out out' gathered gathered'
+HandsOn out out' gathered gathered' (Err halt.Unread) = ⊥
+HandsOn out out' gathered gathered' (Err halt.Unwritten) = IsCutOff out out' gathered
+HandsOn out out' gathered gathered' (Err halt.Memory) = ⊥
+
+-- The lines that were read are answered, and their answers stand on out or are gathered.
+pub record IsAnswered (s : Session) (input input' out out' : Stream) (gathered : List ℕ) (ended : Result (Unit {0}) Halt) : Type 0 where
+  pub lines : List (List ℕ)
+  pub told : List ℕ
+  pub read : ReadTo input input' lines ended
+  pub tells : TellsLines s lines told
+  pub written : IsGathered out out' told gathered
+
+-- What is left to be written where a session has come to the end of the input, or has stopped before it.
+abbrev pub Gathers : Session → Stream → Stream → Stream → Stream → List ℕ → Result (Unit {0}) Halt → Type 0
+Gathers s input input' out out' gathered (Ok done) = IsAnswered s input input' out out' gathered (Ok done)
+Gathers s input input' out out' gathered (Err halt.Unread) = IsAnswered s input input' out out' gathered (Err halt.Unread)
+Gathers s input input' out out' gathered (Err halt.Unwritten) = StopsUnwritten s input input' out out'
+Gathers s input input' out out' gathered (Err halt.Memory) = IsAnswered s input input' out out' gathered (Err halt.Memory)

@@ -1,6 +1,6 @@
 //! What the debugger answers to a line: the words that are added to a text.
 
-ghost use Rattle.std.specs.Prelude.{◌≡◌, IfOk, OnOk, codes, if◌then◌else◌, string_bytes};
+ghost use Rattle.std.specs.Prelude.{◌≡◌, Ok, OnErr, OnOk, codes, if◌then◌else◌, string_bytes};
 ghost use Rattle.debugger.specs.Session.{GoesBack, GoesOn, asked_place, next_place, previous_place, with_breaks};
 ghost use Rattle.debugger.specs.Breaks.{is_set, with_break, without_break};
 ghost use Rattle.plan_text.specs.BoardText.{Adds};
@@ -9,6 +9,7 @@ ghost use Rattle.debug_session.specs.Answers.{AddsSome, TellsBoard, TellsGo, Tel
 
 use crate::requests::{Request, request_of};
 use debugger::{Break, DebugFault, Debugger};
+use itoa::Buffer;
 use plan_text::board_text;
 use status_table::Reversible;
 use std::alloc::{AllocError, Global};
@@ -22,6 +23,18 @@ fn add_refusal(told: &mut String, fault: DebugFault) -> Result<(), AllocError>
     write!(told, "debug {name}\n")
 }
 
+/// Adds the line of a place that a move reached, among so many.
+fn add_place(told: &mut String, place: usize, last: usize) -> Result<(), AllocError>
+    ensures { OnOk result (Adds told.old told.new (spec.move_line last (Ok place))) }
+{
+    let mut digits = Buffer::new();
+    told.push_str("place ")?;
+    told.push_str(digits.format(place as u64))?;
+    told.push_str(" of ")?;
+    told.push_str(digits.format(last as u64))?;
+    told.push_str("\n")
+}
+
 /// Adds the line of a move among so many places; without memory there is none.
 fn add_move(
     told: &mut String,
@@ -32,7 +45,7 @@ fn add_move(
     ensures adds { OnOk result (Adds told.old told.new (spec.move_line last moved)) }
 {
     match moved {
-        Ok(place) => write!(told, "place {place} of {last}\n"),
+        Ok(place) => add_place(told, place, last),
         Err(DebugFault::Memory) => Err(AllocError),
         Err(fault) => add_refusal(told, fault),
     }
@@ -182,19 +195,20 @@ fn add_line<M: Reversible>(
     }
 }
 
-/// How many bytes most answers have at most.
-const ANSWER_LENGTH: usize = 32;
-
-/// What is told of a line, which is done.
-pub(crate) fn line_told<M: Reversible>(
+/// Does what a line asks for, and adds what is told of it to the answers that are gathered, which stay as they were where
+/// there is no memory. The text `told` is there for its memory alone.
+pub(crate) fn add_answer<M: Reversible>(
     alloc: Global,
+    gathered: &mut String,
     debugger: &mut Debugger<M>,
     line: &[u8],
-) -> Result<String, AllocError>
-    ensures { IfOk result
-        (λ told. TellsOneLine debugger.old line.now (string_bytes told) debugger.new) }
+    told: &mut String,
+) -> Result<(), AllocError>
+    ensures added { OnOk result (AddsSome
+        (λ words. TellsOneLine debugger.old line.now words debugger.new) gathered.old gathered.new) }
+    ensures kept { OnErr result (string_bytes gathered.new ≡ string_bytes gathered.old) }
 {
-    let mut told = String::with_capacity(alloc, ANSWER_LENGTH)?;
-    add_line(alloc, &mut told, debugger, line)?;
-    Ok(told)
+    told.clear();
+    add_line(alloc, told, debugger, line)?;
+    gathered.push_str(told.as_str())
 }

@@ -75,8 +75,9 @@ fn file_opened<R: Source>(alloc: Global, file: &mut R) -> Result<Debugger<FlatBo
 }
 
 /// Reads a record to its end; then reads the input line by line, and writes what the debugger answers to each line to `out`
-/// before it reads the next. Or it writes to `err`, in one line, why the record is not played, before it reads of the input,
-/// or why it stopped; what was answered until then stands. The answer is the exit status.
+/// before it waits for the next; answers to lines that lie read already are written together. Or it writes to `err`, in one
+/// line, why the record is not played, before it reads of the input, or why it stopped; what was answered until then stands,
+/// or, where a write fails, a beginning of it. The answer is the exit status.
 pub fn debug<R: Source, I: LineSource, O: Sink, E: Sink>(
     alloc: Global,
     file: &mut R,

@@ -1,16 +1,19 @@
-//! A session: the input is read line by line, and each line is answered before the next is read.
+//! A session: the input is read line by line, and each line is answered before the next is waited for.
+//!
+//! Where further lines lie read already, answers are gathered and written together.
 
-ghost use Rattle.std.specs.Prelude.{◌<◌, OnOk};
+ghost use Rattle.std.specs.Prelude.{◌≡◌, ◌<◌, [], OnOk, string_bytes};
+ghost use Rattle.command_io.specs.Stream.{Puts};
 ghost use Rattle.debug_session.specs.Session as spec;
 
-use crate::answers::line_told;
+use crate::answers::add_answer;
 use command_io::stream::{LineSource, Sink, SourceFault, put_now};
 use command_io::tell::refuse;
 use command_io::trouble::{DONE, Trouble};
 use debugger::Debugger;
 use flat_board::FlatBoard;
 use status_table::Reversible;
-use std::alloc::Global;
+use std::alloc::{AllocError, Global};
 
 /// Why a session stops before the input ends.
 #[derive(Clone, Copy)]
@@ -23,39 +26,86 @@ pub(crate) enum Halt {
     Memory,
 }
 
-/// The next line of the input; none at its end.
-fn line_asked<I: LineSource>(alloc: Global, input: &mut I) -> Result<Option<Vec<u8>>, Halt>
-    ensures reads { spec.AsksLine (I.seen input.old) (I.seen input.new) result }
+/// How many bytes of answers are gathered before they are written.
+const MOST_GATHERED: usize = 8192;
+
+/// Puts the next line of the input in the place of what `line` holds; at the end of the input there is none.
+fn line_asked<I: LineSource>(input: &mut I, line: &mut Vec<u8>) -> Result<bool, Halt>
+    ensures reads { spec.AsksLine (I.seen input.old) (I.seen input.new) line.new.items result }
     ensures fewer { OnOk result (I.turns_left input.new < I.turns_left input.old) }
 {
-    match input.read_line(alloc) {
-        Ok(line) => Ok(line),
+    match input.read_line(line) {
+        Ok(found) => Ok(found),
         Err(SourceFault::Failed) => Err(Halt::Unread),
         Err(SourceFault::Memory) => Err(Halt::Memory),
     }
 }
 
-/// Does what a line asks for, and writes what is told of it at once.
-fn answer<M: Reversible, O: Sink>(
+/// Does what a line asks for, and gathers what is told of it after the answers before.
+fn answer<M: Reversible>(
     alloc: Global,
     debugger: &mut Debugger<M>,
     line: &[u8],
-    out: &mut O,
+    told: &mut String,
+    gathered: &mut String,
 ) -> Result<(), Halt>
     ensures { spec.Answers debugger.old line.now debugger.new
-        (O.seen out.old) (O.seen out.new) result }
+        (string_bytes gathered.old) (string_bytes gathered.new) result }
 {
-    let Ok(told) = line_told(alloc, debugger, line) else {
-        return Err(Halt::Memory);
-    };
-    if put_now(out, told.as_bytes()) {
-        Ok(())
-    } else {
-        Err(Halt::Unwritten)
+    match add_answer(alloc, gathered, debugger, line, told) {
+        Ok(()) => Ok(()),
+        Err(AllocError) => Err(Halt::Memory),
     }
 }
 
-/// Answers the lines of the input one after the other, to its end.
+/// Writes the answers that are gathered, if there are any, and answers whether that could be done.
+fn write_gathered<O: Sink>(out: &mut O, gathered: &str) -> bool
+    ensures { Puts (O.seen out.old) (O.seen out.new) gathered.now result }
+{
+    gathered.is_empty() || put_now(out, gathered.as_bytes())
+}
+
+/// Writes the answers that are gathered where they are many, or where the next line has to be waited for.
+fn hand_on<I: LineSource, O: Sink>(
+    input: &I,
+    out: &mut O,
+    gathered: &mut String,
+) -> Result<(), Halt>
+    ensures { spec.HandsOn (O.seen out.old) (O.seen out.new)
+        (string_bytes gathered.old) (string_bytes gathered.new) result }
+{
+    if gathered.len() < MOST_GATHERED && input.is_line_ready() {
+        return Ok(());
+    }
+    if !write_gathered(out, gathered.as_str()) {
+        return Err(Halt::Unwritten);
+    }
+    gathered.clear();
+    Ok(())
+}
+
+/// Answers the lines of the input one after the other, to its end. The last answers stay gathered, to be written after.
+fn gather_all<M: Reversible, I: LineSource, O: Sink>(
+    alloc: Global,
+    debugger: &mut Debugger<M>,
+    input: &mut I,
+    out: &mut O,
+    gathered: &mut String,
+) -> Result<(), Halt>
+    requires { string_bytes gathered.old ≡ [] }
+    ensures { spec.Gathers debugger.old (I.seen input.old) (I.seen input.new)
+        (O.seen out.old) (O.seen out.new) (string_bytes gathered.new) result }
+{
+    let mut line = Vec::new(alloc);
+    let mut told = String::new(alloc);
+    while line_asked(input, &mut line)? {
+        answer(alloc, debugger, line.as_slice(), &mut told, gathered)?;
+        hand_on(input, out, gathered)?;
+    }
+    Ok(())
+}
+
+/// Answers the lines of the input one after the other, to its end. Where it stops before, the answers until then are written.
 fn answer_all<M: Reversible, I: LineSource, O: Sink>(
     alloc: Global,
     debugger: &mut Debugger<M>,
@@ -65,10 +115,16 @@ fn answer_all<M: Reversible, I: LineSource, O: Sink>(
     ensures { spec.Holds debugger.old (I.seen input.old) (I.seen input.new)
         (O.seen out.old) (O.seen out.new) result }
 {
-    while let Some(line) = line_asked(alloc, input)? {
-        answer(alloc, debugger, line.as_slice(), out)?;
+    let mut gathered = String::new(alloc);
+    let ended = gather_all(alloc, debugger, input, out, &mut gathered);
+    if let Err(Halt::Unwritten) = ended {
+        return Err(Halt::Unwritten);
     }
-    Ok(())
+    if write_gathered(out, gathered.as_str()) {
+        ended
+    } else {
+        Err(Halt::Unwritten)
+    }
 }
 
 /// Tells why a session stopped, if it did, and gives the exit status.

@@ -1,9 +1,0 @@
-use Rattle.debug_session.proofs.Answering.{Going}
-use Rattle.debug_session.proofs.session.answer_all.Given as goal
-
--- the lines so far were answered
-abbrev pub invariant-loop-line : goal.invariant-loop-line
-invariant-loop-line g l = Going l.fn.debugger (g.I.Source.seen l.fn.input) (g.O.Sink.seen l.fn.out) l.debugger (g.I.Source.seen l.input) (g.O.Sink.seen l.out)
-
-abbrev pub decreases-loop-line : goal.decreases-loop-line
-decreases-loop-line g l = g.I.LineSource.turns_left l.input
