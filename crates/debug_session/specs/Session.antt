@@ -1,8 +1,8 @@
 -- A session with the debugger: what stands of the lines that were answered, however it ends.
-use Rattle.std.specs.Prelude.{◌≡◌, ℕ, Bool, true, false, ◌++◌, List, Option, Some, None, IfSome, Result, Ok, Err}
+use Rattle.std.specs.Prelude.{◌≡◌, ◌⊎◌, ℕ, Bool, true, false, ◌++◌, List, [], Option, Some, None, IfSome, Result, Ok, Err}
 use Rattle.debugger.specs.Session.{Session}
 use Rattle.flow_model.specs.Lines.{lines_of}
-use Rattle.command_io.specs.Stream.{Stream, IsCutOff, IsKept, IsLineRead, IsWritten, LosesPart, TakesLines}
+use Rattle.command_io.specs.Stream.{Stream, IsCutOff, IsKept, IsLineRead, IsWritten, LiesReady, LosesPart, TakesLines}
 use Rattle.command_io.specs.Tell.{Says}
 use Rattle.command_io.specs.Trouble.{line, trouble_status}
 use Rattle.command_io.specs.declared.stream.SourceFault.TheVariants as source_fault
@@ -114,6 +114,10 @@ HandsOn out out' gathered gathered' (Ok done) = IsGathered out out' gathered gat
 HandsOn out out' gathered gathered' (Err halt.Unread) = ⊥
 HandsOn out out' gathered gathered' (Err halt.Unwritten) = IsCutOff out out' gathered
 HandsOn out out' gathered gathered' (Err halt.Memory) = ⊥
+
+-- Answers stay gathered only where a further line is there, as far as the input is known.
+abbrev pub StaysGathered : Stream → List ℕ → Type 0
+StaysGathered input gathered = (gathered ≡ []) ⊎ LiesReady input true
 
 -- The lines that were read are answered, and their answers stand on out or are gathered.
 pub record IsAnswered (s : Session) (input input' out out' : Stream) (gathered : List ℕ) (ended : Result (Unit {0}) Halt) : Type 0 where

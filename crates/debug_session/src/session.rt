@@ -71,8 +71,10 @@ fn hand_on<I: LineSource, O: Sink>(
     out: &mut O,
     gathered: &mut String,
 ) -> Result<(), Halt>
-    ensures { spec.HandsOn (O.seen out.old) (O.seen out.new)
+    ensures hands { spec.HandsOn (O.seen out.old) (O.seen out.new)
         (string_bytes gathered.old) (string_bytes gathered.new) result }
+    ensures stays { OnOk result
+        (spec.StaysGathered (I.seen input.now) (string_bytes gathered.new)) }
 {
     if gathered.len() < MOST_GATHERED && input.is_line_ready() {
         return Ok(());

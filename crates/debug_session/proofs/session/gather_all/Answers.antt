@@ -40,7 +40,7 @@ loop-told-preserved g c =
     (answered first input out c.loop-told.debugger mid (g.O.Sink.seen c.loop-told.out) (string_bytes c.loop-told.gathered) c.loop-told.invariant new line
     (subst (λ (b : Bool). AsksLine mid new line (Ok b)) c.if-branch.true c.in_ok-line_asked.ensures.reads) c.answer.new.debugger gathered
     (subst (λ (l : List ℕ). Answers c.loop-told.debugger l c.answer.new.debugger (string_bytes c.loop-told.gathered) gathered (Ok tt)) c.as_slice.ensures.value c.in_ok-answer.ensures))
-    (g.O.Sink.seen c.hand_on.new.out) (string_bytes c.hand_on.new.gathered) c.in_ok-hand_on.ensures
+    (g.O.Sink.seen c.hand_on.new.out) (string_bytes c.hand_on.new.gathered) c.in_ok-hand_on.ensures.hands
 
 pub returns-in_err-hand_on : goal.returns-in_err-hand_on
 returns-in_err-hand_on g c =
@@ -57,7 +57,7 @@ returns-in_err-hand_on g c =
     (answered first input out c.loop-told.debugger mid (g.O.Sink.seen c.loop-told.out) (string_bytes c.loop-told.gathered) c.loop-told.invariant new line
     (subst (λ (b : Bool). AsksLine mid new line (Ok b)) c.if-branch.true c.in_ok-line_asked.ensures.reads) c.answer.new.debugger gathered
     (subst (λ (l : List ℕ). Answers c.loop-told.debugger l c.answer.new.debugger (string_bytes c.loop-told.gathered) gathered (Ok tt)) c.as_slice.ensures.value c.in_ok-answer.ensures))
-    (g.O.Sink.seen c.hand_on.new.out) (string_bytes c.hand_on.new.gathered) c.in_err-hand_on.field-0.0 c.in_err-hand_on.ensures)
+    (g.O.Sink.seen c.hand_on.new.out) (string_bytes c.hand_on.new.gathered) c.in_err-hand_on.field-0.0 c.in_err-hand_on.ensures.hands)
 
 pub returns : goal.returns
 returns g c =
