@@ -1,5 +1,5 @@
 -- What one thread or several workers played is what a run tells of.
-use Rattle.std.proofs.Common.{◌≡◌, ℕ, ◌⊎◌, inl, inr, true, List, Some, subst, sym, arith}
+use Rattle.std.proofs.Common.{◌≡◌, ℕ, ◌⊎◌, inl, inr, true, List, Some, Result, Ok, Err, IfOk, subst, sym, arith}
 use Rattle.flow_model.specs.declared.board.Board.{Board}
 use Rattle.flow_model.specs.declared.event.Answer.{Answer}
 use Rattle.flow_model.specs.declared.event.Entry.{Entry}
@@ -34,7 +34,7 @@ ends p b ending.Stalled h = inr h
 ended_at : (p : Plan) (es : List Entry) (b : Board) (how : Ending) → after p es ≡ Some b → EndsSo p b how → HasEnded p es
 ended_at p es b how leads h = record { board = b; leads = leads; ends = ends p b how h }
 
-pub ended_is_played : (admits : StepCall → Answer → Type 0) (p : Plan) (workers : ℕ) (played : Played) → workers ≡ 1
+ended_is_played : (admits : StepCall → Answer → Type 0) (p : Plan) (workers : ℕ) (played : Played) → workers ≡ 1
     → EndsAlone admits p played → EndsPlayed p workers played
 ended_is_played admits p workers played one h =
     record {
@@ -62,7 +62,7 @@ by_many : (admits : StepCall → Answer → Type 0) (p : Plan) (workers : ℕ) (
 by_many admits p workers es h =
     record { board = h.lawful.legal.0; leads = h.lawful.legal.1; of_them = h.of_them; uncancelled = h.uncancelled }
 
-pub many_are_played : (admits : StepCall → Answer → Type 0) (p : Plan) (workers : ℕ) (played : Played)
+many_are_played : (admits : StepCall → Answer → Type 0) (p : Plan) (workers : ℕ) (played : Played)
     → EndsByMany admits p workers played → EndsPlayed p workers played
 many_are_played admits p workers played h =
     record {
@@ -78,3 +78,12 @@ many_stopped admits declines p workers (pool.Host l step host_fault.NoAnswer es)
 many_stopped admits declines p workers (pool.Host l step host_fault.Memory es) h = absurd h
 many_stopped admits declines p workers (pool.Mismatch es) h = by_many admits p workers es h
 many_stopped admits declines p workers (pool.Memory es) h = by_many admits p workers es h
+
+-- the same of what is given where there may be a fault
+pub alone_ends_played : (admits : StepCall → Answer → Type 0) (p : Plan) (workers : ℕ) (r : Result Played PoolFault) → workers ≡ 1 → IfOk r (EndsAlone admits p) → IfOk r (EndsPlayed p workers)
+alone_ends_played admits p workers (Ok played) one h = ended_is_played admits p workers played one h
+alone_ends_played admits p workers (Err fault) one h = tt
+
+pub many_end_played : (admits : StepCall → Answer → Type 0) (p : Plan) (workers : ℕ) (r : Result Played PoolFault) → IfOk r (EndsByMany admits p workers) → IfOk r (EndsPlayed p workers)
+many_end_played admits p workers (Ok played) h = many_are_played admits p workers played h
+many_end_played admits p workers (Err fault) h = tt

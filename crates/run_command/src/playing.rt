@@ -33,7 +33,7 @@ impl Playing {
 }
 
 /// Plays a plan by so many workers. One plays in the thread of the program, so that the same answers make the same history.
-#[tactic(auto, using(crate::proofs::Played::ended_is_played, crate::proofs::Played::stopped_is_played, crate::proofs::Played::many_are_played, crate::proofs::Played::many_stopped))]
+#[tactic(auto, using(crate::proofs::Played::stopped_is_played, crate::proofs::Played::many_stopped))]
 fn play_by<R: Threads + Wait + Sync, H: StepHost>(
     rt: &R,
     alloc: Global,
