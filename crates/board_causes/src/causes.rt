@@ -5,8 +5,8 @@ ghost use Rattle.std.specs.Option.{option_copied};
 ghost use Rattle.board_causes.specs.Causes as spec;
 ghost use Rattle.board_decisions.specs.Contexts as contexts;
 ghost use Rattle.board_decisions.specs.Derived as derived;
-ghost use Rattle.board_decisions.specs.Place.{job_at, leg_at, run_at};
-ghost use Rattle.board_decisions.specs.Seen.{job_seen, leg_seen, run_seen};
+ghost use Rattle.board_places.specs.Place.{job_at, leg_at, run_at};
+ghost use Rattle.board_places.specs.Seen.{job_seen, leg_seen, run_seen};
 ghost use Rattle.board_facts.specs.Adds.{Adds};
 ghost use Rattle.board_notes.specs.Account.{account_seen};
 
@@ -14,12 +14,12 @@ use crate::numbers::next_number;
 use crate::question::{Question, about};
 use crate::sought::{Sought, job_sought, leg_sought, opened_sought};
 use board_decisions::derived::{is_full, job_has_ended};
-use board_decisions::place::{SeenJob, SeenLeg, SeenRun, find_job, find_leg, find_run, item_at};
 use board_facts::ancestors;
 use board_facts::fact::{JobFact, MemberFact, StepFact, StopCause};
 use board_facts::failures::first_failure;
 use board_facts::notes::{JobNote, JobNotes, LegNotes, MemberNote, RunNotes, StepNote};
 use board_notes::account::SeenAccount;
+use board_places::place::{SeenJob, SeenLeg, SeenRun, find_job, find_leg, find_run, item_at};
 use flow_model::{DoneStep, JobPlan, JobState, Leg, LegState, Member, Outcome, Run, RunState};
 use std::alloc::{AllocError, Global};
 

@@ -1,5 +1,4 @@
 pub mod Backwards
-pub mod Lists
 pub mod Maps
 pub mod OwnSteps
 pub mod Overlays

@@ -2,7 +2,7 @@
 use Rattle.std.proofs.Common.{◌≡◌, ℕ, Bool, true, false, List, Option, None, Some, Result, Ok, Err, length, refl, ap, ◌∙◌}
 use Rattle.board_decisions.specs.Decisions.{then_value, flow_env, job_env, leg_env, step_env, seen_from, directory_value, work_value, called_if, step_decision, is_called, leg_status}
 use Rattle.board_decisions.specs.Own.{IsOwnStep}
-use Rattle.board_decisions.specs.Place.{LegAt}
+use Rattle.board_places.specs.Place.{LegAt}
 use Rattle.expr_value.specs.Answer.{Gives}
 use Rattle.expr_value.specs.Context.{Contexts}
 use Rattle.flow_model.specs.declared.plan.Shell.{Shell}

@@ -4,7 +4,7 @@ use Rattle.std.specs.Prelude.{ℕ, ◌&&◌, ◌||◌, Bool, true, false, not, L
 use Rattle.std.specs.List.{list_any}
 use Rattle.board_decisions.specs.Contexts.{overlaid, run_values, job_values, job_of, leg_values_by}
 use Rattle.board_decisions.specs.Derived.{is_failure, has_failed}
-use Rattle.board_decisions.specs.Place.{RunAt, JobAt, LegAt}
+use Rattle.board_places.specs.Place.{RunAt, JobAt, LegAt}
 use Rattle.board_decisions.specs.declared.entrance.Entrance.{Entrance}
 use Rattle.expr_reader.specs.Fold.{fold}
 use Rattle.expr_value.specs.Context.{Contexts}

@@ -4,7 +4,7 @@ use Rattle.std.specs.List.{list_any}
 use Rattle.board_decisions.specs.Decisions.{stops_anyway}
 use Rattle.board_decisions.specs.Derived.{is_failure}
 use Rattle.board_decisions.specs.Own.{HasOwnEnv}
-use Rattle.board_decisions.specs.Place.{LegAt}
+use Rattle.board_places.specs.Place.{LegAt}
 use Rattle.board_decisions.specs.declared.kept.Kept.{Kept}
 
 -- What is kept of a leg is so.

@@ -3,7 +3,5 @@ pub mod Contexts
 pub mod Decisions
 pub mod Derived
 pub mod Kept
-pub mod Numbered
 pub mod Own
-pub mod Place
-pub mod Seen
+pub mod Scenes

@@ -1,7 +1,7 @@
 -- Steps of whose texts none is evaluated.
 use Rattle.std.specs.Prelude.{◌≡◌, None}
 use Rattle.board_decisions.specs.Decisions.{work_value}
-use Rattle.board_decisions.specs.Place.{LegAt}
+use Rattle.board_places.specs.Place.{LegAt}
 use Rattle.expr_value.specs.Context.{Contexts}
 use Rattle.flow_model.specs.declared.plan.JobPlan.{JobPlan}
 use Rattle.flow_model.specs.declared.plan.RunPlan.{RunPlan}

@@ -3,7 +3,8 @@
 ghost use Rattle.std.specs.Prelude.{◌≡◌, [], not, Some, IfOk, OnOk, Result, if◌then◌else◌, string_bytes};
 ghost use Rattle.board_decisions.specs.Decisions as spec;
 ghost use Rattle.board_decisions.specs.Kept.{IsKeptOf};
-ghost use Rattle.board_decisions.specs.Seen.{job_seen, leg_scene, leg_seen, run_seen};
+ghost use Rattle.board_decisions.specs.Scenes.{leg_scene};
+ghost use Rattle.board_places.specs.Seen.{job_seen, leg_seen, run_seen};
 ghost use Rattle.expr_value.specs.Answer.{Gives};
 ghost use Rattle.expr_value.specs.declared.status.Status.TheVariants as status;
 ghost use Rattle.flow_model.specs.declared.event.Outcome.TheVariants as outcome;
@@ -17,7 +18,8 @@ use crate::contexts::job_of;
 use crate::derived::{is_any_failed, is_any_step_failed};
 use crate::entrance::Entrance;
 use crate::kept::Kept;
-use crate::place::{SeenJob, SeenLeg, SeenRun};
+use crate::scene::{JobScene, LegScene, RunScene};
+use board_places::place::{SeenJob, SeenLeg, SeenRun};
 use expr_reader::fold;
 use expr_value::Status;
 use flow_model::{
@@ -37,7 +39,7 @@ pub fn job_condition(alloc: Global, at: &SeenJob, status: Status) -> Result<bool
     let condition = &at.plan.condition;
     condition_at(
         alloc,
-        at,
+        &JobScene { at },
         &mut known,
         Place::JobCondition,
         condition,
@@ -148,7 +150,7 @@ fn know_job_over(
     ensures known { IsKnownOf (leg_scene at.now) known.new }
 {
     let env = &at.job_plan.env;
-    let made = env_over_at(alloc, at, known, Place::JobEnv, env, below)?;
+    let made = env_over_at(alloc, &LegScene { at }, known, Place::JobEnv, env, below)?;
     known.set_env(made);
     Ok(())
 }
@@ -161,7 +163,13 @@ fn know_job_env(alloc: Global, at: &SeenLeg, known: &mut Known) -> Result<(), Va
     ensures value { Gives (λ _. known_env known.new) result (spec.job_env (leg_seen at.now)) }
     ensures known { IsKnownOf (leg_scene at.now) known.new }
 {
-    let flow = env_at(alloc, at, known, Place::WorkflowEnv, &at.run_plan.env)?;
+    let flow = env_at(
+        alloc,
+        &LegScene { at },
+        known,
+        Place::WorkflowEnv,
+        &at.run_plan.env,
+    )?;
     know_job_over(alloc, at, known, flow)
 }
 
@@ -208,7 +216,7 @@ fn know_step_env(
     ensures known { IsKnownOf (leg_scene at.now) known.new }
 {
     know_leg_env(alloc, at, known)?;
-    let own = env_at(alloc, at, known, Place::StepEnv, &step.env)?;
+    let own = env_at(alloc, &LegScene { at }, known, Place::StepEnv, &step.env)?;
     known.lay_own_env(alloc, own)?;
     Ok(())
 }
@@ -254,7 +262,13 @@ fn directory_value(
     ensures known { IsKnownOf (leg_scene at.now) known.new }
 {
     match dir {
-        Some(dir) => Ok(Some(text_at(alloc, at, known, Place::StepText, dir.as_str())?)),
+        Some(dir) => Ok(Some(text_at(
+            alloc,
+            &LegScene { at },
+            known,
+            Place::StepText,
+            dir.as_str(),
+        )?)),
         None => Ok(None),
     }
 }
@@ -276,7 +290,13 @@ fn work_value(
 {
     match work {
         Work::Run { dir, run, shell } => {
-            let text = text_at(alloc, at, known, Place::StepText, run.as_str())?;
+            let text = text_at(
+                alloc,
+                &LegScene { at },
+                known,
+                Place::StepText,
+                run.as_str(),
+            )?;
             let dir = directory_value(alloc, at, known, dir)?;
             Ok(CallWork::Script {
                 text,
@@ -285,7 +305,7 @@ fn work_value(
             })
         },
         Work::Uses { uses, given } => {
-            let given = env_at(alloc, at, known, Place::StepText, given)?;
+            let given = env_at(alloc, &LegScene { at }, known, Place::StepText, given)?;
             let uses = uses.copy(alloc)?;
             Ok(CallWork::Uses { uses, given })
         },
@@ -332,7 +352,7 @@ fn step_condition(
     let status = status_of(leg_result(alloc, at)?);
     condition_at(
         alloc,
-        at,
+        &LegScene { at },
         known,
         Place::StepCondition,
         &step.condition,
@@ -387,7 +407,13 @@ pub fn step_tolerates(alloc: Global, at: &SeenLeg, step: &StepPlan) -> Result<bo
     let mut known = Known::empty(alloc);
     let evaluated = know_step_env(alloc, at, &mut known, step);
     known_or_none(alloc, &mut known, evaluated)?;
-    flag_at(alloc, at, &mut known, Place::StepText, &step.tolerate)
+    flag_at(
+        alloc,
+        &LegScene { at },
+        &mut known,
+        Place::StepText,
+        &step.tolerate,
+    )
 }
 
 /// Whether a failure of a leg may be passed over.
@@ -398,7 +424,7 @@ pub fn job_tolerates(alloc: Global, at: &SeenLeg) -> Result<bool, AllocError>
     let tolerate = &at.job_plan.tolerate;
     flag_at(
         alloc,
-        at,
+        &LegScene { at },
         &mut Known::empty(alloc),
         Place::JobGroup,
         tolerate,
@@ -416,7 +442,13 @@ pub fn leg_outputs(alloc: Global, at: &SeenLeg) -> Result<Mapping<Text>, AllocEr
     let mut known = Known::empty(alloc);
     let evaluated = know_leg_env(alloc, at, &mut known);
     known_or_none(alloc, &mut known, evaluated)?;
-    outputs_at(alloc, at, &mut known, Place::StepEnv, &at.job_plan.outputs)
+    outputs_at(
+        alloc,
+        &LegScene { at },
+        &mut known,
+        Place::StepEnv,
+        &at.job_plan.outputs,
+    )
 }
 
 /// A group by its name and its cancel flag; an empty name is no group.
@@ -472,7 +504,12 @@ fn entrance_at<S: Scene>(
 pub fn run_entrance(alloc: Global, at: &SeenRun) -> Result<Option<Entrance>, ValueFault>
     ensures { Gives (λ group. group) result (spec.run_entrance (run_seen at.now)) }
 {
-    entrance_at(alloc, at, Place::WorkflowGroup, &at.plan.group)
+    entrance_at(
+        alloc,
+        &RunScene { at },
+        Place::WorkflowGroup,
+        &at.plan.group,
+    )
 }
 
 /// How a leg enters its job's group, if there is one.
@@ -480,5 +517,5 @@ pub fn run_entrance(alloc: Global, at: &SeenRun) -> Result<Option<Entrance>, Val
 pub fn leg_entrance(alloc: Global, at: &SeenLeg) -> Result<Option<Entrance>, ValueFault>
     ensures { Gives (λ group. group) result (spec.leg_entrance (leg_seen at.now)) }
 {
-    entrance_at(alloc, at, Place::JobGroup, &at.job_plan.group)
+    entrance_at(alloc, &LegScene { at }, Place::JobGroup, &at.job_plan.group)
 }

@@ -1,19 +1,17 @@
 //! board_decisions: what a board and its plan tell of each
 //! place, and what the texts of the place decide there.
 //!
-//! `place` finds the run, job or leg with a number, and what was planned for it; `derived`
-//! says what follows from what stands there: what has ended, how jobs and runs count, and when
-//! a job has as many legs under way as it may have; `ancestors` says the status by which a job
+//! `derived` says what follows from what stands at a place: what has ended, how jobs and runs count, and
+//! when a job has as many legs under way as it may have; `ancestors` says the status by which a job
 //! is judged. `decisions` says what the texts of a place come to: whether a job is opened, a
 //! leg is to stop, a step is called or passed over, what a call asks for, what a leg gives its
 //! job, and by which `entrance` a member enters a group; `unasked` whether a step is called, without its call.
 //! `kept` is what whoever counts beside a board knows of a leg, so that it isn't looked for.
 //! Nothing here changes a board.
 //!
-//! All are defined in `specs/`: `Place` (and `Numbered`: places are in the order of the numbers), `Derived`,
-//! `Ancestors`, `Contexts` (what the contexts of a place hold), `Decisions`, `Own` (steps of whose texts none is
-//! evaluated) and `Kept`. The crate stands on
-//! `flow_model` (plans and boards), on `text_values` (a text's value where it stands), and on `expr_reader`
+//! All are defined in `specs/`: `Derived`, `Ancestors`, `Contexts` (what the contexts of a place hold), `Decisions`,
+//! `Own` (steps of whose texts none is evaluated) and `Kept`. The crate stands on `board_places` (what is found at a
+//! number), on `flow_model` (plans and boards), on `text_values` (a text's value where it stands), and on `expr_reader`
 //! and `expr_value` for what these speak of.
 
 #![tactic(auto)]
@@ -26,6 +24,5 @@ pub mod derived;
 pub mod entrance;
 pub mod kept;
 mod nodes;
-pub mod place;
 mod scene;
 pub mod unasked;

@@ -2,44 +2,62 @@
 
 ghost use Rattle.std.specs.Prelude.{◌≡◌, IfOk};
 ghost use Rattle.board_decisions.specs.Decisions.{leg_values};
-ghost use Rattle.board_decisions.specs.Seen.{leg_seen};
+ghost use Rattle.board_places.specs.Seen.{leg_seen};
 ghost use Rattle.flow_model.specs.Value.{view};
 
 use crate::contexts::{job_context, leg_context, run_context};
 use crate::decisions::leg_result;
-use crate::place::{SeenJob, SeenLeg, SeenRun};
+use board_places::place::{SeenJob, SeenLeg, SeenRun};
 use expr_reader::Context;
 use flow_model::{Node, Outcome, Value};
 use std::alloc::{AllocError, Global};
 use text_values::Scene;
 
-impl<'a> Scene for SeenRun<'a> {
-    ghost use Rattle.board_decisions.specs.Seen.{run_scene};
+/// A run in play, for what its texts see.
+#[derive(Clone, Copy)]
+pub(crate) struct RunScene<'a> {
+    pub(crate) at: &'a SeenRun<'a>,
+}
 
-    ghost values = { run_scene };
+impl<'a> Scene for RunScene<'a> {
+    ghost use Rattle.board_decisions.specs.Scenes.{run_scene};
+
+    ghost values = { λ s. run_scene s.at.now };
 
     fn value(&self, alloc: Global, context: Context) -> Result<Value, AllocError> {
-        Ok(Value::new(run_context(alloc, self.plan, context)?))
+        Ok(Value::new(run_context(alloc, self.at.plan, context)?))
     }
 }
 
-impl<'a> Scene for SeenJob<'a> {
-    ghost use Rattle.board_decisions.specs.Seen.{job_scene};
+/// A job in play, for what its texts see.
+#[derive(Clone, Copy)]
+pub(crate) struct JobScene<'a> {
+    pub(crate) at: &'a SeenJob<'a>,
+}
 
-    ghost values = { job_scene };
+impl<'a> Scene for JobScene<'a> {
+    ghost use Rattle.board_decisions.specs.Scenes.{job_scene};
+
+    ghost values = { λ s. job_scene s.at.now };
 
     fn value(&self, alloc: Global, context: Context) -> Result<Value, AllocError> {
-        Ok(Value::new(job_context(alloc, self, context)?))
+        Ok(Value::new(job_context(alloc, self.at, context)?))
     }
 }
 
-impl<'a> Scene for SeenLeg<'a> {
-    ghost use Rattle.board_decisions.specs.Seen.{leg_scene};
+/// A leg in play, for what its texts see.
+#[derive(Clone, Copy)]
+pub(crate) struct LegScene<'a> {
+    pub(crate) at: &'a SeenLeg<'a>,
+}
 
-    ghost values = { leg_scene };
+impl<'a> Scene for LegScene<'a> {
+    ghost use Rattle.board_decisions.specs.Scenes.{leg_scene};
+
+    ghost values = { λ s. leg_scene s.at.now };
 
     fn value(&self, alloc: Global, context: Context) -> Result<Value, AllocError> {
-        Ok(Value::new(seen_context(alloc, self, context)?))
+        Ok(Value::new(seen_context(alloc, self.at, context)?))
     }
 }
 

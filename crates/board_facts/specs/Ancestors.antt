@@ -1,7 +1,7 @@
 -- The ancestors of a job that had no success: the first of them that are met on the ways up, by their numbers.
 use Rattle.std.specs.Prelude.{ℕ, zero, suc, ◌+◌, ◌-◌, ◌++◌, ◌&&◌, Bool, true, false, not, List, [], ◌∷◌, length, map, replicate, Option, Some, None, slice_get, if◌then◌else◌}
 use Rattle.board_decisions.specs.Derived.{holds_at, is_success, job_result}
-use Rattle.board_decisions.specs.Place.{JobAt}
+use Rattle.board_places.specs.Place.{JobAt}
 use Rattle.flow_model.specs.declared.board.Run.{Run}
 use Rattle.flow_model.specs.declared.plan.JobPlan.{JobPlan}
 use Rattle.status_table.specs.Change.{changed}

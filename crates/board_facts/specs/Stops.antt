@@ -1,7 +1,7 @@
 -- Why a leg is to stop, in the order in which it is asked.
 use Rattle.std.specs.Prelude.{ℕ, ◌-◌, ◌&&◌, Bool, true, false, nat_le, List, [], ◌∷◌, Option, Some, None, slice_get, if◌then◌else◌}
 use Rattle.board_decisions.specs.Derived.{has_failed}
-use Rattle.board_decisions.specs.Place.{LegAt}
+use Rattle.board_places.specs.Place.{LegAt}
 use Rattle.board_facts.specs.declared.fact.StopCause.{StopCause}
 use Rattle.board_facts.specs.declared.fact.StopCause.TheVariants as stop_cause
 use Rattle.flow_model.specs.declared.board.Leg.{Leg}

@@ -3,12 +3,12 @@
 ghost use Rattle.std.specs.Prelude.{◌≡◌, ◌+◌, IfOk, OnOk, slice_get, true};
 ghost use Rattle.board_facts.specs.Ancestors as spec;
 ghost use Rattle.board_decisions.specs.Derived as derived;
-ghost use Rattle.board_decisions.specs.Seen.{job_seen};
+ghost use Rattle.board_places.specs.Seen.{job_seen};
 ghost use Rattle.board_facts.specs.Adds.{Adds};
 ghost use Rattle.status_table.specs.Change.{changed};
 
 use board_decisions::derived::job_result;
-use board_decisions::place::SeenJob;
+use board_places::place::SeenJob;
 use flow_model::{JobPlan, Outcome, Run, Sequence};
 use std::alloc::{AllocError, Global};
 

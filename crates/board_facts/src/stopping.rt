@@ -1,12 +1,12 @@
 //! Why a leg is to stop.
 
 ghost use Rattle.std.specs.Prelude.{◌≡◌, false};
-ghost use Rattle.board_decisions.specs.Seen.{leg_seen};
+ghost use Rattle.board_places.specs.Seen.{leg_seen};
 ghost use Rattle.board_facts.specs.Stops as spec;
 
 use crate::fact::StopCause;
 use board_decisions::derived::has_failed;
-use board_decisions::place::SeenLeg;
+use board_places::place::SeenLeg;
 use flow_model::Leg;
 
 /// Whether the leg with a number is one of a job's, of which the first has the number `first`, and failed.

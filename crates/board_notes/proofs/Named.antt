@@ -2,7 +2,7 @@
 use Rattle.std.proofs.Common.{◌≡◌, ◌||◌, ◌∙◌, ℕ, Bool, true, false, not, List, [], ◌∷◌, ◌++◌, Option, Some, None, Result, Ok, Err, refl, sym, ap, subst, if◌then◌else◌}
 use Rattle.board_decisions.specs.Decisions.{is_stopping, leg_entrance, run_entrance, step_decision}
 use Rattle.board_decisions.specs.Derived.{is_closed, is_full, jobs_have_ended, run_result}
-use Rattle.board_decisions.specs.Place.{RunAt, JobAt, LegAt, job_at, leg_at, run_at}
+use Rattle.board_places.specs.Place.{RunAt, JobAt, LegAt, job_at, leg_at, run_at}
 use Rattle.board_decisions.specs.declared.entrance.Entrance.{Entrance}
 use Rattle.board_facts.specs.Queues as queueing
 use Rattle.board_facts.specs.Stops.{cause_of_stop}

@@ -3,7 +3,7 @@
 use Rattle.std.specs.Prelude.{ℕ, Bool, true, false, List, [], ◌∷◌, Option, Some, None, Result, Ok, Err, if◌then◌else◌}
 use Rattle.board_decisions.specs.Decisions.{job_condition, is_stopping, leg_result, leg_status, step_decision, run_entrance, leg_entrance}
 use Rattle.board_decisions.specs.Derived.{is_failure, job_status, run_result}
-use Rattle.board_decisions.specs.Place.{RunAt, JobAt, LegAt, run_at, job_at, leg_at}
+use Rattle.board_places.specs.Place.{RunAt, JobAt, LegAt, run_at, job_at, leg_at}
 use Rattle.board_decisions.specs.declared.entrance.Entrance.{Entrance}
 use Rattle.board_facts.specs.Queues.{queues}
 use Rattle.board_facts.specs.Stops.{cause_of_stop}

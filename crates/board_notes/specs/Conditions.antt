@@ -1,7 +1,7 @@
 -- Whether a condition waits for success, and which text of a step has no value.
 use Rattle.std.specs.Prelude.{ℕ, ◌&&◌, Bool, true, false, not, List, Option, Some, None, Result, Ok, Err}
 use Rattle.board_decisions.specs.Decisions.{flow_env, job_env_over, leg_status, seen_from, set_over, then_value}
-use Rattle.board_decisions.specs.Place.{LegAt}
+use Rattle.board_places.specs.Place.{LegAt}
 use Rattle.board_facts.specs.declared.fact.StepText.{StepText}
 use Rattle.board_facts.specs.declared.fact.StepText.TheVariants as step_text
 use Rattle.expr_reader.specs.Accepts.{condition_read}

@@ -2,7 +2,7 @@
 use Rattle.std.specs.Prelude.{◌≡◌, ℕ, ◌-◌, Bool, true, false, List, [], ◌∷◌, Option, Some, None, Ok}
 use Rattle.board_decisions.specs.Decisions.{is_stopping, stops_anyway}
 use Rattle.board_decisions.specs.Derived.{job_status}
-use Rattle.board_decisions.specs.Place.{JobAt, LegAt}
+use Rattle.board_places.specs.Place.{JobAt, LegAt}
 use Rattle.board_facts.specs.Stops.{cause_of_stop, failed_of}
 use Rattle.board_facts.specs.declared.fact.Change.{Change}
 use Rattle.board_facts.specs.declared.fact.Change.TheVariants as change

@@ -5,8 +5,8 @@
 ghost use Rattle.std.specs.Prelude.{◌≡◌, ◌∷◌, [], Bool, IfOk, OnOk, Option, Result, Some};
 ghost use Rattle.board_decisions.specs.Decisions as decisions;
 ghost use Rattle.board_decisions.specs.Derived as derived;
-ghost use Rattle.board_decisions.specs.Place.{job_at, leg_at, run_at};
-ghost use Rattle.board_decisions.specs.Seen.{job_seen, leg_seen, run_seen};
+ghost use Rattle.board_places.specs.Place.{job_at, leg_at, run_at};
+ghost use Rattle.board_places.specs.Seen.{job_seen, leg_seen, run_seen};
 ghost use Rattle.board_decisions.specs.Ancestors.{StandsAfterNeeds};
 ghost use Rattle.board_decisions.specs.declared.entrance.Entrance.{Entrance as EntranceOf};
 ghost use Rattle.board_facts.specs.Adds.{Adds};
@@ -29,11 +29,11 @@ use board_decisions::decisions::{
 };
 use board_decisions::derived::run_result;
 use board_decisions::entrance::Entrance;
-use board_decisions::place::{SeenJob, SeenLeg, SeenRun, find_job, find_leg, find_run, item_at};
 use board_facts::fact::{Change, JobFact, MemberFact, StepFact, Teller};
 use board_facts::failures::first_failure;
 use board_facts::queueing::{add_fact, add_queued};
 use board_facts::stopping::cause_of_stop;
+use board_places::place::{SeenJob, SeenLeg, SeenRun, find_job, find_leg, find_run, item_at};
 use expr_value::Status;
 use flat_board::FlatBoard;
 use flow_model::{

@@ -2,7 +2,8 @@
 
 ghost use Rattle.std.specs.Prelude.{◌≡◌, [], IfOk, Ok, OnOk};
 ghost use Rattle.board_decisions.specs.Decisions as spec;
-ghost use Rattle.board_decisions.specs.Seen.{leg_scene, leg_seen};
+ghost use Rattle.board_decisions.specs.Scenes.{leg_scene};
+ghost use Rattle.board_places.specs.Seen.{leg_seen};
 ghost use Rattle.board_notes.specs.Conditions as causes;
 ghost use Rattle.expr_value.specs.Answer.{Gives};
 ghost use Rattle.text_values.specs.Known.{IsKnownOf, known_env};
@@ -11,8 +12,8 @@ ghost use Rattle.text_values.specs.Values.{contexts_at, with_env};
 ghost use Rattle.text_values.specs.declared.place.Place.TheVariants as place;
 
 use board_decisions::decisions::leg_result;
-use board_decisions::place::SeenLeg;
 use board_facts::fact::StepText;
+use board_places::place::SeenLeg;
 use expr_value::Status;
 use flow_model::{Mapping, Outcome, StepPlan, Text, ValueFault};
 use std::alloc::{AllocError, Global};

@@ -3,8 +3,8 @@ use Rattle.std.proofs.Common.{◌≡◌, ℕ, zero, suc, ◌+◌, ◌-◌, ◌<�
 use Rattle.std.specs.List.{flat_map, AllZip}
 use Rattle.std.proofs.lemmas.List.{map-append}
 use Rattle.std.proofs.lemmas.Option.{slice_get_within}
-use Rattle.board_decisions.specs.Place.{JobAt, LegAt, job_at, leg_place}
-use Rattle.board_decisions.specs.declared.place.LegPlace.{LegPlace}
+use Rattle.board_places.specs.Place.{JobAt, LegAt, job_at, leg_place}
+use Rattle.board_places.specs.declared.place.LegPlace.{LegPlace}
 use Rattle.board_facts.specs.Notes as spec
 use Rattle.board_facts.specs.Notes.{noted}
 use Rattle.board_facts.specs.declared.fact.Change.TheVariants as change
@@ -42,7 +42,8 @@ use Rattle.status_table.specs.Groups.{admitted, cancelled, closed, dropped, pass
 use Rattle.status_table.specs.Row.{step_done}
 use Rattle.cause_laws.proofs.Members.{KeepsJobs, job_legs}
 use Rattle.status_table.proofs.Found.{JobStands, LegStands, job_stands}
-use Rattle.status_table.proofs.Lists.{changed-cons, changed-left, changed-right, flat_map-kept, flat_map-twice, no_some, same_some, zip-changed}
+use Rattle.status_table.proofs.Lists.{changed-cons, changed-left, changed-right, flat_map-kept, flat_map-twice, zip-changed}
+use Rattle.board_places.proofs.Lists.{no_some, same_some}
 use Rattle.status_table.proofs.Numbers.{jobs_before, jobs_of, number_of_job, numbered_leg-changed}
 use Rattle.status_table.proofs.Turns.{run_legs}
 use Rattle.status_table.proofs.Turnover.{numbered}

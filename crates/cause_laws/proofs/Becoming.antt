@@ -5,9 +5,9 @@ use Rattle.std.specs.List.{list_any}
 use Rattle.std.specs.Option.{option_map}
 use Rattle.board_decisions.specs.Decisions.{is_stopping, job_tolerates, leg_outputs, leg_result, leg_status, step_decision}
 use Rattle.board_decisions.specs.Derived.{is_closed, is_failure, job_status, jobs_have_ended, run_result}
-use Rattle.board_decisions.specs.Numbered.{job_there}
-use Rattle.board_decisions.specs.Place.{◌>>=◌, RunAt, JobAt, LegAt, job_at, job_place_from, leg_at, run_at}
-use Rattle.board_decisions.specs.declared.place.JobPlace.{JobPlace}
+use Rattle.board_places.specs.Numbered.{job_there}
+use Rattle.board_places.specs.Place.{◌>>=◌, RunAt, JobAt, LegAt, job_at, job_place_from, leg_at, run_at}
+use Rattle.board_places.specs.declared.place.JobPlace.{JobPlace}
 use Rattle.board_facts.specs.Notes.{noted}
 use Rattle.board_facts.specs.declared.fact.Change.{Change}
 use Rattle.board_facts.specs.declared.fact.Change.TheVariants as change
@@ -61,7 +61,8 @@ use Rattle.status_table.specs.Row as table
 use Rattle.cause_laws.proofs.Agreeing.{called_agrees, closed_agrees, ends_agree, judged_agrees, member_agrees, step_agrees, told_agrees}
 use Rattle.cause_laws.proofs.Members.{Exists, Quiet, any_leg, any_run, closed_quiet, closed_there, job_quiet, kept, leg_clash, leg_in, quiet_change, quiet_runs, run_clash, run_in, same_runs, stopped_others, stopped_there, untold_run}
 use Rattle.status_table.proofs.Found.{JobStands as JobIsThere, LegStands, job_stands, leg_item, leg_stands, run_stands}
-use Rattle.status_table.proofs.Lists.{changed-cons, changed-there, length-changed, no_some, same_some}
+use Rattle.status_table.proofs.Lists.{changed-cons, changed-there, length-changed}
+use Rattle.board_places.proofs.Lists.{no_some, same_some}
 use Rattle.status_table.proofs.Numbers.{board_legs-changed, jobs_are_numbered}
 use Rattle.status_table.proofs.Turnover.{numbered}
 use Rattle.cause_laws.proofs.Going.{Goes, Noting, board_of, led, only, quietly}

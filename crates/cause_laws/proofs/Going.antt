@@ -14,7 +14,7 @@ use Rattle.flow_model.specs.declared.event.Member.{Member}
 use Rattle.flow_model.specs.declared.reply.Reply.{Reply}
 use Rattle.status_table.specs.Row.{Row}
 use Rattle.cause_laws.proofs.Members.{Quiet, untold_leg, untold_run}
-use Rattle.status_table.proofs.Lists.{no_some, same_some}
+use Rattle.board_places.proofs.Lists.{no_some, same_some}
 
 -- ---- lists of changes
 

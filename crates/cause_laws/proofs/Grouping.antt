@@ -4,7 +4,7 @@ use Rattle.std.proofs.lemmas.Bool.{true≢false}
 use Rattle.std.specs.Option.{option_map}
 use Rattle.board_decisions.specs.Decisions.{is_stopping, leg_entrance, run_entrance}
 use Rattle.board_decisions.specs.Derived.{is_fresh, is_full, is_going, is_open, is_untaken}
-use Rattle.board_decisions.specs.Place.{RunAt, LegAt, leg_at, run_at}
+use Rattle.board_places.specs.Place.{RunAt, LegAt, leg_at, run_at}
 use Rattle.board_decisions.specs.declared.entrance.Entrance.{Entrance}
 use Rattle.board_facts.specs.Notes.{noted}
 use Rattle.board_facts.specs.Queues as queueing
@@ -37,11 +37,11 @@ use Rattle.status_table.specs.Groups.{Standing, apart, holding, waiting, cancell
 use Rattle.status_table.specs.Groups as groups
 use Rattle.status_table.specs.Row.{Row, Beginning, beginning_by, decided, event_row, next_step}
 use Rattle.status_table.specs.Row as table
-use Rattle.board_decisions.proofs.Lists.{and-right}
+use Rattle.board_places.proofs.Lists.{and-right}
 use Rattle.cause_laws.proofs.Agreeing.{admitted_agrees, closed_agrees, displaced_agrees, dropped_agrees, passed_agrees, told_agrees, waits_agrees}
 use Rattle.cause_laws.proofs.Members.{OfLeg, Exists, Quiet, admitted_quiet, admitted_there, any_leg, any_run, cancelled_exists, cancelled_quiet, cancelled_there, clash, closed_quiet, closed_there, displaced_exists, displaced_others, displaced_quiet, dropped_quiet, dropped_there, exists, holder_exists, kept, leg_clash, leg_in, passed_others, passed_quiet, passed_there, run_clash, run_in, stopped_keeps, stopped_others, stopped_there, untold_leg, untold_run, waiter_waits, waits_exists, waits_quiet, waits_there}
 use Rattle.status_table.proofs.Found.{leg_item, leg_stands, run_stands}
-use Rattle.status_table.proofs.Lists.{no_some, same_some}
+use Rattle.board_places.proofs.Lists.{no_some, same_some}
 use Rattle.status_table.proofs.Steps.{standing}
 use Rattle.status_table.proofs.Turnover.{a_waiter}
 use Rattle.cause_laws.proofs.Going.{Goes, Noting, board_of, led, more, only, quietly}

@@ -2,9 +2,9 @@
 use Rattle.std.proofs.Common.{◌≡◌, ◌≢◌, ℕ, Bool, true, false, List, Option, Some, None, slice_get, inl, inr, ap, subst, sym, refl, ◌∙◌}
 use Rattle.std.specs.List.{flat_map}
 use Rattle.std.proofs.lemmas.Bool.{cases_eq}
-use Rattle.board_decisions.specs.Place.{leg_place}
-use Rattle.board_decisions.specs.declared.place.JobPlace.{JobPlace}
-use Rattle.board_decisions.specs.declared.place.LegPlace.{LegPlace}
+use Rattle.board_places.specs.Place.{leg_place}
+use Rattle.board_places.specs.declared.place.JobPlace.{JobPlace}
+use Rattle.board_places.specs.declared.place.LegPlace.{LegPlace}
 use Rattle.cause_laws.specs.Stands.{Has}
 use Rattle.flow_model.specs.Numbers.{board_legs}
 use Rattle.flow_model.specs.declared.board.Board.{Board}
@@ -22,7 +22,8 @@ use Rattle.flow_model.specs.declared.event.Outcome.TheVariants as outcome
 use Rattle.status_table.specs.Change.{changed, leg_changed, with_job, with_numbered_leg, with_run}
 use Rattle.status_table.specs.Groups.{admitted, cancelled, closed, displaced, dropped, holder, holding, leg_standing, passed_on, run_standing, stopped, waiter, waiting, waits}
 use Rattle.status_table.proofs.Counts.{map-some}
-use Rattle.status_table.proofs.Lists.{changed-elsewhere, changed-there, flat_map-kept, flat_map-twice, same_some}
+use Rattle.status_table.proofs.Lists.{changed-elsewhere, changed-there, flat_map-kept, flat_map-twice}
+use Rattle.board_places.proofs.Lists.{same_some}
 use Rattle.status_table.proofs.Numbers.{numbered_leg-changed}
 use Rattle.status_table.proofs.Turnover.{a_holder, a_waiter, leg-waits, run-waits}
 use Rattle.status_table.proofs.Turns.{run_legs}

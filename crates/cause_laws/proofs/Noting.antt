@@ -39,7 +39,8 @@ use Rattle.status_table.specs.Runs.{after, new_board, new_job, new_leg, new_run}
 use Rattle.cause_laws.proofs.Becoming.{changes_become_so, goes}
 use Rattle.cause_laws.proofs.Going.{Tells}
 use Rattle.cause_laws.proofs.Members.{leg_clash, leg_told, run_clash, run_told, untold_leg, untold_run}
-use Rattle.status_table.proofs.Lists.{changed-cons, no_some, same_some, zip-append}
+use Rattle.status_table.proofs.Lists.{changed-cons, zip-append}
+use Rattle.board_places.proofs.Lists.{no_some, same_some}
 use Rattle.status_table.proofs.RunsLemmas.{after_from-last}
 
 -- ---- lists

@@ -8,7 +8,7 @@ ghost use Rattle.std.specs.List.{list_any};
 ghost use Rattle.debugger.specs.Breaks as breaks;
 ghost use Rattle.debugger.specs.Marks as spec;
 
-use board_decisions::place::numbered_leg;
+use board_places::place::numbered_leg;
 use flow_model::{Board, Event, LegState, Outcome};
 use std::alloc::{AllocError, Global};
 

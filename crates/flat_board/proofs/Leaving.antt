@@ -1,7 +1,7 @@
 -- A member that ended leaves its group, by the name of that.
 use Rattle.std.proofs.Common.{◌≡◌, ◌≢◌, ℕ, Bool, true, false, List, [], ◌∷◌, Option, Some, None, option_map, option_and_then, ap, subst, sym, refl, ◌∙◌}
-use Rattle.board_decisions.specs.Numbered.{leg_there}
-use Rattle.board_decisions.specs.Place.{RunAt, LegAt, leg_place, run_at, leg_at}
+use Rattle.board_places.specs.Numbered.{leg_there}
+use Rattle.board_places.specs.Place.{RunAt, LegAt, leg_place, run_at, leg_at}
 use Rattle.flow_model.specs.declared.plan.Plan.{Plan}
 use Rattle.flow_model.specs.declared.board.Board.{Board}
 use Rattle.flow_model.specs.declared.board.Run.{Run}
@@ -25,7 +25,8 @@ use Rattle.status_table.specs.Grouped.{KeptAsShown, leg_left, run_left}
 use Rattle.status_table.specs.Groups.{Standing, apart, dropped, holding, waiting, run_stands as run_stands_so, run_standing, leg_stands as leg_stands_so, leg_standing}
 use Rattle.status_table.specs.Row.{leg_ended}
 use Rattle.status_table.proofs.Found.{leg_item, leg_stands, run_stands}
-use Rattle.status_table.proofs.Lists.{changed-there, same_some, no_some}
+use Rattle.status_table.proofs.Lists.{changed-there}
+use Rattle.board_places.proofs.Lists.{same_some, no_some}
 use Rattle.status_table.proofs.Steps.{standing}
 use Rattle.status_table.proofs.Turnover.{a_holder, a_waiter, numbered}
 

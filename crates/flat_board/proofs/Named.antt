@@ -5,7 +5,7 @@ use Rattle.std.specs.Char.{to_ascii_lowercase}
 use Rattle.board_decisions.specs.declared.entrance.Entrance.{Entrance}
 use Rattle.board_decisions.specs.Contexts.{run_values}
 use Rattle.board_decisions.specs.Decisions.{then_value, entrance, entrance_value, run_entrance, leg_entrance, seen_from}
-use Rattle.board_decisions.specs.Place.{RunAt, LegAt}
+use Rattle.board_places.specs.Place.{RunAt, LegAt}
 use Rattle.expr_reader.specs.Fold.{fold}
 use Rattle.expr_value.specs.Answer.{Gives}
 use Rattle.expr_value.specs.Context.{Contexts}

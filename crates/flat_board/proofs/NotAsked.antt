@@ -4,7 +4,7 @@ use Rattle.std.proofs.lemmas.Bool.{true≢false}
 use Rattle.board_decisions.specs.declared.entrance.Entrance.{Entrance}
 use Rattle.board_decisions.specs.Contexts.{run_values}
 use Rattle.board_decisions.specs.Decisions.{entrance_value, leg_entrance, run_entrance, seen_from}
-use Rattle.board_decisions.specs.Place.{RunAt, LegAt, run_at, leg_at}
+use Rattle.board_places.specs.Place.{RunAt, LegAt, run_at, leg_at}
 use Rattle.expr_value.specs.Context.{Contexts}
 use Rattle.flow_model.specs.declared.plan.Group.{Group}
 use Rattle.flow_model.specs.declared.plan.Plan.{Plan}

@@ -2,8 +2,8 @@
 use Rattle.std.proofs.Common.{◌≡◌, ℕ, Bool, true, false, not, Some, Ok, Err, slice_get, if◌then◌else◌, ap, sym, refl, ◌∙◌}
 use Rattle.board_decisions.specs.Decisions.{is_stopping, job_condition, run_entrance, leg_entrance}
 use Rattle.board_decisions.specs.Derived.{is_full, job_status, needs_have_ended}
-use Rattle.board_decisions.specs.Numbered.{job_there}
-use Rattle.board_decisions.specs.Place.{◌>>=◌, RunAt, JobAt, LegAt, run_at, job_at, leg_at}
+use Rattle.board_places.specs.Numbered.{job_there}
+use Rattle.board_places.specs.Place.{◌>>=◌, RunAt, JobAt, LegAt, run_at, job_at, leg_at}
 use Rattle.flow_model.specs.declared.plan.Plan.{Plan}
 use Rattle.flow_model.specs.declared.board.Board.{Board}
 use Rattle.flow_model.specs.declared.board.JobState.TheVariants as job_state

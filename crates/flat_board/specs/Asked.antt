@@ -1,6 +1,6 @@
 -- Which events ask something of the concurrency groups beside a board: those of a run or a leg that has one.
 use Rattle.std.specs.Prelude.{Bool, false, Option, Some, None, is_some, if◌then◌else◌}
-use Rattle.board_decisions.specs.Place.{RunAt, LegAt, run_at, leg_at}
+use Rattle.board_places.specs.Place.{RunAt, LegAt, run_at, leg_at}
 use Rattle.flow_model.specs.declared.board.Board.{Board}
 use Rattle.flow_model.specs.declared.event.Event.{Event}
 use Rattle.flow_model.specs.declared.event.Event.TheVariants as event

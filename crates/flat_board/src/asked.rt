@@ -1,11 +1,11 @@
 //! Which events ask something of the groups beside a board: those of a run or a leg that has one.
 
 ghost use Rattle.std.specs.Prelude.{◌≡◌};
-ghost use Rattle.board_decisions.specs.Place.{leg_at, run_at};
+ghost use Rattle.board_places.specs.Place.{leg_at, run_at};
 ghost use Rattle.flat_board.specs.Asked as spec;
 
 use crate::found::find_leg;
-use board_decisions::place::find_run;
+use board_places::place::find_run;
 use flat_counters::Counted;
 use flow_model::Event;
 

@@ -3,8 +3,8 @@
 //! Each function looks for a refusal first, makes what room it needs, and only then changes the board.
 
 ghost use Rattle.std.specs.Prelude.{◌≡◌, ◌≤◌, OnOk, Some};
-ghost use Rattle.board_decisions.specs.Place.{job_at, leg_at, run_at};
-ghost use Rattle.board_decisions.specs.Seen.{job_seen};
+ghost use Rattle.board_places.specs.Place.{job_at, leg_at, run_at};
+ghost use Rattle.board_places.specs.Seen.{job_seen};
 ghost use Rattle.flat_board.specs.Index.{Goes};
 ghost use Rattle.status_table.specs.Answers.{Answers, Decides};
 ghost use Rattle.status_table.specs.Grouped.{KeptAsShown, leg_asked, leg_left, run_left, run_opened};
@@ -18,7 +18,7 @@ use crate::members::{close_run, drop_leg, pass_on, set_ended, stop_run};
 use board_decisions::ancestors::job_status_kept;
 use board_decisions::decisions::{job_condition, leg_entrance, leg_outputs, run_entrance};
 use board_decisions::derived::is_closed;
-use board_decisions::place::{SeenJob, find_job, find_run};
+use board_places::place::{SeenJob, find_job, find_run};
 use flat_counters::{Counted, LegChange, Tracked};
 use flow_model::{Answer, JobState, LegState, Member, Outcome, Reply, RunState, What};
 use group_admission::Groups;

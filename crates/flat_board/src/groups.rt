@@ -3,8 +3,8 @@
 //! Memory is asked for first; what comes after it changes the board in place.
 
 ghost use Rattle.std.specs.Prelude.{◌≡◌, ◌≤◌, ℕ, List, Ok, OnOk, Option, Result, Some, false};
-ghost use Rattle.board_decisions.specs.Numbered.{leg_there as leg_there_of};
-ghost use Rattle.board_decisions.specs.Place.{LegAt};
+ghost use Rattle.board_places.specs.Numbered.{leg_there as leg_there_of};
+ghost use Rattle.board_places.specs.Place.{LegAt};
 ghost use Rattle.board_decisions.specs.declared.entrance.Entrance.{Entrance as EntranceOf};
 ghost use Rattle.expr_value.specs.Answer.{Gives};
 ghost use Rattle.flat_board.specs.Index.{AsksNamed, EntersNamed, Goes, entered};
@@ -24,7 +24,7 @@ ghost use Rattle.status_table.specs.Row.{leg_enters, run_enters};
 
 use crate::members::{admit, close_run, delay, drop_leg, forget_end, note_end, put_out, stop};
 use board_decisions::entrance::Entrance;
-use board_decisions::place::{LegPlace, leg_there};
+use board_places::place::{LegPlace, leg_there};
 use flat_counters::Tracked;
 use flow_model::{Board, LegState, Member, Outcome, Reply, RunState, Text, ValueFault};
 use group_admission::Groups;

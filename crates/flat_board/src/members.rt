@@ -10,7 +10,7 @@ ghost use Rattle.status_table.specs.Change.{with_numbered_leg};
 ghost use Rattle.status_table.specs.Row.{leg_ended};
 ghost use Rattle.status_table.specs.Seen.{noted, put_out as put_out_of};
 
-use board_decisions::place::LegPlace;
+use board_places::place::LegPlace;
 use flat_counters::{LegChange, RunChange, Tracked};
 use flow_model::{LegState, Mapping, Member, Outcome, RunState, Text};
 use std::alloc::{AllocError, Global};

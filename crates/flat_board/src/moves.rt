@@ -9,7 +9,7 @@ ghost use Rattle.status_table.specs.Kinds as spec;
 ghost use Rattle.status_table.specs.Moves as rule;
 
 use crate::found::{find_leg, is_full, is_stopping};
-use board_decisions::place::{find_job, find_run};
+use board_places::place::{find_job, find_run};
 use flat_counters::Counted;
 use flow_model::{Event, JobState, RunState};
 use status_table::events::{may_ask, may_drop};

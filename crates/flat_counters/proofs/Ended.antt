@@ -5,7 +5,7 @@ use Rattle.std.proofs.lemmas.Bool.{true≢false}
 use Rattle.std.proofs.lemmas.Bool.Decides.{nat_tests}
 use Rattle.std.proofs.lemmas.List.Sums.{sum_by-cons}
 use Rattle.board_decisions.specs.Derived.{is_going, is_closed, is_shut, is_ended, job_has_ended, jobs_have_ended, holds_at, needs_have_ended}
-use Rattle.board_decisions.specs.Place.{◌>>=◌, JobAt, job_at}
+use Rattle.board_places.specs.Place.{◌>>=◌, JobAt, job_at}
 use Rattle.flow_model.specs.Laws.{NeedsPointBack}
 use Rattle.flow_model.specs.Numbers.{first_job}
 use Rattle.flow_model.specs.declared.plan.Plan.{Plan}
@@ -19,12 +19,13 @@ use Rattle.flow_model.specs.declared.board.Job.{Job}
 use Rattle.flow_model.specs.declared.board.Leg.{Leg}
 use Rattle.flat_counters.specs.Counters.{is_settled, settled_jobs, first_number, need_of, run_needs, needs_of, needs_none}
 use Rattle.flat_counters.specs.declared.need.Need.{Need}
-use Rattle.flat_counters.proofs.Lists.{map-each, map-get}
+use Rattle.flat_counters.proofs.Lists.{map-each}
+use Rattle.board_places.proofs.Lists.{map-get}
 use Rattle.status_table.specs.InPlay.{InPlay}
 use Rattle.status_table.specs.Row.{first_of}
 use Rattle.status_table.proofs.Counts.{one}
 use Rattle.status_table.proofs.Found.{JobStands, job_stands}
-use Rattle.status_table.proofs.Lists.{same_some, no_some}
+use Rattle.board_places.proofs.Lists.{same_some, no_some}
 use Rattle.status_table.proofs.Sound.{is_numbered_in}
 
 -- ---- a job of a run that is Going has ended where it is settled

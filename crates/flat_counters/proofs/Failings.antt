@@ -3,10 +3,10 @@ use Rattle.std.proofs.Common.{◌≡◌, ℕ, suc, zero, ◌-◌, ◌||◌, Bool
 use Rattle.std.proofs.lemmas.Bool.{true≢false}
 use Rattle.std.proofs.lemmas.List.Folds.{list_any-append}
 use Rattle.board_decisions.specs.Derived.{is_failure}
-use Rattle.board_decisions.specs.Numbered.{leg_there}
-use Rattle.board_decisions.specs.Place.{◌>>=◌}
-use Rattle.board_decisions.specs.declared.place.JobPlace.{JobPlace}
-use Rattle.board_decisions.specs.declared.place.LegPlace.{LegPlace}
+use Rattle.board_places.specs.Numbered.{leg_there}
+use Rattle.board_places.specs.Place.{◌>>=◌}
+use Rattle.board_places.specs.declared.place.JobPlace.{JobPlace}
+use Rattle.board_places.specs.declared.place.LegPlace.{LegPlace}
 use Rattle.flow_model.specs.declared.board.Board.{Board}
 use Rattle.flow_model.specs.declared.board.DoneStep.{DoneStep}
 use Rattle.flow_model.specs.declared.board.Job.{Job}
@@ -18,7 +18,8 @@ use Rattle.flat_counters.specs.Changes.{leg_after, step_taken}
 use Rattle.flat_counters.specs.Failing.{any_failed, failing_at, failing_noted, failing_of, failing_set, failing_taken, job_failing, leg_failed, leg_failing, or_false, run_failing}
 use Rattle.flat_counters.specs.declared.change.LegChange.{LegChange}
 use Rattle.flat_counters.specs.declared.change.LegChange.TheVariants as leg_change
-use Rattle.flat_counters.proofs.Lists.{map-changed, map-get, map-past, map-same}
+use Rattle.flat_counters.proofs.Lists.{map-changed, map-same}
+use Rattle.board_places.proofs.Lists.{map-get, map-past}
 use Rattle.flat_counters.proofs.Tallies.{leg_there_changed, there}
 use Rattle.status_table.specs.Change.{changed, with_job, with_leg, with_run}
 use Rattle.status_table.specs.Row.{step_done}

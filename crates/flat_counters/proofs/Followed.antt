@@ -1,7 +1,7 @@
 -- What is kept beside a board after a change of it.
 use Rattle.std.proofs.Common.{◌≡◌, ℕ, inl, inr, Bool, true, false, List, Option, map, slice_get, ap, subst, sym, refl, ◌∙◌}
-use Rattle.board_decisions.specs.declared.place.JobPlace.{JobPlace}
-use Rattle.board_decisions.specs.declared.place.LegPlace.{LegPlace}
+use Rattle.board_places.specs.declared.place.JobPlace.{JobPlace}
+use Rattle.board_places.specs.declared.place.LegPlace.{LegPlace}
 use Rattle.flow_model.specs.declared.plan.Plan.{Plan}
 use Rattle.flow_model.specs.declared.board.Board.{Board}
 use Rattle.flow_model.specs.declared.board.Job.{Job}
@@ -25,7 +25,7 @@ use Rattle.flat_counters.proofs.Failings.{job_failing_kept, run_failing_kept}
 use Rattle.flat_counters.proofs.Lists.{changed-same}
 use Rattle.flat_counters.proofs.Named.{leg_named, job_named, run_named, jobs_stay}
 use Rattle.flat_counters.proofs.Needs.{needs_follow, needs-kept, settled_in}
-use Rattle.flat_counters.specs.Places.{leg_places}
+use Rattle.board_places.specs.Places.{leg_places}
 use Rattle.flat_counters.proofs.Placed.{leg_places_kept, job_leg_places, run_leg_places}
 use Rattle.flat_counters.proofs.Standings.{moved_alike, read_before, read_in, run_tallies_kept, runs_follow, standing_settles}
 use Rattle.flat_counters.proofs.Tallies.{ComesSo, alike_tallies, job_tallies, moved_same, run_tallies, tallied_so}

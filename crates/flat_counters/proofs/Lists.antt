@@ -7,7 +7,8 @@ use Rattle.flow_model.specs.Sound.{Each}
 use Rattle.flat_counters.specs.Counters.{turned}
 use Rattle.status_table.specs.Change.{put, changed}
 use Rattle.status_table.proofs.Counts.{one, sum-changed}
-use Rattle.status_table.proofs.Lists.{same_some, no_some, changed-cons}
+use Rattle.status_table.proofs.Lists.{changed-cons}
+use Rattle.board_places.proofs.Lists.{same_some, no_some}
 
 -- ---- what is made of each item
 
@@ -30,16 +31,6 @@ map-twice {A} {B} {C} f g h (x ∷ xs) step = ap (λ (y : C). y ∷ map g (map f
 pub map-each : {A B : Type 0} (f g : A → B) (xs : List A) → ((x : A) → f x ≡ g x) → map f xs ≡ map g xs
 map-each f g [] step = refl
 map-each {A} {B} f g (x ∷ xs) step = ap (λ (y : B). y ∷ map f xs) (step x) ∙ ap (λ (ys : List B). g x ∷ ys) (map-each f g xs step)
-
-pub map-get : {A B : Type 0} (g : A → B) (xs : List A) (i : ℕ) (x : A) → slice_get xs i ≡ Some x → slice_get (map g xs) i ≡ Some (g x)
-map-get g [] i x at = absurd (no_some x at)
-map-get g (y ∷ ys) zero x at = ap (λ z. Some (g z)) (same_some y x at)
-map-get g (y ∷ ys) (suc i) x at = map-get g ys i x at
-
-pub map-past : {A B : Type 0} (g : A → B) (xs : List A) (i : ℕ) → slice_get xs i ≡ None → slice_get (map g xs) i ≡ None
-map-past g [] i at = refl
-map-past g (y ∷ ys) zero at = absurd (no_some y (sym at))
-map-past g (y ∷ ys) (suc i) at = map-past g ys i at
 
 -- where each item stays, nothing is changed
 pub changed-same : {T : Type 0} (xs : List T) (i : ℕ) (f : T → T) → ((x : T) → f x ≡ x) → changed xs i f ≡ xs

@@ -1,9 +1,9 @@
 -- The names on a board after a change.
 use Rattle.std.proofs.Common.{◌≡◌, ℕ, zero, suc, List, [], ◌∷◌, Option, Some, None, map, slice_get, subst, sym, refl}
-use Rattle.board_decisions.specs.Numbered.{leg_there}
-use Rattle.board_decisions.specs.Place.{◌>>=◌}
-use Rattle.board_decisions.specs.declared.place.JobPlace.{JobPlace}
-use Rattle.board_decisions.specs.declared.place.LegPlace.{LegPlace}
+use Rattle.board_places.specs.Numbered.{leg_there}
+use Rattle.board_places.specs.Place.{◌>>=◌}
+use Rattle.board_places.specs.declared.place.JobPlace.{JobPlace}
+use Rattle.board_places.specs.declared.place.LegPlace.{LegPlace}
 use Rattle.flow_model.specs.Sound.{Each}
 use Rattle.flow_model.specs.declared.board.Board.{Board}
 use Rattle.flow_model.specs.declared.board.Run.{Run}
@@ -20,7 +20,8 @@ use Rattle.flat_counters.specs.declared.change.RunChange.TheVariants as run_chan
 use Rattle.flat_counters.proofs.Lists.{each-changed}
 use Rattle.status_table.specs.Change.{changed, with_run, with_job, with_leg}
 use Rattle.status_table.specs.Runs.{new_leg, new_job, new_run, new_board}
-use Rattle.status_table.proofs.Lists.{same_some, no_some, bind-some}
+use Rattle.status_table.proofs.Lists.{bind-some}
+use Rattle.board_places.proofs.Lists.{same_some, no_some}
 
 -- ---- changes
 

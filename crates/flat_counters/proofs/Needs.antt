@@ -7,9 +7,11 @@ use Rattle.flow_model.specs.declared.plan.RunPlan.{RunPlan}
 use Rattle.flat_counters.specs.Changes.{recounted_if}
 use Rattle.flat_counters.specs.Counters.{is_settled, settled_jobs, first_number, need_of, run_needs, needs_of, recounted}
 use Rattle.flat_counters.specs.declared.need.Need.{Need}
-use Rattle.flat_counters.proofs.Lists.{map-same, map-twice, map-get, changed-none}
+use Rattle.flat_counters.proofs.Lists.{map-same, map-twice, changed-none}
+use Rattle.board_places.proofs.Lists.{map-get}
 use Rattle.status_table.specs.Change.{changed}
-use Rattle.status_table.proofs.Lists.{same_some, no_some, changed-cons, changed-there}
+use Rattle.status_table.proofs.Lists.{changed-cons, changed-there}
+use Rattle.board_places.proofs.Lists.{same_some, no_some}
 
 -- whether the job at a place of a run that may be there has ended by itself
 abbrev pub settled_in : Option Run → ℕ → Bool

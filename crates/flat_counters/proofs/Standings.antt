@@ -3,7 +3,7 @@ use Rattle.std.proofs.Common.{◌≡◌, ℕ, ◌==◌, ◌||◌, ◌&&◌, Bool
 use Rattle.std.specs.List.{list_all, list_any}
 use Rattle.std.proofs.lemmas.Bool.{true≢false}
 use Rattle.board_decisions.specs.Derived.{all_succeed, has_failed, holds, is_any_job_cancelled, is_any_job_failed, is_cancelled, is_failure, is_going, is_success, job_result, jobs_have_ended, legs_result, result_by, run_result, was_cancelled}
-use Rattle.board_decisions.specs.declared.place.LegPlace.{LegPlace}
+use Rattle.board_places.specs.declared.place.LegPlace.{LegPlace}
 use Rattle.flow_model.specs.declared.board.Board.{Board}
 use Rattle.flow_model.specs.declared.board.Job.{Job}
 use Rattle.flow_model.specs.declared.board.JobState.{JobState}
@@ -21,7 +21,8 @@ use Rattle.flat_counters.specs.declared.standing.JobCounter.TheVariants as count
 use Rattle.flat_counters.specs.declared.standing.JobStanding.{JobStanding}
 use Rattle.flat_counters.specs.declared.standing.RunTally.{RunTally}
 use Rattle.flat_counters.proofs.Ended.{all-counted, jobs_ended}
-use Rattle.flat_counters.proofs.Lists.{any-counted, changed-none, count-changed, map-changed, map-get, map-past, map-same}
+use Rattle.flat_counters.proofs.Lists.{any-counted, changed-none, count-changed, map-changed, map-same}
+use Rattle.board_places.proofs.Lists.{map-get, map-past}
 use Rattle.flat_counters.proofs.Needs.{settled_in}
 use Rattle.flat_counters.proofs.Tallies.{get_changed, turned_same}
 use Rattle.status_table.specs.Change.{changed, with_leg}

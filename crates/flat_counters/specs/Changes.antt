@@ -1,8 +1,8 @@
 -- Changes of a board, and what is counted after them.
 use Rattle.std.specs.Prelude.{◌≡◌, ℕ, ◌-◌, ◌⊎◌, Bool, false, true, List, [], ◌∷◌, ◌++◌, length, map, take, Option, Some, None, slice_get}
-use Rattle.board_decisions.specs.Numbered.{job_there, leg_there}
-use Rattle.board_decisions.specs.declared.place.JobPlace.{JobPlace}
-use Rattle.board_decisions.specs.declared.place.LegPlace.{LegPlace}
+use Rattle.board_places.specs.Numbered.{job_there, leg_there}
+use Rattle.board_places.specs.declared.place.JobPlace.{JobPlace}
+use Rattle.board_places.specs.declared.place.LegPlace.{LegPlace}
 use Rattle.flow_model.specs.declared.board.Board.{Board}
 use Rattle.flow_model.specs.declared.board.Run.{Run}
 use Rattle.flow_model.specs.declared.board.Job.{Job}

@@ -1,10 +1,10 @@
 -- All that is kept beside a board: counts, and where the legs stand.
 use Rattle.std.specs.Prelude.{◌≡◌, Bool, List, map}
-use Rattle.board_decisions.specs.declared.place.LegPlace.{LegPlace}
+use Rattle.board_places.specs.declared.place.LegPlace.{LegPlace}
 use Rattle.flat_counters.specs.Counters.{tallies_of, needs_of}
 use Rattle.flat_counters.specs.Failing.{failing_of}
 use Rattle.flat_counters.specs.Names.{IsNamed}
-use Rattle.flat_counters.specs.Places.{leg_places}
+use Rattle.board_places.specs.Places.{leg_places}
 use Rattle.flat_counters.specs.Standing.{run_tally}
 use Rattle.flat_counters.specs.declared.counts.Counts.{Counts}
 use Rattle.flow_model.specs.declared.board.Board.{Board}

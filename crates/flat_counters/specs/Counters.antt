@@ -2,8 +2,8 @@
 -- they stand, and how many of the jobs that a job needs are open.
 use Rattle.std.specs.Prelude.{ℕ, suc, ◌-◌, ◌==◌, ◌||◌, Bool, true, false, not, List, [], ◌∷◌, map, length, nat_lt, count_by, Option, Some, None, slice_get, if◌then◌else◌}
 use Rattle.board_decisions.specs.Derived.{is_shut, is_ended, is_under_way, has_failed, was_cancelled, holds_at}
-use Rattle.board_decisions.specs.Place.{◌>>=◌}
-use Rattle.board_decisions.specs.declared.place.JobPlace.{JobPlace}
+use Rattle.board_places.specs.Place.{◌>>=◌}
+use Rattle.board_places.specs.declared.place.JobPlace.{JobPlace}
 use Rattle.flow_model.specs.declared.board.Board.{Board}
 use Rattle.flow_model.specs.declared.board.Run.{Run}
 use Rattle.flow_model.specs.declared.board.Job.{Job}

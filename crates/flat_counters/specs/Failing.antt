@@ -2,8 +2,8 @@
 use Rattle.std.specs.Prelude.{Bool, true, false, List, map, Option, Some, None, slice_get, if◌then◌else◌}
 use Rattle.std.specs.List.{list_any}
 use Rattle.board_decisions.specs.Derived.{is_failure}
-use Rattle.board_decisions.specs.Place.{◌>>=◌}
-use Rattle.board_decisions.specs.declared.place.LegPlace.{LegPlace}
+use Rattle.board_places.specs.Place.{◌>>=◌}
+use Rattle.board_places.specs.declared.place.LegPlace.{LegPlace}
 use Rattle.flow_model.specs.declared.board.Board.{Board}
 use Rattle.flow_model.specs.declared.board.DoneStep.{DoneStep}
 use Rattle.flow_model.specs.declared.board.Job.{Job}

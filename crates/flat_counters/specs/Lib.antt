@@ -3,7 +3,6 @@ pub mod Counted
 pub mod Counters
 pub mod Failing
 pub mod Names
-pub mod Places
 pub mod Standing
 pub mod Track
 pub mod Undo

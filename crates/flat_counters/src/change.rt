@@ -2,11 +2,11 @@
 
 ghost use Rattle.std.specs.Prelude.{◌≡◌, slice_get};
 ghost use Rattle.std.specs.Option.{option_copied};
-ghost use Rattle.board_decisions.specs.Numbered.{job_there, leg_there};
+ghost use Rattle.board_places.specs.Numbered.{job_there, leg_there};
 ghost use Rattle.flat_counters.specs.Changes as spec;
 ghost use Rattle.status_table.specs.Change.{with_leg, with_run};
 
-use board_decisions::place::{JobPlace, LegPlace, item_at};
+use board_places::place::{JobPlace, LegPlace, item_at};
 use flow_model::{Board, Job, JobState, Leg, LegState, Mapping, Run, RunState, Sequence, Text};
 use std::alloc::{AllocError, Global};
 use std::mem;

@@ -1,7 +1,7 @@
 //! A plan in play with its counters, which each change of the board keeps.
 
 ghost use Rattle.std.specs.Prelude.{◌≡◌, true, ℕ, None, Some, IfOk, OnOk, OnErr, slice_get};
-ghost use Rattle.board_decisions.specs.Numbered.{job_there, leg_there};
+ghost use Rattle.board_places.specs.Numbered.{job_there, leg_there};
 ghost use Rattle.flat_counters.specs.Changes as spec;
 ghost use Rattle.flat_counters.specs.Counters.{needs_none, needs_there, tallies_of, tally_of as tally_of_job, tally_there};
 ghost use Rattle.flat_counters.specs.Standing.{run_tally_there};
@@ -19,7 +19,7 @@ use crate::standing::RunTally;
 use crate::tally::{Tally, are_alike};
 use crate::undo::{Change, LegBack, RunBack};
 use board_decisions::derived::is_failure;
-use board_decisions::place::{JobPlace, LegPlace, leg_there};
+use board_places::place::{JobPlace, LegPlace, leg_there};
 use flow_model::laws::needs_point_back;
 use flow_model::{Board, CheckedPlan, DoneStep, JobState, LegState, Outcome, Plan, Sequence};
 use status_table::change::{add_step, set_job_state};
@@ -148,7 +148,7 @@ impl Counted {
     ghost use Rattle.flow_model.specs.Rules.{IsPlan};
     ghost use Rattle.flow_model.specs.Sound.{SoundPlan};
     ghost use Rattle.board_decisions.specs.Derived.{all_succeed, is_going, jobs_have_ended, needs_have_ended, run_result};
-    ghost use Rattle.board_decisions.specs.Place.{JobAt, job_at, leg_place};
+    ghost use Rattle.board_places.specs.Place.{JobAt, job_at, leg_place};
     ghost use Rattle.flow_model.specs.declared.board.Board.{Board};
     ghost use Rattle.flow_model.specs.declared.board.Job.{Job};
     ghost use Rattle.flow_model.specs.declared.board.Leg.{Leg as LegOf};

@@ -10,7 +10,7 @@ use crate::counted::job_of;
 use crate::need::{Need, needs_of, recount};
 use crate::standing::{JobStanding, RunTally, no_standing, run_moved, standing_by, tally_run};
 use crate::tally::{Tally, are_alike, moved, tally_of};
-use board_decisions::place::{JobPlace, LegPlace};
+use board_places::place::{JobPlace, LegPlace};
 use flow_model::{Board, Job, LegState, Run, RunPlan, Sequence};
 use std::alloc::{AllocError, Global};
 

@@ -1,11 +1,11 @@
 //! Which legs have a done step that counts as a failure, so that no step is looked at again.
 
 ghost use Rattle.std.specs.Prelude.{◌≡◌, IfOk, map};
-ghost use Rattle.board_decisions.specs.Numbered.{leg_there};
+ghost use Rattle.board_places.specs.Numbered.{leg_there};
 ghost use Rattle.flat_counters.specs.Failing as spec;
 
 use board_decisions::derived::is_any_step_failed;
-use board_decisions::place::{LegPlace, leg_there};
+use board_places::place::{LegPlace, leg_there};
 use flow_model::{Board, Job, Leg, Run, Sequence};
 use std::alloc::{AllocError, Global};
 

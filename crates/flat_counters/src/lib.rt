@@ -2,7 +2,7 @@
 //!
 //! Beside the board `Counted` keeps, for each job, how its legs stand (`tally`) and how many of the jobs that it
 //! needs are open (`need`), for each run how its jobs stand (`standing`), for each leg whether a done step failed
-//! (`failing`), and the `places` of the legs by their numbers. Each of its changes (`change`) keeps these, and gives
+//! (`failing`), and the places of the legs by their numbers. Each of its changes (`change`) keeps these, and gives
 //! what takes it back (`undo`). `Tracked` keeps what takes back the changes since it last began,
 //! so that a caller of several changes says nothing of each: after any of them it still leads back to the same
 //! board.
@@ -17,7 +17,6 @@ pub mod counted;
 mod counts;
 mod failing;
 mod need;
-mod places;
 mod standing;
 pub mod tally;
 pub mod tracked;

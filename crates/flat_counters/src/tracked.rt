@@ -9,7 +9,7 @@ ghost use Rattle.status_table.specs.Row as row;
 use crate::change::{LegChange, RunChange};
 use crate::counted::Counted;
 use crate::undo::Change;
-use board_decisions::place::{JobPlace, LegPlace};
+use board_places::place::{JobPlace, LegPlace};
 use flow_model::{CheckedPlan, DoneStep, JobState};
 use std::alloc::{AllocError, Global};
 use std::marker::Model;

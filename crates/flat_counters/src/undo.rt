@@ -3,7 +3,7 @@
 ghost use Rattle.flat_counters.specs.Names.{Names, leg_group, run_group};
 
 use crate::change::{LegChange, RunChange};
-use board_decisions::place::{JobPlace, LegPlace};
+use board_places::place::{JobPlace, LegPlace};
 use flow_model::{JobState, LegState};
 
 /// What puts the leg at a place back.

@@ -4,7 +4,7 @@ use Rattle.std.specs.Cmp.Lexicographic.{slice_cmp}
 use Rattle.std.specs.Ordering.{nat_cmp, is_eq, match_ordering}
 use Rattle.board_decisions.specs.declared.entrance.Entrance.{Entrance}
 use Rattle.board_decisions.specs.Decisions.{run_entrance, leg_entrance}
-use Rattle.board_decisions.specs.Place.{RunAt, LegAt, run_at, leg_at}
+use Rattle.board_places.specs.Place.{RunAt, LegAt, run_at, leg_at}
 use Rattle.expr_reader.specs.Fold.{fold}
 use Rattle.flat_board.specs.Index.{AsksNamed}
 use Rattle.flat_board.proofs.Named.{run_asks, leg_asks}

@@ -2,8 +2,8 @@
 use Rattle.std.proofs.Common.{◌≡◌, ◌-◌, ℕ, zero, suc, ◌∷◌, Option, Some, None, List, [], map, refl, sym, ap, ◌∙◌}
 use Rattle.std.specs.List.{filter_map, slice_get}
 use Rattle.board_decisions.specs.Contexts.{first_number, job_beside, need_pair, need_value, needed_job, needs_value, with_needs}
-use Rattle.board_decisions.specs.Place.{◌>>=◌, JobAt}
-use Rattle.board_decisions.specs.declared.place.JobPlace.{JobPlace}
+use Rattle.board_places.specs.Place.{◌>>=◌, JobAt}
+use Rattle.board_places.specs.declared.place.JobPlace.{JobPlace}
 use Rattle.play_laws.specs.Contexts.{IsNeeded, NeedsAreDirect}
 use Rattle.play_laws.specs.Pairs.{IsIn}
 use Rattle.flow_model.specs.Mapping.{value_at}

@@ -2,7 +2,7 @@
 use Rattle.std.proofs.Common.{◌≡◌, ℕ, zero, suc, Option, Some, None, List, [], ◌∷◌, refl, sym, ap, ◌∙◌}
 use Rattle.std.specs.List.{filter_map, slice_get, zip}
 use Rattle.board_decisions.specs.Contexts.{done_value, id_pair, step_pair, steps_value}
-use Rattle.board_decisions.specs.Place.{LegAt}
+use Rattle.board_places.specs.Place.{LegAt}
 use Rattle.play_laws.specs.Contexts.{IsDone, StepsAreDone, done_pairs}
 use Rattle.play_laws.specs.Pairs.{IsIn}
 use Rattle.flow_model.specs.Mapping.{value_at}

@@ -2,8 +2,8 @@
 use Rattle.std.specs.Prelude.{◌≡◌, ◌↔◌, ℕ, List, [], map, Some, slice_get}
 use Rattle.std.specs.List.{AllByRecursion, zip, filter_map}
 use Rattle.board_decisions.specs.Contexts.{done_value, ended_legs, job_outputs, need_value, needed_job, needs_value, object, step_pair, steps_value, with_needs}
-use Rattle.board_decisions.specs.Place.{JobAt, LegAt}
-use Rattle.board_decisions.specs.declared.place.JobPlace.{JobPlace}
+use Rattle.board_places.specs.Place.{JobAt, LegAt}
+use Rattle.board_places.specs.declared.place.JobPlace.{JobPlace}
 use Rattle.flow_model.specs.Mapping.{value_at, Ascends}
 use Rattle.flow_model.specs.Plain.{Plain}
 use Rattle.flow_model.specs.Sound.{HaveDistinctNames}

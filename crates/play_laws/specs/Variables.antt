@@ -1,7 +1,7 @@
 -- The variables of calls, by what the steps of a leg that are done set for those after them.
 use Rattle.std.specs.Prelude.{◌≡◌, ℕ, List, [], Some}
 use Rattle.board_decisions.specs.Decisions.{job_env, leg_env}
-use Rattle.board_decisions.specs.Place.{LegAt, leg_at}
+use Rattle.board_places.specs.Place.{LegAt, leg_at}
 use Rattle.flow_model.specs.Sound.{Each}
 use Rattle.flow_model.specs.declared.board.Board.{Board}
 use Rattle.flow_model.specs.declared.board.DoneStep.{DoneStep}

@@ -1,7 +1,7 @@
 -- The moments of each row ascend, and lie within the record.
 use Rattle.std.proofs.Common.{◌≡◌, ◌==◌, ◌<◌, ◌≤◌, ◌+◌, ◌++◌, ℕ, zero, suc, Bool, true, false, if◌then◌else◌, List, [], ◌∷◌, length, Option, Some, None, Ok, Err, slice_get, refl, sym, subst, ap, arith}
 use Rattle.std.specs.List.{flat_map}
-use Rattle.board_decisions.specs.Place.{JobAt, LegAt, job_at, leg_at}
+use Rattle.board_places.specs.Place.{JobAt, LegAt, job_at, leg_at}
 use Rattle.flow_model.specs.declared.board.Board.{Board}
 use Rattle.flow_model.specs.declared.board.Run.{Run}
 use Rattle.flow_model.specs.declared.event.Entry.{Entry}

@@ -3,7 +3,7 @@
 use Rattle.std.specs.Prelude.{ℕ, ◌&&◌, Bool, if◌then◌else◌, List, length, Option, Some, None, slice_get}
 use Rattle.std.specs.List.{flat_map}
 use Rattle.board_decisions.specs.Derived.{is_ended}
-use Rattle.board_decisions.specs.Place.{JobAt, LegAt, job_at, leg_at}
+use Rattle.board_places.specs.Place.{JobAt, LegAt, job_at, leg_at}
 use Rattle.flow_model.specs.declared.board.Board.{Board}
 use Rattle.flow_model.specs.declared.board.Run.{Run}
 use Rattle.flow_model.specs.declared.event.Event.{Event}

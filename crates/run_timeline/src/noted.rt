@@ -9,7 +9,7 @@ ghost use Rattle.run_timeline.specs.Phases as phases;
 use crate::phase::{is_over, job_phase, leg_phase, run_phase};
 use crate::row::{Row, add_rows, displace, see, tell};
 use board_decisions::derived::is_ended;
-use board_decisions::place::{find_job, find_leg};
+use board_places::place::{find_job, find_leg};
 use flow_model::{Board, Event, Job, JobPlan, Leg, Member, Plan, Reply, RunPlan, Sequence};
 use std::alloc::{AllocError, Global};
 

@@ -4,7 +4,7 @@ use Rattle.std.specs.List.{list_any, AllZip}
 use Rattle.std.proofs.lemmas.Bool.{true≢false}
 use Rattle.board_decisions.specs.Contexts.{overlaid, job_outputs}
 use Rattle.board_decisions.specs.Derived.{is_failure, is_cancelled, is_open, is_fresh, is_ended, has_failed, was_cancelled, result_by, job_result}
-use Rattle.board_decisions.specs.declared.place.JobPlace.{JobPlace}
+use Rattle.board_places.specs.declared.place.JobPlace.{JobPlace}
 use Rattle.flow_model.specs.declared.board.Board.{Board}
 use Rattle.flow_model.specs.declared.board.Job.{Job}
 use Rattle.flow_model.specs.declared.board.JobState.{JobState}

@@ -4,7 +4,7 @@ use Rattle.std.specs.List.{AllZip}
 use Rattle.board_decisions.specs.Contexts.{needs_value}
 use Rattle.board_decisions.specs.Decisions.{job_condition}
 use Rattle.board_decisions.specs.Derived.{job_status, ancestors_status, job_results}
-use Rattle.board_decisions.specs.Place.{JobAt}
+use Rattle.board_places.specs.Place.{JobAt}
 use Rattle.expr_value.specs.declared.status.Status.{Status}
 use Rattle.expr_value.specs.declared.status.Status.TheVariants as status
 use Rattle.flow_model.specs.Plain.{Plain}

@@ -6,7 +6,7 @@ use Rattle.std.proofs.lemmas.List.{length-take-le, length-map}
 use Rattle.std.proofs.lemmas.Option.{slice_get-map, slice_get_within}
 use Rattle.board_decisions.specs.Contexts.{object, needed_job, need_pair, needs_value, job_outputs}
 use Rattle.board_decisions.specs.Derived.{is_success, is_failure, holds, holds_at, places_needed, some_ancestor, any_ancestor, status_by, ancestors_status, job_result, job_results}
-use Rattle.board_decisions.specs.Place.{JobAt}
+use Rattle.board_places.specs.Place.{JobAt}
 use Rattle.flow_model.specs.Plain.{Plain}
 use Rattle.flow_model.specs.declared.board.Board.{Board}
 use Rattle.flow_model.specs.declared.board.Job.{Job}
@@ -20,7 +20,7 @@ use Rattle.text_values.specs.Env.{laid_over}
 use Rattle.settled_boards.proofs.Comes.{JobComes}
 use Rattle.settled_plans.proofs.Lists.{get-take, all-by, any-where, any-map, map-filter_map, filter_map-where}
 use Rattle.settled_plans.proofs.Needs.{IsOrdered}
-use Rattle.status_table.proofs.Lists.{same_some}
+use Rattle.board_places.proofs.Lists.{same_some}
 
 -- a job that comes to what is settled, at its place
 pub record ComesAt (b : Board) (r : ℕ) (plan : RunPlan) (run : Run) (all : List SettledJob) (i : ℕ) : Type 0 where

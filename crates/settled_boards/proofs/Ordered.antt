@@ -7,10 +7,10 @@ use Rattle.std.proofs.lemmas.List.Elements.{filter-append}
 use Rattle.std.proofs.lemmas.Option.{slice_get_within}
 use Rattle.board_decisions.specs.Contexts.{leg_of_job, job_leg, overlaid, job_outputs}
 use Rattle.board_decisions.specs.Derived.{holds, is_ended}
-use Rattle.board_decisions.specs.Numbered.{leg_there, numbered_leg}
-use Rattle.board_decisions.specs.Place.{◌>>=◌, leg_place}
-use Rattle.board_decisions.specs.declared.place.JobPlace.{JobPlace}
-use Rattle.board_decisions.specs.declared.place.LegPlace.{LegPlace}
+use Rattle.board_places.specs.Numbered.{leg_there, numbered_leg}
+use Rattle.board_places.specs.Place.{◌>>=◌, leg_place}
+use Rattle.board_places.specs.declared.place.JobPlace.{JobPlace}
+use Rattle.board_places.specs.declared.place.LegPlace.{LegPlace}
 use Rattle.flow_model.specs.Numbers.{board_legs}
 use Rattle.flow_model.specs.declared.board.Board.{Board}
 use Rattle.flow_model.specs.declared.board.Job.{Job}
@@ -22,7 +22,7 @@ use Rattle.settled_boards.specs.Quiet.{numbers, has_ended_at, ended_in_order, qu
 use Rattle.settled_plans.proofs.Numbers.{before_run, before_job, leg_spot, number_at, place_at}
 use Rattle.settled_plans.proofs.Outputs.{IsOfJob, is_of_job}
 use Rattle.status_table.specs.Shape.{HasShape}
-use Rattle.status_table.proofs.Lists.{same_some, no_some}
+use Rattle.board_places.proofs.Lists.{same_some, no_some}
 use Rattle.status_table.proofs.Numbers.{legs_are_numbered}
 
 -- ---- numbers in their order

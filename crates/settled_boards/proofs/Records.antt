@@ -2,7 +2,7 @@
 use Rattle.std.proofs.Common.{◌≡◌, ◌↔◌, ℕ, zero, suc, ◌==◌, ◌&&◌, Bool, true, false, List, [], ◌∷◌, Option, Some, None, IsTrue, slice_get, if◌then◌else◌, subst, ap, refl, sym, ◌∙◌, arith}
 use Rattle.std.proofs.lemmas.Bool.{true≢false}
 use Rattle.std.proofs.lemmas.Bool.Decides.{nat_tests}
-use Rattle.board_decisions.proofs.Lists.{and-left, and-right, and-both}
+use Rattle.board_places.proofs.Lists.{and-left, and-right, and-both}
 use Rattle.flow_model.specs.declared.event.Answer.{Answer}
 use Rattle.flow_model.specs.declared.board.Board.{Board}
 use Rattle.flow_model.specs.declared.event.Entry.{Entry}
@@ -16,7 +16,7 @@ use Rattle.status_table.specs.Play.{Play}
 use Rattle.status_table.specs.Runs.{StopsAt, after, after_from, new_play}
 use Rattle.status_table.specs.declared.fault.EventFault.{EventFault}
 use Rattle.step_host.specs.Replay.{IsRecorded, IsRefusedAt, recorded}
-use Rattle.status_table.proofs.Lists.{same_some, no_some}
+use Rattle.board_places.proofs.Lists.{same_some, no_some}
 use Rattle.step_host.specs.Script.{Line, IsListed}
 
 -- what is given is listed

@@ -6,8 +6,8 @@ use Rattle.std.proofs.lemmas.List.{length-append}
 use Rattle.std.proofs.lemmas.Option.{slice_get_within}
 use Rattle.board_decisions.specs.Ancestors.{StandsAfterNeeds}
 use Rattle.board_decisions.specs.Derived.{is_failure, is_cancelled, job_result, job_results, is_any_job_failed, is_any_job_cancelled, run_result}
-use Rattle.board_decisions.specs.Place.{◌>>=◌, RunAt, JobAt, job_in_run, run_at}
-use Rattle.board_decisions.specs.declared.place.JobPlace.{JobPlace}
+use Rattle.board_places.specs.Place.{◌>>=◌, RunAt, JobAt, job_in_run, run_at}
+use Rattle.board_places.specs.declared.place.JobPlace.{JobPlace}
 use Rattle.flow_model.specs.Laws.{NeedsPointBack}
 use Rattle.flow_model.specs.Numbers.{first_job}
 use Rattle.flow_model.specs.Sound.{Each}
@@ -30,14 +30,15 @@ use Rattle.settled_plans.specs.Agrees.{JobIsSettled, RunIsSettled}
 use Rattle.settled_plans.specs.Settled.{Answers, SettledJob, SettledRun, all_given, worst, result_of, jobs_come_to, job_settled, run_after, run_settled, leg_count, runs_from}
 use Rattle.status_table.specs.Lawful.{JobFits, RunFits}
 use Rattle.status_table.specs.Shape.{JobShape, RunShape}
-use Rattle.board_decisions.proofs.Lists.{and-both}
+use Rattle.board_places.proofs.Lists.{and-both}
 use Rattle.settled_plans.proofs.InPlay.{is_ordered}
 use Rattle.settled_plans.proofs.Lists.{get-take, any-map}
 use Rattle.settled_plans.proofs.Needs.{IsOrdered}
 use Rattle.settled_plans.proofs.Numbers.{before_job}
 use Rattle.settled_plans.proofs.Played.{jobs_of, jobs_size, job_item}
 use Rattle.status_table.proofs.Counts.{zip-left}
-use Rattle.status_table.proofs.Lists.{same_some, no_some, bind-some, zip-get, zip-length, zip-append}
+use Rattle.status_table.proofs.Lists.{bind-some, zip-get, zip-length, zip-append}
+use Rattle.board_places.proofs.Lists.{same_some, no_some}
 use Rattle.status_table.proofs.Standings.{drop_at}
 
 -- ---- lists

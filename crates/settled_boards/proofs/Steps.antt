@@ -5,7 +5,7 @@ use Rattle.std.proofs.lemmas.Bool.Decides.{nat_tests}
 use Rattle.board_decisions.specs.Contexts.{needs_value}
 use Rattle.board_decisions.specs.Decisions.{is_true, job_condition, is_stopping, leg_result, step_decision, job_tolerates, leg_outputs}
 use Rattle.board_decisions.specs.Derived.{is_failure, has_failed}
-use Rattle.board_decisions.specs.Place.{JobAt, LegAt}
+use Rattle.board_places.specs.Place.{JobAt, LegAt}
 use Rattle.expr_value.specs.declared.status.Status.TheVariants as status
 use Rattle.flow_model.specs.declared.board.DoneStep.{DoneStep}
 use Rattle.flow_model.specs.declared.board.Leg.{Leg}
@@ -24,7 +24,7 @@ use Rattle.settled_plans.specs.Settled.{Answers, Finish, SettledLeg, counts, con
 use Rattle.status_table.specs.Row.{next_step, failure_of, conclusion_of, failed_step, answered_step, outcome_of, outputs_of, set_by}
 use Rattle.text_values.specs.Values.{Env}
 use Rattle.settled_plans.proofs.Seen.{spot_of, call_is, failure_is, tolerated_is, outputs_are}
-use Rattle.status_table.proofs.Lists.{same_some, no_some}
+use Rattle.board_places.proofs.Lists.{same_some, no_some}
 use Rattle.status_table.proofs.Standings.{drop_at}
 
 -- ---- a leg that is alone

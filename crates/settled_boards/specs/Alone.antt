@@ -4,7 +4,7 @@ use Rattle.std.specs.List.{AllZip}
 use Rattle.board_decisions.specs.Contexts.{needs_value}
 use Rattle.board_decisions.specs.Decisions.{leg_result, step_decision, job_tolerates, leg_outputs}
 use Rattle.board_decisions.specs.Derived.{is_failure, job_results, ancestors_status}
-use Rattle.board_decisions.specs.Place.{JobAt, LegAt}
+use Rattle.board_places.specs.Place.{JobAt, LegAt}
 use Rattle.flow_model.specs.declared.board.DoneStep.{DoneStep}
 use Rattle.flow_model.specs.declared.board.Job.{Job}
 use Rattle.flow_model.specs.declared.board.JobState.TheVariants as job_state

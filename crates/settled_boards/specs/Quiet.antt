@@ -2,7 +2,7 @@
 use Rattle.std.specs.Prelude.{ℕ, zero, suc, Bool, false, List, [], ◌∷◌, length, option_map}
 use Rattle.std.specs.List.{filter}
 use Rattle.board_decisions.specs.Derived.{holds, is_ended}
-use Rattle.board_decisions.specs.Numbered.{numbered_leg}
+use Rattle.board_places.specs.Numbered.{numbered_leg}
 use Rattle.flow_model.specs.Numbers.{board_legs}
 use Rattle.flow_model.specs.declared.board.Board.{Board}
 use Rattle.flow_model.specs.declared.board.Run.{Run}

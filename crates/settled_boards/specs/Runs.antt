@@ -1,6 +1,6 @@
 -- Runs on a board on which nothing is told to stop, and that are held against what is settled.
 use Rattle.std.specs.Prelude.{◌≡◌, ℕ, ◌+◌, false, Option, Some, None, slice_get}
-use Rattle.board_decisions.specs.Place.{RunAt}
+use Rattle.board_places.specs.Place.{RunAt}
 use Rattle.flow_model.specs.Rules.{IsPlan}
 use Rattle.flow_model.specs.Sound.{Each}
 use Rattle.flow_model.specs.declared.board.Board.{Board}

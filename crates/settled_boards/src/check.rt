@@ -9,7 +9,7 @@ ghost use Rattle.status_table.specs.InPlay.{InPlay};
 
 use crate::quiet::quiet_board;
 use crate::run::is_run_settled;
-use board_decisions::place::find_run;
+use board_places::place::find_run;
 use flow_model::laws::rules_hold;
 use flow_model::{Board, CheckedPlan, Plan};
 use std::alloc::{AllocError, Global};

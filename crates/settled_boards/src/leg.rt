@@ -1,7 +1,7 @@
 //! A leg that is played by itself, and held against one on a board.
 
 ghost use Rattle.std.specs.Prelude.{◌≡◌, ◌↔◌, [], IfOk, IsTrue, Some, option_map};
-ghost use Rattle.board_decisions.specs.Seen.{job_seen, leg_seen};
+ghost use Rattle.board_places.specs.Seen.{job_seen, leg_seen};
 ghost use Rattle.flow_model.specs.declared.plan.StepPlan.{StepPlan as StepPlanOf};
 ghost use Rattle.settled_boards.specs.Alone as spec;
 ghost use Rattle.settled_boards.specs.Alone.{ByAnswers, IsAlone, IsIdle};
@@ -12,7 +12,7 @@ ghost use Rattle.status_table.specs.Row.{answered_step, next_step, outcome_of};
 use crate::same::{are_same_steps, is_ended_so};
 use board_decisions::decisions::{job_tolerates, leg_outputs, leg_result};
 use board_decisions::derived::is_failure;
-use board_decisions::place::{LegPlace, SeenJob, SeenLeg};
+use board_places::place::{LegPlace, SeenJob, SeenLeg};
 use flow_model::{Answer, DoneStep, Leg, LegState, Mapping, Outcome, Sequence, StepCall};
 use locked_board::same::is_same_mapping;
 use status_table::events::{Begun, beginning, ended_step, failed_step, skipped_step};

@@ -5,7 +5,7 @@ ghost use Rattle.std.specs.List.{filter};
 ghost use Rattle.flow_model.specs.Numbers.{board_legs};
 ghost use Rattle.settled_boards.specs.Quiet as spec;
 
-use board_decisions::place::numbered_leg;
+use board_places::place::numbered_leg;
 use flow_model::{Board, Duplicate, LegState, Run, Sequence};
 use status_table::moves::count_legs;
 use std::alloc::{AllocError, Global};

@@ -1,8 +1,8 @@
 //! A run that is held against what is settled.
 
 ghost use Rattle.std.specs.Prelude.{◌≡◌, ◌↔◌, IfOk, IsTrue, option_map};
-ghost use Rattle.board_decisions.specs.Place.{job_in_run};
-ghost use Rattle.board_decisions.specs.Seen.{job_seen, run_seen};
+ghost use Rattle.board_places.specs.Place.{job_in_run};
+ghost use Rattle.board_places.specs.Seen.{job_seen, run_seen};
 ghost use Rattle.settled_boards.specs.Alone.{ByAnswers};
 ghost use Rattle.settled_boards.specs.Runs as spec;
 ghost use Rattle.settled_plans.specs.Settled.{run_settled};
@@ -10,7 +10,7 @@ ghost use Rattle.settled_plans.specs.Settled.{run_settled};
 use crate::job::is_job_settled;
 use crate::same::is_same_outcome;
 use board_decisions::derived::run_result;
-use board_decisions::place::{JobPlace, SeenJob, SeenRun, item_at};
+use board_places::place::{JobPlace, SeenJob, SeenRun, item_at};
 use flow_model::laws::needs_point_back;
 use flow_model::{Outcome, RunState};
 use std::alloc::{AllocError, Global};

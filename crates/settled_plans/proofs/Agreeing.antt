@@ -38,7 +38,8 @@ use Rattle.status_table.specs.Shape.{JobShape, RunShape}
 use Rattle.status_table.proofs.Counts.{zip-left}
 use Rattle.status_table.proofs.Lawfulness.{new_lawful}
 use Rattle.status_table.proofs.Legal.{new_fits}
-use Rattle.status_table.proofs.Lists.{same_some, no_some, zip-length, all-get}
+use Rattle.status_table.proofs.Lists.{zip-length, all-get}
+use Rattle.board_places.proofs.Lists.{same_some, no_some}
 use Rattle.settled_plans.proofs.Ends.{leg_is}
 use Rattle.settled_plans.proofs.InPlay.{Stands}
 use Rattle.settled_plans.proofs.Kept.{after_stands}

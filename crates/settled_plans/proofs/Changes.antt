@@ -3,8 +3,8 @@ use Rattle.std.proofs.Common.{◌≡◌, ◌≢◌, ℕ, ◌+◌, ◌-◌, true,
 use Rattle.std.proofs.lemmas.Bool.{true≢false}
 use Rattle.std.proofs.lemmas.Option.{slice_get_within}
 use Rattle.board_decisions.specs.Derived.{is_closed, is_open, needs_have_ended}
-use Rattle.board_decisions.specs.Place.{leg_place}
-use Rattle.board_decisions.specs.declared.place.LegPlace.{LegPlace}
+use Rattle.board_places.specs.Place.{leg_place}
+use Rattle.board_places.specs.declared.place.LegPlace.{LegPlace}
 use Rattle.flow_model.specs.declared.board.Board.{Board}
 use Rattle.flow_model.specs.declared.board.Job.{Job}
 use Rattle.flow_model.specs.declared.board.Leg.{Leg}
@@ -20,7 +20,8 @@ use Rattle.status_table.specs.Change.{changed, with_leg}
 use Rattle.status_table.specs.Shape.{HasShape}
 use Rattle.status_table.specs.Stays.{RunStays, Stays}
 use Rattle.status_table.proofs.Ended.{needs-later}
-use Rattle.status_table.proofs.Lists.{same_some, changed-there, zip-get}
+use Rattle.status_table.proofs.Lists.{changed-there, zip-get}
+use Rattle.board_places.proofs.Lists.{same_some}
 use Rattle.settled_plans.proofs.Lists.{each-changed}
 use Rattle.settled_plans.proofs.Numbers.{before_run, before_job, leg_spot, place_at}
 use Rattle.settled_plans.proofs.Played.{fresh_leg, is_judged, LegPlayed, JobPlayed, JobOver, jobs_of, RunPlayed, Played}

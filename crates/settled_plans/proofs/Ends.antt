@@ -5,7 +5,7 @@ use Rattle.std.proofs.lemmas.Bool.{true≢false}
 use Rattle.std.proofs.lemmas.Bool.Decides.{nat_tests}
 use Rattle.board_decisions.specs.Contexts.{overlaid, job_outputs}
 use Rattle.board_decisions.specs.Derived.{is_failure, is_cancelled, is_closed, is_open, is_shut, is_ended, has_failed, was_cancelled, leg_has_ended, job_has_ended, result_by, job_result}
-use Rattle.board_decisions.specs.declared.place.JobPlace.{JobPlace}
+use Rattle.board_places.specs.declared.place.JobPlace.{JobPlace}
 use Rattle.flow_model.specs.Plain.{Plain}
 use Rattle.flow_model.specs.declared.board.Board.{Board}
 use Rattle.flow_model.specs.declared.board.DoneStep.{DoneStep}

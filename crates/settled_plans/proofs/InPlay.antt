@@ -5,9 +5,9 @@ use Rattle.std.proofs.lemmas.Bool.{true≢false, le-leb}
 use Rattle.board_decisions.specs.Contexts.{job_of, needs_value}
 use Rattle.board_decisions.specs.Decisions.{is_true, job_condition, is_stopping, leg_result}
 use Rattle.board_decisions.specs.Derived.{is_closed, is_open, is_ended, is_failure, has_failed}
-use Rattle.board_decisions.specs.Place.{◌>>=◌, RunAt, JobAt, LegAt, run_at, job_placed, job_at, leg_at, job_place, leg_place}
-use Rattle.board_decisions.specs.declared.place.JobPlace.{JobPlace}
-use Rattle.board_decisions.specs.declared.place.LegPlace.{LegPlace}
+use Rattle.board_places.specs.Place.{◌>>=◌, RunAt, JobAt, LegAt, run_at, job_placed, job_at, leg_at, job_place, leg_place}
+use Rattle.board_places.specs.declared.place.JobPlace.{JobPlace}
+use Rattle.board_places.specs.declared.place.LegPlace.{LegPlace}
 use Rattle.expr_value.specs.declared.status.Status.TheVariants as status
 use Rattle.flow_model.specs.Laws.{NeedsPointBack}
 use Rattle.flow_model.specs.Numbers.{first_job}
@@ -31,9 +31,10 @@ use Rattle.settled_plans.specs.Sees.{Spot}
 use Rattle.settled_plans.specs.Settled.{Answers, SettledJob, counts, spot_at, needs_of}
 use Rattle.status_table.specs.Lawful.{RunFits, Lawful}
 use Rattle.status_table.specs.Shape.{JobShape, RunShape}
-use Rattle.board_decisions.proofs.Lists.{and-both}
+use Rattle.board_places.proofs.Lists.{and-both}
 use Rattle.status_table.proofs.Found.{LegStands, leg_stands}
-use Rattle.status_table.proofs.Lists.{same_some, no_some, bind-some, zip-get}
+use Rattle.status_table.proofs.Lists.{bind-some, zip-get}
+use Rattle.board_places.proofs.Lists.{same_some, no_some}
 use Rattle.status_table.proofs.Steps.{Live, going-unclosed}
 use Rattle.status_table.proofs.Turns.{Fits}
 use Rattle.settled_plans.proofs.Needs.{IsOrdered, RunSeen, needs_same}

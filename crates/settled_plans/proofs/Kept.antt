@@ -1,6 +1,6 @@
 -- Each list of entries leads to a board that is played as settled.
 use Rattle.std.proofs.Common.{◌≡◌, ℕ, suc, List, [], ◌∷◌, Option, Some, None, Ok, Err, take, slice_get, nat_le, subst, refl}
-use Rattle.board_decisions.specs.Place.{RunAt, JobAt, LegAt, run_at, job_at, leg_at}
+use Rattle.board_places.specs.Place.{RunAt, JobAt, LegAt, run_at, job_at, leg_at}
 use Rattle.flow_model.specs.declared.board.Board.{Board}
 use Rattle.flow_model.specs.declared.event.Entry.{Entry}
 use Rattle.flow_model.specs.declared.event.Event.{Event}
@@ -16,7 +16,7 @@ use Rattle.status_table.specs.Row as rows
 use Rattle.status_table.specs.Runs.{then_after, after_from}
 use Rattle.status_table.proofs.Entering.{Leads}
 use Rattle.status_table.proofs.Keeps.{Keeps, row_keeps}
-use Rattle.status_table.proofs.Lists.{same_some, no_some}
+use Rattle.board_places.proofs.Lists.{same_some, no_some}
 use Rattle.status_table.proofs.Rows.{row_leads}
 use Rattle.settled_plans.proofs.InPlay.{Stands, IsFit}
 use Rattle.settled_plans.proofs.LegEvents.{Goes, goes-if, ask_goes, drop_goes, take_goes, begin_goes, end_goes, finish_goes}

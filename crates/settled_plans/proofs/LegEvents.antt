@@ -6,7 +6,7 @@ use Rattle.std.proofs.lemmas.List.{length-append}
 use Rattle.board_decisions.specs.declared.entrance.Entrance.{Entrance}
 use Rattle.board_decisions.specs.Decisions.{is_stopping, leg_result, step_decision, leg_outputs, leg_entrance, job_tolerates}
 use Rattle.board_decisions.specs.Derived.{is_going, is_closed, is_open, is_fresh, is_untaken, is_ended, is_failure, is_full, is_under_way}
-use Rattle.board_decisions.specs.Place.{LegAt, leg_at}
+use Rattle.board_places.specs.Place.{LegAt, leg_at}
 use Rattle.flow_model.specs.Answer.{is_well_formed}
 use Rattle.flow_model.specs.declared.board.Board.{Board}
 use Rattle.flow_model.specs.declared.board.DoneStep.{DoneStep}
@@ -41,10 +41,11 @@ use Rattle.status_table.specs.Row as rows
 use Rattle.status_table.specs.Shape.{has_room, open_calls, JobShape, RunShape}
 use Rattle.status_table.specs.Stays.{Stays}
 use Rattle.text_values.specs.Values.{Env}
-use Rattle.board_decisions.proofs.Lists.{and-left, and-right}
+use Rattle.board_places.proofs.Lists.{and-left, and-right}
 use Rattle.status_table.proofs.Found.{LegStands}
 use Rattle.status_table.proofs.LegRows.{holding-live, idle-holds}
-use Rattle.status_table.proofs.Lists.{same_some, no_some, all-get, zip-get}
+use Rattle.status_table.proofs.Lists.{all-get, zip-get}
+use Rattle.board_places.proofs.Lists.{same_some, no_some}
 use Rattle.status_table.proofs.Steps.{Live, going-unclosed}
 use Rattle.status_table.proofs.Turnover.{numbered}
 use Rattle.settled_plans.proofs.Changes.{leg_put}

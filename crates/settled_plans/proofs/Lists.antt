@@ -4,9 +4,10 @@ use Rattle.std.specs.List.{list_all, list_any, filter_map, cons_option, AllZip}
 use Rattle.std.proofs.lemmas.Bool.{cases_eq}
 use Rattle.std.proofs.lemmas.Bool.Decides.{nat_tests}
 use Rattle.std.proofs.lemmas.List.Sums.{sum_by-cons}
-use Rattle.board_decisions.proofs.Lists.{and-left, and-right, and-both}
+use Rattle.board_places.proofs.Lists.{and-left, and-right, and-both}
 use Rattle.status_table.specs.Change.{put, changed}
-use Rattle.status_table.proofs.Lists.{same_some, no_some, changed-there, changed-elsewhere}
+use Rattle.status_table.proofs.Lists.{changed-there, changed-elsewhere}
+use Rattle.board_places.proofs.Lists.{same_some, no_some}
 
 -- ---- a list with one item changed
 

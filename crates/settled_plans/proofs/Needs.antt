@@ -6,7 +6,7 @@ use Rattle.std.proofs.lemmas.List.{length-take-le, length-map}
 use Rattle.std.proofs.lemmas.Option.{slice_get-map, slice_get_within}
 use Rattle.board_decisions.specs.Contexts.{object, needed_job, need_pair, needs_value}
 use Rattle.board_decisions.specs.Derived.{is_success, is_failure, is_closed, holds, holds_at, places_needed, some_ancestor, any_ancestor, needs_have_ended, status_by, ancestors_status, job_has_ended, jobs_have_ended, job_result, job_results}
-use Rattle.board_decisions.specs.Place.{JobAt}
+use Rattle.board_places.specs.Place.{JobAt}
 use Rattle.flow_model.specs.Numbers.{first_job}
 use Rattle.flow_model.specs.Plain.{Plain}
 use Rattle.flow_model.specs.declared.board.Board.{Board}
@@ -23,9 +23,10 @@ use Rattle.status_table.specs.Ends.{EndOnce}
 use Rattle.status_table.specs.Lawful.{JobFits, RunFits}
 use Rattle.status_table.specs.Shape.{JobShape, RunShape, HasShape}
 use Rattle.text_values.specs.Env.{laid_over}
-use Rattle.board_decisions.proofs.Lists.{and-left, and-right, and-both}
+use Rattle.board_places.proofs.Lists.{and-left, and-right, and-both}
 use Rattle.status_table.proofs.Counts.{zip-left}
-use Rattle.status_table.proofs.Lists.{same_some, no_some, zip-get, zip-length, all-get}
+use Rattle.status_table.proofs.Lists.{zip-get, zip-length, all-get}
+use Rattle.board_places.proofs.Lists.{same_some, no_some}
 use Rattle.settled_plans.proofs.Ends.{JobEnded, job_ended, is_over}
 use Rattle.settled_plans.proofs.Lists.{get-take, all-by, any-where, any-map, map-filter_map, filter_map-where}
 use Rattle.settled_plans.proofs.Numbers.{before_run, before_job}

@@ -3,8 +3,8 @@ use Rattle.std.proofs.Common.{◌≡◌, ℕ, zero, suc, ◌+◌, ◌-◌, ◌<�
 use Rattle.std.specs.List.{flat_map, AllZip}
 use Rattle.std.proofs.lemmas.Bool.Decides.{nat_tests}
 use Rattle.std.proofs.lemmas.List.{length-append}
-use Rattle.board_decisions.specs.Place.{leg_in_jobs, leg_place, leg_place_from, else_from}
-use Rattle.board_decisions.specs.declared.place.LegPlace.{LegPlace}
+use Rattle.board_places.specs.Place.{leg_in_jobs, leg_place, leg_place_from, else_from}
+use Rattle.board_places.specs.declared.place.LegPlace.{LegPlace}
 use Rattle.flow_model.specs.declared.board.Board.{Board}
 use Rattle.flow_model.specs.declared.board.Job.{Job}
 use Rattle.flow_model.specs.declared.board.Run.{Run}
@@ -13,7 +13,7 @@ use Rattle.flow_model.specs.declared.plan.Plan.{Plan}
 use Rattle.flow_model.specs.declared.plan.RunPlan.{RunPlan}
 use Rattle.settled_plans.specs.Settled.{leg_count}
 use Rattle.status_table.specs.Shape.{JobShape, RunShape, HasShape}
-use Rattle.status_table.proofs.Lists.{same_some, no_some}
+use Rattle.board_places.proofs.Lists.{same_some, no_some}
 
 -- how many legs stand in the first jobs
 abbrev pub before_job : ℕ → List JobPlan → ℕ

@@ -4,10 +4,10 @@ use Rattle.std.specs.List.{filter_map, cons_option}
 use Rattle.std.proofs.lemmas.Bool.Decides.{nat_tests}
 use Rattle.board_decisions.specs.Contexts.{leg_of_job, job_leg, overlaid, job_outputs}
 use Rattle.board_decisions.specs.Derived.{is_ended}
-use Rattle.board_decisions.specs.Numbered.{leg_there}
-use Rattle.board_decisions.specs.Place.{◌>>=◌, leg_place}
-use Rattle.board_decisions.specs.declared.place.JobPlace.{JobPlace}
-use Rattle.board_decisions.specs.declared.place.LegPlace.{LegPlace}
+use Rattle.board_places.specs.Numbered.{leg_there}
+use Rattle.board_places.specs.Place.{◌>>=◌, leg_place}
+use Rattle.board_places.specs.declared.place.JobPlace.{JobPlace}
+use Rattle.board_places.specs.declared.place.LegPlace.{LegPlace}
 use Rattle.flow_model.specs.Numbers.{board_legs}
 use Rattle.flow_model.specs.declared.board.Board.{Board}
 use Rattle.flow_model.specs.declared.board.Job.{Job}
@@ -19,8 +19,9 @@ use Rattle.status_table.specs.Ends.{times_ended, EndOnce}
 use Rattle.status_table.specs.Shape.{HasShape}
 use Rattle.text_values.specs.Env.{laid_over}
 use Rattle.text_values.specs.Values.{Env}
-use Rattle.board_decisions.proofs.Lists.{and-left, and-right}
-use Rattle.status_table.proofs.Lists.{no_some, bind-some}
+use Rattle.board_places.proofs.Lists.{and-left, and-right}
+use Rattle.status_table.proofs.Lists.{bind-some}
+use Rattle.board_places.proofs.Lists.{no_some}
 use Rattle.status_table.proofs.Numbers.{legs_are_numbered}
 use Rattle.settled_plans.proofs.Lists.{once-given}
 use Rattle.settled_plans.proofs.Numbers.{before_run, before_job, leg_spot, number_at, place_at}

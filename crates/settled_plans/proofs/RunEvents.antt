@@ -6,7 +6,7 @@ use Rattle.board_decisions.specs.declared.entrance.Entrance.{Entrance}
 use Rattle.board_decisions.specs.Contexts.{needs_value}
 use Rattle.board_decisions.specs.Decisions.{job_condition, run_entrance}
 use Rattle.board_decisions.specs.Derived.{is_going, is_closed, is_open, is_failure, is_cancelled, job_status, ancestors_status, needs_have_ended, jobs_have_ended, job_result, job_results, is_any_job_failed, is_any_job_cancelled, run_result}
-use Rattle.board_decisions.specs.Place.{RunAt, JobAt, run_at, job_at}
+use Rattle.board_places.specs.Place.{RunAt, JobAt, run_at, job_at}
 use Rattle.expr_value.specs.declared.status.Status.TheVariants as status
 use Rattle.flow_model.specs.Plain.{Plain}
 use Rattle.flow_model.specs.declared.board.Board.{Board}
@@ -31,7 +31,7 @@ use Rattle.status_table.specs.Groups.{holding, run_stands, run_standing, closed,
 use Rattle.status_table.specs.Row.{Row}
 use Rattle.status_table.specs.Row as rows
 use Rattle.status_table.proofs.Found.{RunStands, JobStands, run_stands as run_found, job_stands as job_found}
-use Rattle.status_table.proofs.Lists.{same_some}
+use Rattle.board_places.proofs.Lists.{same_some}
 use Rattle.status_table.proofs.Sound.{is_numbered_in}
 use Rattle.status_table.proofs.Steps.{going-unclosed}
 use Rattle.settled_plans.proofs.Changes.{run_changes, job_put}

@@ -28,7 +28,8 @@ use Rattle.settled_plans.specs.Settled.{Answers, Finish, SettledLeg, SettledJob,
 use Rattle.status_table.specs.Shape.{JobShape, RunShape}
 use Rattle.text_values.specs.Values.{Env}
 use Rattle.status_table.proofs.Counts.{zip-left}
-use Rattle.status_table.proofs.Lists.{same_some, zip-length, all-get, zip-get}
+use Rattle.status_table.proofs.Lists.{zip-length, all-get, zip-get}
+use Rattle.board_places.proofs.Lists.{same_some}
 use Rattle.settled_plans.proofs.Agreeing.{closed-result, ends_so}
 use Rattle.settled_plans.proofs.Ends.{ended_as}
 use Rattle.settled_plans.proofs.InPlay.{Stands}

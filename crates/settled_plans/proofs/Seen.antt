@@ -3,7 +3,7 @@ use Rattle.std.proofs.Common.{◌≡◌, ℕ, ◌&&◌, Some, [], length, ap, re
 use Rattle.board_decisions.specs.Contexts.{run_values, job_values, needs_value, job_of, strategy_value, matrix_value, steps_value, leg_values_by}
 use Rattle.board_decisions.specs.Decisions.{job_condition, leg_result, leg_status, leg_values, seen_from, flow_env, job_env, leg_env, step_env, step_decision, step_tolerates, job_tolerates, leg_outputs, status_of}
 use Rattle.board_decisions.specs.Derived.{is_failure}
-use Rattle.board_decisions.specs.Place.{JobAt, LegAt}
+use Rattle.board_places.specs.Place.{JobAt, LegAt}
 use Rattle.expr_reader.specs.declared.tree.Context.{Context}
 use Rattle.expr_reader.specs.declared.tree.Context.TheVariants as context
 use Rattle.expr_value.specs.declared.status.Status.{Status}

@@ -7,7 +7,7 @@ use Rattle.std.specs.List.{flat_map, list_all, list_any, filter_map}
 use Rattle.board_decisions.specs.Contexts.{object, overlaid}
 use Rattle.board_decisions.specs.Decisions.{status_of}
 use Rattle.board_decisions.specs.Derived.{is_success, is_failure, is_cancelled, holds, holds_at, status_by, any_ancestor}
-use Rattle.board_decisions.specs.Place.{◌>>=◌}
+use Rattle.board_places.specs.Place.{◌>>=◌}
 use Rattle.expr_value.specs.declared.status.Status.{Status}
 use Rattle.flow_model.specs.Plain.{Plain}
 use Rattle.flow_model.specs.declared.board.DoneStep.{DoneStep}

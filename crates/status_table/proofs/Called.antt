@@ -3,7 +3,7 @@ use Rattle.std.proofs.Common.{◌≡◌, ℕ, suc, ◌==◌, Bool, true, false, 
 use Rattle.std.specs.List.Sorted.{IsStrictlySortedBy}
 use Rattle.board_decisions.specs.Decisions.{then_value, seen_from, flow_env, job_env, set_over, leg_env, step_env, directory_value, work_value, called_if, leg_status, step_decision}
 use Rattle.board_decisions.specs.Contexts.{overlaid}
-use Rattle.board_decisions.specs.Place.{LegAt, leg_at}
+use Rattle.board_places.specs.Place.{LegAt, leg_at}
 use Rattle.expr_value.specs.Context.{Contexts}
 use Rattle.flow_model.specs.Mapping.{value_at, Ascends}
 use Rattle.flow_model.specs.declared.board.Board.{Board}
@@ -26,7 +26,7 @@ use Rattle.text_values.specs.Values.{Env}
 use Rattle.text_values.specs.declared.place.Place.TheVariants as place
 use Rattle.status_table.proofs.Decided.{by_test}
 use Rattle.status_table.proofs.Found.{leg_stands}
-use Rattle.status_table.proofs.Lists.{same_some}
+use Rattle.board_places.proofs.Lists.{same_some}
 
 -- ---- answers that are made of others
 

@@ -3,7 +3,7 @@ use Rattle.std.proofs.Common.{◌≡◌, ℕ, ◌==◌, Bool, true, false, not, 
 use Rattle.std.specs.List.{list_any}
 use Rattle.board_decisions.specs.Decisions.{then_value, is_stopping, status_of, leg_status, seen_from, step_env, called_if, step_decision, step_tolerates}
 use Rattle.board_decisions.specs.Derived.{is_failure}
-use Rattle.board_decisions.specs.Place.{LegAt}
+use Rattle.board_places.specs.Place.{LegAt}
 use Rattle.expr_value.specs.Functions.{is_success}
 use Rattle.flow_model.specs.Answer.{is_well_formed}
 use Rattle.flow_model.specs.declared.board.Board.{Board}

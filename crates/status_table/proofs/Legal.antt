@@ -18,7 +18,8 @@ use Rattle.status_table.specs.Runs.{new_leg, new_job, new_run, new_board, then_a
 use Rattle.status_table.specs.Shape.{has_room, JobShape, RunShape}
 use Rattle.status_table.proofs.Keeps.{Keeps, row_keeps}
 use Rattle.status_table.proofs.Turns.{Fits}
-use Rattle.status_table.proofs.Lists.{same_some, no_some, flat_map-map, zip-map, all-map}
+use Rattle.status_table.proofs.Lists.{flat_map-map, zip-map, all-map}
+use Rattle.board_places.proofs.Lists.{same_some, no_some}
 
 -- ---- the board on which all is new
 

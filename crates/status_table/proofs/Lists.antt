@@ -3,15 +3,9 @@ use Rattle.std.proofs.Common.{◌≡◌, ◌≢◌, ℕ, zero, suc, ◌-◌, ◌
 use Rattle.std.specs.List.{flat_map, list_all, AllZip}
 use Rattle.std.proofs.lemmas.List.{map-append}
 use Rattle.std.proofs.lemmas.List.Concat.{flat_map-append}
-use Rattle.board_decisions.specs.Place.{◌>>=◌}
+use Rattle.board_places.specs.Place.{◌>>=◌}
 use Rattle.status_table.specs.Change.{put, changed}
-use Rattle.board_decisions.proofs.Lists.{and-left, and-right, and-both}
-
-pub same_some : {A : Type 0} (x y : A) → Some x ≡ Some y → x ≡ y
-same_some x y h = cc
-
-pub no_some : {A : Type 0} (x : A) → None ≡ Some x → ⊥
-no_some x h = cc
+use Rattle.board_places.proofs.Lists.{and-left, and-right, and-both, same_some, no_some}
 
 -- ---- an item changed
 
@@ -55,13 +49,6 @@ pub length-changed : {T : Type 0} (xs : List T) (i : ℕ) (f : T → T) → leng
 length-changed [] i f = refl
 length-changed (x ∷ xs) zero f = refl
 length-changed (x ∷ xs) (suc i) f = ap length (changed-cons x xs i f) ∙ ap suc (length-changed xs i f)
-
-pub get-right : {T : Type 0} (xs ys : List T) (n : ℕ) → length xs ≤ n → slice_get (xs ++ ys) n ≡ slice_get ys (n - length xs)
-get-right [] ys n h = let e : n - 0 ≡ n = omega arith in rw e refl
-get-right (x ∷ xs) ys zero h = absurd (omega (arith, h))
-get-right (x ∷ xs) ys (suc n) h =
-    let e : suc n - suc (length xs) ≡ n - length xs = omega arith in
-    rw e (get-right xs ys n (omega (arith, h)))
 
 pub changed-past : {T : Type 0} (xs : List T) (i : ℕ) (f : T → T) → length xs ≤ i → changed xs i f ≡ xs
 changed-past [] i f h = refl

@@ -1,7 +1,7 @@
 -- Entries whose reply nobody asks for.
 use Rattle.std.proofs.Common.{◌≡◌, ℕ, Option, Some, None, Result, Ok, Err, refl, ap, sym, subst, ◌∙◌}
 use Rattle.board_decisions.specs.Decisions.{is_called}
-use Rattle.board_decisions.specs.Place.{LegAt}
+use Rattle.board_places.specs.Place.{LegAt}
 use Rattle.flow_model.specs.declared.board.Board.{Board}
 use Rattle.flow_model.specs.declared.event.Entry.{Entry}
 use Rattle.flow_model.specs.declared.plan.Plan.{Plan}

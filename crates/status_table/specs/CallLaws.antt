@@ -1,7 +1,7 @@
 -- Laws of the call that a step makes: the variables that it is given, and the inputs of its action.
 use Rattle.std.specs.Prelude.{◌≡◌, ℕ, List, [], ◌∷◌, Option, Some, None, Ok, Err}
 use Rattle.board_decisions.specs.Decisions.{seen_from, set_over}
-use Rattle.board_decisions.specs.Place.{LegAt, leg_at}
+use Rattle.board_places.specs.Place.{LegAt, leg_at}
 use Rattle.flow_model.specs.Mapping.{value_at, Ascends}
 use Rattle.flow_model.specs.Sound.{Each}
 use Rattle.flow_model.specs.declared.board.Board.{Board}

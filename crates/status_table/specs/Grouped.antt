@@ -2,7 +2,7 @@
 -- what its event asks on the board before it.
 use Rattle.std.specs.Prelude.{◌≡◌, ℕ, true, false, List, [], ◌∷◌, Option, Some, None, Ok, Err}
 use Rattle.board_decisions.specs.Decisions.{run_entrance, leg_entrance}
-use Rattle.board_decisions.specs.Place.{RunAt, LegAt, run_at, leg_at}
+use Rattle.board_places.specs.Place.{RunAt, LegAt, run_at, leg_at}
 use Rattle.flow_model.specs.Mapping.{value_at, Ascends}
 use Rattle.flow_model.specs.declared.board.Board.{Board}
 use Rattle.flow_model.specs.declared.event.Entry.{Entry}

@@ -3,7 +3,7 @@ use Rattle.std.specs.Prelude.{◌≡◌, ℕ, true, false, List, Option, Some, N
 use Rattle.std.specs.List.{list_any}
 use Rattle.board_decisions.specs.Decisions.{step_tolerates}
 use Rattle.board_decisions.specs.Derived.{is_failure}
-use Rattle.board_decisions.specs.Place.{LegAt, leg_at}
+use Rattle.board_places.specs.Place.{LegAt, leg_at}
 use Rattle.expr_reader.specs.Accepts.{condition_read}
 use Rattle.expr_reader.specs.Template.{Piece, names_status}
 use Rattle.flow_model.specs.declared.board.Board.{Board}

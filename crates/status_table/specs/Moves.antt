@@ -2,6 +2,7 @@
 use Rattle.std.specs.Prelude.{ℕ, zero, suc, ◌&&◌, ◌++◌, Bool, true, false, not, List, [], ◌∷◌, length, map, filter, slice_get, Option, Ok, Err}
 use Rattle.std.specs.List.{list_all, list_any}
 use Rattle.board_decisions.specs.Derived.{is_closed}
+use Rattle.board_places.specs.Places.{numbers}
 use Rattle.flow_model.specs.Numbers.{board_jobs, board_legs}
 use Rattle.flow_model.specs.declared.plan.Plan.{Plan}
 use Rattle.flow_model.specs.declared.board.Board.{Board}
@@ -10,11 +11,6 @@ use Rattle.flow_model.specs.declared.board.LegState.TheVariants as leg_state
 use Rattle.flow_model.specs.declared.event.Event.{Event}
 use Rattle.flow_model.specs.declared.event.Event.TheVariants as event
 use Rattle.status_table.specs.Row.{Row, row}
-
--- the numbers below n, ascending
-abbrev pub numbers : ℕ → List ℕ
-numbers zero = []
-numbers (suc n) = numbers n ++ n ∷ []
 
 -- The events that a clerk may report: Close, Open, Judge, Drop and Ask, in this order, each of every number.
 abbrev pub clerk_events : Board → List Event

@@ -3,8 +3,8 @@
 ghost use Rattle.std.specs.Prelude.{◌≡◌, ℕ, List, Some};
 ghost use Rattle.board_decisions.specs.Ancestors.{SaysOf};
 ghost use Rattle.board_decisions.specs.Derived.{job_status};
-ghost use Rattle.board_decisions.specs.Numbered.{HasAsMany, IsNumberedIn, IsPlannedAt, JobsAreNumbered, LegsAreNumbered};
-ghost use Rattle.board_decisions.specs.Place.{JobAt, LegAt, job_at, leg_at};
+ghost use Rattle.board_places.specs.Numbered.{HasAsMany, IsNumberedIn, IsPlannedAt, JobsAreNumbered, LegsAreNumbered};
+ghost use Rattle.board_places.specs.Place.{JobAt, LegAt, job_at, leg_at};
 ghost use Rattle.flow_model.specs.declared.board.Board.{Board};
 ghost use Rattle.flow_model.specs.declared.event.Entry.{Entry};
 ghost use Rattle.flow_model.specs.declared.plan.Plan.{Plan};

@@ -3,7 +3,7 @@
 use Rattle.std.specs.Prelude.{ℕ, ◌==◌, ◌+◌, ◌++◌, nat_lt, if◌then◌else◌, List, [], ◌∷◌, codes, decimal, Option, Some, None, slice_get}
 use Rattle.std.specs.List.{flat_map}
 use Rattle.board_decisions.specs.Contexts.{pairs_in}
-use Rattle.board_decisions.specs.Place.{RunAt, JobAt, LegAt, run_at, job_at, leg_at}
+use Rattle.board_places.specs.Place.{RunAt, JobAt, LegAt, run_at, job_at, leg_at}
 use Rattle.board_notes.specs.Account.{Account}
 use Rattle.expr_value.specs.Convert.{text_of}
 use Rattle.expr_value.specs.Kind.{kind_of as kind_of_value}

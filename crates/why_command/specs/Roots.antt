@@ -4,7 +4,7 @@ use Rattle.board_causes.specs.Causes.{asked, is_judged}
 use Rattle.board_causes.specs.declared.question.Question.{Question}
 use Rattle.board_causes.specs.declared.question.Question.TheVariants as question
 use Rattle.board_decisions.specs.Derived.{is_going, is_open, is_success, job_has_ended, job_result}
-use Rattle.board_decisions.specs.Place.{LegAt, run_at, job_at, leg_at}
+use Rattle.board_places.specs.Place.{LegAt, run_at, job_at, leg_at}
 use Rattle.board_notes.specs.Account.{Account}
 use Rattle.command_io.specs.Runs.{has_succeeded}
 use Rattle.flow_model.specs.declared.board.Job.{Job}

@@ -6,7 +6,7 @@ use Rattle.board_causes.specs.declared.question.Question.{Question}
 use Rattle.board_causes.specs.declared.question.Question.TheVariants as question
 use Rattle.board_causes.specs.declared.tree.Line.{Line}
 use Rattle.board_decisions.specs.Derived.{job_has_ended, legs_result}
-use Rattle.board_decisions.specs.Place.{RunAt, JobAt, LegAt, run_at, job_at, leg_at}
+use Rattle.board_places.specs.Place.{RunAt, JobAt, LegAt, run_at, job_at, leg_at}
 use Rattle.board_facts.specs.declared.fact.JobFact.{JobFact}
 use Rattle.board_facts.specs.declared.fact.JobFact.TheVariants as job_fact
 use Rattle.board_facts.specs.declared.fact.MemberFact.{MemberFact}

@@ -13,10 +13,10 @@ use crate::words::{add_job_words, add_leg_words, add_run_words};
 use crate::writing::{add, add_number};
 use board_causes::question::Question;
 use board_causes::tree::Line;
-use board_decisions::place::item_at;
 use board_facts::fact::Teller;
 use board_facts::notes::{LegNotes, RunNotes, StopNote};
 use board_notes::account::SeenAccount;
+use board_places::place::item_at;
 use flow_model::Member;
 use std::alloc::{AllocError, Global};
 

@@ -4,15 +4,15 @@ ghost use Rattle.std.specs.Prelude.{◌≡◌, OnOk, Some};
 ghost use Rattle.std.specs.List.{flat_map};
 ghost use Rattle.std.specs.Option.{option_copied};
 ghost use Rattle.board_decisions.specs.Contexts.{pairs_in};
-ghost use Rattle.board_decisions.specs.Place.{job_at, leg_at, run_at};
-ghost use Rattle.board_decisions.specs.Seen.{leg_seen};
+ghost use Rattle.board_places.specs.Place.{job_at, leg_at, run_at};
+ghost use Rattle.board_places.specs.Seen.{leg_seen};
 ghost use Rattle.board_facts.specs.Adds.{Adds};
 ghost use Rattle.board_notes.specs.Account.{account_seen};
 ghost use Rattle.why_command.specs.Names as spec;
 
 use crate::writing::{add, add_first_line, add_number, add_shown};
-use board_decisions::place::{SeenLeg, find_job, find_leg, find_run, item_at};
 use board_notes::account::SeenAccount;
+use board_places::place::{SeenLeg, find_job, find_leg, find_run, item_at};
 use expr_value::to_text;
 use flow_model::{Combo, Member, StepPlan, Text, Value, Work};
 use std::alloc::{AllocError, Global};

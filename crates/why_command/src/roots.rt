@@ -3,7 +3,7 @@
 ghost use Rattle.std.specs.Prelude.{◌≡◌, ◌+◌, ◌||◌, IfOk, OnOk, length, option_map};
 ghost use Rattle.board_causes.specs.Causes.{asked};
 ghost use Rattle.board_causes.specs.Causes as causes;
-ghost use Rattle.board_decisions.specs.Place.{leg_at};
+ghost use Rattle.board_places.specs.Place.{leg_at};
 ghost use Rattle.board_decisions.specs.Derived as derived;
 ghost use Rattle.board_facts.specs.Adds.{Adds};
 ghost use Rattle.board_notes.specs.Account.{account_seen};
@@ -11,8 +11,8 @@ ghost use Rattle.why_command.specs.Roots as spec;
 
 use board_causes::question::Question;
 use board_decisions::derived::{job_has_ended, job_result};
-use board_decisions::place::{find_job, find_leg, find_run};
 use board_notes::account::SeenAccount;
+use board_places::place::{find_job, find_leg, find_run};
 use flow_model::{Job, JobState, Leg, LegState, Outcome, Run, RunState};
 use std::alloc::{AllocError, Global};
 

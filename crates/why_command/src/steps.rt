@@ -3,8 +3,8 @@
 ghost use Rattle.std.specs.Prelude.{◌≡◌, ◌++◌, OnOk, codes, decimal};
 ghost use Rattle.std.specs.Option.{option_copied};
 ghost use Rattle.board_causes.specs.Causes.{is_called as is_called_of};
-ghost use Rattle.board_decisions.specs.Place.{leg_at};
-ghost use Rattle.board_decisions.specs.Seen.{leg_seen};
+ghost use Rattle.board_places.specs.Place.{leg_at};
+ghost use Rattle.board_places.specs.Seen.{leg_seen};
 ghost use Rattle.board_facts.specs.Adds.{Adds};
 ghost use Rattle.board_notes.specs.Account.{account_seen};
 ghost use Rattle.why_command.specs.Words as spec;
@@ -12,10 +12,10 @@ ghost use Rattle.why_command.specs.Words as spec;
 use crate::words::{add_at, add_faulted, add_stopped, add_untrue};
 use crate::writing::{add, add_number};
 use board_causes::causes::step_last;
-use board_decisions::place::{SeenLeg, find_leg, item_at};
 use board_facts::fact::{StepFact, StepText};
 use board_facts::notes::{LegNotes, StepNote};
 use board_notes::account::SeenAccount;
+use board_places::place::{SeenLeg, find_leg, item_at};
 use flow_model::{DoneStep, Leg, LegState, Outcome, StepPlan, ValueFault};
 use std::alloc::{AllocError, Global};
 

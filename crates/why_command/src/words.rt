@@ -5,18 +5,18 @@ ghost use Rattle.board_facts.specs.Adds.{Adds};
 ghost use Rattle.board_notes.specs.Account.{account_seen};
 ghost use Rattle.flow_model.specs.Faults.{value_fault_name};
 ghost use Rattle.why_command.specs.Names as names;
-ghost use Rattle.board_decisions.specs.Place.{job_at, leg_at, run_at};
-ghost use Rattle.board_decisions.specs.Seen.{job_seen, leg_seen, run_seen};
+ghost use Rattle.board_places.specs.Place.{job_at, leg_at, run_at};
+ghost use Rattle.board_places.specs.Seen.{job_seen, leg_seen, run_seen};
 ghost use Rattle.why_command.specs.Words as spec;
 
 use crate::names::{add_leg_name, add_member_name};
 use crate::writing::{add, add_number, add_shown};
 use board_causes::causes::{job_last, leg_last, run_last};
 use board_decisions::derived::{job_has_ended, legs_result};
-use board_decisions::place::{SeenJob, SeenLeg, SeenRun, find_job, find_leg, find_run, item_at};
 use board_facts::fact::{JobFact, MemberFact, StopCause};
 use board_facts::notes::{JobNote, MemberNote};
 use board_notes::account::SeenAccount;
+use board_places::place::{SeenJob, SeenLeg, SeenRun, find_job, find_leg, find_run, item_at};
 use flow_model::{JobState, LegState, Member, Outcome, Text, ValueFault};
 use std::alloc::{AllocError, Global};
 

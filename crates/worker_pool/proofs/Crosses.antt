@@ -1,7 +1,7 @@
 -- Which parts of a board in play may cross threads, each from its own parts: a `search` that goes down through all of a plan at once runs out
 -- of steps.
 use denote.Param.Send.{IsSend, sendable}
-use Rattle.board_decisions.proofs.place.LegPlace.TheSendSync as place
+use Rattle.board_places.proofs.place.LegPlace.TheSendSync as place
 use Rattle.flat_board.specs.contracts.flat_board.FlatBoard as FlatBoard
 use Rattle.flat_counters.proofs.need.Need.TheSendSync as need
 use Rattle.flat_counters.proofs.tally.Tally.TheSendSync as tally

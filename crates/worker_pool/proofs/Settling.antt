@@ -23,7 +23,7 @@ use Rattle.worker_pool.specs.Settles.{AdmitsOnly, SettlesAll, ManySettle, OneSet
 use Rattle.worker_pool.specs.declared.played.Ending.{Ending}
 use Rattle.worker_pool.specs.declared.played.Ending.TheVariants as ending
 use Rattle.worker_pool.specs.declared.played.Played.{Played}
-use Rattle.status_table.proofs.Lists.{same_some, no_some}
+use Rattle.board_places.proofs.Lists.{same_some, no_some}
 
 admitted : (admits : StepCall → Answer → Type 0) (answers : Answers) → AdmitsOnly admits answers → (there : Option StepCall) (a : Answer) → IsAdmitted admits there a
     → (call : StepCall) → there ≡ Some call → answers call ≡ Some a

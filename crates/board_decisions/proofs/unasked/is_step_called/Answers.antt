@@ -1,5 +1,5 @@
 use Rattle.std.proofs.Common.{◌≡◌, true, rules}
-use Rattle.board_decisions.specs.Seen.{leg_seen}
+use Rattle.board_places.specs.Seen.{leg_seen}
 use Rattle.board_decisions.proofs.OwnSteps.{own_step}
 use Rattle.board_decisions.proofs.unasked.is_step_called.Goals as goal
 

@@ -1,6 +1,6 @@
 use Rattle.std.proofs.Common.{◌≡◌, map, drop}
 use Rattle.board_decisions.specs.Contexts.{overlaid}
-use Rattle.board_decisions.specs.Seen.{leg_scene}
+use Rattle.board_decisions.specs.Scenes.{leg_scene}
 use Rattle.board_notes.proofs.texts.know_set.Given as goal
 use Rattle.text_values.specs.Known.{IsKnownOf, known_env}
 

@@ -1,7 +1,7 @@
 use Rattle.std.proofs.Common.{◌≡◌, ℕ, ◌+◌, ◌≤◌, List, [], Option, None, Some, option_map, length, drop, ap, subst, refl, sym, ◌∙◌, arith, rules}
 use Rattle.std.specs.List.{AllZip}
 use Rattle.std.proofs.lemmas.Bool.{true≢false}
-use Rattle.board_decisions.specs.Seen.{run_seen}
+use Rattle.board_places.specs.Seen.{run_seen}
 use Rattle.flow_model.specs.declared.board.Run.{Run}
 use Rattle.flow_model.specs.declared.plan.RunPlan.{RunPlan}
 use Rattle.settled_boards.specs.Runs.{RunComes}

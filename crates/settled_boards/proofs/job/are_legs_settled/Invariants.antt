@@ -1,7 +1,7 @@
 use Rattle.std.proofs.Common.{◌↔◌, drop}
 use Rattle.std.specs.List.{AllZip}
 use Rattle.board_decisions.specs.Contexts.{needs_value}
-use Rattle.board_decisions.specs.Seen.{job_seen}
+use Rattle.board_places.specs.Seen.{job_seen}
 use Rattle.settled_boards.specs.Alone.{ByAnswers}
 use Rattle.settled_plans.specs.Agrees.{LegIsSettled}
 use Rattle.settled_plans.specs.Settled.{legs_from, legs_settled}

@@ -1,7 +1,7 @@
 use Rattle.std.proofs.Common.{sym, ◌∙◌}
 use Rattle.std.proofs.lemmas.Result.{IfOk-weaker}
 use Rattle.board_decisions.specs.Contexts.{needs_value}
-use Rattle.board_decisions.specs.Seen.{job_seen}
+use Rattle.board_places.specs.Seen.{job_seen}
 use Rattle.settled_boards.proofs.Jobs.{open_settled, shut_settled, settled_open, settled_shut}
 use Rattle.settled_plans.specs.Settled.{legs_settled, job_settled}
 use Rattle.settled_boards.proofs.job.is_job_settled.Goals as goal

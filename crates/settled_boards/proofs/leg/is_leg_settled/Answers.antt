@@ -1,7 +1,7 @@
 use Rattle.std.proofs.Common.{Option, sym, subst}
 use Rattle.std.proofs.lemmas.Bool.{true≢false}
 use Rattle.std.proofs.lemmas.Result.{IfOk-weaker}
-use Rattle.board_decisions.specs.Seen.{job_seen}
+use Rattle.board_places.specs.Seen.{job_seen}
 use Rattle.flow_model.specs.declared.board.Leg.{Leg}
 use Rattle.settled_boards.specs.Alone.{planned, StepsCome}
 use Rattle.settled_boards.proofs.Steps.{unended, ends_settled}

@@ -1,6 +1,6 @@
 use Rattle.std.proofs.Common.{◌≡◌, ℕ, ◌+◌, ◌<◌, ◌≤◌, List, [], ◌∷◌, Some, length, drop, ap, refl, sym, ◌∙◌, arith, rules}
 use Rattle.std.proofs.lemmas.List.{length-append}
-use Rattle.board_decisions.specs.Seen.{job_seen}
+use Rattle.board_places.specs.Seen.{job_seen}
 use Rattle.flow_model.specs.declared.board.DoneStep.{DoneStep}
 use Rattle.settled_boards.specs.Alone.{planned}
 use Rattle.settled_plans.specs.Settled.{steps_from}

@@ -1,5 +1,5 @@
 use Rattle.std.proofs.Common.{◌≡◌, [], length, drop}
-use Rattle.board_decisions.specs.Seen.{job_seen}
+use Rattle.board_places.specs.Seen.{job_seen}
 use Rattle.settled_boards.specs.Alone.{ByAnswers, IsIdle, planned}
 use Rattle.settled_plans.specs.Settled.{steps_from}
 use Rattle.settled_boards.proofs.leg.play_steps.Given as goal

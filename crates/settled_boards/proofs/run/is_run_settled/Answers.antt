@@ -1,6 +1,6 @@
 use Rattle.std.proofs.Common.{◌≡◌, ℕ, ◌+◌, ◌<◌, ◌≤◌, Some, None, option_map, length, ap, sym, ◌∙◌, arith, rules}
 use Rattle.std.proofs.lemmas.Bool.{true≢false}
-use Rattle.board_decisions.specs.Seen.{job_seen, run_seen}
+use Rattle.board_places.specs.Seen.{job_seen, run_seen}
 use Rattle.flow_model.specs.declared.board.RunState.TheVariants as run_state
 use Rattle.settled_boards.proofs.Runs.{size_job, stands_job, run_fails, one_more_job, next_number, run_comes, only_closed, last_number}
 use Rattle.settled_boards.proofs.run.is_run_settled.Goals as goal

@@ -1,5 +1,5 @@
 use Rattle.std.proofs.Common.{◌≡◌, Some, ap, subst, ◌∙◌}
-use Rattle.board_decisions.specs.Numbered.{leg_there}
+use Rattle.board_places.specs.Numbered.{leg_there}
 use Rattle.flow_model.specs.declared.board.Leg.{Leg}
 use Rattle.flat_counters.specs.Failing.{any_failed, failing_at, leg_failed}
 use Rattle.flat_counters.proofs.Failings.{failing_there}

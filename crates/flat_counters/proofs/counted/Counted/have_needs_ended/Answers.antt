@@ -1,6 +1,6 @@
 use Rattle.std.proofs.Common.{◌≡◌, ℕ, true, Some, sym, subst, ◌∙◌}
 use Rattle.board_decisions.specs.Derived.{is_going, needs_have_ended}
-use Rattle.board_decisions.specs.Place.{JobAt, job_at}
+use Rattle.board_places.specs.Place.{JobAt, job_at}
 use Rattle.flat_counters.specs.Counters.{needs_none, needs_there}
 use Rattle.flat_counters.proofs.Ended.{needs_told}
 use Rattle.status_table.specs.InPlay.{InPlay}

@@ -1,6 +1,6 @@
 use Rattle.std.proofs.Common.{◌≡◌, subst, ◌∙◌, slice_get}
-use Rattle.board_decisions.specs.Place.{leg_place}
-use Rattle.flat_counters.proofs.Placed.{leg_placed}
+use Rattle.board_places.specs.Place.{leg_place}
+use Rattle.board_places.proofs.Placed.{leg_placed}
 use Rattle.flat_counters.proofs.counted.Counted.leg_place.Goals as goal
 use Rattle.status_table.specs.Play.{Play}
 

@@ -3,7 +3,7 @@ use Rattle.flow_model.specs.declared.board.Run.{Run}
 use Rattle.flat_counters.specs.Counters.{tally_of, needs_of}
 use Rattle.flat_counters.specs.Failing.{run_failing}
 use Rattle.flat_counters.specs.Names.{IsNamed}
-use Rattle.flat_counters.specs.Places.{all_legs_from, run_sizes}
+use Rattle.board_places.specs.Places.{all_legs_from, run_sizes}
 use Rattle.flat_counters.specs.Standing.{run_tally}
 use Rattle.flat_counters.proofs.Named.{new_named}
 use Rattle.flat_counters.proofs.counted.Counted.new.Goals as goal

@@ -1,8 +1,8 @@
 -- Where the runs, jobs and legs with a number stand. Jobs
 -- are numbered through all runs, and legs through all jobs.
 use Rattle.std.specs.Prelude.{ℕ, suc, ◌-◌, List, [], ◌∷◌, length, nat_lt, Option, Some, None, Result, Ok, Err, slice_get, if◌then◌else◌}
-use Rattle.board_decisions.specs.declared.place.JobPlace.{JobPlace}
-use Rattle.board_decisions.specs.declared.place.LegPlace.{LegPlace}
+use Rattle.board_places.specs.declared.place.JobPlace.{JobPlace}
+use Rattle.board_places.specs.declared.place.LegPlace.{LegPlace}
 use Rattle.flow_model.specs.declared.plan.Plan.{Plan}
 use Rattle.flow_model.specs.declared.plan.RunPlan.{RunPlan}
 use Rattle.flow_model.specs.declared.plan.JobPlan.{JobPlan}

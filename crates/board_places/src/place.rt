@@ -2,9 +2,9 @@
 
 ghost use Rattle.std.specs.Prelude.{◌≡◌, option_map, slice_get};
 ghost use Rattle.std.specs.Option.{option_copied};
-ghost use Rattle.board_decisions.specs.Numbered.{leg_there as leg_there_of, numbered_leg as numbered_leg_of};
-ghost use Rattle.board_decisions.specs.Place as spec;
-ghost use Rattle.board_decisions.specs.Seen.{run_seen, job_seen, leg_seen};
+ghost use Rattle.board_places.specs.Numbered.{leg_there as leg_there_of, numbered_leg as numbered_leg_of};
+ghost use Rattle.board_places.specs.Place as spec;
+ghost use Rattle.board_places.specs.Seen.{run_seen, job_seen, leg_seen};
 
 use flow_model::{Board, Job, JobPlan, Leg, Plan, Run, RunPlan, Sequence};
 
@@ -139,7 +139,7 @@ pub fn find_run<'a>(plan: &'a Plan, board: &'a Board, number: usize) -> Option<S
 }
 
 /// The job at a place, whose run is given.
-pub(crate) fn job_in_run<'a>(
+pub fn job_in_run<'a>(
     board: &'a Board,
     run_plan: &'a RunPlan,
     run: &'a Run,

@@ -1,9 +1,9 @@
 use Rattle.std.proofs.Common.{List, ◌++◌, ap, ◌∙◌}
 use Rattle.flow_model.proofs.Conversions.{drop-next}
 use Rattle.flow_model.specs.declared.board.Job.{Job}
-use Rattle.flat_counters.specs.Places.{sizes, legs_from}
-use Rattle.flat_counters.proofs.Placed.{runs_more}
-use Rattle.flat_counters.proofs.places.leg_places.Goals as goal
+use Rattle.board_places.specs.Places.{sizes, legs_from}
+use Rattle.board_places.proofs.Placed.{runs_more}
+use Rattle.board_places.proofs.places.leg_places.Goals as goal
 
 pub loop-place-preserved : goal.loop-place-preserved
 loop-place-preserved c =

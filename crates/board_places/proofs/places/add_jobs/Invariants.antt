@@ -1,6 +1,6 @@
 use Rattle.std.proofs.Common.{◌≡◌, ◌++◌, drop}
-use Rattle.flat_counters.specs.Places.{sizes, legs_from}
-use Rattle.flat_counters.proofs.places.add_jobs.Given as goal
+use Rattle.board_places.specs.Places.{sizes, legs_from}
+use Rattle.board_places.proofs.places.add_jobs.Given as goal
 
 abbrev pub invariant-loop-place : goal.invariant-loop-place
 invariant-loop-place l =

@@ -1,9 +1,9 @@
 use Rattle.std.proofs.Common.{ℕ, ◌++◌, map, ap, ◌∙◌}
 use Rattle.flow_model.proofs.Conversions.{drop-next}
-use Rattle.flat_counters.specs.Places.{leg_of}
-use Rattle.flat_counters.proofs.Placed.{jobs_more}
-use Rattle.flat_counters.proofs.places.add_jobs.Goals as goal
-use Rattle.status_table.specs.Moves.{numbers}
+use Rattle.board_places.specs.Places.{leg_of}
+use Rattle.board_places.proofs.Placed.{jobs_more}
+use Rattle.board_places.proofs.places.add_jobs.Goals as goal
+use Rattle.board_places.specs.Places.{numbers}
 
 pub loop-place-preserved : goal.loop-place-preserved
 loop-place-preserved c =

@@ -1,0 +1,4 @@
+pub mod Numbered
+pub mod Place
+pub mod Places
+pub mod Seen
