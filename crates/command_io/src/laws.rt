@@ -6,7 +6,7 @@ ghost use Rattle.flow_model.specs.Rules.{IsPlan};
 ghost use Rattle.flow_model.specs.declared.board.Board.{Board};
 ghost use Rattle.flow_model.specs.declared.event.Entry.{Entry};
 ghost use Rattle.flow_model.specs.declared.plan.Plan.{Plan};
-ghost use Rattle.plan_text.specs.EntryDocument.{is_entry};
+ghost use Rattle.plan_documents.specs.EntryDocument.{is_entry};
 ghost use Rattle.status_table.specs.Runs.{after};
 
 use crate::stream::Source;

@@ -4,7 +4,7 @@ use Rattle.std.specs.declared.alloc.Global.{Global}
 use Rattle.serde_json.specs.Written.{compact_text}
 use Rattle.flow_model.specs.declared.plan.Plan.{Plan}
 use Rattle.plan_assembler.specs.declared.choice.Choice.{Choice}
-use Rattle.plan_text.specs.Document.{document}
+use Rattle.plan_documents.specs.Document.{document}
 use Rattle.plan_text.specs.Load.{load}
 use Rattle.command_io.specs.Files.{File, Content, AreRead}
 use Rattle.commands.specs.Planning.{ComesTo, ComesToNone}

@@ -10,20 +10,20 @@ use Rattle.flow_model.specs.Rules.{IsPlan, plan_rules}
 use Rattle.flow_model.specs.declared.plan.Plan.{Plan}
 use Rattle.flow_model.specs.declared.event.Entry.{Entry}
 use Rattle.flow_model.proofs.JsonTexts.{json_read-some}
-use Rattle.plan_text.specs.Document.{document_in, IsPlanDocument}
-use Rattle.plan_text.specs.EntryDocument.{entry_document, IsEntryDocument, entry_of, is_entry}
+use Rattle.plan_documents.specs.Document.{document_in, IsPlanDocument}
+use Rattle.plan_documents.specs.EntryDocument.{entry_document, IsEntryDocument, entry_of, is_entry}
 use Rattle.plan_text.specs.Record.{entry_in, line_entry, on_line}
 use Rattle.plan_text.specs.Load.{IsTextOf, has_other_version, accepted, checked, loaded, load, Gives}
-use Rattle.plan_text.specs.Parts.{Reading}
-use Rattle.plan_text.specs.Reading.{plan_of}
+use Rattle.plan_documents.specs.Parts.{Reading}
+use Rattle.plan_documents.specs.Reading.{plan_of}
 use Rattle.plan_text.specs.declared.fault.LoadFault.{LoadFault}
 use Rattle.plan_text.specs.declared.fault.LoadFault.TheVariants.{Version as OtherVersion}
-use Rattle.plan_text.specs.declared.version.Version.{Version}
-use Rattle.plan_text.specs.declared.version.Version.TheVariants.{One, Two}
-use Rattle.plan_text.proofs.EntryLaws.{entry_reads, entry_fits}
-use Rattle.plan_text.proofs.Fitting.{plan_sound}
-use Rattle.plan_text.proofs.Laws.{Ok-inj}
-use Rattle.plan_text.proofs.PlanLaws.{plan_reads}
+use Rattle.plan_documents.specs.declared.version.Version.{Version}
+use Rattle.plan_documents.specs.declared.version.Version.TheVariants.{One, Two}
+use Rattle.plan_documents.proofs.EntryLaws.{entry_reads, entry_fits}
+use Rattle.plan_documents.proofs.Fitting.{plan_sound}
+use Rattle.plan_documents.proofs.Laws.{Ok-inj}
+use Rattle.plan_documents.proofs.PlanLaws.{plan_reads}
 
 -- ---- JSON texts
 

@@ -17,12 +17,12 @@ use Rattle.serde_json.proofs.Numbers.{number_of-decimal}
 use Rattle.flow_model.specs.Mapping.{with_pair}
 use Rattle.flow_model.specs.declared.plan.Plan.{Plan}
 use Rattle.flow_model.proofs.JsonTexts.{json_read-utf8}
-use Rattle.plan_text.specs.Document.{document_in}
+use Rattle.plan_documents.specs.Document.{document_in}
 use Rattle.flow_model.specs.Rules.{IsPlan}
 use Rattle.plan_text.specs.Load.{load}
 use Rattle.plan_text.specs.Outline.{StandsFor, EachStandsFor}
-use Rattle.plan_text.specs.Parts.{number_data, pair_members}
-use Rattle.plan_text.specs.declared.version.Version.{Version}
+use Rattle.plan_documents.specs.Parts.{number_data, pair_members}
+use Rattle.plan_documents.specs.declared.version.Version.{Version}
 use Rattle.plan_text.proofs.LoadLemmas.{load_again}
 
 -- ---- a text

@@ -14,7 +14,7 @@ use Rattle.serde_json.specs.Data as held
 use Rattle.serde_json.specs.Data.{Data, put, no_members}
 use Rattle.serde_json.specs.Read.{of_json, of_items, of_members, read}
 use Rattle.serde_json.specs.View.{items_of}
-use Rattle.plan_text.specs.Fields.{put_each}
+use Rattle.plan_documents.specs.Fields.{put_each}
 use Rattle.plan_text.specs.Outline.{StandsFor}
 use Rattle.plan_text.specs.Spelled.{Spells, SpellEach, SpellMembers}
 

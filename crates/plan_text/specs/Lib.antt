@@ -1,17 +1,9 @@
-pub mod Answer
 pub mod BoardNumbers
 pub mod BoardText
-pub mod Document
-pub mod EntryDocument
 pub mod Fault
-pub mod Fields
 pub mod Lines
 pub mod Load
 pub mod Outline
-pub mod Parts
 pub mod PrintedEntry
-pub mod Reading
 pub mod Record
-pub mod Report
 pub mod Spelled
-pub mod Version

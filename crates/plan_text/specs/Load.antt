@@ -5,9 +5,9 @@ use Rattle.serde_json.specs.Find.{get, as_object, as_number, as_u64}
 use Rattle.flow_model.specs.JsonText.{json_read}
 use Rattle.flow_model.specs.Rules.{plan_rules}
 use Rattle.flow_model.specs.declared.plan.Plan.{Plan}
-use Rattle.plan_text.specs.Parts.{Reading}
-use Rattle.plan_text.specs.Reading.{plan_of}
-use Rattle.plan_text.specs.Version.{is_version}
+use Rattle.plan_documents.specs.Parts.{Reading}
+use Rattle.plan_documents.specs.Reading.{plan_of}
+use Rattle.plan_documents.specs.Version.{is_version}
 use Rattle.plan_text.specs.declared.fault.LoadFault.{LoadFault}
 use Rattle.plan_text.specs.declared.fault.LoadFault.TheVariants.{NotJson, Version, NotPlan, NotEntry, Memory}
 

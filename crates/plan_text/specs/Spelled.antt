@@ -2,7 +2,9 @@
 use Rattle.std.specs.Prelude.{◌≡◌, ◌≤◌, ℕ, List, [], ◌∷◌, ◌++◌}
 use Rattle.json.specs.Token.{Token}
 use Rattle.json.specs.Json.{Json}
+use Rattle.json.specs.Reads.{token_of}
 use Rattle.json.specs.Tree.{json_tokens, depth}
+use Rattle.json.specs.declared.token.Token.{Token as FoundToken}
 use Rattle.serde_json.specs.Data.{Data}
 use Rattle.plan_text.specs.Outline.{StandsFor}
 
@@ -12,6 +14,10 @@ pub record Spells (levels : ℕ) (ts : List Token) (d : Data) (rest : List Token
   pub tokens : ts ≡ json_tokens json ++ rest
   pub low : depth json ≤ levels
   pub stands : StandsFor json d
+
+-- A token that was found and the first tokens after it are a part, and the rest follows.
+abbrev pub SpellsPart : ℕ → FoundToken → List Token → Data → List Token → Type 0
+SpellsPart levels found ts d rest = Spells levels (token_of found ∷ ts) d rest
 
 -- The first tokens are these parts in turn, and the rest follows.
 abbrev pub SpellEach : ℕ → List Token → List Data → List Token → Type 0

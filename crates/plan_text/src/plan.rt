@@ -7,14 +7,13 @@ ghost use Rattle.serde_json.specs.Written.{compact_text};
 ghost use Rattle.flow_model.specs.JsonText.{json_read};
 ghost use Rattle.flow_model.specs.Rules.{IsPlan, plan_rules};
 ghost use Rattle.flow_model.specs.declared.plan.Plan.{Plan};
-ghost use Rattle.plan_text.specs.Document.{document, IsPlanDocument};
+ghost use Rattle.plan_documents.specs.Document.{document, IsPlanDocument};
 ghost use Rattle.plan_text.specs.Load.{IsTextOf, has_known_version, has_other_version, loaded, load, accepted, Gives};
 
 use crate::fault::LoadFault;
 use crate::plan_tokens::read_printed;
-use crate::reading::{FromJson, Unread};
-use crate::writing::ToJson;
 use flow_model::{Broken, CheckedPlan, Plan, read_json};
+use plan_documents::{FromJson, ToJson, Unread};
 use serde_json::Value;
 use std::alloc::{AllocError, Global};
 

@@ -6,19 +6,17 @@
 ghost use Rattle.std.specs.Prelude.{◌≡◌, ◌∷◌, IfOk, Some, Ok, codes};
 ghost use Rattle.json.specs.Token as token;
 ghost use Rattle.serde_json.specs.Read.{read};
-ghost use Rattle.plan_text.specs.Document.{work_data, document_in};
+ghost use Rattle.plan_documents.specs.Document.{work_data, document_in};
 ghost use Rattle.plan_text.specs.Load.{load};
 ghost use Rattle.plan_text.specs.Spelled.{Spells};
 
-use crate::job_reading::{JOB_KEYS, JobParts, job_from};
-use crate::reading::{Unread, refused};
 use crate::tokens::{FromTokens, end_object, next_member, next_part, read_after, read_object};
-use crate::version::Version;
 use flow_model::{
     Broken, CheckedPlan, Flag, Group, JobPlan, Mapping, Plan, Roots, RunPlan, Sequence, Shell,
     StepPlan, Text, Work,
 };
 use json::{Reader, Scratch, Token};
+use plan_documents::{JOB_KEYS, JobParts, Unread, Version, job_from, refused};
 use std::alloc::Global;
 
 /// The word that tells a script.
@@ -70,7 +68,7 @@ impl FromTokens for ActionKind {
 }
 
 impl FromTokens for Version {
-    ghost use Rattle.plan_text.specs.Version.{version_data};
+    ghost use Rattle.plan_documents.specs.Version.{version_data};
 
     ghost document = { version_data };
 
@@ -90,7 +88,7 @@ impl FromTokens for Version {
 }
 
 impl FromTokens for Flag {
-    ghost use Rattle.plan_text.specs.Document.{flag_data};
+    ghost use Rattle.plan_documents.specs.Document.{flag_data};
 
     ghost document = { flag_data };
 
@@ -110,7 +108,7 @@ impl FromTokens for Flag {
 }
 
 impl FromTokens for Group {
-    ghost use Rattle.plan_text.specs.Document.{group_data};
+    ghost use Rattle.plan_documents.specs.Document.{group_data};
 
     ghost document = { group_data };
 
@@ -127,7 +125,7 @@ impl FromTokens for Group {
 }
 
 impl FromTokens for Roots {
-    ghost use Rattle.plan_text.specs.Document.{roots_data};
+    ghost use Rattle.plan_documents.specs.Document.{roots_data};
 
     ghost document = { roots_data };
 
@@ -150,7 +148,7 @@ impl FromTokens for Roots {
 }
 
 impl FromTokens for Shell {
-    ghost use Rattle.plan_text.specs.Document.{shell_data};
+    ghost use Rattle.plan_documents.specs.Document.{shell_data};
 
     ghost document = { shell_data };
 
@@ -174,7 +172,7 @@ impl FromTokens for Shell {
 }
 
 impl FromTokens for Work {
-    ghost use Rattle.plan_text.specs.Document.{work_data};
+    ghost use Rattle.plan_documents.specs.Document.{work_data};
 
     ghost document = { work_data };
 
@@ -221,7 +219,7 @@ fn action_after_kind(alloc: Global, reader: &mut Reader<'_>) -> Result<Work, Unr
 
 /// Of a plan most is steps. So their members are read one by one: by pairs each would be moved once for each before it.
 impl FromTokens for StepPlan {
-    ghost use Rattle.plan_text.specs.Document.{step_data};
+    ghost use Rattle.plan_documents.specs.Document.{step_data};
 
     ghost document = { step_data };
 
@@ -254,7 +252,7 @@ impl FromTokens for StepPlan {
 }
 
 impl FromTokens for JobPlan {
-    ghost use Rattle.plan_text.specs.Document.{job_data};
+    ghost use Rattle.plan_documents.specs.Document.{job_data};
 
     ghost document = { job_data };
 
@@ -270,7 +268,7 @@ impl FromTokens for JobPlan {
 }
 
 impl FromTokens for RunPlan {
-    ghost use Rattle.plan_text.specs.Document.{run_data};
+    ghost use Rattle.plan_documents.specs.Document.{run_data};
 
     ghost document = { run_data };
 
@@ -298,7 +296,7 @@ impl FromTokens for RunPlan {
 
 /// A plan and the version of its document.
 impl FromTokens for (Plan, Version) {
-    ghost use Rattle.plan_text.specs.Document.{document_in};
+    ghost use Rattle.plan_documents.specs.Document.{document_in};
 
     ghost document = { λ found. document_in found.1 found.0 };
 

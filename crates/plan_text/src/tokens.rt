@@ -7,23 +7,22 @@
 
 ghost use Rattle.std.specs.Prelude.{◌≡◌, [], ◌∷◌, ◌++◌, ◌<◌, ◌≤◌, max, suc, IfOk, OnOk, IfSome, map};
 ghost use Rattle.json.specs.Json as spec;
-ghost use Rattle.json.specs.Reads.{token_of};
 ghost use Rattle.json.specs.Token as token;
 ghost use Rattle.json.specs.Tree.{json_tokens, depth};
 ghost use Rattle.json.specs.Value.{value_view};
 ghost use Rattle.serde_json.specs.Data.{boolean, no_members, null, object, string};
 ghost use Rattle.serde_json.specs.View.{view};
 ghost use Rattle.flow_model.specs.Json.{json_of};
-ghost use Rattle.plan_text.specs.Fields.{documents_at, put_each};
+ghost use Rattle.plan_documents.specs.Fields.{documents_at, put_each};
 ghost use Rattle.plan_text.specs.Outline.{StandsFor};
-ghost use Rattle.plan_text.specs.Parts.{number_data};
-ghost use Rattle.plan_text.specs.Spelled.{Spells, SpellMembers};
+ghost use Rattle.plan_documents.specs.Parts.{number_data};
+ghost use Rattle.plan_text.specs.Spelled.{Spells, SpellsPart, SpellMembers};
 
 use crate::digits::{MORE_THAN_15_DIGITS, whole_number};
-use crate::reading::{Unread, refused};
 use crate::tree::{number_tree, tree_of};
 use flow_model::{JsonFault, Mapping, Node, Sequence, Text};
 use json::{Error, Reader, Token};
+use plan_documents::{Unread, refused};
 use serde_json::Map;
 use std::alloc::Global;
 
@@ -45,7 +44,8 @@ pub(crate) trait FromTokens {
     fn from_tokens(alloc: Global, first: Token<'_>, reader: &mut Reader<'_>) -> Result<Self, Unread>
     where
         Self: Sized,
-        ensures { IfOk result (λ part. Spells levels (token_of first.entry ∷ reader.old) (document part) reader.new) };
+        ensures { IfOk result
+            (λ part. SpellsPart levels first.entry reader.old (document part) reader.new) };
 }
 
 /// The next part of a text.
@@ -89,7 +89,7 @@ impl FromTokens for bool {
 }
 
 impl FromTokens for u64 {
-    ghost use Rattle.plan_text.specs.Parts.{number_data};
+    ghost use Rattle.plan_documents.specs.Parts.{number_data};
 
     ghost document = { number_data };
 
@@ -237,7 +237,7 @@ fn next_outline<'a>(alloc: Global, reader: &mut Reader<'a>) -> Result<json::Valu
 }
 
 impl<T: FromTokens> FromTokens for Option<T> {
-    ghost use Rattle.plan_text.specs.Parts.{optional_data};
+    ghost use Rattle.plan_documents.specs.Parts.{optional_data};
 
     ghost document = { optional_data T.document };
 
@@ -257,7 +257,7 @@ impl<T: FromTokens> FromTokens for Option<T> {
 
 impl<T: FromTokens + Drop> FromTokens for Sequence<T> {
     ghost use Rattle.std.specs.Prelude.{suc};
-    ghost use Rattle.plan_text.specs.Parts.{list_data};
+    ghost use Rattle.plan_documents.specs.Parts.{list_data};
 
     ghost document = { list_data T.document };
 
@@ -281,7 +281,7 @@ impl<T: FromTokens + Drop> FromTokens for Sequence<T> {
 
 impl<V: FromTokens + Drop> FromTokens for Mapping<V> {
     ghost use Rattle.std.specs.Prelude.{suc};
-    ghost use Rattle.plan_text.specs.Parts.{map_data};
+    ghost use Rattle.plan_documents.specs.Parts.{map_data};
 
     ghost document = { map_data V.document };
 
@@ -336,16 +336,13 @@ impl TokenFields for () {
     ghost levels = { 0 };
 
     fn read(alloc: Global, reader: &mut Reader<'_>, _: &[&str]) -> Result<(), Unread> {
-        match reader.next() {
-            Some(Token::EndObject) => Ok(()),
-            _ => Err(refused(alloc, "")),
-        }
+        end_object(alloc, reader)
     }
 }
 
 impl<A: FromTokens + Drop, R: TokenFields> TokenFields for (A, R) {
     ghost use Rattle.std.specs.Prelude.{max};
-    ghost use Rattle.plan_text.specs.Fields.{documents_at};
+    ghost use Rattle.plan_documents.specs.Fields.{documents_at};
 
     ghost documents = { documents_at A.document R.documents };
 
@@ -384,7 +381,7 @@ pub(crate) fn read_object<F: TokenFields>(
     reader: &mut Reader<'_>,
     keys: &[&str],
 ) -> Result<F, Unread>
-    ensures { IfOk result (λ parts. Spells (suc F.levels) (token_of first.entry ∷ reader.old)
+    ensures { IfOk result (λ parts. SpellsPart (suc F.levels) first.entry reader.old
         (object (put_each (F.documents (map (λ key. key.now) keys.now) parts) no_members)) reader.new) }
 {
     let Token::BeginObject = first else {

@@ -6,7 +6,7 @@ ghost use Rattle.json.specs.Value.{value_view, members_view as members_outline};
 ghost use Rattle.serde_json.specs.View.{view, members_view};
 ghost use Rattle.plan_text.specs.Outline.{StandsFor, EachStandsFor, MembersStandFor};
 
-use crate::reading::{Unread, refused};
+use plan_documents::{Unread, refused};
 use serde_json::{Map, Value};
 use std::alloc::Global;
 

@@ -3,7 +3,7 @@ use Rattle.std.proofs.lemmas.Result.{IfOk-weaker}
 use Rattle.serde_json.specs.Data.{string}
 use Rattle.serde_json.specs.View.{view}
 use Rattle.serde_json.specs.Written.{has_float, members_have_float, compact_text}
-use Rattle.plan_text.specs.Parts.{map_data, pair_members}
+use Rattle.plan_documents.specs.Parts.{map_data, pair_members}
 use Rattle.plan_text.proofs.board.texts_words.Goals as goal
 
 -- texts are no numbers

@@ -4,11 +4,11 @@ use Rattle.serde_json.specs.Data.{depth}
 use Rattle.serde_json.specs.View.{view}
 use Rattle.flow_model.specs.Rules.{IsPlan}
 use Rattle.flow_model.specs.declared.plan.Plan.{Plan}
-use Rattle.plan_text.specs.Document.{document}
-use Rattle.plan_text.specs.declared.version.Version.TheVariants.{Two}
-use Rattle.plan_text.proofs.Fitting.{plan_sound}
+use Rattle.plan_documents.specs.Document.{document}
+use Rattle.plan_documents.specs.declared.version.Version.TheVariants.{Two}
+use Rattle.plan_documents.proofs.Fitting.{plan_sound}
 use Rattle.plan_text.proofs.LoadLemmas.{compact_of, reads_of, load_again, plan_alone}
-use Rattle.plan_text.proofs.PlanLaws.{plan_reads}
+use Rattle.plan_documents.proofs.PlanLaws.{plan_reads}
 use Rattle.plan_text.proofs.plan.print_plan.Goals as goal
 
 kept : (p q : Plan) → p ≡ q → IsPlan p → IsPlan q

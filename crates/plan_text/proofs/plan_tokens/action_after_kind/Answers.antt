@@ -1,7 +1,7 @@
 use Rattle.std.proofs.Common.{codes, [], ◌∷◌}
 use Rattle.serde_json.specs.Data.{string}
 use Rattle.flow_model.specs.Json.{json_of}
-use Rattle.plan_text.specs.Parts.{map_data}
+use Rattle.plan_documents.specs.Parts.{map_data}
 use Rattle.plan_text.proofs.SpelledLaws.{object_spells}
 use Rattle.plan_text.proofs.plan_tokens.action_after_kind.Goals as goal
 

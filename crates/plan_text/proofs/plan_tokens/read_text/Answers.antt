@@ -1,5 +1,5 @@
 use Rattle.std.proofs.Common.{◌≡◌, [], subst, arith}
-use Rattle.plan_text.specs.Document.{document_in}
+use Rattle.plan_documents.specs.Document.{document_in}
 use Rattle.plan_text.specs.Spelled.{Spells}
 use Rattle.plan_text.proofs.SpelledLaws.{spelled_read}
 use Rattle.plan_text.proofs.plan_tokens.read_text.Goals as goal

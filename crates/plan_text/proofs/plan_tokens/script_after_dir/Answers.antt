@@ -1,8 +1,8 @@
 use Rattle.std.proofs.Common.{List, ℕ, codes, [], ◌∷◌, refl, arith}
 use Rattle.json.specs.Token as token
 use Rattle.serde_json.specs.Data.{Data, string}
-use Rattle.plan_text.specs.Document.{shell_data}
-use Rattle.plan_text.specs.Parts.{optional_data}
+use Rattle.plan_documents.specs.Document.{shell_data}
+use Rattle.plan_documents.specs.Parts.{optional_data}
 use Rattle.plan_text.proofs.SpelledLaws.{member_then, object_spells, within_102}
 use Rattle.plan_text.proofs.plan_tokens.script_after_dir.Goals as goal
 

@@ -1,7 +1,7 @@
 use Rattle.std.proofs.Common.{◌≡◌, ℕ, List, length}
 use Rattle.serde_json.specs.Data.{Data, no_members}
 use Rattle.serde_json.specs.View.{members_view}
-use Rattle.plan_text.specs.Fields.{put_each}
+use Rattle.plan_documents.specs.Fields.{put_each}
 use Rattle.plan_text.specs.Spelled.{SpellMembers}
 use Rattle.plan_text.proofs.tokens.map_tree.Given as goal
 

@@ -3,8 +3,8 @@ use Rattle.json.specs.Reads.{token_of}
 use Rattle.json.specs.Token as token
 use Rattle.serde_json.specs.Data.{Data, string}
 use Rattle.flow_model.specs.Json.{json_of}
-use Rattle.plan_text.specs.Document.{flag_data, work_data}
-use Rattle.plan_text.specs.Parts.{map_data, optional_data}
+use Rattle.plan_documents.specs.Document.{flag_data, work_data}
+use Rattle.plan_documents.specs.Parts.{map_data, optional_data}
 use Rattle.plan_text.proofs.SpelledLaws.{member_then, object_begins}
 use Rattle.plan_text.proofs.plan_tokens.StepPlanFromTokens.from_tokens.Goals as goal
 

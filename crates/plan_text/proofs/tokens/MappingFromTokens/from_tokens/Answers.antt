@@ -2,7 +2,7 @@ use Rattle.std.proofs.Common.{◌≡◌, suc, ◌∷◌, ◌++◌, [], subst, sy
 use Rattle.json.specs.Reads.{token_of}
 use Rattle.json.specs.Token as token
 use Rattle.serde_json.specs.Data.{object, no_members, put}
-use Rattle.plan_text.specs.Parts.{pair_members}
+use Rattle.plan_documents.specs.Parts.{pair_members}
 use Rattle.plan_text.specs.Spelled.{Spells, SpellMembers}
 use Rattle.plan_text.proofs.OutlineLaws.{put_pair}
 use Rattle.plan_text.proofs.SpelledLaws.{member_more, object_begins, put_last}

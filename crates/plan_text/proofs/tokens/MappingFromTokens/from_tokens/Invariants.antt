@@ -1,7 +1,7 @@
 use Rattle.std.proofs.Common.{◌≡◌, ℕ, List, length}
 use Rattle.serde_json.specs.Data.{Data, no_members}
-use Rattle.plan_text.specs.Fields.{put_each}
-use Rattle.plan_text.specs.Parts.{pair_members}
+use Rattle.plan_documents.specs.Fields.{put_each}
+use Rattle.plan_documents.specs.Parts.{pair_members}
 use Rattle.plan_text.specs.Spelled.{SpellMembers}
 use Rattle.plan_text.proofs.tokens.MappingFromTokens.from_tokens.Given as goal
 

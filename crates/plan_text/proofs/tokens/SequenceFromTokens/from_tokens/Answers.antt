@@ -2,7 +2,7 @@ use Rattle.std.proofs.Common.{suc, ◌≤◌, length, map, ◌≡◌, ◌∷◌,
 use Rattle.json.specs.Json.{after_end_array}
 use Rattle.json.specs.Reads.{token_of}
 use Rattle.json.proofs.Grammar.{closed_array}
-use Rattle.plan_text.specs.Parts.{list_data}
+use Rattle.plan_documents.specs.Parts.{list_data}
 use Rattle.plan_text.specs.Spelled.{Spells}
 use Rattle.plan_text.proofs.SpelledLaws.{spells_fewer, item_step, list_spells}
 use Rattle.plan_text.proofs.tokens.SequenceFromTokens.from_tokens.Goals as goal

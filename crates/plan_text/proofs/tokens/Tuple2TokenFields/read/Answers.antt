@@ -2,7 +2,7 @@ use Rattle.std.proofs.Common.{◌≡◌, ℕ, List, [], IfOk, ◌∷◌, max, ma
 use Rattle.std.specs.Borrow.{Bor}
 use Rattle.json.specs.Token as token
 use Rattle.plan_text.specs.Spelled.{SpellMembers}
-use Rattle.plan_text.specs.Fields.{documents_at}
+use Rattle.plan_documents.specs.Fields.{documents_at}
 use Rattle.plan_text.proofs.SpelledLaws.{first_key, same_text}
 use Rattle.plan_text.proofs.tokens.Tuple2TokenFields.read.Goals as goal
 

@@ -1,0 +1,5 @@
+pub mod EntryLaws
+pub mod Fitting
+pub mod Laws
+pub mod PlanLaws
+mod Steps
