@@ -26,4 +26,4 @@ pub use change::{LegChange, RunChange};
 pub use counted::Counted;
 pub use tally::Tally;
 pub use tracked::Tracked;
-pub use undo::Change;
+pub use undo::{Change, OnlyChange};

@@ -1,14 +1,15 @@
 //! A plan in play with its counters, and what takes back what was changed since it last began.
 
-ghost use Rattle.std.specs.Prelude.{◌≡◌, ◌≤◌, ◌<◌, ◌+◌, ◌-◌, ◌++◌, ◌∷◌, [], IfOk, OnOk, OnErr, vec_len, vec_capacity};
+ghost use Rattle.std.specs.Prelude.{◌≡◌, ◌≤◌, ◌<◌, ◌+◌, ◌-◌, ◌++◌, ◌∷◌, [], None, IfOk, IfSome, OnOk, OnErr, vec_len, vec_capacity};
 ghost use Rattle.flat_counters.specs.Changes as spec;
-ghost use Rattle.flat_counters.specs.Undo.{undone};
+ghost use Rattle.flat_counters.specs.Undo.{only_before, undone};
+ghost use Rattle.flow_model.specs.declared.board.Board.{Board as BoardOf};
 ghost use Rattle.status_table.specs.Change.{with_leg, with_run};
 ghost use Rattle.status_table.specs.Row as row;
 
 use crate::change::{LegChange, RunChange};
 use crate::counted::Counted;
-use crate::undo::Change;
+use crate::undo::{Change, LegBack, OnlyChange};
 use board_places::place::{JobPlace, LegPlace};
 use flow_model::{CheckedPlan, DoneStep, JobState};
 use std::alloc::{AllocError, Global};
@@ -33,6 +34,29 @@ fn take_all_back(counted: &mut Counted, alloc: Global, changes: Vec<Change>)
     let mut left = changes;
     while let Some(change) = left.pop() {
         counted.take_back(alloc, change);
+    }
+}
+
+/// What puts a leg back, where that is its state alone.
+fn state_back(back: &LegBack) -> Option<OnlyChange>
+    ensures { IfSome result (λ only. (b : BoardOf)
+        → with_leg b back.now.place (spec.leg_after back.now.how) ≡ only_before only b) }
+{
+    match &back.how {
+        LegChange::State(state) => Some(OnlyChange::State(back.place, *state)),
+        LegChange::Group(..) | LegChange::Outputs(..) | LegChange::Stop(_) => None,
+    }
+}
+
+/// The only one of some changes, where that is a leg's state or a step that is done.
+fn only_of(changes: &[Change]) -> Option<OnlyChange>
+    ensures { IfSome result (λ only. (b : BoardOf) → undone changes.now b ≡ only_before only b) }
+{
+    match changes {
+        [Change::Leg(back)] => state_back(back),
+        [Change::Step(place, state)] => Some(OnlyChange::Step(*place, *state)),
+        [Change::Job(..) | Change::Run(_) | Change::End] => None,
+        [] | [_, _, ..] => None,
     }
 }
 
@@ -106,6 +130,34 @@ impl Tracked {
         ensures back { undone result.items self.new.board ≡ self.old.back }
     {
         mem::replace(&mut self.changes, Vec::new(alloc))
+    }
+
+    /// What takes back the only change since it began, where that is a leg's state or a step that is done; it begins
+    /// anew then, and keeps its memory. Else nothing is changed.
+    pub fn take_only(&mut self) -> Option<OnlyChange>
+        ensures plan { self.new.plan ≡ self.old.plan }
+        ensures board { self.new.board ≡ self.old.board }
+        ensures back { IfSome result (λ only. only_before only self.new.board ≡ self.old.back) }
+        ensures none { result ≡ None → self.new.back ≡ self.old.back }
+    {
+        let only = only_of(self.changes.as_slice())?;
+        self.changes.clear();
+        Some(only)
+    }
+
+    /// Takes the only change of an entry back. It takes no memory.
+    pub fn revert_only(&mut self, alloc: Global, only: OnlyChange)
+        ensures plan { self.new.plan ≡ self.old.plan }
+        ensures board { self.new.board ≡ only_before only self.old.board }
+    {
+        match only {
+            OnlyChange::State(place, state) => {
+                drop(self.counted.change_leg(place, LegChange::State(state)));
+            },
+            OnlyChange::Step(place, state) => {
+                self.counted.take_back(alloc, Change::Step(place, state));
+            },
+        }
     }
 
     /// Takes changes back, the last one first. It takes no memory.

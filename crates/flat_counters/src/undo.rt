@@ -22,6 +22,15 @@ pub struct RunBack {
     ghost named: { Names (run_group how) },
 }
 
+/// What takes back the only change of an entry, where that is a leg's state or a step that is done.
+#[derive(Clone, Copy)]
+pub enum OnlyChange {
+    /// A leg comes into a state.
+    State(LegPlace, LegState),
+    /// The last step of a leg is taken off, and the leg comes into a state.
+    Step(LegPlace, LegState),
+}
+
 /// What takes a change of a board back.
 #[derive(Drop)]
 pub enum Change {

@@ -1,6 +1,8 @@
+pub mod Back
 pub mod Changed
 pub mod Entering
 pub mod Kept
+pub mod Known
 pub mod Leaving
 pub mod Lookups
 pub mod Members

@@ -14,7 +14,7 @@ use Rattle.group_admission.specs.declared.cell.Cell.{Cell}
 use Rattle.group_admission.specs.declared.held.Held.{Held}
 
 -- what is set behind the first leaves the first
-set_here-cons : (x : Cell) (xs : List Cell) (i : ℕ) (held : Held) → set_here (x ∷ xs) (suc i) held ≡ x ∷ set_here xs i held
+pub set_here-cons : (x : Cell) (xs : List Cell) (i : ℕ) (held : Option Held) → set_here (x ∷ xs) (suc i) held ≡ x ∷ set_here xs i held
 set_here-cons x xs i held = go (slice_get xs i)
   where
     go : (o : Option Cell) → set_there (x ∷ xs) (suc i) held o ≡ x ∷ set_there xs i held o
@@ -22,17 +22,17 @@ set_here-cons x xs i held = go (slice_get xs i)
     go (Some y) = refl
 
 -- the cell at a name's place, where it is that name's, is the one to set
-pub set_cell : (name : List ℕ) (held : Held) (cells : List Cell) → is_of name (slice_get cells (count_below name cells)) ≡ true → set_here cells (count_below name cells) held ≡ with_cell name held cells
+pub set_cell : (name : List ℕ) (held : Held) (cells : List Cell) → is_of name (slice_get cells (count_below name cells)) ≡ true → set_here cells (count_below name cells) (Some held) ≡ with_cell name held cells
 set_cell name held [] h = absurd (false≢true h)
 set_cell name held (x ∷ xs) h = go (slice_cmp nat_cmp name x.name) refl h (set_cell name held xs)
   where
     go : (o : Ordering) → slice_cmp nat_cmp name x.name ≡ o → is_of name (slice_get (x ∷ xs) (if is_gt o then suc (count_below name xs) else 0)) ≡ true
-        → (is_of name (slice_get xs (count_below name xs)) ≡ true → set_here xs (count_below name xs) held ≡ with_cell name held xs)
-        → set_here (x ∷ xs) (if is_gt o then suc (count_below name xs) else 0) held
+        → (is_of name (slice_get xs (count_below name xs)) ≡ true → set_here xs (count_below name xs) (Some held) ≡ with_cell name held xs)
+        → set_here (x ∷ xs) (if is_gt o then suc (count_below name xs) else 0) (Some held)
         ≡ match_ordering o (record { name = name; held = Some held } ∷ x ∷ xs) (record x { held = Some held } ∷ xs) (x ∷ with_cell name held xs)
     go Less is h ih = absurd (false≢true (rw is at h))
     go Equal is h ih = refl
-    go Greater is h ih = set_here-cons x xs (count_below name xs) held ∙ ap (λ (ys : List Cell). x ∷ ys) (ih h)
+    go Greater is h ih = set_here-cons x xs (count_below name xs) (Some held) ∙ ap (λ (ys : List Cell). x ∷ ys) (ih h)
 
 -- a new cell goes to the name's place
 pub insert_cell : (name : List ℕ) (held : Held) (cells : List Cell) → is_of name (slice_get cells (count_below name cells)) ≡ false → insert cells (count_below name cells) (record { name = name; held = Some held }) ≡ with_cell name held cells

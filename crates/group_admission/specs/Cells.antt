@@ -3,14 +3,18 @@ use Rattle.std.specs.Prelude.{ℕ, suc, Bool, false, List, [], ◌∷◌, map, s
 use Rattle.std.specs.Ordering.{nat_cmp, match_ordering, is_eq, is_gt}
 use Rattle.std.specs.Cmp.Lexicographic.{slice_cmp}
 use Rattle.std.specs.List.Sorted.{IsStrictlySortedBy}
-use Rattle.group_admission.specs.Content.{Content, EachOnce, with_held}
+use Rattle.group_admission.specs.Content.{Content, EachOnce}
+use Rattle.group_admission.specs.Known.{Known, content}
 use Rattle.group_admission.specs.declared.cell.Cell.{Cell}
 use Rattle.group_admission.specs.declared.held.Held.{Held}
 
+-- The names that were entered.
+abbrev pub known_in : List Cell → Known
+known_in cells = map (λ cell. (cell.name, cell.held)) cells
+
 -- The names that are held; a cell that nobody holds is as none.
 abbrev pub held_in : List Cell → Content
-held_in [] = []
-held_in (cell ∷ cells) = with_held cell.name cell.held (held_in cells)
+held_in cells = content (known_in cells)
 
 -- Each name is above those before it.
 abbrev pub Ascend : List Cell → Type 0
@@ -43,12 +47,12 @@ count_below name (cell ∷ cells) =
     if is_gt (slice_cmp nat_cmp name cell.name) then suc (count_below name cells) else 0
 
 -- The cells where that at a place, if one is there, is held so.
-abbrev pub set_there : List Cell → ℕ → Held → Option Cell → List Cell
+abbrev pub set_there : List Cell → ℕ → Option Held → Option Cell → List Cell
 set_there cells place held None = cells
-set_there cells place held (Some cell) = slice_set cells place (record cell { held = Some held })
+set_there cells place held (Some cell) = slice_set cells place (record cell { held = held })
 
 -- The cells where that at a place is held so.
-abbrev pub set_here : List Cell → ℕ → Held → List Cell
+abbrev pub set_here : List Cell → ℕ → Option Held → List Cell
 set_here cells place held = set_there cells place held (slice_get cells place)
 
 -- The cells where a name is held so, in a cell of its own if it had none.
@@ -59,6 +63,15 @@ with_cell name held (cell ∷ cells) =
     (record { name = name; held = Some held } ∷ cell ∷ cells)
     (record cell { held = Some held } ∷ cells)
     (cell ∷ with_cell name held cells)
+
+-- The cells where a name, if it has a cell, is held so, or by nobody.
+abbrev pub put_at : List ℕ → Option Held → List Cell → List Cell
+put_at name held [] = []
+put_at name held (cell ∷ cells) =
+    match_ordering (slice_cmp nat_cmp name cell.name)
+    (cell ∷ cells)
+    (record cell { held = held } ∷ cells)
+    (cell ∷ put_at name held cells)
 
 -- The cell, held as said of who held it.
 abbrev pub changed : (Held → Option Held) → Cell → Cell

@@ -1,3 +1,4 @@
 pub mod Cells
 pub mod Content
+pub mod Known
 pub mod Laws

@@ -1,9 +1,9 @@
 //! The cells of all names, in their order: a name's cell is found by halves, and none is taken away.
 
-ghost use Rattle.std.specs.Prelude.{◌≡◌, IfOk, OnOk, OnErr, map, slice_get};
+ghost use Rattle.std.specs.Prelude.{◌≡◌, IfOk, OnOk, OnErr, Some, map, slice_get};
 ghost use Rattle.expr_reader.specs.Fold.{fold};
 ghost use Rattle.flow_model.specs.Mapping.{value_at, with_pair};
-ghost use Rattle.group_admission.specs.Cells.{Ascend, held_in};
+ghost use Rattle.group_admission.specs.Cells.{Ascend, held_in, known_in};
 ghost use Rattle.group_admission.specs.Cells as spec;
 ghost use Rattle.group_admission.specs.Content as content;
 ghost use Rattle.group_admission.specs.Content.{left_by, released, withdrawn};
@@ -80,12 +80,25 @@ pub(crate) fn held_at(cells: &[Cell], name: &str) -> Option<Held>
     held_here(cells, place, name)
 }
 
-/// Sets who holds the name of the cell at a place, if one is there.
-fn set_here(cells: &mut Vec<Cell>, place: usize, held: Held)
+/// Sets who holds the name of the cell at a place, or that nobody does, if one is there.
+fn set_here(cells: &mut Vec<Cell>, place: usize, held: Option<Held>)
     ensures { cells.new.items ≡ spec.set_here cells.old.items place held }
 {
     if place < cells.len() {
-        cells[place].held = Some(held);
+        cells[place].held = held;
+    }
+}
+
+/// Sets who holds a name, or that nobody does, if it has a cell; no other cell changes. It looks at few
+/// cells, by halves.
+#[tactic(auto, using(crate::proofs::Known::put_cell, crate::proofs::Known::put_none))]
+pub(crate) fn put_held(cells: &mut Vec<Cell>, name: &str, held: Option<Held>)
+    requires { Ascend cells.old.items }
+    ensures { cells.new.items ≡ spec.put_at (fold name.now) held cells.old.items }
+{
+    let place = place_of(cells, name);
+    if is_of(cells, place, name) {
+        set_here(cells, place, held);
     }
 }
 
@@ -105,7 +118,7 @@ fn write_held(
 {
     let place = place_of(cells, name);
     if is_of(cells, place, name) {
-        set_here(cells, place, held);
+        set_here(cells, place, Some(held));
         return Ok(());
     }
     let name = Text::new(fold(alloc, name)?);
@@ -115,7 +128,7 @@ fn write_held(
 }
 
 /// Sets who holds a name, and changes no other; where memory runs out, nothing is changed.
-#[tactic(auto, using(crate::proofs::Written::held_in_with_cell, crate::proofs::Written::ascend_with_cell))]
+#[tactic(auto, using(crate::proofs::Known::known_in_with_cell, crate::proofs::Written::held_in_with_cell, crate::proofs::Written::ascend_with_cell))]
 pub(crate) fn set_held(
     cells: &mut Vec<Cell>,
     alloc: Global,
@@ -125,7 +138,9 @@ pub(crate) fn set_held(
     requires { Ascend cells.old.items }
     ensures ok { OnOk result
         (held_in cells.new.items ≡ with_pair (fold name.now) held (held_in cells.old.items)) }
-    ensures err { OnErr result (held_in cells.new.items ≡ held_in cells.old.items) }
+    ensures known { OnOk result
+        (known_in cells.new.items ≡ with_pair (fold name.now) (Some held) (known_in cells.old.items)) }
+    ensures err { OnErr result (cells.new.items ≡ cells.old.items) }
     ensures ordered { Ascend cells.new.items }
 {
     write_held(cells, alloc, name, held)?;

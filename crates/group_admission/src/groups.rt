@@ -1,14 +1,15 @@
 //! The groups of a board in play: who holds each name, and who waits for it.
 
-ghost use Rattle.std.specs.Prelude.{◌≡◌, ◌≢◌, [], Some, false, IfOk, OnOk, OnErr};
+ghost use Rattle.std.specs.Prelude.{◌≡◌, ◌≢◌, ℕ, List, [], Some, false, IfOk, OnOk, OnErr};
 ghost use Rattle.expr_reader.specs.Fold.{fold};
 ghost use Rattle.flow_model.specs.Mapping.{value_at, with_pair, Ascends};
 ghost use Rattle.group_admission.specs.Content as spec;
+ghost use Rattle.group_admission.specs.Known.{Grows, content, is_known, put_known};
 
 use crate::cell::Cell;
 use crate::cells::{
-    copy_cells, held_at, is_in_group, is_waiting, leave_name, next_after, release_all, set_held,
-    withdraw_all,
+    copy_cells, held_at, is_in_group, is_waiting, leave_name, next_after, put_held, release_all,
+    set_held, withdraw_all,
 };
 use crate::entered::Entered;
 use crate::held::{Held, first, joined};
@@ -30,13 +31,13 @@ pub struct Groups {
 }
 
 impl Model for Groups {
-    ghost use Rattle.std.specs.Prelude.{List, ℕ};
-    ghost use Rattle.group_admission.specs.Cells.{held_in, IsSound};
+    ghost use Rattle.std.specs.Prelude.{List, Option, ℕ};
+    ghost use Rattle.group_admission.specs.Cells.{known_in, IsSound};
     ghost use Rattle.group_admission.specs.declared.held.Held.{Held};
 
-    ghost Value = { List (List ℕ × Held) };
+    ghost Value = { List (List ℕ × Option Held) };
 
-    ghost view = { λ groups. held_in groups.cells.items };
+    ghost view = { λ groups. known_in groups.cells.items };
 
     ghost invariant = { λ groups. IsSound groups.cells.items };
 }
@@ -53,9 +54,9 @@ impl Groups {
     /// The member that holds a name, if there is one. It takes no memory, and finds the name by
     /// halves.
     pub fn holder(&self, name: &str) -> Option<Member>
-        ensures member { result ≡ spec.holder_of (fold name.now) self.now }
-        ensures ordered { Ascends self.now }
-        ensures once { spec.EachOnce self.now }
+        ensures member { result ≡ spec.holder_of (fold name.now) (content self.now) }
+        ensures ordered { Ascends (content self.now) }
+        ensures once { spec.EachOnce (content self.now) }
     {
         match held_at(self.cells.as_slice(), name) {
             Some(held) => Some(held.holder),
@@ -66,7 +67,7 @@ impl Groups {
     /// Whether a member holds a name or waits for one. It takes no memory, and goes over all names
     /// that were entered.
     pub fn is_in_group(&self, member: Member) -> bool
-        ensures { result ≡ spec.is_in_group member self.now }
+        ensures { result ≡ spec.is_in_group member (content self.now) }
     {
         is_in_group(self.cells.as_slice(), member)
     }
@@ -74,7 +75,7 @@ impl Groups {
     /// The member that waits for a name, if there is one. It takes no memory, and finds the name by
     /// halves.
     pub fn waiting(&self, name: &str) -> Option<Member>
-        ensures { result ≡ spec.waiter_of (fold name.now) self.now }
+        ensures { result ≡ spec.waiter_of (fold name.now) (content self.now) }
     {
         match held_at(self.cells.as_slice(), name) {
             Some(held) => held.waiter,
@@ -85,8 +86,9 @@ impl Groups {
     /// A member leaves what it holds: its waiter, if there is one, holds it from now on, and is told.
     /// It takes no memory, and goes over all names that were entered.
     pub fn release(&mut self, member: Member) -> Option<Member>
-        ensures next { result ≡ spec.next_after member self.old }
-        ensures groups { self.new ≡ spec.after_release member self.old }
+        ensures next { result ≡ spec.next_after member (content self.old) }
+        ensures groups { content self.new ≡ spec.after_release member (content self.old) }
+        ensures known { (q : List ℕ) → is_known q self.new ≡ is_known q self.old }
     {
         let next = next_after(self.cells.as_slice(), member);
         release_all(&mut self.cells, member);
@@ -96,8 +98,9 @@ impl Groups {
     /// A member leaves its wait, and whether it waited is told. It takes no memory, and goes over all
     /// names that were entered.
     pub fn withdraw(&mut self, member: Member) -> bool
-        ensures waited { result ≡ spec.is_waiting member self.old }
-        ensures groups { self.new ≡ spec.after_withdraw member self.old }
+        ensures waited { result ≡ spec.is_waiting member (content self.old) }
+        ensures groups { content self.new ≡ spec.after_withdraw member (content self.old) }
+        ensures known { (q : List ℕ) → is_known q self.new ≡ is_known q self.old }
     {
         let waited = is_waiting(self.cells.as_slice(), member);
         withdraw_all(&mut self.cells, member);
@@ -108,14 +111,40 @@ impl Groups {
     /// ends. Where it neither holds the name nor waits for it, nothing is changed. It takes no memory, and
     /// finds the name by halves.
     pub fn leave_name(&mut self, name: &str, member: Member)
-        ensures held { spec.holder_of (fold name.now) self.old ≡ Some member
-            → self.new ≡ spec.after_release member self.old }
-        ensures awaited { spec.waiter_of (fold name.now) self.old ≡ Some member
-            → self.new ≡ spec.after_withdraw member self.old }
-        ensures other { spec.holder_of (fold name.now) self.old ≢ Some member
-            → spec.waiter_of (fold name.now) self.old ≢ Some member → self.new ≡ self.old }
+        ensures held { spec.holder_of (fold name.now) (content self.old) ≡ Some member
+            → content self.new ≡ spec.after_release member (content self.old) }
+        ensures awaited { spec.waiter_of (fold name.now) (content self.old) ≡ Some member
+            → content self.new ≡ spec.after_withdraw member (content self.old) }
+        ensures other { spec.holder_of (fold name.now) (content self.old) ≢ Some member
+            → spec.waiter_of (fold name.now) (content self.old) ≢ Some member
+            → content self.new ≡ content self.old }
+        ensures known { (q : List ℕ) → is_known q self.new ≡ is_known q self.old }
     {
         leave_name(&mut self.cells, name, member);
+    }
+
+    /// The names that were entered are in order. It does nothing.
+    pub fn names_ascend(&self)
+        ensures { Ascends self.now }
+    {
+        let _cells = self.cells.as_slice();
+    }
+
+    /// Who holds a name, and who waits for it, if somebody holds it. It takes no memory, and finds the name
+    /// by halves.
+    pub fn held(&self, name: &str) -> Option<Held>
+        ensures { result ≡ value_at (fold name.now) (content self.now) }
+    {
+        held_at(self.cells.as_slice(), name)
+    }
+
+    /// Puts back who holds a name that is known, and who waits for it, or that nobody does; no other name
+    /// changes, and one that isn't known stays so. It takes no memory, and finds the name by halves.
+    pub fn put_back(&mut self, name: &str, held: Option<Held>)
+        requires { spec.EachOnce (content (put_known (fold name.now) held self.old)) }
+        ensures { self.new ≡ put_known (fold name.now) held self.old }
+    {
+        put_held(&mut self.cells, name, held);
     }
 
     /// A member enters a name, as a leg of `own_run` if that is said. It is admitted where nobody
@@ -132,11 +161,12 @@ impl Groups {
         own_run: Option<u64>,
         cancel: bool,
     ) -> Result<Entered, AllocError>
-        requires { spec.is_in_group member self.old ≡ false }
+        requires { spec.is_in_group member (content self.old) ≡ false }
         ensures answer { IfOk result
-            (λ entered. entered ≡ spec.answer_to (fold name.now) own_run cancel self.old) }
+            (λ entered. entered ≡ spec.answer_to (fold name.now) own_run cancel (content self.old)) }
         ensures ok { OnOk result
-            (self.new ≡ spec.after_enter (fold name.now) member own_run self.old) }
+            (content self.new ≡ spec.after_enter (fold name.now) member own_run (content self.old)) }
+        ensures known { Grows (fold name.now) self.old self.new }
         ensures err { OnErr result (self.new ≡ self.old) }
     {
         if name.is_empty() {
@@ -153,11 +183,13 @@ impl Groups {
         own_run: Option<u64>,
         cancel: bool,
     ) -> Result<Entered, AllocError>
-        requires { spec.is_in_group member self.old ≡ false }
-        ensures answer { let held = value_at (fold name.now) self.old in
+        requires { spec.is_in_group member (content self.old) ≡ false }
+        ensures answer { let held = value_at (fold name.now) (content self.old) in
             IfOk result (λ entered. entered ≡ spec.answer_at own_run cancel held) }
-        ensures ok { let held = value_at (fold name.now) self.old in
-            OnOk result (self.new ≡ spec.after_at (fold name.now) member own_run held self.old) }
+        ensures ok { let held = value_at (fold name.now) (content self.old) in
+            OnOk result
+            (content self.new ≡ spec.after_at (fold name.now) member own_run held (content self.old)) }
+        ensures known { Grows (fold name.now) self.old self.new }
         ensures err { OnErr result (self.new ≡ self.old) }
     {
         match held_at(self.cells.as_slice(), name) {
@@ -175,8 +207,9 @@ impl Groups {
 
     /// Sets who holds a name and who waits for it; where memory runs out, nothing is changed.
     fn hold(&mut self, name: &str, held: Held) -> Result<(), AllocError>
-        requires { spec.EachOnce (with_pair (fold name.now) held self.old) }
-        ensures ok { OnOk result (self.new ≡ with_pair (fold name.now) held self.old) }
+        requires { spec.EachOnce (with_pair (fold name.now) held (content self.old)) }
+        ensures ok { OnOk result (content self.new ≡ with_pair (fold name.now) held (content self.old)) }
+        ensures known { OnOk result (self.new ≡ with_pair (fold name.now) (Some held) self.old) }
         ensures err { OnErr result (self.new ≡ self.old) }
     {
         set_held(&mut self.cells, self.alloc, name, held)?;
