@@ -11,14 +11,14 @@ ghost use Rattle.status_table.specs.Grouped.{KeptAsShown, leg_asked, leg_left, r
 ghost use Rattle.status_table.specs.InPlay.{InPlay};
 ghost use Rattle.status_table.specs.Row as spec;
 
-use crate::found::{find_leg, is_full, is_stopping, keep};
+use crate::found::{find_job, find_leg, is_full, is_stopping, keep};
 use crate::groups::{enter_leg, enter_run, leave, leave_leg, leg_stand, next_after, run_stand};
 use crate::laws::who_enters_is_outside;
 use crate::members::{close_run, drop_leg, pass_on, set_ended, stop_run};
 use board_decisions::ancestors::job_status_kept;
 use board_decisions::decisions::{job_condition, leg_entrance, leg_outputs, run_entrance};
 use board_decisions::derived::is_closed;
-use board_places::place::{SeenJob, find_job, find_run};
+use board_places::place::{SeenJob, find_run};
 use flat_counters::{Counted, LegChange, Tracked};
 use flow_model::{Answer, JobState, LegState, Member, Outcome, Reply, RunState, What};
 use group_admission::Groups;
@@ -100,7 +100,7 @@ pub(crate) fn judge(alloc: Global, state: &mut Tracked, number: u64) -> Result<R
     ensures back { OnOk result (state.new.back ≡ state.old.back) }
 {
     let play = state.counted();
-    let Some(at) = find_job(play.plan(), play.board(), number as usize) else {
+    let Some(at) = find_job(play, number) else {
         return Err(EventFault::NoSuch);
     };
     let to = judgement(alloc, play, number, &at)?;

@@ -1,19 +1,18 @@
 //! Legs as they are found, with the tally of their job, and what is read off it.
 
-ghost use Rattle.std.specs.Prelude.{◌≡◌, IfOk, IfSome, Some, option_map};
+ghost use Rattle.std.specs.Prelude.{◌≡◌, IfOk, IfSome, Some, option_map, slice_get};
 ghost use Rattle.board_decisions.specs.Decisions as decision;
 ghost use Rattle.board_decisions.specs.Derived as derived;
 ghost use Rattle.board_decisions.specs.Kept.{IsKeptOf};
 ghost use Rattle.board_places.specs.Numbered.{leg_there};
-ghost use Rattle.board_places.specs.Place.{leg_at};
-ghost use Rattle.board_places.specs.Seen.{leg_seen};
+ghost use Rattle.board_places.specs.Place.{job_at, leg_at};
+ghost use Rattle.board_places.specs.Seen.{job_seen, leg_seen};
 ghost use Rattle.flat_counters.specs.Counters.{tally_of};
 ghost use Rattle.flat_counters.specs.Names.{IsNamed};
 
 use board_decisions::decisions::is_stopping_given;
 use board_decisions::kept::Kept;
-use board_places::place::{SeenLeg, find_placed_leg};
-use board_decisions::unasked::has_own_env;
+use board_places::place::{SeenJob, SeenLeg, find_placed_leg, find_run, job_in_run};
 use flat_counters::counted::job_of;
 use flat_counters::{Counted, Tally};
 use std::alloc::{AllocError, Global};
@@ -26,6 +25,16 @@ pub(crate) struct TalliedLeg<'a> {
     ghost tallied: { tally ≡ tally_of at.job.now },
 }
 
+/// The job with a number.
+pub(crate) fn find_job(state: &Counted, number: u64) -> Option<SeenJob<'_>>
+    ensures { option_map job_seen result ≡ job_at state.now.plan state.now.board number }
+{
+    let board = state.board();
+    let place = state.job_place(number)?;
+    let at = find_run(state.plan(), board, place.run)?;
+    job_in_run(board, at.plan, at.run, place)
+}
+
 /// The leg with a number.
 pub(crate) fn find_leg(state: &Counted, number: u64) -> Option<TalliedLeg<'_>>
     ensures found { option_map (λ found. leg_seen found.at) result
@@ -33,6 +42,11 @@ pub(crate) fn find_leg(state: &Counted, number: u64) -> Option<TalliedLeg<'_>>
     ensures named { IsNamed state.now.board }
     ensures there { IfSome result
         (λ found. leg_there state.now.board found.at.place ≡ Some (leg_seen found.at).leg) }
+    ensures run_plan { IfSome result (λ found. slice_get state.now.plan.runs found.at.place.run
+        ≡ Some (leg_seen found.at).run_plan) }
+    ensures job_plan { IfSome result
+        (λ found. slice_get (leg_seen found.at).run_plan.jobs found.at.place.job
+        ≡ Some (leg_seen found.at).job_plan) }
 {
     let board = state.board();
     let place = state.leg_place(number)?;
@@ -61,13 +75,17 @@ fn stops_anyway(leg: &TalliedLeg) -> bool
 
 /// What is kept of a leg, so that nothing is walked over to know how it counts.
 pub(crate) fn keep(state: &Counted, leg: &TalliedLeg) -> Kept
-    requires { leg_there state.now.board leg.now.at.place ≡ Some (leg_seen leg.now.at).leg }
+    requires there { leg_there state.now.board leg.now.at.place ≡ Some (leg_seen leg.now.at).leg }
+    requires run_plan { slice_get state.now.plan.runs leg.now.at.place.run
+        ≡ Some (leg_seen leg.now.at).run_plan }
+    requires job_plan { slice_get (leg_seen leg.now.at).run_plan.jobs leg.now.at.place.job
+        ≡ Some (leg_seen leg.now.at).job_plan }
     ensures { IsKeptOf result (leg_seen leg.now.at) }
 {
     Kept {
         stops_anyway: stops_anyway(leg),
         has_failed_step: state.has_failed_step(leg.at.place),
-        has_own_env: has_own_env(leg.at.run_plan, leg.at.job_plan),
+        has_own_env: state.has_own_env(job_of(leg.at.place)),
     }
 }
 

@@ -8,8 +8,8 @@ ghost use Rattle.status_table.specs.InPlay.{InPlay};
 ghost use Rattle.status_table.specs.Kinds as spec;
 ghost use Rattle.status_table.specs.Moves as rule;
 
-use crate::found::{find_leg, is_full, is_stopping};
-use board_places::place::{find_job, find_run};
+use crate::found::{find_job, find_leg, is_full, is_stopping};
+use board_places::place::find_run;
 use flat_counters::Counted;
 use flow_model::{Event, JobState, RunState};
 use status_table::events::{may_ask, may_drop};
@@ -36,7 +36,7 @@ fn judges(state: &Counted, number: u64) -> bool
     requires { InPlay state.now.plan state.now.board }
     ensures { result ≡ rule.accepts state.now.plan state.now.board (event.Judge number) }
 {
-    let Some(at) = find_job(state.plan(), state.board(), number as usize) else {
+    let Some(at) = find_job(state, number) else {
         return false;
     };
     match (at.run.state, at.job.state) {

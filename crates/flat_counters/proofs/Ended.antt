@@ -1,5 +1,5 @@
 -- What has ended, by the counters.
-use Rattle.std.proofs.Common.{◌≡◌, ℕ, zero, suc, ◌+◌, ◌-◌, ◌==◌, ◌||◌, ◌&&◌, Bool, true, false, not, List, [], ◌∷◌, Option, Some, map, slice_get, count_by, ap, sym, refl, ◌∙◌, arith}
+use Rattle.std.proofs.Common.{◌≡◌, ℕ, zero, suc, ◌+◌, ◌-◌, ◌==◌, ◌||◌, ◌&&◌, Bool, true, false, not, List, [], ◌∷◌, Option, Some, slice_get, count_by, ap, sym, refl, ◌∙◌, arith}
 use Rattle.std.specs.List.{list_all}
 use Rattle.std.proofs.lemmas.Bool.{true≢false}
 use Rattle.std.proofs.lemmas.Bool.Decides.{nat_tests}
@@ -75,27 +75,6 @@ jobs_ended run going = all-each is_settled (job_has_ended run) run.jobs (λ job.
 
 -- ---- needs
 
-none-open : (flags : List Bool) (g : ℕ → ℕ) (needs : List ℕ)
-    → (count_by (λ place. not (holds_at flags place)) (map g needs) == 0) ≡ list_all (λ need. holds_at flags (g need)) needs
-none-open flags g [] = refl
-none-open flags g (n ∷ ns) = by (none-open flags g ns) (holds_at flags (g n)) refl
-  where
-    cons : count_by (λ place. not (holds_at flags place)) (map g (n ∷ ns)) ≡ one (not (holds_at flags (g n))) + count_by (λ place. not (holds_at flags place)) (map g ns)
-    cons = sum_by-cons (λ place. one (not (holds_at flags place))) (g n) (map g ns)
-
-    by : (count_by (λ place. not (holds_at flags place)) (map g ns) == 0) ≡ list_all (λ need. holds_at flags (g need)) ns → (c : Bool) → holds_at flags (g n) ≡ c
-        → (count_by (λ place. not (holds_at flags place)) (map g (n ∷ ns)) == 0) ≡ list_all (λ need. holds_at flags (g need)) (n ∷ ns)
-    by later true is =
-        let a = ap (λ d. one (not d)) is in
-        let m = cons in
-        let same : count_by (λ place. not (holds_at flags place)) (map g (n ∷ ns)) ≡ count_by (λ place. not (holds_at flags place)) (map g ns) = omega (arith, a, m) in
-        ap (λ k. k == 0) same ∙ later ∙ sym (ap (λ d. d && list_all (λ need. holds_at flags (g need)) ns) is)
-    by later false is =
-        let a = ap (λ d. one (not d)) is in
-        let m = cons in
-        let some : (count_by (λ place. not (holds_at flags place)) (map g (n ∷ ns)) == 0) ≡ false = grind (arith, nat_tests, a, m) in
-        some ∙ sym (ap (λ d. d && list_all (λ need. holds_at flags (g need)) ns) is)
-
 needs-at : (plans : List RunPlan) (runs : List Run) (r : ℕ) (plan : RunPlan) (run : Run) → slice_get plans r ≡ Some plan → slice_get runs r ≡ Some run
     → slice_get (needs_of plans runs) r ≡ Some (run_needs plan run)
 needs-at [] runs r plan run planned at = absurd (no_some plan planned)
@@ -134,5 +113,5 @@ needs_told law p b j at play is going =
     let flags = map-each is_settled (job_has_ended at.run) at.run.jobs (λ job. settled-ended at.run job going) in
     ap (λ (o : Option (List Need)). needs_none (o >>= λ row. slice_get row at.place.job)) row
     ∙ ap needs_none item
-    ∙ none-open (settled_jobs at.run) (λ need. need - first_number at.run_plan.jobs) at.plan.needs
+    ∙ sym (all-counted (λ need. holds_at (settled_jobs at.run) (need - first_number at.run_plan.jobs)) at.plan.needs)
     ∙ (λ i. list_all (λ need. holds_at (flags i) (need - first i)) at.plan.needs)

@@ -9,14 +9,17 @@ use Rattle.flow_model.specs.declared.board.JobState.{JobState}
 use Rattle.flow_model.specs.declared.board.Leg.{Leg}
 use Rattle.flow_model.specs.declared.board.LegState.{LegState}
 use Rattle.flow_model.specs.declared.board.Run.{Run}
-use Rattle.flat_counters.specs.Changes.{CameTo, LegRecounted, recounted_if, run_after, standing_counted}
+use Rattle.flat_counters.specs.Changes.{CameTo, LegRecounted, job_of, resettled, run_after, standing_counted}
 use Rattle.flat_counters.specs.Counted.{AreCounts, IsCounted}
 use Rattle.flat_counters.specs.Counters.{is_settled, moved, needs_of, tallies_of}
+use Rattle.flat_counters.specs.Dependents.{all_dependents, dependents_at}
 use Rattle.flat_counters.specs.Failing.{failing_of}
+use Rattle.flat_counters.specs.Lasting.{IsLasting}
 use Rattle.flat_counters.specs.Names.{IsGroup, IsNamed, RunComesNamed}
 use Rattle.flat_counters.specs.Standing.{run_moved, run_tally, standing_in, standing_read}
 use Rattle.flat_counters.specs.declared.change.RunChange.{RunChange}
 use Rattle.flat_counters.specs.declared.counts.Counts.{Counts}
+use Rattle.flat_counters.specs.declared.lasting.Lasting.{Lasting}
 use Rattle.flat_counters.specs.declared.need.Need.{Need}
 use Rattle.flat_counters.specs.declared.standing.JobStanding.{JobStanding}
 use Rattle.flat_counters.specs.declared.standing.RunTally.{RunTally}
@@ -25,15 +28,16 @@ use Rattle.flat_counters.proofs.Failings.{job_failing_kept, run_failing_kept}
 use Rattle.flat_counters.proofs.Lists.{changed-same}
 use Rattle.flat_counters.proofs.Named.{leg_named, job_named, run_named, jobs_stay}
 use Rattle.flat_counters.proofs.Needs.{needs_follow, needs-kept, settled_in}
-use Rattle.board_places.specs.Places.{leg_places}
-use Rattle.flat_counters.proofs.Placed.{leg_places_kept, job_leg_places, run_leg_places}
+use Rattle.board_places.specs.Places.{run_sizes}
+use Rattle.flat_counters.proofs.Placed.{leg_sizes, job_sizes, run_sizes_kept, still_lasts}
 use Rattle.flat_counters.proofs.Standings.{moved_alike, read_before, read_in, run_tallies_kept, runs_follow, standing_settles}
 use Rattle.flat_counters.proofs.Tallies.{ComesSo, alike_tallies, job_tallies, moved_same, run_tallies, tallied_so}
 use Rattle.status_table.specs.Change.{changed, with_run, with_job, with_leg}
 
 -- where a leg is counted alike, nothing is counted again
-pub alike_recounted : (place : LegPlace) (was is : LegState) (run : Option Run) (counts : Counts) → ((t : Tally) → moved was is t ≡ t) → LegRecounted place was is run counts counts
-alike_recounted place was is run counts alike = record {
+pub alike_recounted : (place : LegPlace) (was is : LegState) (run : Option Run) (dependents : List (List (List ℕ))) (counts : Counts) → ((t : Tally) → moved was is t ≡ t)
+    → LegRecounted place was is run dependents counts counts
+alike_recounted place was is run dependents counts alike = record {
   tallies = sym (alike_tallies place was is counts.tallies alike);
   runs = sym (changed-same counts.runs place.run (run_moved standing standing) (moved_alike standing));
   needs = sym (stays standing.is_settled);
@@ -42,28 +46,29 @@ alike_recounted place was is run counts alike = record {
     standing : JobStanding
     standing = standing_counted place run counts
 
-    stays : (c : Bool) → recounted_if c c run place.run counts.needs ≡ counts.needs
+    stays : (c : Bool) → resettled c c place.run (dependents_at dependents (job_of place)) counts.needs ≡ counts.needs
     stays true = refl
     stays false = refl
 
 -- so it is where it would be counted alike where it came to, and came there or nowhere
-pub came_alike : (place : LegPlace) (was to is : LegState) (run : Option Run) (counts : Counts) → CameTo was to is → ((t : Tally) → moved was to t ≡ t) → LegRecounted place was is run counts counts
-came_alike place was to is run counts came alike = alike_recounted place was is run counts (λ t. elim came [
+pub came_alike : (place : LegPlace) (was to is : LegState) (run : Option Run) (dependents : List (List (List ℕ))) (counts : Counts) → CameTo was to is → ((t : Tally) → moved was to t ≡ t)
+    → LegRecounted place was is run dependents counts counts
+came_alike place was to is run dependents counts came alike = alike_recounted place was is run dependents counts (λ t. elim came [
   | inl there ↦ ap (λ (s : LegState). moved was s t) there ∙ alike t
   | inr nowhere ↦ ap (λ (s : LegState). moved was s t) nowhere ∙ moved_same was t
 ])
 
 -- the needs where a job was changed
-job-needed : (p : Plan) (b new : Board) (r j : ℕ) (g : Job → Job) (was is : JobStanding) (old made : List (List Need)) → old ≡ needs_of p.runs b.runs
+job-needed : (p : Plan) (b new : Board) (r j : ℕ) (g : Job → Job) (was is : JobStanding) (ls : Lasting) (old made : List (List Need)) → IsLasting p b ls → old ≡ needs_of p.runs b.runs
     → new.runs ≡ changed b.runs r (λ run. record run { jobs = changed run.jobs j g }) → was ≡ standing_in (slice_get b.runs r) j → is ≡ standing_in (slice_get new.runs r) j
-    → made ≡ recounted_if was.is_settled is.is_settled (slice_get new.runs r) r old → made ≡ needs_of p.runs new.runs
-job-needed p b new r j g was is old made needed runs was_is is_is made_is =
+    → made ≡ resettled was.is_settled is.is_settled r (dependents_at ls.dependents (record { run = r; job = j })) old → made ≡ needs_of p.runs new.runs
+job-needed p b new r j g was is ls old made lasts needed runs was_is is_is made_is =
     let was_settled : was.is_settled ≡ settled_in (slice_get b.runs r) j = ap (λ (s : JobStanding). s.is_settled) was_is ∙ standing_settles (slice_get b.runs r) j in
     let is_settled : is.is_settled ≡ settled_in (slice_get new.runs r) j = ap (λ (s : JobStanding). s.is_settled) is_is ∙ standing_settles (slice_get new.runs r) j in
     made_is
-    ∙ (λ i. recounted_if (was_settled i) (is_settled i) (slice_get new.runs r) r (needed i))
-    ∙ (λ i. recounted_if (settled_in (slice_get b.runs r) j) (settled_in (slice_get (runs i) r) j) (slice_get (runs i) r) r (needs_of p.runs b.runs))
-    ∙ needs_follow p.runs b.runs r j g
+    ∙ (λ i. resettled (was_settled i) (is_settled i) r (dependents_at (lasts.dependents i) (record { run = r; job = j })) (needed i))
+    ∙ (λ i. resettled (settled_in (slice_get b.runs r) j) (settled_in (slice_get (runs i) r) j) r (dependents_at (all_dependents p.runs (run_sizes b.runs)) (record { run = r; job = j })) (needs_of p.runs b.runs))
+    ∙ needs_follow j g p.runs b.runs r
     ∙ ap (needs_of p.runs) (sym runs)
 
 -- how the jobs stand where one was changed
@@ -77,9 +82,9 @@ jobs-stand b new r j g was is old made stand runs was_is is_is made_is =
     ∙ ap (map run_tally) (sym runs)
 
 -- the counts where a leg was changed
-pub leg_counts : (p : Plan) (b new : Board) (place : LegPlace) (f : Leg → Leg) (was is : LegState) (old made : Counts) → AreCounts p b old → new ≡ with_leg b place f
-    → ComesSo b new place was is → LegRecounted place was is (slice_get new.runs place.run) old made → AreCounts p new made
-leg_counts p b new place f was is old made counted new_is so again =
+pub leg_counts : (p : Plan) (b new : Board) (place : LegPlace) (f : Leg → Leg) (was is : LegState) (old made : Counts) (ls : Lasting) → AreCounts p b old → IsLasting p b ls → new ≡ with_leg b place f
+    → ComesSo b new place was is → LegRecounted place was is (slice_get new.runs place.run) ls.dependents old made → AreCounts p new made
+leg_counts p b new place f was is old made ls counted lasts new_is so again =
     let g : Job → Job = λ job. record job { legs = changed job.legs place.leg f } in
     let runs : new.runs ≡ (with_leg b place f).runs = ap (λ (x : Board). x.runs) new_is in
     let tallied : made.tallies ≡ tallies_of new = again.tallies ∙ tallied_so b new place f was is old.tallies counted.tallied new_is so in
@@ -90,26 +95,26 @@ leg_counts p b new place f was is old made counted new_is so again =
     record {
       tallied = tallied;
       stand = jobs-stand b new place.run place.job g _ _ old.runs made.runs counted.stand runs before after again.runs;
-      needed = job-needed p b new place.run place.job g _ _ old.needs made.needs counted.needed runs before after again.needs;
+      needed = job-needed p b new place.run place.job g _ _ ls old.needs made.needs lasts counted.needed runs before after again.needs;
     }
 
 -- all that is kept where a leg was changed
-pub leg_counted : (p : Plan) (b new : Board) (place : LegPlace) (f : Leg → Leg) (was is : LegState) (old made : Counts) (fs gs : List (List (List Bool))) (ls : List LegPlace)
+pub leg_counted : (p : Plan) (b new : Board) (place : LegPlace) (f : Leg → Leg) (was is : LegState) (old made : Counts) (fs gs : List (List (List Bool))) (ls : Lasting)
     → IsCounted p b old fs ls → ((leg : Leg) → IsGroup leg.group → IsGroup (f leg).group) → new ≡ with_leg b place f → ComesSo b new place was is
-    → LegRecounted place was is (slice_get new.runs place.run) old made → gs ≡ failing_of new → IsCounted p new made gs ls
+    → LegRecounted place was is (slice_get new.runs place.run) ls.dependents old made → gs ≡ failing_of new → IsCounted p new made gs ls
 leg_counted p b new place f was is old made fs gs ls counted names new_is so again failed = record {
-  counted = leg_counts p b new place f was is old made counted.counted new_is so again;
+  counted = leg_counts p b new place f was is old made ls counted.counted counted.lasts new_is so again;
   failed = failed;
   named = subst IsNamed (sym new_is) (leg_named b place f names counted.named);
-  placed = counted.placed ∙ sym (leg_places_kept b place f) ∙ ap leg_places (sym new_is);
+  lasts = still_lasts p b new ls (ap (λ (x : Board). run_sizes x.runs) new_is ∙ leg_sizes b place f) counted.lasts;
 }
 
 -- where a job came into a state
-pub job_counted : (p : Plan) (b new : Board) (place : JobPlace) (state : JobState) (was is : JobStanding) (old made : Counts) (fs : List (List (List Bool))) (ls : List LegPlace)
+pub job_counted : (p : Plan) (b new : Board) (place : JobPlace) (state : JobState) (was is : JobStanding) (old made : Counts) (fs : List (List (List Bool))) (ls : Lasting)
     → IsCounted p b old fs ls → new ≡ with_job b place (λ job. record job { state = state })
     → was ≡ standing_read (slice_get b.runs place.run) (slice_get old.tallies place.run) place.job → is ≡ standing_read (slice_get new.runs place.run) (slice_get old.tallies place.run) place.job
     → made.tallies ≡ old.tallies → made.runs ≡ changed old.runs place.run (run_moved was is)
-    → made.needs ≡ recounted_if was.is_settled is.is_settled (slice_get new.runs place.run) place.run old.needs → IsCounted p new made fs ls
+    → made.needs ≡ resettled was.is_settled is.is_settled place.run (dependents_at ls.dependents place) old.needs → IsCounted p new made fs ls
 job_counted p b new place state was is old made fs ls counted new_is was_is is_is tallies_is runs_is needs_is =
     let g : Job → Job = λ job. record job { state = state } in
     let runs : new.runs ≡ (with_job b place g).runs = ap (λ (x : Board). x.runs) new_is in
@@ -122,15 +127,15 @@ job_counted p b new place state was is old made fs ls counted new_is was_is is_i
       counted = record {
         tallied = tallies_is ∙ stay;
         stand = jobs-stand b new place.run place.job g was is old.runs made.runs counted.counted.stand runs before after runs_is;
-        needed = job-needed p b new place.run place.job g was is old.needs made.needs counted.counted.needed runs before after needs_is;
+        needed = job-needed p b new place.run place.job g was is ls old.needs made.needs counted.lasts counted.counted.needed runs before after needs_is;
       };
       failed = counted.failed ∙ sym (job_failing_kept b place state) ∙ ap failing_of (sym new_is);
       named = subst IsNamed (sym new_is) (job_named b place state counted.named);
-      placed = counted.placed ∙ sym (job_leg_places b place state) ∙ ap leg_places (sym new_is);
+      lasts = still_lasts p b new ls (ap (λ (x : Board). run_sizes x.runs) new_is ∙ job_sizes b place state) counted.lasts;
     }
 
 -- where a run was changed, but not its jobs
-pub run_counted : (p : Plan) (b new : Board) (r : ℕ) (how : RunChange) (counts : Counts) (fs : List (List (List Bool))) (ls : List LegPlace) → IsCounted p b counts fs ls → RunComesNamed how
+pub run_counted : (p : Plan) (b new : Board) (r : ℕ) (how : RunChange) (counts : Counts) (fs : List (List (List Bool))) (ls : Lasting) → IsCounted p b counts fs ls → RunComesNamed how
     → new ≡ with_run b r (run_after how) → IsCounted p new counts fs ls
 run_counted p b new r how counts fs ls counted comes new_is = subst (λ (x : Board). IsCounted p x counts fs ls) (sym new_is) (record {
   counted = record {
@@ -140,7 +145,7 @@ run_counted p b new r how counts fs ls counted comes new_is = subst (λ (x : Boa
   };
   failed = counted.failed ∙ sym (run_failing_kept b r (run_after how) (jobs_stay how));
   named = run_named b r how comes counted.named;
-  placed = counted.placed ∙ sym (run_leg_places b r (run_after how) (jobs_stay how));
+  lasts = still_lasts p b (with_run b r (run_after how)) ls (run_sizes_kept b r (run_after how) (jobs_stay how)) counted.lasts;
 })
   where
     settled : List Job → List Bool

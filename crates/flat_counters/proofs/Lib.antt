@@ -1,3 +1,4 @@
+pub mod Depending
 pub mod Ended
 pub mod Failings
 pub mod Followed
@@ -7,4 +8,5 @@ pub mod Needs
 pub mod Placed
 pub mod Standings
 pub mod Tallies
+pub mod Turned
 pub mod Undone

@@ -1,5 +1,5 @@
 -- Changes of a board, and what is counted after them.
-use Rattle.std.specs.Prelude.{◌≡◌, ℕ, ◌-◌, ◌⊎◌, Bool, false, true, List, [], ◌∷◌, ◌++◌, length, map, take, Option, Some, None, slice_get}
+use Rattle.std.specs.Prelude.{◌≡◌, ℕ, ◌-◌, ◌⊎◌, Bool, false, true, List, [], ◌∷◌, ◌++◌, length, take, Option, Some, None, slice_get}
 use Rattle.board_places.specs.Numbered.{job_there, leg_there}
 use Rattle.board_places.specs.declared.place.JobPlace.{JobPlace}
 use Rattle.board_places.specs.declared.place.LegPlace.{LegPlace}
@@ -12,7 +12,8 @@ use Rattle.flow_model.specs.declared.board.Leg.{Leg}
 use Rattle.flow_model.specs.declared.board.LegState.{LegState}
 use Rattle.flow_model.specs.declared.board.LegState.TheVariants as leg_state
 use Rattle.status_table.specs.Change.{changed}
-use Rattle.flat_counters.specs.Counters.{moved, recounted, settled_jobs}
+use Rattle.flat_counters.specs.Counters.{moved, need_turned}
+use Rattle.flat_counters.specs.Dependents.{dependents_at}
 use Rattle.flat_counters.specs.Standing.{run_moved, standing_read}
 use Rattle.flat_counters.specs.declared.change.LegChange.{LegChange}
 use Rattle.flat_counters.specs.declared.change.LegChange.TheVariants as leg_change
@@ -104,28 +105,29 @@ state_there b place = state_of (leg_there b place)
 abbrev pub retallied : LegPlace → LegState → LegState → List (List Tally) → List (List Tally)
 retallied place was is tallies = changed tallies place.run (λ row. changed row place.job (moved was is))
 
--- the needs where those of a run that may be there are counted again
-abbrev pub run_recounted : Option Run → ℕ → List (List Need) → List (List Need)
-run_recounted None r needs = needs
-run_recounted (Some run) r needs = changed needs r (map (recounted (settled_jobs run)))
+-- the needs of a run's jobs where, for each of some places, one of those that the job there names was open or not, and
+-- now is or is not
+abbrev pub needs_turned : Bool → Bool → List ℕ → List Need → List Need
+needs_turned was is [] needs = needs
+needs_turned was is (k ∷ ks) needs = needs_turned was is ks (changed needs k (need_turned was is))
 
--- the same where one of the run's jobs was settled and is not, or is and was not
-abbrev pub recounted_if : Bool → Bool → Option Run → ℕ → List (List Need) → List (List Need)
-recounted_if false false run r needs = needs
-recounted_if false true run r needs = run_recounted run r needs
-recounted_if true false run r needs = run_recounted run r needs
-recounted_if true true run r needs = needs
+-- the needs where a job of the run at a place was settled or not, and now is or is not, which those at some places need
+abbrev pub resettled : Bool → Bool → ℕ → List ℕ → List (List Need) → List (List Need)
+resettled false false r places needs = needs
+resettled false true r places needs = changed needs r (needs_turned true false places)
+resettled true false r places needs = changed needs r (needs_turned false true places)
+resettled true true r places needs = needs
 
 -- how the job of a leg stands by the tallies of these counts
 abbrev pub standing_counted : LegPlace → Option Run → Counts → JobStanding
 standing_counted place run counts = standing_read run (slice_get counts.tallies place.run) place.job
 
 -- The counts after the leg at a place came from a state to another: the tally of its job; and, as that job stands by the
--- tallies before and after, those of the jobs of its run, and what these need.
-pub record LegRecounted (place : LegPlace) (was is : LegState) (run : Option Run) (old new : Counts) : Type 0 where
+-- tallies before and after, those of the jobs of its run, and what those need that need it.
+pub record LegRecounted (place : LegPlace) (was is : LegState) (run : Option Run) (dependents : List (List (List ℕ))) (old new : Counts) : Type 0 where
   pub tallies : new.tallies ≡ retallied place was is old.tallies
   pub runs : new.runs ≡ changed old.runs place.run (run_moved (standing_counted place run old) (standing_counted place run new))
-  pub needs : new.needs ≡ recounted_if (standing_counted place run old).is_settled (standing_counted place run new).is_settled run place.run old.needs
+  pub needs : new.needs ≡ resettled (standing_counted place run old).is_settled (standing_counted place run new).is_settled place.run (dependents_at dependents (job_of place)) old.needs
 
 -- A leg that was in a state, and has come into another, or is not there.
 abbrev pub CameTo : LegState → LegState → LegState → Type 0

@@ -77,23 +77,18 @@ is_settled job = is_shut job.state || ((tally_of job).pending == 0)
 abbrev pub settled_jobs : Run → List Bool
 settled_jobs run = map is_settled run.jobs
 
--- how many of the jobs at some places have not
-abbrev pub open_among : List Bool → List ℕ → ℕ
-open_among settled places = count_by (λ place. not (holds_at settled place)) places
-
 -- the number of the first of a run's jobs
 abbrev pub first_number : List JobPlan → ℕ
 first_number [] = 0
 first_number (job ∷ jobs) = job.number
 
--- the places in their run of the jobs that a job needs, where the first of them has this number
-abbrev pub places_of : ℕ → JobPlan → List ℕ
-places_of first plan = map (λ need. need - first) plan.needs
+-- how many of some needs are of jobs of the run that have not, where its first has this number
+abbrev pub open_among : ℕ → List Bool → List ℕ → ℕ
+open_among first settled needs = count_by (λ need. not (holds_at settled (need - first))) needs
 
--- these places, and how many of the jobs there are open
+-- how many jobs a job names that it needs, and how many of these are open
 abbrev pub need_of : ℕ → List Bool → JobPlan → Need
-need_of first settled plan =
-    record { places = places_of first plan; pending = open_among settled (places_of first plan) }
+need_of first settled plan = record { all = length plan.needs; pending = open_among first settled plan.needs }
 
 -- the same for each job of a run
 abbrev pub run_needs : RunPlan → Run → List Need
@@ -105,9 +100,9 @@ needs_of [] runs = []
 needs_of (plan ∷ plans) [] = []
 needs_of (plan ∷ plans) (run ∷ runs) = run_needs plan run ∷ needs_of plans runs
 
--- what a job needs, counted again
-abbrev pub recounted : List Bool → Need → Need
-recounted settled need = record need { pending = open_among settled need.places }
+-- the need of a job where one of those that it names was open or not, and now is or is not
+abbrev pub need_turned : Bool → Bool → Need → Need
+need_turned was is need = record need { pending = turned need.all need.pending was is }
 
 -- what the job at a place needs
 abbrev pub needs_there : List (List Need) → JobPlace → Option Need

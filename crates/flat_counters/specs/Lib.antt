@@ -1,7 +1,9 @@
 pub mod Changes
 pub mod Counted
 pub mod Counters
+pub mod Dependents
 pub mod Failing
+pub mod Lasting
 pub mod Names
 pub mod Standing
 pub mod Track

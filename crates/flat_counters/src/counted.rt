@@ -3,7 +3,7 @@
 ghost use Rattle.std.specs.Prelude.{◌≡◌, true, ℕ, None, Some, IfOk, OnOk, OnErr, slice_get};
 ghost use Rattle.board_places.specs.Numbered.{job_there, leg_there};
 ghost use Rattle.flat_counters.specs.Changes as spec;
-ghost use Rattle.flat_counters.specs.Counters.{needs_none, needs_there, tallies_of, tally_of as tally_of_job, tally_there};
+ghost use Rattle.flat_counters.specs.Counters.{needs_none, needs_there, tally_of as tally_of_job, tally_there};
 ghost use Rattle.flat_counters.specs.Standing.{run_tally_there};
 ghost use Rattle.status_table.specs.Change.{with_leg, with_run};
 
@@ -12,9 +12,10 @@ use crate::change::{
     take_step_at, without_last,
 };
 use crate::counts::{Counts, count_all, recount_job, recount_leg, standing_at};
+use crate::dependents::Dependents;
 use crate::failing::{Failing, failing_at, note_done, note_taken, runs_failing};
+use crate::lasting::{Lasting, lasting_of, own_at, place_at};
 use crate::need::Need;
-use crate::places::leg_places;
 use crate::standing::RunTally;
 use crate::tally::{Tally, are_alike};
 use crate::undo::{Change, LegBack, RunBack};
@@ -76,16 +77,6 @@ pub fn job_of(place: LegPlace) -> JobPlace
     }
 }
 
-/// What stands at a number, if there is one.
-fn place_at(places: &[LegPlace], number: usize) -> Option<LegPlace>
-    ensures { result ≡ slice_get places.now number }
-{
-    match places.get(number) {
-        Some(place) => Some(*place),
-        None => None,
-    }
-}
-
 /// Whether the job at a place needs none that is open.
 fn needs_none_at(needs: &[Sequence<Need>], place: JobPlace) -> bool
     ensures { result ≡ needs_none (needs_there needs.now place) }
@@ -100,24 +91,29 @@ fn needs_none_at(needs: &[Sequence<Need>], place: JobPlace) -> bool
 }
 
 /// Counts again after the leg at a place, where there is one, came from a state to another.
-fn recount_to(counts: &mut Counts, board: &Board, place: LegPlace, was: LegState, to: LegState)
-    requires came { spec.CameTo was to (spec.state_there board.now place) }
-    requires tallied { spec.retallied place was (spec.state_there board.now place)
-        counts.old.tallies ≡ tallies_of board.now }
+fn recount_to(
+    counts: &mut Counts,
+    board: &Board,
+    dependents: &Sequence<Dependents>,
+    place: LegPlace,
+    was: LegState,
+    to: LegState,
+)
+    requires { spec.CameTo was to (spec.state_there board.now place) }
     ensures { spec.LegRecounted place was (spec.state_there board.now place)
-        (slice_get board.now.runs place.run) counts.old counts.new }
+        (slice_get board.now.runs place.run) dependents.now counts.old counts.new }
 {
     if are_alike(was, to) {
         return;
     }
     let is = state_there(board, place);
-    recount_leg(counts, board, place, was, is);
+    recount_leg(counts, board, dependents, place, was, is);
 }
 
 /// A plan, how far it is, and what is counted of that.
 ///
-/// A job's legs are tallied as they change, and so are the jobs of a run; what they need is counted again when one
-/// of them ends. The places of the legs stand in the order of their numbers.
+/// A job's legs are tallied as they change, and so are the jobs of a run; when one of these ends, it is counted off the
+/// needs of those that need it.
 #[derive(Drop)]
 pub struct Counted {
     plan: CheckedPlan,
@@ -125,7 +121,8 @@ pub struct Counted {
     counts: Counts,
     /// Whether a done step of each leg counts as a failure.
     failing: Failing,
-    legs: Vec<LegPlace>,
+    /// What stays, whatever is changed.
+    lasting: Lasting,
 }
 
 impl Model for Counted {
@@ -141,19 +138,22 @@ impl Model for Counted {
 
     ghost use Rattle.flat_counters.specs.Counted.{IsCounted};
 
-    ghost invariant = { λ c. IsCounted c.plan c.board c.counts c.failing c.legs.items };
+    ghost invariant = { λ c. IsCounted c.plan c.board c.counts c.failing c.lasting };
 }
 
 impl Counted {
     ghost use Rattle.flow_model.specs.Rules.{IsPlan};
     ghost use Rattle.flow_model.specs.Sound.{SoundPlan};
     ghost use Rattle.board_decisions.specs.Derived.{all_succeed, is_going, jobs_have_ended, needs_have_ended, run_result};
-    ghost use Rattle.board_places.specs.Place.{JobAt, job_at, leg_place};
+    ghost use Rattle.board_decisions.specs.Own.{HasOwnEnv};
+    ghost use Rattle.board_places.specs.Place.{JobAt, job_at, job_place, leg_place};
     ghost use Rattle.flow_model.specs.declared.board.Board.{Board};
     ghost use Rattle.flow_model.specs.declared.board.Job.{Job};
     ghost use Rattle.flow_model.specs.declared.board.Leg.{Leg as LegOf};
     ghost use Rattle.flat_counters.specs.Failing.{any_failed};
     ghost use Rattle.flow_model.specs.declared.board.Run.{Run as RunOf};
+    ghost use Rattle.flow_model.specs.declared.plan.JobPlan.{JobPlan};
+    ghost use Rattle.flow_model.specs.declared.plan.RunPlan.{RunPlan};
     ghost use Rattle.flat_counters.specs.Names.{IsNamed, LegComesNamed, RunComesNamed};
     ghost use Rattle.flat_counters.specs.Undo.{board_before};
     ghost use Rattle.status_table.specs.InPlay.{InPlay};
@@ -168,13 +168,13 @@ impl Counted {
         let runs = board.runs.as_slice();
         let counts = count_all(alloc, plan.plan().runs.as_slice(), runs)?;
         let failing = runs_failing(alloc, runs)?;
-        let legs = leg_places(alloc, runs)?;
+        let lasting = lasting_of(alloc, plan.plan(), &board)?;
         Ok(Counted {
             plan,
             board,
             counts,
             failing,
-            legs,
+            lasting,
         })
     }
 
@@ -195,11 +195,18 @@ impl Counted {
         &self.board
     }
 
+    /// The place of the job with a number.
+    pub fn job_place(&self, number: u64) -> Option<JobPlace>
+        ensures { result ≡ job_place self.now.board number }
+    {
+        place_at(&self.lasting.jobs, number as usize)
+    }
+
     /// The place of the leg with a number.
     pub fn leg_place(&self, number: u64) -> Option<LegPlace>
         ensures { result ≡ leg_place self.now.board number }
     {
-        place_at(self.legs.as_slice(), number as usize)
+        place_at(&self.lasting.legs, number as usize)
     }
 
     /// How the legs of the job at a place stand.
@@ -214,6 +221,16 @@ impl Counted {
             Some(tally) => *tally,
             None => no_legs(),
         }
+    }
+
+    /// Whether no text of the variables of the job at a place and of its workflow is evaluated; where that isn't known,
+    /// it is not said.
+    pub fn has_own_env(&self, place: JobPlace) -> bool
+        ensures { (run : RunPlan) (job : JobPlan)
+            → slice_get self.now.plan.runs place.run ≡ Some run
+            → slice_get run.jobs place.job ≡ Some job → result ≡ true → HasOwnEnv run job }
+    {
+        own_at(&self.lasting.own, place)
     }
 
     /// Whether a done step of the leg at a place counts as a failure.
@@ -233,7 +250,14 @@ impl Counted {
     {
         let is = state_in(&how);
         let how = exchange_leg_at(&mut self.board, place, how);
-        recount_leg(&mut self.counts, &self.board, place, state_in(&how), is);
+        recount_leg(
+            &mut self.counts,
+            &self.board,
+            &self.lasting.dependents,
+            place,
+            state_in(&how),
+            is,
+        );
         Change::Leg(LegBack { place, how })
     }
 
@@ -247,7 +271,13 @@ impl Counted {
         let before = standing_at(&self.board, self.counts.tallies.as_slice(), place);
         set_job_state(&mut self.board, place, state);
         let after = standing_at(&self.board, self.counts.tallies.as_slice(), place);
-        recount_job(&mut self.counts, &self.board, place.run, before, after);
+        recount_job(
+            &mut self.counts,
+            &self.lasting.dependents,
+            place,
+            before,
+            after,
+        );
         Change::Job(place, was)
     }
 
@@ -286,6 +316,7 @@ impl Counted {
         recount_to(
             &mut self.counts,
             &self.board,
+            &self.lasting.dependents,
             place,
             was,
             LegState::Running { worker, in_call },
@@ -301,7 +332,14 @@ impl Counted {
         let was = state_there(&self.board, place);
         take_step_at(alloc, &mut self.board, place, state);
         note_taken(&mut self.failing, &self.board, place);
-        recount_to(&mut self.counts, &self.board, place, was, state);
+        recount_to(
+            &mut self.counts,
+            &self.board,
+            &self.lasting.dependents,
+            place,
+            was,
+            state,
+        );
     }
 
     /// Changes the run at a place, where there is one, but not its jobs, and gives what takes that back.

@@ -2,12 +2,14 @@
 
 ghost use Rattle.std.specs.Prelude.{◌≡◌, IfOk, map, slice_get};
 ghost use Rattle.flat_counters.specs.Changes as spec;
-ghost use Rattle.flat_counters.specs.Counters.{needs_of as needs_of_runs, tallies_of, tally_of as tally_of_job};
+ghost use Rattle.flat_counters.specs.Counters.{needs_of as needs_of_runs, tally_of as tally_of_job};
+ghost use Rattle.flat_counters.specs.Dependents.{dependents_at as places_that_need};
 ghost use Rattle.flat_counters.specs.Standing.{run_moved as run_moved_of, run_tally as run_tally_of, standing_read};
 ghost use Rattle.status_table.specs.Change.{changed};
 
 use crate::counted::job_of;
-use crate::need::{Need, needs_of, recount};
+use crate::dependents::{Dependents, dependents_at};
+use crate::need::{Need, needs_of, turn_needs};
 use crate::standing::{JobStanding, RunTally, no_standing, run_moved, standing_by, tally_run};
 use crate::tally::{Tally, are_alike, moved, tally_of};
 use board_places::place::{JobPlace, LegPlace};
@@ -21,7 +23,7 @@ pub(crate) struct Counts {
     pub(crate) tallies: Sequence<Sequence<Tally>>,
     /// How the jobs of each run stand.
     pub(crate) runs: Sequence<RunTally>,
-    /// What each job of each run needs.
+    /// How many of the jobs that each job of each run needs are open.
     pub(crate) needs: Sequence<Sequence<Need>>,
 }
 
@@ -147,45 +149,38 @@ fn retally(tallies: &mut Sequence<Sequence<Tally>>, place: LegPlace, was: LegSta
     }
 }
 
-/// Counts what the jobs of a run need again.
-fn recount_run(
-    board: &Board,
-    tallies: &[Sequence<Tally>],
+/// Turns the needs of the jobs that need the one at a place, which was open or not, and now is or is not.
+fn turn_run(
     needs: &mut Sequence<Sequence<Need>>,
-    place: usize,
+    dependents: &Sequence<Dependents>,
+    place: JobPlace,
+    was: bool,
+    is: bool,
 )
-    requires { tallies.now ≡ tallies_of board.now }
-    ensures { needs.new ≡ spec.run_recounted (slice_get board.now.runs place) place needs.old }
+    ensures { needs.new ≡ changed needs.old place.run
+        (spec.needs_turned was is (places_that_need dependents.now place)) }
 {
-    let Some(run) = board.runs.as_slice().get(place) else {
-        return;
-    };
-    let Some(row) = tallies.get(place) else {
-        return;
-    };
-    if let Some(needs) = needs.get_mut(place) {
-        recount(run, row.as_slice(), needs);
+    if let Some(row) = needs.get_mut(place.run) {
+        turn_needs(row, dependents_at(dependents, place), was, is);
     }
 }
 
-/// Counts what the jobs of a run need again, where one of them was settled and is not, or is and was not.
-fn recount_if(
+/// The same where that job was settled or not, and now is or is not.
+fn turn_if(
     was: bool,
     is: bool,
-    board: &Board,
-    tallies: &[Sequence<Tally>],
     needs: &mut Sequence<Sequence<Need>>,
-    place: usize,
+    dependents: &Sequence<Dependents>,
+    place: JobPlace,
 )
-    requires { tallies.now ≡ tallies_of board.now }
-    ensures { needs.new
-        ≡ spec.recounted_if was is (slice_get board.now.runs place) place needs.old }
+    ensures { needs.new ≡ spec.resettled was is place.run
+        (places_that_need dependents.now place) needs.old }
 {
     match (was, is) {
         (false, false) => {},
         (true, true) => {},
-        (false, true) => recount_run(board, tallies, needs, place),
-        (true, false) => recount_run(board, tallies, needs, place),
+        (false, true) => turn_run(needs, dependents, place, true, false),
+        (true, false) => turn_run(needs, dependents, place, false, true),
     }
 }
 
@@ -198,27 +193,25 @@ fn recount_jobs(runs: &mut Sequence<RunTally>, place: usize, was: JobStanding, i
     }
 }
 
-/// Counts again after a job stood so, and now stands otherwise.
+/// Counts again after the job at a place stood so, and now stands otherwise.
 pub(crate) fn recount_job(
     counts: &mut Counts,
-    board: &Board,
-    place: usize,
+    dependents: &Sequence<Dependents>,
+    place: JobPlace,
     was: JobStanding,
     is: JobStanding,
 )
-    requires { counts.old.tallies ≡ tallies_of board.now }
     ensures tallies { counts.new.tallies ≡ counts.old.tallies }
-    ensures runs { counts.new.runs ≡ changed counts.old.runs place (run_moved_of was is) }
-    ensures needs { counts.new.needs ≡ spec.recounted_if was.is_settled is.is_settled
-        (slice_get board.now.runs place) place counts.old.needs }
+    ensures runs { counts.new.runs ≡ changed counts.old.runs place.run (run_moved_of was is) }
+    ensures needs { counts.new.needs ≡ spec.resettled was.is_settled is.is_settled place.run
+        (places_that_need dependents.now place) counts.old.needs }
 {
-    recount_jobs(&mut counts.runs, place, was, is);
-    recount_if(
+    recount_jobs(&mut counts.runs, place.run, was, is);
+    turn_if(
         was.is_settled,
         is.is_settled,
-        board,
-        counts.tallies.as_slice(),
         &mut counts.needs,
+        dependents,
         place,
     );
 }
@@ -227,13 +220,13 @@ pub(crate) fn recount_job(
 pub(crate) fn recount_leg(
     counts: &mut Counts,
     board: &Board,
+    dependents: &Sequence<Dependents>,
     place: LegPlace,
     was: LegState,
     is: LegState,
 )
-    requires { spec.retallied place was is counts.old.tallies ≡ tallies_of board.now }
     ensures { spec.LegRecounted place was is (slice_get board.now.runs place.run)
-        counts.old counts.new }
+        dependents.now counts.old counts.new }
 {
     if are_alike(was, is) {
         return;
@@ -242,5 +235,5 @@ pub(crate) fn recount_leg(
     let before = standing_at(board, counts.tallies.as_slice(), job);
     retally(&mut counts.tallies, place, was, is);
     let after = standing_at(board, counts.tallies.as_slice(), job);
-    recount_job(counts, board, place.run, before, after);
+    recount_job(counts, dependents, job, before, after);
 }

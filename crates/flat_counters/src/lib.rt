@@ -2,12 +2,13 @@
 //!
 //! Beside the board `Counted` keeps, for each job, how its legs stand (`tally`) and how many of the jobs that it
 //! needs are open (`need`), for each run how its jobs stand (`standing`), for each leg whether a done step failed
-//! (`failing`), and the places of the legs by their numbers. Each of its changes (`change`) keeps these, and gives
-//! what takes it back (`undo`). `Tracked` keeps what takes back the changes since it last began,
+//! (`failing`), and what stays whatever is changed (`lasting`): the places of the jobs and legs by their numbers, which jobs
+//! need which (`dependents`), and of which no text of the variables is evaluated. Each of its changes (`change`) keeps these,
+//! and gives what takes it back (`undo`). `Tracked` keeps what takes back the changes since it last began,
 //! so that a caller of several changes says nothing of each: after any of them it still leads back to the same
 //! board.
 //!
-//! What the counters are is in `specs/Counters.antt`, `Standing` and `Failing`, and to which board changes lead back in `specs/Undo.antt`.
+//! What the counters are is in `specs/Counters.antt`, `Standing` and `Failing`, what stays in `Lasting`, and to which board changes lead back in `specs/Undo.antt`.
 //! The crate stands on `status_table` for what changes a board, and on `board_decisions` and `flow_model`.
 
 #![tactic(auto)]
@@ -15,7 +16,9 @@
 pub mod change;
 pub mod counted;
 mod counts;
+mod dependents;
 mod failing;
+mod lasting;
 mod need;
 mod standing;
 pub mod tally;

@@ -1,19 +1,20 @@
-//! What a job needs: how many of the jobs that it needs are open.
+//! How many of the jobs that a job needs are open.
 
 ghost use Rattle.std.specs.Prelude.{◌≡◌, IfOk, map};
 ghost use Rattle.board_decisions.specs.Derived.{holds_at};
+ghost use Rattle.flat_counters.specs.Changes.{needs_turned};
 ghost use Rattle.flat_counters.specs.Counters as spec;
 ghost use Rattle.status_table.specs.Change.{changed};
 
-use crate::tally::Tally;
+use crate::tally::{Tally, turned};
 use flow_model::{Job, JobPlan, JobState, Run, Sequence};
 use std::alloc::{AllocError, Global};
 
-/// The places in its run of the jobs that a job needs, and
-/// how many of these jobs have not ended by themselves.
-#[derive(Drop)]
+/// How many jobs a job names that it needs, and how many of
+/// these have not ended by themselves.
+#[derive(Clone, Copy)]
 pub(crate) struct Need {
-    pub(crate) places: Sequence<usize>,
+    pub(crate) all: usize,
     pub(crate) pending: usize,
 }
 
@@ -39,51 +40,34 @@ fn is_settled_at(run: &Run, tallies: &[Tally], place: usize) -> bool
     is_settled(job, *tally)
 }
 
-/// How many of the jobs at some places of a run have not.
-fn count_open(run: &Run, tallies: &[Tally], places: &[usize]) -> usize
+/// How many of some needs are of jobs of a run that have not, where its first has this number.
+fn count_open(first: u64, run: &Run, tallies: &[Tally], needs: &[u64]) -> usize
     requires { tallies.now ≡ map spec.tally_of run.now.jobs }
-    ensures { result ≡ spec.open_among (spec.settled_jobs run.now) places.now }
+    ensures { result ≡ spec.open_among first (spec.settled_jobs run.now) needs.now }
 {
     let mut count = 0;
-    for place in places {
-        if !is_settled_at(run, tallies, *place) {
+    for need in needs {
+        if !is_settled_at(run, tallies, need.saturating_sub(first) as usize) {
             count += 1;
         }
     }
     count
 }
 
-/// The places in a run of the jobs that a job needs, where the run's first has this number.
-fn places_of(alloc: Global, first: u64, plan: &JobPlan) -> Result<Sequence<usize>, AllocError>
-    ensures { IfOk result (λ places. places ≡ spec.places_of first plan.now) }
+/// What a job of a run needs, where the run's first has this number.
+fn need_of(first: u64, run: &Run, tallies: &[Tally], plan: &JobPlan) -> Need
+    requires { tallies.now ≡ map spec.tally_of run.now.jobs }
+    ensures { result ≡ spec.need_of first (spec.settled_jobs run.now) plan.now }
 {
     let needs = plan.needs.as_slice();
-    let mut places = Vec::with_capacity(alloc, needs.len())?;
-    for need in needs {
-        places.push(need.saturating_sub(first) as usize)?;
+    Need {
+        all: needs.len(),
+        pending: count_open(first, run, tallies, needs),
     }
-    Ok(Sequence::new(places))
-}
-
-/// What a job of a run needs, where the run's first has this number.
-fn need_of(
-    alloc: Global,
-    first: u64,
-    run: &Run,
-    tallies: &[Tally],
-    plan: &JobPlan,
-) -> Result<Need, AllocError>
-    requires { tallies.now ≡ map spec.tally_of run.now.jobs }
-    ensures { IfOk result
-        (λ need. need ≡ spec.need_of first (spec.settled_jobs run.now) plan.now) }
-{
-    let places = places_of(alloc, first, plan)?;
-    let pending = count_open(run, tallies, places.as_slice());
-    Ok(Need { places, pending })
 }
 
 /// The number of the first of a run's jobs.
-fn first_number(plans: &[JobPlan]) -> u64
+pub(crate) fn first_number(plans: &[JobPlan]) -> u64
     ensures { result ≡ spec.first_number plans.now }
 {
     match plans {
@@ -106,27 +90,25 @@ pub(crate) fn needs_of(
     let first = first_number(plans);
     let mut needs = Vec::with_capacity(alloc, plans.len())?;
     for plan in plans {
-        needs.push(need_of(alloc, first, run, tallies, plan)?)?;
+        needs.push(need_of(first, run, tallies, plan))?;
     }
     Ok(Sequence::new(needs))
 }
 
-/// Counts what the job at a place of a run needs again.
-fn recount_at(run: &Run, tallies: &[Tally], needs: &mut Sequence<Need>, place: usize)
-    requires { tallies.now ≡ map spec.tally_of run.now.jobs }
-    ensures { needs.new ≡ changed needs.old place (spec.recounted (spec.settled_jobs run.now)) }
+/// Turns the need of the job at a place of a run: one of the jobs that it names was open or not, and now is or is not.
+fn turn_need(needs: &mut Sequence<Need>, place: usize, was: bool, is: bool)
+    ensures { needs.new ≡ changed needs.old place (spec.need_turned was is) }
 {
     if let Some(need) = needs.get_mut(place) {
-        need.pending = count_open(run, tallies, need.places.as_slice());
+        need.pending = turned(need.all, need.pending, was, is);
     }
 }
 
-/// Counts what each job of a run needs again.
-pub(crate) fn recount(run: &Run, tallies: &[Tally], needs: &mut Sequence<Need>)
-    requires { tallies.now ≡ map spec.tally_of run.now.jobs }
-    ensures { needs.new ≡ map (spec.recounted (spec.settled_jobs run.now)) needs.old }
+/// The same of those at some places, one after the other.
+pub(crate) fn turn_needs(needs: &mut Sequence<Need>, places: &[usize], was: bool, is: bool)
+    ensures { needs.new ≡ needs_turned was is places.now needs.old }
 {
-    for place in 0..needs.len() {
-        recount_at(run, tallies, needs, place);
+    for place in places {
+        turn_need(needs, *place, was, is);
     }
 }

@@ -1,6 +1,7 @@
 -- Which parts of a board in play may cross threads, each from its own parts: a `search` that goes down through all of a plan at once runs out
 -- of steps.
 use denote.Param.Send.{IsSend, sendable}
+use Rattle.board_places.proofs.place.JobPlace.TheSendSync as job_place
 use Rattle.board_places.proofs.place.LegPlace.TheSendSync as place
 use Rattle.flat_board.specs.contracts.flat_board.FlatBoard as FlatBoard
 use Rattle.flat_counters.proofs.need.Need.TheSendSync as need
@@ -8,6 +9,7 @@ use Rattle.flat_counters.proofs.tally.Tally.TheSendSync as tally
 use Rattle.flat_counters.proofs.undo.Change.TheSendSync as change
 use Rattle.flat_counters.specs.contracts.counted.Counted as Counted
 use Rattle.flat_counters.specs.contracts.counts.Counts as Counts
+use Rattle.flat_counters.specs.contracts.lasting.Lasting as Lasting
 use Rattle.flat_counters.specs.contracts.tracked.Tracked as Tracked
 use Rattle.flow_model.proofs.board.Board.TheSendSync as board
 use Rattle.flow_model.proofs.mapping.Mapping.TheSendSync as mapping
@@ -60,8 +62,11 @@ checked_plan_crosses = search (plan_crosses, sendable) depth 60 fits 20000
 pub counts_crosses : IsSend Counts.the_field.row
 counts_crosses = search (tally.the_field_send, need.the_field_send, sequence.the_send, sendable) depth 60 fits 20000
 
+pub lasting_crosses : IsSend Lasting.the_field.row
+lasting_crosses = search (job_place.the_field_send, place.the_field_send, sequence.the_send, sendable) depth 60 fits 20000
+
 pub counted_crosses : IsSend Counted.the_row
-counted_crosses = search (checked_plan_crosses, counts_crosses, board.the_field_send, place.the_field_send, sequence.the_send, std.crosses, sendable) depth 60 fits 20000
+counted_crosses = search (checked_plan_crosses, counts_crosses, lasting_crosses, board.the_field_send, sequence.the_send, std.crosses, sendable) depth 60 fits 20000
 
 pub tracked_crosses : IsSend Tracked.the_row
 tracked_crosses = search (counted_crosses, change.the_field_send, std.crosses, sendable) depth 60 fits 20000

@@ -3,27 +3,21 @@ use Rattle.flow_model.specs.declared.board.Leg.{Leg}
 use Rattle.flow_model.specs.declared.board.LegState.TheVariants as leg_state
 use Rattle.flat_counters.proofs.Failings.{failing_done}
 use Rattle.flat_counters.proofs.Followed.{leg_counted}
-use Rattle.flat_counters.proofs.Tallies.{came_to, same_so, tallied_so}
+use Rattle.flat_counters.proofs.Tallies.{came_to, same_so}
 use Rattle.flat_counters.proofs.counted.Counted.add_done.Goals as goal
 use Rattle.flat_counters.proofs.Undone.{step_back}
 use Rattle.status_table.specs.Play.{Play}
 
-pub recount_to-requires-clause-came : goal.recount_to-requires-clause-came
-recount_to-requires-clause-came c =
+pub recount_to-requires : goal.recount_to-requires
+recount_to-requires c =
     let done : Leg → Leg = λ leg. record leg { state = leg_state.Running c.args.worker false; steps = leg.steps ++ c.args.done ∷ [] } in
     came_to c.self.inside.board c.add_step.new.board c.args.place done c.state_there-was.result (leg_state.Running c.args.worker false) c.state_there-was.ensures c.in_ok-add_step.ensures.ok (λ leg. refl)
-
-pub recount_to-requires-clause-tallied : goal.recount_to-requires-clause-tallied
-recount_to-requires-clause-tallied c =
-    let done : Leg → Leg = λ leg. record leg { state = leg_state.Running c.args.worker false; steps = leg.steps ++ c.args.done ∷ [] } in
-    tallied_so c.self.inside.board c.add_step.new.board c.args.place done c.state_there-was.result _ c.self.inside.counts.tallies c.self.invariant.counted.tallied c.in_ok-add_step.ensures.ok
-    (same_so c.self.inside.board c.add_step.new.board c.args.place c.state_there-was.result _ c.state_there-was.ensures refl)
 
 pub invariant_of-self-2 : goal.invariant_of-self-2
 invariant_of-self-2 c =
     let done : Leg → Leg = λ leg. record leg { state = leg_state.Running c.args.worker false; steps = leg.steps ++ c.args.done ∷ [] } in
     leg_counted c.self.inside.plan c.self.inside.board c.add_step.new.board c.args.place done c.state_there-was.result _ c.self.inside.counts c.recount_to.new.counts
-    c.self.inside.failing c.note_done.new.failing c.self.inside.legs.items c.self.invariant (λ leg h. h) c.in_ok-add_step.ensures.ok
+    c.self.inside.failing c.note_done.new.failing c.self.inside.lasting c.self.invariant (λ leg h. h) c.in_ok-add_step.ensures.ok
     (same_so c.self.inside.board c.add_step.new.board c.args.place c.state_there-was.result _ c.state_there-was.ensures refl) c.recount_to.ensures
     (failing_done c.self.inside.board c.add_step.new.board c.args.place c.args.worker c.args.done c.is_failure-failed.result c.self.inside.failing c.note_done.new.failing c.self.invariant.failed
     c.in_ok-add_step.ensures.ok c.is_failure-failed.ensures c.note_done.ensures)

@@ -3,23 +3,16 @@ use Rattle.flat_counters.specs.Changes.{leg_after}
 use Rattle.flat_counters.specs.Failing.{any_failed, failing_of}
 use Rattle.flat_counters.proofs.Failings.{leg_failing_kept, steps_stay}
 use Rattle.flat_counters.proofs.Followed.{leg_counted}
-use Rattle.flat_counters.proofs.Tallies.{exchanged_told, tallied_so}
+use Rattle.flat_counters.proofs.Tallies.{exchanged_told}
 use Rattle.flat_counters.proofs.Named.{comes_named}
 use Rattle.flat_counters.proofs.Undone.{leg_back}
 use Rattle.flat_counters.proofs.counted.Counted.change_leg.Goals as goal
 use Rattle.status_table.specs.Play.{Play}
 
-pub recount_leg-requires : goal.recount_leg-requires
-recount_leg-requires c =
-    tallied_so c.self.inside.board c.exchange_leg_at-how.new.board c.args.place (leg_after c.args.how) c.state_in.result c.state_in-is.result c.self.inside.counts.tallies
-    c.self.invariant.counted.tallied c.exchange_leg_at-how.ensures.board
-    (exchanged_told c.self.inside.board c.exchange_leg_at-how.new.board c.args.place c.args.how c.exchange_leg_at-how.result c.state_in.result c.state_in-is.result
-    c.exchange_leg_at-how.ensures.board c.exchange_leg_at-how.ensures.was c.state_in.ensures c.state_in-is.ensures)
-
 pub invariant_of-self : goal.invariant_of-self
 invariant_of-self c =
     leg_counted c.self.inside.plan c.self.inside.board c.exchange_leg_at-how.new.board c.args.place (leg_after c.args.how) c.state_in.result c.state_in-is.result c.self.inside.counts c.recount_leg.new.counts
-    c.self.inside.failing c.self.inside.failing c.self.inside.legs.items c.self.invariant (comes_named c.args.how c.requires) c.exchange_leg_at-how.ensures.board
+    c.self.inside.failing c.self.inside.failing c.self.inside.lasting c.self.invariant (comes_named c.args.how c.requires) c.exchange_leg_at-how.ensures.board
     (exchanged_told c.self.inside.board c.exchange_leg_at-how.new.board c.args.place c.args.how c.exchange_leg_at-how.result c.state_in.result c.state_in-is.result
     c.exchange_leg_at-how.ensures.board c.exchange_leg_at-how.ensures.was c.state_in.ensures c.state_in-is.ensures)
     c.recount_leg.ensures

@@ -7,4 +7,4 @@ use Rattle.status_table.specs.Play.{Play}
 pub returns : goal.returns
 returns c =
     subst (λ (s : Play). c.place_at.result ≡ leg_place s.board c.args.number) c.self.view_is
-    (c.place_at.ensures ∙ (λ i. slice_get ((c.as_slice.ensures.value ∙ c.self.invariant.placed) i) c.args.number) ∙ leg_placed c.self.inside.board c.args.number)
+    (c.place_at.ensures ∙ (λ i. slice_get (c.self.invariant.lasts.legs i) c.args.number) ∙ leg_placed c.self.inside.board c.args.number)

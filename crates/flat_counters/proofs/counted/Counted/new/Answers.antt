@@ -3,7 +3,7 @@ use Rattle.flow_model.specs.declared.board.Run.{Run}
 use Rattle.flat_counters.specs.Counters.{tally_of, needs_of}
 use Rattle.flat_counters.specs.Failing.{run_failing}
 use Rattle.flat_counters.specs.Names.{IsNamed}
-use Rattle.board_places.specs.Places.{all_legs_from, run_sizes}
+use Rattle.flat_counters.specs.Lasting.{IsLasting}
 use Rattle.flat_counters.specs.Standing.{run_tally}
 use Rattle.flat_counters.proofs.Named.{new_named}
 use Rattle.flat_counters.proofs.counted.Counted.new.Goals as goal
@@ -16,6 +16,6 @@ invariant_of-result c = record {
     needed = c.in_ok-counts.ensures.needs ∙ (λ i. needs_of ((c.as_slice.ensures ∙ ap (λ p. p.runs) c.plan-3.ensures.same) i) (c.as_slice-runs.ensures i));
   };
   failed = c.in_ok-failing.ensures ∙ ap (map run_failing) c.as_slice-runs.ensures;
-  placed = c.in_ok-legs.ensures ∙ ap (λ (runs : List Run). all_legs_from 0 (run_sizes runs)) c.as_slice-runs.ensures;
+  lasts = subst (λ p. IsLasting p c.in_ok-board.board c.in_ok-lasting.lasting) c.plan-4.ensures.same c.in_ok-lasting.ensures;
   named = subst IsNamed (sym c.in_ok-board.ensures) (new_named c.plan-2.result.now);
 }

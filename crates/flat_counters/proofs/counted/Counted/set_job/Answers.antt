@@ -1,20 +1,14 @@
-use Rattle.std.proofs.Common.{ap, sym, slice_get, ◌∙◌}
-use Rattle.flat_counters.specs.Counters.{tallies_of}
+use Rattle.std.proofs.Common.{ap, slice_get, ◌∙◌}
 use Rattle.flat_counters.specs.Standing.{standing_read}
 use Rattle.flat_counters.proofs.Followed.{job_counted}
-use Rattle.flat_counters.proofs.Tallies.{job_tallies}
 use Rattle.flat_counters.proofs.counted.Counted.set_job.Goals as goal
 use Rattle.flat_counters.proofs.Undone.{job_back}
 use Rattle.status_table.specs.Play.{Play}
 
-pub recount_job-requires : goal.recount_job-requires
-recount_job-requires c =
-    c.self.invariant.counted.tallied ∙ sym (job_tallies c.self.inside.board c.args.place c.args.state) ∙ ap tallies_of (sym c.set_job_state.ensures)
-
 pub invariant_of-self : goal.invariant_of-self
 invariant_of-self c =
     job_counted c.self.inside.plan c.self.inside.board c.set_job_state.new.board c.args.place c.args.state c.standing_at-before.result c.standing_at-after.result c.self.inside.counts c.recount_job.new.counts
-    c.self.inside.failing c.self.inside.legs.items c.self.invariant c.set_job_state.ensures
+    c.self.inside.failing c.self.inside.lasting c.self.invariant c.set_job_state.ensures
     (c.standing_at-before.ensures ∙ ap (λ ts. standing_read (slice_get c.self.inside.board.runs c.args.place.run) (slice_get ts c.args.place.run) c.args.place.job) c.as_slice.ensures)
     (c.standing_at-after.ensures ∙ ap (λ ts. standing_read (slice_get c.set_job_state.new.board.runs c.args.place.run) (slice_get ts c.args.place.run) c.args.place.job) c.as_slice-2.ensures)
     c.recount_job.ensures.tallies c.recount_job.ensures.runs c.recount_job.ensures.needs
