@@ -6,6 +6,7 @@ use Rattle.flow_model.specs.declared.board.Board.{Board}
 use Rattle.flow_model.specs.declared.event.Member.{Member}
 use Rattle.flow_model.specs.declared.event.Member.TheVariants as member
 use Rattle.group_admission.specs.Content.{Content, holder_of, waiter_of, after_enter, after_at, is_own as own_run}
+use Rattle.group_admission.specs.Known.{Known, content}
 use Rattle.group_admission.specs.declared.held.Held.{Held}
 use Rattle.status_table.specs.Grouped.{KeptAsShown}
 use Rattle.status_table.specs.Groups.{holder, is_own, waiter}
@@ -14,8 +15,8 @@ use Rattle.flat_counters.specs.Names.{IsName}
 use Rattle.board_places.proofs.Lists.{same_some, no_some}
 
 -- an event that asks nothing of the groups leaves them
-pub goes_same : {T E : Type 0} (r : Result T E) (groups : Content) → Goes r groups groups groups
-goes_same (Ok x) groups = refl
+pub goes_same : {T E : Type 0} (r : Result T E) (groups : Known) → Goes r groups (content groups) groups
+goes_same (Ok x) groups = record { held = refl; known = λ name h. h }
 goes_same (Err f) groups = refl
 
 -- who holds the name of a group, by the index
@@ -26,7 +27,8 @@ holder_told groups b name named kept = ap (λ n. holder_of n groups) named.folde
 pub waiter_told : (groups : Content) (b : Board) (name : List ℕ) → IsName name → KeptAsShown groups b → waiter_of (fold name) groups ≡ waiter b name
 waiter_told groups b name named kept = ap (λ n. waiter_of n groups) named.folded ∙ kept.shown.waiter name named.some
 
-own_same : (own : Option ℕ) (h : Member) → own_run own h ≡ is_own own h
+-- whether a holder is the own run is asked in one way
+pub own_same : (own : Option ℕ) (h : Member) → own_run own h ≡ is_own own h
 own_same None h = refl
 own_same (Some r) (member.Run s) = refl
 own_same (Some r) (member.Leg l) = refl

@@ -136,7 +136,7 @@ module _ (p : Plan) (b : Board) (n : ℕ) (at : LegAt) (is : leg_at p b n ≡ So
   placed_there new runs = ap (λ (rs : List Run). leg_there (record new { runs = rs }) at.place) runs ∙ changed_there
 
   -- and where it was by its number
-  numbered_there : (new : Board) → new.runs ≡ leg_changed b.runs (leg_place b n) f → leg_there new at.place ≡ Some (f at.leg)
+  pub numbered_there : (new : Board) → new.runs ≡ leg_changed b.runs (leg_place b n) f → leg_there new at.place ≡ Some (f at.leg)
   numbered_there new runs = placed_there new (runs ∙ numbered b n at.place f (leg_stands p b n at is).place)
 
 -- A leg that was found, and stood so, may leave its group by the name that it still has.

@@ -1,10 +1,13 @@
 pub mod Accepting
 pub mod Back
+pub mod Entered
+pub mod FirstMove
+pub mod Groupless
 pub mod Index
 pub mod Kept
+pub mod Known
 pub mod Leaving
 pub mod Named
-pub mod NotAsked
+pub mod Names
 pub mod Playing
 pub mod Reached
-pub mod FirstMove

@@ -1,5 +1,5 @@
 -- A plan in play with its groups, after an event.
-use Rattle.std.proofs.Common.{◌≡◌, ℕ, ◌≤◌, Bool, [], Result, Ok, Err, nat_le, if◌then◌else◌, ap, subst, sym, refl, ◌∙◌}
+use Rattle.std.proofs.Common.{◌≡◌, ℕ, zero, suc, ◌≤◌, Bool, List, [], ◌∷◌, map, slice_get, None, Result, Ok, Err, nat_le, if◌then◌else◌, ap, subst, sym, refl, ◌∙◌}
 use Rattle.std.proofs.lemmas.Bool.{le-leb}
 use Rattle.flow_model.specs.Rules.{IsPlan}
 use Rattle.flow_model.specs.Sound.{SoundPlan}
@@ -10,14 +10,19 @@ use Rattle.flow_model.specs.declared.event.Event.TheVariants as event
 use Rattle.flow_model.specs.declared.plan.Plan.{Plan}
 use Rattle.flow_model.specs.declared.reply.Reply.{Reply}
 use Rattle.group_admission.specs.Content.{Content}
+use Rattle.group_admission.specs.Known.{Known, content}
 use Rattle.flat_board.specs.Index.{Follows, FollowsUnasked, Goes, EventsKeep}
+use Rattle.flat_board.specs.Names.{NamesKnown, Seen, SeenNamed, in_job, in_run, leg_names, run_names}
 use Rattle.flat_board.specs.Sound.{IsSound}
+use Rattle.flat_board.specs.declared.undo.Stood.TheVariants as stood
+use Rattle.flat_board.proofs.Known.{names_after}
+use Rattle.board_decisions.specs.Place.{◌>>=◌}
 use Rattle.status_table.specs.Answers.{Answers}
 use Rattle.status_table.specs.Grouped.{KeptAsShown, after_event}
 use Rattle.status_table.specs.InPlay.{InPlay}
 use Rattle.status_table.specs.Play.{Play}
 use Rattle.status_table.specs.Row.{Row, row, event_row, begin_row}
-use Rattle.status_table.specs.Runs.{Plays, new_board, new_play}
+use Rattle.status_table.specs.Runs.{Plays, new_board, new_job, new_leg, new_play, new_run}
 use Rattle.status_table.specs.Stays.{Stays}
 use Rattle.status_table.specs.Unasked.{Leads}
 use Rattle.status_table.specs.declared.fault.EventFault.{EventFault}
@@ -26,21 +31,37 @@ use Rattle.status_table.proofs.Grouped.{new_kept}
 use Rattle.status_table.proofs.InPlay.{new_in_play, answer_in_play}
 use Rattle.status_table.proofs.WithoutReply.{left_of, left_plays}
 
--- the board on which all is new shows that nobody is in a group
-pub new_sound : (p : Plan) (made : Play) (groups : Content) → IsPlan p → SoundPlan p → made ≡ new_play p → groups ≡ [] → IsSound made groups
-new_sound p made groups rules sound is none =
-    subst (λ (g : Content). IsSound made g) (sym none) (subst (λ (x : Play). IsSound x []) (sym is)
-    (record { in_play = new_in_play p p (new_board p) refl rules sound refl; kept = new_kept p }))
+each_new : {A B : Type 0} (P : Seen → Type 0) (f : A → B) (h : B → Seen) (xs : List A) (k : ℕ) → P None → ((x : A) → P (h (f x))) → P (slice_get (map f xs) k >>= h)
+each_new P f h [] k none step = none
+each_new P f h (x ∷ xs) zero none step = step x
+each_new P f h (x ∷ xs) (suc k) none step = each_new P f h xs k none step
 
-module _ (law : EventsKeep) (old new : Play) (groups after : Content) (worker : ℕ) (e : Event) (few : worker ≤ 15) (sound : IsSound old groups) where
-  kept : (result : Result Reply EventFault) → Follows old new groups after worker e result → KeptAsShown after new.board
+-- where all is new no name stands on the board
+new_names : (p : Plan) → NamesKnown [] (new_board p)
+new_names p (stood.Run r) = each_new (SeenNamed []) new_run run_names p.runs r tt (λ run. refl)
+new_names p (stood.Leg place) = each_new (SeenNamed []) new_run (in_run place) p.runs place.run tt (λ run.
+    each_new (SeenNamed []) new_job (in_job place) run.jobs place.job tt (λ job.
+    each_new (SeenNamed []) new_leg leg_names job.legs place.leg tt (λ leg. refl)))
+
+-- the board on which all is new shows that nobody is in a group
+pub new_sound : (p : Plan) (made : Play) (groups : Known) → IsPlan p → SoundPlan p → made ≡ new_play p → groups ≡ [] → IsSound made groups
+new_sound p made groups rules sound is none =
+    subst (λ (g : Known). IsSound made g) (sym none) (subst (λ (x : Play). IsSound x []) (sym is)
+    (record { in_play = new_in_play p p (new_board p) refl rules sound refl; kept = new_kept p; names = new_names p }))
+
+module _ (law : EventsKeep) (old new : Play) (groups after : Known) (worker : ℕ) (e : Event) (few : worker ≤ 15) (sound : IsSound old groups) where
+  kept : (result : Result Reply EventFault) → Follows old new groups after worker e result → KeptAsShown (content after) new.board
   kept (Ok reply) follows =
       let accepted : (if nat_le worker 15 then event_row old.plan old.board worker e else Err fault.NoSuch) ≡ Ok (new.board, reply) =
       ap (λ c. if c then event_row old.plan old.board worker e else Err fault.NoSuch) (le-leb worker 15 few) ∙ follows.answers in
-      subst (λ (g : Content). KeptAsShown g new.board) (sym follows.groups)
-      (law old.plan old.board worker groups e (new.board, reply) sound.in_play.laws sound.kept accepted)
+      subst (λ (g : Content). KeptAsShown g new.board) (sym follows.groups.held)
+      (law old.plan old.board worker (content groups) e (new.board, reply) sound.in_play.laws sound.kept accepted)
   kept (Err f) follows =
-      subst (λ (g : Content). KeptAsShown g new.board) (sym follows.groups) (subst (KeptAsShown groups) (sym follows.answers.1) sound.kept)
+      subst (λ (g : Known). KeptAsShown (content g) new.board) (sym follows.groups) (subst (KeptAsShown (content groups)) (sym follows.answers.1) sound.kept)
+
+  names : (result : Result Reply EventFault) → Follows old new groups after worker e result → NamesKnown after new.board
+  names (Ok reply) follows = names_after old.plan old.board worker groups after follows.groups.known sound.names e (new.board, reply) follows.groups.held follows.answers
+  names (Err f) follows = subst (λ (g : Known). NamesKnown g new.board) (sym follows.groups) (subst (NamesKnown groups) (sym follows.answers.1) sound.names)
 
   led : (result : Result Reply EventFault) → Follows old new groups after worker e result → InPlay old.plan new.board × Stays old.board new.board
   led result follows = answer_in_play old.plan old.plan old.board new.board worker e result refl sound.in_play follows.answers
@@ -50,6 +71,7 @@ module _ (law : EventsKeep) (old new : Play) (groups after : Content) (worker : 
   sound_after result follows = record {
     in_play = subst (λ (p : Plan). InPlay p new.board) (sym follows.plan) (led result follows).0;
     kept = kept result follows;
+    names = names result follows;
   }
 
   -- and what had ended is as it was
@@ -57,11 +79,11 @@ module _ (law : EventsKeep) (old new : Play) (groups after : Content) (worker : 
   stays_after result follows = (led result follows).1
 
 -- A step that is begun without a reply leaves the groups as they are.
-groups_stay : (p : Plan) (b : Board) (l : ℕ) (groups : Content) (answer : Result Reply EventFault) → Goes answer groups (after_event p b groups (event.Begin l)) groups
-groups_stay p b l groups (Ok reply) = refl
+groups_stay : (p : Plan) (b : Board) (l : ℕ) (groups : Known) (answer : Result Reply EventFault) → Goes answer groups (after_event p b (content groups) (event.Begin l)) groups
+groups_stay p b l groups (Ok reply) = record { held = refl; known = λ name h. h }
 groups_stay p b l groups (Err f) = refl
 
-pub begun_unasked : (old mid new : Play) (groups : Content) (worker l : ℕ) (result : Result (Unit {0}) EventFault) → mid.plan ≡ old.plan → mid.board ≡ old.board
+pub begun_unasked : (old mid new : Play) (groups : Known) (worker l : ℕ) (result : Result (Unit {0}) EventFault) → mid.plan ≡ old.plan → mid.board ≡ old.board
     → new.plan ≡ mid.plan → Leads (begin_row mid.plan mid.board worker l) mid.board result new.board → FollowsUnasked old new groups groups worker (event.Begin l) result
 begun_unasked old mid new groups worker l result same_plan same_board plan leads =
     let here = subst (λ (p : Plan). Leads (begin_row p old.board worker l) old.board result new.board) same_plan
@@ -74,7 +96,7 @@ begun_unasked old mid new groups worker l result same_plan same_board plan leads
     }
 
 -- Where there is no memory nothing is changed.
-pub nothing_unasked : (old new : Play) (groups : Content) (worker : ℕ) (e : Event) → new.plan ≡ old.plan → new.board ≡ old.board
+pub nothing_unasked : (old new : Play) (groups : Known) (worker : ℕ) (e : Event) → new.plan ≡ old.plan → new.board ≡ old.board
     → FollowsUnasked old new groups groups worker e (Err fault.Memory)
 nothing_unasked old new groups worker e plan board = record {
   answer = Err fault.Memory;
@@ -83,7 +105,7 @@ nothing_unasked old new groups worker e plan board = record {
 }
 
 -- An event without its reply is as the entry's answer without it.
-pub plays_unasked : (old new : Play) (groups after : Content) (e : Entry) (result : Result (Unit {0}) EventFault) → e.worker ≤ 15
+pub plays_unasked : (old new : Play) (groups after : Known) (e : Entry) (result : Result (Unit {0}) EventFault) → e.worker ≤ 15
     → FollowsUnasked old new groups after e.worker e.event result → Plays old.plan old.board e result new.board
 plays_unasked old new groups after e result few follows =
     let r = event_row old.plan old.board e.worker e.event in

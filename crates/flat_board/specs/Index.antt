@@ -1,6 +1,6 @@
 -- The index of groups beside a board: names as they stand on
 -- the board, and the groups after what a member asks of them.
-use Rattle.std.specs.Prelude.{◌≡◌, ℕ, Option, Some, None, Result, Ok, Err}
+use Rattle.std.specs.Prelude.{◌≡◌, ℕ, true, List, Option, Some, None, Result, Ok, Err}
 use Rattle.board_decisions.specs.declared.entrance.Entrance.{Entrance}
 use Rattle.flat_counters.specs.Names.{IsName}
 use Rattle.flow_model.specs.declared.board.Board.{Board}
@@ -11,6 +11,7 @@ use Rattle.flow_model.specs.declared.plan.Plan.{Plan}
 use Rattle.flow_model.specs.declared.reply.Reply.{Reply}
 use Rattle.flow_model.specs.declared.reply.ValueFault.{ValueFault}
 use Rattle.group_admission.specs.Content.{Content, after_enter}
+use Rattle.group_admission.specs.Known.{Known, content, is_known}
 use Rattle.status_table.specs.Answers.{Answers}
 use Rattle.status_table.specs.Grouped.{KeptAsShown, EntersFromOutside, after_event}
 use Rattle.status_table.specs.Lawful.{Lawful}
@@ -38,9 +39,18 @@ abbrev pub entered : Member → Option ℕ → Option Entrance → Content → C
 entered who own None groups = groups
 entered who own (Some group) groups = after_enter group.name who own groups
 
--- Where there is an answer the groups are so, and else as they were.
-abbrev pub Goes : {T E : Type 0} → Result T E → Content → Content → Content → Type 0
-Goes (Ok x) old to new = new ≡ to
+-- Each name that was known is known still.
+abbrev pub Keeps : Known → Known → Type 0
+Keeps old new = (name : List ℕ) → is_known name old ≡ true → is_known name new ≡ true
+
+-- The names that are held are so, and no name was forgotten.
+pub record Turns (old : Known) (to : Content) (new : Known) : Type 0 where
+  pub held : content new ≡ to
+  pub known : Keeps old new
+
+-- Where there is an answer the names that are held are so, and else all is as it was.
+abbrev pub Goes : {T E : Type 0} → Result T E → Known → Content → Known → Type 0
+Goes (Ok x) old to new = Turns old to new
 Goes (Err f) old to new = new ≡ old
 
 -- how many changes of a board an event makes at most: one that enters a group may note the end of who waited,
@@ -57,21 +67,16 @@ most_changes (event.Finish l) = 3
 most_changes (event.Close r) = 2
 most_changes (event.Cancel r) = 1
 
--- the groups before an event: as they were kept, or as they are
-abbrev pub groups_put_back : Option Content → Content → Content
-groups_put_back None groups = groups
-groups_put_back (Some before) groups = before
-
 -- An event that a worker from 0 to 15 reports is answered as its row, the plan stays, and the groups are
 -- after it what the event asks of them.
-pub record Follows (old new : Play) (before after : Content) (worker : ℕ) (e : Event)
+pub record Follows (old new : Play) (before after : Known) (worker : ℕ) (e : Event)
     (result : Result Reply EventFault) : Type 0 where
   pub plan : new.plan ≡ old.plan
   pub answers : Answers (event_row old.plan old.board worker e) old.board result new.board
-  pub groups : Goes result before (after_event old.plan old.board before e) after
+  pub groups : Goes result before (after_event old.plan old.board (content before) e) after
 
 -- The same where nobody asks for the reply: some answer goes with it.
-pub record FollowsUnasked (old new : Play) (before after : Content) (worker : ℕ) (e : Event)
+pub record FollowsUnasked (old new : Play) (before after : Known) (worker : ℕ) (e : Event)
     (result : Result (Unit {0}) EventFault) : Type 0 where
   pub answer : Result Reply EventFault
   pub follows : Follows old new before after worker e answer

@@ -1,5 +1,6 @@
-pub mod Asked
 pub mod Index
+pub mod Names
 pub mod Sound
 pub mod Stands
+pub mod Touched
 pub mod Undo

@@ -1,20 +1,44 @@
 -- What takes an entry back.
-use Rattle.flat_board.specs.Index.{groups_put_back}
+use Rattle.std.specs.Prelude.{ℕ, List, Option, Some, None, option_map}
+use Rattle.expr_reader.specs.Fold.{fold}
+use Rattle.flat_board.specs.Names.{NamesKnown, group_at}
+use Rattle.flat_board.specs.declared.undo.CellBack.{CellBack}
 use Rattle.flat_board.specs.declared.undo.Undo.{Undo}
-use Rattle.flat_counters.specs.Undo.{undone}
+use Rattle.flat_board.specs.declared.undo.Undo.TheVariants as takes
+use Rattle.flat_counters.specs.Undo.{only_before, undone}
+use Rattle.flow_model.specs.Mapping.{Ascends}
 use Rattle.flow_model.specs.declared.board.Board.{Board}
 use Rattle.flow_model.specs.declared.plan.Plan.{Plan}
-use Rattle.group_admission.specs.Content.{Content}
+use Rattle.group_admission.specs.Known.{Known, content, put_known}
+use Rattle.group_admission.specs.declared.held.Held.{Held}
 use Rattle.status_table.specs.Grouped.{KeptAsShown}
 use Rattle.status_table.specs.InPlay.{InPlay}
 
 -- the board before an entry: its changes are taken back, the last one first
 abbrev pub board_before : Undo → Board → Board
-board_before undo b = undone undo.changes.items b
+board_before (takes.Only only) b = only_before only b
+board_before (takes.More changes cell) b = undone changes.items b
 
--- An undo fits a board of a plan where the board before is in play; and it shows the groups before, whatever
--- groups this board shows.
+-- what was held before it of the name that it asked for, if it asked for one
+abbrev pub cell_of : Undo → Option CellBack
+cell_of (takes.Only only) = None
+cell_of (takes.More changes cell) = option_map (λ it. it.value) cell
+
+-- a name, if there is one, is held again as it was
+abbrev pub name_put_back : Option (List ℕ) → Option Held → Known → Known
+name_put_back None held known = known
+name_put_back (Some name) held known = put_known (fold name) held known
+
+-- The groups before an entry: the name stands on the board, as the group of who entered it or left it.
+abbrev pub groups_put_back : Option CellBack → Board → Known → Known
+groups_put_back None b known = known
+groups_put_back (Some cell) b known = name_put_back (group_at b cell.who) cell.held known
+
+-- An undo fits a board of a plan where the board before is in play; and it shows the groups before, and its
+-- names are known to them, whatever groups know those of this board and are shown by it.
 pub record Fits (undo : Undo) (p : Plan) (b : Board) : Type 0 where
   pub in_play : InPlay p (board_before undo b)
-  pub kept : (groups : Content) → KeptAsShown groups b
-      → KeptAsShown (groups_put_back undo.groups groups) (board_before undo b)
+  pub kept : (known : Known) → Ascends known → KeptAsShown (content known) b → NamesKnown known b
+      → KeptAsShown (content (groups_put_back (cell_of undo) b known)) (board_before undo b)
+  pub names : (known : Known) → Ascends known → KeptAsShown (content known) b → NamesKnown known b
+      → NamesKnown (groups_put_back (cell_of undo) b known) (board_before undo b)

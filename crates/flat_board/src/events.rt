@@ -6,6 +6,7 @@ ghost use Rattle.std.specs.Prelude.{◌≡◌, ◌≤◌, OnOk, Some};
 ghost use Rattle.board_places.specs.Place.{job_at, leg_at, run_at};
 ghost use Rattle.board_places.specs.Seen.{job_seen};
 ghost use Rattle.flat_board.specs.Index.{Goes};
+ghost use Rattle.group_admission.specs.Known.{content};
 ghost use Rattle.status_table.specs.Answers.{Answers, Decides};
 ghost use Rattle.status_table.specs.Grouped.{KeptAsShown, leg_asked, leg_left, run_left, run_opened};
 ghost use Rattle.status_table.specs.InPlay.{InPlay};
@@ -37,13 +38,13 @@ pub(crate) fn open(
     groups: &mut Groups,
     number: u64,
 ) -> Result<Reply, EventFault>
-    requires kept { KeptAsShown groups.old state.old.board }
+    requires kept { KeptAsShown (content groups.old) state.old.board }
     requires room { 4 ≤ state.old.room }
     ensures plan { state.new.plan ≡ state.old.plan }
     ensures answers { Answers (spec.open_row state.old.plan state.old.board number)
         state.old.board result state.new.board }
     ensures groups { Goes result groups.old
-        (run_opened groups.old number (run_at state.old.plan state.old.board number)) groups.new }
+        (run_opened (content groups.old) number (run_at state.old.plan state.old.board number)) groups.new }
     ensures back { OnOk result (state.new.back ≡ state.old.back) }
 {
     who_enters_is_outside();
@@ -116,13 +117,13 @@ pub(crate) fn ask(
     groups: &mut Groups,
     number: u64,
 ) -> Result<Reply, EventFault>
-    requires kept { KeptAsShown groups.old state.old.board }
+    requires kept { KeptAsShown (content groups.old) state.old.board }
     requires room { 4 ≤ state.old.room }
     ensures plan { state.new.plan ≡ state.old.plan }
     ensures answers { Answers (spec.ask_row state.old.plan state.old.board number)
         state.old.board result state.new.board }
     ensures groups { Goes result groups.old
-        (leg_asked groups.old number (leg_at state.old.plan state.old.board number)) groups.new }
+        (leg_asked (content groups.old) number (leg_at state.old.plan state.old.board number)) groups.new }
     ensures back { OnOk result (state.new.back ≡ state.old.back) }
 {
     who_enters_is_outside();
@@ -150,13 +151,13 @@ pub(crate) fn discard(
     groups: &mut Groups,
     number: u64,
 ) -> Result<Reply, EventFault>
-    requires kept { KeptAsShown groups.old state.old.board }
+    requires kept { KeptAsShown (content groups.old) state.old.board }
     requires room { 3 ≤ state.old.room }
     ensures plan { state.new.plan ≡ state.old.plan }
     ensures answers { Answers (spec.drop_row state.old.plan state.old.board number)
         state.old.board result state.new.board }
     ensures groups { Goes result groups.old
-        (leg_left groups.old number (leg_at state.old.plan state.old.board number)) groups.new }
+        (leg_left (content groups.old) number (leg_at state.old.plan state.old.board number)) groups.new }
     ensures back { OnOk result (state.new.back ≡ state.old.back) }
 {
     let Some(leg) = find_leg(state.counted(), number) else {
@@ -289,13 +290,13 @@ pub(crate) fn finish(
     worker: u8,
     number: u64,
 ) -> Result<Reply, EventFault>
-    requires kept { KeptAsShown groups.old state.old.board }
+    requires kept { KeptAsShown (content groups.old) state.old.board }
     requires room { 3 ≤ state.old.room }
     ensures plan { state.new.plan ≡ state.old.plan }
     ensures answers { Answers (spec.finish_row state.old.plan state.old.board worker number)
         state.old.board result state.new.board }
     ensures groups { Goes result groups.old
-        (leg_left groups.old number (leg_at state.old.plan state.old.board number)) groups.new }
+        (leg_left (content groups.old) number (leg_at state.old.plan state.old.board number)) groups.new }
     ensures back { OnOk result (state.new.back ≡ state.old.back) }
 {
     let play = state.counted();
@@ -319,13 +320,13 @@ pub(crate) fn close(
     groups: &mut Groups,
     number: u64,
 ) -> Result<Reply, EventFault>
-    requires kept { KeptAsShown groups.old state.old.board }
+    requires kept { KeptAsShown (content groups.old) state.old.board }
     requires room { 2 ≤ state.old.room }
     ensures plan { state.new.plan ≡ state.old.plan }
     ensures answers { Answers (spec.close_row state.old.plan state.old.board number)
         state.old.board result state.new.board }
     ensures groups { Goes result groups.old
-        (run_left groups.old number (run_at state.old.plan state.old.board number)) groups.new }
+        (run_left (content groups.old) number (run_at state.old.plan state.old.board number)) groups.new }
     ensures back { OnOk result (state.new.back ≡ state.old.back) }
 {
     let play = state.counted();

@@ -1,25 +1,29 @@
 //! The flat body of the table: the board changed in place, with counters and an index of groups beside it.
 
-ghost use Rattle.std.specs.Prelude.{◌≡◌, ◌≤◌, true, IfOk, OnOk};
-ghost use Rattle.flat_board.specs.Asked.{if_asked};
-ghost use Rattle.flat_board.specs.Index.{Follows, FollowsUnasked, groups_put_back, most_changes};
-ghost use Rattle.flat_board.specs.Undo.{board_before};
+ghost use Rattle.std.specs.Prelude.{◌≡◌, ◌≤◌, true, Ok, Some, None, IfOk, OnOk};
+ghost use Rattle.flat_board.specs.Index.{Follows, FollowsUnasked, most_changes};
+ghost use Rattle.flat_board.specs.Touched.{cell_before, touched as touched_by};
+ghost use Rattle.flat_board.specs.Undo.{board_before, cell_of, groups_put_back};
 ghost use Rattle.flat_counters.specs.Names.{IsGroup, IsName, IsNamed};
 ghost use Rattle.flat_counters.specs.Track.{play_of};
 ghost use Rattle.flow_model.specs.declared.board.Board.{Board};
+ghost use Rattle.flow_model.specs.declared.reply.Reply.{Reply as ReplyOf};
+ghost use Rattle.group_admission.specs.Content.{EachOnce};
+ghost use Rattle.group_admission.specs.Known.{content};
 ghost use Rattle.status_table.specs.Grouped.{KeptAsShown};
 ghost use Rattle.status_table.specs.Groups as spec;
 ghost use Rattle.status_table.specs.InPlay.{InPlay};
 ghost use Rattle.status_table.specs.Reversible.{answer_of, done_of};
+ghost use Rattle.status_table.specs.Row.{event_row};
 ghost use Rattle.status_table.specs.Runs.{new_play};
 
-use crate::asked::asks_groups;
 use crate::events::{ask, begin, cancel, close, discard, end, finish, judge, open, take};
 use crate::groups::{holder, leg_stand, next_after, run_stand, waiter};
-use crate::laws::events_keep_the_groups;
+use crate::laws::{events_keep_the_groups, who_enters_is_outside};
 use crate::moves::{find_first, find_moves};
+use crate::touched::{Touch, held_before, name_at, touched};
 use crate::unasked::begin_unasked;
-use crate::undo::Undo;
+use crate::undo::{CellBack, Stood, Undo};
 use flat_counters::{Counted, Tracked};
 use flow_model::{Board, CheckedPlan, Duplicate, Entry, Event, Leg, Member, Reply, Run, Sequence};
 use group_admission::Groups;
@@ -125,7 +129,7 @@ fn apply_event(
     event: Event,
 ) -> Result<Reply, EventFault>
     requires in_play { InPlay state.old.plan state.old.board }
-    requires kept { KeptAsShown groups.old state.old.board }
+    requires kept { KeptAsShown (content groups.old) state.old.board }
     requires room { most_changes event ≤ state.old.room }
     ensures follows { Follows (play_of state.old) (play_of state.new)
         groups.old groups.new worker event result }
@@ -167,7 +171,7 @@ fn play_event(
     event: Event,
 ) -> Result<Reply, EventFault>
     requires in_play { InPlay state.old.plan state.old.board }
-    requires kept { KeptAsShown groups.old state.old.board }
+    requires kept { KeptAsShown (content groups.old) state.old.board }
     ensures follows { Follows (play_of state.old) (play_of state.new)
         groups.old groups.new worker event result }
     ensures back { OnOk result (state.new.back ≡ state.old.board) }
@@ -185,7 +189,7 @@ fn advance_event(
     event: Event,
 ) -> Result<(), EventFault>
     requires in_play { InPlay state.old.plan state.old.board }
-    requires kept { KeptAsShown groups.old state.old.board }
+    requires kept { KeptAsShown (content groups.old) state.old.board }
     ensures follows { FollowsUnasked (play_of state.old) (play_of state.new)
         groups.old groups.new worker event result }
     ensures back { OnOk result (state.new.back ≡ state.old.board) }
@@ -198,20 +202,100 @@ fn advance_event(
     Ok(())
 }
 
-/// A copy of the groups, where an event may ask something of them.
-fn groups_before(
-    alloc: Global,
-    state: &Counted,
-    groups: &Groups,
-    event: &Event,
-) -> Result<Option<Groups>, AllocError>
-    ensures { IfOk result
-        (λ made. made ≡ if_asked state.now.plan state.now.board event.now groups.now) }
+/// What takes back what was played since the board last began, where no name was asked for.
+fn undo_apart(alloc: Global, state: &mut Tracked) -> Undo
+    ensures plan { state.new.plan ≡ state.old.plan }
+    ensures board { state.new.board ≡ state.old.board }
+    ensures back { board_before result state.new.board ≡ state.old.back }
+    ensures cell { cell_of result ≡ None }
 {
-    if asks_groups(state, event) {
-        return Ok(Some(groups.copy(alloc)?));
+    if let Some(only) = state.take_only() {
+        return Undo::Only(only);
     }
-    Ok(None)
+    let changes = state.take_changes(alloc);
+    Undo::More {
+        changes,
+        cell: None,
+    }
+}
+
+/// What takes back what was played since the board last began, with what was held of the name that was asked for.
+fn undo_with(alloc: Global, state: &mut Tracked, cell: Box<CellBack>) -> Undo
+    ensures plan { state.new.plan ≡ state.old.plan }
+    ensures board { state.new.board ≡ state.old.board }
+    ensures back { board_before result state.new.board ≡ state.old.back }
+    ensures cell { cell_of result ≡ Some cell.value }
+{
+    let changes = state.take_changes(alloc);
+    Undo::More {
+        changes,
+        cell: Some(cell),
+    }
+}
+
+/// Plays an event that asks for no name, and gives what takes it back.
+fn play_apart(
+    alloc: Global,
+    state: &mut Tracked,
+    groups: &mut Groups,
+    worker: u8,
+    event: Event,
+) -> Result<(Reply, Undo), EventFault>
+    requires in_play { InPlay state.old.plan state.old.board }
+    requires kept { KeptAsShown (content groups.old) state.old.board }
+    ensures follows { Follows (play_of state.old) (play_of state.new)
+        groups.old groups.new worker event (answer_of result) }
+    ensures back { IfOk result (λ both. board_before both.1 state.new.board ≡ state.old.board) }
+    ensures cell { IfOk result (λ both. cell_of both.1 ≡ None) }
+{
+    let reply = play_event(alloc, state, groups, worker, event)?;
+    Ok((reply, undo_apart(alloc, state)))
+}
+
+/// Plays an event by which one leaves its group, and gives what takes it back.
+fn play_leaving(
+    alloc: Global,
+    state: &mut Tracked,
+    groups: &mut Groups,
+    worker: u8,
+    event: Event,
+    cell: CellBack,
+) -> Result<(Reply, Undo), EventFault>
+    requires in_play { InPlay state.old.plan state.old.board }
+    requires kept { KeptAsShown (content groups.old) state.old.board }
+    ensures follows { Follows (play_of state.old) (play_of state.new)
+        groups.old groups.new worker event (answer_of result) }
+    ensures back { IfOk result (λ both. board_before both.1 state.new.board ≡ state.old.board) }
+    ensures cell { IfOk result (λ both. cell_of both.1 ≡ Some cell) }
+{
+    let cell = Box::new(alloc, cell)?;
+    let reply = play_event(alloc, state, groups, worker, event)?;
+    Ok((reply, undo_with(alloc, state, cell)))
+}
+
+/// Plays an event by which a member enters its group, and gives what takes it back.
+fn play_entering(
+    alloc: Global,
+    state: &mut Tracked,
+    groups: &mut Groups,
+    worker: u8,
+    event: Event,
+    who: Stood,
+    member: Member,
+) -> Result<(Reply, Undo), EventFault>
+    requires in_play { InPlay state.old.plan state.old.board }
+    requires kept { KeptAsShown (content groups.old) state.old.board }
+    ensures follows { Follows (play_of state.old) (play_of state.new)
+        groups.old groups.new worker event (answer_of result) }
+    ensures back { IfOk result (λ both. board_before both.1 state.new.board ≡ state.old.board) }
+    ensures cell { IfOk result (λ both. cell_of both.1
+        ≡ cell_before (Touch.Enters who member) state.new.board (content groups.new) both.0.displaced) }
+{
+    let mut cell = Box::new(alloc, CellBack { who, held: None })?;
+    let reply = play_event(alloc, state, groups, worker, event)?;
+    let board = state.counted().board();
+    cell.held = held_before(groups, board, who, member, reply.displaced);
+    Ok((reply, undo_with(alloc, state, cell)))
 }
 
 /// Plays an event, and gives what takes it back.
@@ -223,23 +307,40 @@ fn play_with_undo(
     event: Event,
 ) -> Result<(Reply, Undo), EventFault>
     requires in_play { InPlay state.old.plan state.old.board }
-    requires kept { KeptAsShown groups.old state.old.board }
+    requires kept { KeptAsShown (content groups.old) state.old.board }
     ensures follows { Follows (play_of state.old) (play_of state.new)
         groups.old groups.new worker event (answer_of result) }
     ensures back { IfOk result (λ both. board_before both.1 state.new.board ≡ state.old.board) }
-    ensures groups { IfOk result
-        (λ both. both.1.groups ≡ if_asked state.old.plan state.old.board event groups.old) }
+    ensures cell { IfOk result (λ both. cell_of both.1 ≡ cell_before
+        (touched_by state.old.plan state.old.board (content groups.old) event)
+        state.new.board (content groups.new) both.0.displaced) }
 {
-    let before = groups_before(alloc, state.counted(), groups, &event)?;
-    let reply = play_event(alloc, state, groups, worker, event)?;
-    let changes = state.take_changes(alloc);
-    Ok((
-        reply,
-        Undo {
-            changes,
-            groups: before,
+    match touched(state.counted(), groups, &event) {
+        Touch::Nothing => play_apart(alloc, state, groups, worker, event),
+        Touch::Leaves(cell) => play_leaving(alloc, state, groups, worker, event, cell),
+        Touch::Enters(who, member) => {
+            play_entering(alloc, state, groups, worker, event, who, member)
         },
-    ))
+    }
+}
+
+/// Plays an event that asks for no name, and whose reply nobody asks for, and gives what takes it back.
+fn advance_apart(
+    alloc: Global,
+    state: &mut Tracked,
+    groups: &mut Groups,
+    worker: u8,
+    event: Event,
+) -> Result<Undo, EventFault>
+    requires in_play { InPlay state.old.plan state.old.board }
+    requires kept { KeptAsShown (content groups.old) state.old.board }
+    ensures follows { FollowsUnasked (play_of state.old) (play_of state.new)
+        groups.old groups.new worker event (done_of result) }
+    ensures back { IfOk result (λ undo. board_before undo state.new.board ≡ state.old.board) }
+    ensures cell { IfOk result (λ undo. cell_of undo ≡ None) }
+{
+    advance_event(alloc, state, groups, worker, event)?;
+    Ok(undo_apart(alloc, state))
 }
 
 /// Plays an event whose reply nobody asks for, and gives what takes it back.
@@ -251,28 +352,56 @@ fn advance_with_undo(
     event: Event,
 ) -> Result<Undo, EventFault>
     requires in_play { InPlay state.old.plan state.old.board }
-    requires kept { KeptAsShown groups.old state.old.board }
+    requires kept { KeptAsShown (content groups.old) state.old.board }
     ensures follows { FollowsUnasked (play_of state.old) (play_of state.new)
         groups.old groups.new worker event (done_of result) }
     ensures back { IfOk result (λ undo. board_before undo state.new.board ≡ state.old.board) }
-    ensures groups { IfOk result
-        (λ undo. undo.groups ≡ if_asked state.old.plan state.old.board event groups.old) }
+    ensures cell { IfOk result (λ undo. (reply : ReplyOf)
+        → event_row state.old.plan state.old.board worker event ≡ Ok (state.new.board, reply)
+        → cell_of undo ≡ cell_before
+        (touched_by state.old.plan state.old.board (content groups.old) event)
+        state.new.board (content groups.new) reply.displaced) }
 {
-    let before = groups_before(alloc, state.counted(), groups, &event)?;
-    advance_event(alloc, state, groups, worker, event)?;
-    let changes = state.take_changes(alloc);
-    Ok(Undo {
-        changes,
-        groups: before,
-    })
+    if let Event::Begin { .. } = &event {
+        return advance_apart(alloc, state, groups, worker, event);
+    }
+    let (_, undo) = play_with_undo(alloc, state, groups, worker, event)?;
+    Ok(undo)
 }
 
-/// Puts the groups back, where they were kept.
-fn put_back(groups: &mut Groups, before: Option<Groups>)
-    ensures { groups.new ≡ groups_put_back before groups.old }
+/// Puts a name back, where one was asked for: it stands on the board after the entry.
+fn put_back(groups: &mut Groups, board: &Board, cell: Option<CellBack>)
+    requires { EachOnce (content (groups_put_back cell board.now groups.old)) }
+    ensures { groups.new ≡ groups_put_back cell board.now groups.old }
 {
-    if let Some(before) = before {
-        *groups = before;
+    if let Some(cell) = cell {
+        if let Some(name) = name_at(board, cell.who) {
+            groups.put_back(name, cell.held);
+        }
+    }
+}
+
+/// What was held before an entry of the name that it asked for.
+fn cell_back(undo: &Undo) -> Option<CellBack>
+    ensures { result ≡ cell_of undo.now }
+{
+    match undo {
+        Undo::Only(_) => None,
+        Undo::More { cell, .. } => match cell {
+            Some(cell) => Some(**cell),
+            None => None,
+        },
+    }
+}
+
+/// Takes the changes of an entry back.
+fn take_back(alloc: Global, state: &mut Tracked, undo: Undo)
+    ensures plan { state.new.plan ≡ state.old.plan }
+    ensures board { state.new.board ≡ board_before undo state.old.board }
+{
+    match undo {
+        Undo::Only(only) => state.revert_only(alloc, only),
+        Undo::More { changes, .. } => state.revert(alloc, changes),
     }
 }
 
@@ -340,6 +469,7 @@ impl Reversible for FlatBoard {
 
     fn apply_with_undo(&mut self, entry: Entry) -> Result<(Reply, Undo), EventFault> {
         events_keep_the_groups();
+        who_enters_is_outside();
         let alloc = self.alloc;
         if entry.worker > 15 {
             return Err(EventFault::NoSuch);
@@ -355,6 +485,7 @@ impl Reversible for FlatBoard {
 
     fn advance_with_undo(&mut self, entry: Entry) -> Result<Undo, EventFault> {
         events_keep_the_groups();
+        who_enters_is_outside();
         let alloc = self.alloc;
         if entry.worker > 15 {
             return Err(EventFault::NoSuch);
@@ -369,8 +500,12 @@ impl Reversible for FlatBoard {
     }
 
     fn revert(&mut self, undo: Undo) {
-        let Undo { changes, groups } = undo;
-        self.state.revert(self.alloc, changes);
-        put_back(&mut self.groups, groups);
+        self.groups.names_ascend();
+        put_back(
+            &mut self.groups,
+            self.state.counted().board(),
+            cell_back(&undo),
+        );
+        take_back(self.alloc, &mut self.state, undo);
     }
 }

@@ -7,7 +7,7 @@ ghost use Rattle.board_places.specs.Numbered.{leg_there as leg_there_of};
 ghost use Rattle.board_places.specs.Place.{LegAt};
 ghost use Rattle.board_decisions.specs.declared.entrance.Entrance.{Entrance as EntranceOf};
 ghost use Rattle.expr_value.specs.Answer.{Gives};
-ghost use Rattle.flat_board.specs.Index.{AsksNamed, EntersNamed, Goes, entered};
+ghost use Rattle.flat_board.specs.Index.{AsksNamed, EntersNamed, Goes, Keeps, entered};
 ghost use Rattle.flat_board.specs.Stands.{StandsOnlyThere, standing_by};
 ghost use Rattle.flat_board.specs.declared.groups.Stand.{Stand as StandOf};
 ghost use Rattle.flat_counters.specs.Names.{IsGroup, IsName, IsNamed};
@@ -16,6 +16,7 @@ ghost use Rattle.flow_model.specs.declared.board.Leg.{Leg as LegOf};
 ghost use Rattle.flow_model.specs.declared.event.Member.TheVariants as member;
 ghost use Rattle.flow_model.specs.declared.reply.ValueFault.{ValueFault as ValueFaultOf};
 ghost use Rattle.group_admission.specs.Content.{after_enter, holder_of, is_in_group};
+ghost use Rattle.group_admission.specs.Known.{content};
 ghost use Rattle.status_table.specs.Admissions.{asked, left, opened};
 ghost use Rattle.status_table.specs.Answers.{Answers};
 ghost use Rattle.status_table.specs.Grouped.{KeptAsShown};
@@ -60,12 +61,12 @@ fn queue(
     waited: Option<Member>,
 ) -> Result<Reply, EventFault>
     requires named { IsName group.name }
-    requires outside { is_in_group who groups.old ≡ false }
+    requires outside { is_in_group who (content groups.old) ≡ false }
     requires room { 4 ≤ state.old.room }
     ensures plan { state.new.plan ≡ state.old.plan }
     ensures answers { Answers (Ok (spec.queued state.old.board who group holder waited))
         state.old.board result state.new.board }
-    ensures groups { Goes result groups.old (after_enter group.name who own groups.old) groups.new }
+    ensures groups { Goes result groups.old (after_enter group.name who own (content groups.old)) groups.new }
     ensures back { OnOk result (state.new.back ≡ state.old.back) }
 {
     note_end(state, waited)?;
@@ -95,13 +96,13 @@ fn enter_held(
     waited: Option<Member>,
 ) -> Result<Reply, EventFault>
     requires named { IsName group.name }
-    requires outside { is_in_group who groups.old ≡ false }
-    requires held { held ≡ holder_of group.name groups.old }
+    requires outside { is_in_group who (content groups.old) ≡ false }
+    requires held { held ≡ holder_of group.name (content groups.old) }
     requires room { 4 ≤ state.old.room }
     ensures plan { state.new.plan ≡ state.old.plan }
     ensures answers { Answers (Ok (spec.enters_held state.old.board who own group held waited))
         state.old.board result state.new.board }
-    ensures groups { Goes result groups.old (after_enter group.name who own groups.old) groups.new }
+    ensures groups { Goes result groups.old (after_enter group.name who own (content groups.old)) groups.new }
     ensures back { OnOk result (state.new.back ≡ state.old.back) }
 {
     let Some(holder) = held else {
@@ -125,13 +126,13 @@ pub(crate) fn enter(
     group: Option<Entrance>,
 ) -> Result<Reply, EventFault>
     requires named { EntersNamed group }
-    requires outside { is_in_group who groups.old ≡ false }
-    requires kept { KeptAsShown groups.old state.old.board }
+    requires outside { is_in_group who (content groups.old) ≡ false }
+    requires kept { KeptAsShown (content groups.old) state.old.board }
     requires room { 4 ≤ state.old.room }
     ensures plan { state.new.plan ≡ state.old.plan }
     ensures answers { Answers (Ok (spec.enters state.old.board who own group))
         state.old.board result state.new.board }
-    ensures groups { Goes result groups.old (entered who own group groups.old) groups.new }
+    ensures groups { Goes result groups.old (entered who own group (content groups.old)) groups.new }
     ensures back { OnOk result (state.new.back ≡ state.old.back) }
 {
     let Some(group) = group else {
@@ -152,8 +153,8 @@ pub(crate) fn enter_run(
     group: Result<Option<Entrance>, ValueFault>,
 ) -> Result<Reply, EventFault>
     requires named { AsksNamed group }
-    requires outside { is_in_group (member.Run number) groups.old ≡ false }
-    requires kept { KeptAsShown groups.old state.old.board }
+    requires outside { is_in_group (member.Run number) (content groups.old) ≡ false }
+    requires kept { KeptAsShown (content groups.old) state.old.board }
     requires room { 4 ≤ state.old.room }
     ensures plan { state.new.plan ≡ state.old.plan }
     ensures answers { (value : Result (Option EntranceOf) ValueFaultOf)
@@ -161,7 +162,7 @@ pub(crate) fn enter_run(
         → Answers (run_enters state.old.board number value) state.old.board result state.new.board }
     ensures groups { (value : Result (Option EntranceOf) ValueFaultOf)
         → Gives (λ group. group) group value
-        → Goes result groups.old (opened groups.old number value) groups.new }
+        → Goes result groups.old (opened (content groups.old) number value) groups.new }
     ensures back { OnOk result (state.new.back ≡ state.old.back) }
 {
     match group {
@@ -190,8 +191,8 @@ pub(crate) fn enter_leg(
     group: Result<Option<Entrance>, ValueFault>,
 ) -> Result<Reply, EventFault>
     requires named { AsksNamed group }
-    requires outside { is_in_group (member.Leg number) groups.old ≡ false }
-    requires kept { KeptAsShown groups.old state.old.board }
+    requires outside { is_in_group (member.Leg number) (content groups.old) ≡ false }
+    requires kept { KeptAsShown (content groups.old) state.old.board }
     requires room { 4 ≤ state.old.room }
     ensures plan { state.new.plan ≡ state.old.plan }
     ensures answers { (at : LegAt) (value : Result (Option EntranceOf) ValueFaultOf)
@@ -200,7 +201,7 @@ pub(crate) fn enter_leg(
         state.old.board result state.new.board }
     ensures groups { (value : Result (Option EntranceOf) ValueFaultOf)
         → Gives (λ group. group) group value
-        → Goes result groups.old (asked groups.old number own value) groups.new }
+        → Goes result groups.old (asked (content groups.old) number own value) groups.new }
     ensures back { OnOk result (state.new.back ≡ state.old.back) }
 {
     match group {
@@ -255,7 +256,7 @@ pub(crate) fn leg_stand(state: LegState) -> Stand
 /// The member that holds the name of a group.
 pub(crate) fn holder(groups: &Groups, name: &str) -> Option<Member>
     requires { IsName name.now }
-    ensures { (b : BoardOf) → KeptAsShown groups.now b → result ≡ spec.holder b name.now }
+    ensures { (b : BoardOf) → KeptAsShown (content groups.now) b → result ≡ spec.holder b name.now }
 {
     groups.holder(name)
 }
@@ -263,7 +264,7 @@ pub(crate) fn holder(groups: &Groups, name: &str) -> Option<Member>
 /// The member that waits for the name of a group.
 pub(crate) fn waiter(groups: &Groups, name: &str) -> Option<Member>
     requires { IsName name.now }
-    ensures { (b : BoardOf) → KeptAsShown groups.now b → result ≡ spec.waiter b name.now }
+    ensures { (b : BoardOf) → KeptAsShown (content groups.now) b → result ≡ spec.waiter b name.now }
 {
     groups.waiting(name)
 }
@@ -271,7 +272,7 @@ pub(crate) fn waiter(groups: &Groups, name: &str) -> Option<Member>
 /// The member that waits for the name of a group, if the group has one.
 fn waiter_of(groups: &Groups, group: &Option<Text>) -> Option<Member>
     requires { IsGroup group.now }
-    ensures { (b : BoardOf) → KeptAsShown groups.now b → result ≡ spec.waiter_of b group.now }
+    ensures { (b : BoardOf) → KeptAsShown (content groups.now) b → result ≡ spec.waiter_of b group.now }
 {
     match group {
         Some(name) => groups.waiting(name.as_str()),
@@ -282,7 +283,7 @@ fn waiter_of(groups: &Groups, group: &Option<Text>) -> Option<Member>
 /// Who is next in the group of a member.
 pub(crate) fn next_after(groups: &Groups, stand: Stand, group: &Option<Text>) -> Option<Member>
     requires { IsGroup group.now }
-    ensures { (b : BoardOf) → KeptAsShown groups.now b
+    ensures { (b : BoardOf) → KeptAsShown (content groups.now) b
         → result ≡ spec.next_after b (standing_by stand group.now) }
 {
     match stand {
@@ -295,8 +296,9 @@ pub(crate) fn next_after(groups: &Groups, stand: Stand, group: &Option<Text>) ->
 /// A member that ended leaves its group, which is found by its name; one that has no group leaves none.
 pub(crate) fn leave(groups: &mut Groups, who: Member, group: &Option<Text>)
     requires { IsGroup group.now }
-    ensures { (stood : StandOf) → StandsOnlyThere groups.old who (standing_by stood group.now)
-        → groups.new ≡ left groups.old who (standing_by stood group.now) }
+    ensures leaves { (stood : StandOf) → StandsOnlyThere (content groups.old) who (standing_by stood group.now)
+        → content groups.new ≡ left (content groups.old) who (standing_by stood group.now) }
+    ensures known { Keeps groups.old groups.new }
 {
     if let Some(name) = group {
         groups.leave_name(name.as_str(), who);
@@ -306,9 +308,10 @@ pub(crate) fn leave(groups: &mut Groups, who: Member, group: &Option<Text>)
 /// A leg that ended leaves its group, whose name stands on the board still.
 pub(crate) fn leave_leg(groups: &mut Groups, board: &Board, place: LegPlace, number: u64)
     requires { IsNamed board.now }
-    ensures { (leg : LegOf) (stood : StandOf) → leg_there_of board.now place ≡ Some leg
-        → StandsOnlyThere groups.old (member.Leg number) (standing_by stood leg.group)
-        → groups.new ≡ left groups.old (member.Leg number) (standing_by stood leg.group) }
+    ensures leaves { (leg : LegOf) (stood : StandOf) → leg_there_of board.now place ≡ Some leg
+        → StandsOnlyThere (content groups.old) (member.Leg number) (standing_by stood leg.group)
+        → content groups.new ≡ left (content groups.old) (member.Leg number) (standing_by stood leg.group) }
+    ensures known { Keeps groups.old groups.new }
 {
     if let Some(leg) = leg_there(board, place) {
         leave(groups, Member::Leg(number), &leg.group);

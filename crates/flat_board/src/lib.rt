@@ -4,8 +4,8 @@
 //! (`flat_counters`) it keeps the concurrency groups by their names: so slots, needs, what is to stop at once, who
 //! holds a name and who is next are read off, and not looked for; who holds a name, who waits for it and who is next it
 //! tells callers too. `members` and `groups` are the changes of members and what comes of entering and leaving a group;
-//! `events` are the rows of the table; `undo` is what takes an entry back; `asked` says with which events the groups
-//! are kept for it.
+//! `events` are the rows of the table; `undo` is what takes an entry back; `touched` is what it keeps of the groups: the
+//! one name that an event asks for.
 //!
 //! No contract of a caller speaks of the counters. The crate stands on `flat_counters`, on `status_table` for the
 //! table and for what does not look at counters, on `group_admission` for the index, and on `board_decisions` and
@@ -13,7 +13,6 @@
 
 #![tactic(auto)]
 
-mod asked;
 mod events;
 mod flat_board;
 mod found;
@@ -21,8 +20,9 @@ mod groups;
 mod laws;
 mod members;
 mod moves;
+mod touched;
 mod unasked;
 mod undo;
 
 pub use flat_board::FlatBoard;
-pub use undo::Undo;
+pub use undo::{CellBack, Stood, Undo};

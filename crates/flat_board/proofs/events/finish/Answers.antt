@@ -3,12 +3,16 @@ use Rattle.board_places.specs.Place.{leg_at}
 use Rattle.board_places.specs.Seen.{leg_seen}
 use Rattle.status_table.specs.Play.{Play}
 use Rattle.flat_board.proofs.Leaving.{ended_has_left}
+use Rattle.group_admission.specs.Known.{content}
 use Rattle.flat_board.proofs.events.finish.Goals as goal
 
 pub returns-clause-groups : goal.returns-clause-groups
 returns-clause-groups c =
     let at = leg_seen c.in-Some.leg.at in
-    ended_has_left c.args.state.now.plan c.args.state.now.board c.args.groups.now c.args.number at c.requires.kept
-    (subst (λ (s : Play). leg_at s.plan s.board c.args.number ≡ Some at) c.counted-play.ensures (sym c.in-Some.ensures.found))
-    c.leg_stand-stand.result c.leg_stand-stand.ensures c.board.result.now c.leave_leg.new.groups c.leave_leg.ensures _ _
-    (c.board.ensures.board ∙ ap (λ (s : Play). s.board) c.counted.ensures ∙ c.in_ok-set_ended.ensures.ok)
+    record {
+      held = ended_has_left c.args.state.now.plan c.args.state.now.board (content c.args.groups.now) c.args.number at c.requires.kept
+          (subst (λ (s : Play). leg_at s.plan s.board c.args.number ≡ Some at) c.counted-play.ensures (sym c.in-Some.ensures.found))
+          c.leg_stand-stand.result c.leg_stand-stand.ensures c.board.result.now (content c.leave_leg.new.groups) c.leave_leg.ensures.leaves _ _
+          (c.board.ensures.board ∙ ap (λ (s : Play). s.board) c.counted.ensures ∙ c.in_ok-set_ended.ensures.ok);
+      known = c.leave_leg.ensures.known;
+    }

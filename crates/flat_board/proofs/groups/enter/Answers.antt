@@ -4,12 +4,13 @@ use Rattle.group_admission.specs.Content.{holder_of, waiter_of}
 use Rattle.flat_board.specs.Index.{EntersNamed}
 use Rattle.status_table.specs.Answers.{Answers}
 use Rattle.status_table.specs.Groups.{Done, holder, waiter, enters_held, enters}
+use Rattle.group_admission.specs.Known.{content}
 use Rattle.flat_board.proofs.groups.enter.Goals as goal
 
 pub returns-clause-answers : goal.returns-clause-answers
 returns-clause-answers c =
     let b = c.args.state.now.board in
-    let groups = c.args.groups.now in
+    let groups = content c.args.groups.now in
     let group = c.in-Some.group in
     let named = subst EntersNamed c.in-Some.is c.requires.named in
     let held : c.holder-held.result ≡ holder b group.name =
