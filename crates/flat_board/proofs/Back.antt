@@ -3,10 +3,10 @@ use Rattle.std.proofs.Common.{◌≡◌, ◌≢◌, ℕ, ◌≤◌, Bool, true, 
 use Rattle.std.specs.Prelude.{IfOk}
 use Rattle.board_decisions.specs.Decisions.{is_stopping, leg_entrance, run_entrance}
 use Rattle.board_decisions.specs.Derived.{is_full}
-use Rattle.board_decisions.specs.Numbered.{leg_there}
-use Rattle.board_decisions.specs.Place.{◌>>=◌, RunAt, LegAt, run_at, leg_at}
+use Rattle.board_places.specs.Numbered.{leg_there}
+use Rattle.board_places.specs.Place.{◌>>=◌, RunAt, LegAt, run_at, leg_at}
 use Rattle.board_decisions.specs.declared.entrance.Entrance.{Entrance}
-use Rattle.board_decisions.specs.declared.place.LegPlace.{LegPlace}
+use Rattle.board_places.specs.declared.place.LegPlace.{LegPlace}
 use Rattle.flow_model.specs.Mapping.{value_at, Ascends}
 use Rattle.flow_model.specs.declared.board.Board.{Board}
 use Rattle.flow_model.specs.declared.board.Run.{Run}
@@ -60,7 +60,8 @@ use Rattle.status_table.specs.Unasked.{without_reply}
 use Rattle.status_table.specs.declared.fault.EventFault.{EventFault}
 use Rattle.status_table.specs.declared.fault.EventFault.TheVariants as fault
 use Rattle.status_table.proofs.Found.{leg_stands, run_stands}
-use Rattle.status_table.proofs.Lists.{changed-there, same_some, no_some}
+use Rattle.status_table.proofs.Lists.{changed-there}
+use Rattle.board_places.proofs.Lists.{same_some, no_some}
 
 -- ---- what a board shows is one
 

@@ -24,7 +24,7 @@ use Rattle.flat_board.proofs.Names.{displaced_step, stopped_step}
 use Rattle.flat_counters.specs.Names.{IsName}
 use Rattle.status_table.specs.Grouped.{KeptAsShown}
 use Rattle.status_table.specs.Groups.{Done, admitted, cancelled, displaced, enters_held, holder, moved, queued, waiter, waits}
-use Rattle.status_table.proofs.Lists.{same_some, no_some}
+use Rattle.board_places.proofs.Lists.{same_some, no_some}
 
 -- ---- a member that is in no group
 

@@ -9,5 +9,6 @@ pub mod Known
 pub mod Leaving
 pub mod Named
 pub mod Names
+pub mod PassedOver
 pub mod Playing
 pub mod Reached

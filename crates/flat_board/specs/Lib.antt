@@ -1,3 +1,4 @@
+pub mod Idle
 pub mod Index
 pub mod Names
 pub mod Sound

@@ -9,6 +9,7 @@ ghost use Rattle.status_table.specs.Kinds as spec;
 ghost use Rattle.status_table.specs.Moves as rule;
 
 use crate::found::{find_job, find_leg, is_full, is_stopping};
+use crate::idle::count_idle;
 use board_places::place::find_run;
 use flat_counters::Counted;
 use flow_model::{Event, JobState, RunState};
@@ -153,8 +154,8 @@ pub(crate) fn find_moves(alloc: Global, state: &Counted) -> Result<Vec<Event>, A
     add_moves(alloc, state, Kind::Ask, counts.legs, dropped)
 }
 
-/// The first event of a kind that the table accepts, by ascending number.
-#[tactic(auto, using(crate::proofs::FirstMove::none_yet, crate::proofs::FirstMove::first_there))]
+/// The first event of a kind that the table accepts, by ascending number. Jobs to whose legs nothing may happen are passed over.
+#[tactic(auto, using(crate::proofs::FirstMove::none_yet, crate::proofs::FirstMove::first_there, crate::proofs::PassedOver::none_through))]
 fn first_of(
     alloc: Global,
     state: &Counted,
@@ -165,9 +166,16 @@ fn first_of(
     ensures { IfOk result (λ first. first ≡ slice_get
         (filter (rule.accepts state.now.plan state.now.board) (spec.events_of kind count)) 0) }
 {
-    for number in 0..count {
-        if accepts(alloc, state, kind, number as u64)? {
-            return Ok(Some(event_of(kind, number as u64)));
+    let mut number = 0;
+    while number < count {
+        let idle = count_idle(state, kind, number as u64).min(count - number);
+        if idle > 0 {
+            number += idle;
+        } else {
+            if accepts(alloc, state, kind, number as u64)? {
+                return Ok(Some(event_of(kind, number as u64)));
+            }
+            number += 1;
         }
     }
     Ok(None)

@@ -1,7 +1,7 @@
 //! Which name of the concurrency groups an event asks for, and what was held of it before.
 
 ghost use Rattle.std.specs.Prelude.{◌≡◌, IfOk, map, option_map};
-ghost use Rattle.board_decisions.specs.Place.{leg_at, run_at};
+ghost use Rattle.board_places.specs.Place.{leg_at, run_at};
 ghost use Rattle.flat_board.specs.Names.{group_at};
 ghost use Rattle.flat_board.specs.Touched as spec;
 ghost use Rattle.group_admission.specs.Content as members;
@@ -9,7 +9,7 @@ ghost use Rattle.group_admission.specs.Known.{content};
 
 use crate::found::find_leg;
 use crate::undo::{CellBack, Stood};
-use board_decisions::place::{LegPlace, find_run, leg_there};
+use board_places::place::{LegPlace, find_run, leg_there};
 use flat_counters::Counted;
 use flow_model::{Board, Event, Member, Text};
 use group_admission::{Groups, Held};

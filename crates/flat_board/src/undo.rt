@@ -1,6 +1,6 @@
 //! What takes an entry back.
 
-use board_decisions::place::LegPlace;
+use board_places::place::LegPlace;
 use flat_counters::{Change, OnlyChange};
 use group_admission::Held;
 
