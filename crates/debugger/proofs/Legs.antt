@@ -1,13 +1,19 @@
--- A leg that has ended stays as it was, by its number.
-use Rattle.std.proofs.Common.{◌≡◌, ℕ, zero, suc, true, List, [], ◌∷◌, ◌++◌, Some, refl, ap, sym, ◌∙◌}
+-- A leg that has ended stays as it was, by its number; and each leg stands where it stood.
+use Rattle.std.proofs.Common.{◌≡◌, ℕ, zero, suc, true, List, [], ◌∷◌, ◌++◌, Option, Some, length, refl, ap, sym, ◌∙◌}
 use Rattle.std.specs.Prelude.{slice_get}
 use Rattle.std.specs.List.{flat_map, AllZip}
 use Rattle.board_decisions.specs.Derived.{is_ended}
+use Rattle.board_places.specs.Numbered.{leg_there}
+use Rattle.board_places.specs.Place.{◌>>=◌}
+use Rattle.board_places.specs.Places.{all_legs_from, leg_places, run_sizes, sizes}
+use Rattle.board_places.specs.declared.place.LegPlace.{LegPlace}
+use Rattle.board_places.proofs.Placed.{leg_placed}
 use Rattle.flow_model.specs.Numbers.{board_jobs, board_legs}
 use Rattle.flow_model.specs.declared.board.Board.{Board}
 use Rattle.flow_model.specs.declared.board.Job.{Job}
 use Rattle.flow_model.specs.declared.board.Leg.{Leg}
 use Rattle.flow_model.specs.declared.board.Run.{Run}
+use Rattle.status_table.proofs.Numbers.{legs_are_numbered}
 use Rattle.status_table.specs.Stays.{JobStays, LegStays, RunStays, Stays}
 use Rattle.debugger.specs.Breaks.{ended_failing, passes}
 
@@ -50,3 +56,34 @@ pub failed-stays : (old new : Board) (l : ℕ) → Stays old new → passes is_e
     → passes ended_failing (slice_get (board_legs new) l) ≡ true → passes ended_failing (slice_get (board_legs old) l) ≡ true
 failed-stays old new l stays ended failed =
     ap (passes ended_failing) (sym (at-number (board_legs old) (board_legs new) l (legs-stay old new stays) ended)) ∙ failed
+
+-- ---- where legs stand
+
+zip-length : {A B : Type 0} (R : A → B → Type 0) (xs : List A) (ys : List B) → AllZip R xs ys → length ys ≡ length xs
+zip-length R [] [] h = refl
+zip-length R [] (y ∷ ys) h = absurd h
+zip-length R (x ∷ xs) [] h = absurd h
+zip-length R (x ∷ xs) (y ∷ ys) h = ap suc (zip-length R xs ys h.1)
+
+sizes-stay : (a b : Run) (xs ys : List Job) → AllZip (JobStays a b) xs ys → sizes ys ≡ sizes xs
+sizes-stay a b [] [] h = refl
+sizes-stay a b [] (y ∷ ys) h = absurd h
+sizes-stay a b (x ∷ xs) [] h = absurd h
+sizes-stay a b (x ∷ xs) (y ∷ ys) h =
+    ap (λ n. n ∷ sizes ys) (zip-length LegStays x.legs y.legs h.0.legs) ∙ ap (λ ns. length x.legs ∷ ns) (sizes-stay a b xs ys h.1)
+
+run_sizes-stay : (xs ys : List Run) → AllZip RunStays xs ys → run_sizes ys ≡ run_sizes xs
+run_sizes-stay [] [] h = refl
+run_sizes-stay [] (y ∷ ys) h = absurd h
+run_sizes-stay (x ∷ xs) [] h = absurd h
+run_sizes-stay (x ∷ xs) (y ∷ ys) h =
+    ap (λ ns. ns ∷ run_sizes ys) (sizes-stay x y x.jobs y.jobs h.0.jobs) ∙ ap (λ nss. sizes x.jobs ∷ nss) (run_sizes-stay xs ys h.1)
+
+-- legs stand where they stood
+pub places-stay : (old new : Board) → Stays old new → leg_places new ≡ leg_places old
+places-stay old new stays = ap (all_legs_from 0) (run_sizes-stay old.runs new.runs stays)
+
+-- the leg that is found by the place of its number
+pub leg-found : (b : Board) (places : List LegPlace) (n : ℕ) → places ≡ leg_places b → (slice_get places n >>= leg_there b) ≡ slice_get (board_legs b) n
+leg-found b places n is =
+    ap (λ (ps : List LegPlace). slice_get ps n >>= leg_there b) is ∙ ap (λ (o : Option LegPlace). o >>= leg_there b) (leg_placed b n) ∙ (legs_are_numbered b).there n

@@ -1,4 +1,5 @@
 pub mod Breaks
+pub mod Briefs
 pub mod Fault
 pub mod Marks
 pub mod Places

@@ -1,5 +1,6 @@
 -- The way that a board came: the boards before it, each of which can be gone back to.
 use Rattle.std.specs.Prelude.{◌≡◌, ◌≤◌, ◌<◌, ◌++◌, ℕ, suc, List, [], ◌∷◌, length, Option, Some, Result, Ok, Err, slice_get}
+use Rattle.board_places.specs.Places.{leg_places}
 use Rattle.flow_model.specs.declared.plan.Plan.{Plan}
 use Rattle.flow_model.specs.declared.board.Board.{Board}
 use Rattle.flow_model.specs.declared.event.Entry.{Entry}
@@ -102,11 +103,12 @@ refused_at k refusal.StepsLeft = fault.BadRecord k refusal.StepsLeft
 refused_at k refusal.BadAnswer = fault.BadRecord k refusal.BadAnswer
 refused_at k refusal.Memory = fault.Memory
 
--- An entry was played, and what is kept of it tells which breaks hold of it.
+-- An entry was played, what is kept of it tells which breaks hold of it, and the legs stand where they stood.
 pub record Recorded (old : Trail) (e : Entry) (new : Trail) (mark : Mark) : Type 0 where
   pub led : after_from old.plan old.now (e ∷ []) ≡ Some new.now
   pub past : new.past ≡ old.past ++ old.now ∷ []
   pub plan : new.plan ≡ old.plan
+  pub placed : leg_places new.now ≡ leg_places old.now
   pub tells : TellsBreaks e old.now new.now mark
 
 -- So many of the first entries were played: the boards are those at the places so far, and what is kept of each entry so far

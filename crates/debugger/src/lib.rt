@@ -6,18 +6,22 @@
 //! that is set holds (`specs/Session.antt`). When a break holds is said in `specs/Breaks.antt`, by the entry and the boards
 //! before and after it.
 //!
-//! Inside, a `Walk` keeps the undos of the entries that were played, and so goes back without memory (`specs/Trail.antt`);
-//! a `Mark` keeps of each entry what its breaks ask, so that no board is needed to find them (`specs/Marks.antt`). The
-//! crate stands on `status_table`, and knows the board by its two traits alone.
+//! Inside, a `Walk` keeps the undos of the entries that were played, and so goes back without memory (`specs/Trail.antt`); a
+//! `Brief` keeps an entry in 16 bytes, where it has no texts (`specs/Briefs.antt`); and a `Mark` keeps of each entry, in 16
+//! more, what its breaks ask, so that no board is needed to find them (`specs/Marks.antt`). The crate stands on
+//! `status_table`, and knows the board by its two traits alone.
 
 #![tactic(auto)]
 
 pub mod breaks;
+mod brief;
 pub mod debugger;
+mod deed;
 pub mod fault;
 mod looks;
 mod marks;
 mod playing;
+mod short;
 mod walk;
 
 pub use breaks::Break;

@@ -1,16 +1,35 @@
-//! What is looked at of a board for an entry: the leg that it begins a step of, and the legs that ended by it.
+//! What is looked at of a board for an entry: the leg that it begins a step of, and the leg that ended by it.
 //!
-//! The ends of a board grow at their end, so what ended by an entry stands behind those that were there before it. Nothing
-//! else of the board is looked at.
+//! A leg is found by the list of all places, which stays the same while a plan is played. Nothing else of the board is looked
+//! at.
 
-ghost use Rattle.std.specs.Prelude.{◌≡◌, IfOk, drop};
-ghost use Rattle.std.specs.List.{list_any};
+ghost use Rattle.std.specs.Prelude.{◌≡◌, slice_get};
+ghost use Rattle.std.specs.Option.{option_copied};
+ghost use Rattle.board_places.specs.Places.{leg_places};
 ghost use Rattle.debugger.specs.Breaks as breaks;
 ghost use Rattle.debugger.specs.Marks as spec;
+ghost use Rattle.flow_model.specs.Numbers.{board_legs};
 
-use board_places::place::numbered_leg;
-use flow_model::{Board, Event, LegState, Outcome};
-use std::alloc::{AllocError, Global};
+use board_places::place::{LegPlace, leg_there};
+use flow_model::{Board, Event, Leg, LegState, Outcome};
+
+/// The place of the leg with a number, if there is one.
+fn place_at(places: &[LegPlace], number: u64) -> Option<LegPlace>
+    ensures { result ≡ slice_get places.now number }
+{
+    places.get(number as usize).copied()
+}
+
+/// The leg with a number, if there is one.
+fn numbered_leg<'a>(board: &'a Board, places: &[LegPlace], number: u64) -> Option<&'a Leg>
+    requires { places.now ≡ leg_places board.now }
+    ensures { option_copied result ≡ slice_get (board_legs board.now) number }
+{
+    match place_at(places, number) {
+        Some(place) => leg_there(board, place),
+        None => None,
+    }
+}
 
 /// Whether a state is Ended with failure.
 fn ended_failing(state: LegState) -> bool
@@ -24,57 +43,34 @@ fn ended_failing(state: LegState) -> bool
 }
 
 /// Whether the leg with a number has ended with failure.
-fn has_failed(board: &Board, leg: u64) -> bool
+pub(crate) fn has_failed(board: &Board, places: &[LegPlace], leg: u64) -> bool
+    requires { places.now ≡ leg_places board.now }
     ensures { result ≡ spec.has_failed board.now leg }
 {
-    match numbered_leg(board, leg as usize) {
+    match numbered_leg(board, places, leg) {
         Some(leg) => ended_failing(leg.state),
         None => false,
     }
 }
 
-/// Whether one of some legs has.
-pub(crate) fn any_failed(board: &Board, legs: &[u64]) -> bool
-    ensures { result ≡ list_any (spec.has_failed board.now) legs.now }
-{
-    for leg in legs {
-        if has_failed(board, *leg) {
-            return true;
-        }
-    }
-    false
-}
-
-/// The legs that ended after so many others.
-pub(crate) fn ended_after(
-    alloc: Global,
-    board: &Board,
-    count: usize,
-) -> Result<Vec<u64>, AllocError>
-    ensures { IfOk result (λ legs. legs.items ≡ drop count board.now.ends) }
-{
-    match board.ends.as_slice().get(count..) {
-        Some(legs) => Vec::from_slice(alloc, legs),
-        None => Ok(Vec::new(alloc)),
-    }
-}
-
 /// How many steps of the leg with a number are done, if there is such a leg.
-fn steps_done(board: &Board, leg: u64) -> Option<u64>
-    ensures { result ≡ spec.steps_done board.now leg }
+fn steps_done(board: &Board, places: &[LegPlace], leg: u64) -> Option<u64>
+    requires { places.now ≡ leg_places board.now }
+    ensures { result ≡ breaks.steps_done board.now leg }
 {
-    match numbered_leg(board, leg as usize) {
+    match numbered_leg(board, places, leg) {
         Some(leg) => Some(leg.steps.len() as u64),
         None => None,
     }
 }
 
 /// The step that an event begins on a board, if it is a Begin.
-pub(crate) fn begun_by(event: &Event, board: &Board) -> Option<u64>
-    ensures { result ≡ spec.begun_by event.now board.now }
+pub(crate) fn begun_by(event: &Event, board: &Board, places: &[LegPlace]) -> Option<u64>
+    requires { places.now ≡ leg_places board.now }
+    ensures { result ≡ breaks.step_begun board.now event.now }
 {
     match event {
-        Event::Begin { leg } => steps_done(board, *leg),
+        Event::Begin { leg } => steps_done(board, places, *leg),
         Event::Open { .. } | Event::Judge { .. } | Event::Ask { .. } | Event::Drop { .. } => None,
         Event::Take { .. } | Event::End { .. } | Event::Finish { .. } => None,
         Event::Close { .. } | Event::Cancel { .. } => None,

@@ -1,78 +1,101 @@
 //! What is kept of an entry, so that its breaks are found without a board.
 
-ghost use Rattle.std.specs.Prelude.{◌≡◌, IfOk};
-ghost use Rattle.debugger.specs.Breaks as breaks;
+ghost use Rattle.std.specs.Prelude.{◌≡◌, slice_get};
+ghost use Rattle.board_places.specs.Places.{leg_places};
 ghost use Rattle.debugger.specs.Marks as spec;
 
-use crate::breaks::{Break, is_about};
-use crate::looks::{any_failed, ended_after};
-use flow_model::{Board, Event, Sequence};
-use std::alloc::{AllocError, Global};
+use crate::breaks::Break;
+use crate::brief::Brief;
+use crate::looks::has_failed;
+use board_places::place::LegPlace;
+use flow_model::Board;
 
-/// What is kept of an entry.
-#[derive(Drop)]
-pub(crate) struct Mark {
-    /// The step that it began, from 0, if it is a Begin.
-    pub begun: Option<u64>,
-    /// The legs that became Ended by it.
-    pub ended: Sequence<u64>,
-    /// Whether one of them did so with failure.
-    pub failed: bool,
+/// What is kept of an entry: at most one leg becomes Ended by it, and none where it begins a step.
+#[derive(Clone, Copy)]
+pub(crate) enum Mark {
+    /// It began no step, and no leg became Ended by it.
+    Plain,
+    /// It began this step, from 0, of the leg that it is about.
+    Begun(u64),
+    /// This leg became Ended by it, with failure or not.
+    Ended { failed: bool, leg: u64 },
 }
 
-/// What is kept of an entry, by the step that it began, how many legs had ended before it, and the board after it.
+const _: () = prove!(size_of::<Mark>() == 16);
+
+/// What is kept of an entry, by the step that it began, how many legs had ended before it, and the board after it, whose
+/// legs stand at these places.
 pub(crate) fn make_mark(
-    alloc: Global,
     begun: Option<u64>,
     count: usize,
     board: &Board,
-) -> Result<Mark, AllocError>
-    ensures { IfOk result (λ mark. mark ≡ spec.mark_after begun count board.now) }
+    places: &[LegPlace],
+) -> Mark
+    requires { places.now ≡ leg_places board.now }
+    ensures { result ≡ spec.mark_after begun (slice_get board.now.ends count) board.now }
 {
-    let ended = ended_after(alloc, board, count)?;
-    let failed = any_failed(board, ended.as_slice());
-    Ok(Mark {
-        begun,
-        ended: Sequence::new(ended),
-        failed,
-    })
-}
-
-/// Whether a leg is among some.
-fn is_among(legs: &[u64], leg: u64) -> bool
-    ensures { result ≡ spec.is_among leg legs.now }
-{
-    legs.iter().any(|other| *other == leg)
-}
-
-/// Whether a step is the one that was begun.
-fn is_step(begun: Option<u64>, step: u64) -> bool
-    ensures { result ≡ breaks.is_step step begun }
-{
-    match begun {
-        Some(other) => other == step,
-        None => false,
+    if let Some(step) = begun {
+        return Mark::Begun(step);
+    }
+    match board.ends.as_slice().get(count) {
+        Some(leg) => Mark::Ended {
+            failed: has_failed(board, places, *leg),
+            leg: *leg,
+        },
+        None => Mark::Plain,
     }
 }
 
-/// Whether a break holds of an event, by what is kept of it.
-pub(crate) fn is_marked(wanted: Break, event: &Event, mark: &Mark) -> bool
-    ensures { result ≡ spec.is_marked wanted event.now mark.now }
+impl Mark {
+    /// Whether a step was begun, and is that one.
+    fn is_step(self, step: u64) -> bool
+        ensures { result ≡ spec.begins step self }
+    {
+        match self {
+            Mark::Begun(other) => other == step,
+            Mark::Plain | Mark::Ended { .. } => false,
+        }
+    }
+
+    /// Whether a leg became Ended, and is that one.
+    fn is_end(self, leg: u64) -> bool
+        ensures { result ≡ spec.ends_leg leg self }
+    {
+        match self {
+            Mark::Ended { leg: other, .. } => other == leg,
+            Mark::Plain | Mark::Begun(_) => false,
+        }
+    }
+
+    /// Whether a leg became Ended with failure.
+    fn is_failure(self) -> bool
+        ensures { result ≡ spec.ends_failing self }
+    {
+        match self {
+            Mark::Ended { failed, .. } => failed,
+            Mark::Plain | Mark::Begun(_) => false,
+        }
+    }
+}
+
+/// Whether a break holds of an entry, by what is kept of it.
+fn is_marked(wanted: Break, entry: &Brief, mark: Mark) -> bool
+    ensures { result ≡ spec.is_marked wanted entry.now.event mark }
 {
     match wanted {
-        Break::Leg(leg) => is_about(event, leg),
-        Break::Step(leg, step) => is_about(event, leg) && is_step(mark.begun, step),
-        Break::Ends(leg) => is_among(mark.ended.as_slice(), leg),
-        Break::Failed => mark.failed,
+        Break::Leg(leg) => entry.is_about(leg),
+        Break::Step(leg, step) => entry.is_about(leg) && mark.is_step(step),
+        Break::Ends(leg) => mark.is_end(leg),
+        Break::Failed => mark.is_failure(),
     }
 }
 
 /// Whether one of some breaks does.
-pub(crate) fn any_marked(breaks: &[Break], event: &Event, mark: &Mark) -> bool
-    ensures { result ≡ spec.any_marked breaks.now event.now mark.now }
+pub(crate) fn any_marked(breaks: &[Break], entry: &Brief, mark: &Mark) -> bool
+    ensures { result ≡ spec.any_marked breaks.now entry.now.event mark.now }
 {
     for wanted in breaks {
-        if is_marked(*wanted, event, mark) {
+        if is_marked(*wanted, entry, *mark) {
             return true;
         }
     }
