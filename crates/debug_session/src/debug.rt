@@ -1,7 +1,10 @@
 //! `actrun debug`: a record under the debugger, which is asked line by line.
 
-ghost use Rattle.std.specs.Prelude.{◌≡◌};
+ghost use Rattle.std.specs.Prelude.{◌≡◌, IfOk};
+ghost use Rattle.flow_model.specs.Lines.{lines_of};
 ghost use Rattle.flow_model.specs.Rules.{IsPlan};
+ghost use Rattle.plan_text.specs.Load.{Gives};
+ghost use Rattle.plan_text.specs.Record.{load_lines};
 ghost use Rattle.debug_session.specs.Requests.{OneRequest};
 ghost use Rattle.debug_session.specs.Debug as spec;
 ghost use Rattle.debug_session.specs.Debug.{DebugTells};
@@ -14,7 +17,7 @@ use command_io::trouble::Trouble;
 use debugger::{DebugFault, Debugger};
 use flat_board::FlatBoard;
 use flow_model::{CheckedPlan, Entry, Sequence};
-use plan_text::load_record;
+use plan_text::{LoadFault, load_record};
 use status_table::board_laws::legal_lists_are_short;
 use std::alloc::Global;
 
@@ -53,22 +56,30 @@ fn entries_opened(
     }
 }
 
-/// A record under the debugger.
-fn record_opened(alloc: Global, text: &[u8]) -> Result<Debugger<FlatBoard>, Trouble>
-    ensures { spec.OpensRecord text.now result }
+/// The plan and the entries of a record, whose text is let go.
+fn text_loaded(alloc: Global, text: Vec<u8>) -> Result<(CheckedPlan, Sequence<Entry>), LoadFault>
+    ensures sound { IfOk result (λ loaded. IsPlan loaded.0) }
+    ensures exact { Gives result (load_lines (lines_of text.items)) }
 {
-    match load_record(alloc, text) {
+    load_record(alloc, text.as_slice())
+}
+
+/// A record under the debugger. Its text is let go before its entries are played.
+fn record_opened(alloc: Global, text: Vec<u8>) -> Result<Debugger<FlatBoard>, Trouble>
+    ensures { spec.OpensRecord text.items result }
+{
+    match text_loaded(alloc, text) {
         Ok((plan, entries)) => entries_opened(alloc, plan, entries),
         Err(fault) => Err(load_trouble(fault)),
     }
 }
 
-/// Reads a record to its end, and puts it under the debugger. Its text is let go.
+/// Reads a record to its end, and puts it under the debugger.
 fn file_opened<R: Source>(alloc: Global, file: &mut R) -> Result<Debugger<FlatBoard>, Trouble>
     ensures { spec.OpensFile (R.seen file.old) (R.seen file.new) result }
 {
     match file.read_all(alloc) {
-        Ok(text) => record_opened(alloc, text.as_slice()),
+        Ok(text) => record_opened(alloc, text),
         Err(SourceFault::Failed) => Err(Trouble::Io),
         Err(SourceFault::Memory) => Err(Trouble::Memory),
     }

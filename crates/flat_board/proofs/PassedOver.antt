@@ -1,21 +1,19 @@
 -- A clerk's events that are refused to all legs of a job.
-use Rattle.std.proofs.Common.{◌≡◌, ℕ, zero, suc, ◌+◌, ◌-◌, ◌<◌, ◌≤◌, ◌==◌, ◌&&◌, ◌||◌, Bool, true, false, not, List, [], ◌∷◌, ◌++◌, Option, Some, None, length, map, filter, slice_get, count_by, nat_le, nat_lt, if◌then◌else◌, ap, subst, sym, refl, ◌∙◌, arith}
+use Rattle.std.proofs.Common.{◌≡◌, ℕ, zero, suc, ◌+◌, ◌-◌, ◌<◌, ◌≤◌, ◌==◌, Bool, true, false, not, List, [], ◌∷◌, Option, Some, None, length, map, filter, slice_get, count_by, nat_le, ap, sym, refl, ◌∙◌, arith}
 use Rattle.std.proofs.lemmas.Bool.{true≢false}
 use Rattle.std.proofs.lemmas.Bool.Decides.{nat_tests}
 use Rattle.std.proofs.lemmas.List.Sums.{sum_by-cons}
-use Rattle.board_decisions.specs.Derived.{is_ended, is_fresh, is_full, is_going, is_open, is_untaken, is_under_way as takes_slot}
+use Rattle.board_decisions.specs.Derived.{is_ended, is_fresh, is_full, is_untaken, is_under_way as takes_slot}
 use Rattle.board_places.specs.Place.{LegAt, leg_at, leg_place}
 use Rattle.board_places.proofs.Following.{further, place_further}
 use Rattle.board_places.proofs.Lists.{and-left, and-right, same_some, no_some}
 use Rattle.flat_board.specs.Idle.{is_idle, is_under_way}
-use Rattle.flat_counters.specs.Counters.{tally_of}
 use Rattle.flow_model.specs.declared.board.Board.{Board}
-use Rattle.flow_model.specs.declared.board.Job.{Job}
 use Rattle.flow_model.specs.declared.board.Leg.{Leg}
 use Rattle.flow_model.specs.declared.board.LegState.{LegState}
 use Rattle.flow_model.specs.declared.board.LegState.TheVariants as leg_state
 use Rattle.flow_model.specs.declared.plan.Plan.{Plan}
-use Rattle.status_table.specs.Kinds.{event_of, events_of}
+use Rattle.status_table.specs.Kinds.{event_of}
 use Rattle.status_table.specs.Moves.{accepts, is_accepted}
 use Rattle.status_table.specs.Row.{ask_found, drop_found, may_ask, may_drop}
 use Rattle.status_table.specs.declared.moves.Kind.{Kind}

@@ -1,5 +1,5 @@
 -- Jobs to none of whose legs anything may happen that a clerk reports.
-use Rattle.std.specs.Prelude.{ℕ, ◌==◌, ◌&&◌, ◌||◌, Bool, false, not, nat_le}
+use Rattle.std.specs.Prelude.{◌==◌, ◌&&◌, ◌||◌, Bool, false, not, nat_le}
 use Rattle.board_decisions.specs.Derived.{is_going, is_open, is_full}
 use Rattle.board_places.specs.Place.{LegAt}
 use Rattle.flat_counters.specs.Counters.{tally_of}

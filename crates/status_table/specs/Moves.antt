@@ -1,5 +1,5 @@
 -- What a clerk may do on a board, whether all is done, and whether nothing can go on.
-use Rattle.std.specs.Prelude.{ℕ, ◌&&◌, ◌++◌, Bool, true, false, not, List, [], ◌∷◌, length, map, filter, slice_get, Option, Ok, Err}
+use Rattle.std.specs.Prelude.{◌&&◌, ◌++◌, Bool, true, false, not, List, [], ◌∷◌, length, map, filter, slice_get, Option, Ok, Err}
 use Rattle.std.specs.List.{list_all, list_any}
 use Rattle.board_decisions.specs.Derived.{is_closed}
 use Rattle.board_places.specs.Places.{numbers}

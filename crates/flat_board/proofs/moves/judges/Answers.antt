@@ -1,6 +1,5 @@
-use Rattle.std.proofs.Common.{◌≡◌, refl, ap, sym, ◌∙◌}
+use Rattle.std.proofs.Common.{refl, ap, sym}
 use Rattle.board_decisions.specs.Derived.{is_going}
-use Rattle.board_places.specs.Place.{job_at}
 use Rattle.board_places.specs.Seen.{job_seen}
 use Rattle.flat_board.proofs.Reached.{judge_accepted}
 use Rattle.flat_board.proofs.moves.judges.Goals as goal
@@ -10,6 +9,6 @@ returns-in-Going-Unjudged c =
     let at = job_seen c.in-Some.at in
     let p = c.args.state.now.plan in
     let b = c.args.state.now.board in
-    let found : job_at p b c.args.number ≡ _ = (λ i. job_at (sym c.plan.ensures.same i) (sym c.board.ensures.board i) c.args.number) ∙ sym c.in-Some.ensures in
+    let found = sym c.in-Some.ensures in
     judge_accepted p b c.args.number at c.have_needs_ended.result found c.in-Going-Unjudged.is-0 c.in-Going-Unjudged.is-1
     (sym (c.have_needs_ended.ensures c.args.number at c.requires found refl (ap is_going c.in-Going-Unjudged.is-0)))
