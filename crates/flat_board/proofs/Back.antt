@@ -32,7 +32,7 @@ use Rattle.flat_board.specs.Index.{AsksNamed, EntersOnce, Follows, FollowsUnaske
 use Rattle.flat_board.specs.Names.{IsNamedIn, NamesKnown, Seen, SeenNamed, group_at, group_of, in_job, in_run, leg_names, run_names, seen_at}
 use Rattle.flat_board.specs.Sound.{IsSound}
 use Rattle.flat_board.specs.Stands.{StandsOnlyThere}
-use Rattle.flat_board.specs.Touched.{cell_before, entered_back, held_of, leg_enters as leg_touches, leg_leaves, run_enters as run_touches, run_leaves, touched}
+use Rattle.flat_board.specs.Touched.{cell_before, entered_back, entering, held_of, leaving, leg_enters as leg_touches, leg_leaves, run_enters as run_touches, run_leaves, touched}
 use Rattle.flat_board.specs.Undo.{Fits, board_before, cell_of, groups_put_back, name_put_back}
 use Rattle.flat_board.specs.declared.undo.CellBack.{CellBack}
 use Rattle.flat_board.specs.declared.undo.Stood.{Stood}
@@ -43,7 +43,7 @@ use Rattle.flat_board.proofs.Known.{names_before, names_put_back}
 use Rattle.flat_board.proofs.Leaving.{leg_stands_only, numbered_there, run_stands_only}
 use Rattle.flat_board.proofs.Named.{leg_asks, run_asks}
 use Rattle.flat_board.proofs.Names.{EventComes, ThenSeen, event_step}
-use Rattle.flat_board.proofs.Groupless.{leg_left_none, run_left_none}
+use Rattle.flat_board.proofs.Groupless.{asks_none, leg_left_none, opens_none, run_left_none}
 use Rattle.flat_board.proofs.Playing.{sound_after}
 use Rattle.flat_board.proofs.Reached.{asks_outside, opens_outside}
 use Rattle.flat_counters.specs.Names.{IsName}
@@ -123,13 +123,12 @@ named_group known (Some s) name h is = by s.0 s.1 h is
     by false (Some other) h is = subst (λ (n : List ℕ). IsName n × (is_known n known ≡ true)) (same_some other name is) h
 
 -- what is put back where a member left its group
-leaves_back : (new : Board) (gs : Content) (known : Known) (who : Stood) (m : Member) (s : Option (List ℕ) → Standing) (g : Option (List ℕ))
+leaves_back : (new : Board) (gs : Content) (known : Known) (who : Stood) (m : Member) (s : Option (List ℕ) → Standing) (g : Option (List ℕ)) (after : Content) (displaced : Option Member)
     → Ascends known → NamesKnown known new → StandsOnlyThere gs m (s g) → content known ≡ left gs m (s g) → group_at new who ≡ g → (is_some g ≡ false → left gs m (s g) ≡ gs)
     → ((name q : List ℕ) → s (Some name) ≡ holding (Some q) → q ≡ name) → ((name q : List ℕ) → s (Some name) ≡ waiting (Some q) → q ≡ name)
-    → content (name_put_back (group_at new who) (held_of g gs) known) ≡ gs
-leaves_back new gs known who m s None up names only is group none held awaited =
-    ap (λ (o : Option (List ℕ)). content (name_put_back o None known)) group ∙ is ∙ none refl
-leaves_back new gs known who m s (Some name) up names only is group none held awaited =
+    → content (groups_put_back (cell_before (leaving who g gs) new after displaced) new known) ≡ gs
+leaves_back new gs known who m s None after displaced up names only is group none held awaited = is ∙ none refl
+leaves_back new gs known who m s (Some name) after displaced up names only is group none held awaited =
     let named = named_group known (seen_at new who) name (names who) group in
     ap (λ (o : Option (List ℕ)). content (name_put_back o (held_of (Some name) gs) known)) group
     ∙ (λ i. content (put_known (named.0.folded i) (value_at (named.0.folded i) gs) known))
@@ -237,7 +236,7 @@ module _ (outside : EntersOnce) (p : Plan) (b new : Board) (gs after : Content) 
   opens_back : (r : ℕ) (o : Option RunAt) → run_at p b r ≡ o → after ≡ run_opened gs r o → open_found b r o ≡ Ok (new, reply)
       → content (groups_put_back (cell_before (run_touches r o) new after reply.displaced) new known) ≡ gs
   opens_back r None is is_after row_is = same ∙ is_after
-  opens_back r (Some at) is is_after row_is = by at.run.state at.run.stop refl refl row_is
+  opens_back r (Some at) is is_after row_is = either (is_some at.plan.group) refl
     where
       by : (state : RunState) (stop : Bool) → at.run.state ≡ state → at.run.stop ≡ stop → open_run b r at state stop ≡ Ok (new, reply)
           → content (name_put_back (group_at new (stood.Run r)) (entered_back (member.Run r) reply.displaced (held_of (group_at new (stood.Run r)) after)) known) ≡ gs
@@ -248,10 +247,14 @@ module _ (outside : EntersOnce) (p : Plan) (b new : Board) (gs after : Content) 
       by run_state.Going s state stop row_is = no_ok fault.WrongState (new, reply) row_is
       by (run_state.Closed result) s state stop row_is = no_ok fault.WrongState (new, reply) row_is
 
+      either : (some : Bool) → is_some at.plan.group ≡ some → content (groups_put_back (cell_before (entering (stood.Run r) (member.Run r) some) new after reply.displaced) new known) ≡ gs
+      either false none = same ∙ is_after ∙ opens_none gs r at none
+      either true there = by at.run.state at.run.stop refl refl row_is
+
   asks_back : (l : ℕ) (o : Option LegAt) → leg_at p b l ≡ o → after ≡ leg_asked gs l o → ask_found b l o ≡ Ok (new, reply)
       → content (groups_put_back (cell_before (leg_touches l o) new after reply.displaced) new known) ≡ gs
   asks_back l None is is_after row_is = same ∙ is_after
-  asks_back l (Some at) is is_after row_is = by (may_ask at) (is_full at.job_plan at.job) (is_stopping at) refl refl refl row_is
+  asks_back l (Some at) is is_after row_is = either (is_some at.job_plan.group) refl
     where
       by : (may full stop : Bool) → may_ask at ≡ may → is_full at.job_plan at.job ≡ full → is_stopping at ≡ stop
           → (if not may then Err fault.WrongState else (if full then Err fault.SlotsFull else (if stop then Err fault.Stopping else leg_enters b l at (leg_entrance at)))) ≡ Ok (new, reply)
@@ -261,6 +264,10 @@ module _ (outside : EntersOnce) (p : Plan) (b new : Board) (gs after : Content) 
       by true false true a f s row_is = no_ok fault.Stopping (new, reply) row_is
       by true false false a f s row_is =
           leg_entered_back p b gs l at kept is (asks_outside outside p b gs l at kept is a f s) new reply known up after same (leg_entrance at) (leg_asks at) is_after row_is
+
+      either : (some : Bool) → is_some at.job_plan.group ≡ some → content (groups_put_back (cell_before (entering (stood.Leg at.place) (member.Leg l) some) new after reply.displaced) new known) ≡ gs
+      either false none = same ∙ is_after ∙ asks_none gs l at none
+      either true there = by (may_ask at) (is_full at.job_plan at.job) (is_stopping at) refl refl refl row_is
 
   -- who leaves its group is seen in it still
   stays_at : (e : Event) (who : Stood) (g : Option (List ℕ)) → EventComes (λ s. group_of s ≡ g) p b e → event_row p b worker e ≡ Ok (new, reply) → group_at b who ≡ g → group_at new who ≡ g
@@ -272,7 +279,7 @@ module _ (outside : EntersOnce) (p : Plan) (b new : Board) (gs after : Content) 
   run_leaves_back e r None is comes is_after row_is = same ∙ is_after
   run_leaves_back e r (Some at) is comes is_after row_is =
       let only = run_stands_only p b gs r at kept is in
-      leaves_back new gs known (stood.Run r) (member.Run r) (run_stands_so at.run.state) at.run.group up names only (same ∙ is_after)
+      leaves_back new gs known (stood.Run r) (member.Run r) (run_stands_so at.run.state) at.run.group after reply.displaced up names only (same ∙ is_after)
       (stays_at e (stood.Run r) (group_at b (stood.Run r)) comes row_is refl ∙ ap group_of (seen_run p b r at is))
       (λ none. run_left_none gs (member.Run r) at.run.state at.run.group none only) (run_holds at.run.state) (run_awaits at.run.state)
 
@@ -281,7 +288,7 @@ module _ (outside : EntersOnce) (p : Plan) (b new : Board) (gs after : Content) 
   leg_leaves_back e l None is comes is_after row_is = same ∙ is_after
   leg_leaves_back e l (Some at) is comes is_after row_is =
       let only = leg_stands_only p b gs l at kept is in
-      leaves_back new gs known (stood.Leg at.place) (member.Leg l) (leg_stands_so at.leg.state) at.leg.group up names only (same ∙ is_after)
+      leaves_back new gs known (stood.Leg at.place) (member.Leg l) (leg_stands_so at.leg.state) at.leg.group after reply.displaced up names only (same ∙ is_after)
       (stays_at e (stood.Leg at.place) (group_at b (stood.Leg at.place)) (comes (stood.Leg at.place)) row_is refl ∙ ap group_of (seen_leg p b l at is))
       (λ none. leg_left_none gs (member.Leg l) at.leg.state at.leg.group none only) (leg_holds at.leg.state) (leg_awaits at.leg.state)
 

@@ -1,11 +1,12 @@
 -- Which name of the concurrency groups an event asks for, and what was held of it before.
-use Rattle.std.specs.Prelude.{ℕ, List, Option, Some, None, if◌then◌else◌}
+use Rattle.std.specs.Prelude.{ℕ, Bool, true, false, List, Option, Some, None, is_some, if◌then◌else◌}
 use Rattle.board_places.specs.Place.{RunAt, LegAt, run_at, leg_at}
 use Rattle.expr_reader.specs.Fold.{fold}
 use Rattle.flat_board.specs.Names.{group_at}
 use Rattle.flat_board.specs.declared.touched.Touch.{Touch}
 use Rattle.flat_board.specs.declared.touched.Touch.TheVariants as touch
 use Rattle.flat_board.specs.declared.undo.CellBack.{CellBack}
+use Rattle.flat_board.specs.declared.undo.Stood.{Stood}
 use Rattle.flat_board.specs.declared.undo.Stood.TheVariants as stood
 use Rattle.flow_model.specs.Mapping.{value_at}
 use Rattle.flow_model.specs.declared.board.Board.{Board}
@@ -22,27 +23,37 @@ abbrev pub held_of : Option (List ℕ) → Content → Option Held
 held_of None groups = None
 held_of (Some name) groups = value_at (fold name) groups
 
--- the run that is opened, if there is one, enters its group
+-- a member that stands there enters its group, if it has one
+abbrev pub entering : Stood → Member → Bool → Touch
+entering who m false = touch.Nothing
+entering who m true = touch.Enters who m
+
+-- who stands there leaves its group, if it has one
+abbrev pub leaving : Stood → Option (List ℕ) → Content → Touch
+leaving who None groups = touch.Nothing
+leaving who (Some name) groups =
+    touch.Leaves (record { who = who; held = value_at (fold name) groups })
+
+-- the run that is opened, if there is one
 abbrev pub run_enters : ℕ → Option RunAt → Touch
 run_enters r None = touch.Nothing
-run_enters r (Some at) = touch.Enters (stood.Run r) (member.Run r)
+run_enters r (Some at) = entering (stood.Run r) (member.Run r) (is_some at.plan.group)
 
 -- the leg that asks
 abbrev pub leg_enters : ℕ → Option LegAt → Touch
 leg_enters l None = touch.Nothing
-leg_enters l (Some at) = touch.Enters (stood.Leg at.place) (member.Leg l)
+leg_enters l (Some at) =
+    entering (stood.Leg at.place) (member.Leg l) (is_some at.job_plan.group)
 
--- the run that ends, if there is one, leaves its group
+-- the run that ends
 abbrev pub run_leaves : ℕ → Option RunAt → Content → Touch
 run_leaves r None groups = touch.Nothing
-run_leaves r (Some at) groups =
-    touch.Leaves (record { who = stood.Run r; held = held_of at.run.group groups })
+run_leaves r (Some at) groups = leaving (stood.Run r) at.run.group groups
 
 -- the leg that ends
 abbrev pub leg_leaves : Option LegAt → Content → Touch
 leg_leaves None groups = touch.Nothing
-leg_leaves (Some at) groups =
-    touch.Leaves (record { who = stood.Leg at.place; held = held_of at.leg.group groups })
+leg_leaves (Some at) groups = leaving (stood.Leg at.place) at.leg.group groups
 
 -- whom an event lets enter a group on a board, or leave it
 abbrev pub touched : Plan → Board → Content → Event → Touch

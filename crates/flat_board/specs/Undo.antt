@@ -1,11 +1,12 @@
 -- What takes an entry back.
-use Rattle.std.specs.Prelude.{ℕ, List, Option, Some, None, option_map}
+use Rattle.std.specs.Prelude.{ℕ, List, Option, Some, None}
 use Rattle.expr_reader.specs.Fold.{fold}
 use Rattle.flat_board.specs.Names.{NamesKnown, group_at}
 use Rattle.flat_board.specs.declared.undo.CellBack.{CellBack}
 use Rattle.flat_board.specs.declared.undo.Undo.{Undo}
 use Rattle.flat_board.specs.declared.undo.Undo.TheVariants as takes
 use Rattle.flat_counters.specs.Undo.{only_before, undone}
+use Rattle.flat_counters.specs.declared.undo.OnlyChange.TheVariants as only_change
 use Rattle.flow_model.specs.Mapping.{Ascends}
 use Rattle.flow_model.specs.declared.board.Board.{Board}
 use Rattle.flow_model.specs.declared.plan.Plan.{Plan}
@@ -16,13 +17,17 @@ use Rattle.status_table.specs.InPlay.{InPlay}
 
 -- the board before an entry: its changes are taken back, the last one first
 abbrev pub board_before : Undo → Board → Board
-board_before (takes.Only only) b = only_before only b
-board_before (takes.More changes cell) b = undone changes.items b
+board_before (takes.State place state) b = only_before (only_change.State place state) b
+board_before (takes.Step place state) b = only_before (only_change.Step place state) b
+board_before (takes.Changes changes) b = undone changes.items b
+board_before (takes.Asked changes cell) b = undone changes.items b
 
 -- what was held before it of the name that it asked for, if it asked for one
 abbrev pub cell_of : Undo → Option CellBack
-cell_of (takes.Only only) = None
-cell_of (takes.More changes cell) = option_map (λ it. it.value) cell
+cell_of (takes.State place state) = None
+cell_of (takes.Step place state) = None
+cell_of (takes.Changes changes) = None
+cell_of (takes.Asked changes cell) = Some cell.value
 
 -- a name, if there is one, is held again as it was
 abbrev pub name_put_back : Option (List ℕ) → Option Held → Known → Known

@@ -24,7 +24,7 @@ use crate::moves::{find_first, find_moves};
 use crate::touched::{Touch, held_before, name_at, touched};
 use crate::unasked::begin_unasked;
 use crate::undo::{CellBack, Stood, Undo};
-use flat_counters::{Counted, Tracked};
+use flat_counters::{Counted, OnlyChange, Tracked};
 use flow_model::{Board, CheckedPlan, Duplicate, Entry, Event, Leg, Member, Reply, Run, Sequence};
 use group_admission::Groups;
 use status_table::{EventFault, Reversible, Table};
@@ -209,14 +209,12 @@ fn undo_apart(alloc: Global, state: &mut Tracked) -> Undo
     ensures back { board_before result state.new.board ≡ state.old.back }
     ensures cell { cell_of result ≡ None }
 {
-    if let Some(only) = state.take_only() {
-        return Undo::Only(only);
+    match state.take_only() {
+        Some(OnlyChange::State(place, leg_state)) => return Undo::State(place, leg_state),
+        Some(OnlyChange::Step(place, leg_state)) => return Undo::Step(place, leg_state),
+        None => {},
     }
-    let changes = state.take_changes(alloc);
-    Undo::More {
-        changes,
-        cell: None,
-    }
+    Undo::Changes(state.take_changes(alloc))
 }
 
 /// What takes back what was played since the board last began, with what was held of the name that was asked for.
@@ -226,11 +224,7 @@ fn undo_with(alloc: Global, state: &mut Tracked, cell: Box<CellBack>) -> Undo
     ensures back { board_before result state.new.board ≡ state.old.back }
     ensures cell { cell_of result ≡ Some cell.value }
 {
-    let changes = state.take_changes(alloc);
-    Undo::More {
-        changes,
-        cell: Some(cell),
-    }
+    Undo::Asked(state.take_changes(alloc), cell)
 }
 
 /// Plays an event that asks for no name, and gives what takes it back.
@@ -386,11 +380,8 @@ fn cell_back(undo: &Undo) -> Option<CellBack>
     ensures { result ≡ cell_of undo.now }
 {
     match undo {
-        Undo::Only(_) => None,
-        Undo::More { cell, .. } => match cell {
-            Some(cell) => Some(**cell),
-            None => None,
-        },
+        Undo::State(..) | Undo::Step(..) | Undo::Changes(_) => None,
+        Undo::Asked(_, cell) => Some(**cell),
     }
 }
 
@@ -400,8 +391,14 @@ fn take_back(alloc: Global, state: &mut Tracked, undo: Undo)
     ensures board { state.new.board ≡ board_before undo state.old.board }
 {
     match undo {
-        Undo::Only(only) => state.revert_only(alloc, only),
-        Undo::More { changes, .. } => state.revert(alloc, changes),
+        Undo::State(place, leg_state) => {
+            state.revert_only(alloc, OnlyChange::State(place, leg_state));
+        },
+        Undo::Step(place, leg_state) => {
+            state.revert_only(alloc, OnlyChange::Step(place, leg_state));
+        },
+        Undo::Changes(changes) => state.revert(alloc, changes),
+        Undo::Asked(changes, _) => state.revert(alloc, changes),
     }
 }
 

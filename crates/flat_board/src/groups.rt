@@ -296,7 +296,8 @@ pub(crate) fn next_after(groups: &Groups, stand: Stand, group: &Option<Text>) ->
 /// A member that ended leaves its group, which is found by its name; one that has no group leaves none.
 pub(crate) fn leave(groups: &mut Groups, who: Member, group: &Option<Text>)
     requires { IsGroup group.now }
-    ensures leaves { (stood : StandOf) → StandsOnlyThere (content groups.old) who (standing_by stood group.now)
+    ensures leaves { (stood : StandOf)
+        → StandsOnlyThere (content groups.old) who (standing_by stood group.now)
         → content groups.new ≡ left (content groups.old) who (standing_by stood group.now) }
     ensures known { Keeps groups.old groups.new }
 {

@@ -1,17 +1,17 @@
 //! Which name of the concurrency groups an event asks for, and what was held of it before.
 
-ghost use Rattle.std.specs.Prelude.{◌≡◌, IfOk, map, option_map};
+ghost use Rattle.std.specs.Prelude.{◌≡◌, is_some, option_map};
 ghost use Rattle.board_places.specs.Place.{leg_at, run_at};
 ghost use Rattle.flat_board.specs.Names.{group_at};
 ghost use Rattle.flat_board.specs.Touched as spec;
-ghost use Rattle.group_admission.specs.Content as members;
 ghost use Rattle.group_admission.specs.Known.{content};
 
 use crate::found::find_leg;
 use crate::undo::{CellBack, Stood};
 use board_places::place::{LegPlace, find_run, leg_there};
 use flat_counters::Counted;
-use flow_model::{Board, Event, Member, Text};
+use flow_model::{Board, Event, Group, Member, Text};
+use group_admission::member::{is_member, same_member};
 use group_admission::{Groups, Held};
 
 /// Whom an event lets enter its group, or leave it.
@@ -25,13 +25,26 @@ pub(crate) enum Touch {
     Enters(Stood, Member),
 }
 
-/// What is held of the name of a group, if it has one.
-fn held_of(groups: &Groups, group: &Option<Text>) -> Option<Held>
-    ensures { result ≡ spec.held_of group.now (content groups.now) }
+/// A member that stands there enters its group, if it has one.
+fn entering(who: Stood, member: Member, group: &Option<Group>) -> Touch
+    ensures { result ≡ spec.entering who member (is_some group.now) }
 {
     match group {
-        Some(name) => groups.held(name.as_str()),
-        None => None,
+        Some(_) => Touch::Enters(who, member),
+        None => Touch::Nothing,
+    }
+}
+
+/// Who stands there leaves its group, if it has one.
+fn leaving(groups: &Groups, who: Stood, group: &Option<Text>) -> Touch
+    ensures { result ≡ spec.leaving who group.now (content groups.now) }
+{
+    match group {
+        Some(name) => {
+            let held = groups.held(name.as_str());
+            Touch::Leaves(CellBack { who, held })
+        },
+        None => Touch::Nothing,
     }
 }
 
@@ -40,7 +53,11 @@ fn run_enters(state: &Counted, number: u64) -> Touch
     ensures { result ≡ spec.run_enters number (run_at state.now.plan state.now.board number) }
 {
     match find_run(state.plan(), state.board(), number as usize) {
-        Some(_) => Touch::Enters(Stood::Run(number as usize), Member::Run(number)),
+        Some(at) => entering(
+            Stood::Run(number as usize),
+            Member::Run(number),
+            &at.plan.group,
+        ),
         None => Touch::Nothing,
     }
 }
@@ -50,7 +67,11 @@ fn leg_enters(state: &Counted, number: u64) -> Touch
     ensures { result ≡ spec.leg_enters number (leg_at state.now.plan state.now.board number) }
 {
     match find_leg(state, number) {
-        Some(leg) => Touch::Enters(Stood::Leg(leg.at.place), Member::Leg(number)),
+        Some(leg) => entering(
+            Stood::Leg(leg.at.place),
+            Member::Leg(number),
+            &leg.at.job_plan.group,
+        ),
         None => Touch::Nothing,
     }
 }
@@ -61,11 +82,7 @@ fn run_leaves(state: &Counted, groups: &Groups, number: u64) -> Touch
         (run_at state.now.plan state.now.board number) (content groups.now) }
 {
     match find_run(state.plan(), state.board(), number as usize) {
-        Some(at) => {
-            let who = Stood::Run(number as usize);
-            let held = held_of(groups, &at.run.group);
-            Touch::Leaves(CellBack { who, held })
-        },
+        Some(at) => leaving(groups, Stood::Run(number as usize), &at.run.group),
         None => Touch::Nothing,
     }
 }
@@ -76,11 +93,7 @@ fn leg_leaves(state: &Counted, groups: &Groups, number: u64) -> Touch
         (leg_at state.now.plan state.now.board number) (content groups.now) }
 {
     match find_leg(state, number) {
-        Some(leg) => {
-            let who = Stood::Leg(leg.at.place);
-            let held = held_of(groups, &leg.at.leg.group);
-            Touch::Leaves(CellBack { who, held })
-        },
+        Some(leg) => leaving(groups, Stood::Leg(leg.at.place), &leg.at.leg.group),
         None => Touch::Nothing,
     }
 }
@@ -147,28 +160,6 @@ fn held_there(groups: &Groups, board: &Board, who: Stood) -> Option<Held>
     match name_at(board, who) {
         Some(name) => groups.held(name),
         None => None,
-    }
-}
-
-/// Whether two members are one.
-fn same_member(a: Member, b: Member) -> bool
-    ensures { result ≡ members.same_member a b }
-{
-    match (a, b) {
-        (Member::Run(a), Member::Run(b)) => a == b,
-        (Member::Run(_), Member::Leg(_)) => false,
-        (Member::Leg(_), Member::Run(_)) => false,
-        (Member::Leg(a), Member::Leg(b)) => a == b,
-    }
-}
-
-/// Whether a member is the one that may be there.
-fn is_member(member: Member, other: Option<Member>) -> bool
-    ensures { result ≡ members.is_member member other }
-{
-    match other {
-        Some(other) => same_member(member, other),
-        None => false,
     }
 }
 

@@ -1,7 +1,8 @@
 //! What takes an entry back.
 
 use board_places::place::LegPlace;
-use flat_counters::{Change, OnlyChange};
+use flat_counters::Change;
+use flow_model::LegState;
 use group_admission::Held;
 
 /// Where a run or a leg stands on a board.
@@ -24,13 +25,12 @@ pub struct CellBack {
 /// What takes one entry back.
 #[derive(Drop)]
 pub enum Undo {
-    /// A leg's state, or a step that is taken off: it has no memory of its own.
-    Only(OnlyChange),
-    /// The changes of the board, and what was held of the name that it asked for, if it asked for one.
-    More {
-        /// The changes, of which the last is taken back first.
-        changes: Vec<Change>,
-        /// What was held.
-        cell: Option<Box<CellBack>>,
-    },
+    /// A leg comes into a state. This has no memory of its own.
+    State(LegPlace, LegState),
+    /// The last step of a leg is taken off, and the leg comes into a state. This has none either.
+    Step(LegPlace, LegState),
+    /// The changes of the board, of which the last is taken back first.
+    Changes(Vec<Change>),
+    /// The changes of the board, and what was held of the name that the entry asked for.
+    Asked(Vec<Change>, Box<CellBack>),
 }

@@ -6,7 +6,7 @@ ghost use Rattle.group_admission.specs.Content as spec;
 use flow_model::Member;
 
 /// Whether two members are one.
-pub(crate) fn same_member(a: Member, b: Member) -> bool
+pub fn same_member(a: Member, b: Member) -> bool
     ensures { result ≡ spec.same_member a b }
 {
     match (a, b) {
@@ -18,7 +18,7 @@ pub(crate) fn same_member(a: Member, b: Member) -> bool
 }
 
 /// Whether a member is the one that may be there.
-pub(crate) fn is_member(member: Member, other: Option<Member>) -> bool
+pub fn is_member(member: Member, other: Option<Member>) -> bool
     ensures { result ≡ spec.is_member member other }
 {
     match other {
