@@ -6,7 +6,8 @@
 //! is judged. `decisions` says what the texts of a place come to: whether a job is opened, a
 //! leg is to stop, a step is called or passed over, what a call asks for, what a leg gives its
 //! job, and by which `entrance` a member enters a group; `unasked` whether a step is called, without its call.
-//! `kept` is what whoever counts beside a board knows of a leg, so that it isn't looked for.
+//! `kept` is what whoever counts beside a board knows of a leg, so that it isn't looked for; `scene` is a place as its texts
+//! see it.
 //! Nothing here changes a board.
 //!
 //! All are defined in `specs/`: `Derived`, `Ancestors`, `Contexts` (what the contexts of a place hold), `Decisions`,
@@ -24,5 +25,5 @@ pub mod derived;
 pub mod entrance;
 pub mod kept;
 mod nodes;
-mod scene;
+pub mod scene;
 pub mod unasked;

@@ -15,8 +15,8 @@ use text_values::Scene;
 
 /// A run in play, for what its texts see.
 #[derive(Clone, Copy)]
-pub(crate) struct RunScene<'a> {
-    pub(crate) at: &'a SeenRun<'a>,
+pub struct RunScene<'a> {
+    pub at: &'a SeenRun<'a>,
 }
 
 impl<'a> Scene for RunScene<'a> {
@@ -31,8 +31,8 @@ impl<'a> Scene for RunScene<'a> {
 
 /// A job in play, for what its texts see.
 #[derive(Clone, Copy)]
-pub(crate) struct JobScene<'a> {
-    pub(crate) at: &'a SeenJob<'a>,
+pub struct JobScene<'a> {
+    pub at: &'a SeenJob<'a>,
 }
 
 impl<'a> Scene for JobScene<'a> {
@@ -47,8 +47,8 @@ impl<'a> Scene for JobScene<'a> {
 
 /// A leg in play, for what its texts see.
 #[derive(Clone, Copy)]
-pub(crate) struct LegScene<'a> {
-    pub(crate) at: &'a SeenLeg<'a>,
+pub struct LegScene<'a> {
+    pub at: &'a SeenLeg<'a>,
 }
 
 impl<'a> Scene for LegScene<'a> {

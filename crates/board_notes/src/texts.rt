@@ -12,6 +12,7 @@ ghost use Rattle.text_values.specs.Values.{contexts_at, with_env};
 ghost use Rattle.text_values.specs.declared.place.Place.TheVariants as place;
 
 use board_decisions::decisions::leg_result;
+use board_decisions::scene::LegScene;
 use board_facts::fact::StepText;
 use board_places::place::SeenLeg;
 use expr_value::Status;
@@ -48,7 +49,13 @@ fn flow_env(alloc: Global, at: &SeenLeg, known: &mut Known) -> Result<Mapping<Te
     ensures env { known_env known.new ≡ [] }
     ensures known { IsKnownOf (leg_scene at.now) known.new }
 {
-    env_at(alloc, at, known, Place::WorkflowEnv, &at.run_plan.env)
+    env_at(
+        alloc,
+        &LegScene { at },
+        known,
+        Place::WorkflowEnv,
+        &at.run_plan.env,
+    )
 }
 
 /// Lets texts see the variables of the job over others.
@@ -64,7 +71,13 @@ fn know_job_env(
         (spec.job_env_over (leg_seen at.now) below) }
     ensures known { IsKnownOf (leg_scene at.now) known.new }
 {
-    let job = env_at(alloc, at, known, Place::JobEnv, &at.job_plan.env)?;
+    let job = env_at(
+        alloc,
+        &LegScene { at },
+        known,
+        Place::JobEnv,
+        &at.job_plan.env,
+    )?;
     known.set_env(below);
     known.lay_own_env(alloc, job)?;
     Ok(())
@@ -96,7 +109,7 @@ fn know_step_env(
         (causes.step_env_over (leg_seen at.now) step.now (known_env known.old)) }
     ensures known { IsKnownOf (leg_scene at.now) known.new }
 {
-    let own = env_at(alloc, at, known, Place::StepEnv, &step.env)?;
+    let own = env_at(alloc, &LegScene { at }, known, Place::StepEnv, &step.env)?;
     known.lay_own_env(alloc, own)?;
     Ok(())
 }
@@ -115,7 +128,7 @@ fn text_after_step(
     let status = leg_status(alloc, at)?;
     match condition_at(
         alloc,
-        at,
+        &LegScene { at },
         known,
         Place::StepCondition,
         &step.condition,
