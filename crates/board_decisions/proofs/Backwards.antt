@@ -103,7 +103,7 @@ module _ (first : ℕ) (jobs : List JobPlan) (back : NeedsPointBack first jobs) 
       (λ i less. ap (λ c. holds_at tests i || c) (enough tests n m i (omega (arith, h, less)) (omega (arith, h', less))))
 
   -- a job is marked by the marks of those before it
-  marked : (tests marks : List Bool) (n k : ℕ) (job : JobPlan) → k < n → slice_get jobs k ≡ Some job
+  pub marked : (tests marks : List Bool) (n k : ℕ) (job : JobPlan) → k < n → slice_get jobs k ≡ Some job
       → ((i : ℕ) → i < k → holds_at marks i ≡ some_ancestor first jobs tests n i) → any_need first tests marks job ≡ some_ancestor first jobs tests n k
   marked tests marks zero k job h is so_far = absurd (omega (arith, h))
   marked tests marks (suc n) k job h is so_far =

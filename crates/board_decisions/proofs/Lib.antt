@@ -1,4 +1,5 @@
 pub mod Backwards
+pub mod Lineages
 pub mod Maps
 pub mod OwnSteps
 pub mod Overlays

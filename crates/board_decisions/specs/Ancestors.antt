@@ -1,8 +1,7 @@
 -- The ancestors of a job, and what their results make of its status.
 use Rattle.std.specs.Prelude.{◌≡◌, ℕ, ◌+◌, ◌-◌, ◌<◌, ◌&&◌, ◌||◌, Bool, true, false, not, List, map, length, Some, slice_get, nat_le, nat_lt}
 use Rattle.std.specs.List.{list_all, list_any, Contains}
-use Rattle.board_decisions.specs.declared.ancestors.Wanted.{Wanted}
-use Rattle.board_decisions.specs.declared.ancestors.Wanted.TheVariants as wanted
+use Rattle.board_decisions.specs.declared.ancestors.Lineage.{Lineage}
 use Rattle.board_decisions.specs.Derived.{needs_at, holds_at, any_ancestor, is_success, is_failure, job_results}
 use Rattle.board_places.specs.Place.{JobAt}
 use Rattle.expr_value.specs.declared.status.Status.{Status}
@@ -52,17 +51,52 @@ pub record StandsAfterNeeds (first : ℕ) (at : JobAt) : Type 0 where
 
 -- ---- the search for ancestors
 
--- whether a result is one of those that are looked for: failures, or all but successes
-abbrev pub passes : Wanted → Outcome → Bool
-passes wanted.Failure result = is_failure result
-passes wanted.NotSuccess result = not (is_success result)
-
 -- whether a job needs one that passes a test, or that was marked
 abbrev pub any_need : ℕ → List Bool → List Bool → JobPlan → Bool
 any_need first tests marks job =
     list_any (λ need. holds_at tests need || holds_at marks need) (map (λ need. need - first) job.needs)
 
--- whether a job has an ancestor with a result that is looked for
-abbrev pub has_ancestor_with : ℕ → JobAt → Wanted → Bool
-has_ancestor_with first at wanted =
-    any_ancestor first at.run_plan.jobs (map (passes wanted) (job_results at.run)) at.place.job
+-- how a result counts for whoever needs the job
+abbrev pub lineage_by : Outcome → Lineage
+lineage_by how = record { failed = is_failure how; unsuccessful = not (is_success how) }
+
+-- how no ancestor counts
+abbrev pub no_lineage : Lineage
+no_lineage = record { failed = false; unsuccessful = false }
+
+-- how two count together
+abbrev pub both : Lineage → Lineage → Lineage
+both one other =
+    record { failed = one.failed || other.failed; unsuccessful = one.unsuccessful || other.unsuccessful }
+
+-- whether each of some lineages has one that failed
+abbrev pub failures : List Lineage → List Bool
+failures lineages = map (λ lineage. lineage.failed) lineages
+
+-- whether each of some lineages has one that did not succeed
+abbrev pub unsuccesses : List Lineage → List Bool
+unsuccesses lineages = map (λ lineage. lineage.unsuccessful) lineages
+
+-- how the job at a place counts for whoever needs it, by the results of jobs and how the ancestors of each ended
+abbrev pub lineage_at : List Outcome → List Lineage → ℕ → Lineage
+lineage_at results lineages k =
+    record {
+      failed = holds_at (map is_failure results) k || holds_at (failures lineages) k;
+      unsuccessful = holds_at (map (λ how. not (is_success how)) results) k || holds_at (unsuccesses lineages) k;
+    }
+
+-- how the ancestors of a job ended, by those that it needs and theirs
+abbrev pub lineage_of : ℕ → List Outcome → List Lineage → JobPlan → Lineage
+lineage_of first results lineages job =
+    record {
+      failed = any_need first (map is_failure results) (failures lineages) job;
+      unsuccessful = any_need first (map (λ how. not (is_success how)) results) (unsuccesses lineages) job;
+    }
+
+-- how the ancestors of the job at place k ended
+abbrev pub lineage_in : ℕ → List JobPlan → List Outcome → ℕ → Lineage
+lineage_in first jobs results k =
+    record {
+      failed = any_ancestor first jobs (map is_failure results) k;
+      unsuccessful = any_ancestor first jobs (map (λ how. not (is_success how)) results) k;
+    }

@@ -1,11 +1,11 @@
 //! The status of a job, by the results of its ancestors.
 //!
-//! Needs point backwards, so one pass from the front finds which jobs have an ancestor that is looked for.
+//! Needs point backwards, so one pass from the front over what each job needs finds how the ancestors of each ended.
 
-ghost use Rattle.std.specs.Prelude.{◌≡◌, ◌<◌, true, IfOk, map, length};
+ghost use Rattle.std.specs.Prelude.{◌≡◌, ◌<◌, true, IfOk, length};
 ghost use Rattle.board_decisions.specs.Ancestors as spec;
 ghost use Rattle.board_decisions.specs.Derived as derived;
-ghost use Rattle.board_decisions.specs.Derived.{any_ancestor, job_results};
+ghost use Rattle.board_decisions.specs.Derived.{job_results};
 ghost use Rattle.board_places.specs.Seen.{job_seen};
 
 use crate::derived::{is_failure, is_success, job_result};
@@ -14,93 +14,106 @@ use expr_value::Status;
 use flow_model::{JobPlan, Outcome, Run};
 use std::alloc::{AllocError, Global};
 
-/// Which results of ancestors are looked for.
+/// How the ancestors of a job ended, as far as its status asks.
 #[derive(Clone, Copy)]
-pub(crate) enum Wanted {
-    Failure,
-    /// All but success.
-    NotSuccess,
+pub(crate) struct Lineage {
+    /// Whether one of them failed.
+    pub(crate) failed: bool,
+    /// Whether one of them did not succeed.
+    pub(crate) unsuccessful: bool,
 }
 
-/// Whether a result is one of those that are looked for.
-fn passes(wanted: Wanted, how: Outcome) -> bool
-    ensures { result ≡ spec.passes wanted how }
-{
-    match wanted {
-        Wanted::Failure => is_failure(how),
-        Wanted::NotSuccess => !is_success(how),
-    }
-}
-
-/// For each job of a run, whether its result is one of those that are looked for.
-fn job_tests(alloc: Global, run: &Run, wanted: Wanted) -> Result<Vec<bool>, AllocError>
-    ensures { IfOk result (λ tests. tests.items ≡ map (spec.passes wanted) (job_results run.now)) }
+/// The result of each job of a run.
+fn results_of(alloc: Global, run: &Run) -> Result<Vec<Outcome>, AllocError>
+    ensures { IfOk result (λ results. results.items ≡ job_results run.now) }
 {
     let jobs = run.jobs.as_slice();
-    let mut tests = Vec::with_capacity(alloc, jobs.len())?;
+    let mut results = Vec::with_capacity(alloc, jobs.len())?;
     for job in jobs {
-        tests.push(passes(wanted, job_result(run, job)))?;
+        results.push(job_result(run, job))?;
     }
-    Ok(tests)
+    Ok(results)
 }
 
-/// The truth at a place; beyond the end there is none.
-fn holds_at(tests: &[bool], place: usize) -> bool
-    ensures { result ≡ derived.holds_at tests.now place }
+/// How a result counts for whoever needs the job.
+fn lineage_by(how: Outcome) -> Lineage
+    ensures { result ≡ spec.lineage_by how }
 {
-    match tests.get(place) {
-        Some(holds) => *holds,
-        None => false,
+    Lineage {
+        failed: is_failure(how),
+        unsuccessful: !is_success(how),
     }
 }
 
-/// Whether a job needs one that passes a test, or that was marked.
-fn is_any_need(first: u64, job: &JobPlan, tests: &[bool], marks: &[bool]) -> bool
-    ensures { result ≡ spec.any_need first tests.now marks.now job.now }
+/// How no ancestor counts.
+fn no_lineage() -> Lineage
+    ensures { result ≡ spec.no_lineage }
+{
+    Lineage {
+        failed: false,
+        unsuccessful: false,
+    }
+}
+
+/// How two count together.
+fn both(one: Lineage, other: Lineage) -> Lineage
+    ensures { result ≡ spec.both one other }
+{
+    Lineage {
+        failed: one.failed || other.failed,
+        unsuccessful: one.unsuccessful || other.unsuccessful,
+    }
+}
+
+/// How the job at a place counts for whoever needs it: by its result and by its ancestors; one that is not there does not.
+fn lineage_at(results: &[Outcome], lineages: &[Lineage], place: usize) -> Lineage
+    ensures { result ≡ spec.lineage_at results.now lineages.now place }
+{
+    let own = match results.get(place) {
+        Some(how) => lineage_by(*how),
+        None => no_lineage(),
+    };
+    match lineages.get(place) {
+        Some(ancestors) => both(own, *ancestors),
+        None => own,
+    }
+}
+
+/// How the ancestors of a job ended, by the jobs that it needs and their ancestors.
+#[tactic(auto, using(crate::proofs::Lineages::one_needed))]
+fn lineage_of(first: u64, job: &JobPlan, results: &[Outcome], lineages: &[Lineage]) -> Lineage
+    ensures { result ≡ spec.lineage_of first results.now lineages.now job.now }
 {
     let needs = job.needs.as_slice();
+    let mut all = no_lineage();
     for need in needs {
         let place = need.saturating_sub(first) as usize;
-        if holds_at(tests, place) || holds_at(marks, place) {
-            return true;
-        }
+        all = both(all, lineage_at(results, lineages, place));
     }
-    false
+    all
 }
 
-/// Whether the job at a place has an ancestor that passes a test.
-fn has_ancestor(
+/// How the ancestors of the job at a place ended, by the results of the run's jobs.
+fn lineage_in(
     alloc: Global,
     first: u64,
     jobs: &[JobPlan],
-    tests: &[bool],
+    results: &[Outcome],
     place: usize,
-) -> Result<bool, AllocError>
+) -> Result<Lineage, AllocError>
     requires back { spec.NeedsPointBack first jobs.now }
     requires within { place < length jobs.now }
-    ensures { IfOk result (λ found. found ≡ any_ancestor first jobs.now tests.now place) }
+    ensures { IfOk result (λ found. found ≡ spec.lineage_in first jobs.now results.now place) }
 {
-    let mut marks = Vec::with_capacity(alloc, jobs.len())?;
+    let mut lineages = Vec::with_capacity(alloc, place)?;
     for job in jobs {
-        marks.push(is_any_need(first, job, tests, marks.as_slice()))?;
+        let lineage = lineage_of(first, job, results, lineages.as_slice());
+        if lineages.len() == place {
+            return Ok(lineage);
+        }
+        lineages.push(lineage)?;
     }
-    Ok(holds_at(marks.as_slice(), place))
-}
-
-/// Whether a job, whose run's first job has the number
-/// `first`, has an ancestor with a result that is looked for.
-fn has_ancestor_with(
-    alloc: Global,
-    first: u64,
-    at: &SeenJob,
-    wanted: Wanted,
-) -> Result<bool, AllocError>
-    requires { spec.StandsAfterNeeds first (job_seen at.now) }
-    ensures { IfOk result (λ found. found ≡ spec.has_ancestor_with first (job_seen at.now) wanted) }
-{
-    let tests = job_tests(alloc, at.run, wanted)?;
-    let jobs = at.run_plan.jobs.as_slice();
-    has_ancestor(alloc, first, jobs, tests.as_slice(), at.place.job)
+    Ok(no_lineage())
 }
 
 /// The status of a job, whose run's first job has the number `first`.
@@ -111,13 +124,16 @@ pub fn job_status(alloc: Global, first: u64, at: &SeenJob) -> Result<Status, All
     if at.run.stop {
         return Ok(Status::Cancelled);
     }
-    if has_ancestor_with(alloc, first, at, Wanted::Failure)? {
-        return Ok(Status::Failure);
+    let results = results_of(alloc, at.run)?;
+    let jobs = at.run_plan.jobs.as_slice();
+    let lineage = lineage_in(alloc, first, jobs, results.as_slice(), at.place.job)?;
+    if lineage.failed {
+        Ok(Status::Failure)
+    } else if lineage.unsuccessful {
+        Ok(Status::Other)
+    } else {
+        Ok(Status::Success)
     }
-    if has_ancestor_with(alloc, first, at, Wanted::NotSuccess)? {
-        return Ok(Status::Other);
-    }
-    Ok(Status::Success)
 }
 
 /// The same, where it may be known that each job of the run succeeded so far, so that nobody is looked for.
