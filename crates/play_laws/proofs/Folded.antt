@@ -21,9 +21,10 @@ use Rattle.flow_model.specs.declared.reply.ValueFault.{ValueFault}
 use Rattle.group_admission.specs.Content.{Content, after_at, after_enter, each_held, is_own, released, with_held, withdrawn}
 use Rattle.group_admission.specs.declared.held.Held.{Held}
 use Rattle.play_laws.proofs.Pairs.{name_is, no_some}
+use Rattle.play_laws.specs.Grouped.{groups_after, groups_from, then_groups}
 use Rattle.play_laws.specs.Groups.{NamesAreFolded, OneHolderWhateverTheCase}
 use Rattle.status_table.specs.Admissions.{asked, left, opened}
-use Rattle.status_table.specs.Grouped.{KeptAsShown, after_event, groups_after, groups_from, leg_asked, leg_left, run_left, run_opened, then_groups}
+use Rattle.status_table.specs.Grouped.{KeptAsShown, after_event, leg_asked, leg_left, run_left, run_opened}
 use Rattle.status_table.specs.Groups.{Standing, apart, holding, leg_standing, run_standing, waiting}
 use Rattle.status_table.specs.Row.{Row, row}
 use Rattle.status_table.specs.Runs.{after, new_board}

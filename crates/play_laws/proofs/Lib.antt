@@ -1,6 +1,9 @@
+pub mod Called
+pub mod Decided
 pub mod Each
 pub mod Folded
 pub mod Giving
+pub mod Grouped
 pub mod Needs
 pub mod Pairs
 pub mod Set

@@ -2,7 +2,6 @@
 use Rattle.std.proofs.Common.{◌≡◌, suc, List, [], ◌∷◌, map, Result, Ok, Err, refl, ap, ◌∙◌}
 use Rattle.board_decisions.specs.Contexts.{overlaid}
 use Rattle.board_decisions.specs.Decisions.{then_value, job_env, set_over, leg_env}
-use Rattle.board_places.specs.Place.{LegAt}
 use Rattle.flow_model.specs.Sound.{Each}
 use Rattle.flow_model.specs.declared.board.DoneStep.{DoneStep}
 use Rattle.flow_model.specs.declared.reply.ValueFault.{ValueFault}

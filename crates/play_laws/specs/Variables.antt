@@ -8,7 +8,8 @@ use Rattle.flow_model.specs.declared.board.DoneStep.{DoneStep}
 use Rattle.flow_model.specs.declared.event.Event.TheVariants as event
 use Rattle.flow_model.specs.declared.plan.Plan.{Plan}
 use Rattle.flow_model.specs.declared.plan.StepPlan.{StepPlan}
-use Rattle.status_table.specs.CallLaws.{IfCalled, MostSpecificIsGiven}
+use Rattle.play_laws.specs.CallLaws.{MostSpecificIsGiven}
+use Rattle.status_table.specs.Calls.{IfCalled}
 use Rattle.status_table.specs.Row.{row, next_step}
 
 -- After these steps of a leg, each call of its next step is given what the step says itself of a variable, else what the

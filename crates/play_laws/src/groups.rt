@@ -2,7 +2,7 @@
 
 ghost use Rattle.play_laws.specs.Groups.{NamesAreFolded, OneHolderWhateverTheCase};
 
-use status_table::admission_laws::legal_lists_are_shown;
+use crate::admission_laws::legal_lists_are_shown;
 
 /// A name that is held or waited for has no letter A to Z. So two names that are held, and are the same but for the case of
 /// letters, are one.

@@ -4,11 +4,12 @@ ghost use Rattle.std.specs.Prelude.{ℕ};
 ghost use Rattle.flow_model.specs.Sound.{Each};
 ghost use Rattle.flow_model.specs.declared.board.Board.{Board};
 ghost use Rattle.flow_model.specs.declared.event.Event.TheVariants as event;
-ghost use Rattle.status_table.specs.CallLaws.{CallInOrder, IfCalled, JobInOrder, PlanInOrder, RunInOrder, StepInOrder, WorkInOrder};
+ghost use Rattle.play_laws.specs.CallLaws.{CallInOrder, JobInOrder, PlanInOrder, RunInOrder, StepInOrder, WorkInOrder};
+ghost use Rattle.status_table.specs.Calls.{IfCalled};
 ghost use Rattle.status_table.specs.Row.{row};
 
+use crate::call_laws::calls_are_in_order;
 use flow_model::{JobPlan, Plan, RunPlan, StepPlan, Work};
-use status_table::call_laws::calls_are_in_order;
 
 /// The inputs of an action do.
 fn work_in_order(work: &Work)

@@ -1,12 +1,12 @@
 //! Laws of the variables that steps set for the steps after them (GitHub Docs, workflow commands: setting an environment
 //! variable).
 
+ghost use Rattle.play_laws.specs.CallLaws.{SetInOrder};
 ghost use Rattle.play_laws.specs.Variables.{LastToSetWins, NothingSetIsTheJobs};
-ghost use Rattle.status_table.specs.CallLaws.{SetInOrder};
 
+use crate::call_laws::calls_are_in_order;
 use crate::orders::maps_are_in_order;
 use flow_model::{DoneStep, Plan};
-use status_table::call_laws::calls_are_in_order;
 
 /// What each of some done steps set names each variable once, in the byte order of the names.
 fn sets_are_in_order(steps: &[DoneStep])

@@ -1,4 +1,4 @@
--- The groups as they are kept by names go with the board through each legal list of entries.
+-- The groups as they are kept by names go with the board through each event.
 use Rattle.std.proofs.Common.{◌≡◌, ◌≢◌, ℕ, suc, ◌&&◌, Bool, true, false, not, List, [], ◌∷◌, map, Option, Some, None, Result, Ok, Err, option_map, option_and_then, nat_le, if◌then◌else◌, ap, subst, sym, refl, ◌∙◌, arith}
 use Rattle.std.specs.List.{flat_map}
 use Rattle.std.specs.List.Sorted.{IsStrictlySortedBy}
@@ -9,14 +9,12 @@ use Rattle.board_decisions.specs.Derived.{is_going, is_open, is_fresh, is_full}
 use Rattle.board_places.specs.Place.{RunAt, LegAt, run_at, leg_at}
 use Rattle.flow_model.specs.Mapping.{value_at, Ascends}
 use Rattle.flow_model.specs.Numbers.{board_legs, plan_jobs, plan_legs}
-use Rattle.flow_model.specs.Sound.{SoundPlan}
 use Rattle.flow_model.specs.declared.plan.Plan.{Plan}
 use Rattle.flow_model.specs.declared.board.Board.{Board}
 use Rattle.flow_model.specs.declared.board.RunState.{RunState}
 use Rattle.flow_model.specs.declared.board.RunState.TheVariants as run_state
 use Rattle.flow_model.specs.declared.board.LegState.{LegState}
 use Rattle.flow_model.specs.declared.board.LegState.TheVariants as leg_state
-use Rattle.flow_model.specs.declared.event.Entry.{Entry}
 use Rattle.flow_model.specs.declared.event.Event.{Event}
 use Rattle.flow_model.specs.declared.event.Event.TheVariants as event
 use Rattle.flow_model.specs.declared.event.Member.{Member}
@@ -27,27 +25,21 @@ use Rattle.group_admission.specs.Content.{Content, EachOnce, holder_of, waiter_o
 use Rattle.group_admission.specs.Laws.{FirstHolds, NextDisplaces, OwnRunChangesNothing, ReleasesPassOn, WithdrawsLeaveHolders, OrderStays, OnceStays, NowhereIsNoGroup}
 use Rattle.status_table.specs.declared.fault.EventFault.TheVariants as fault
 use Rattle.status_table.specs.Admissions.{ShowsThen, opened, asked, left}
-use Rattle.status_table.specs.Grouped.{run_opened, leg_asked, run_left, leg_left, after_event, then_groups, groups_from, groups_after, KeptAsShown, EntersFromOutside}
+use Rattle.status_table.specs.Grouped.{run_opened, leg_asked, run_left, leg_left, after_event, KeptAsShown, EntersFromOutside}
 use Rattle.status_table.specs.Groups.{Standing, apart, holding, waiting, run_stands, leg_stands, run_standing, leg_standing, holds_name, waits_name, first_place, run_or_leg, first_member}
 use Rattle.status_table.specs.Lawful.{Lawful}
 use Rattle.status_table.specs.Moves.{is_accepted}
 use Rattle.status_table.specs.Row.{Row, row, open_run, open_found, run_enters, may_ask, ask_found, leg_enters, close_found, drop_found, finish_found}
-use Rattle.status_table.specs.Runs.{new_leg, new_job, new_run, new_board, then_after, after_from, after}
+use Rattle.status_table.specs.Runs.{new_leg, new_job, new_run, new_board}
 use Rattle.board_places.proofs.Lists.{and-right}
 use Rattle.status_table.proofs.Decided.{by_test}
-use Rattle.status_table.proofs.Entering.{Leads}
 use Rattle.status_table.proofs.Found.{run_stands as run_found, leg_stands as leg_found, leg_item}
-use Rattle.status_table.proofs.Keeps.{Keeps, row_keeps}
-use Rattle.status_table.proofs.Lawfulness.{new_lawful}
-use Rattle.status_table.proofs.Legal.{new_fits}
 use Rattle.status_table.proofs.Lists.{flat_map-map}
 use Rattle.board_places.proofs.Lists.{same_some, no_some}
-use Rattle.status_table.proofs.Rows.{row_leads}
 use Rattle.status_table.proofs.Shown.{opens_as_entered, asks_as_entered, closes_as_left, drops_as_left, finishes_as_left}
 use Rattle.status_table.proofs.Steps.{standing}
 use Rattle.status_table.proofs.Still.{judge_shows, take_shows, begin_shows, end_shows, cancel_shows}
 use Rattle.status_table.proofs.Turnover.{a_holder, a_waiter}
-use Rattle.status_table.proofs.Turns.{Fits}
 
 -- ---- the board on which all is new
 
@@ -313,24 +305,3 @@ module _ (laws : GroupLaws) (p : Plan) (b : Board) (worker : ℕ) (groups : Cont
         named = sound.named;
         once = sound.once;
       }
-
--- ---- lists of entries
-
-entries_kept : GroupLaws → (p : Plan) (b c : Board) (groups : Content) (es : List Entry) → Fits p b → Lawful p b → KeptAsShown groups b → after_from p b es ≡ Some c
-    → KeptAsShown (groups_from p b groups es) c
-entries_kept laws p b c groups [] fits lawful kept h = subst (KeptAsShown groups) (same_some b c h) kept
-entries_kept laws p b c groups (e ∷ es) fits lawful kept h =
-    step (λ d g f l k a. entries_kept laws p d c g es f l k a) (row p b e.worker e.event) refl (row_keeps p b e.worker e.event) (row_leads p b e.worker e.event fits.shape) h
-  where
-    step : ((d : Board) (g : Content) → Fits p d → Lawful p d → KeptAsShown g d → after_from p d es ≡ Some c → KeptAsShown (groups_from p d g es) c)
-        → (r : Row) → row p b e.worker e.event ≡ r → Keeps p b r → Leads p b r → then_after r (λ next. after_from p next es) ≡ Some c
-        → KeptAsShown (then_groups r groups (λ next. groups_from p next (after_event p b groups e.event) es)) c
-    step later (Ok x) is keeps leads k =
-        later x.0 (after_event p b groups e.event) (keeps fits) (leads lawful).lawful (event_kept laws p b e.worker groups lawful kept e.event x is) k
-    step later (Err f) is keeps leads k = absurd (no_some c k)
-
-pub legal_kept : GroupLaws → (p : Plan) → SoundPlan p → (es : List Entry) (b : Board) → after p es ≡ Some b → KeptAsShown (groups_after p es) b
-legal_kept laws p sound es b h = entries_kept laws p (new_board p) b [] es (new_fits p) (new_lawful p sound) (new_kept p) h
-
-pub legal_outside : GroupLaws → (p : Plan) → SoundPlan p → (es : List Entry) (b : Board) → after p es ≡ Some b → EntersFromOutside p b (groups_after p es)
-legal_outside laws p sound es b h = enters_from_outside laws p b (groups_after p es) (legal_kept laws p sound es b h)

@@ -34,7 +34,7 @@ use Rattle.status_table.proofs.Ended.{stays-same, stays-then}
 use Rattle.status_table.proofs.Entering.{Leads}
 use Rattle.status_table.proofs.Found.{job_stands}
 use Rattle.status_table.proofs.Keeps.{Keeps, row_keeps}
-use Rattle.status_table.proofs.Legal.{new_fits as new_board_fits, after_fits}
+use Rattle.status_table.proofs.Legal.{new_fits as new_board_fits}
 use Rattle.status_table.proofs.Lists.{flat_map-map, all-map}
 use Rattle.board_places.proofs.Lists.{same_some, no_some}
 use Rattle.status_table.proofs.Rows.{event_leads, row_leads}
@@ -154,9 +154,6 @@ after_reaches p b c (e ∷ es) fits lawful h = step (λ d f l k. after_reaches p
 
 pub legal_lawful : (p : Plan) → SoundPlan p → (es : List Entry) (b : Board) → after p es ≡ Some b → Lawful p b
 legal_lawful p sound es b h = (after_reaches p (new_board p) b es (new_board_fits p) (new_lawful p sound) h).lawful
-
-pub legal_stays : (p : Plan) → SoundPlan p → (es more : List Entry) (b c : Board) → after p es ≡ Some b → after_from p b more ≡ Some c → Stays b c
-legal_stays p sound es more b c h k = (after_reaches p b c more (after_fits p es b h) (legal_lawful p sound es b h) k).stays
 
 pub legal_short : (p : Plan) → SoundPlan p → (es : List Entry) (b : Board) → after p es ≡ Some b → length es ≤ 2113728
 legal_short p sound es b h =

@@ -1,5 +1,4 @@
 pub mod Accepting
-pub mod Called
 pub mod Counts
 pub mod Decided
 pub mod Ended

@@ -6,7 +6,6 @@ use Rattle.flow_model.specs.declared.board.Board.{Board}
 use Rattle.flow_model.specs.declared.event.Event.{Event}
 use Rattle.flow_model.specs.declared.event.Event.TheVariants as event
 use Rattle.status_table.specs.declared.fault.EventFault.TheVariants as fault
-use Rattle.status_table.specs.Row.{Row, Beginning, calls, skips, faults}
 use Rattle.status_table.specs.Row as rows
 use Rattle.status_table.specs.Shape.{HasShape}
 use Rattle.status_table.proofs.Entering.{Leads, leads-if}

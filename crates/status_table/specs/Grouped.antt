@@ -1,11 +1,9 @@
--- The concurrency groups as they are kept by names, after whole lists of entries: each entry asks of them
--- what its event asks on the board before it.
-use Rattle.std.specs.Prelude.{◌≡◌, ℕ, true, false, List, [], ◌∷◌, Option, Some, None, Ok, Err}
+-- The concurrency groups as they are kept by names, beside a board: what an event asks of them, and what is true of them.
+use Rattle.std.specs.Prelude.{◌≡◌, ℕ, true, false, [], Option, Some, None}
 use Rattle.board_decisions.specs.Decisions.{run_entrance, leg_entrance}
 use Rattle.board_places.specs.Place.{RunAt, LegAt, run_at, leg_at}
 use Rattle.flow_model.specs.Mapping.{value_at, Ascends}
 use Rattle.flow_model.specs.declared.board.Board.{Board}
-use Rattle.flow_model.specs.declared.event.Entry.{Entry}
 use Rattle.flow_model.specs.declared.event.Event.{Event}
 use Rattle.flow_model.specs.declared.event.Event.TheVariants as event
 use Rattle.flow_model.specs.declared.event.Member.TheVariants as member
@@ -14,8 +12,7 @@ use Rattle.group_admission.specs.Content.{Content, EachOnce, is_in_group}
 use Rattle.status_table.specs.Admissions.{Shows, opened, asked, left}
 use Rattle.status_table.specs.Groups.{run_standing, leg_standing}
 use Rattle.status_table.specs.Moves.{is_accepted}
-use Rattle.status_table.specs.Row.{Row, row}
-use Rattle.status_table.specs.Runs.{new_board}
+use Rattle.status_table.specs.Row.{row}
 
 -- ---- what the groups keep after an event
 
@@ -51,24 +48,6 @@ after_event p b groups (event.End l a) = groups
 after_event p b groups (event.Finish l) = leg_left groups l (leg_at p b l)
 after_event p b groups (event.Close r) = run_left groups r (run_at p b r)
 after_event p b groups (event.Cancel r) = groups
-
--- ---- what they keep after a list of entries
-
--- what follows a row: if it is refused, the groups stay
-abbrev pub then_groups : Row → Content → (Board → Content) → Content
-then_groups (Ok x) groups rest = rest x.0
-then_groups (Err refusal) groups rest = groups
-
--- The groups after entries on this board, up to the first that is refused.
-abbrev pub groups_from : Plan → Board → Content → List Entry → Content
-groups_from p b groups [] = groups
-groups_from p b groups (e ∷ es) =
-    then_groups (row p b e.worker e.event) groups (λ next.
-    groups_from p next (after_event p b groups e.event) es)
-
--- The groups after entries on the board on which all is new, where nobody is in a group.
-abbrev pub groups_after : Plan → List Entry → Content
-groups_after p es = groups_from p (new_board p) [] es
 
 -- ---- what is true of them
 

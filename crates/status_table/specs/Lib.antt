@@ -1,6 +1,5 @@
 pub mod Admissions
 pub mod Answers
-pub mod CallLaws
 pub mod Calls
 pub mod Change
 pub mod Ends
@@ -10,7 +9,6 @@ pub mod Groups
 pub mod InPlay
 pub mod Kinds
 pub mod Lawful
-pub mod Laws
 pub mod Members
 pub mod Moves
 pub mod Play

@@ -31,10 +31,10 @@ use board_decisions::derived::{
     is_closed, is_failure, is_full, is_untaken, jobs_have_ended, needs_have_ended, run_result,
 };
 use board_decisions::kept::Kept;
-use board_places::place::{SeenJob, SeenLeg, SeenRun, find_job, find_leg, find_run};
+use board_places::place::{SeenJob, SeenLeg, find_job, find_leg, find_run};
 use flow_model::{
-    Answer, Board, DoneStep, JobState, LegState, Mapping, Member, Outcome, Plan, Reply, RunState,
-    StepCall, StepPlan, ValueFault, What,
+    Answer, Board, DoneStep, JobState, LegState, Mapping, Outcome, Plan, Reply, RunState, StepCall,
+    StepPlan, ValueFault, What,
 };
 use std::alloc::{AllocError, Global};
 

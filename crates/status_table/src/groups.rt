@@ -14,7 +14,7 @@ ghost use Rattle.status_table.specs.Shape.{HasFewLegs};
 
 use crate::fault::EventFault;
 use crate::members::{
-    Role, admit, close_run, delay, drop_leg, find_member, note_end, pass_on, put_out, stop,
+    Role, admit, close_run, delay, drop_leg, find_member, note_end, put_out, stop,
 };
 use board_decisions::entrance::Entrance;
 use flow_model::{

@@ -5,11 +5,12 @@
 //! board answers each event by its row, that a refusal changes nothing, and that the plan was
 //! accepted and the board has its shape; the trait `Reversible` promises besides that an entry can
 //! be taken back. `PlainBoard` is the plain body of both, and `run_entries` plays a list of entries
-//! on any table, up to the first that is refused. `laws` and `board_laws` have what holds of every
-//! legal list. Who holds a concurrency group, who waits for it, and what comes of entering and
-//! leaving one, is in `specs/Groups.antt`; what a clerk may do, in `specs/Moves.antt`; what is true
-//! of each board in play, in `specs/Lawful.antt`. `call_laws` has what holds of each call that a
-//! step makes, and `admission_laws` that a board shows what the map of `group_admission` keeps.
+//! on any table, up to the first that is refused. `laws` has where the numbers stand, and `board_laws`
+//! how long a legal list can be; the other laws of the table are those of `play_laws`. Who holds a
+//! concurrency group, who waits for it, and what comes of entering and leaving one, is in
+//! `specs/Groups.antt`; what a clerk may do, in `specs/Moves.antt`; what is true of each board in
+//! play, in `specs/Lawful.antt`; and what an event asks of the groups that `group_admission` keeps by
+//! name, in `specs/Admissions.antt` and `specs/Grouped.antt`.
 //!
 //! What stands at a number, what follows from a board, and what the texts of the
 //! plan decide are words of `board_decisions` (`Place`, `Derived`, `Ancestors`,
@@ -17,9 +18,7 @@
 
 #![tactic(auto)]
 
-pub mod admission_laws;
 pub mod board_laws;
-pub mod call_laws;
 pub mod change;
 pub mod events;
 pub mod fault;

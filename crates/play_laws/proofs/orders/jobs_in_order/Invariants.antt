@@ -1,6 +1,6 @@
 use Rattle.std.proofs.Common.{take}
 use Rattle.flow_model.specs.Sound.{Each}
-use Rattle.status_table.specs.CallLaws.{JobInOrder}
+use Rattle.play_laws.specs.CallLaws.{JobInOrder}
 use Rattle.play_laws.proofs.orders.jobs_in_order.Given as goal
 
 -- the jobs so far do

@@ -1,6 +1,6 @@
 use Rattle.std.proofs.Common.{subst}
 use Rattle.flow_model.specs.Sound.{Each}
-use Rattle.status_table.specs.CallLaws.{RunInOrder}
+use Rattle.play_laws.specs.CallLaws.{RunInOrder}
 use Rattle.play_laws.proofs.orders.maps_are_in_order.Goals as goal
 
 pub returns : goal.returns

@@ -1,6 +1,6 @@
 use Rattle.std.proofs.Common.{subst}
 use Rattle.flow_model.specs.Sound.{Each}
-use Rattle.status_table.specs.CallLaws.{JobInOrder}
+use Rattle.play_laws.specs.CallLaws.{JobInOrder}
 use Rattle.play_laws.proofs.orders.run_in_order.Goals as goal
 
 pub returns : goal.returns

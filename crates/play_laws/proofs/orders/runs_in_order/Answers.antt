@@ -1,4 +1,4 @@
-use Rattle.status_table.specs.CallLaws.{RunInOrder}
+use Rattle.play_laws.specs.CallLaws.{RunInOrder}
 use Rattle.play_laws.proofs.Each.{each_all, each_more}
 use Rattle.play_laws.proofs.orders.runs_in_order.Goals as goal
 

@@ -1,6 +1,6 @@
 use Rattle.std.proofs.Common.{take}
 use Rattle.flow_model.specs.Sound.{Each}
-use Rattle.status_table.specs.CallLaws.{RunInOrder}
+use Rattle.play_laws.specs.CallLaws.{RunInOrder}
 use Rattle.play_laws.proofs.orders.runs_in_order.Given as goal
 
 -- the runs so far do

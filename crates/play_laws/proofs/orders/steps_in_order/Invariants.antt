@@ -1,6 +1,6 @@
 use Rattle.std.proofs.Common.{take}
 use Rattle.flow_model.specs.Sound.{Each}
-use Rattle.status_table.specs.CallLaws.{StepInOrder}
+use Rattle.play_laws.specs.CallLaws.{StepInOrder}
 use Rattle.play_laws.proofs.orders.steps_in_order.Given as goal
 
 -- the steps so far do

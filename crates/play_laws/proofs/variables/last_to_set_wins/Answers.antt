@@ -1,5 +1,5 @@
 use Rattle.std.proofs.Common.{subst, sym}
-use Rattle.status_table.specs.CallLaws.{SetInOrder}
+use Rattle.play_laws.specs.CallLaws.{SetInOrder}
 use Rattle.play_laws.proofs.variables.last_to_set_wins.Goals as goal
 
 pub returns : goal.returns

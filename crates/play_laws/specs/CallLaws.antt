@@ -1,5 +1,5 @@
 -- Laws of the call that a step makes: the variables that it is given, and the inputs of its action.
-use Rattle.std.specs.Prelude.{◌≡◌, ℕ, List, [], ◌∷◌, Option, Some, None, Ok, Err}
+use Rattle.std.specs.Prelude.{◌≡◌, ℕ, List, [], ◌∷◌, Option, Some, None, Ok}
 use Rattle.board_decisions.specs.Decisions.{seen_from, set_over}
 use Rattle.board_places.specs.Place.{LegAt, leg_at}
 use Rattle.flow_model.specs.Mapping.{value_at, Ascends}
@@ -16,9 +16,8 @@ use Rattle.flow_model.specs.declared.plan.Work.TheVariants as work
 use Rattle.flow_model.specs.declared.reply.CallWork.{CallWork}
 use Rattle.flow_model.specs.declared.reply.CallWork.TheVariants as call_work
 use Rattle.flow_model.specs.declared.reply.StepCall.{StepCall}
-use Rattle.flow_model.specs.declared.reply.What.{What}
-use Rattle.flow_model.specs.declared.reply.What.TheVariants as what
-use Rattle.status_table.specs.Row.{Row, row, next_step}
+use Rattle.status_table.specs.Calls.{IfCalled}
+use Rattle.status_table.specs.Row.{row, next_step}
 use Rattle.text_values.specs.Env.{env_value, laid_over, or_below}
 use Rattle.text_values.specs.Values.{Env}
 use Rattle.text_values.specs.declared.place.Place.TheVariants as place
@@ -48,20 +47,6 @@ pub record RunInOrder (run : RunPlan) : Type 0 where
 -- those of each run do
 abbrev pub PlanInOrder : Plan → Type 0
 PlanInOrder p = Each RunInOrder p.runs
-
--- ---- the call that an answer carries
-
--- If a call is carried, P holds of it.
-abbrev pub IfCall : (StepCall → Type 0) → What → Type 0
-IfCall P what.Moved = Unit {0}
-IfCall P (what.Call call) = P call
-IfCall P what.Skipped = Unit {0}
-IfCall P (what.Faulted fault) = Unit {0}
-
--- If a row is accepted with a reply that carries a call, P holds of it.
-abbrev pub IfCalled : (StepCall → Type 0) → Row → Type 0
-IfCalled P (Ok x) = IfCall P x.1.what
-IfCalled P (Err refusal) = Unit {0}
 
 -- ---- laws
 

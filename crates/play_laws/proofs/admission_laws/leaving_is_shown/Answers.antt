@@ -1,5 +1,5 @@
 use Rattle.status_table.proofs.Shown.{closes_as_left, drops_as_left, finishes_as_left}
-use Rattle.status_table.proofs.admission_laws.leaving_is_shown.Goals as goal
+use Rattle.play_laws.proofs.admission_laws.leaving_is_shown.Goals as goal
 
 pub returns-clause-close : goal.returns-clause-close
 returns-clause-close c = closes_as_left c.releasing_passes_on.ensures c.withdrawing_leaves_the_holder.ensures

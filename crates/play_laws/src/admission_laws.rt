@@ -7,8 +7,9 @@ ghost use Rattle.flow_model.specs.declared.event.Answer.{Answer};
 ghost use Rattle.flow_model.specs.declared.event.Entry.{Entry};
 ghost use Rattle.flow_model.specs.declared.event.Event.TheVariants as event;
 ghost use Rattle.flow_model.specs.declared.plan.Plan.{Plan};
+ghost use Rattle.play_laws.specs.Grouped.{groups_after};
 ghost use Rattle.status_table.specs.Admissions.{AsksAsEntered, ClosesAsLeft, DropsAsLeft, FinishesAsLeft, OpensAsEntered, StaysShown};
-ghost use Rattle.status_table.specs.Grouped.{groups_after, EntersFromOutside, KeptAsShown};
+ghost use Rattle.status_table.specs.Grouped.{EntersFromOutside, KeptAsShown};
 ghost use Rattle.status_table.specs.Runs.{after};
 
 use flow_model::laws::rules_hold;

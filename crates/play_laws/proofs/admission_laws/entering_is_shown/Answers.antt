@@ -1,5 +1,5 @@
 use Rattle.status_table.proofs.Shown.{opens_as_entered, asks_as_entered}
-use Rattle.status_table.proofs.admission_laws.entering_is_shown.Goals as goal
+use Rattle.play_laws.proofs.admission_laws.entering_is_shown.Goals as goal
 
 pub returns-clause-open : goal.returns-clause-open
 returns-clause-open c =

@@ -1,5 +1,5 @@
-use Rattle.status_table.proofs.Called.{calls_are_in_order, calls_are_most_specific}
-use Rattle.status_table.proofs.call_laws.calls_are_in_order.Goals as goal
+use Rattle.play_laws.proofs.Called.{calls_are_in_order, calls_are_most_specific}
+use Rattle.play_laws.proofs.call_laws.calls_are_in_order.Goals as goal
 
 pub returns-clause-order : goal.returns-clause-order
 returns-clause-order c = calls_are_in_order c.env_has_its_names.ensures c.levels_stay_in_order.ensures

@@ -1,5 +1,5 @@
-use Rattle.status_table.proofs.Grouped.{legal_kept, legal_outside}
-use Rattle.status_table.proofs.admission_laws.legal_lists_are_shown.Goals as goal
+use Rattle.play_laws.proofs.Grouped.{legal_kept, legal_outside}
+use Rattle.play_laws.proofs.admission_laws.legal_lists_are_shown.Goals as goal
 
 pub returns-clause-kept : goal.returns-clause-kept
 returns-clause-kept c =

@@ -1,5 +1,5 @@
 use Rattle.status_table.proofs.Still.{judge_shows, take_shows, begin_shows, end_shows, cancel_shows}
-use Rattle.status_table.proofs.admission_laws.others_ask_nothing.Goals as goal
+use Rattle.play_laws.proofs.admission_laws.others_ask_nothing.Goals as goal
 
 pub returns-clause-judge : goal.returns-clause-judge
 returns-clause-judge c = judge_shows

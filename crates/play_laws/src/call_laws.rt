@@ -1,6 +1,6 @@
 //! Laws of the call that a step makes, each a clause of a function that does nothing.
 
-ghost use Rattle.status_table.specs.CallLaws.{CallsAreInOrder, CallsAreMostSpecific};
+ghost use Rattle.play_laws.specs.CallLaws.{CallsAreInOrder, CallsAreMostSpecific};
 
 use text_values::{env_has_its_names, levels_stay_in_order, most_specific_wins};
 

@@ -17,7 +17,8 @@ use Rattle.flow_model.specs.declared.reply.CallWork.TheVariants as call_work
 use Rattle.flow_model.specs.declared.reply.StepCall.{StepCall}
 use Rattle.flow_model.specs.declared.reply.ValueFault.{ValueFault}
 use Rattle.status_table.specs.declared.fault.EventFault.TheVariants as fault
-use Rattle.status_table.specs.CallLaws.{last_set, SetInOrder, StepInOrder, WorkInOrder, PlanInOrder, IfCalled, AskedInOrder, CallInOrder, CallsAreInOrder, MostSpecificIsGiven, CallsAreMostSpecific}
+use Rattle.play_laws.specs.CallLaws.{last_set, SetInOrder, StepInOrder, WorkInOrder, PlanInOrder, AskedInOrder, CallInOrder, CallsAreInOrder, MostSpecificIsGiven, CallsAreMostSpecific}
+use Rattle.status_table.specs.Calls.{IfCalled}
 use Rattle.status_table.specs.Row.{decided, next_step, idle_owner, beginning_by, begin_leg, begin_found}
 use Rattle.text_values.specs.Env.{env_value, laid_over, or_below}
 use Rattle.text_values.specs.Laws.{EnvHasItsNames, LevelsStayInOrder, MostSpecificWins}

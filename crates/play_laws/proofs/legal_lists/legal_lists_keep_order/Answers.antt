@@ -1,5 +1,5 @@
 use Rattle.status_table.proofs.Legal.{after_fits}
-use Rattle.status_table.proofs.laws.legal_lists_keep_order.Goals as goal
+use Rattle.play_laws.proofs.legal_lists.legal_lists_keep_order.Goals as goal
 
 pub returns-clause-shape : goal.returns-clause-shape
 returns-clause-shape c = λ p es b h. (after_fits p es b h).shape
