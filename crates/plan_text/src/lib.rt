@@ -10,6 +10,7 @@
 #![tactic(auto)]
 
 mod board;
+mod brief;
 mod digits;
 mod entry;
 mod fault;
@@ -24,4 +25,5 @@ pub use board::board_text;
 pub use entry::{print_entry, read_entry};
 pub use fault::LoadFault;
 pub use plan::{load_plan, print_plan};
+pub use printed::read_first;
 pub use record::{load_record, print_record};
