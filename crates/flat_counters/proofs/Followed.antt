@@ -17,12 +17,14 @@ use Rattle.flat_counters.specs.Failing.{failing_of}
 use Rattle.flat_counters.specs.Lasting.{IsLasting}
 use Rattle.flat_counters.specs.Names.{IsGroup, IsNamed, RunComesNamed}
 use Rattle.flat_counters.specs.Standing.{run_moved, run_tally, standing_in, standing_read}
+use Rattle.flat_counters.specs.Stopping.{run_legs}
 use Rattle.flat_counters.specs.declared.change.RunChange.{RunChange}
 use Rattle.flat_counters.specs.declared.counts.Counts.{Counts}
 use Rattle.flat_counters.specs.declared.lasting.Lasting.{Lasting}
 use Rattle.flat_counters.specs.declared.need.Need.{Need}
 use Rattle.flat_counters.specs.declared.standing.JobStanding.{JobStanding}
 use Rattle.flat_counters.specs.declared.standing.RunTally.{RunTally}
+use Rattle.flat_counters.specs.declared.stopping.RunLegs.{RunLegs}
 use Rattle.flat_counters.specs.declared.tally.Tally.{Tally}
 use Rattle.flat_counters.proofs.Failings.{job_failing_kept, run_failing_kept}
 use Rattle.flat_counters.proofs.Lists.{changed-same}
@@ -31,6 +33,7 @@ use Rattle.flat_counters.proofs.Needs.{needs_follow, needs-kept, settled_in}
 use Rattle.board_places.specs.Places.{run_sizes}
 use Rattle.flat_counters.proofs.Placed.{leg_sizes, job_sizes, run_sizes_kept, still_lasts}
 use Rattle.flat_counters.proofs.Standings.{moved_alike, read_before, read_in, run_tallies_kept, runs_follow, standing_settles}
+use Rattle.flat_counters.proofs.Stops.{job_told_kept, run_told_kept}
 use Rattle.flat_counters.proofs.Tallies.{ComesSo, alike_tallies, job_tallies, moved_same, run_tallies, tallied_so}
 use Rattle.status_table.specs.Change.{changed, with_run, with_job, with_leg}
 
@@ -40,6 +43,7 @@ pub alike_recounted : (place : LegPlace) (was is : LegState) (run : Option Run) 
 alike_recounted place was is run dependents counts alike = record {
   tallies = sym (alike_tallies place was is counts.tallies alike);
   runs = sym (changed-same counts.runs place.run (run_moved standing standing) (moved_alike standing));
+  legs = refl;
   needs = sym (stays standing.is_settled);
 }
   where
@@ -81,10 +85,11 @@ jobs-stand b new r j g was is old made stand runs was_is is_is made_is =
     ∙ runs_follow j g b.runs r
     ∙ ap (map run_tally) (sym runs)
 
--- the counts where a leg was changed
-pub leg_counts : (p : Plan) (b new : Board) (place : LegPlace) (f : Leg → Leg) (was is : LegState) (old made : Counts) (ls : Lasting) → AreCounts p b old → IsLasting p b ls → new ≡ with_leg b place f
-    → ComesSo b new place was is → LegRecounted place was is (slice_get new.runs place.run) ls.dependents old made → AreCounts p new made
-leg_counts p b new place f was is old made ls counted lasts new_is so again =
+-- the counts where a leg was changed, with those of the legs that are told to stop
+pub leg_counts : (p : Plan) (b new : Board) (place : LegPlace) (f : Leg → Leg) (was is : LegState) (old made : Counts) (legs : List RunLegs) (ls : Lasting) → AreCounts p b old → IsLasting p b ls
+    → new ≡ with_leg b place f → ComesSo b new place was is → LegRecounted place was is (slice_get new.runs place.run) ls.dependents old made → legs ≡ map run_legs new.runs
+    → AreCounts p new (record made { legs = legs })
+leg_counts p b new place f was is old made legs ls counted lasts new_is so again told =
     let g : Job → Job = λ job. record job { legs = changed job.legs place.leg f } in
     let runs : new.runs ≡ (with_leg b place f).runs = ap (λ (x : Board). x.runs) new_is in
     let tallied : made.tallies ≡ tallies_of new = again.tallies ∙ tallied_so b new place f was is old.tallies counted.tallied new_is so in
@@ -95,15 +100,16 @@ leg_counts p b new place f was is old made ls counted lasts new_is so again =
     record {
       tallied = tallied;
       stand = jobs-stand b new place.run place.job g _ _ old.runs made.runs counted.stand runs before after again.runs;
+      told = told;
       needed = job-needed p b new place.run place.job g _ _ ls old.needs made.needs lasts counted.needed runs before after again.needs;
     }
 
 -- all that is kept where a leg was changed
-pub leg_counted : (p : Plan) (b new : Board) (place : LegPlace) (f : Leg → Leg) (was is : LegState) (old made : Counts) (fs gs : List (List (List Bool))) (ls : Lasting)
+pub leg_counted : (p : Plan) (b new : Board) (place : LegPlace) (f : Leg → Leg) (was is : LegState) (old made : Counts) (legs : List RunLegs) (fs gs : List (List (List Bool))) (ls : Lasting)
     → IsCounted p b old fs ls → ((leg : Leg) → IsGroup leg.group → IsGroup (f leg).group) → new ≡ with_leg b place f → ComesSo b new place was is
-    → LegRecounted place was is (slice_get new.runs place.run) ls.dependents old made → gs ≡ failing_of new → IsCounted p new made gs ls
-leg_counted p b new place f was is old made fs gs ls counted names new_is so again failed = record {
-  counted = leg_counts p b new place f was is old made ls counted.counted counted.lasts new_is so again;
+    → LegRecounted place was is (slice_get new.runs place.run) ls.dependents old made → legs ≡ map run_legs new.runs → gs ≡ failing_of new → IsCounted p new (record made { legs = legs }) gs ls
+leg_counted p b new place f was is old made legs fs gs ls counted names new_is so again told failed = record {
+  counted = leg_counts p b new place f was is old made legs ls counted.counted counted.lasts new_is so again told;
   failed = failed;
   named = subst IsNamed (sym new_is) (leg_named b place f names counted.named);
   lasts = still_lasts p b new ls (ap (λ (x : Board). run_sizes x.runs) new_is ∙ leg_sizes b place f) counted.lasts;
@@ -113,9 +119,9 @@ leg_counted p b new place f was is old made fs gs ls counted names new_is so aga
 pub job_counted : (p : Plan) (b new : Board) (place : JobPlace) (state : JobState) (was is : JobStanding) (old made : Counts) (fs : List (List (List Bool))) (ls : Lasting)
     → IsCounted p b old fs ls → new ≡ with_job b place (λ job. record job { state = state })
     → was ≡ standing_read (slice_get b.runs place.run) (slice_get old.tallies place.run) place.job → is ≡ standing_read (slice_get new.runs place.run) (slice_get old.tallies place.run) place.job
-    → made.tallies ≡ old.tallies → made.runs ≡ changed old.runs place.run (run_moved was is)
+    → made.tallies ≡ old.tallies → made.legs ≡ old.legs → made.runs ≡ changed old.runs place.run (run_moved was is)
     → made.needs ≡ resettled was.is_settled is.is_settled place.run (dependents_at ls.dependents place) old.needs → IsCounted p new made fs ls
-job_counted p b new place state was is old made fs ls counted new_is was_is is_is tallies_is runs_is needs_is =
+job_counted p b new place state was is old made fs ls counted new_is was_is is_is tallies_is legs_is runs_is needs_is =
     let g : Job → Job = λ job. record job { state = state } in
     let runs : new.runs ≡ (with_job b place g).runs = ap (λ (x : Board). x.runs) new_is in
     let stay : old.tallies ≡ tallies_of new = counted.counted.tallied ∙ sym (job_tallies b place state) ∙ ap tallies_of (sym new_is) in
@@ -127,6 +133,7 @@ job_counted p b new place state was is old made fs ls counted new_is was_is is_i
       counted = record {
         tallied = tallies_is ∙ stay;
         stand = jobs-stand b new place.run place.job g was is old.runs made.runs counted.counted.stand runs before after runs_is;
+        told = legs_is ∙ counted.counted.told ∙ sym (job_told_kept b.runs place.run place.job g (λ job. refl) (λ job. refl)) ∙ ap (map run_legs) (sym runs);
         needed = job-needed p b new place.run place.job g was is ls old.needs made.needs counted.lasts counted.counted.needed runs before after needs_is;
       };
       failed = counted.failed ∙ sym (job_failing_kept b place state) ∙ ap failing_of (sym new_is);
@@ -141,6 +148,7 @@ run_counted p b new r how counts fs ls counted comes new_is = subst (λ (x : Boa
   counted = record {
     tallied = counted.counted.tallied ∙ sym (run_tallies b r (run_after how) (jobs_stay how));
     stand = counted.counted.stand ∙ sym (run_tallies_kept b.runs r (run_after how) (jobs_stay how));
+    told = counted.counted.told ∙ sym (run_told_kept b.runs r (run_after how) (jobs_stay how));
     needed = counted.counted.needed ∙ sym (needs-kept p.runs b.runs r (run_after how) (λ run at. ap settled (jobs_stay how run)));
   };
   failed = counted.failed ∙ sym (run_failing_kept b r (run_after how) (jobs_stay how));

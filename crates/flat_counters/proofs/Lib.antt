@@ -7,6 +7,7 @@ pub mod Named
 pub mod Needs
 pub mod Placed
 pub mod Standings
+pub mod Stops
 pub mod Tallies
 pub mod Turned
 pub mod Undone

@@ -1,7 +1,8 @@
 -- Lists with one item changed: what is made of each item, and how many pass a test.
-use Rattle.std.proofs.Common.{◌≡◌, ℕ, zero, suc, ◌+◌, ◌<◌, ◌≤◌, ◌||◌, Bool, true, false, List, [], ◌∷◌, ◌++◌, Some, None, length, map, take, drop, slice_get, slice_set, nat_lt, count_by, if◌then◌else◌, ap, subst, sym, refl, ◌∙◌, arith}
+use Rattle.std.proofs.Common.{◌≡◌, ℕ, zero, suc, ◌+◌, ◌<◌, ◌≤◌, ◌||◌, Bool, true, false, List, [], ◌∷◌, ◌++◌, Some, None, length, map, take, drop, get_or, slice_get, slice_set, nat_lt, count_by, if◌then◌else◌, append_assoc, ap, subst, sym, refl, ◌∙◌, arith}
 use Rattle.std.specs.List.{list_any}
 use Rattle.std.proofs.lemmas.Bool.Decides.{nat_tests}
+use Rattle.std.proofs.lemmas.List.{drop_more}
 use Rattle.std.proofs.lemmas.List.Sums.{sum_by-cons}
 use Rattle.flow_model.specs.Sound.{Each}
 use Rattle.flat_counters.specs.Counters.{turned}
@@ -31,6 +32,16 @@ map-twice {A} {B} {C} f g h (x ∷ xs) step = ap (λ (y : C). y ∷ map g (map f
 pub map-each : {A B : Type 0} (f g : A → B) (xs : List A) → ((x : A) → f x ≡ g x) → map f xs ≡ map g xs
 map-each f g [] step = refl
 map-each {A} {B} f g (x ∷ xs) step = ap (λ (y : B). y ∷ map f xs) (step x) ∙ ap (λ (ys : List B). g x ∷ ys) (map-each f g xs step)
+
+-- what is made of one item more of those that are gone through
+pub made-more : {A B : Type 0} (f : A → B) (xs : List A) (i : ℕ) (x : A) (y : B) (ys made : List B) → i < length xs → x ≡ get_or xs i x → y ≡ f x → made ≡ ys ++ y ∷ []
+    → ys ++ map f (drop i xs) ≡ map f xs → made ++ map f (drop (i + 1) xs) ≡ map f xs
+made-more {A} {B} f xs i x y ys made within is y_is made_is so_far =
+    ap (λ (zs : List B). zs ++ map f (drop (i + 1) xs)) made_is
+    ∙ append_assoc ys (y ∷ []) (map f (drop (i + 1) xs))
+    ∙ ap (λ (z : B). ys ++ z ∷ map f (drop (i + 1) xs)) (y_is ∙ ap f is)
+    ∙ ap (λ (zs : List A). ys ++ map f zs) (sym (drop_more xs i x within))
+    ∙ so_far
 
 -- where each item stays, nothing is changed
 pub changed-same : {T : Type 0} (xs : List T) (i : ℕ) (f : T → T) → ((x : T) → f x ≡ x) → changed xs i f ≡ xs

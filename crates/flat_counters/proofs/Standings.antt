@@ -1,5 +1,5 @@
 -- How jobs stand by their tallies, and the counts of a run's jobs after one was changed.
-use Rattle.std.proofs.Common.{◌≡◌, ℕ, ◌==◌, ◌||◌, ◌&&◌, Bool, true, List, [], ◌∷◌, Option, Some, None, map, option_map, slice_get, length, nat_lt, if◌then◌else◌, ap, sym, refl, ◌∙◌}
+use Rattle.std.proofs.Common.{◌≡◌, ℕ, ◌==◌, ◌||◌, ◌&&◌, Bool, true, false, List, [], ◌∷◌, Option, Some, None, map, option_map, slice_get, length, nat_lt, if◌then◌else◌, ap, sym, refl, ◌∙◌}
 use Rattle.std.specs.List.{list_all, list_any}
 use Rattle.std.proofs.lemmas.Bool.{true≢false}
 use Rattle.board_decisions.specs.Derived.{all_succeed, has_failed, holds, is_any_job_cancelled, is_any_job_failed, is_cancelled, is_failure, is_going, is_success, job_result, jobs_have_ended, legs_result, result_by, run_result, was_cancelled}
@@ -15,7 +15,7 @@ use Rattle.flow_model.specs.declared.board.RunState.TheVariants as run_state
 use Rattle.flow_model.specs.declared.event.Outcome.{Outcome}
 use Rattle.flow_model.specs.declared.event.Outcome.TheVariants as outcome
 use Rattle.flat_counters.specs.Counters.{is_settled, settled_jobs, tally_of, tallies_of, turned}
-use Rattle.flat_counters.specs.Standing.{counted_jobs, counts_job, no_standing, run_moved, run_tally, run_tally_there, standing_by, standing_given, standing_in, standing_of, standing_read, standing_there, tally_result, told_result}
+use Rattle.flat_counters.specs.Standing.{counted_jobs, counts_job, has_fresh, has_left, no_standing, run_moved, run_tally, run_tally_there, standing_by, standing_given, standing_in, standing_of, standing_read, standing_there, tally_result, told_result}
 use Rattle.flat_counters.specs.declared.standing.JobCounter.{JobCounter}
 use Rattle.flat_counters.specs.declared.standing.JobCounter.TheVariants as counter
 use Rattle.flat_counters.specs.declared.standing.JobStanding.{JobStanding}
@@ -38,8 +38,20 @@ by-tally job =
 
 by-state : (job : Job) (s : JobState) → standing_by s (tally_of job) ≡ standing_of (record job { state = s })
 by-state job (job_state.Shut how) = refl
-by-state job job_state.Open = λ i. record { is_settled = (tally_of job).pending == 0; result = by-tally job i }
-by-state job job_state.Unjudged = λ i. record { is_settled = (tally_of job).pending == 0; result = by-tally job i }
+by-state job job_state.Open = λ i. record {
+  is_settled = (tally_of job).pending == 0;
+  result = by-tally job i;
+  is_unjudged = false;
+  may_ask = has_fresh (tally_of job);
+  may_drop = has_left (tally_of job);
+}
+by-state job job_state.Unjudged = λ i. record {
+  is_settled = (tally_of job).pending == 0;
+  result = by-tally job i;
+  is_unjudged = true;
+  may_ask = false;
+  may_drop = false;
+}
 
 pub by_state : (job : Job) → standing_by job.state (tally_of job) ≡ standing_of job
 by_state job = by-state job job.state
@@ -101,6 +113,9 @@ moved_alike s t = λ i. record {
   failed = turned_same t.jobs t.failed (counts_job counter.Failed s) i;
   cancelled = turned_same t.jobs t.cancelled (counts_job counter.Cancelled s) i;
   unsuccessful = turned_same t.jobs t.unsuccessful (counts_job counter.Unsuccessful s) i;
+  unjudged = turned_same t.jobs t.unjudged (counts_job counter.Unjudged s) i;
+  asking = turned_same t.jobs t.asking (counts_job counter.Asking s) i;
+  dropping = turned_same t.jobs t.dropping (counts_job counter.Dropping s) i;
 }
 
 module _ (j : ℕ) (g : Job → Job) where
@@ -122,6 +137,9 @@ module _ (j : ℕ) (g : Job → Job) where
         failed = each counter.Failed i;
         cancelled = each counter.Cancelled i;
         unsuccessful = each counter.Unsuccessful i;
+        unjudged = each counter.Unjudged i;
+        asking = each counter.Asking i;
+        dropping = each counter.Dropping i;
       }) ∙ sym (λ i. run_moved (old i) (new i) (run_tally run))
     where
       each : (what : JobCounter) → counted_jobs what (changed run.jobs j g) ≡ turned (length run.jobs) (counted_jobs what run.jobs) (counts_job what (standing_of job)) (counts_job what (standing_of (g job)))
@@ -145,6 +163,9 @@ run_tallies_kept runs r f keeps = map-same run_tally runs r f (λ run at. ap cou
       failed = counted_jobs counter.Failed jobs;
       cancelled = counted_jobs counter.Cancelled jobs;
       unsuccessful = counted_jobs counter.Unsuccessful jobs;
+      unjudged = counted_jobs counter.Unjudged jobs;
+      asking = counted_jobs counter.Asking jobs;
+      dropping = counted_jobs counter.Dropping jobs;
     }
 
 -- ---- what they tell of a run that is Going
@@ -168,28 +189,32 @@ any-results : (run : Run) (t : Outcome → Bool) (jobs : List Job) → ((job : J
 any-results run t [] same = refl
 any-results run t (job ∷ jobs) same = (λ i. t (same job i) || list_any (λ x. t (standing_of x).result) jobs) ∙ ap (λ c. t (job_result run job) || c) (any-results run t jobs same)
 
+-- how the jobs of a run stand, by what is kept of it
+pub told_tally : (runs : List RunTally) (all : List Run) (r : ℕ) (run : Run) → runs ≡ map run_tally all → slice_get all r ≡ Some run → run_tally_there (slice_get runs r) ≡ run_tally run
+told_tally runs all r run stand at = ap (λ ts. run_tally_there (slice_get ts r)) stand ∙ ap run_tally_there (map-get run_tally all r run at)
+
 module _ (runs : List RunTally) (all : List Run) (r : ℕ) (run : Run) (stand : runs ≡ map run_tally all) (at : slice_get all r ≡ Some run) (going : is_going run.state ≡ true) where
-  pub told_tally : run_tally_there (slice_get runs r) ≡ run_tally run
-  told_tally = ap (λ ts. run_tally_there (slice_get ts r)) stand ∙ ap run_tally_there (map-get run_tally all r run at)
+  tally_is : run_tally_there (slice_get runs r) ≡ run_tally run
+  tally_is = told_tally runs all r run stand at
 
   pub told_ended : ((run_tally_there (slice_get runs r)).pending == 0) ≡ jobs_have_ended run
-  told_ended = ap (λ (t : RunTally). t.pending == 0) told_tally ∙ sym (all-counted (λ job. is_settled job) run.jobs) ∙ jobs_ended run going
+  told_ended = ap (λ (t : RunTally). t.pending == 0) tally_is ∙ sym (all-counted (λ job. is_settled job) run.jobs) ∙ jobs_ended run going
 
   pub told_succeed : ((run_tally_there (slice_get runs r)).unsuccessful == 0) ≡ all_succeed run
   told_succeed =
-      ap (λ (t : RunTally). t.unsuccessful == 0) told_tally
+      ap (λ (t : RunTally). t.unsuccessful == 0) tally_is
       ∙ sym (all-counted (λ job. is_success (standing_of job).result) run.jobs)
       ∙ all-results run is_success run.jobs (standing-result run going)
 
   told_failed : nat_lt 0 (run_tally_there (slice_get runs r)).failed ≡ is_any_job_failed run
   told_failed =
-      ap (λ (t : RunTally). nat_lt 0 t.failed) told_tally
+      ap (λ (t : RunTally). nat_lt 0 t.failed) tally_is
       ∙ sym (any-counted (λ job. is_failure (standing_of job).result) run.jobs)
       ∙ any-results run is_failure run.jobs (standing-result run going)
 
   told_cancelled : nat_lt 0 (run_tally_there (slice_get runs r)).cancelled ≡ is_any_job_cancelled run
   told_cancelled =
-      ap (λ (t : RunTally). nat_lt 0 t.cancelled) told_tally
+      ap (λ (t : RunTally). nat_lt 0 t.cancelled) tally_is
       ∙ sym (any-counted (λ job. is_cancelled (standing_of job).result) run.jobs)
       ∙ any-results run is_cancelled run.jobs (standing-result run going)
 

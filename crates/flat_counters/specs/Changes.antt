@@ -57,6 +57,13 @@ state_in (leg_change.Group state group) = state
 state_in (leg_change.Outputs state outputs) = state
 state_in (leg_change.Stop stop) = leg_state.Fresh
 
+-- the stop flag that is set in a leg; where another change leaves it as it is, one stands for it that stays unset
+abbrev pub stop_in : LegChange → Bool
+stop_in (leg_change.State state) = false
+stop_in (leg_change.Group state group) = false
+stop_in (leg_change.Outputs state outputs) = false
+stop_in (leg_change.Stop stop) = stop
+
 -- what a leg had of what is changed
 abbrev pub leg_before : LegChange → Leg → LegChange
 leg_before (leg_change.State state) leg = leg_change.State leg.state
@@ -127,6 +134,7 @@ standing_counted place run counts = standing_read run (slice_get counts.tallies 
 pub record LegRecounted (place : LegPlace) (was is : LegState) (run : Option Run) (dependents : List (List (List ℕ))) (old new : Counts) : Type 0 where
   pub tallies : new.tallies ≡ retallied place was is old.tallies
   pub runs : new.runs ≡ changed old.runs place.run (run_moved (standing_counted place run old) (standing_counted place run new))
+  pub legs : new.legs ≡ old.legs
   pub needs : new.needs ≡ resettled (standing_counted place run old).is_settled (standing_counted place run new).is_settled place.run (dependents_at dependents (job_of place)) old.needs
 
 -- A leg that was in a state, and has come into another, or is not there.

@@ -5,6 +5,7 @@ use Rattle.flat_counters.specs.Failing.{failing_of}
 use Rattle.flat_counters.specs.Names.{IsNamed}
 use Rattle.flat_counters.specs.Lasting.{IsLasting}
 use Rattle.flat_counters.specs.Standing.{run_tally}
+use Rattle.flat_counters.specs.Stopping.{run_legs}
 use Rattle.flat_counters.specs.declared.counts.Counts.{Counts}
 use Rattle.flat_counters.specs.declared.lasting.Lasting.{Lasting}
 use Rattle.flow_model.specs.declared.board.Board.{Board}
@@ -14,6 +15,7 @@ use Rattle.flow_model.specs.declared.plan.Plan.{Plan}
 pub record AreCounts (p : Plan) (b : Board) (counts : Counts) : Type 0 where
   pub tallied : counts.tallies ≡ tallies_of b
   pub stand : counts.runs ≡ map run_tally b.runs
+  pub told : counts.legs ≡ map run_legs b.runs
   pub needed : counts.needs ≡ needs_of p.runs b.runs
 
 -- So do which legs have a failed step and what stays, and the names on the board are such as a group may have.

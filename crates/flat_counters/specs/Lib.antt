@@ -6,5 +6,6 @@ pub mod Failing
 pub mod Lasting
 pub mod Names
 pub mod Standing
+pub mod Stopping
 pub mod Track
 pub mod Undo

@@ -47,6 +47,16 @@ pub(crate) fn state_in(how: &LegChange) -> LegState
     }
 }
 
+/// The stop flag that is set in a leg. Where another change leaves it as it is, one stands for it that stays unset.
+pub(crate) fn stop_in(how: &LegChange) -> bool
+    ensures { result ≡ spec.stop_in how.now }
+{
+    match how {
+        LegChange::State(_) | LegChange::Group(..) | LegChange::Outputs(..) => false,
+        LegChange::Stop(stop) => *stop,
+    }
+}
+
 /// Changes a leg, and gives what was there.
 fn exchange_leg(leg: &mut Leg, how: LegChange) -> LegChange
     ensures leg { leg.new ≡ spec.leg_after how leg.old }

@@ -4,12 +4,13 @@ ghost use Rattle.std.specs.Prelude.{◌≡◌, true, ℕ, None, Some, IfOk, OnOk
 ghost use Rattle.board_places.specs.Numbered.{job_there, leg_there};
 ghost use Rattle.flat_counters.specs.Changes as spec;
 ghost use Rattle.flat_counters.specs.Counters.{needs_none, needs_there, tally_of as tally_of_job, tally_there};
-ghost use Rattle.flat_counters.specs.Standing.{run_tally_there};
+ghost use Rattle.flat_counters.specs.Standing.{run_tally as run_tally_of, run_tally_there};
+ghost use Rattle.flat_counters.specs.Stopping.{run_legs as run_legs_of};
 ghost use Rattle.status_table.specs.Change.{with_leg, with_run};
 
 use crate::change::{
     LegChange, RunChange, exchange_leg_at, exchange_run_at, job_state_there, make_room, state_in,
-    take_step_at, without_last,
+    stop_in, take_step_at, without_last,
 };
 use crate::counts::{Counts, count_all, recount_job, recount_leg, standing_at};
 use crate::dependents::Dependents;
@@ -17,6 +18,7 @@ use crate::failing::{Failing, failing_at, note_done, note_taken, runs_failing};
 use crate::lasting::{Lasting, lasting_of, own_at, place_at};
 use crate::need::Need;
 use crate::standing::RunTally;
+use crate::stopping::{RunLegs, retell, run_legs_at};
 use crate::tally::{Tally, are_alike};
 use crate::undo::{Change, LegBack, RunBack};
 use board_decisions::derived::is_failure;
@@ -63,6 +65,9 @@ fn run_tally_at(runs: &[RunTally], place: usize) -> RunTally
             failed: 0,
             cancelled: 0,
             unsuccessful: 0,
+            unjudged: 0,
+            asking: 0,
+            dropping: 0,
         },
     }
 }
@@ -113,7 +118,7 @@ fn recount_to(
 /// A plan, how far it is, and what is counted of that.
 ///
 /// A job's legs are tallied as they change, and so are the jobs of a run; when one of these ends, it is counted off the
-/// needs of those that need it.
+/// needs of those that need it. The legs of a run that are told to stop are counted too.
 #[derive(Drop)]
 pub struct Counted {
     plan: CheckedPlan,
@@ -223,6 +228,22 @@ impl Counted {
         }
     }
 
+    /// How the jobs of the run at a place stand.
+    pub fn run_tally(&self, place: usize) -> RunTally
+        ensures { (run : RunOf)
+            → slice_get self.now.board.runs place ≡ Some run → result ≡ run_tally_of run }
+    {
+        run_tally_at(self.counts.runs.as_slice(), place)
+    }
+
+    /// How many legs the jobs of the run at a place have, and how many of them are told to stop.
+    pub fn run_legs(&self, place: usize) -> RunLegs
+        ensures { (run : RunOf)
+            → slice_get self.now.board.runs place ≡ Some run → result ≡ run_legs_of run }
+    {
+        run_legs_at(self.counts.legs.as_slice(), place)
+    }
+
     /// Whether no text of the variables of the job at a place and of its workflow is evaluated; where that isn't known,
     /// it is not said.
     pub fn has_own_env(&self, place: JobPlace) -> bool
@@ -249,6 +270,7 @@ impl Counted {
         ensures back { board_before result self.new.board ≡ self.old.board }
     {
         let is = state_in(&how);
+        let is_told = stop_in(&how);
         let how = exchange_leg_at(&mut self.board, place, how);
         recount_leg(
             &mut self.counts,
@@ -258,6 +280,7 @@ impl Counted {
             state_in(&how),
             is,
         );
+        retell(&mut self.counts.legs, place.run, stop_in(&how), is_told);
         Change::Leg(LegBack { place, how })
     }
 

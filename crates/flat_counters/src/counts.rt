@@ -1,16 +1,18 @@
 //! What is counted beside a board, and how it is counted again after a change.
 
-ghost use Rattle.std.specs.Prelude.{◌≡◌, IfOk, map, slice_get};
+ghost use Rattle.std.specs.Prelude.{◌≡◌, ◌≤◌, IfOk, map, slice_get, sum_by};
 ghost use Rattle.flat_counters.specs.Changes as spec;
 ghost use Rattle.flat_counters.specs.Counters.{needs_of as needs_of_runs, tally_of as tally_of_job};
 ghost use Rattle.flat_counters.specs.Dependents.{dependents_at as places_that_need};
 ghost use Rattle.flat_counters.specs.Standing.{run_moved as run_moved_of, run_tally as run_tally_of, standing_read};
+ghost use Rattle.flat_counters.specs.Stopping.{legs_of_jobs, untold_legs};
 ghost use Rattle.status_table.specs.Change.{changed};
 
 use crate::counted::job_of;
 use crate::dependents::{Dependents, dependents_at};
 use crate::need::{Need, needs_of, turn_needs};
 use crate::standing::{JobStanding, RunTally, no_standing, run_moved, standing_by, tally_run};
+use crate::stopping::{RunLegs, legs_of_each};
 use crate::tally::{Tally, are_alike, moved, tally_of};
 use board_places::place::{JobPlace, LegPlace};
 use flow_model::{Board, Job, LegState, Run, RunPlan, Sequence};
@@ -23,6 +25,8 @@ pub(crate) struct Counts {
     pub(crate) tallies: Sequence<Sequence<Tally>>,
     /// How the jobs of each run stand.
     pub(crate) runs: Sequence<RunTally>,
+    /// How many legs the jobs of each run have, and how many are told to stop.
+    pub(crate) legs: Sequence<RunLegs>,
     /// How many of the jobs that each job of each run needs are open.
     pub(crate) needs: Sequence<Sequence<Need>>,
 }
@@ -93,23 +97,27 @@ fn tally_each_run(
     Ok(Sequence::new(made))
 }
 
-/// What is counted beside runs of these plans.
+/// What is counted beside runs of these plans, no leg of which is told to stop.
 pub(crate) fn count_all(
     alloc: Global,
     plans: &[RunPlan],
     runs: &[Run],
 ) -> Result<Counts, AllocError>
+    requires { sum_by (λ run. legs_of_jobs run.jobs) runs.now ≤ 4096 }
     ensures tallies { IfOk result
         (λ made. made.tallies ≡ map (λ run. map tally_of_job run.jobs) runs.now) }
     ensures runs { IfOk result (λ made. made.runs ≡ map run_tally_of runs.now) }
+    ensures legs { IfOk result (λ made. made.legs ≡ map untold_legs runs.now) }
     ensures needs { IfOk result (λ made. made.needs ≡ needs_of_runs plans.now runs.now) }
 {
     let tallies = tally_runs(alloc, runs)?;
     let stand = tally_each_run(alloc, runs, tallies.as_slice())?;
+    let legs = legs_of_each(alloc, runs)?;
     let needs = needs_of_each(alloc, plans, runs, tallies.as_slice())?;
     Ok(Counts {
         tallies,
         runs: stand,
+        legs,
         needs,
     })
 }
@@ -202,6 +210,7 @@ pub(crate) fn recount_job(
     is: JobStanding,
 )
     ensures tallies { counts.new.tallies ≡ counts.old.tallies }
+    ensures legs { counts.new.legs ≡ counts.old.legs }
     ensures runs { counts.new.runs ≡ changed counts.old.runs place.run (run_moved_of was is) }
     ensures needs { counts.new.needs ≡ spec.resettled was.is_settled is.is_settled place.run
         (places_that_need dependents.now place) counts.old.needs }

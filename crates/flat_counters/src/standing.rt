@@ -15,6 +15,12 @@ pub(crate) struct JobStanding {
     pub(crate) is_settled: bool,
     /// Its result, where its run is Going.
     pub(crate) result: Outcome,
+    /// Whether it was not judged.
+    pub(crate) is_unjudged: bool,
+    /// Whether it is Open, and a leg of it is Fresh.
+    pub(crate) may_ask: bool,
+    /// Whether it is Open, and a leg of it has failed where another is not Ended.
+    pub(crate) may_drop: bool,
 }
 
 /// What is counted of the jobs of a run.
@@ -28,16 +34,33 @@ pub(crate) enum JobCounter {
     Cancelled,
     /// Those whose result is not success.
     Unsuccessful,
+    /// Those that were not judged.
+    Unjudged,
+    /// Those a leg of which may ask.
+    Asking,
+    /// Those a leg of which may be dropped since another has failed.
+    Dropping,
 }
 
 /// How many jobs a run has, and how many of them stand so.
 #[derive(Clone, Copy)]
-pub(crate) struct RunTally {
-    pub(crate) jobs: usize,
-    pub(crate) pending: usize,
-    pub(crate) failed: usize,
-    pub(crate) cancelled: usize,
-    pub(crate) unsuccessful: usize,
+pub struct RunTally {
+    /// All of them.
+    pub jobs: usize,
+    /// Those that have not ended by themselves.
+    pub pending: usize,
+    /// Those that failed.
+    pub failed: usize,
+    /// Those that were cancelled.
+    pub cancelled: usize,
+    /// Those whose result is not success.
+    pub unsuccessful: usize,
+    /// Those that were not judged.
+    pub unjudged: usize,
+    /// Those a leg of which may ask.
+    pub asking: usize,
+    /// Those a leg of which may be dropped since another has failed.
+    pub dropping: usize,
 }
 
 impl RunTally {
@@ -68,6 +91,20 @@ fn tally_result(tally: Tally) -> Outcome
     }
 }
 
+/// Whether a leg of those that are tallied is Fresh: more are not Ended than take a slot.
+fn has_fresh(tally: Tally) -> bool
+    ensures { result ≡ spec.has_fresh tally }
+{
+    tally.used < tally.pending
+}
+
+/// Whether one has failed, and one is not Ended.
+fn has_left(tally: Tally) -> bool
+    ensures { result ≡ spec.has_left tally }
+{
+    tally.failed > 0 && tally.pending > 0
+}
+
 /// How a job stands in a state, with a tally.
 pub(crate) fn standing_by(state: JobState, tally: Tally) -> JobStanding
     ensures { result ≡ spec.standing_by state tally }
@@ -76,10 +113,23 @@ pub(crate) fn standing_by(state: JobState, tally: Tally) -> JobStanding
         JobState::Shut(how) => JobStanding {
             is_settled: true,
             result: how,
+            is_unjudged: false,
+            may_ask: false,
+            may_drop: false,
         },
-        JobState::Open | JobState::Unjudged => JobStanding {
+        JobState::Open => JobStanding {
             is_settled: tally.pending == 0,
             result: tally_result(tally),
+            is_unjudged: false,
+            may_ask: has_fresh(tally),
+            may_drop: has_left(tally),
+        },
+        JobState::Unjudged => JobStanding {
+            is_settled: tally.pending == 0,
+            result: tally_result(tally),
+            is_unjudged: true,
+            may_ask: false,
+            may_drop: false,
         },
     }
 }
@@ -100,6 +150,9 @@ pub(crate) fn no_standing() -> JobStanding
     JobStanding {
         is_settled: false,
         result: Outcome::Success,
+        is_unjudged: false,
+        may_ask: false,
+        may_drop: false,
     }
 }
 
@@ -112,6 +165,9 @@ fn counts(counter: JobCounter, standing: JobStanding) -> bool
         JobCounter::Failed => is_failure(standing.result),
         JobCounter::Cancelled => is_cancelled(standing.result),
         JobCounter::Unsuccessful => !is_success(standing.result),
+        JobCounter::Unjudged => standing.is_unjudged,
+        JobCounter::Asking => standing.may_ask,
+        JobCounter::Dropping => standing.may_drop,
     }
 }
 
@@ -143,6 +199,9 @@ pub(crate) fn tally_run(run: &Run, tallies: &[Tally]) -> RunTally
         failed: count(JobCounter::Failed, run, tallies),
         cancelled: count(JobCounter::Cancelled, run, tallies),
         unsuccessful: count(JobCounter::Unsuccessful, run, tallies),
+        unjudged: count(JobCounter::Unjudged, run, tallies),
+        asking: count(JobCounter::Asking, run, tallies),
+        dropping: count(JobCounter::Dropping, run, tallies),
     }
 }
 
@@ -170,5 +229,8 @@ pub(crate) fn run_moved(tally: RunTally, was: JobStanding, is: JobStanding) -> R
         failed: turned_by(JobCounter::Failed, all, tally.failed, was, is),
         cancelled: turned_by(JobCounter::Cancelled, all, tally.cancelled, was, is),
         unsuccessful: turned_by(JobCounter::Unsuccessful, all, tally.unsuccessful, was, is),
+        unjudged: turned_by(JobCounter::Unjudged, all, tally.unjudged, was, is),
+        asking: turned_by(JobCounter::Asking, all, tally.asking, was, is),
+        dropping: turned_by(JobCounter::Dropping, all, tally.dropping, was, is),
     }
 }

@@ -3,6 +3,7 @@ use Rattle.flow_model.specs.declared.board.Leg.{Leg}
 use Rattle.flow_model.specs.declared.board.LegState.TheVariants as leg_state
 use Rattle.flat_counters.proofs.Failings.{failing_done}
 use Rattle.flat_counters.proofs.Followed.{leg_counted}
+use Rattle.flat_counters.proofs.Stops.{leg_told_kept}
 use Rattle.flat_counters.proofs.Tallies.{came_to, same_so}
 use Rattle.flat_counters.proofs.counted.Counted.add_done.Goals as goal
 use Rattle.flat_counters.proofs.Undone.{step_back}
@@ -17,8 +18,9 @@ pub invariant_of-self-2 : goal.invariant_of-self-2
 invariant_of-self-2 c =
     let done : Leg → Leg = λ leg. record leg { state = leg_state.Running c.args.worker false; steps = leg.steps ++ c.args.done ∷ [] } in
     leg_counted c.self.inside.plan c.self.inside.board c.add_step.new.board c.args.place done c.state_there-was.result _ c.self.inside.counts c.recount_to.new.counts
-    c.self.inside.failing c.note_done.new.failing c.self.inside.lasting c.self.invariant (λ leg h. h) c.in_ok-add_step.ensures.ok
+    c.recount_to.new.counts.legs c.self.inside.failing c.note_done.new.failing c.self.inside.lasting c.self.invariant (λ leg h. h) c.in_ok-add_step.ensures.ok
     (same_so c.self.inside.board c.add_step.new.board c.args.place c.state_there-was.result _ c.state_there-was.ensures refl) c.recount_to.ensures
+    (leg_told_kept c.self.inside.board c.add_step.new.board c.args.place done c.self.inside.counts.legs c.recount_to.new.counts.legs c.self.invariant.counted.told c.in_ok-add_step.ensures.ok (λ leg. refl) c.recount_to.ensures.legs)
     (failing_done c.self.inside.board c.add_step.new.board c.args.place c.args.worker c.args.done c.is_failure-failed.result c.self.inside.failing c.note_done.new.failing c.self.invariant.failed
     c.in_ok-add_step.ensures.ok c.is_failure-failed.ensures c.note_done.ensures)
 

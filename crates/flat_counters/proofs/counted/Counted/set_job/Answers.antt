@@ -11,7 +11,7 @@ invariant_of-self c =
     c.self.inside.failing c.self.inside.lasting c.self.invariant c.set_job_state.ensures
     (c.standing_at-before.ensures ∙ ap (λ ts. standing_read (slice_get c.self.inside.board.runs c.args.place.run) (slice_get ts c.args.place.run) c.args.place.job) c.as_slice.ensures)
     (c.standing_at-after.ensures ∙ ap (λ ts. standing_read (slice_get c.set_job_state.new.board.runs c.args.place.run) (slice_get ts c.args.place.run) c.args.place.job) c.as_slice-2.ensures)
-    c.recount_job.ensures.tallies c.recount_job.ensures.runs c.recount_job.ensures.needs
+    c.recount_job.ensures.tallies c.recount_job.ensures.legs c.recount_job.ensures.runs c.recount_job.ensures.needs
 
 pub returns-clause-back : goal.returns-clause-back
 returns-clause-back c =
