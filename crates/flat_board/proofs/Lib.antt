@@ -12,3 +12,5 @@ pub mod Names
 pub mod PassedOver
 pub mod Playing
 pub mod Reached
+pub mod RunNumbers
+pub mod RunPassedOver

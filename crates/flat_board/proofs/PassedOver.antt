@@ -55,7 +55,7 @@ module _ where
       let later = slots-left xs in
       omega (arith, a, b, here, later)
 
-  fresh-left : (legs : List Leg) (i : ℕ) (leg : Leg) → slice_get legs i ≡ Some leg → is_fresh leg.state ≡ true → slots legs < left legs
+  pub fresh-left : (legs : List Leg) (i : ℕ) (leg : Leg) → slice_get legs i ≡ Some leg → is_fresh leg.state ≡ true → slots legs < left legs
   fresh-left [] i leg at fresh = absurd (no_some leg at)
   fresh-left (x ∷ xs) zero leg at fresh =
       let a = sum_by-cons (λ (y : Leg). one (takes_slot y.state)) x xs in
@@ -77,7 +77,7 @@ untaken-one leg_state.Admitted h = refl
 untaken-one (leg_state.Running worker in_call) h = absurd (true≢false (sym h))
 untaken-one (leg_state.Ended result tolerated) h = absurd (true≢false (sym h))
 
-untaken-left : (legs : List Leg) (i : ℕ) (leg : Leg) → slice_get legs i ≡ Some leg → is_untaken leg.state ≡ true → 0 < left legs
+pub untaken-left : (legs : List Leg) (i : ℕ) (leg : Leg) → slice_get legs i ≡ Some leg → is_untaken leg.state ≡ true → 0 < left legs
 untaken-left [] i leg at h = absurd (no_some leg at)
 untaken-left (x ∷ xs) zero leg at h =
     let b = sum_by-cons (λ (y : Leg). one (not (is_ended y.state))) x xs in

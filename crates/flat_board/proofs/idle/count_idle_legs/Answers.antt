@@ -1,0 +1,19 @@
+use Rattle.std.proofs.Common.{rules, ◌≡◌, ◌<◌, List, Some, true, length, slice_get, ap, refl, subst, sym, ◌∙◌}
+use Rattle.std.proofs.lemmas.Option.{slice_get_read}
+use Rattle.flat_board.specs.Idle.{is_run_idle}
+use Rattle.flat_board.proofs.RunPassedOver.{idle_run}
+use Rattle.flow_model.specs.declared.board.Board.{Board}
+use Rattle.flow_model.specs.declared.board.Run.{Run}
+use Rattle.flat_board.proofs.idle.count_idle_legs.Goals as goal
+use Rattle.flat_counters.specs.declared.stopping.RunLegs.{RunLegs}
+
+pub returns-in-Some-get : goal.returns-in-Some-get
+returns-in-Some-get c =
+    let there : slice_get c.args.state.now.board.runs c.in-Some.place.run ≡ Some c.in-Some-get.run'.now =
+    ap (λ (b : Board). slice_get b.runs c.in-Some.place.run) (sym c.board.ensures.board) ∙ ap (λ (runs : List Run). slice_get runs c.in-Some.place.run) (sym c.as_slice.ensures) ∙ slice_get_read c.as_slice.result.now (length c.as_slice.result.now) c.in-Some.place.run c.in-Some-get.run'.now refl c.in-Some-get.ensures.lookup.3.0 c.in-Some-get.ensures.lookup.1 in
+    let job : c.in-Some.place.job ≡ 0 = search rules in
+    let leg : c.in-Some.place.leg ≡ 0 = search rules in
+    let idle : is_run_idle c.args.kind c.in-Some-get.run'.now ≡ true = search rules in
+    λ i within.
+    idle_run c.args.state.now.plan c.args.state.now.board c.args.kind c.args.number c.in-Some.place c.in-Some-get.run'.now (sym c.in-Some.ensures) there job leg idle i
+    (subst (λ (t : RunLegs). i < t.all) (c.run_legs.ensures c.in-Some-get.run'.now there) within)
