@@ -1,5 +1,5 @@
 -- What a job comes to that is settled on a board: the result and the outputs that it shows are those that are settled.
-use Rattle.std.proofs.Common.{◌≡◌, ℕ, ◌&&◌, ◌||◌, Bool, true, false, not, List, [], ◌∷◌, Option, Some, None, option_map, length, map, slice_get, ap, subst, sym, refl, ◌∙◌}
+use Rattle.std.proofs.Common.{◌≡◌, ℕ, ◌&&◌, ◌||◌, Bool, true, false, not, List, [], ◌∷◌, Option, Some, option_map, map, slice_get, ap, sym, refl, ◌∙◌}
 use Rattle.std.specs.List.{list_any, AllZip}
 use Rattle.std.proofs.lemmas.Bool.{true≢false}
 use Rattle.board_decisions.specs.Contexts.{overlaid, job_outputs}

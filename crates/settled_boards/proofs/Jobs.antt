@@ -1,11 +1,10 @@
 -- A job and its legs on a board beside what is settled of them.
-use Rattle.std.proofs.Common.{◌≡◌, ◌↔◌, ℕ, suc, ◌+◌, ◌<◌, Bool, true, false, List, [], ◌∷◌, Option, Result, Ok, Err, length, drop, slice_get, if◌then◌else◌, ap, subst, sym, refl, ◌∙◌, arith}
+use Rattle.std.proofs.Common.{◌≡◌, ◌↔◌, ℕ, suc, ◌+◌, ◌<◌, Bool, true, false, List, ◌∷◌, Result, Ok, Err, length, drop, if◌then◌else◌, ap, subst, sym, refl, ◌∙◌, arith}
 use Rattle.std.specs.List.{AllZip}
 use Rattle.board_decisions.specs.Contexts.{needs_value}
 use Rattle.board_decisions.specs.Decisions.{job_condition}
 use Rattle.board_decisions.specs.Derived.{job_status, ancestors_status, job_results}
 use Rattle.board_places.specs.Place.{JobAt}
-use Rattle.expr_value.specs.declared.status.Status.{Status}
 use Rattle.expr_value.specs.declared.status.Status.TheVariants as status
 use Rattle.flow_model.specs.Plain.{Plain}
 use Rattle.flow_model.specs.declared.board.Job.{Job}
@@ -20,7 +19,7 @@ use Rattle.flow_model.specs.declared.reply.ValueFault.{ValueFault}
 use Rattle.settled_boards.specs.Alone.{SeesSettled, IsOpened}
 use Rattle.settled_boards.proofs.Steps.{item}
 use Rattle.settled_plans.specs.Agrees.{LegIsSettled, JobIsSettled}
-use Rattle.settled_plans.specs.Settled.{Answers, SettledLeg, SettledJob, unsettled, shut, opened, spot_at, leg_settled, legs_from, legs_settled, needs_of, needs_given, status_after, condition_after, judged, job_settled}
+use Rattle.settled_plans.specs.Settled.{Answers, SettledLeg, SettledJob, unsettled, shut, opened, spot_at, leg_settled, legs_from, legs_settled, needs_of, status_after, condition_after, judged, job_settled}
 use Rattle.status_table.specs.Row.{judged_state}
 use Rattle.settled_plans.proofs.Seen.{job_condition_is}
 use Rattle.status_table.proofs.Standings.{drop_at}

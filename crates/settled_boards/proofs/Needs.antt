@@ -1,10 +1,10 @@
 -- What a job looks at once all jobs before it are settled: its context `needs` and its status are as settled.
 use Rattle.std.proofs.Common.{◌≡◌, ℕ, zero, suc, ◌-◌, ◌<◌, ◌≤◌, ◌||◌, Bool, true, not, List, [], ◌∷◌, Option, Some, None, option_map, length, map, take, slice_get, nat_lt, is_some, ap, sym, ◌∙◌, refl, arith}
-use Rattle.std.specs.List.{list_all, list_any, AllZip}
+use Rattle.std.specs.List.{list_all, list_any}
 use Rattle.std.proofs.lemmas.Bool.{leb-true}
 use Rattle.std.proofs.lemmas.List.{length-take-le, length-map}
 use Rattle.std.proofs.lemmas.Option.{slice_get-map, slice_get_within}
-use Rattle.board_decisions.specs.Contexts.{object, needed_job, need_pair, needs_value, job_outputs}
+use Rattle.board_decisions.specs.Contexts.{object, needed_job, need_pair, needs_value}
 use Rattle.board_decisions.specs.Derived.{is_success, is_failure, holds, holds_at, places_needed, some_ancestor, any_ancestor, status_by, ancestors_status, job_result, job_results}
 use Rattle.board_places.specs.Place.{JobAt}
 use Rattle.flow_model.specs.Plain.{Plain}
@@ -15,7 +15,7 @@ use Rattle.flow_model.specs.declared.event.Outcome.{Outcome}
 use Rattle.flow_model.specs.declared.plan.JobPlan.{JobPlan}
 use Rattle.flow_model.specs.declared.plan.RunPlan.{RunPlan}
 use Rattle.settled_boards.specs.Alone.{SeesSettled}
-use Rattle.settled_plans.specs.Settled.{SettledJob, all_given, result_of, outputs_of_job, first_in_run, need_at, needs_of, has_result, result_passes, needs_given, status_after}
+use Rattle.settled_plans.specs.Settled.{SettledJob, all_given, result_of, first_in_run, need_at, needs_of, has_result, result_passes, needs_given, status_after}
 use Rattle.text_values.specs.Env.{laid_over}
 use Rattle.settled_boards.proofs.Comes.{JobComes}
 use Rattle.settled_plans.proofs.Lists.{get-take, all-by, any-where, any-map, map-filter_map, filter_map-where}

@@ -1,7 +1,6 @@
 -- The outputs of a job on a board whose legs stand among the ends in the order of their numbers.
-use Rattle.std.proofs.Common.{◌≡◌, ℕ, zero, suc, ◌+◌, ◌<◌, ◌≤◌, ◌==◌, ◌&&◌, Bool, true, false, List, [], ◌∷◌, ◌++◌, Option, Some, None, option_map, length, map, cond, slice_get, if◌then◌else◌, ap, sym, refl, ◌∙◌, arith}
+use Rattle.std.proofs.Common.{◌≡◌, ℕ, zero, suc, ◌+◌, ◌<◌, ◌≤◌, ◌==◌, ◌&&◌, Bool, true, false, List, [], ◌∷◌, ◌++◌, Option, Some, None, option_map, length, map, slice_get, if◌then◌else◌, ap, sym, refl, ◌∙◌, arith}
 use Rattle.std.specs.List.{filter, filter_map, flat_map, cons_option}
-use Rattle.std.proofs.lemmas.Bool.{true≢false}
 use Rattle.std.proofs.lemmas.Bool.Decides.{nat_tests}
 use Rattle.std.proofs.lemmas.List.Elements.{filter-append}
 use Rattle.std.proofs.lemmas.Option.{slice_get_within}
@@ -10,7 +9,6 @@ use Rattle.board_decisions.specs.Derived.{holds, is_ended}
 use Rattle.board_places.specs.Numbered.{leg_there, numbered_leg}
 use Rattle.board_places.specs.Place.{◌>>=◌, leg_place}
 use Rattle.board_places.specs.declared.place.JobPlace.{JobPlace}
-use Rattle.board_places.specs.declared.place.LegPlace.{LegPlace}
 use Rattle.flow_model.specs.Numbers.{board_legs}
 use Rattle.flow_model.specs.declared.board.Board.{Board}
 use Rattle.flow_model.specs.declared.board.Job.{Job}
@@ -20,9 +18,8 @@ use Rattle.flow_model.specs.declared.plan.Plan.{Plan}
 use Rattle.flow_model.specs.declared.plan.RunPlan.{RunPlan}
 use Rattle.settled_boards.specs.Quiet.{numbers, has_ended_at, ended_in_order, quiet_run}
 use Rattle.settled_plans.proofs.Numbers.{before_run, before_job, leg_spot, number_at, place_at}
-use Rattle.settled_plans.proofs.Outputs.{IsOfJob, is_of_job}
+use Rattle.settled_plans.proofs.Outputs.{is_of_job}
 use Rattle.status_table.specs.Shape.{HasShape}
-use Rattle.board_places.proofs.Lists.{same_some, no_some}
 use Rattle.status_table.proofs.Numbers.{legs_are_numbered}
 
 -- ---- numbers in their order

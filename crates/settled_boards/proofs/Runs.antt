@@ -1,5 +1,5 @@
 -- A run on a quiet board beside what is settled of it.
-use Rattle.std.proofs.Common.{◌≡◌, ◌↔◌, ℕ, zero, suc, ◌+◌, ◌-◌, ◌<◌, ◌≤◌, ◌&&◌, ◌||◌, Bool, true, false, List, [], ◌∷◌, ◌++◌, Option, Some, None, option_map, length, map, take, drop, slice_get, nat_le, nat_lt, IsTrue, ap, subst, sym, refl, ◌∙◌, arith}
+use Rattle.std.proofs.Common.{◌≡◌, ◌↔◌, ℕ, zero, suc, ◌+◌, ◌-◌, ◌<◌, ◌≤◌, ◌&&◌, ◌||◌, Bool, true, false, List, [], ◌∷◌, ◌++◌, Some, option_map, length, map, take, drop, slice_get, nat_le, nat_lt, IsTrue, ap, subst, sym, refl, ◌∙◌, arith}
 use Rattle.std.specs.List.{list_all, list_any, flat_map, AllZip}
 use Rattle.std.proofs.lemmas.Bool.{true≢false, le-leb}
 use Rattle.std.proofs.lemmas.List.{length-append}
@@ -14,20 +14,18 @@ use Rattle.flow_model.specs.Sound.{Each}
 use Rattle.flow_model.specs.declared.board.Board.{Board}
 use Rattle.flow_model.specs.declared.board.Job.{Job}
 use Rattle.flow_model.specs.declared.board.Run.{Run}
-use Rattle.flow_model.specs.declared.board.RunState.{RunState}
 use Rattle.flow_model.specs.declared.board.RunState.TheVariants as run_state
-use Rattle.flow_model.specs.declared.event.Outcome.{Outcome}
 use Rattle.flow_model.specs.declared.plan.JobPlan.{JobPlan}
 use Rattle.flow_model.specs.declared.plan.Plan.{Plan}
 use Rattle.flow_model.specs.declared.plan.RunPlan.{RunPlan}
 use Rattle.settled_boards.specs.Alone.{SeesSettled, JobsAreSettled}
 use Rattle.settled_boards.specs.Quiet.{quiet_run}
-use Rattle.settled_boards.specs.Runs.{IsQuiet, RunStands}
+use Rattle.settled_boards.specs.Runs.{RunStands}
 use Rattle.settled_boards.proofs.Comes.{job_comes}
 use Rattle.settled_boards.proofs.Needs.{ComesAt, sees_settled, each_result}
 use Rattle.settled_boards.proofs.Steps.{item}
 use Rattle.settled_plans.specs.Agrees.{JobIsSettled, RunIsSettled}
-use Rattle.settled_plans.specs.Settled.{Answers, SettledJob, SettledRun, all_given, worst, result_of, jobs_come_to, job_settled, run_after, run_settled, leg_count, runs_from}
+use Rattle.settled_plans.specs.Settled.{Answers, SettledJob, SettledRun, worst, jobs_come_to, job_settled, run_settled, leg_count, runs_from}
 use Rattle.status_table.specs.Lawful.{JobFits, RunFits}
 use Rattle.status_table.specs.Shape.{JobShape, RunShape}
 use Rattle.board_places.proofs.Lists.{and-both}

@@ -2,7 +2,6 @@
 use Rattle.std.proofs.Common.{◌≡◌, ◌↔◌, ℕ, zero, suc, ◌+◌, ◌<◌, ◌≤◌, ◌==◌, ◌&&◌, ◌||◌, Bool, true, false, not, List, [], ◌∷◌, ◌++◌, Option, Some, None, Result, Ok, Err, option_map, length, drop, slice_get, if◌then◌else◌, ap, sym, subst, refl, ◌∙◌, arith}
 use Rattle.std.specs.List.{list_any}
 use Rattle.std.proofs.lemmas.Bool.Decides.{nat_tests}
-use Rattle.board_decisions.specs.Contexts.{needs_value}
 use Rattle.board_decisions.specs.Decisions.{is_true, job_condition, is_stopping, leg_result, step_decision, job_tolerates, leg_outputs}
 use Rattle.board_decisions.specs.Derived.{is_failure, has_failed}
 use Rattle.board_places.specs.Place.{JobAt, LegAt}
@@ -20,8 +19,8 @@ use Rattle.board_decisions.specs.Contexts.{job_of}
 use Rattle.settled_boards.specs.Alone.{leg_on, planned, IsAlone, IsIdle, EndsAs, step_comes, next_comes, StepsCome}
 use Rattle.settled_plans.specs.Agrees.{LegIsSettled}
 use Rattle.settled_plans.specs.Sees.{Spot}
-use Rattle.settled_plans.specs.Settled.{Answers, Finish, SettledLeg, counts, concludes, answered, ends_so, step_by, next_call, next_done, steps_then, steps_from, finish_of, leg_after, leg_settled}
-use Rattle.status_table.specs.Row.{next_step, failure_of, conclusion_of, failed_step, answered_step, outcome_of, outputs_of, set_by}
+use Rattle.settled_plans.specs.Settled.{Answers, Finish, SettledLeg, counts, concludes, answered, ends_so, step_by, next_done, steps_then, steps_from, finish_of, leg_after, leg_settled}
+use Rattle.status_table.specs.Row.{next_step, failure_of, conclusion_of, answered_step, outcome_of, outputs_of, set_by}
 use Rattle.text_values.specs.Values.{Env}
 use Rattle.settled_plans.proofs.Seen.{spot_of, call_is, failure_is, tolerated_is, outputs_are}
 use Rattle.board_places.proofs.Lists.{same_some, no_some}

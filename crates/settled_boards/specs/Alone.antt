@@ -1,5 +1,5 @@
 -- What a job and its legs come to by themselves, on a board that shows what was settled before.
-use Rattle.std.specs.Prelude.{◌≡◌, ◌≢◌, ℕ, ◌&&◌, false, true, Bool, List, [], length, take, Option, Some, None, Result, Ok, Err, option_map, if◌then◌else◌}
+use Rattle.std.specs.Prelude.{◌≡◌, ◌≢◌, ℕ, ◌&&◌, false, true, Bool, List, [], length, Option, Some, None, Result, Ok, Err, option_map}
 use Rattle.std.specs.List.{AllZip}
 use Rattle.board_decisions.specs.Contexts.{needs_value}
 use Rattle.board_decisions.specs.Decisions.{leg_result, step_decision, job_tolerates, leg_outputs}

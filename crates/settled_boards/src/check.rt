@@ -1,6 +1,6 @@
 //! Whether a board is all of what is settled.
 
-ghost use Rattle.std.specs.Prelude.{◌≡◌, ◌↔◌, IfOk, IsTrue};
+ghost use Rattle.std.specs.Prelude.{◌↔◌, IfOk, IsTrue};
 ghost use Rattle.settled_boards.specs.Alone.{ByAnswers};
 ghost use Rattle.settled_boards.specs.Runs.{IsQuiet};
 ghost use Rattle.settled_plans.specs.Agrees.{IsSettled};

@@ -1,10 +1,9 @@
-use Rattle.std.proofs.Common.{◌≡◌, ◌↔◌, IsTrue, false, List, map, refl, subst, sym}
+use Rattle.std.proofs.Common.{◌≡◌, ◌↔◌, IsTrue, false, List, refl, subst, sym}
 use Rattle.std.specs.List.{AllZip}
 use Rattle.std.proofs.lemmas.Result.{IfOk-weaker}
 use Rattle.flow_model.specs.Sound.{Each}
 use Rattle.flow_model.specs.declared.board.Run.{Run}
 use Rattle.flow_model.specs.declared.plan.Plan.{Plan}
-use Rattle.settled_boards.specs.Quiet.{quiet_run}
 use Rattle.settled_boards.proofs.Runs.{zip-quiet, quiet_goes, quiet_settled}
 use Rattle.settled_plans.specs.Agrees.{RunIsSettled, IsSettled}
 use Rattle.settled_plans.specs.Settled.{settled}

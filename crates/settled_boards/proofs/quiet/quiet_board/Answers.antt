@@ -1,4 +1,4 @@
-use Rattle.std.proofs.Common.{ℕ, List, length, map, sum_by, ap, sym, ◌∙◌, arith}
+use Rattle.std.proofs.Common.{List, length, map, sum_by, ap, sym, ◌∙◌, arith}
 use Rattle.std.specs.List.{filter}
 use Rattle.flow_model.specs.declared.board.Board.{Board}
 use Rattle.flow_model.specs.declared.board.Leg.{Leg}
