@@ -1,8 +1,8 @@
 -- Which facts made a fact so: what is asked next where something is asked. The board after a record keeps what has ended
 -- as it was, and so tells it of all but what the notes say.
-use Rattle.std.specs.Prelude.{ℕ, zero, suc, ◌+◌, ◌-◌, ◌++◌, ◌==◌, ◌&&◌, Bool, true, false, not, List, [], ◌∷◌, length, map, replicate, Option, Some, None, slice_get, if◌then◌else◌}
+use Rattle.std.specs.Prelude.{ℕ, suc, ◌+◌, ◌-◌, ◌++◌, ◌==◌, ◌&&◌, Bool, true, false, not, List, [], ◌∷◌, length, map, Option, Some, None, slice_get, if◌then◌else◌}
 use Rattle.board_decisions.specs.Contexts.{first_number}
-use Rattle.board_decisions.specs.Derived.{has_failed, holds_at, is_cancelled, is_ended, is_failure, is_full, is_going, is_open, is_success, is_under_way, job_has_ended, job_result, legs_result, was_cancelled}
+use Rattle.board_decisions.specs.Derived.{has_failed, holds_at, is_cancelled, is_ended, is_failure, is_full, is_going, is_open, is_under_way, job_has_ended, job_result, legs_result, was_cancelled}
 use Rattle.board_places.specs.Place.{RunAt, JobAt, LegAt, run_at, job_at, leg_at}
 use Rattle.board_causes.specs.declared.question.Question.{Question}
 use Rattle.board_causes.specs.declared.question.Question.TheVariants as question

@@ -12,7 +12,6 @@ use Rattle.board_facts.specs.declared.fact.MemberFact.{MemberFact}
 use Rattle.board_facts.specs.declared.fact.MemberFact.TheVariants as member_fact
 use Rattle.board_facts.specs.declared.fact.Teller.TheVariants as teller
 use Rattle.board_notes.specs.Changes as causes
-use Rattle.board_notes.specs.Changes.{changes}
 use Rattle.board_notes.specs.Laws.{ChangesNameWhomTheRowNames, NameTheSame, admits, loses, or_else, when}
 use Rattle.flow_model.specs.declared.board.Board.{Board}
 use Rattle.flow_model.specs.declared.board.DoneStep.{DoneStep}
@@ -34,7 +33,7 @@ use Rattle.flow_model.specs.declared.reply.ValueFault.{ValueFault}
 use Rattle.status_table.specs.Groups as groups
 use Rattle.status_table.specs.Groups.{holder, is_own, leg_standing, moved, next_after, run_standing, stop_told, told, waiter}
 use Rattle.status_table.specs.Row as table
-use Rattle.status_table.specs.Row.{Row, Beginning, calls, skips, faults, beginning, event_row, finishing, judgement, may_ask, may_drop, next_step}
+use Rattle.status_table.specs.Row.{Row, Beginning, calls, skips, faults, beginning, finishing, judgement, may_ask, may_drop, next_step}
 use Rattle.status_table.specs.declared.fault.EventFault.{EventFault}
 use Rattle.status_table.specs.declared.fault.EventFault.TheVariants as fault
 

@@ -6,7 +6,7 @@ ghost use Rattle.std.specs.Prelude.{◌≡◌, ◌∷◌, [], Bool, IfOk, OnOk, 
 ghost use Rattle.board_decisions.specs.Decisions as decisions;
 ghost use Rattle.board_decisions.specs.Derived as derived;
 ghost use Rattle.board_places.specs.Place.{job_at, leg_at, run_at};
-ghost use Rattle.board_places.specs.Seen.{job_seen, leg_seen, run_seen};
+ghost use Rattle.board_places.specs.Seen.{job_seen, leg_seen};
 ghost use Rattle.board_decisions.specs.Ancestors.{StandsAfterNeeds};
 ghost use Rattle.board_decisions.specs.declared.entrance.Entrance.{Entrance as EntranceOf};
 ghost use Rattle.board_facts.specs.Adds.{Adds};
@@ -33,7 +33,7 @@ use board_facts::fact::{Change, JobFact, MemberFact, StepFact, Teller};
 use board_facts::failures::first_failure;
 use board_facts::queueing::{add_fact, add_queued};
 use board_facts::stopping::cause_of_stop;
-use board_places::place::{SeenJob, SeenLeg, SeenRun, find_job, find_leg, find_run, item_at};
+use board_places::place::{SeenJob, SeenLeg, find_job, find_leg, find_run, item_at};
 use expr_value::Status;
 use flat_board::FlatBoard;
 use flow_model::{

@@ -7,9 +7,6 @@ ghost use Rattle.board_places.specs.Seen.{leg_seen};
 ghost use Rattle.board_notes.specs.Conditions as causes;
 ghost use Rattle.expr_value.specs.Answer.{Gives};
 ghost use Rattle.text_values.specs.Known.{IsKnownOf, known_env};
-ghost use Rattle.text_values.specs.Texts.{condition_value};
-ghost use Rattle.text_values.specs.Values.{contexts_at, with_env};
-ghost use Rattle.text_values.specs.declared.place.Place.TheVariants as place;
 
 use board_decisions::decisions::leg_result;
 use board_decisions::scene::LegScene;

@@ -54,9 +54,9 @@ use Rattle.flow_model.specs.declared.reply.ValueFault.{ValueFault}
 use Rattle.status_table.specs.declared.fault.EventFault.{EventFault}
 use Rattle.status_table.specs.declared.fault.EventFault.TheVariants as fault
 use Rattle.status_table.specs.Change.{changed, with_job, with_leg, with_numbered_leg}
-use Rattle.status_table.specs.Groups.{Standing, apart, holding, waiting, cancelled, closed, displaced, dropped, holder, is_own, leaves, leg_standing, moved, next_after, passed_on, run_standing, stopped, waiter, waits}
+use Rattle.status_table.specs.Groups.{closed, leg_standing, moved, next_after, run_standing, stopped}
 use Rattle.status_table.specs.Groups as groups
-use Rattle.status_table.specs.Row.{Row, Beginning, beginning_by, decided, event_row, next_step}
+use Rattle.status_table.specs.Row.{Row, beginning_by, decided, event_row, next_step}
 use Rattle.status_table.specs.Row as table
 use Rattle.cause_laws.proofs.Agreeing.{called_agrees, closed_agrees, ends_agree, judged_agrees, member_agrees, step_agrees, told_agrees}
 use Rattle.cause_laws.proofs.Members.{Exists, Quiet, any_leg, any_run, closed_quiet, closed_there, job_quiet, kept, leg_clash, leg_in, quiet_change, quiet_runs, run_clash, run_in, same_runs, stopped_others, stopped_there, untold_run}

@@ -15,7 +15,6 @@ use Rattle.board_facts.specs.declared.fact.MemberFact.TheVariants as member_fact
 use Rattle.board_facts.specs.declared.fact.Teller.TheVariants as teller
 use Rattle.board_facts.specs.declared.notes.Notes.{Notes}
 use Rattle.board_notes.specs.Changes as causes
-use Rattle.board_notes.specs.Changes.{changes}
 use Rattle.cause_laws.specs.Agrees.{Agrees}
 use Rattle.cause_laws.specs.Becomes.{Becomes}
 use Rattle.cause_laws.specs.Stands.{Has, LegIs, MemberStands, RunIs}
@@ -33,9 +32,8 @@ use Rattle.flow_model.specs.declared.plan.Plan.{Plan}
 use Rattle.flow_model.specs.declared.reply.Reply.{Reply}
 use Rattle.flow_model.specs.declared.reply.ValueFault.{ValueFault}
 use Rattle.status_table.specs.declared.fault.EventFault.TheVariants as fault
-use Rattle.status_table.specs.Groups.{Standing, apart, holding, waiting, cancelled, closed, displaced, dropped, holder, is_own, leaves, leg_standing, moved, next_after, passed_on, run_standing, stopped, waiter, waits}
+use Rattle.status_table.specs.Groups.{Standing, apart, holding, waiting, cancelled, closed, displaced, dropped, holder, is_own, leaves, leg_standing, moved, next_after, passed_on, stopped, waiter, waits}
 use Rattle.status_table.specs.Groups as groups
-use Rattle.status_table.specs.Row.{Row, Beginning, beginning_by, decided, event_row, next_step}
 use Rattle.status_table.specs.Row as table
 use Rattle.board_places.proofs.Lists.{and-right}
 use Rattle.cause_laws.proofs.Agreeing.{admitted_agrees, closed_agrees, displaced_agrees, dropped_agrees, passed_agrees, told_agrees, waits_agrees}

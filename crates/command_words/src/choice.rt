@@ -1,6 +1,6 @@
 //! The choice that words make of workflows.
 
-ghost use Rattle.std.specs.Prelude.{◌≡◌, option_copied};
+ghost use Rattle.std.specs.Prelude.{option_copied};
 ghost use Rattle.plan_assembler.specs.declared.choice.Choice.TheVariants.{Event, Job};
 ghost use Rattle.command_words.specs.Choosing as spec;
 

@@ -13,7 +13,7 @@
 //!
 //! A refusal is told by its fault; that of an End with the call and the answer that came back, which is held again.
 
-ghost use Rattle.std.specs.Prelude.{◌≡◌, ◌≤◌, IsTrue, IfOk, vec_len};
+ghost use Rattle.std.specs.Prelude.{◌≡◌, ◌≤◌, IsTrue, IfOk};
 ghost use Rattle.locked_board.specs.Course.{IsPosted};
 ghost use Rattle.status_table.specs.Runs.{new_board};
 

@@ -1,6 +1,6 @@
 //! Which verbs there are.
 
-use crate::{board_calls, host_calls, pool_calls, text_calls, ticket_calls};
+use crate::{board_calls, host_calls, pool_calls, ticket_calls};
 use case_reader::Page;
 use std::sync::Wait;
 use std::thread::Threads;

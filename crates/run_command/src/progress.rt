@@ -1,6 +1,6 @@
 //! What is told of steps as they are played: a line for each that starts and ends.
 
-ghost use Rattle.std.specs.Prelude.{◌≡◌, ◌++◌, IfOk, OnOk, codes, decimal, string_bytes};
+ghost use Rattle.std.specs.Prelude.{◌≡◌, ◌++◌, IfOk, OnOk, codes, string_bytes};
 ghost use Rattle.program_texts.specs.Mask.{masked};
 ghost use Rattle.run_command.specs.Progress as spec;
 

@@ -1,6 +1,6 @@
 //! The programs that stand for actions.
 
-ghost use Rattle.std.specs.Prelude.{◌≡◌, []};
+ghost use Rattle.std.specs.Prelude.{[]};
 ghost use Rattle.serde_json.specs.View.{view as json_view, members_view};
 ghost use Rattle.command_io.specs.Contexts.{Gives};
 ghost use Rattle.run_command.specs.Stubs as spec;

@@ -34,7 +34,7 @@ use Rattle.status_table.specs.declared.fault.EventFault.TheVariants as fault
 use Rattle.status_table.specs.Change.{with_leg}
 use Rattle.status_table.specs.Groups.{run_standing, leg_standing, closed, dropped, stopped, moved, leaves}
 use Rattle.status_table.specs.Row as rows
-use Rattle.status_table.specs.Row.{Row, Beginning, calls, skips, faults, job_state_set, leg_state_set, step_done, skipped_step, failed_step, decided}
+use Rattle.status_table.specs.Row.{Row, leg_state_set, step_done, skipped_step, failed_step, decided}
 use Rattle.board_places.proofs.Lists.{and-right}
 use Rattle.status_table.proofs.Decided.{by_test}
 use Rattle.status_table.proofs.Found.{leg_stands, leg_item}

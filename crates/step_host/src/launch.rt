@@ -1,6 +1,6 @@
 //! How the program of a step is started: its words, its variables and its folder.
 
-ghost use Rattle.std.specs.Prelude.{◌≡◌, [], ◌∷◌, IfOk, codes};
+ghost use Rattle.std.specs.Prelude.{◌≡◌, [], ◌∷◌, IfOk};
 ghost use Rattle.program_texts.specs.PairFiles.{with_pairs};
 ghost use Rattle.step_host.specs.Program as spec;
 

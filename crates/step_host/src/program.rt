@@ -1,6 +1,6 @@
 //! The host that starts programs.
 
-ghost use Rattle.std.specs.Prelude.{◌≡◌, ◌↔◌, IfOk, IfErr, true};
+ghost use Rattle.std.specs.Prelude.{◌≡◌, ◌↔◌, IfOk, true};
 ghost use Rattle.flow_model.specs.Answer.{is_well_formed};
 ghost use Rattle.flow_model.specs.declared.event.Answer.{Answer};
 ghost use Rattle.flow_model.specs.declared.reply.StepCall.{StepCall};

@@ -1,6 +1,6 @@
 //! `actrun timeline`: a record, as a picture.
 
-ghost use Rattle.std.specs.Prelude.{◌≡◌, ◌+◌, IfOk, length};
+ghost use Rattle.std.specs.Prelude.{◌≡◌, ◌+◌, IfOk};
 ghost use Rattle.command_io.specs.Records.{GivesDrawing};
 ghost use Rattle.timeline_command.specs.Timeline as spec;
 ghost use Rattle.timeline_command.specs.Timeline.{GivesDrawn, GivesNoted, ShowsTimeline, TimelineTells};
