@@ -1,6 +1,6 @@
 //! What a member makes so that has to wait for its group.
 
-ghost use Rattle.std.specs.Prelude.{◌≡◌, ◌∷◌, [], OnOk};
+ghost use Rattle.std.specs.Prelude.{◌∷◌, [], OnOk};
 ghost use Rattle.board_facts.specs.Adds.{Adds};
 ghost use Rattle.board_facts.specs.Queues as spec;
 

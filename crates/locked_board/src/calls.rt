@@ -1,6 +1,6 @@
 //! The calls that are open, each of another leg.
 
-ghost use Rattle.std.specs.Prelude.{◌≡◌, ◌≤◌, ◌<◌, ◌+◌, ◌↔◌, IsTrue, Some, vec_len, vec_capacity};
+ghost use Rattle.std.specs.Prelude.{◌≡◌, ◌≤◌, ◌<◌, ◌↔◌, IsTrue, Some, vec_len, vec_capacity};
 ghost use Rattle.locked_board.specs.OpenCalls.{call_of, with_call, without};
 
 use crate::same::is_same_call;

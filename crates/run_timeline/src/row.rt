@@ -1,10 +1,10 @@
 //! A row of the picture: what was noted of a run, a job or a leg.
 
-ghost use Rattle.std.specs.Prelude.{◌≡◌, ◌++◌, IfOk, OnOk, length};
+ghost use Rattle.std.specs.Prelude.{◌≡◌, ◌++◌, OnOk};
 ghost use Rattle.run_timeline.specs.Rows as spec;
 
 use crate::phase::{Moment, Phase};
-use flow_model::{Job, RunPlan, Sequence};
+use flow_model::Sequence;
 use std::alloc::{AllocError, Global};
 
 /// What was noted of a run, a job or a leg.

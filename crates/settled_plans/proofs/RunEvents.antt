@@ -28,7 +28,6 @@ use Rattle.flow_model.specs.declared.reply.ValueFault.{ValueFault}
 use Rattle.settled_plans.specs.Settled.{Answers, SettledLeg, SettledJob, unsettled, worst, jobs_come_to, needs_of, status_after, condition_after, judged, legs_settled, job_settled, run_after}
 use Rattle.status_table.specs.declared.fault.EventFault.TheVariants as fault
 use Rattle.status_table.specs.Groups.{holding, run_stands, run_standing, closed, admitted, moved, leaves}
-use Rattle.status_table.specs.Row.{Row}
 use Rattle.status_table.specs.Row as rows
 use Rattle.status_table.proofs.Found.{RunStands, JobStands, run_stands as run_found, job_stands as job_found}
 use Rattle.board_places.proofs.Lists.{same_some}

@@ -1,5 +1,5 @@
 -- What a board shows of a place is what is seen by the plan, the needs and the steps that are done.
-use Rattle.std.proofs.Common.{◌≡◌, ℕ, ◌&&◌, Some, [], length, ap, refl, ◌∙◌}
+use Rattle.std.proofs.Common.{◌≡◌, ℕ, ◌&&◌, Some, [], ap, refl, ◌∙◌}
 use Rattle.board_decisions.specs.Contexts.{run_values, job_values, needs_value, job_of, strategy_value, matrix_value, steps_value, leg_values_by}
 use Rattle.board_decisions.specs.Decisions.{job_condition, leg_result, leg_status, leg_values, seen_from, flow_env, job_env, leg_env, step_env, step_decision, step_tolerates, job_tolerates, leg_outputs, status_of}
 use Rattle.board_decisions.specs.Derived.{is_failure}
