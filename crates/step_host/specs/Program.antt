@@ -71,28 +71,27 @@ abbrev pub file_variables : List ℕ → StepCall → List Pair
 file_variables work call =
     (codes "GITHUB_OUTPUT", out_file work call) ∷ (codes "GITHUB_ENV", env_file work call) ∷ []
 
--- The variables of a program: those of the base, over them those of the call, then its inputs, and last its files.
-abbrev pub variables : List ℕ → List Pair → StepCall → List Pair → List Pair
-variables work base call given =
-    with_pairs (with_pairs (with_pairs base call.env) (inputs_of given)) (file_variables work call)
+-- The variables that a program has over those of the base: those of the call, over them its inputs, and last its files.
+abbrev pub variables : List ℕ → StepCall → List Pair → List Pair
+variables work call given = with_pairs (with_pairs call.env (inputs_of given)) (file_variables work call)
 
 -- ---- what is started
 
 -- A script is started by the words of a shell, in its folder, without inputs.
-abbrev pub script_launch : List ℕ → List Pair → StepCall → Shell → Option (List ℕ) → Launch
-script_launch work base call shell dir =
+abbrev pub script_launch : List ℕ → StepCall → Shell → Option (List ℕ) → Launch
+script_launch work call shell dir =
     record {
       words = words shell (script_file work call);
-      variables = variables work base call [];
+      variables = variables work call [];
       folder = folder_of work dir;
     }
 
 -- A stub is started without arguments, in the work folder, with the inputs that the step gives.
-abbrev pub stub_launch : List ℕ → List Pair → StepCall → List ℕ → List Pair → Launch
-stub_launch work base call program given =
+abbrev pub stub_launch : List ℕ → StepCall → List ℕ → List Pair → Launch
+stub_launch work call program given =
     record {
       words = program ∷ [];
-      variables = variables work base call given;
+      variables = variables work call given;
       folder = work;
     }
 
@@ -112,12 +111,13 @@ abbrev pub said_after : Option (Option (List ℕ)) → List ℕ → List Pair �
 said_after said name [] = said
 said_after said name (p ∷ pairs) = said_after (if bytes_eq name p.0 then Some (Some p.1) else said) name pairs
 
--- The command starts the program with these words, with these variables and no others, in this folder.
-pub record IsCommandOf (launch : Launch) (command : Command Global) : Type 0 where
+-- The command starts the program with these words, with the variables of the base, over them its own, and no others, in
+-- its folder.
+pub record IsCommandOf (base : List Pair) (launch : Launch) (command : Command Global) : Type 0 where
   pub program : command_program command ≡ first_word launch.words
   pub arguments : command_args command ≡ drop 1 launch.words
   pub alone : clears_env command ≡ true
-  pub variables : (name : List ℕ) → command_var command name ≡ said_after None name launch.variables
+  pub variables : (name : List ℕ) → command_var command name ≡ said_after (said_after None name base) name launch.variables
   pub folder : command_dir command ≡ Some launch.folder
 
 -- ---- how it ended

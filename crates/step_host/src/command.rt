@@ -87,13 +87,19 @@ fn bare_command(alloc: Global, program: &str, folder: &str) -> Result<Command, A
     Ok(command)
 }
 
-/// The command that starts a program.
-pub(crate) fn command_of(alloc: Global, launch: &Launch) -> Result<Command, AllocError>
-    ensures { IfOk result (λ c. spec.IsCommandOf launch.now c) }
+/// The command that starts a program over the variables of the base.
+pub(crate) fn command_of(
+    alloc: Global,
+    base: &Mapping<Text>,
+    launch: &Launch,
+) -> Result<Command, AllocError>
+    ensures { IfOk result (λ c. spec.IsCommandOf base.now launch.now c) }
 {
     let words = launch.words.as_slice();
+    let own = &launch.variables;
     let mut command = bare_command(alloc, first_word(words), launch.folder.as_str())?;
     add_arguments(&mut command, other_words(words))?;
-    set_variables(&mut command, &launch.variables)?;
+    set_variables(&mut command, base)?;
+    set_variables(&mut command, own)?;
     Ok(command)
 }

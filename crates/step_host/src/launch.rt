@@ -1,4 +1,4 @@
-//! How the program of a step is started: its words, its variables and its folder.
+//! How the program of a step is started: its words, its own variables and its folder.
 
 ghost use Rattle.std.specs.Prelude.{◌≡◌, [], ◌∷◌, IfOk};
 ghost use Rattle.program_texts.specs.PairFiles.{with_pairs};
@@ -10,7 +10,7 @@ use program_texts::shell_words;
 use std::alloc::{AllocError, Global};
 use std::fmt::Write;
 
-/// How a program is started: its words, its variables, and the folder in which it starts.
+/// How a program is started: its words, the variables that it has over those of the base, and the folder in which it starts.
 #[derive(Drop)]
 pub(crate) struct Launch {
     pub(crate) words: Sequence<Text>,
@@ -120,22 +120,6 @@ fn input_name(alloc: Global, name: &str) -> Result<Text, AllocError>
     Ok(Text::new(text))
 }
 
-/// Variables, with others set over them.
-fn laid_over(
-    alloc: Global,
-    under: Mapping<Text>,
-    over: &Mapping<Text>,
-) -> Result<Mapping<Text>, AllocError>
-    ensures { IfOk result (λ made. made ≡ with_pairs under over.now) }
-{
-    let from = over.iter();
-    let mut made = under;
-    for (name, value) in from {
-        made.set(alloc, name.as_str(), value.copy(alloc)?)?;
-    }
-    Ok(made)
-}
-
 /// Variables, with those of inputs set over them.
 fn with_inputs(
     alloc: Global,
@@ -151,18 +135,6 @@ fn with_inputs(
         made.insert(name, value.copy(alloc)?)?;
     }
     Ok(made)
-}
-
-/// The variables of the base, and over them those of a call.
-fn base_and_env(
-    alloc: Global,
-    base: &Mapping<Text>,
-    env: &Mapping<Text>,
-) -> Result<Mapping<Text>, AllocError>
-    ensures { IfOk result (λ made. made ≡ with_pairs base.now env.now) }
-{
-    let under = base.copy(alloc)?;
-    laid_over(alloc, under, env)
 }
 
 /// Sets the files of a call, over all other variables.
@@ -181,19 +153,16 @@ fn with_files(
     Ok(made)
 }
 
-/// The variables of a program.
+/// The variables that a program has over those of the base.
 fn variables_of(
     alloc: Global,
     work: &str,
-    base: &Mapping<Text>,
     call: &StepCall,
     given: &Mapping<Text>,
 ) -> Result<Mapping<Text>, AllocError>
-    ensures { IfOk result (λ made.
-        made ≡ spec.variables work.now base.now call.now given.now) }
+    ensures { IfOk result (λ made. made ≡ spec.variables work.now call.now given.now) }
 {
-    let under = base_and_env(alloc, base, &call.env)?;
-    let under = with_inputs(alloc, under, given)?;
+    let under = with_inputs(alloc, call.env.copy(alloc)?, given)?;
     with_files(alloc, under, work, call)
 }
 
@@ -201,16 +170,15 @@ fn variables_of(
 pub(crate) fn script_launch(
     alloc: Global,
     work: &str,
-    base: &Mapping<Text>,
     call: &StepCall,
     shell: Shell,
     dir: &Option<Text>,
 ) -> Result<Launch, AllocError>
     ensures { IfOk result (λ launch.
-        launch ≡ spec.script_launch work.now base.now call.now shell dir.now) }
+        launch ≡ spec.script_launch work.now call.now shell dir.now) }
 {
     let file = script_file(alloc, work, call)?;
-    let variables = variables_of(alloc, work, base, call, &Mapping::empty(alloc))?;
+    let variables = variables_of(alloc, work, call, &Mapping::empty(alloc))?;
     Ok(Launch {
         words: shell_words(alloc, shell, file.as_str())?,
         variables,
@@ -231,15 +199,14 @@ fn one_word(alloc: Global, word: &str) -> Result<Sequence<Text>, AllocError>
 pub(crate) fn stub_launch(
     alloc: Global,
     work: &str,
-    base: &Mapping<Text>,
     call: &StepCall,
     program: &str,
     given: &Mapping<Text>,
 ) -> Result<Launch, AllocError>
     ensures { IfOk result (λ launch.
-        launch ≡ spec.stub_launch work.now base.now call.now program.now given.now) }
+        launch ≡ spec.stub_launch work.now call.now program.now given.now) }
 {
-    let variables = variables_of(alloc, work, base, call, given)?;
+    let variables = variables_of(alloc, work, call, given)?;
     Ok(Launch {
         words: one_word(alloc, program)?,
         variables,

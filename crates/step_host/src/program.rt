@@ -66,15 +66,16 @@ struct Started<P: OpenProcess + Drop> {
 /// A program that was started, or why none was.
 type Start<P> = Result<Started<P>, Unstarted>;
 
-/// Starts a program with no input; what it prints goes into files.
+/// Starts a program over the variables of the base, with no input; what it prints goes into files.
 fn start<R: Processes>(
     alloc: Global,
     runtime: &R,
+    base: &Mapping<Text>,
     launch: &Launch,
     out: Printed<File>,
     err: Printed<File>,
 ) -> io::Result<Started<R::Started>> {
-    let mut command = command_of(alloc, launch)?;
+    let mut command = command_of(alloc, base, launch)?;
     command.stdin(Stdio::null()).stdout(out.0).stderr(err.0);
     Ok(Started {
         child: command.spawn(runtime)?,
@@ -162,7 +163,7 @@ impl<R: Processes + Files<File = File>> ProgramHost<R> {
     fn start_into(&self, launch: &Launch, out: &str, err: &str) -> io::Result<Started<R::Started>> {
         let out = printed_file(&self.runtime, out)?;
         let err = printed_file(&self.runtime, err)?;
-        start(self.alloc, &self.runtime, launch, out, err)
+        start(self.alloc, &self.runtime, &self.base, launch, out, err)
     }
 
     /// Why a program cannot be started, by the kind of the error. Want of memory is told apart.
@@ -183,7 +184,7 @@ impl<R: Processes + Files<File = File>> ProgramHost<R> {
         shell: Shell,
         dir: &Option<Text>,
     ) -> Result<Start<R::Started>, AllocError> {
-        let launch = script_launch(self.alloc, self.work.as_str(), &self.base, call, shell, dir)?;
+        let launch = script_launch(self.alloc, self.work.as_str(), call, shell, dir)?;
         self.start(call, &launch)
     }
 
@@ -231,7 +232,6 @@ impl<R: Processes + Files<File = File>> ProgramHost<R> {
         let launch = stub_launch(
             self.alloc,
             self.work.as_str(),
-            &self.base,
             call,
             program.as_str(),
             given,
