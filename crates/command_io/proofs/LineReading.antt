@@ -1,16 +1,17 @@
 -- Lines that are taken from the front of known bytes.
-use Rattle.std.proofs.Common.{◌≡◌, ◌≢◌, ◌<◌, ◌+◌, ◌-◌, ℕ, Bool, true, false, not, ◌&&◌, ◌||◌, IsTrue, if◌then◌else◌, ◌==◌, List, [], ◌∷◌, ◌++◌, All, length, take, drop, get_or, Option, Some, None, IfSome, refl, ap, sym, subst, ◌∙◌, append_assoc, append-nil, le_refl, length-append, take_at, take-append-drop, arith}
+use Rattle.std.proofs.Common.{◌≡◌, ◌≢◌, ◌<◌, ◌+◌, ◌-◌, ℕ, Bool, true, false, not, IsTrue, if◌then◌else◌, ◌==◌, List, [], ◌∷◌, ◌++◌, All, length, take, drop, get_or, Option, Some, None, IfSome, refl, ap, sym, subst, ◌∙◌, append_assoc, append-nil, le_refl, length-append, take_at, take-append-drop, arith}
 use Rattle.std.proofs.lemmas.Bool.Decides.{nat_tests}
-use Rattle.std.proofs.lemmas.List.{drop_all, take_all}
+use Rattle.std.proofs.lemmas.List.{drop_all, take_all, take_more}
 use Rattle.std.proofs.lemmas.List.Elements.{All-head, All-tail}
-use Rattle.std.specs.Io.{StartsWith, StopsAt}
+use Rattle.std.specs.Io.{StopsAt}
+use Rattle.std.specs.Io.Buffered.{reader_buffer, reader_capacity, reader_inner, reader_remaining}
 use Rattle.std.specs.Io.BufRead.{DropsThrough, drop_through, take_through}
-use Rattle.std.specs.Io.KnownBytes.{Consumes}
-use Rattle.std.specs.List.{list_any}
+use Rattle.std.specs.Io.KnownBytes.{Consumes, prepend_known}
+use Rattle.std.specs.declared.io.buffered.BufReader.{BufReader}
 use Rattle.flow_model.specs.Lines.{is_line, lines_of}
 use Rattle.flow_model.proofs.LineLemmas.{line-passed, lines-ended, lines_of-line}
 use Rattle.flow_model.proofs.Tests.{both, pair}
-use Rattle.command_io.specs.Stream.{LiesReady, LosesPart, TakesLine}
+use Rattle.command_io.specs.Stream.{EndsAt, LosesPart, TakesLine}
 
 -- ---- bytes without a newline
 
@@ -94,20 +95,39 @@ loses old new read stops open' taken = record { part = read; within = is_line-op
 
 -- ---- lines that lie ready
 
--- bytes with a newline are no line, whatever follows them
-no_line : (ahead rest : List ℕ) → list_any (λ b. b == 10) ahead ≡ true → is_line (ahead ++ rest) ≡ false
-no_line [] rest h = absurd (cc)
-no_line (b ∷ ahead) rest h = by_first (b == 10) (list_any (λ x. x == 10) ahead) (is_line (ahead ++ rest)) h (no_line ahead rest)
-  where
-    by_first : (here later line : Bool) → here || later ≡ true → (later ≡ true → line ≡ false) → not here && line ≡ false
-    by_first true later line h there = refl
-    by_first false later line h there = there h
+-- a line with its newline
+through : (bytes : List ℕ) (count : ℕ) → EndsAt bytes count → take (count + 1) bytes ≡ take count bytes ++ 10 ∷ []
+through bytes count ends = take_more bytes count 0 ends.1 ∙ ap (λ (b : ℕ). take count bytes ++ b ∷ []) ends.2
 
--- a newline that was read ahead is among the bytes that are known
-pub lies_ready : (known : Option (List ℕ)) (failed : Bool) (ahead : List ℕ) (found : Bool) → IfSome known (λ bytes. StartsWith bytes ahead) → found ≡ list_any (λ b. b == 10) ahead
-    → LiesReady (record { bytes = known; failed = failed }) found
-lies_ready known failed ahead false front is = tt
-lies_ready None failed ahead true front is = tt
-lies_ready (Some text) failed ahead true front is =
-    let whole : text ≡ ahead ++ drop (length ahead) text = sym (take-append-drop (length ahead) text) ∙ ap (λ (l : List ℕ). l ++ drop (length ahead) text) front in
-    ap is_line whole ∙ no_line ahead (drop (length ahead) text) (sym is)
+-- it is taken with its newline
+pub takes_ready : (old new : Option (List ℕ)) (ahead : List ℕ) (count : ℕ) → EndsAt ahead count → Consumes old new (take (count + 1) ahead) → TakesLine old new (take count ahead)
+takes_ready None new ahead count ends taken = tt
+takes_ready (Some text) None ahead count ends taken = absurd taken
+takes_ready (Some text) (Some rest) ahead count ends taken =
+    ap lines_of (taken ∙ ap (λ (l : List ℕ). l ++ rest) (through ahead count ends) ∙ append_assoc (take count ahead) (10 ∷ []) rest)
+    ∙ lines_of-line (take count ahead) rest ends.0
+
+-- ---- a reader's buffer
+
+-- what a reader has left, by what it has read ahead
+abbrev with_ahead : Bool → List ℕ → Option (List ℕ) → Option (List ℕ)
+with_ahead none ahead known = if none then None else prepend_known ahead known
+
+consumed_ahead : (none : Bool) (ahead : List ℕ) (known : Option (List ℕ)) (count : ℕ) → Consumes (with_ahead none ahead known) (with_ahead none (drop count ahead) known) (take count ahead)
+consumed_ahead true ahead known count = tt
+consumed_ahead false ahead None count = tt
+consumed_ahead false ahead (Some rest) count =
+    ap (λ (l : List ℕ). l ++ rest) (sym (take-append-drop count ahead)) ∙ append_assoc (take count ahead) (drop count ahead) rest
+
+-- what is taken of it are the first bytes that are left
+pub takes_ahead : {R A : Type 0} (remaining : R → Option (List ℕ)) (old new : BufReader R A) (count : ℕ) → reader_buffer new ≡ drop count (reader_buffer old)
+    → reader_inner new ≡ reader_inner old → reader_capacity new ≡ reader_capacity old
+    → Consumes (reader_remaining remaining old) (reader_remaining remaining new) (take count (reader_buffer old))
+takes_ahead remaining old new count buffer inner capacity =
+    let none = reader_capacity old == 0 in
+    let left : reader_remaining remaining new ≡ with_ahead none (drop count (reader_buffer old)) (remaining (reader_inner old)) =
+    ap (λ (n : ℕ). with_ahead (n == 0) (reader_buffer new) (remaining (reader_inner new))) capacity
+    ∙ ap (λ (l : List ℕ). with_ahead none l (remaining (reader_inner new))) buffer
+    ∙ ap (λ i. with_ahead none (drop count (reader_buffer old)) (remaining i)) inner in
+    subst (λ (k : Option (List ℕ)). Consumes (reader_remaining remaining old) k (take count (reader_buffer old))) (sym left)
+    (consumed_ahead none (reader_buffer old) (remaining (reader_inner old)) count)

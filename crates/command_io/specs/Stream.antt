@@ -1,5 +1,6 @@
 -- What streams show: the bytes that are known of them, and whether they have failed.
 use Rattle.std.specs.Prelude.{◌≡◌, ◌≢◌, ℕ, ◌-◌, Bool, true, false, IsTrue, ◌<◌, ◌≤◌, List, [], ◌∷◌, ◌++◌, length, take, slice_index, Option, Some, None, IfSome, Result, Ok, Err, Vec}
+use Rattle.std.specs.Io.{StartsWith}
 use Rattle.std.specs.Io.KnownBytes.{Appends, Consumes, IsAtEnd, Keeps}
 use Rattle.std.specs.declared.alloc.Global.{Global}
 use Rattle.flow_model.specs.Lines.{is_line, lines_of, newline}
@@ -84,10 +85,13 @@ ReadsLine old new line (Ok true) = IsLineRead old new (Ok (Some line))
 ReadsLine old new line (Ok false) = IsLineRead old new (Ok None)
 ReadsLine old new line (Err fault) = IsLineRead old new (Err fault)
 
--- A line with its newline is known, where it is said to lie ready and the bytes are known.
-abbrev pub LiesReady : Stream → Bool → Type 0
-LiesReady now true = IfSome now.bytes (λ text. is_line text ≡ false)
-LiesReady now false = Unit {0}
+-- This line is the first of the bytes, with its newline, where the bytes are known.
+abbrev pub LiesReady : Stream → List ℕ → Type 0
+LiesReady now line = IsTrue (is_line line) × IfSome now.bytes (λ text. StartsWith text (line ++ newline ∷ []))
+
+-- The first line of some bytes has so many, and its newline follows.
+abbrev pub EndsAt : List ℕ → ℕ → Type 0
+EndsAt bytes count = IsTrue (is_line (take count bytes)) × (count < length bytes) × (slice_index bytes count ≡ newline)
 
 -- ---- what the code answers on the way
 

@@ -1,8 +1,9 @@
 //! Streams of bytes that know whether a call on them has failed.
 
-ghost use Rattle.std.specs.Prelude.{◌≡◌, ◌<◌, ◌≤◌, ℕ, List, Option, OnOk, IfSome, map, flat_map};
+ghost use Rattle.std.specs.Prelude.{◌≡◌, ◌<◌, ◌≤◌, ℕ, List, Option, Ok, Some, OnOk, IfSome, length, map, take, flat_map};
 ghost use Rattle.std.specs.Io.{StartsWith};
-ghost use Rattle.command_io.specs.Stream.{Flushes, LiesReady, Stream, Puts, ReadsAll, ReadsLine};
+ghost use Rattle.std.specs.Io.KnownBytes.{Consumes};
+ghost use Rattle.command_io.specs.Stream.{EndsAt, Flushes, IsLineRead, LiesReady, Stream, Puts, ReadsAll, ReadsLine};
 ghost use Rattle.command_io.specs.Stream as spec;
 
 use crate::bounded::Counted;
@@ -46,6 +47,9 @@ pub trait LineSource: Source {
     /// How many more times a line may be asked for, before the source is given up as one that failed.
     ghost turns_left: { Self → ℕ };
 
+    /// The bytes that were read already and not yet taken, which are the next.
+    ghost ahead: { Self → List ℕ };
+
     /// Puts the next line in the place of what `line` holds, without its newline, which the last may lack, and answers
     /// whether there was one: at the end there is none.
     ///
@@ -56,21 +60,50 @@ pub trait LineSource: Source {
         ensures reads { ReadsLine (Self.seen self.old) (Self.seen self.new) line.new.items result }
         ensures fewer { OnOk result (turns_left self.new < turns_left self.old) };
 
-    /// Whether the next line lies read already, with its newline, so that it can be had without waiting.
-    fn is_line_ready(&self) -> bool
-        ensures { LiesReady (Self.seen self.now) result };
+    /// The next line, where it lies read already, with its newline, so that it can be had without waiting. It is not taken.
+    fn ready_line(&self) -> Option<&[u8]>
+        ensures known { IfSome result (λ line. LiesReady (Self.seen self.now) line.now) }
+        ensures first { IfSome result (λ line. line.now ≡ take (length line.now) (ahead self.now)) }
+        ensures ends { IfSome result (λ line. EndsAt (ahead self.now) (length line.now)) }
+        ensures turn { IfSome result (λ line. 0 < turns_left self.now) };
+
+    /// Takes the next line, which lies read already and has so many bytes without its newline.
+    fn pass_line(&mut self, count: usize)
+        requires ends { EndsAt (ahead self.old) count }
+        requires turn { 0 < turns_left self.old }
+        requires short { count < usize.MAX }
+        ensures takes { IsLineRead (Self.seen self.old) (Self.seen self.new)
+            (Ok (Some (take count (ahead self.old)))) }
+        ensures fewer { turns_left self.new < turns_left self.old };
 }
 
 /// A reader that reads ahead of what is taken of it.
 pub trait ReadAhead: BufRead {
+    ghost bytes_ahead: { Self → List ℕ };
+
     /// The bytes that were read and not yet taken, which are the next.
     fn ahead(&self) -> &[u8]
-        ensures { IfSome (Self.remaining self.now) (λ bytes. StartsWith bytes result.now) };
+        ensures front { IfSome (Self.remaining self.now) (λ bytes. StartsWith bytes result.now) }
+        ensures value { result.now ≡ bytes_ahead self.now };
+
+    /// Takes so many of them.
+    fn take_ahead(&mut self, count: usize)
+        requires { count ≤ length (bytes_ahead self.old) }
+        ensures { Consumes (Self.remaining self.old) (Self.remaining self.new)
+            (take count (bytes_ahead self.old)) };
 }
 
 impl<R: Read> ReadAhead for BufReader<R> {
+    ghost use Rattle.std.specs.Io.Buffered.{reader_buffer};
+
+    ghost bytes_ahead = { reader_buffer };
+
     fn ahead(&self) -> &[u8] {
         self.buffer()
+    }
+
+    fn take_ahead(&mut self, count: usize) {
+        self.consume(count);
     }
 }
 
@@ -175,8 +208,22 @@ fn next_line<R: BufRead>(reader: &mut R, line: &mut Vec<u8>) -> Result<bool, Sou
     }
 }
 
+/// How many bytes the first line has, where its newline is there.
+fn line_length(bytes: &[u8]) -> Option<usize>
+    ensures { IfSome result (EndsAt bytes.now) }
+{
+    for (length, byte) in bytes.iter().enumerate() {
+        if *byte == b'\n' {
+            return Some(length);
+        }
+    }
+    None
+}
+
 impl<R: ReadAhead + Counted> LineSource for Input<R> {
     ghost turns_left = { λ s. s.turns };
+
+    ghost ahead = { λ s. R.bytes_ahead s.reader };
 
     fn read_line(&mut self, line: &mut Vec<u8>) -> Result<bool, SourceFault> {
         if self.turns == 0 {
@@ -194,8 +241,20 @@ impl<R: ReadAhead + Counted> LineSource for Input<R> {
         }
     }
 
-    fn is_line_ready(&self) -> bool {
-        self.reader.ahead().contains(&b'\n')
+    fn ready_line(&self) -> Option<&[u8]> {
+        if self.turns == 0 {
+            return None;
+        }
+        let ahead = self.reader.ahead();
+        match line_length(ahead) {
+            Some(length) => Some(&ahead[..length]),
+            None => None,
+        }
+    }
+
+    fn pass_line(&mut self, count: usize) {
+        self.turns -= 1;
+        self.reader.take_ahead(count + 1);
     }
 }
 

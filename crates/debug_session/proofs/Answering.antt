@@ -3,10 +3,10 @@ use Rattle.std.proofs.Common.{◌≡◌, ◌≢◌, ℕ, true, false, List, [], 
 use Rattle.std.specs.Io.KnownBytes.{IsAtEnd}
 use Rattle.debugger.specs.Session.{Session}
 use Rattle.flow_model.specs.Lines.{lines_of}
-use Rattle.command_io.specs.Stream.{Stream, IsCutOff, IsWritten, TakesLine, TakesLines}
+use Rattle.command_io.specs.Stream.{Stream, IsCutOff, IsLineRead, IsWritten, TakesLine, TakesLines}
 use Rattle.command_io.proofs.Known.{Appends-nothing, Appends-then, cut_off_after}
 use Rattle.debug_session.specs.Answers.{TellsLines}
-use Rattle.debug_session.specs.Session.{Answers, AsksLine, Gathers, HandsOn, Holds, IsAnswered, IsGathered, ReadTo}
+use Rattle.debug_session.specs.Session.{AnswersNext, AnswersOne, Gathers, HandsOn, Holds, IsAnswered, IsGathered, ReadTo, StopsUnwritten}
 use Rattle.debug_session.specs.declared.session.Halt.{Halt}
 use Rattle.debug_session.specs.declared.session.Halt.TheVariants as halt
 
@@ -82,7 +82,7 @@ module _ (first : Session) (input out : Stream) (now : Session) (mid out' : Stre
   answered_so_far input' ended read = record { lines = g.lines; told = g.told; read = read; tells = so_far; written = g.written }
 
   -- what is gathered is handed on
-  pub handed : (out'' : Stream) (left : List ℕ) → HandsOn out' out'' gathered left (Ok tt) → Going first input out now mid out'' left
+  handed : (out'' : Stream) (left : List ℕ) → HandsOn out' out'' gathered left (Ok tt) → Going first input out now mid out'' left
   handed out'' left on = record {
     lines = g.lines;
     told = g.told;
@@ -93,9 +93,8 @@ module _ (first : Session) (input out : Stream) (now : Session) (mid out' : Stre
   }
 
   -- or is not, or in part
-  pub unhanded : (out'' : Stream) (left : List ℕ) (why : Halt) → HandsOn out' out'' gathered left (Err why) → Gathers first input mid out out'' left (Err why)
-  unhanded out'' left halt.Unread h = absurd h
-  unhanded out'' left halt.Unwritten cut = record {
+  unhanded : (out'' : Stream) → IsCutOff out' out'' gathered → StopsUnwritten first input mid out out''
+  unhanded out'' cut = record {
     lines = g.lines;
     told = g.told;
     ended = Err halt.Unwritten;
@@ -103,41 +102,48 @@ module _ (first : Session) (input out : Stream) (now : Session) (mid out' : Stre
     tells = so_far;
     cut_off = gathered_cut out out' out'' g.told gathered g.written cut;
   }
-  unhanded out'' left halt.Memory h = absurd h
 
-  module _ (input' : Stream) (line : List ℕ) where
-    -- the input has ended
-    pub all_answered : AsksLine mid input' line (Ok false) → Gathers first input input' out out' gathered (Ok tt)
-    all_answered end = answered_so_far input' (Ok tt) (take_all input.bytes mid.bytes g.lines g.taken end.0, end.1 ∙ g.sound)
+  -- the input has ended
+  all_answered : (input' : Stream) → IsLineRead mid input' (Ok None) → IsAnswered first input input' out out' gathered (Ok tt)
+  all_answered input' end = answered_so_far input' (Ok tt) (take_all input.bytes mid.bytes g.lines g.taken end.0, end.1 ∙ g.sound)
 
-    -- it gives no line
-    pub unread : (why : Halt) → AsksLine mid input' line (Err why) → Gathers first input input' out out' gathered (Err why)
-    unread halt.Unread lost = answered_so_far input' (Err halt.Unread) (mid.bytes, g.taken, lost.0, lost.1)
-    unread halt.Unwritten lost = absurd lost
-    unread halt.Memory lost = answered_so_far input' (Err halt.Memory) (mid.bytes, g.taken)
+  -- or a line is answered
+  answered : (input' : Stream) (next : Session) (new : List ℕ) → AnswersOne now mid next input' gathered new → Going first input out next input' out' new
+  answered input' next new (line, read, (words, one, is)) = record {
+    lines = g.lines ++ line ∷ [];
+    told = g.told ++ words;
+    taken = take_more input.bytes mid.bytes input'.bytes g.lines line g.taken read.0;
+    sound = read.1 ∙ g.sound;
+    written = gathered_more out out' g.told gathered words new g.written is;
+    goes = λ others more tells.
+        subst (λ (l : List (List ℕ)). TellsLines first l ((g.told ++ words) ++ more)) (sym (append_assoc g.lines (line ∷ []) others))
+        (subst (λ (t : List ℕ). TellsLines first (g.lines ++ line ∷ others) t) (sym (append_assoc g.told words more))
+        (g.goes (line ∷ others) (words ++ more) (next, words, more, one, tells, refl)));
+  }
 
-    module _ (read : AsksLine mid input' line (Ok true)) (next : Session) (new : List ℕ) where
-      -- a line is answered
-      pub answered : Answers now line next gathered new (Ok tt) → Going first input out next input' out' new
-      answered (words, one, is) = record {
-        lines = g.lines ++ line ∷ [];
-        told = g.told ++ words;
-        taken = take_more input.bytes mid.bytes input'.bytes g.lines line g.taken read.0;
-        sound = read.1 ∙ g.sound;
-        written = gathered_more out out' g.told gathered words new g.written is;
-        goes = λ others more tells.
-            subst (λ (l : List (List ℕ)). TellsLines first l ((g.told ++ words) ++ more)) (sym (append_assoc g.lines (line ∷ []) others))
-            (subst (λ (t : List ℕ). TellsLines first (g.lines ++ line ∷ others) t) (sym (append_assoc g.told words more))
-            (g.goes (line ∷ others) (words ++ more) (next, words, more, one, tells, refl)));
-      }
+module _ (first : Session) (input out : Stream) (now : Session) (mid out' : Stream) (gathered : List ℕ) (g : Going first input out now mid out' gathered)
+    (next : Session) (input' out'' : Stream) (new : List ℕ) where
+  after_handed : (left : List ℕ) → HandsOn out' out'' gathered left (Ok tt) → Going first input out now mid out'' left
+  after_handed left on = handed first input out now mid out' gathered g out'' left on
 
-      -- or is not
-      pub unanswered : (why : Halt) → Answers now line next gathered new (Err why) → Gathers first input input' out out' new (Err why)
-      unanswered halt.Unread h = absurd h
-      unanswered halt.Unwritten h = absurd h
-      unanswered halt.Memory kept =
-          subst (λ (l : List ℕ). IsAnswered first input input' out out' l (Err halt.Memory)) (sym kept)
-          (answered_so_far input' (Err halt.Memory) (mid.bytes, g.taken))
+  -- the session goes on with the next line
+  pub goes_on : AnswersNext now mid out' next input' out'' gathered new (Ok true) → Going first input out next input' out'' new
+  goes_on (left, on, one) = answered first input out now mid out'' left (after_handed left on) input' next new one
+
+  -- there is none
+  pub comes_to_end : AnswersNext now mid out' next input' out'' gathered new (Ok false) → Gathers first input input' out out'' new (Ok tt)
+  comes_to_end (on, end) = all_answered first input out now mid out'' new (after_handed new on) input' end
+
+  -- or it stops before
+  pub stops : (why : Halt) → AnswersNext now mid out' next input' out'' gathered new (Err why) → Gathers first input input' out out'' new (Err why)
+  stops halt.Unread (on, lost) =
+      let h = after_handed new on in
+      answered_so_far first input out now mid out'' new h input' (Err halt.Unread) (mid.bytes, h.taken, lost.0, lost.1)
+  stops halt.Unwritten (cut, same) =
+      subst (λ (i : Stream). StopsUnwritten first input i out out'') (sym same) (unhanded first input out now mid out' gathered g out'' cut)
+  stops halt.Memory on =
+      let h = after_handed new on in
+      answered_so_far first input out now mid out'' new h input' (Err halt.Memory) (mid.bytes, h.taken)
 
 -- ---- how a session ends
 

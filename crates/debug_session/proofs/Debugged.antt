@@ -1,5 +1,5 @@
 -- What the debugger answers, as it is told.
-use Rattle.std.proofs.Common.{◌≡◌, ◌<◌, ◌≤◌, ℕ, List, ◌++◌, take, length, codes, String, Global, string_bytes, Some, None, Result, Ok, Err, OnOk, if◌then◌else◌, inl, inr, refl, sym, ap, ◌∙◌, arith}
+use Rattle.std.proofs.Common.{◌≡◌, ◌<◌, ◌≤◌, ℕ, List, ◌++◌, take, length, codes, Some, None, Result, Ok, Err, OnOk, if◌then◌else◌, inl, inr, refl, sym, ap, ◌∙◌, arith}
 use Rattle.std.proofs.lemmas.Option.{slice_get_within}
 use Rattle.std.proofs.lemmas.List.{length-take-le}
 use Rattle.debugger.specs.Breaks.{is_set, with_break, without_break}
@@ -14,8 +14,7 @@ use Rattle.flow_model.specs.declared.event.Entry.{Entry}
 use Rattle.flow_model.specs.declared.plan.Plan.{Plan}
 use Rattle.status_table.specs.Runs.{after, new_board}
 use Rattle.status_table.specs.declared.fault.EventFault.{EventFault}
-use Rattle.plan_text.specs.BoardText.{Adds}
-use Rattle.debug_session.specs.Answers.{AddsSome, IsMove, TellsGo, TellsMove, TellsOneLine, TellsRequest, move_line}
+use Rattle.debug_session.specs.Answers.{Adds, AddsSome, IsMove, TellsGo, TellsMove, TellsOneLine, TellsRequest, move_line}
 use Rattle.debug_session.specs.Debug.{HasOpenLine, open_trouble}
 use Rattle.command_io.proofs.Stopped.{has_line, refused_there}
 use Rattle.command_io.specs.Records.{HasLine, IsStopped}
@@ -71,12 +70,12 @@ has_open_line short p rules es fault.Memory w = tt
 
 -- ---- what is added to a text
 
-module _ {E : Type 0} (s next : Session) (old new : String Global) where
+module _ {E : Type 0} (s next : Session) (old new : List ℕ) where
   -- the line of a move
   pub adds_moved : (target found : Result ℕ DebugFault) (last : ℕ) (r : Result (Unit {0}) E) → last ≡ length s.entries → Moves target s found next
       → OnOk r (Adds old new (move_line last found)) → OnOk r (AddsSome (λ words. TellsMove s target words next) old new)
   adds_moved target found last (Ok done) many h adds =
-      (move_line (length s.entries) found, move_told target s found next h, adds ∙ ap (λ (n : ℕ). string_bytes old ++ move_line n found) many)
+      (move_line (length s.entries) found, move_told target s found next h, adds ∙ ap (λ (n : ℕ). old ++ move_line n found) many)
   adds_moved target found last (Err e) many h adds = tt
 
   -- that of a move that may find no memory
@@ -89,7 +88,7 @@ module _ {E : Type 0} (s next : Session) (old new : String Global) where
   pub adds_go : (Goes : Session → Result ℕ DebugFault → Session → Type 0) (found : Result ℕ DebugFault) (last : ℕ) (r : Result (Unit {0}) E) → last ≡ length s.entries
       → Goes s found next → OnOk r (IsMove found) → OnOk r (Adds old new (move_line last found)) → OnOk r (AddsSome (λ words. TellsGo Goes s words next) old new)
   adds_go Goes found last (Ok done) many h is adds =
-      (move_line (length s.entries) found, (found, is, h, refl), adds ∙ ap (λ (n : ℕ). string_bytes old ++ move_line n found) many)
+      (move_line (length s.entries) found, (found, is, h, refl), adds ∙ ap (λ (n : ℕ). old ++ move_line n found) many)
   adds_go Goes found last (Err e) many h is adds = tt
 
   -- the line of a break that is set
@@ -112,7 +111,7 @@ module _ {E : Type 0} (s next : Session) (old new : String Global) where
   adds_asked line request (Err e) asks told = tt
 
 -- that a line is no command is told
-pub adds_unknown : {E : Type 0} (s : Session) (old new : String Global) (line : List ℕ) (r : Result (Unit {0}) E) → FindsOne (Asks line) None
+pub adds_unknown : {E : Type 0} (s : Session) (old new : List ℕ) (line : List ℕ) (r : Result (Unit {0}) E) → FindsOne (Asks line) None
     → OnOk r (Adds old new (codes "unknown command\n")) → OnOk r (AddsSome (λ words. TellsOneLine s line words s) old new)
 adds_unknown s old new line (Ok done) none adds = (codes "unknown command\n", inr (none, refl, refl), adds)
 adds_unknown s old new line (Err e) none adds = tt

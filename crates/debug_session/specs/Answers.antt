@@ -1,6 +1,5 @@
 -- What the debugger tells of lines that ask it: the answer to each line in turn.
-use Rattle.std.specs.Prelude.{◌≡◌, ℕ, ◌⊎◌, ◌++◌, if◌then◌else◌, codes, decimal, List, [], ◌∷◌, length, String, string_bytes, Some, None, Result, Ok, Err}
-use Rattle.std.specs.declared.alloc.Global.{Global}
+use Rattle.std.specs.Prelude.{◌≡◌, ℕ, ◌⊎◌, ◌++◌, if◌then◌else◌, codes, decimal, List, [], ◌∷◌, length, Some, None, Result, Ok, Err}
 use Rattle.debugger.specs.Breaks.{is_set, with_break, without_break}
 use Rattle.debugger.specs.Fault.{debug_fault_name}
 use Rattle.debugger.specs.Session.{GoesBack, GoesOn, Session, asked_place, moved, next_place, previous_place, shown, with_breaks}
@@ -22,6 +21,10 @@ refusal_line refusal = codes "debug " ++ (debug_fault_name refusal ++ codes "\n"
 abbrev pub move_line : ℕ → Result ℕ DebugFault → List ℕ
 move_line many (Ok place) = codes "place " ++ (decimal place ++ (codes " of " ++ (decimal many ++ codes "\n")))
 move_line many (Err refusal) = refusal_line refusal
+
+-- How the line of a place ends, of so many.
+abbrev pub place_end : ℕ → List ℕ
+place_end many = codes " of " ++ (decimal many ++ codes "\n")
 
 -- A move is no want of memory.
 abbrev pub IsMove : Result ℕ DebugFault → Type 0
@@ -73,6 +76,10 @@ TellsLines s (line ∷ lines) told =
 
 -- ---- what the code answers on the way
 
--- Words of which that holds were added to a text.
-abbrev pub AddsSome : (List ℕ → Type 0) → String Global → String Global → Type 0
-AddsSome Is old new = (told : List ℕ) × Is told × (string_bytes new ≡ string_bytes old ++ told)
+-- These words were added to others.
+abbrev pub Adds : List ℕ → List ℕ → List ℕ → Type 0
+Adds old new words = new ≡ old ++ words
+
+-- Words of which that holds were.
+abbrev pub AddsSome : (List ℕ → Type 0) → List ℕ → List ℕ → Type 0
+AddsSome Is old new = (told : List ℕ) × Is told × Adds old new told

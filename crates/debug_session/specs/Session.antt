@@ -1,8 +1,8 @@
 -- A session with the debugger: what stands of the lines that were answered, however it ends.
-use Rattle.std.specs.Prelude.{◌≡◌, ◌⊎◌, ℕ, Bool, true, false, ◌++◌, List, [], Option, Some, None, IfSome, Result, Ok, Err}
+use Rattle.std.specs.Prelude.{◌≡◌, ℕ, Bool, true, false, ◌++◌, List, Option, Some, None, IfSome, Result, Ok, Err}
 use Rattle.debugger.specs.Session.{Session}
 use Rattle.flow_model.specs.Lines.{lines_of}
-use Rattle.command_io.specs.Stream.{Stream, IsCutOff, IsKept, IsLineRead, IsWritten, LiesReady, LosesPart, TakesLines}
+use Rattle.command_io.specs.Stream.{Stream, IsCutOff, IsKept, IsLineRead, IsWritten, LosesPart, TakesLines}
 use Rattle.command_io.specs.Tell.{Says}
 use Rattle.command_io.specs.Trouble.{line, trouble_status}
 use Rattle.command_io.specs.declared.stream.SourceFault.TheVariants as source_fault
@@ -115,9 +115,37 @@ HandsOn out out' gathered gathered' (Err halt.Unread) = ⊥
 HandsOn out out' gathered gathered' (Err halt.Unwritten) = IsCutOff out out' gathered
 HandsOn out out' gathered gathered' (Err halt.Memory) = ⊥
 
--- Answers stay gathered only where a further line is there, as far as the input is known.
-abbrev pub StaysGathered : Stream → List ℕ → Type 0
-StaysGathered input gathered = (gathered ≡ []) ⊎ LiesReady input true
+-- The next line was taken, and the answer to it is gathered after others.
+abbrev pub AnswersOne : Session → Stream → Session → Stream → List ℕ → List ℕ → Type 0
+AnswersOne s input next input' gathered gathered' =
+    (asked : List ℕ) × IsLineRead input input' (Ok (Some asked)) × Answers s asked next gathered gathered' (Ok tt)
+
+-- The next line is answered where it is there without waiting; else nothing was done.
+abbrev pub AnswersReady : Session → Stream → Session → Stream → List ℕ → List ℕ → Result Bool Halt → Type 0
+AnswersReady s input next input' gathered gathered' (Ok true) = AnswersOne s input next input' gathered gathered'
+AnswersReady s input next input' gathered gathered' (Ok false) = (next ≡ s) × (input' ≡ input) × (gathered' ≡ gathered)
+AnswersReady s input next input' gathered gathered' (Err halt.Unread) = ⊥
+AnswersReady s input next input' gathered gathered' (Err halt.Unwritten) = ⊥
+AnswersReady s input next input' gathered gathered' (Err halt.Memory) = gathered' ≡ gathered
+
+-- The next line is waited for and answered, or there is none, or why not.
+abbrev pub AnswersWaited : Session → Stream → Session → Stream → List ℕ → List ℕ → Result Bool Halt → Type 0
+AnswersWaited s input next input' gathered gathered' (Ok true) = AnswersOne s input next input' gathered gathered'
+AnswersWaited s input next input' gathered gathered' (Ok false) = IsLineRead input input' (Ok None) × (gathered' ≡ gathered)
+AnswersWaited s input next input' gathered gathered' (Err halt.Unread) = IsLineRead input input' (Err source_fault.Failed) × (gathered' ≡ gathered)
+AnswersWaited s input next input' gathered gathered' (Err halt.Unwritten) = ⊥
+AnswersWaited s input next input' gathered gathered' (Err halt.Memory) = gathered' ≡ gathered
+
+-- The next line is answered, after what was gathered is written or is still gathered; or there is none, or why not.
+abbrev pub AnswersNext : Session → Stream → Stream → Session → Stream → Stream → List ℕ → List ℕ → Result Bool Halt → Type 0
+AnswersNext s input out next input' out' gathered gathered' (Ok true) =
+    (left : List ℕ) × HandsOn out out' gathered left (Ok tt) × AnswersOne s input next input' left gathered'
+AnswersNext s input out next input' out' gathered gathered' (Ok false) = HandsOn out out' gathered gathered' (Ok tt) × IsLineRead input input' (Ok None)
+AnswersNext s input out next input' out' gathered gathered' (Err halt.Unread) =
+    HandsOn out out' gathered gathered' (Ok tt) × IsLineRead input input' (Err source_fault.Failed)
+AnswersNext s input out next input' out' gathered gathered' (Err halt.Unwritten) =
+    HandsOn out out' gathered gathered' (Err halt.Unwritten) × (input' ≡ input)
+AnswersNext s input out next input' out' gathered gathered' (Err halt.Memory) = HandsOn out out' gathered gathered' (Ok tt)
 
 -- The lines that were read are answered, and their answers stand on out or are gathered.
 pub record IsAnswered (s : Session) (input input' out out' : Stream) (gathered : List ℕ) (ended : Result (Unit {0}) Halt) : Type 0 where

@@ -131,22 +131,14 @@ fn break_after(text: &[u8], front: &[u8]) -> Option<Break>
 fn word_asked(line: &[u8]) -> Option<Request>
     ensures { MatchOption result (spec.IsNoWord line.now) (λ request. Asks line.now request) }
 {
-    if line == b"step".as_slice() {
-        return Some(Request::Step);
+    match line {
+        [b's', b't', b'e', b'p'] => Some(Request::Step),
+        [b'b', b'a', b'c', b'k'] => Some(Request::Back),
+        [b'g', b'o'] => Some(Request::Go),
+        [b'g', b'o', b'-', b'b', b'a', b'c', b'k'] => Some(Request::GoBack),
+        [b's', b'h', b'o', b'w'] => Some(Request::Show),
+        _ => None,
     }
-    if line == b"back".as_slice() {
-        return Some(Request::Back);
-    }
-    if line == b"go".as_slice() {
-        return Some(Request::Go);
-    }
-    if line == b"go-back".as_slice() {
-        return Some(Request::GoBack);
-    }
-    if line == b"show".as_slice() {
-        return Some(Request::Show);
-    }
-    None
 }
 
 /// What a line asks for, if it is a command.

@@ -2,11 +2,12 @@
 //!
 //! Where further lines lie read already, answers are gathered and written together.
 
-ghost use Rattle.std.specs.Prelude.{◌≡◌, ◌<◌, [], OnOk, string_bytes};
+ghost use Rattle.std.specs.Prelude.{◌≡◌, ◌<◌, true, false, [], IfOk, OnOk};
 ghost use Rattle.command_io.specs.Stream.{Puts};
 ghost use Rattle.debug_session.specs.Session as spec;
 
-use crate::answers::add_answer;
+use crate::answers::add_line;
+use crate::gathered::Gathered;
 use command_io::stream::{LineSource, Sink, SourceFault, put_now};
 use command_io::tell::refuse;
 use command_io::trouble::{DONE, Trouble};
@@ -46,44 +47,105 @@ fn answer<M: Reversible>(
     alloc: Global,
     debugger: &mut Debugger<M>,
     line: &[u8],
-    told: &mut String,
-    gathered: &mut String,
+    gathered: &mut Gathered,
 ) -> Result<(), Halt>
     ensures { spec.Answers debugger.old line.now debugger.new
-        (string_bytes gathered.old) (string_bytes gathered.new) result }
+        gathered.old gathered.new result }
 {
-    match add_answer(alloc, gathered, debugger, line, told) {
+    match add_line(alloc, gathered, debugger, line) {
         Ok(()) => Ok(()),
         Err(AllocError) => Err(Halt::Memory),
     }
 }
 
-/// Writes the answers that are gathered, if there are any, and answers whether that could be done.
-fn write_gathered<O: Sink>(out: &mut O, gathered: &str) -> bool
-    ensures { Puts (O.seen out.old) (O.seen out.new) gathered.now result }
+/// Answers the next line where it lies ready and few answers are gathered, and tells whether that is so.
+fn answer_ready<M: Reversible, I: LineSource>(
+    alloc: Global,
+    debugger: &mut Debugger<M>,
+    input: &mut I,
+    gathered: &mut Gathered,
+) -> Result<bool, Halt>
+    ensures answers { spec.AnswersReady debugger.old (I.seen input.old)
+        debugger.new (I.seen input.new)
+        gathered.old gathered.new result }
+    ensures fewer { IfOk result (λ found. found ≡ true
+        → I.turns_left input.new < I.turns_left input.old) }
+    ensures same { IfOk result (λ found. found ≡ false → input.new ≡ input.old) }
 {
-    gathered.is_empty() || put_now(out, gathered.as_bytes())
+    if gathered.len() >= MOST_GATHERED {
+        return Ok(false);
+    }
+    let Some(line) = input.ready_line() else {
+        return Ok(false);
+    };
+    let count = line.len();
+    answer(alloc, debugger, line, gathered)?;
+    input.pass_line(count);
+    Ok(true)
 }
 
-/// Writes the answers that are gathered where they are many, or where the next line has to be waited for.
-fn hand_on<I: LineSource, O: Sink>(
-    input: &I,
-    out: &mut O,
-    gathered: &mut String,
-) -> Result<(), Halt>
-    ensures hands { spec.HandsOn (O.seen out.old) (O.seen out.new)
-        (string_bytes gathered.old) (string_bytes gathered.new) result }
-    ensures stays { OnOk result
-        (spec.StaysGathered (I.seen input.now) (string_bytes gathered.new)) }
+/// Waits for the next line and answers it; at the end of the input there is none. No answer waits with the program.
+fn answer_waited<M: Reversible, I: LineSource>(
+    alloc: Global,
+    debugger: &mut Debugger<M>,
+    input: &mut I,
+    line: &mut Vec<u8>,
+    gathered: &mut Gathered,
+) -> Result<bool, Halt>
+    requires { gathered.old ≡ [] }
+    ensures answers { spec.AnswersWaited debugger.old (I.seen input.old)
+        debugger.new (I.seen input.new)
+        gathered.old gathered.new result }
+    ensures fewer { OnOk result (I.turns_left input.new < I.turns_left input.old) }
 {
-    if gathered.len() < MOST_GATHERED && input.is_line_ready() {
-        return Ok(());
+    if !line_asked(input, line)? {
+        return Ok(false);
     }
-    if !write_gathered(out, gathered.as_str()) {
+    answer(alloc, debugger, line.as_slice(), gathered)?;
+    Ok(true)
+}
+
+/// Writes the answers that are gathered, if there are any, and answers whether that could be done.
+fn write_gathered<O: Sink>(out: &mut O, gathered: &[u8]) -> bool
+    ensures { Puts (O.seen out.old) (O.seen out.new) gathered.now result }
+{
+    gathered.is_empty() || put_now(out, gathered)
+}
+
+/// Writes the answers that are gathered, so that none is left.
+fn hand_on<O: Sink>(out: &mut O, gathered: &mut Gathered) -> Result<(), Halt>
+    ensures hands { spec.HandsOn (O.seen out.old) (O.seen out.new)
+        gathered.old gathered.new result }
+    ensures none { OnOk result (gathered.new ≡ []) }
+{
+    if !write_gathered(out, gathered.as_slice()) {
         return Err(Halt::Unwritten);
     }
     gathered.clear();
     Ok(())
+}
+
+/// Answers the next line, if there is one. Where it has to be waited for, or where many answers are gathered, these are
+/// written first.
+fn answer_next<M: Reversible, I: LineSource, O: Sink>(
+    alloc: Global,
+    debugger: &mut Debugger<M>,
+    input: &mut I,
+    out: &mut O,
+    line: &mut Vec<u8>,
+    gathered: &mut Gathered,
+) -> Result<bool, Halt>
+    ensures answers { spec.AnswersNext debugger.old (I.seen input.old) (O.seen out.old)
+        debugger.new (I.seen input.new) (O.seen out.new)
+        gathered.old gathered.new result }
+    ensures fewer { IfOk result (λ found. found ≡ true
+        → I.turns_left input.new < I.turns_left input.old) }
+{
+    if answer_ready(alloc, debugger, input, gathered)? {
+        return Ok(true);
+    }
+    hand_on(out, gathered)?;
+    answer_waited(alloc, debugger, input, line, gathered)
 }
 
 /// Answers the lines of the input one after the other, to its end. The last answers stay gathered, to be written after.
@@ -92,18 +154,14 @@ fn gather_all<M: Reversible, I: LineSource, O: Sink>(
     debugger: &mut Debugger<M>,
     input: &mut I,
     out: &mut O,
-    gathered: &mut String,
+    gathered: &mut Gathered,
 ) -> Result<(), Halt>
-    requires { string_bytes gathered.old ≡ [] }
+    requires { gathered.old ≡ [] }
     ensures { spec.Gathers debugger.old (I.seen input.old) (I.seen input.new)
-        (O.seen out.old) (O.seen out.new) (string_bytes gathered.new) result }
+        (O.seen out.old) (O.seen out.new) gathered.new result }
 {
     let mut line = Vec::new(alloc);
-    let mut told = String::new(alloc);
-    while line_asked(input, &mut line)? {
-        answer(alloc, debugger, line.as_slice(), &mut told, gathered)?;
-        hand_on(input, out, gathered)?;
-    }
+    while answer_next(alloc, debugger, input, out, &mut line, gathered)? {}
     Ok(())
 }
 
@@ -117,12 +175,12 @@ fn answer_all<M: Reversible, I: LineSource, O: Sink>(
     ensures { spec.Holds debugger.old (I.seen input.old) (I.seen input.new)
         (O.seen out.old) (O.seen out.new) result }
 {
-    let mut gathered = String::new(alloc);
+    let mut gathered = Gathered::new(alloc);
     let ended = gather_all(alloc, debugger, input, out, &mut gathered);
     if let Err(Halt::Unwritten) = ended {
         return Err(Halt::Unwritten);
     }
-    if write_gathered(out, gathered.as_str()) {
+    if write_gathered(out, gathered.as_slice()) {
         ended
     } else {
         Err(Halt::Unwritten)

@@ -1,4 +1,4 @@
-use Rattle.std.proofs.Common.{◌≢◌, ℕ, List, Err, string_bytes, subst, rules}
+use Rattle.std.proofs.Common.{◌≢◌, ℕ, List, Err, subst, rules}
 use Rattle.command_io.specs.Stream.{IsCutOff}
 use Rattle.debug_session.specs.declared.session.Halt.TheVariants as halt
 use Rattle.debug_session.proofs.Answering.{not_written}
@@ -10,5 +10,5 @@ returns g c =
     let mid = g.O.Sink.seen c.gather_all-ended.new.out in
     let new = g.O.Sink.seen c.write_gathered.new.out in
     not_written c.args.debugger.now (g.I.Source.seen c.args.input.now) (g.I.Source.seen c.gather_all-ended.new.input) (g.O.Sink.seen c.args.out.now) mid new
-    (string_bytes c.gather_all-ended.new.gathered) c.gather_all-ended.result goes c.gather_all-ended.ensures
-    (subst (λ (l : List ℕ). IsCutOff mid new l) c.as_str.ensures.value c.if-write_gathered.ensures)
+    c.gather_all-ended.new.gathered c.gather_all-ended.result goes c.gather_all-ended.ensures
+    (subst (λ (l : List ℕ). IsCutOff mid new l) c.as_slice.ensures c.if-write_gathered.ensures)
