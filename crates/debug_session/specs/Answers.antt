@@ -80,6 +80,6 @@ TellsLines s (line ∷ lines) told =
 abbrev pub Adds : List ℕ → List ℕ → List ℕ → Type 0
 Adds old new words = new ≡ old ++ words
 
--- Words of which that holds were.
+-- Words of which that holds were added to others.
 abbrev pub AddsSome : (List ℕ → Type 0) → List ℕ → List ℕ → Type 0
 AddsSome Is old new = (told : List ℕ) × Is told × Adds old new told
