@@ -3,6 +3,8 @@
 use denote.Param.Send.{IsSend, sendable}
 use Rattle.flat_board.specs.contracts.flat_board.FlatBoard as FlatBoard
 use Rattle.flat_counters.proofs.need.Need.TheSendSync as need
+use Rattle.flat_counters.proofs.standing.RunTally.TheSendSync as run_tally
+use Rattle.flat_counters.proofs.stopping.RunLegs.TheSendSync as run_legs
 use Rattle.flat_counters.proofs.tally.Tally.TheSendSync as tally
 use Rattle.flat_counters.proofs.undo.Change.TheSendSync as change
 use Rattle.flat_counters.specs.contracts.counted.Counted as Counted
@@ -58,7 +60,7 @@ pub checked_plan_crosses : IsSend CheckedPlan.the_row
 checked_plan_crosses = search (plan_crosses, sendable) depth 60 fits 20000
 
 pub counts_crosses : IsSend Counts.the_field.row
-counts_crosses = search (tally.the_field_send, need.the_field_send, sequence.the_send, sendable) depth 60 fits 20000
+counts_crosses = search (tally.the_field_send, run_tally.the_field_send, run_legs.the_field_send, need.the_field_send, sequence.the_send, sendable) depth 60 fits 20000
 
 pub lasting_crosses : IsSend Lasting.the_field.row
 lasting_crosses = search (sequence.the_send, sendable) depth 60 fits 20000
