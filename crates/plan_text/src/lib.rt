@@ -18,6 +18,7 @@ mod plan;
 mod plan_tokens;
 mod printed;
 mod record;
+mod same_text;
 mod tokens;
 mod tree;
 
