@@ -1,10 +1,10 @@
 -- How the ancestors of each job of a run are found to have ended, one job after the other.
-use Rattle.std.proofs.Common.{◌≡◌, ℕ, suc, ◌+◌, ◌-◌, ◌<◌, ◌||◌, Bool, false, not, List, [], ◌∷◌, ◌++◌, Some, length, map, take, get_or, slice_get, ap, subst, sym, refl, ◌∙◌, arith}
+use Rattle.std.proofs.Common.{◌≡◌, ℕ, suc, ◌+◌, ◌-◌, ◌<◌, ◌||◌, Bool, false, not, List, [], ◌∷◌, ◌++◌, Some, length, map, take, get_or, slice_get, ap, refl, ◌∙◌}
 use Rattle.std.specs.List.{list_any}
 use Rattle.std.proofs.Math.Seq.{take-suc}
 use Rattle.std.proofs.lemmas.List.{length-map, map-append}
 use Rattle.std.proofs.lemmas.List.Folds.{list_any-append}
-use Rattle.board_decisions.specs.Ancestors.{NeedsPointBack, any_need, both, failures, lineage_at, lineage_in, lineage_of, no_lineage, unsuccesses}
+use Rattle.board_decisions.specs.Ancestors.{NeedsPointBack, both, failures, lineage_at, lineage_in, lineage_of, unsuccesses}
 use Rattle.board_decisions.specs.Derived.{holds_at, is_failure, is_success, some_ancestor}
 use Rattle.board_decisions.specs.declared.ancestors.Lineage.{Lineage}
 use Rattle.board_decisions.proofs.Backwards.{marked, marked_more}

@@ -1,10 +1,20 @@
 -- A step of whose texts none is evaluated but its condition has no other fault: it is called where that holds.
-use Rattle.std.proofs.Common.{◌≡◌, ℕ, Bool, true, false, List, Option, None, Some, Result, Ok, Err, length, refl, ap, ◌∙◌}
-use Rattle.board_decisions.specs.Decisions.{then_value, flow_env, job_env, leg_env, step_env, seen_from, directory_value, work_value, called_if, step_decision, is_called, leg_status}
-use Rattle.board_decisions.specs.Own.{IsOwnStep}
+use Rattle.std.proofs.Common.{◌≡◌, ℕ, Bool, true, false, List, Option, None, Some, Result, Ok, Err, length, refl, ap, sym, subst, ◌∙◌}
+use Rattle.board_decisions.specs.Calls.{AreCallsOf, Tells, called_as}
+use Rattle.board_decisions.specs.Decisions.{then_value, flow_env, job_env, leg_env, step_env, seen_from, directory_value, work_value, called_if, step_decision, is_called, leg_result, leg_status, status_of}
+use Rattle.board_decisions.specs.Own.{HasOwnEnv, IsOwnStep}
+use Rattle.board_decisions.specs.declared.kept.Called.{Called}
+use Rattle.board_decisions.specs.declared.kept.Called.TheVariants.{Yes, No, Unknown}
+use Rattle.board_decisions.specs.declared.kept.Calls.{Calls}
 use Rattle.board_places.specs.Place.{LegAt}
 use Rattle.expr_value.specs.Answer.{Gives}
 use Rattle.expr_value.specs.Context.{Contexts}
+use Rattle.expr_value.specs.declared.status.Status.{Status}
+use Rattle.expr_value.specs.declared.status.Status.TheVariants as status
+use Rattle.flow_model.specs.declared.event.Outcome.{Outcome}
+use Rattle.flow_model.specs.declared.event.Outcome.TheVariants as outcome
+use Rattle.flow_model.specs.declared.plan.JobPlan.{JobPlan}
+use Rattle.flow_model.specs.declared.plan.RunPlan.{RunPlan}
 use Rattle.flow_model.specs.declared.plan.Shell.{Shell}
 use Rattle.flow_model.specs.declared.plan.StepPlan.{StepPlan}
 use Rattle.flow_model.specs.declared.plan.Work.TheVariants as work
@@ -55,7 +65,7 @@ called_by l at step env true own = by_work (work_value (seen_from at place.StepT
     by_work (Err fault) h = absurd h
 
 -- It is called where its condition holds, and is skipped else, if that has a value whatever the contexts are.
-pub own_step : (l : ℕ) (at : LegAt) (step : StepPlan) (holds : Bool) → IsOwnStep at (record step { condition = None })
+own_step : (l : ℕ) (at : LegAt) (step : StepPlan) (holds : Bool) → IsOwnStep at (record step { condition = None })
     → ((c : Contexts) → condition_value c (leg_status at) step.condition ≡ Ok holds) → is_called (step_decision l at step) ≡ Ok holds
 unfolding step_decision
 own_step l at step holds own held = by_env (step_env at step) (own_env at step own)
@@ -66,6 +76,39 @@ own_step l at step holds own held = by_env (step_env at step) (own_env at step o
         ap (λ (r : Result Bool ValueFault). is_called (then_value r (called_if l at step env))) (held (seen_from at place.StepCondition env))
         ∙ called_by l at step env holds own
     by_env (Err fault) h = absurd h
+
+-- What is told of its condition, whatever the contexts are, is told of whether it is called.
+told_called : (l : ℕ) (at : LegAt) (step : StepPlan) (called : Called) → IsOwnStep at (record step { condition = None })
+    → ((c : Contexts) → Tells called (condition_value c (leg_status at) step.condition)) → Tells called (is_called (step_decision l at step))
+told_called l at step Yes own held = own_step l at step true own held
+told_called l at step No own held = own_step l at step false own held
+told_called l at step Unknown own held = tt
+
+-- What is told of its condition by each status is told of whether it is called, by how its leg counts.
+pub calls_told : (run : RunPlan) (job : JobPlan) (step : StepPlan) (calls : Calls) → HasOwnEnv run job → ((c : Contexts) → HasNoFault (env_value c step.env))
+    → ((c : Contexts) → HasNoFault (work_value c step.work)) → ((c : Contexts) → Tells calls.success (condition_value c status.Success step.condition))
+    → ((c : Contexts) → Tells calls.failure (condition_value c status.Failure step.condition))
+    → ((c : Contexts) → Tells calls.cancelled (condition_value c status.Cancelled step.condition)) → AreCallsOf run job step calls
+calls_told run job step calls outer own asks succeeds fails cancels l at in_run in_job = by_result (leg_result at) refl
+  where
+    is_own : IsOwnStep at (record step { condition = None })
+    is_own = record {
+      flow = λ c. subst (λ (r : RunPlan). HasNoFault (env_value c r.env)) (sym in_run) (outer.flow c);
+      job = λ c. subst (λ (j : JobPlan). HasNoFault (env_value c j.env)) (sym in_job) (outer.job c);
+      own = own;
+      work = asks;
+      plain = refl;
+    }
+
+    told : (called : Called) (how : Outcome) → leg_result at ≡ how → ((c : Contexts) → Tells called (condition_value c (status_of how) step.condition))
+        → Tells called (is_called (step_decision l at step))
+    told called how is held = told_called l at step called is_own (λ c. subst (λ (s : Status). Tells called (condition_value c s step.condition)) (sym (ap status_of is)) (held c))
+
+    by_result : (how : Outcome) → leg_result at ≡ how → Tells (called_as calls how) (is_called (step_decision l at step))
+    by_result outcome.Success is = told calls.success outcome.Success is succeeds
+    by_result outcome.Failure is = told calls.failure outcome.Failure is fails
+    by_result outcome.Cancelled is = told calls.cancelled outcome.Cancelled is cancels
+    by_result outcome.Skipped is = tt
 
 -- What is given as a decision is given as whether there is a call.
 pub gives_called : (r d : Result (Option StepCall) ValueFault) → Gives (λ call. call) r d → Gives (λ called. called) (is_called r) (is_called d)

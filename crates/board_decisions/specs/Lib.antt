@@ -1,4 +1,5 @@
 pub mod Ancestors
+pub mod Calls
 pub mod Contexts
 pub mod Decisions
 pub mod Derived

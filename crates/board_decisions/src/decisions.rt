@@ -1,6 +1,6 @@
 //! What is decided by the texts of a plan: conditions, environments, the texts of a call, flags and outputs.
 
-ghost use Rattle.std.specs.Prelude.{◌≡◌, [], not, Some, IfOk, OnOk, Result, if◌then◌else◌, string_bytes};
+ghost use Rattle.std.specs.Prelude.{◌≡◌, [], not, Some, IfOk, IfSome, OnOk, Result, if◌then◌else◌, string_bytes};
 ghost use Rattle.board_decisions.specs.Decisions as spec;
 ghost use Rattle.board_decisions.specs.Kept.{IsKeptOf};
 ghost use Rattle.board_decisions.specs.Scenes.{leg_scene};
@@ -114,6 +114,21 @@ pub fn leg_result_kept(alloc: Global, at: &SeenLeg, kept: Kept) -> Result<Outcom
 {
     let stops = is_stopping_given(alloc, at, kept.stops_anyway)?;
     Ok(counted(stops, kept.has_failed_step))
+}
+
+/// How a leg counts so far, by what is kept of it, where nothing has to be evaluated.
+#[inline(always)]
+pub(crate) fn result_at_once(at: &SeenLeg, kept: Kept) -> Option<Outcome>
+    requires { IsKeptOf kept (leg_seen at.now) }
+    ensures { IfSome result (λ how. spec.leg_result (leg_seen at.now) ≡ how) }
+{
+    if kept.stops_anyway {
+        return Some(Outcome::Cancelled);
+    }
+    if at.run.stop {
+        return None;
+    }
+    Some(counted(false, kept.has_failed_step))
 }
 
 /// How a leg counts so far.

@@ -55,6 +55,7 @@ pub struct SeenLeg<'a> {
 }
 
 /// The item at a place of a list, if there is one.
+#[inline(always)]
 pub fn item_at<T>(items: &Sequence<T>, place: usize) -> Option<&T>
     ensures { option_copied result ≡ slice_get items.now place }
 {
@@ -130,6 +131,7 @@ pub fn numbered_leg(board: &Board, number: usize) -> Option<&Leg>
 }
 
 /// The run with a number.
+#[inline(always)]
 pub fn find_run<'a>(plan: &'a Plan, board: &'a Board, number: usize) -> Option<SeenRun<'a>>
     ensures { option_map run_seen result ≡ spec.run_at plan.now board.now number }
 {
@@ -139,6 +141,7 @@ pub fn find_run<'a>(plan: &'a Plan, board: &'a Board, number: usize) -> Option<S
 }
 
 /// The job at a place, whose run is given.
+#[inline(always)]
 pub fn job_in_run<'a>(
     board: &'a Board,
     run_plan: &'a RunPlan,
@@ -160,6 +163,7 @@ pub fn job_in_run<'a>(
 }
 
 /// The job at a place.
+#[inline(always)]
 fn find_placed<'a>(plan: &'a Plan, board: &'a Board, place: JobPlace) -> Option<SeenJob<'a>>
     ensures { option_map job_seen result ≡ spec.job_placed plan.now board.now place }
 {
@@ -176,6 +180,7 @@ pub fn find_job<'a>(plan: &'a Plan, board: &'a Board, number: usize) -> Option<S
 }
 
 /// The leg at a place.
+#[inline(always)]
 pub fn find_placed_leg<'a>(plan: &'a Plan, board: &'a Board, place: LegPlace) -> Option<SeenLeg<'a>>
     ensures { option_map leg_seen result ≡ spec.leg_placed plan.now board.now place }
 {

@@ -3,7 +3,7 @@ use Rattle.std.proofs.Common.{◌≡◌, ℕ, zero, suc, ◌≤◌, Bool, List, 
 use Rattle.std.proofs.lemmas.Bool.{le-leb}
 use Rattle.flow_model.specs.Rules.{IsPlan}
 use Rattle.flow_model.specs.Sound.{SoundPlan}
-use Rattle.flow_model.specs.declared.board.Board.{Board}
+use Rattle.flow_model.specs.declared.event.Answer.{Answer}
 use Rattle.flow_model.specs.declared.event.Entry.{Entry}
 use Rattle.flow_model.specs.declared.event.Event.{Event}
 use Rattle.flow_model.specs.declared.event.Event.TheVariants as event
@@ -21,7 +21,7 @@ use Rattle.status_table.specs.Answers.{Answers}
 use Rattle.status_table.specs.Grouped.{KeptAsShown, after_event}
 use Rattle.status_table.specs.InPlay.{InPlay}
 use Rattle.status_table.specs.Play.{Play}
-use Rattle.status_table.specs.Row.{Row, row, event_row, begin_row}
+use Rattle.status_table.specs.Row.{Row, row, event_row, begin_row, end_row}
 use Rattle.status_table.specs.Runs.{Plays, new_board, new_job, new_leg, new_play, new_run}
 use Rattle.status_table.specs.Stays.{Stays}
 use Rattle.status_table.specs.Unasked.{Leads}
@@ -78,31 +78,34 @@ module _ (law : EventsKeep) (old new : Play) (groups after : Known) (worker : �
   pub stays_after : (result : Result Reply EventFault) → Follows old new groups after worker e result → Stays old.board new.board
   stays_after result follows = (led result follows).1
 
--- A step that is begun without a reply leaves the groups as they are.
-groups_stay : (p : Plan) (b : Board) (l : ℕ) (groups : Known) (answer : Result Reply EventFault) → Goes answer groups (after_event p b (content groups) (event.Begin l)) groups
-groups_stay p b l groups (Ok reply) = record { held = refl; known = λ name h. h }
-groups_stay p b l groups (Err f) = refl
-
-pub begun_unasked : (old mid new : Play) (groups : Known) (worker l : ℕ) (result : Result (Unit {0}) EventFault) → mid.plan ≡ old.plan → mid.board ≡ old.board
-    → new.plan ≡ mid.plan → Leads (begin_row mid.plan mid.board worker l) mid.board result new.board → FollowsUnasked old new groups groups worker (event.Begin l) result
-begun_unasked old mid new groups worker l result same_plan same_board plan leads =
-    let here = subst (λ (p : Plan). Leads (begin_row p old.board worker l) old.board result new.board) same_plan
-    (subst (λ (b : Board). Leads (begin_row mid.plan b worker l) b result new.board) same_board leads) in
-    let left = left_of (begin_row old.plan old.board worker l) old.board result new.board here in
+-- What leads to an event's board is played without its reply, where the event leaves the groups as they are.
+led_unasked : (old new : Play) (groups : Known) (worker : ℕ) (e : Event) (result : Result (Unit {0}) EventFault)
+    → ((answer : Result Reply EventFault) → Goes answer groups (after_event old.plan old.board (content groups) e) groups) → new.plan ≡ old.plan
+    → Leads (event_row old.plan old.board worker e) old.board result new.board → FollowsUnasked old new groups groups worker e result
+led_unasked old new groups worker e result stay plan leads =
+    let left = left_of (event_row old.plan old.board worker e) old.board result new.board leads in
     record {
       answer = left.answer;
-      follows = record { plan = plan ∙ same_plan; answers = left.answers; groups = groups_stay old.plan old.board l groups left.answer };
+      follows = record { plan = plan; answers = left.answers; groups = stay left.answer };
       same = left.same;
     }
 
--- Where there is no memory nothing is changed.
-pub nothing_unasked : (old new : Play) (groups : Known) (worker : ℕ) (e : Event) → new.plan ≡ old.plan → new.board ≡ old.board
-    → FollowsUnasked old new groups groups worker e (Err fault.Memory)
-nothing_unasked old new groups worker e plan board = record {
-  answer = Err fault.Memory;
-  follows = record { plan = plan; answers = (tt, board); groups = refl };
-  same = refl;
-}
+-- So is a step that is begun, and one that is ended.
+pub begun_unasked : (old new : Play) (groups : Known) (worker l : ℕ) (result : Result (Unit {0}) EventFault) → new.plan ≡ old.plan
+    → Leads (begin_row old.plan old.board worker l) old.board result new.board → FollowsUnasked old new groups groups worker (event.Begin l) result
+begun_unasked old new groups worker l result = led_unasked old new groups worker (event.Begin l) result stay
+  where
+    stay : (answer : Result Reply EventFault) → Goes answer groups (content groups) groups
+    stay (Ok reply) = record { held = refl; known = λ name h. h }
+    stay (Err f) = refl
+
+pub ended_unasked : (old new : Play) (groups : Known) (worker l : ℕ) (a : Answer) (result : Result (Unit {0}) EventFault) → new.plan ≡ old.plan
+    → Leads (end_row old.plan old.board worker l a) old.board result new.board → FollowsUnasked old new groups groups worker (event.End l a) result
+ended_unasked old new groups worker l a result = led_unasked old new groups worker (event.End l a) result stay
+  where
+    stay : (answer : Result Reply EventFault) → Goes answer groups (content groups) groups
+    stay (Ok reply) = record { held = refl; known = λ name h. h }
+    stay (Err f) = refl
 
 -- An event without its reply is as the entry's answer without it.
 pub plays_unasked : (old new : Play) (groups after : Known) (e : Entry) (result : Result (Unit {0}) EventFault) → e.worker ≤ 15

@@ -22,7 +22,7 @@ use crate::groups::{holder, leg_stand, next_after, run_stand, waiter};
 use crate::laws::{events_keep_the_groups, who_enters_is_outside};
 use crate::moves::{find_first, find_moves};
 use crate::touched::{Touch, held_before, name_at, touched};
-use crate::unasked::begin_unasked;
+use crate::unasked::{begin_unasked, end_unasked, undo_apart};
 use crate::undo::{CellBack, Stood, Undo};
 use flat_counters::{Counted, OnlyChange, Tracked};
 use flow_model::{Board, CheckedPlan, Duplicate, Entry, Event, Leg, Member, Reply, Run, Sequence};
@@ -180,7 +180,25 @@ fn play_event(
     apply_event(alloc, state, groups, worker, event)
 }
 
-/// Plays an event whose reply nobody asks for, and keeps what takes it back.
+/// Plays an event, and lets its reply go. It stands apart, so that what plays most events has no room for a reply.
+#[inline(never)]
+fn play_unasked(
+    alloc: Global,
+    state: &mut Tracked,
+    groups: &mut Groups,
+    worker: u8,
+    event: Event,
+) -> Result<(), EventFault>
+    requires in_play { InPlay state.old.plan state.old.board }
+    requires kept { KeptAsShown (content groups.old) state.old.board }
+    ensures follows { FollowsUnasked (play_of state.old) (play_of state.new)
+        groups.old groups.new worker event result }
+{
+    play_event(alloc, state, groups, worker, event)?;
+    Ok(())
+}
+
+/// Plays an event whose reply nobody asks for.
 fn advance_event(
     alloc: Global,
     state: &mut Tracked,
@@ -192,29 +210,13 @@ fn advance_event(
     requires kept { KeptAsShown (content groups.old) state.old.board }
     ensures follows { FollowsUnasked (play_of state.old) (play_of state.new)
         groups.old groups.new worker event result }
-    ensures back { OnOk result (state.new.back ≡ state.old.board) }
 {
-    if let Event::Begin { leg } = &event {
-        state.begin(1)?;
-        return begin_unasked(alloc, state, worker, *leg);
+    match event {
+        Event::Begin { leg } => drop(begin_unasked(alloc, state, worker, leg)?),
+        Event::End { leg, answer } => drop(end_unasked(alloc, state, worker, leg, answer)?),
+        other => play_unasked(alloc, state, groups, worker, other)?,
     }
-    play_event(alloc, state, groups, worker, event)?;
     Ok(())
-}
-
-/// What takes back what was played since the board last began, where no name was asked for.
-fn undo_apart(alloc: Global, state: &mut Tracked) -> Undo
-    ensures plan { state.new.plan ≡ state.old.plan }
-    ensures board { state.new.board ≡ state.old.board }
-    ensures back { board_before result state.new.board ≡ state.old.back }
-    ensures cell { cell_of result ≡ None }
-{
-    match state.take_only() {
-        Some(OnlyChange::State(place, leg_state)) => return Undo::State(place, leg_state),
-        Some(OnlyChange::Step(place, leg_state)) => return Undo::Step(place, leg_state),
-        None => {},
-    }
-    Undo::Changes(state.take_changes(alloc))
 }
 
 /// What takes back what was played since the board last began, with what was held of the name that was asked for.
@@ -318,25 +320,6 @@ fn play_with_undo(
     }
 }
 
-/// Plays an event that asks for no name, and whose reply nobody asks for, and gives what takes it back.
-fn advance_apart(
-    alloc: Global,
-    state: &mut Tracked,
-    groups: &mut Groups,
-    worker: u8,
-    event: Event,
-) -> Result<Undo, EventFault>
-    requires in_play { InPlay state.old.plan state.old.board }
-    requires kept { KeptAsShown (content groups.old) state.old.board }
-    ensures follows { FollowsUnasked (play_of state.old) (play_of state.new)
-        groups.old groups.new worker event (done_of result) }
-    ensures back { IfOk result (λ undo. board_before undo state.new.board ≡ state.old.board) }
-    ensures cell { IfOk result (λ undo. cell_of undo ≡ None) }
-{
-    advance_event(alloc, state, groups, worker, event)?;
-    Ok(undo_apart(alloc, state))
-}
-
 /// Plays an event whose reply nobody asks for, and gives what takes it back.
 fn advance_with_undo(
     alloc: Global,
@@ -356,11 +339,14 @@ fn advance_with_undo(
         (touched_by state.old.plan state.old.board (content groups.old) event)
         state.new.board (content groups.new) reply.displaced) }
 {
-    if let Event::Begin { .. } = &event {
-        return advance_apart(alloc, state, groups, worker, event);
+    match event {
+        Event::Begin { leg } => begin_unasked(alloc, state, worker, leg),
+        Event::End { leg, answer } => end_unasked(alloc, state, worker, leg, answer),
+        other => {
+            let (_, undo) = play_with_undo(alloc, state, groups, worker, other)?;
+            Ok(undo)
+        },
     }
-    let (_, undo) = play_with_undo(alloc, state, groups, worker, event)?;
-    Ok(undo)
 }
 
 /// Puts a name back, where one was asked for: it stands on the board after the entry.

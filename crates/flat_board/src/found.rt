@@ -36,6 +36,7 @@ pub(crate) fn find_job(state: &Counted, number: u64) -> Option<SeenJob<'_>>
 }
 
 /// The leg with a number.
+#[inline(always)]
 pub(crate) fn find_leg(state: &Counted, number: u64) -> Option<TalliedLeg<'_>>
     ensures found { option_map (λ found. leg_seen found.at) result
         ≡ leg_at state.now.plan state.now.board number }
@@ -82,13 +83,15 @@ pub(crate) fn is_none_fresh(leg: &TalliedLeg) -> bool
 
 /// Whether a leg is to stop whatever its job's condition:
 /// by itself, or since its job fails fast and has failed.
+#[inline(always)]
 fn stops_anyway(leg: &TalliedLeg) -> bool
     ensures { result ≡ decision.stops_anyway (leg_seen leg.now.at) }
 {
     leg.at.leg.stop || (leg.at.job_plan.fail_fast && leg.tally.failed > 0)
 }
 
-/// What is kept of a leg, so that nothing is walked over to know how it counts.
+/// What is kept of a leg, so that nothing is walked over to know how it counts, and whether its next step is called.
+#[inline(always)]
 pub(crate) fn keep(state: &Counted, leg: &TalliedLeg) -> Kept
     requires there { leg_there state.now.board leg.now.at.place ≡ Some (leg_seen leg.now.at).leg }
     requires run_plan { slice_get state.now.plan.runs leg.now.at.place.run
@@ -100,7 +103,7 @@ pub(crate) fn keep(state: &Counted, leg: &TalliedLeg) -> Kept
     Kept {
         stops_anyway: stops_anyway(leg),
         has_failed_step: state.has_failed_step(leg.at.place),
-        has_own_env: state.has_own_env(job_of(leg.at.place)),
+        calls: state.calls(job_of(leg.at.place), leg.at.leg.steps.len()),
     }
 }
 

@@ -1,19 +1,41 @@
-//! A step that is begun where nobody asks for its call, so that none is made.
+//! The steps of legs where nobody asks for a reply: those that begin and end at once, and the others.
+//!
+//! Most steps begin with no text to be evaluated, and end by an exit that leaves nothing behind. What takes these back is
+//! known as they are played, and is given by itself.
 
-ghost use Rattle.std.specs.Prelude.{◌≡◌, ◌≤◌, OnOk};
-ghost use Rattle.status_table.specs.Row.{begin_row};
+ghost use Rattle.std.specs.Prelude.{◌≡◌, ◌≤◌, None, IfOk, OnOk};
+ghost use Rattle.flat_board.specs.Undo.{board_before, cell_of};
+ghost use Rattle.status_table.specs.Reversible.{done_of};
+ghost use Rattle.status_table.specs.Row.{begin_row, end_row};
 ghost use Rattle.status_table.specs.Unasked.{Leads};
 
+use crate::events::end;
 use crate::found::{find_leg, keep};
-use flat_counters::{LegChange, Tracked};
-use flow_model::LegState;
+use crate::undo::Undo;
+use flat_counters::{LegChange, OnlyChange, Tracked};
+use flow_model::{Answer, LegState, Outcome};
 use status_table::EventFault;
-use status_table::events::{failed_step, skipped_step};
-use status_table::unasked::{Begins, beginning_unasked};
+use status_table::events::{ended_step, failed_step, skipped_step};
+use status_table::unasked::{Begins, beginning_unasked, is_begun_at_once, is_ended_at_once};
 use std::alloc::Global;
 
-/// Begins the next step of a leg, whose call nobody asks for.
-pub(crate) fn begin_unasked(
+/// What takes back what was played since the board last began, where no name was asked for.
+pub(crate) fn undo_apart(alloc: Global, state: &mut Tracked) -> Undo
+    ensures plan { state.new.plan ≡ state.old.plan }
+    ensures board { state.new.board ≡ state.old.board }
+    ensures back { board_before result state.new.board ≡ state.old.back }
+    ensures cell { cell_of result ≡ None }
+{
+    match state.take_only() {
+        Some(OnlyChange::State(place, leg_state)) => return Undo::State(place, leg_state),
+        Some(OnlyChange::Step(place, leg_state)) => return Undo::Step(place, leg_state),
+        None => {},
+    }
+    Undo::Changes(state.take_changes(alloc))
+}
+
+/// Begins the next step of a leg, whose texts may have to be evaluated.
+fn begin_by_texts(
     alloc: Global,
     state: &mut Tracked,
     worker: u8,
@@ -45,4 +67,95 @@ pub(crate) fn begin_unasked(
         },
     }
     Ok(())
+}
+
+/// The same, with what takes it back.
+fn begin_slowly(
+    alloc: Global,
+    state: &mut Tracked,
+    worker: u8,
+    number: u64,
+) -> Result<Undo, EventFault>
+    ensures plan { state.new.plan ≡ state.old.plan }
+    ensures leads { Leads (begin_row state.old.plan state.old.board worker number)
+        state.old.board (done_of result) state.new.board }
+    ensures back { IfOk result (λ undo. board_before undo state.new.board ≡ state.old.board) }
+    ensures cell { IfOk result (λ undo. cell_of undo ≡ None) }
+{
+    state.begin(1)?;
+    begin_by_texts(alloc, state, worker, number)?;
+    Ok(undo_apart(alloc, state))
+}
+
+/// Begins the next step of a leg, whose call nobody asks for, and gives what takes it back.
+#[inline(always)]
+pub(crate) fn begin_unasked(
+    alloc: Global,
+    state: &mut Tracked,
+    worker: u8,
+    number: u64,
+) -> Result<Undo, EventFault>
+    ensures plan { state.new.plan ≡ state.old.plan }
+    ensures leads { Leads (begin_row state.old.plan state.old.board worker number)
+        state.old.board (done_of result) state.new.board }
+    ensures back { IfOk result (λ undo. board_before undo state.new.board ≡ state.old.board) }
+    ensures cell { IfOk result (λ undo. cell_of undo ≡ None) }
+{
+    let play = state.counted();
+    let Some(leg) = find_leg(play, number) else {
+        return Err(EventFault::NoSuch);
+    };
+    if !is_begun_at_once(worker, &leg.at, keep(play, &leg)) {
+        return begin_slowly(alloc, state, worker, number);
+    }
+    let place = leg.at.place;
+    let in_call = true;
+    let was = state.set_state_alone(place, LegState::Running { worker, in_call });
+    Ok(Undo::State(place, was))
+}
+
+/// Ends the step of a leg, whose texts may have to be evaluated, and gives what takes it back.
+fn end_slowly(
+    alloc: Global,
+    state: &mut Tracked,
+    worker: u8,
+    number: u64,
+    answer: Answer,
+) -> Result<Undo, EventFault>
+    ensures plan { state.new.plan ≡ state.old.plan }
+    ensures leads { Leads (end_row state.old.plan state.old.board worker number answer)
+        state.old.board (done_of result) state.new.board }
+    ensures back { IfOk result (λ undo. board_before undo state.new.board ≡ state.old.board) }
+    ensures cell { IfOk result (λ undo. cell_of undo ≡ None) }
+{
+    state.begin(1)?;
+    end(alloc, state, worker, number, answer)?;
+    Ok(undo_apart(alloc, state))
+}
+
+/// Ends the step of a leg that is in a call, and gives what takes it back.
+#[inline(always)]
+pub(crate) fn end_unasked(
+    alloc: Global,
+    state: &mut Tracked,
+    worker: u8,
+    number: u64,
+    answer: Answer,
+) -> Result<Undo, EventFault>
+    ensures plan { state.new.plan ≡ state.old.plan }
+    ensures leads { Leads (end_row state.old.plan state.old.board worker number answer)
+        state.old.board (done_of result) state.new.board }
+    ensures back { IfOk result (λ undo. board_before undo state.new.board ≡ state.old.board) }
+    ensures cell { IfOk result (λ undo. cell_of undo ≡ None) }
+{
+    let Some(leg) = find_leg(state.counted(), number) else {
+        return Err(EventFault::NoSuch);
+    };
+    if !is_ended_at_once(worker, &leg.at, &answer) {
+        return end_slowly(alloc, state, worker, number, answer);
+    }
+    let place = leg.at.place;
+    let done = ended_step(alloc, Outcome::Success, Outcome::Success, answer);
+    let was = state.add_done_alone(place, worker, done)?;
+    Ok(Undo::Step(place, was))
 }

@@ -1,16 +1,16 @@
 -- What is kept of a board and stays, whatever is changed of it.
-use Rattle.std.proofs.Common.{◌≡◌, ◌<◌, ◌+◌, ℕ, Bool, true, List, [], ◌∷◌, ◌++◌, Option, Some, None, length, take, get_or, slice_get, ap, subst, sym, refl, ◌∙◌}
+use Rattle.std.proofs.Common.{◌≡◌, ◌<◌, ◌+◌, ℕ, List, [], ◌∷◌, ◌++◌, Option, Some, None, length, take, get_or, slice_get, ap, subst, sym, refl, ◌∙◌}
 use Rattle.std.specs.List.{AllZip}
-use Rattle.std.proofs.lemmas.Bool.{true≢false}
 use Rattle.std.proofs.lemmas.List.{take_more}
-use Rattle.board_decisions.specs.Own.{HasOwnEnv}
+use Rattle.board_decisions.specs.Calls.{AreCallsOf, Tells, called_as}
+use Rattle.board_decisions.specs.Decisions.{is_called, leg_result, step_decision}
+use Rattle.board_decisions.specs.declared.kept.Calls.{Calls}
 use Rattle.board_places.specs.Place.{◌>>=◌}
 use Rattle.board_places.specs.Places.{sizes, run_sizes, all_jobs_from, all_legs_from}
 use Rattle.board_places.specs.declared.place.JobPlace.{JobPlace}
 use Rattle.board_places.specs.declared.place.LegPlace.{LegPlace}
 use Rattle.flat_counters.specs.Dependents.{all_dependents}
-use Rattle.flat_counters.specs.Failing.{or_false}
-use Rattle.flat_counters.specs.Lasting.{AllOwn, AreOwn, IsLasting, IsOwn, own_at}
+use Rattle.flat_counters.specs.Lasting.{IsLasting, TellsJobs, TellsRuns, TellsSteps, calls_at, or_unknown}
 use Rattle.flat_counters.specs.declared.lasting.Lasting.{Lasting}
 use Rattle.flat_counters.proofs.Lists.{map-same}
 use Rattle.flow_model.specs.declared.board.Board.{Board}
@@ -18,9 +18,12 @@ use Rattle.flow_model.specs.declared.board.Run.{Run}
 use Rattle.flow_model.specs.declared.board.Job.{Job}
 use Rattle.flow_model.specs.declared.board.JobState.{JobState}
 use Rattle.flow_model.specs.declared.board.Leg.{Leg}
+use Rattle.flow_model.specs.declared.event.Outcome.{Outcome}
+use Rattle.flow_model.specs.declared.event.Outcome.TheVariants as outcome
 use Rattle.flow_model.specs.declared.plan.JobPlan.{JobPlan}
 use Rattle.flow_model.specs.declared.plan.Plan.{Plan}
 use Rattle.flow_model.specs.declared.plan.RunPlan.{RunPlan}
+use Rattle.flow_model.specs.declared.plan.StepPlan.{StepPlan}
 use Rattle.status_table.specs.Change.{changed, with_run, with_job, with_leg}
 use Rattle.status_table.proofs.Lists.{length-changed, zip-append, zip-get}
 
@@ -47,22 +50,38 @@ pub still_lasts : (p : Plan) (b new : Board) (lasting : Lasting) → run_sizes n
 still_lasts p b new lasting same is = record {
   jobs = is.jobs ∙ sym (ap (all_jobs_from 0) same);
   legs = is.legs ∙ sym (ap (all_legs_from 0) same);
-  own = is.own;
+  calls = is.calls;
   dependents = is.dependents ∙ sym (ap (all_dependents p.runs) same);
 }
 
--- what is told of the variables of the job at a place
-pub own_told : (runs : List RunPlan) (own : List (List Bool)) (place : JobPlace) (run : RunPlan) (job : JobPlan) → AllOwn runs own → slice_get runs place.run ≡ Some run
-    → slice_get run.jobs place.job ≡ Some job → own_at own place ≡ true → HasOwnEnv run job
-own_told runs own place run job all in_runs in_jobs = by_row (slice_get own place.run) refl
+-- nothing is told where nothing is known
+nothing_told : (run : RunPlan) (job : JobPlan) (step : StepPlan) → AreCallsOf run job step (or_unknown None)
+nothing_told run job step l at in_run in_job = by_result (leg_result at)
   where
-    by_truth : (row : List Bool) → AreOwn run row → (o : Option Bool) → slice_get row place.job ≡ o → or_false o ≡ true → HasOwnEnv run job
-    by_truth row are None at holds = absurd (true≢false (sym holds))
-    by_truth row are (Some truth) at holds = zip-get (IsOwn run) run.jobs row place.job job truth in_jobs at are holds
+    by_result : (how : Outcome) → Tells (called_as (or_unknown None) how) (is_called (step_decision l at step))
+    by_result outcome.Success = tt
+    by_result outcome.Failure = tt
+    by_result outcome.Cancelled = tt
+    by_result outcome.Skipped = tt
 
-    by_row : (o : Option (List Bool)) → slice_get own place.run ≡ o → or_false (o >>= λ row. slice_get row place.job) ≡ true → HasOwnEnv run job
-    by_row None at holds = absurd (true≢false (sym holds))
-    by_row (Some row) at holds = by_truth row (zip-get AreOwn runs own place.run run row in_runs at all) (slice_get row place.job) refl holds
+-- what is told of a step of the job at a place
+pub calls_told : (runs : List RunPlan) (calls : List (List (List Calls))) (place : JobPlace) (n : ℕ) (run : RunPlan) (job : JobPlan) (step : StepPlan) → TellsRuns runs calls
+    → slice_get runs place.run ≡ Some run → slice_get run.jobs place.job ≡ Some job → slice_get job.steps n ≡ Some step → AreCallsOf run job step (calls_at calls place n)
+calls_told runs calls place n run job step all in_runs in_jobs in_steps = by_row (slice_get calls place.run) refl
+  where
+    by_step : (told : List Calls) → TellsSteps run job told → (o : Option Calls) → slice_get told n ≡ o → AreCallsOf run job step (or_unknown o)
+    by_step told are None at = nothing_told run job step
+    by_step told are (Some one) at = zip-get (AreCallsOf run job) job.steps told n step one in_steps at are
+
+    by_job : (row : List (List Calls)) → TellsJobs run row → (o : Option (List Calls)) → slice_get row place.job ≡ o
+        → AreCallsOf run job step (or_unknown (o >>= λ told. slice_get told n))
+    by_job row are None at = nothing_told run job step
+    by_job row are (Some told) at = by_step told (zip-get (TellsSteps run) run.jobs row place.job job told in_jobs at are) (slice_get told n) refl
+
+    by_row : (o : Option (List (List Calls))) → slice_get calls place.run ≡ o
+        → AreCallsOf run job step (or_unknown (o >>= λ row. slice_get row place.job >>= λ told. slice_get told n))
+    by_row None at = nothing_told run job step
+    by_row (Some row) at = by_job row (zip-get TellsJobs runs calls place.run run row in_runs at all) (slice_get row place.job) refl
 
 -- one more item, side by side with one more
 pub zip-more : {A B : Type 0} (R : A → B → Type 0) (xs : List A) (i : ℕ) (x : A) (y : B) (ys made : List B) → i < length xs → x ≡ get_or xs i x → made ≡ ys ++ y ∷ [] → R x y

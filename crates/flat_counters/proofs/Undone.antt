@@ -22,7 +22,7 @@ use Rattle.flat_counters.specs.declared.change.RunChange.TheVariants as run_chan
 use Rattle.flat_counters.specs.declared.undo.Change.{Change}
 use Rattle.flat_counters.proofs.Tallies.{there}
 use Rattle.status_table.specs.Change.{changed, with_run, with_job, with_leg}
-use Rattle.status_table.specs.Row.{job_state_set, step_done}
+use Rattle.status_table.specs.Row.{job_state_set, leg_state_set, step_done}
 use Rattle.status_table.proofs.Lists.{changed-cons}
 
 -- ---- lists
@@ -99,6 +99,13 @@ step_back b new place worker done was new_is was_is =
     (λ i. with_leg (new_is i) place (step_taken was))
     ∙ leg-there b place (λ leg. record leg { state = leg_state.Running worker false; steps = leg.steps ++ done ∷ [] }) (step_taken was) (λ leg at i.
     record leg { state = (was_is ∙ ap state_of at) i; steps = front-more leg.steps done i })
+
+pub state_back : (b new : Board) (place : LegPlace) (state was : LegState) → new ≡ leg_state_set b place state → was ≡ state_there b place
+    → leg_state_set new place was ≡ b
+state_back b new place state was new_is was_is =
+    (λ i. leg_state_set (new_is i) place was)
+    ∙ leg-there b place (λ leg. record leg { state = state }) (λ leg. record leg { state = was }) (λ leg at.
+    ap (λ (s : LegState). record leg { state = s }) (was_is ∙ ap state_of at))
 
 pub end_back : (b new : Board) (l : ℕ) → new ≡ noted_last b l → unnoted new ≡ b
 end_back b new l new_is = ap unnoted new_is ∙ ap (λ (ends : List ℕ). record b { ends = ends }) (front-more b.ends l)

@@ -1,13 +1,16 @@
 //! Changes of a board in place, each of which gives what was there before.
 
-ghost use Rattle.std.specs.Prelude.{◌≡◌, slice_get};
+ghost use Rattle.std.specs.Prelude.{◌≡◌, IfOk, OnErr, OnOk, slice_get};
 ghost use Rattle.std.specs.Option.{option_copied};
 ghost use Rattle.board_places.specs.Numbered.{job_there, leg_there};
 ghost use Rattle.flat_counters.specs.Changes as spec;
 ghost use Rattle.status_table.specs.Change.{with_leg, with_run};
+ghost use Rattle.status_table.specs.Row.{leg_state_set, step_done};
 
 use board_places::place::{JobPlace, LegPlace, item_at};
-use flow_model::{Board, Job, JobState, Leg, LegState, Mapping, Run, RunState, Sequence, Text};
+use flow_model::{
+    Board, DoneStep, Job, JobState, Leg, LegState, Mapping, Run, RunState, Sequence, Text,
+};
 use std::alloc::{AllocError, Global};
 use std::mem;
 
@@ -89,6 +92,47 @@ pub(crate) fn exchange_leg_at(board: &mut Board, place: LegPlace, how: LegChange
         }
     }
     how
+}
+
+/// Puts the leg at a place, where there is one, into a state, and gives that in which it was.
+#[inline(always)]
+pub(crate) fn exchange_state_at(board: &mut Board, place: LegPlace, state: LegState) -> LegState
+    ensures board { board.new ≡ leg_state_set board.old place state }
+    ensures was { result ≡ spec.state_there board.old place }
+{
+    if let Some(run) = board.runs.get_mut(place.run) {
+        if let Some(job) = run.jobs.get_mut(place.job) {
+            if let Some(leg) = job.legs.get_mut(place.leg) {
+                return mem::replace(&mut leg.state, state);
+            }
+        }
+    }
+    LegState::Fresh
+}
+
+/// Adds a done step to the leg at a place, where there is one, which is idle again, and gives the state in which it was;
+/// where memory runs out, nothing is changed.
+#[inline(always)]
+pub(crate) fn push_step_at(
+    board: &mut Board,
+    place: LegPlace,
+    worker: u8,
+    done: DoneStep,
+) -> Result<LegState, AllocError>
+    ensures ok { OnOk result (board.new ≡ step_done board.old place worker done) }
+    ensures err { OnErr result (board.new ≡ board.old) }
+    ensures was { IfOk result (λ was. was ≡ spec.state_there board.old place) }
+{
+    if let Some(run) = board.runs.get_mut(place.run) {
+        if let Some(job) = run.jobs.get_mut(place.job) {
+            if let Some(leg) = job.legs.get_mut(place.leg) {
+                leg.steps.push(done)?;
+                let in_call = false;
+                return Ok(mem::replace(&mut leg.state, LegState::Running { worker, in_call }));
+            }
+        }
+    }
+    Ok(LegState::Fresh)
 }
 
 /// Changes a run, but not its jobs, and gives what was there.

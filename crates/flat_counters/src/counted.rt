@@ -9,28 +9,30 @@ ghost use Rattle.flat_counters.specs.Stopping.{run_legs as run_legs_of};
 ghost use Rattle.status_table.specs.Change.{with_leg, with_run};
 
 use crate::change::{
-    LegChange, RunChange, exchange_leg_at, exchange_run_at, job_state_there, make_room, state_in,
-    stop_in, take_step_at, without_last,
+    LegChange, RunChange, exchange_leg_at, exchange_run_at, exchange_state_at, job_state_there,
+    make_room, push_step_at, state_in, stop_in, take_step_at, without_last,
 };
 use crate::counts::{Counts, count_all, recount_job, recount_leg, standing_at};
 use crate::dependents::Dependents;
 use crate::failing::{Failing, failing_at, note_done, note_taken, runs_failing};
-use crate::lasting::{Lasting, lasting_of, own_at, place_at};
+use crate::lasting::{Lasting, calls_at, lasting_of, place_at};
 use crate::need::Need;
 use crate::standing::RunTally;
 use crate::stopping::{RunLegs, retell, run_legs_at};
 use crate::tally::{Tally, are_alike};
 use crate::undo::{Change, LegBack, RunBack};
 use board_decisions::derived::is_failure;
+use board_decisions::kept::Calls;
 use board_places::place::{JobPlace, LegPlace, leg_there};
 use flow_model::laws::needs_point_back;
 use flow_model::{Board, CheckedPlan, DoneStep, JobState, LegState, Outcome, Plan, Sequence};
-use status_table::change::{add_step, set_job_state};
+use status_table::change::set_job_state;
 use status_table::new_board::make_board;
 use std::alloc::{AllocError, Global};
 use std::marker::Model;
 
 /// The state of the leg at a place.
+#[inline(always)]
 fn state_there(board: &Board, place: LegPlace) -> LegState
     ensures { result ≡ spec.state_there board.now place }
 {
@@ -41,6 +43,7 @@ fn state_there(board: &Board, place: LegPlace) -> LegState
 }
 
 /// How the legs of a job stand that has none.
+#[inline(always)]
 fn no_legs() -> Tally
     ensures { result ≡ tally_there None }
 {
@@ -73,6 +76,7 @@ fn run_tally_at(runs: &[RunTally], place: usize) -> RunTally
 }
 
 /// The job of a leg, by their places.
+#[inline(always)]
 pub fn job_of(place: LegPlace) -> JobPlace
     ensures { result ≡ spec.job_of place }
 {
@@ -96,6 +100,7 @@ fn needs_none_at(needs: &[Sequence<Need>], place: JobPlace) -> bool
 }
 
 /// Counts again after the leg at a place, where there is one, came from a state to another.
+#[inline(always)]
 fn recount_to(
     counts: &mut Counts,
     board: &Board,
@@ -149,8 +154,8 @@ impl Model for Counted {
 impl Counted {
     ghost use Rattle.flow_model.specs.Rules.{IsPlan};
     ghost use Rattle.flow_model.specs.Sound.{SoundPlan};
+    ghost use Rattle.board_decisions.specs.Calls.{AreCallsOf};
     ghost use Rattle.board_decisions.specs.Derived.{all_succeed, is_going, jobs_have_ended, needs_have_ended, run_result};
-    ghost use Rattle.board_decisions.specs.Own.{HasOwnEnv};
     ghost use Rattle.board_places.specs.Place.{JobAt, job_at, job_place, leg_place};
     ghost use Rattle.flow_model.specs.declared.board.Board.{Board};
     ghost use Rattle.flow_model.specs.declared.board.Job.{Job};
@@ -159,6 +164,7 @@ impl Counted {
     ghost use Rattle.flow_model.specs.declared.board.Run.{Run as RunOf};
     ghost use Rattle.flow_model.specs.declared.plan.JobPlan.{JobPlan};
     ghost use Rattle.flow_model.specs.declared.plan.RunPlan.{RunPlan};
+    ghost use Rattle.flow_model.specs.declared.plan.StepPlan.{StepPlan};
     ghost use Rattle.flat_counters.specs.Names.{IsNamed, LegComesNamed, RunComesNamed};
     ghost use Rattle.flat_counters.specs.Undo.{board_before};
     ghost use Rattle.status_table.specs.InPlay.{InPlay};
@@ -184,6 +190,7 @@ impl Counted {
     }
 
     /// The plan, which breaks no rule.
+    #[inline(always)]
     pub fn plan(&self) -> &Plan
         ensures same { result.now ≡ self.now.plan }
         ensures sound { IsPlan result.now }
@@ -193,6 +200,7 @@ impl Counted {
     }
 
     /// The board.
+    #[inline(always)]
     pub fn board(&self) -> &Board
         ensures board { result.now ≡ self.now.board }
         ensures named { IsNamed self.now.board }
@@ -208,6 +216,7 @@ impl Counted {
     }
 
     /// The place of the leg with a number.
+    #[inline(always)]
     pub fn leg_place(&self, number: u64) -> Option<LegPlace>
         ensures { result ≡ leg_place self.now.board number }
     {
@@ -215,6 +224,7 @@ impl Counted {
     }
 
     /// How the legs of the job at a place stand.
+    #[inline(always)]
     pub fn tally(&self, place: JobPlace) -> Tally
         ensures { (job : Job)
             → job_there self.now.board place ≡ Some job → result ≡ tally_of_job job }
@@ -244,17 +254,19 @@ impl Counted {
         run_legs_at(self.counts.legs.as_slice(), place)
     }
 
-    /// Whether no text of the variables of the job at a place and of its workflow is evaluated; where that isn't known,
-    /// it is not said.
-    pub fn has_own_env(&self, place: JobPlace) -> bool
-        ensures { (run : RunPlan) (job : JobPlan)
+    /// Whether a step of the job at a place is called, as far as that is known without its leg.
+    #[inline(always)]
+    pub fn calls(&self, place: JobPlace, step: usize) -> Calls
+        ensures { (run : RunPlan) (job : JobPlan) (planned : StepPlan)
             → slice_get self.now.plan.runs place.run ≡ Some run
-            → slice_get run.jobs place.job ≡ Some job → result ≡ true → HasOwnEnv run job }
+            → slice_get run.jobs place.job ≡ Some job
+            → slice_get job.steps step ≡ Some planned → AreCallsOf run job planned result }
     {
-        own_at(&self.lasting.own, place)
+        calls_at(&self.lasting.calls, place, step)
     }
 
     /// Whether a done step of the leg at a place counts as a failure.
+    #[inline(always)]
     pub fn has_failed_step(&self, place: LegPlace) -> bool
         ensures { (leg : LegOf) → leg_there self.now.board place ≡ Some leg
             → result ≡ any_failed leg.steps }
@@ -282,6 +294,25 @@ impl Counted {
         );
         retell(&mut self.counts.legs, place.run, stop_in(&how), is_told);
         Change::Leg(LegBack { place, how })
+    }
+
+    /// Puts the leg at a place, where there is one, into a state, and gives that in which it was.
+    #[inline(always)]
+    pub fn set_leg_state(&mut self, place: LegPlace, to: LegState) -> LegState
+        ensures plan { self.new.plan ≡ self.old.plan }
+        ensures board { self.new.board ≡ row.leg_state_set self.old.board place to }
+        ensures back { row.leg_state_set self.new.board place result ≡ self.old.board }
+    {
+        let was = exchange_state_at(&mut self.board, place, to);
+        recount_to(
+            &mut self.counts,
+            &self.board,
+            &self.lasting.dependents,
+            place,
+            was,
+            to,
+        );
+        was
     }
 
     /// Puts a job into a state, and gives what takes that back.
@@ -317,23 +348,24 @@ impl Counted {
         make_room(alloc, &mut self.board, place, steps)
     }
 
-    /// Adds a done step to a leg, which is idle again, and gives what takes that back; where memory runs out,
-    /// nothing is changed.
+    /// Adds a done step to the leg at a place, where there is one, which is idle again, and gives the state in which it was;
+    /// where memory runs out, nothing is changed.
+    #[inline(always)]
     pub fn add_done(
         &mut self,
         place: LegPlace,
         worker: u8,
         done: DoneStep,
-    ) -> Result<Change, AllocError>
+    ) -> Result<LegState, AllocError>
         ensures plan { self.new.plan ≡ self.old.plan }
         ensures ok { OnOk result
             (self.new.board ≡ row.step_done self.old.board place worker done) }
         ensures err { OnErr result (self.new.board ≡ self.old.board) }
-        ensures back { IfOk result (λ change. board_before change self.new.board ≡ self.old.board) }
+        ensures back { IfOk result
+            (λ was. with_leg self.new.board place (spec.step_taken was) ≡ self.old.board) }
     {
-        let was = state_there(&self.board, place);
         let failed = is_failure(done.conclusion);
-        add_step(&mut self.board, place, worker, done)?;
+        let was = push_step_at(&mut self.board, place, worker, done)?;
         note_done(&mut self.failing, place, failed);
         let in_call = false;
         recount_to(
@@ -344,11 +376,11 @@ impl Counted {
             was,
             LegState::Running { worker, in_call },
         );
-        Ok(Change::Step(place, was))
+        Ok(was)
     }
 
     /// Takes the last step of a leg off, and puts the leg into a state. It takes no memory.
-    fn take_done(&mut self, alloc: Global, place: LegPlace, state: LegState)
+    pub(crate) fn take_done(&mut self, alloc: Global, place: LegPlace, state: LegState)
         ensures plan { self.new.plan ≡ self.old.plan }
         ensures board { self.new.board ≡ with_leg self.old.board place (spec.step_taken state) }
     {

@@ -46,6 +46,7 @@ pub(crate) fn runs_failing(alloc: Global, runs: &[Run]) -> Result<Failing, Alloc
 }
 
 /// The truth that is kept of the leg at a place.
+#[inline(always)]
 pub(crate) fn failing_at(failing: &Failing, place: LegPlace) -> bool
     ensures { result ≡ spec.failing_at failing.now place }
 {
@@ -75,6 +76,7 @@ fn set_failing(failing: &mut Failing, place: LegPlace, holds: bool)
 }
 
 /// Notes a step of the leg at a place that was done.
+#[inline(always)]
 pub(crate) fn note_done(failing: &mut Failing, place: LegPlace, failed: bool)
     ensures { failing.new ≡ spec.failing_noted place failed failing.old }
 {

@@ -1,14 +1,15 @@
-//! What is kept beside a board and stays, whatever is changed of it: where its jobs and legs stand, and of which jobs no
-//! text of the variables is evaluated, and which jobs need which.
+//! What is kept beside a board and stays, whatever is changed of it: where its jobs and legs stand, which steps are called
+//! as far as their texts tell it alone, and which jobs need which.
 
-ghost use Rattle.std.specs.Prelude.{◌≡◌, IfOk, slice_get};
+ghost use Rattle.std.specs.Prelude.{◌≡◌, None, IfOk, slice_get};
 ghost use Rattle.flat_counters.specs.Lasting as spec;
 
 use crate::dependents::{Dependents, all_dependents};
-use board_decisions::unasked::has_own_env;
+use board_decisions::kept::{Called, Calls};
+use board_decisions::unasked::{calls_of, has_own_env};
 use board_places::place::{JobPlace, LegPlace};
 use board_places::places::{job_places, leg_places};
-use flow_model::{Board, Plan, RunPlan, Sequence};
+use flow_model::{Board, JobPlan, Plan, RunPlan, Sequence};
 use std::alloc::{AllocError, Global};
 
 /// What stays, whatever is changed of a board.
@@ -18,33 +19,49 @@ pub(crate) struct Lasting {
     pub(crate) jobs: Sequence<JobPlace>,
     /// The places of the legs, in the order of theirs.
     pub(crate) legs: Sequence<LegPlace>,
-    /// Whether no text of the variables of each job and of its workflow is evaluated.
-    pub(crate) own: Sequence<Sequence<bool>>,
+    /// Whether each step of each job is called, as far as that is known without its leg.
+    pub(crate) calls: Told,
     /// The places of the jobs that need each job.
     pub(crate) dependents: Sequence<Dependents>,
 }
 
-/// Of which jobs of a workflow no text of the variables is evaluated.
-fn jobs_own(alloc: Global, run: &RunPlan) -> Result<Sequence<bool>, AllocError>
-    ensures { IfOk result (λ own. spec.AreOwn run.now own) }
+/// What is told of each step of a job of a workflow.
+fn told_of_job(alloc: Global, run: &RunPlan, job: &JobPlan) -> Result<Sequence<Calls>, AllocError>
+    ensures { IfOk result (λ calls. spec.TellsSteps run.now job.now calls) }
 {
-    let jobs = run.jobs.as_slice();
-    let mut own = Vec::with_capacity(alloc, jobs.len())?;
-    for job in jobs {
-        own.push(has_own_env(run, job))?;
+    let own_env = has_own_env(run, job);
+    let steps = job.steps.as_slice();
+    let mut calls = Vec::with_capacity(alloc, steps.len())?;
+    for step in steps {
+        calls.push(calls_of(alloc, own_env, step))?;
     }
-    Ok(Sequence::new(own))
+    Ok(Sequence::new(calls))
 }
 
-/// The same of each of some workflows.
-fn runs_own(alloc: Global, runs: &[RunPlan]) -> Result<Sequence<Sequence<bool>>, AllocError>
-    ensures { IfOk result (λ own. spec.AllOwn runs.now own) }
+/// The same of each job of a workflow.
+fn told_of_run(alloc: Global, run: &RunPlan) -> Result<Sequence<Sequence<Calls>>, AllocError>
+    ensures { IfOk result (λ calls. spec.TellsJobs run.now calls) }
 {
-    let mut own = Vec::with_capacity(alloc, runs.len())?;
-    for run in runs {
-        own.push(jobs_own(alloc, run)?)?;
+    let jobs = run.jobs.as_slice();
+    let mut calls = Vec::with_capacity(alloc, jobs.len())?;
+    for job in jobs {
+        calls.push(told_of_job(alloc, run, job)?)?;
     }
-    Ok(Sequence::new(own))
+    Ok(Sequence::new(calls))
+}
+
+/// What is told of the steps of some workflows.
+pub(crate) type Told = Sequence<Sequence<Sequence<Calls>>>;
+
+/// The same of each of some workflows.
+fn told_of_runs(alloc: Global, runs: &[RunPlan]) -> Result<Told, AllocError>
+    ensures { IfOk result (λ calls. spec.TellsRuns runs.now calls) }
+{
+    let mut calls = Vec::with_capacity(alloc, runs.len())?;
+    for run in runs {
+        calls.push(told_of_run(alloc, run)?)?;
+    }
+    Ok(Sequence::new(calls))
 }
 
 /// What stays of a board of a plan.
@@ -54,17 +71,18 @@ pub(crate) fn lasting_of(alloc: Global, plan: &Plan, board: &Board) -> Result<La
     let runs = board.runs.as_slice();
     let jobs = Sequence::new(job_places(alloc, runs)?);
     let legs = Sequence::new(leg_places(alloc, runs)?);
-    let own = runs_own(alloc, plan.runs.as_slice())?;
+    let calls = told_of_runs(alloc, plan.runs.as_slice())?;
     let dependents = all_dependents(alloc, plan.runs.as_slice(), runs)?;
     Ok(Lasting {
         jobs,
         legs,
-        own,
+        calls,
         dependents,
     })
 }
 
 /// What stands at a number, if there is one.
+#[inline(always)]
 pub(crate) fn place_at<P: Copy>(places: &Sequence<P>, number: usize) -> Option<P>
     ensures { result ≡ slice_get places.now number }
 {
@@ -74,15 +92,31 @@ pub(crate) fn place_at<P: Copy>(places: &Sequence<P>, number: usize) -> Option<P
     }
 }
 
-/// What is kept of the variables of the job at a place.
-pub(crate) fn own_at(own: &Sequence<Sequence<bool>>, place: JobPlace) -> bool
-    ensures { result ≡ spec.own_at own.now place }
+/// What is told of a step of which nothing is known.
+#[inline(always)]
+fn nothing_told() -> Calls
+    ensures { result ≡ spec.or_unknown None }
 {
-    let Some(row) = own.as_slice().get(place.run) else {
-        return false;
+    Calls {
+        success: Called::Unknown,
+        failure: Called::Unknown,
+        cancelled: Called::Unknown,
+    }
+}
+
+/// What is told of a step of the job at a place.
+#[inline(always)]
+pub(crate) fn calls_at(calls: &Told, place: JobPlace, step: usize) -> Calls
+    ensures { result ≡ spec.calls_at calls.now place step }
+{
+    let Some(row) = calls.as_slice().get(place.run) else {
+        return nothing_told();
     };
-    match row.as_slice().get(place.job) {
-        Some(holds) => *holds,
-        None => false,
+    let Some(steps) = row.as_slice().get(place.job) else {
+        return nothing_told();
+    };
+    match steps.as_slice().get(step) {
+        Some(calls) => *calls,
+        None => nothing_told(),
     }
 }

@@ -94,6 +94,7 @@ fn turned_by(counter: Counter, all: usize, count: usize, was: LegState, is: LegS
 }
 
 /// Whether a leg is counted alike in two states: it runs in both.
+#[inline(always)]
 pub(crate) fn are_alike(was: LegState, is: LegState) -> bool
     ensures { (tally : TallyOf) → result ≡ true → spec.moved was is tally ≡ tally }
 {

@@ -11,7 +11,7 @@ use crate::change::{LegChange, RunChange};
 use crate::counted::Counted;
 use crate::undo::{Change, LegBack, OnlyChange};
 use board_places::place::{JobPlace, LegPlace};
-use flow_model::{CheckedPlan, DoneStep, JobState};
+use flow_model::{CheckedPlan, DoneStep, JobState, LegState};
 use std::alloc::{AllocError, Global};
 use std::marker::Model;
 use std::mem;
@@ -104,6 +104,7 @@ impl Tracked {
     }
 
     /// The plan, its board and what is counted.
+    #[inline(always)]
     pub fn counted(&self) -> &Counted
         ensures { result.now ≡ play_of self.now }
     {
@@ -152,11 +153,9 @@ impl Tracked {
     {
         match only {
             OnlyChange::State(place, state) => {
-                drop(self.counted.change_leg(place, LegChange::State(state)));
+                let _was = self.counted.set_leg_state(place, state);
             },
-            OnlyChange::Step(place, state) => {
-                self.counted.take_back(alloc, Change::Step(place, state));
-            },
+            OnlyChange::Step(place, state) => self.counted.take_done(alloc, place, state),
         }
     }
 
@@ -219,9 +218,39 @@ impl Tracked {
         ensures err { OnErr result (self.new.board ≡ self.old.board) }
         ensures back { OnOk result (self.new.back ≡ self.old.back) }
     {
-        let change = self.counted.add_done(place, worker, done)?;
-        keep(&mut self.changes, change);
+        let was = self.counted.add_done(place, worker, done)?;
+        keep(&mut self.changes, Change::Step(place, was));
         Ok(())
+    }
+
+    /// Puts the leg at a place, where there is one, into a state, as the only change of an entry, and gives that in which it
+    /// was. It is for the caller to keep it: where all leads back to is another board from here on.
+    #[inline(always)]
+    pub fn set_state_alone(&mut self, place: LegPlace, to: LegState) -> LegState
+        ensures plan { self.new.plan ≡ self.old.plan }
+        ensures board { self.new.board ≡ row.leg_state_set self.old.board place to }
+        ensures back { only_before (OnlyChange.State place result) self.new.board ≡ self.old.board }
+    {
+        self.counted.set_leg_state(place, to)
+    }
+
+    /// Adds a done step to the leg at a place, where there is one, which is idle again, as the only change of an entry, and
+    /// gives the state in which it was, likewise; where memory runs out, nothing is changed.
+    #[inline(always)]
+    pub fn add_done_alone(
+        &mut self,
+        place: LegPlace,
+        worker: u8,
+        done: DoneStep,
+    ) -> Result<LegState, AllocError>
+        ensures plan { self.new.plan ≡ self.old.plan }
+        ensures ok { OnOk result
+            (self.new.board ≡ row.step_done self.old.board place worker done) }
+        ensures err { OnErr result (self.new.board ≡ self.old.board) }
+        ensures back { IfOk result
+            (λ was. only_before (OnlyChange.Step place was) self.new.board ≡ self.old.board) }
+    {
+        self.counted.add_done(place, worker, done)
     }
 
     /// Changes a run, but not its jobs.

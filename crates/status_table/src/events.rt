@@ -2,7 +2,7 @@
 //!
 //! Each function looks for a refusal first, makes what room it needs, and only then changes the board.
 
-ghost use Rattle.std.specs.Prelude.{◌≡◌, ℕ, [], Bool, Option, Result, Ok, IfOk};
+ghost use Rattle.std.specs.Prelude.{◌≡◌, ℕ, [], Bool, Option, Some, Result, Ok, IfOk};
 ghost use Rattle.std.specs.Option.{option_copied};
 ghost use Rattle.board_decisions.specs.Ancestors.{StandsAfterNeeds};
 ghost use Rattle.board_decisions.specs.Decisions.{step_decision as step_decision_of};
@@ -293,6 +293,7 @@ pub(crate) fn cancel(plan: &Plan, board: &mut Board, number: u64) -> Result<Repl
 }
 
 /// The worker of a leg that is running, if it is idle.
+#[inline(always)]
 fn idle_owner(state: LegState) -> Option<u8>
     ensures { result ≡ spec.idle_owner state }
 {
@@ -313,7 +314,8 @@ fn idle_owner(state: LegState) -> Option<u8>
 }
 
 /// The worker of a leg that is running, if it is in a call.
-fn calling_owner(state: LegState) -> Option<u8>
+#[inline(always)]
+pub(crate) fn calling_owner(state: LegState) -> Option<u8>
     ensures { result ≡ spec.calling_owner state }
 {
     match state {
@@ -333,6 +335,7 @@ fn calling_owner(state: LegState) -> Option<u8>
 }
 
 /// The next step of a leg, if there is one left.
+#[inline(always)]
 fn next_step<'a>(at: &SeenLeg<'a>) -> Option<&'a StepPlan>
     ensures { option_copied result ≡ spec.next_step (leg_seen at.now) }
 {
@@ -366,10 +369,12 @@ fn told_begun(decision: Result<Option<StepCall>, ValueFault>) -> Result<Begun, E
 }
 
 /// The step that a worker begins of a leg, or why it begins none.
+#[inline(always)]
 pub(crate) fn step_to_begin<'a>(worker: u8, at: &SeenLeg<'a>) -> Result<&'a StepPlan, EventFault>
-    ensures { (l : ℕ) → DecidesAs
+    ensures decides { (l : ℕ) → DecidesAs
         (λ step. spec.decided (step_decision_of l (leg_seen at.now) step.now))
         (spec.beginning worker l (leg_seen at.now)) result }
+    ensures next { IfOk result (λ step. spec.next_step (leg_seen at.now) ≡ Some step.now) }
 {
     let Some(owner) = idle_owner(at.leg.state) else {
         return Err(EventFault::WrongState);
@@ -475,6 +480,7 @@ fn outcome_of(answer: &Answer) -> Outcome
 
 /// A step that is done by an answer, with its outcome and its conclusion: it keeps the outputs and the variables of an
 /// exit, whatever its code.
+#[inline(always)]
 pub fn ended_step(alloc: Global, outcome: Outcome, conclusion: Outcome, answer: Answer) -> DoneStep
     ensures { result ≡ seen.ended_step (outcome, conclusion) answer }
 {

@@ -1,6 +1,4 @@
-use Rattle.std.proofs.Common.{◌≡◌, ℕ, ◌<◌, ◌≤◌, length, map}
-use Rattle.board_decisions.specs.Ancestors.{failures, unsuccesses}
-use Rattle.board_decisions.specs.Derived.{holds_at, is_failure, is_success, some_ancestor}
+use Rattle.std.proofs.Common.{◌≡◌, ◌≤◌, length}
 use Rattle.board_decisions.proofs.Lineages.{Found}
 use Rattle.board_decisions.proofs.ancestors.lineage_in.Given as goal
 

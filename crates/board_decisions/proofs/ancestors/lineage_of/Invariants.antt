@@ -1,5 +1,4 @@
 use Rattle.std.proofs.Common.{◌≡◌, take}
-use Rattle.board_decisions.specs.Ancestors.{lineage_of}
 use Rattle.board_decisions.proofs.Lineages.{needed_by}
 use Rattle.board_decisions.proofs.ancestors.lineage_of.Given as goal
 

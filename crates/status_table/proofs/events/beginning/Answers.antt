@@ -2,4 +2,4 @@ use Rattle.std.proofs.lemmas.Result.{err_from_is_err_and}
 use Rattle.status_table.proofs.events.beginning.Goals as goal
 
 pub returns-in_err-step : goal.returns-in_err-step
-returns-in_err-step c = let p = err_from_is_err_and c.from_residual.result c.from_residual.ensures.1 in rw (p.1, p.2) (c.in_err-step.ensures c.args.number)
+returns-in_err-step c = let p = err_from_is_err_and c.from_residual.result c.from_residual.ensures.1 in rw (p.1, p.2) (c.in_err-step.ensures.decides c.args.number)

@@ -7,4 +7,4 @@ use Rattle.status_table.proofs.unasked.beginning_unasked.Goals as goal
 pub returns-in_err-step : goal.returns-in_err-step
 returns-in_err-step c =
     let p = err_from_is_err_and c.from_residual.result c.from_residual.ensures.1 in
-    rw (p.1, p.2) (refused_unasked (beginning c.args.worker c.args.number (leg_seen c.args.at.now)) c.in_err-step.field-0.0 (c.in_err-step.ensures c.args.number))
+    rw (p.1, p.2) (refused_unasked (beginning c.args.worker c.args.number (leg_seen c.args.at.now)) c.in_err-step.field-0.0 (c.in_err-step.ensures.decides c.args.number))

@@ -12,19 +12,19 @@ use Rattle.status_table.specs.Play.{Play}
 pub recount_to-requires : goal.recount_to-requires
 recount_to-requires c =
     let done : Leg → Leg = λ leg. record leg { state = leg_state.Running c.args.worker false; steps = leg.steps ++ c.args.done ∷ [] } in
-    came_to c.self.inside.board c.add_step.new.board c.args.place done c.state_there-was.result (leg_state.Running c.args.worker false) c.state_there-was.ensures c.in_ok-add_step.ensures.ok (λ leg. refl)
+    came_to c.self.inside.board c.push_step_at.new.board c.args.place done c.in_ok-was.was' (leg_state.Running c.args.worker false) c.in_ok-was.ensures.was c.in_ok-was.ensures.ok (λ leg. refl)
 
 pub invariant_of-self-2 : goal.invariant_of-self-2
 invariant_of-self-2 c =
     let done : Leg → Leg = λ leg. record leg { state = leg_state.Running c.args.worker false; steps = leg.steps ++ c.args.done ∷ [] } in
-    leg_counted c.self.inside.plan c.self.inside.board c.add_step.new.board c.args.place done c.state_there-was.result _ c.self.inside.counts c.recount_to.new.counts
-    c.recount_to.new.counts.legs c.self.inside.failing c.note_done.new.failing c.self.inside.lasting c.self.invariant (λ leg h. h) c.in_ok-add_step.ensures.ok
-    (same_so c.self.inside.board c.add_step.new.board c.args.place c.state_there-was.result _ c.state_there-was.ensures refl) c.recount_to.ensures
-    (leg_told_kept c.self.inside.board c.add_step.new.board c.args.place done c.self.inside.counts.legs c.recount_to.new.counts.legs c.self.invariant.counted.told c.in_ok-add_step.ensures.ok (λ leg. refl) c.recount_to.ensures.legs)
-    (failing_done c.self.inside.board c.add_step.new.board c.args.place c.args.worker c.args.done c.is_failure-failed.result c.self.inside.failing c.note_done.new.failing c.self.invariant.failed
-    c.in_ok-add_step.ensures.ok c.is_failure-failed.ensures c.note_done.ensures)
+    leg_counted c.self.inside.plan c.self.inside.board c.push_step_at.new.board c.args.place done c.in_ok-was.was' _ c.self.inside.counts c.recount_to.new.counts
+    c.recount_to.new.counts.legs c.self.inside.failing c.note_done.new.failing c.self.inside.lasting c.self.invariant (λ leg h. h) c.in_ok-was.ensures.ok
+    (same_so c.self.inside.board c.push_step_at.new.board c.args.place c.in_ok-was.was' _ c.in_ok-was.ensures.was refl) c.recount_to.ensures
+    (leg_told_kept c.self.inside.board c.push_step_at.new.board c.args.place done c.self.inside.counts.legs c.recount_to.new.counts.legs c.self.invariant.counted.told c.in_ok-was.ensures.ok (λ leg. refl) c.recount_to.ensures.legs)
+    (failing_done c.self.inside.board c.push_step_at.new.board c.args.place c.args.worker c.args.done c.is_failure-failed.result c.self.inside.failing c.note_done.new.failing c.self.invariant.failed
+    c.in_ok-was.ensures.ok c.is_failure-failed.ensures c.note_done.ensures)
 
 pub returns-clause-back : goal.returns-clause-back
 returns-clause-back c =
-    step_back c.self.inside.board c.add_step.new.board c.args.place c.args.worker c.args.done c.state_there-was.result c.in_ok-add_step.ensures.ok c.state_there-was.ensures
+    step_back c.self.inside.board c.push_step_at.new.board c.args.place c.args.worker c.args.done c.in_ok-was.was' c.in_ok-was.ensures.ok c.in_ok-was.ensures.was
     ∙ ap (λ (s : Play). s.board) c.self.view_is
