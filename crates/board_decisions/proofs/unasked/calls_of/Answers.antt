@@ -8,4 +8,4 @@ returns c =
     let own : c.is_own_env.result ≡ true = search rules in
     let asks : c.is_own_work.result ≡ true = search rules in
     λ run job outer. calls_told run job c.args.step.now _ (outer known) (λ d. c.is_own_env.ensures d own) (λ d. c.is_own_work.ensures d asks)
-        c.called_under.ensures c.called_under-2.ensures c.called_under-3.ensures
+    c.called_under.ensures c.called_under-2.ensures c.called_under-3.ensures
