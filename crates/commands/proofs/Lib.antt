@@ -3,6 +3,7 @@ pub mod Expressions
 pub mod Flows
 pub mod Lines
 pub mod Linted
+pub mod LookedAt
 pub mod OneAnswer
 pub mod Pictures
 pub mod Replayed

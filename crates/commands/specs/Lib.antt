@@ -1,6 +1,7 @@
 pub mod Eval
 pub mod Lint
 pub mod List
+pub mod Looked
 pub mod Plan
 pub mod Planning
 pub mod Play

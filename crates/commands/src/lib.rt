@@ -15,6 +15,7 @@
 pub mod eval;
 pub mod lint;
 pub mod list;
+mod looked;
 pub mod plan;
 mod planning;
 mod play;

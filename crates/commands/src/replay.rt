@@ -6,6 +6,7 @@ ghost use Rattle.command_io.specs.Records.{GivesPlay};
 ghost use Rattle.command_io.specs.Tell.{TellsBy};
 ghost use Rattle.commands.specs.Replay.{GivesBoard, GivesBoth, GivesBothOf, GivesSettled, GivesShown, ReplayTells, SettledTells, ShowsReplay, ShowsSettled, settled_line};
 
+use crate::looked::record_looked;
 use command_io::records::{load_trouble, play_record};
 use command_io::runs::runs_status;
 use command_io::stream::{Sink, Source};
@@ -29,13 +30,11 @@ fn played(alloc: Global, plan: CheckedPlan, entries: &[Entry]) -> Result<FlatBoa
 }
 
 /// The plan of a record in play after its entries.
+#[tactic(auto, using(crate::proofs::LookedAt::looked_gives))]
 fn replayed(alloc: Global, text: &[u8]) -> Result<FlatBoard, Trouble>
     ensures { GivesBoard text.now result }
 {
-    match load_record(alloc, text) {
-        Ok((plan, entries)) => played(alloc, plan, entries.as_slice()),
-        Err(fault) => Err(load_trouble(fault)),
-    }
+    record_looked(alloc, text)
 }
 
 /// The text of the board after a record, and the exit status that tells how its runs ended.
