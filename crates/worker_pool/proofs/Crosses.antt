@@ -1,6 +1,7 @@
 -- Which parts of a board in play may cross threads, each from its own parts: a `search` that goes down through all of a plan at once runs out
 -- of steps.
 use denote.Param.Send.{IsSend, sendable}
+use Rattle.board_decisions.proofs.kept.Calls.TheSendSync as calls
 use Rattle.flat_board.specs.contracts.flat_board.FlatBoard as FlatBoard
 use Rattle.flat_counters.proofs.need.Need.TheSendSync as need
 use Rattle.flat_counters.proofs.standing.RunTally.TheSendSync as run_tally
@@ -63,7 +64,7 @@ pub counts_crosses : IsSend Counts.the_field.row
 counts_crosses = search (tally.the_field_send, run_tally.the_field_send, run_legs.the_field_send, need.the_field_send, sequence.the_send, sendable) depth 60 fits 20000
 
 pub lasting_crosses : IsSend Lasting.the_field.row
-lasting_crosses = search (sequence.the_send, sendable) depth 60 fits 20000
+lasting_crosses = search (calls.the_field_send, sequence.the_send, sendable) depth 60 fits 20000
 
 pub counted_crosses : IsSend Counted.the_row
 counted_crosses = search (checked_plan_crosses, counts_crosses, lasting_crosses, board.the_field_send, sequence.the_send, std.crosses, sendable) depth 60 fits 20000
