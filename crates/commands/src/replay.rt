@@ -30,7 +30,6 @@ fn played(alloc: Global, plan: CheckedPlan, entries: &[Entry]) -> Result<FlatBoa
 }
 
 /// The plan of a record in play after its entries.
-#[tactic(auto, using(crate::proofs::LookedAt::looked_gives))]
 fn replayed(alloc: Global, text: &[u8]) -> Result<FlatBoard, Trouble>
     ensures { GivesBoard text.now result }
 {
