@@ -29,16 +29,16 @@ fn played(alloc: Global, plan: CheckedPlan, entries: &[Entry]) -> Result<FlatBoa
     Ok(board)
 }
 
-/// The plan of a record in play after its entries.
-fn replayed(alloc: Global, text: &[u8]) -> Result<FlatBoard, Trouble>
-    ensures { GivesBoard text.now result }
+/// The plan of a record in play after its entries. Its text is let go.
+fn replayed(alloc: Global, text: Vec<u8>) -> Result<FlatBoard, Trouble>
+    ensures { GivesBoard text.items result }
 {
-    record_looked(alloc, text)
+    record_looked(alloc, text.as_slice())
 }
 
 /// The text of the board after a record, and the exit status that tells how its runs ended.
-fn shown_replay(alloc: Global, text: &[u8]) -> Result<(String, u8), Trouble>
-    ensures { GivesShown ShowsReplay text.now result }
+fn shown_replay(alloc: Global, text: Vec<u8>) -> Result<(String, u8), Trouble>
+    ensures { GivesShown ShowsReplay text.items result }
 {
     let play = replayed(alloc, text)?;
     match board_text(alloc, play.board()) {
@@ -133,7 +133,7 @@ pub fn replay<I: Source, O: Sink, E: Sink>(
         (O.seen out.old) (O.seen out.new) (E.seen err.old) (E.seen err.new) result }
 {
     match input.read_all(alloc) {
-        Ok(text) => tell_with(shown_replay(alloc, text.as_slice()), out, err),
+        Ok(text) => tell_with(shown_replay(alloc, text), out, err),
         Err(fault) => refuse_source(err, fault),
     }
 }

@@ -1,7 +1,4 @@
-use Rattle.std.proofs.Common.{ℕ, List, subst}
 use Rattle.command_io.proofs.Shown.{shown_told, unread_shown}
-use Rattle.command_io.specs.Records.{IsShownAnswer}
-use Rattle.command_io.specs.Tell.{OrMemory}
 use Rattle.commands.proofs.Replayed.{answered}
 use Rattle.commands.specs.Replay.{ShowsReplay, status_of, text_of}
 use Rattle.commands.proofs.replay.replay.Goals as goal
@@ -11,8 +8,7 @@ returns-in-Ok g c =
     let found = text_of c.shown_replay.result in
     let done = status_of c.shown_replay.result in
     shown_told ShowsReplay _ _ _ _ _ _ c.in-Ok.text.items done found _ c.in-Ok.ensures
-    (subst (λ (text : List ℕ). OrMemory found (IsShownAnswer ShowsReplay done text found)) c.as_slice.ensures.value
-    (answered ShowsReplay c.as_slice.result.now c.shown_replay.result c.shown_replay.ensures))
+    (answered ShowsReplay c.in-Ok.text.items c.shown_replay.result c.shown_replay.ensures)
     c.tell_with.ensures
 
 pub returns-in-Err : goal.returns-in-Err
