@@ -9,7 +9,6 @@ use command_io::trouble::Trouble;
 use command_words::folder::Folder;
 use command_words::words::run_line;
 use run_command::machine::Machine;
-use std::alloc::{AllocError, Global};
 use std::fs::{File, Files};
 use std::io::BufReader;
 use std::process::ExitCode;
@@ -49,19 +48,7 @@ fn nothing<F: Files>(files: &F) -> io::Result<F::File> {
     File::open(files, "/dev/null")
 }
 
-/// How much room is asked for at first: the C library learns of no more than 32 MiB.
-const FIRST_ROOM: usize = 33_000_000;
-
-/// Asks for room and lets it go at once. The C library maps room of a size that was not let go before apart, and gives it back
-/// when it is let go; from here on it hands it out again, as that of a text for what is made of it.
-#[inline(never)]
-fn show_room(alloc: Global) {
-    let room: Result<Vec<u8>, AllocError> = Vec::with_capacity(alloc, FIRST_ROOM);
-    drop(room);
-}
-
 fn main(rt: HostRuntime) -> ExitCode {
-    show_room(rt.alloc());
     // in the place of each standard stream that is closed, so that no other file is taken for it
     let _closed = (nothing(&rt), nothing(&rt), nothing(&rt));
     let disk = Disk { files: &rt };

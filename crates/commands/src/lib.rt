@@ -20,5 +20,6 @@ pub mod plan;
 mod planning;
 mod play;
 pub mod replay;
+mod room;
 mod shown;
 pub mod table;

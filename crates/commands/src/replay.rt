@@ -7,6 +7,7 @@ ghost use Rattle.command_io.specs.Tell.{TellsBy};
 ghost use Rattle.commands.specs.Replay.{GivesBoard, GivesBoth, GivesBothOf, GivesSettled, GivesShown, ReplayTells, SettledTells, ShowsReplay, ShowsSettled, settled_line};
 
 use crate::looked::record_looked;
+use crate::room::show_room;
 use command_io::records::{load_trouble, play_record};
 use command_io::runs::runs_status;
 use command_io::stream::{Sink, Source};
@@ -132,6 +133,7 @@ pub fn replay<I: Source, O: Sink, E: Sink>(
     ensures { ReplayTells (I.seen input.old) (I.seen input.new)
         (O.seen out.old) (O.seen out.new) (E.seen err.old) (E.seen err.new) result }
 {
+    show_room(alloc);
     match input.read_all(alloc) {
         Ok(text) => tell_with(shown_replay(alloc, text), out, err),
         Err(fault) => refuse_source(err, fault),

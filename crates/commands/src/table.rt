@@ -7,6 +7,7 @@ ghost use Rattle.commands.specs.Play.{HasPlayed, table as board_of};
 ghost use Rattle.commands.specs.Table.{OneBoardAnswer, SomeBoardAnswer, TableTells};
 
 use crate::play::record_played;
+use crate::room::show_room;
 use command_io::stream::{Sink, Source};
 use command_io::tell::{refuse_source, tell};
 use command_io::trouble::Trouble;
@@ -45,6 +46,7 @@ pub fn table<I: Source, O: Sink, E: Sink>(
     ensures { TableTells (I.seen input.old) (I.seen input.new)
         (O.seen out.old) (O.seen out.new) (E.seen err.old) (E.seen err.new) result }
 {
+    show_room(alloc);
     match input.read_all(alloc) {
         Ok(text) => tell(shown_board(alloc, text), out, err),
         Err(fault) => refuse_source(err, fault),
