@@ -28,6 +28,11 @@ below_keys : {V : Type 0} (k : String Global) (es : List (String Global × V)) �
 below_keys k [] h = tt
 below_keys k (e ∷ es) h = (h.0, below_keys k es h.1)
 
+-- no pairs ascend
+pub Ascends-none : (V : Type 0) → Ascends {V = V} []
+unfolding IsStrictlySortedBy
+Ascends-none V = tt
+
 -- the pairs of a map ascend
 pub Ascends-pairs_of : {V : Type 0} (es : List (String Global × V)) → IsStrictlySortedBy string_cmp (map_keys_of es) → Ascends (pairs_of es)
 unfolding IsStrictlySortedBy

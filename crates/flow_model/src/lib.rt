@@ -25,6 +25,7 @@ mod json_text;
 pub mod laws;
 pub mod lines;
 pub mod mapping;
+mod mapping_iter;
 mod name;
 pub mod plan;
 pub mod reply;
@@ -44,6 +45,7 @@ pub use json::{JsonFault, into_json, into_value, json_of, json_of_node, value_of
 pub use json_text::read_json;
 pub use lines::first_line;
 pub use mapping::Mapping;
+pub use mapping_iter::MappingIter;
 pub use name::{has_zero, is_id};
 pub use plan::{Combo, Flag, Group, JobPlan, Matrix, Plan, Roots, RunPlan, Shell, StepPlan, Work};
 pub use reply::{CallWork, Reply, StepCall, ValueFault, What};

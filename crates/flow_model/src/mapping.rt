@@ -5,77 +5,95 @@ ghost use Rattle.std.specs.Option.{option_copied};
 ghost use Rattle.flow_model.specs.Mapping.{pairs_of, value_at, with_pair, Ascends};
 
 use crate::duplicate::Duplicate;
+use crate::mapping_iter::MappingIter;
 use crate::text::Text;
 use std::alloc::{AllocError, Global};
 use std::collections::BTreeMap;
-use std::collections::btree_map::Iter;
 use std::marker::Model;
 
-/// A map from texts to values, in the byte order of its keys.
+const _: () = prove!(size_of::<Mapping<Text>>() == 16);
+
+/// A map from texts to values, in the byte order of its keys. Most have no pair: the map is made for the first, and two words
+/// are all that stands in place of it.
 #[derive(Drop)]
 pub struct Mapping<V> {
-    entries: BTreeMap<String, V>,
+    /// None where no pair was set.
+    entries: Option<Box<BTreeMap<String, V>>>,
+    alloc: Global,
 }
 
 impl<V> Model for Mapping<V> {
-    ghost use Rattle.std.specs.Prelude.{List, ℕ};
+    ghost use Rattle.std.specs.Prelude.{List, [], ℕ};
+    ghost use Rattle.std.specs.Option.{option_map_or};
     ghost use Rattle.flow_model.specs.Mapping.{pairs_of};
 
     ghost Value = { List (List ℕ × V) };
 
-    ghost view = { λ m. pairs_of m.entries.entries };
+    ghost view = { λ m. option_map_or (λ kept. pairs_of kept.value.entries) m.entries [] };
 }
 
 impl<V> Mapping<V> {
     /// A mapping without pairs. It takes no memory.
+    #[inline(always)]
     pub fn empty(alloc: Global) -> Mapping<V>
         ensures { result ≡ [] }
     {
-        let entries = BTreeMap::new(alloc);
-        Mapping { entries }
+        Mapping {
+            entries: None,
+            alloc,
+        }
     }
 
-    /// Takes a map over, without a copy.
-    pub fn new(entries: BTreeMap<String, V>) -> Mapping<V>
-        ensures { result ≡ pairs_of entries.entries }
-    {
-        Mapping { entries }
-    }
-
-    /// Gives the map back.
+    /// Gives the pairs as a map.
     pub fn into_map(self) -> BTreeMap<String, V>
         ensures { pairs_of result.entries ≡ self }
     {
-        self.entries
+        match self.entries {
+            Some(entries) => Box::into_inner(entries),
+            None => BTreeMap::new(self.alloc),
+        }
     }
 
     /// How many pairs there are.
     pub fn len(&self) -> usize
         ensures { result ≡ length self.now }
     {
-        self.entries.len()
+        match &self.entries {
+            Some(entries) => entries.len(),
+            None => 0,
+        }
     }
 
     /// Whether there is no pair.
+    #[inline(always)]
     pub fn is_empty(&self) -> bool
         ensures { result ≡ (length self.now == 0) }
     {
-        self.entries.len() == 0
+        match &self.entries {
+            Some(entries) => entries.len() == 0,
+            None => true,
+        }
     }
 
     /// Goes over the pairs in the order of their keys.
-    pub fn iter(&self) -> Iter<'_, String, V>
+    pub fn iter(&self) -> MappingIter<'_, V>
         ensures pairs { pairs_of result ≡ self.now }
         ensures ascends { Ascends self.now }
     {
-        self.entries.iter()
+        let Some(entries) = &self.entries else {
+            return MappingIter::none();
+        };
+        MappingIter::of(entries.iter())
     }
 
     /// The value at a key, if there is one.
     pub fn get(&self, key: &str) -> Option<&V>
         ensures { option_copied result ≡ value_at key.now self.now }
     {
-        self.entries.get(key)
+        match &self.entries {
+            Some(entries) => entries.get(key),
+            None => None,
+        }
     }
 }
 
@@ -85,7 +103,24 @@ impl<V: Drop> Mapping<V> {
         ensures ok { OnOk result (self.new ≡ with_pair key value self.old) }
         ensures err { OnErr result (self.new ≡ self.old) }
     {
-        drop(self.entries.insert(key.into_string(), value)?);
+        match &mut self.entries {
+            Some(entries) => {
+                drop(entries.insert(key.into_string(), value)?);
+                Ok(())
+            },
+            None => self.begin(key, value),
+        }
+    }
+
+    /// Sets the first value; where memory runs out, nothing is changed.
+    fn begin(&mut self, key: Text, value: V) -> Result<(), AllocError>
+        requires { self.old ≡ [] }
+        ensures ok { OnOk result (self.new ≡ with_pair key value []) }
+        ensures err { OnErr result (self.new ≡ []) }
+    {
+        let mut entries = BTreeMap::new(self.alloc);
+        drop(entries.insert(key.into_string(), value)?);
+        self.entries = Some(Box::new(self.alloc, entries)?);
         Ok(())
     }
 
