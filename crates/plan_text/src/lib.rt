@@ -27,4 +27,4 @@ pub use entry::{print_entry, read_entry};
 pub use fault::LoadFault;
 pub use plan::{load_plan, print_plan};
 pub use printed::read_first;
-pub use record::{load_record, print_record};
+pub use record::{load_record, next_entry, print_record};
