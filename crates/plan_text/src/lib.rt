@@ -23,6 +23,7 @@ mod tokens;
 mod tree;
 
 pub use board::board_text;
+pub use brief::Printed;
 pub use entry::{print_entry, read_entry};
 pub use fault::LoadFault;
 pub use plan::{load_plan, print_plan};
