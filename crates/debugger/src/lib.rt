@@ -8,8 +8,9 @@
 //!
 //! Inside, a `Walk` keeps the undos of the entries that were played, and so goes back without memory (`specs/Trail.antt`); a
 //! `Brief` keeps an entry in 16 bytes, where it has no texts (`specs/Briefs.antt`); and a `Mark` keeps of each entry, in 16
-//! more, what its breaks ask, so that no board is needed to find them (`specs/Marks.antt`). The crate stands on
-//! `status_table`, and knows the board by its two traits alone.
+//! more, what its breaks ask, so that no board is needed to find them (`specs/Marks.antt`). Whoever reads a record line by line
+//! can keep each entry so as it comes, in `Entries`, and open those. The crate stands on `status_table`, and knows the board by
+//! its two traits alone.
 
 #![tactic(auto)]
 
@@ -17,6 +18,7 @@ pub mod breaks;
 mod brief;
 pub mod debugger;
 mod deed;
+pub mod entries;
 pub mod fault;
 mod looks;
 mod marks;
@@ -26,4 +28,5 @@ mod walk;
 
 pub use breaks::Break;
 pub use debugger::Debugger;
+pub use entries::Entries;
 pub use fault::DebugFault;
