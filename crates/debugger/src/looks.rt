@@ -54,7 +54,7 @@ pub(crate) fn has_failed(board: &Board, places: &[LegPlace], leg: u64) -> bool
 }
 
 /// How many steps of the leg with a number are done, if there is such a leg.
-fn steps_done(board: &Board, places: &[LegPlace], leg: u64) -> Option<u64>
+pub(crate) fn steps_done(board: &Board, places: &[LegPlace], leg: u64) -> Option<u64>
     requires { places.now ≡ leg_places board.now }
     ensures { result ≡ breaks.steps_done board.now leg }
 {
