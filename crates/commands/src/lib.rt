@@ -20,6 +20,5 @@ pub mod plan;
 mod planning;
 mod play;
 pub mod replay;
-mod room;
 mod shown;
 pub mod table;

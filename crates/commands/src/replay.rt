@@ -7,8 +7,8 @@ ghost use Rattle.command_io.specs.Tell.{TellsBy};
 ghost use Rattle.commands.specs.Replay.{GivesBoard, GivesBoth, GivesBothOf, GivesSettled, GivesShown, ReplayTells, SettledTells, ShowsReplay, ShowsSettled, settled_line};
 
 use crate::looked::record_looked;
-use crate::room::show_room;
 use command_io::records::{load_trouble, play_record};
+use command_io::room::show_room;
 use command_io::runs::runs_status;
 use command_io::stream::{Sink, Source};
 use command_io::tell::{refuse_source, tell_by};

@@ -7,7 +7,7 @@ ghost use Rattle.commands.specs.Play.{HasPlayed, table as board_of};
 ghost use Rattle.commands.specs.Table.{OneBoardAnswer, SomeBoardAnswer, TableTells};
 
 use crate::play::record_played;
-use crate::room::show_room;
+use command_io::room::show_room;
 use command_io::stream::{Sink, Source};
 use command_io::tell::{refuse_source, tell};
 use command_io::trouble::Trouble;
