@@ -4,5 +4,5 @@ mod Numerals
 mod OneLine
 mod OutlineLaws
 mod PrintedLaws
-mod RecordLemmas
+pub mod RecordLemmas
 mod SpelledLaws
