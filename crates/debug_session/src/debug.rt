@@ -9,15 +9,16 @@ ghost use Rattle.debug_session.specs.Requests.{OneRequest};
 ghost use Rattle.debug_session.specs.Debug as spec;
 ghost use Rattle.debug_session.specs.Debug.{DebugTells};
 
+use crate::kept::text_kept;
 use crate::session::hold;
 use command_io::records::{load_trouble, stop_trouble};
+use command_io::room::show_room;
 use command_io::stream::{LineSource, Sink, Source, SourceFault};
 use command_io::tell::refuse;
 use command_io::trouble::Trouble;
-use debugger::{DebugFault, Debugger};
+use debugger::{DebugFault, Debugger, Entries};
 use flat_board::FlatBoard;
-use flow_model::{CheckedPlan, Entry, Sequence};
-use plan_text::{LoadFault, load_record};
+use flow_model::CheckedPlan;
 use status_table::board_laws::legal_lists_are_short;
 use std::alloc::Global;
 
@@ -41,7 +42,7 @@ fn open_trouble(fault: DebugFault) -> Trouble
 fn entries_opened(
     alloc: Global,
     plan: CheckedPlan,
-    entries: Sequence<Entry>,
+    entries: Entries,
 ) -> Result<Debugger<FlatBoard>, Trouble>
     requires { IsPlan plan }
     ensures { spec.GivesSession plan entries result }
@@ -50,25 +51,17 @@ fn entries_opened(
     let Ok(start) = FlatBoard::from_plan(alloc, plan) else {
         return Err(Trouble::Memory);
     };
-    match Debugger::open(alloc, start, entries.into_vec()) {
+    match Debugger::open_kept(alloc, start, entries) {
         Ok(debugger) => Ok(debugger),
         Err(fault) => Err(open_trouble(fault)),
     }
-}
-
-/// The plan and the entries of a record, whose text is let go.
-fn text_loaded(alloc: Global, text: Vec<u8>) -> Result<(CheckedPlan, Sequence<Entry>), LoadFault>
-    ensures sound { IfOk result (λ loaded. IsPlan loaded.0) }
-    ensures exact { Gives result (load_lines (lines_of text.items)) }
-{
-    load_record(alloc, text.as_slice())
 }
 
 /// A record under the debugger. Its text is let go before its entries are played.
 fn record_opened(alloc: Global, text: Vec<u8>) -> Result<Debugger<FlatBoard>, Trouble>
     ensures { spec.OpensRecord text.items result }
 {
-    match text_loaded(alloc, text) {
+    match text_kept(alloc, text) {
         Ok((plan, entries)) => entries_opened(alloc, plan, entries),
         Err(fault) => Err(load_trouble(fault)),
     }
@@ -99,6 +92,7 @@ pub fn debug<R: Source, I: LineSource, O: Sink, E: Sink>(
     ensures { DebugTells (R.seen file.old) (R.seen file.new) (I.seen input.old) (I.seen input.new)
         (O.seen out.old) (O.seen out.new) (E.seen err.old) (E.seen err.new) result }
 {
+    show_room(alloc);
     match file_opened(alloc, file) {
         Ok(debugger) => hold(alloc, debugger, input, out, err),
         Err(trouble) => refuse(err, &trouble),
