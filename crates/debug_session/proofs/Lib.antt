@@ -1,7 +1,6 @@
 pub mod Answering
 pub mod Asked
 pub mod Debugged
-pub mod Keeping
 pub mod Numerals
 pub mod OneRequest
 pub mod OneSession

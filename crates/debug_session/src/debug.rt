@@ -1,10 +1,7 @@
 //! `actrun debug`: a record under the debugger, which is asked line by line.
 
-ghost use Rattle.std.specs.Prelude.{◌≡◌, IfOk};
-ghost use Rattle.flow_model.specs.Lines.{lines_of};
+ghost use Rattle.std.specs.Prelude.{◌≡◌};
 ghost use Rattle.flow_model.specs.Rules.{IsPlan};
-ghost use Rattle.plan_text.specs.Load.{Gives};
-ghost use Rattle.plan_text.specs.Record.{load_lines};
 ghost use Rattle.debug_session.specs.Requests.{OneRequest};
 ghost use Rattle.debug_session.specs.Debug as spec;
 ghost use Rattle.debug_session.specs.Debug.{DebugTells};
