@@ -1,66 +1,66 @@
-#!/usr/bin/env python3
-"""Tests of from-yaml.   python3 tools/from_yaml_test.py
+"""Tests of the command from-yaml as a program.
 
-What is wanted is written by hand from YAML 1.2 and from GitHub's documents: the JSON of each workflow in from-yaml-tests/ beside
-it, and the lines of what is refused here.
+Expected values are written by hand from YAML 1.2 and from GitHub's documents: the JSON of each workflow in from_yaml/ beside
+it, and the lines about refused files here.
 """
 import glob
 import json
 import os
 import random
 import subprocess
+import sys
 import tempfile
 import unittest
 
 HERE = os.path.dirname(os.path.abspath(__file__))
-PROGRAM = os.path.join(HERE, "from-yaml")
-ACTRUN = os.path.join(HERE, "..", "crates", "actrun", "out", "actrun")
-WORKFLOWS = sorted(glob.glob(os.path.join(HERE, "from-yaml-tests", "*.yml")))
+FRONT = os.path.dirname(HERE)
+ACTRUN = os.environ.get("ACTRUN_PROGRAM") or os.path.join(FRONT, "..", "crates", "actrun", "out", "actrun")
+WORKFLOWS = sorted(glob.glob(os.path.join(HERE, "from_yaml", "*.yml")))
 
-# a text, and what is told of it, each line of it without the name of the file
+# a text, and what is reported, each line of it without the name of the file
 REFUSED = [
-    (b"", "1: there is nothing in the file"),
-    (b"\n# a comment\n", "3: there is nothing in the file"),
-    (b"name: x\non: push\xff\n", "2: the file is no UTF-8"),
-    (b"\xff\xfen\x00:\x00", "1: the file is no UTF-8"),
-    (b"name: x\nrun: a\x07b\n", "2: YAML has no character U+0007"),
-    (b"name: x\n---\nname: y\n", "2: a file holds one workflow, and here a second document begins"),
-    (b"a: 1\n...\nb\n", "3: the workflow is over, and more follows"),
-    (b"name: x\non: push\nname: y\n", '3: the key "name" stands twice in one map'),
-    (b"a: {b: 1, 'b': 2}\n", '1: the key "b" stands twice in one map'),
-    (b"a: 1\n<<: {b: 1}\n<<: {c: 1}\n", "3: the key << stands twice in one map; write <<: [*a, *b]"),
-    (b"a: 1\n<<: [1]\n", "2: at << stands a map or a list of maps"),
-    (b"on: push\n8: x\n", "2: a key has to be a text, and 8 is none; a number or its like is written in quotes"),
-    (b"true: push\n", "1: a key has to be a text, and true is none; a number or its like is written in quotes"),
-    (b"~: push\n", "1: a key has to be a text, and null is none; a number or its like is written in quotes"),
-    (b"a:\n  ? [b]\n  : c\n", "2: a key has to be a text, and a list is none; a number or its like is written in quotes"),
-    (b"a: 1\nif: !cancelled()\n", "2: the tag !cancelled() cannot stand before this; a text that begins with ! is written in quotes"),
-    (b"if: ! cancelled()\n", "1: the tag ! cannot stand before this; a text that begins with ! is written in quotes"),
-    (b"a: !!int x\n", "1: the tag !!int cannot stand before this; a text that begins with ! is written in quotes"),
-    (b"a: !!set {x, y}\n", "1: the tag !!set cannot stand before this; a text that begins with ! is written in quotes"),
-    (b"a: !!binary aGk=\n", "1: the tag !!binary cannot stand before this; a text that begins with ! is written in quotes"),
-    (b"a: *b\nb: &b 1\n", "1: no anchor &b stands before the alias *b"),
-    (b"a: 1\nb: &b\n  - *b\n", "3: the alias *b stands inside of what it names"),
-    (b"a: .nan\n", "1: JSON has no number .nan; a text is written in quotes"),
-    (b"a:\n- -.INF\n", "2: JSON has no number -.INF; a text is written in quotes"),
+    (b"", "1: the file is empty"),
+    (b"\n# a comment\n", "3: the file is empty"),
+    (b"name: x\non: push\xff\n", "2: the file is not UTF-8"),
+    (b"\xff\xfen\x00:\x00", "1: the file is not UTF-8"),
+    (b"name: x\nrun: a\x07b\n", "2: the character U+0007 is not allowed in YAML"),
+    (b"name: x\n---\nname: y\n", "2: a second document begins here, but a file holds one workflow"),
+    (b"a: 1\n...\nb\n", "3: text follows after the end of the workflow"),
+    (b"name: x\non: push\nname: y\n", '3: the key "name" is twice in one map'),
+    (b"a: {b: 1, 'b': 2}\n", '1: the key "b" is twice in one map'),
+    (b"a: 1\n<<: {b: 1}\n<<: {c: 1}\n", "3: the key << is twice in one map; write <<: [*a, *b]"),
+    (b"a: 1\n<<: [1]\n", "2: the value of << must be a map or a list of maps"),
+    (b"on: push\n8: x\n", "2: a key must be a text, and this one is 8; write a number or the like in quotes"),
+    (b"true: push\n", "1: a key must be a text, and this one is true; write a number or the like in quotes"),
+    (b"~: push\n", "1: a key must be a text, and this one is null; write a number or the like in quotes"),
+    (b"a:\n  ? [b]\n  : c\n", "2: a key must be a text, and this one is a list; write a number or the like in quotes"),
+    (b"a: 1\nif: !cancelled()\n", "2: the tag !cancelled() does not fit this value; write a text that begins with ! in quotes"),
+    (b"if: ! cancelled()\n", "1: the tag ! does not fit this value; write a text that begins with ! in quotes"),
+    (b"a: !!int x\n", "1: the tag !!int does not fit this value; write a text that begins with ! in quotes"),
+    (b"a: !!set {x, y}\n", "1: the tag !!set does not fit this value; write a text that begins with ! in quotes"),
+    (b"a: !!binary aGk=\n", "1: the tag !!binary does not fit this value; write a text that begins with ! in quotes"),
+    (b"a: *b\nb: &b 1\n", "1: the alias *b has no anchor &b before it"),
+    (b"a: 1\nb: &b\n  - *b\n", "3: the alias *b is inside the value that it names"),
+    (b"a: .nan\n", "1: JSON has no number .nan; write a text in quotes"),
+    (b"a:\n- -.INF\n", "2: JSON has no number -.INF; write a text in quotes"),
     (b'a: 1\nb: "\\ud83d"\n', "2: a text has half a character"),
     (b"\n" + b"[" * 128 + b"]" * 128, "2: values nest deeper than 127"),
     (b"a: &a " + b"[" * 64 + b"]" * 64 + b"\nb: " + b"[" * 64 + b"*a" + b"]" * 64, "2: values nest deeper than 127"),
     (b"".join(b"%c: &%c [%s]\n" % (c, c, b",".join([b"*%c" % (c - 1) if c > 97 else b"x" * 90] * 10)) for c in range(97, 105)),
-     "6: with its aliases written out the file has more than 16 MiB"),
-    (b"a: 1\na: 2\nb: .inf\n", '2: the key "a" stands twice in one map\n3: JSON has no number .inf; a text is written in quotes'),
+     "6: the file has more than 16 MiB once its aliases are written out"),
+    (b"a: 1\na: 2\nb: .inf\n", '2: the key "a" is twice in one map\n3: JSON has no number .inf; write a text in quotes'),
 ]
-# a text, its JSON, and what is told of it
+# a text, its JSON, and what is reported
 NOTED = [
-    (b"a: 3.10", '{"a":"3.10"}', "1: GitHub reads 3.10 as the number 3.1, here it stays as it is; write the one that is meant in quotes"),
+    (b"a: 3.10", '{"a":"3.10"}', "1: GitHub reads 3.10 as the number 3.1, but here it stays 3.10; write the one you mean in quotes"),
     (b"a: 3.9\nb: 1.0", '{"a":"3.9","b":"1.0"}',
-     "2: GitHub reads 1.0 as the number 1, here it stays as it is; write the one that is meant in quotes"),
+     "2: GitHub reads 1.0 as the number 1, but here it stays 1.0; write the one you mean in quotes"),
     (b"a: 00" + b"0" * 5000 + b"7\nb: -007", '{"a":7,"b":-7}', ""),
     (b"a: &a [&a x, *a]\nb: *a\n", '{"a":["x","x"],"b":"x"}', ""),
     (b"a: &a 1\nb: &a [2]\nc: *a\n", '{"a":1,"b":[2],"c":[2]}', ""),
     (b"a: '3.10'\nb: !!str 1.0\nc: 1.10.0", '{"a":"3.10","b":"1.0","c":"1.10.0"}', ""),
 ]
-# texts that are no YAML, and the line that is told
+# texts that are not YAML, and the line that is reported
 BROKEN = [
     (b"a: 1\nb: [1\n", 3),
     (b'a: 1\nb: "x\n', 3),
@@ -75,8 +75,8 @@ BROKEN = [
 
 
 def run(words, given=b""):
-    """What the program prints, what it tells, and its status."""
-    ran = subprocess.run([PROGRAM, *words], input=given, capture_output=True, check=False)
+    """Standard output, standard error and the status of the program."""
+    ran = subprocess.run([sys.executable, FRONT, "from-yaml", *words], input=given, capture_output=True, check=False)
     return ran.stdout.decode(), ran.stderr.decode(), ran.returncode
 
 
@@ -130,7 +130,7 @@ class Workflows(unittest.TestCase):
                     it.write(text)
             _, told, status = run([bad, good])
             self.assertEqual(status, 2)
-            self.assertTrue(told.startswith(f"{bad}:1: this cannot be read as YAML: "))
+            self.assertTrue(told.startswith(f"{bad}:1: this is not valid YAML: "))
             self.assertEqual(sorted(os.listdir(room)), ["bad.yml", "good.json", "good.yml"])
 
     def test_words(self):
@@ -165,7 +165,7 @@ class Refused(unittest.TestCase):
         for text, line in BROKEN:
             with self.subTest(text):
                 printed, told, status = run(["-"], text)
-                self.assertRegex(told, rf"\Astandard input:{line}: this cannot be read as YAML: .+\n\Z")
+                self.assertRegex(told, rf"\Astandard input:{line}: this is not valid YAML: .+\n\Z")
                 self.assertEqual((printed, status), ("", 2))
 
     def test_deepest(self):

@@ -1,33 +1,25 @@
-#!/usr/bin/env python3
-"""Makes JSON, as `actrun` reads it, of workflows in YAML.
+"""Reads a workflow in YAML as GitHub reads it: its value, and the line of each place in it.
 
-usage: tools/from-yaml [-o OUT] FILE..
-
-Each FILE holds one workflow. Its JSON is written beside it, to FILE with `.json` in the place of `.yml` or `.yaml`, over what
-stands there; with `-o OUT` that of the one FILE is written to OUT, and with `-o -` to standard output. The FILE `-` is
-standard input, whose JSON goes to standard output unless -o says otherwise.
-
-YAML is read as GitHub reads it, by the core schema of YAML 1.2: `on`, `yes`, `2024-01-01` and `12:30:45` are texts. `true`,
-`True`, `TRUE` and their like are truth values; `null`, `~` and nothing are null; `8`, `010`, `0x1f` and `0o17` are the whole
-numbers 8, 10, 31 and 15. A fraction, or a whole number that is too great for `actrun`, becomes the text that is written.
-Where GitHub has another text for it (3.1 for 3.10) a line on standard error says so; the JSON is made all the same.
-
-Anchors, aliases and `<<` are written out. What JSON or a workflow cannot have is told on standard error, as `FILE:LINE:` and a
-sentence, and no JSON of that file is written: a text that is no UTF-8 or no YAML, a second document, a key that stands twice
-or is no text, a tag other than those of the core schema, an alias without its anchor or inside it, no number and infinity, half
-a character, more than 127 levels, and more than 16 MiB of JSON.
-
-Exit statuses: 0 all JSON is written, 2 the words or a FILE is refused, 3 a file, a stream or the library failed.
+The core schema of YAML 1.2 holds: `on`, `yes`, `2024-01-01` and `12:30:45` are texts; `true`, `True` and `TRUE` are truth values;
+`null`, `~` and nothing are null; `8`, `010`, `0x1f` and `0o17` are the whole numbers 8, 10, 31 and 15. A fraction, or a whole
+number that is too great for `actrun`, becomes the text as it is written.
 """
+from __future__ import annotations
+
+import bisect
 import json
-import os
 import re
-import sys
+from collections import deque
+from dataclasses import dataclass, field
+from typing import Any, Dict, Tuple, Union
+
+Path = Tuple[Union[str, int], ...]
 
 DEEPEST = 127
 LARGEST = 16 * 1024 * 1024
 GREATEST = 9007199254740991
-MOST_TOLD = 20
+MOST_REPORTED = 20
+MOST_PLACES = 200_000
 
 NULLS = {"", "~", "null", "Null", "NULL"}
 TRUTHS = {"true": True, "True": True, "TRUE": True, "false": False, "False": False, "FALSE": False}
@@ -43,7 +35,23 @@ EMPTY = object()  # where a map waits for a key
 MERGE = object()  # the key `<<`
 
 
-class Refused(Exception):
+@dataclass(frozen=True)
+class Note:
+    """A sentence about a line of a file, counted from 1."""
+    line: int
+    text: str
+
+
+@dataclass
+class Document:
+    """What one file of YAML holds. With faults the value is not to be used."""
+    value: Any
+    lines: Dict[Path, int] = field(default_factory=dict)
+    faults: list = field(default_factory=list)
+    notes: list = field(default_factory=list)
+
+
+class Stop(Exception):
     """The file cannot be read on: a place in its text, and why."""
 
     def __init__(self, at, why):
@@ -52,7 +60,7 @@ class Refused(Exception):
 
 
 class Part:
-    """A list or a map that is being read."""
+    """A list or a map that is being read, and afterwards where its members are in the text."""
 
     def __init__(self, value, anchor, at, size):
         self.value, self.anchor, self.at = value, anchor, at
@@ -60,49 +68,51 @@ class Part:
         self.depth = 1
         self.key, self.merged = EMPTY, []
         self.keys = set()
+        self.places = {}
 
 
-class Document:
-    """Makes the one value of a text of its events, and keeps what is to be told of it."""
+class Reader:
+    """Builds one value from the events of a text, and keeps the faults and notes with their places in the text."""
 
     def __init__(self, text):
         self.text = text
         self.faults, self.notes = [], []
         self.open = []
+        self.parts = {}  # by the identity of its list or map
         self.anchors = {}  # of each anchor its value, depth and size, or the part that has it and is not whole yet
         self.size = 0
         self.place = 0
-        self.value = EMPTY
+        self.value, self.value_at = EMPTY, 0
         self.ends = False
+        self.line_starts = [end.end() for end in LINE_END.finditer(text)]
 
     def line(self, at):
         """The line, from 1, of a place in the text."""
-        return len(LINE_END.findall(self.text, 0, at)) + 1
+        return bisect.bisect_right(self.line_starts, at) + 1
 
     def refuse(self, at, why):
         """Keeps a fault, after which the rest can still be read."""
         self.faults.append((at, why))
-        if len(self.faults) == MOST_TOLD:
-            raise Refused(at, "more than this is not looked for")
+        if len(self.faults) == MOST_REPORTED:
+            raise Stop(at, "the rest of the file is not checked after so many faults")
 
     def note(self, at, what):
-        """Keeps what is told beside the JSON."""
-        if len(self.notes) < MOST_TOLD:
+        if len(self.notes) < MOST_REPORTED:
             self.notes.append((at, what))
 
     def grow(self, at, size):
         """Counts the bytes of JSON that come at a place."""
         self.size += size
         if self.size > LARGEST:
-            raise Refused(at, "with its aliases written out the file has more than 16 MiB")
+            raise Stop(at, "the file has more than 16 MiB once its aliases are written out")
 
     def take(self, event, kinds):
         """Takes the next event of the text."""
         at, self.place = event.start_mark.index, event.end_mark.index
         if isinstance(event, kinds.DocumentStartEvent):
             if self.ends:
-                raise Refused(at, "a file holds one workflow, and here a second document begins" if event.explicit
-                              else "the workflow is over, and more follows")
+                raise Stop(at, "a second document begins here, but a file holds one workflow" if event.explicit
+                           else "text follows after the end of the workflow")
         elif isinstance(event, kinds.DocumentEndEvent):
             self.ends = True
         elif isinstance(event, kinds.AliasEvent):
@@ -116,14 +126,14 @@ class Document:
 
     def take_alias(self, name, at):
         if name not in self.anchors:
-            self.refuse(at, f"no anchor &{short(name)} stands before the alias *{short(name)}")
+            self.refuse(at, f"the alias *{short(name)} has no anchor &{short(name)} before it")
             self.put(None, at, 0)
             return
         if isinstance(self.anchors[name], Part):
-            raise Refused(at, f"the alias *{short(name)} stands inside of what it names")
+            raise Stop(at, f"the alias *{short(name)} is inside the value that it names")
         value, depth, size = self.anchors[name]
         if len(self.open) + depth > DEEPEST:
-            raise Refused(at, f"values nest deeper than {DEEPEST}")
+            raise Stop(at, f"values nest deeper than {DEEPEST}")
         self.grow(at, size)
         self.put(value, at, depth)
 
@@ -158,8 +168,11 @@ class Document:
             "float": number or FRACTION.fullmatch(text),
         }
         if not plain or not fits.get(tag[len(TAG):] if tag.startswith(TAG) else None):
-            self.refuse(at, f"the tag {shown_tag(tag)} cannot stand before this; a text that begins with ! is written in quotes")
+            self.refuse_tag(tag, at)
         return value
+
+    def refuse_tag(self, tag, at):
+        self.refuse(at, f"the tag {shown_tag(tag)} does not fit this value; write a text that begins with ! in quotes")
 
     def plain(self, text, at):
         """The value of a text without quotes, by the core schema of YAML 1.2."""
@@ -168,7 +181,7 @@ class Document:
         if text in TRUTHS:
             return TRUTHS[text]
         if NO_FINITE.fullmatch(text):
-            self.refuse(at, f"JSON has no number {text}; a text is written in quotes")
+            self.refuse(at, f"JSON has no number {text}; write a text in quotes")
             return None
         whole = whole_number(text)
         if whole is not None:
@@ -176,7 +189,7 @@ class Document:
         if WHOLE.fullmatch(text) or OTHER_BASE.fullmatch(text) or FRACTION.fullmatch(text):
             number = github_number(text)
             if number != text:
-                self.note(at, f"GitHub reads {short(text)} as the number {number}, here it stays as it is; write the one that is meant in quotes")
+                self.note(at, f"GitHub reads {short(text)} as the number {number}, but here it stays {short(text)}; write the one you mean in quotes")
         return text
 
     def joined(self, text, at):
@@ -189,11 +202,12 @@ class Document:
 
     def begin(self, event, value, at):
         if len(self.open) == DEEPEST:
-            raise Refused(at, f"values nest deeper than {DEEPEST}")
+            raise Stop(at, f"values nest deeper than {DEEPEST}")
         if event.tag not in (None, TAG + ("map" if isinstance(value, dict) else "seq")):
-            self.refuse(at, f"the tag {shown_tag(event.tag)} cannot stand before this; a text that begins with ! is written in quotes")
+            self.refuse_tag(event.tag, at)
         part = Part(value, event.anchor, at, self.size)
         self.open.append(part)
+        self.parts[id(value)] = part
         if part.anchor is not None:
             self.anchors[part.anchor] = part
         self.grow(at, 2)
@@ -207,23 +221,26 @@ class Document:
         self.put(part.value, part.at, part.depth)
 
     def merge(self, part, value, at):
-        """Adds to a map the pairs of those that stand at its `<<`, whose keys it has not."""
+        """Adds to a map the pairs of those that are named at its `<<`, whose keys it lacks."""
         maps = value if isinstance(value, list) else [value]
         if not all(isinstance(one, dict) for one in maps):
-            self.refuse(at, "at << stands a map or a list of maps")
+            self.refuse(at, "the value of << must be a map or a list of maps")
             return
         for one in maps:
             for key, inner in one.items():
-                part.value.setdefault(key, inner)
+                if key not in part.value:
+                    part.value[key] = inner
+                    part.places[key] = self.parts[id(one)].places[key]
 
     def put(self, value, at, depth):
         """Lays a value where it belongs: into the innermost list or map that is open, or as the whole."""
         if not self.open:
-            self.value = value
+            self.value, self.value_at = value, at
             return
         part = self.open[-1]
         part.depth = max(part.depth, depth + 1)
         if isinstance(part.value, list):
+            part.places[len(part.value)] = at
             part.value.append(value)
         elif part.key is EMPTY:
             part.key = self.key(part, value, at)
@@ -237,13 +254,36 @@ class Document:
     def key(self, part, value, at):
         """A map's key, after a look whether it may be one."""
         if value is not MERGE and not isinstance(value, str):
-            self.refuse(at, f"a key has to be a text, and {kind_of(value)} is none; a number or its like is written in quotes")
+            self.refuse(at, f"a key must be a text, and this one is {kind_of(value)}; write a number or the like in quotes")
             value = text_of(value)
         elif value in part.keys:
-            self.refuse(at, "the key << stands twice in one map; write <<: [*a, *b]" if value is MERGE
-                        else f"the key {text_of(short(value))} stands twice in one map")
+            self.refuse(at, "the key << is twice in one map; write <<: [*a, *b]" if value is MERGE
+                        else f"the key {text_of(short(value))} is twice in one map")
         part.keys.add(value)
+        if value is not MERGE:
+            part.places[value] = at
         return value
+
+    def lines(self):
+        """The line of each place in the value, the outermost places first, and no more than a number of them."""
+        if self.value is EMPTY:
+            return {}
+        lines = {(): self.line(self.value_at)}
+        waiting = deque([((), self.value)])
+        while waiting and len(lines) < MOST_PLACES:
+            path, value = waiting.popleft()
+            part = self.parts.get(id(value)) if isinstance(value, (dict, list)) else None
+            for key, inner in (value.items() if isinstance(value, dict) else enumerate(value)) if part else ():
+                lines[path + (key,)] = self.line(part.places.get(key, part.at))
+                waiting.append((path + (key,), inner))
+        return lines
+
+    def document(self):
+        """What is read, with lines in place of places in the text."""
+        def notes(kept):
+            return [Note(self.line(at), text) for at, text in sorted(kept, key=lambda it: it[0])]
+        value = None if self.value is EMPTY else self.value
+        return Document(value, {} if self.faults else self.lines(), notes(self.faults), notes(self.notes))
 
 
 def text_of(value):
@@ -288,123 +328,36 @@ def shown_tag(tag):
     return short(ascii("!!" + tag[len(TAG):] if tag.startswith(TAG) else tag)[1:-1])
 
 
-def library():
-    """The library that takes YAML apart. Where this Python has it not, Debian's own may have it."""
+def read_events(reader, yaml):
+    """Hands all events of the reader's text to it. What is wrong with the text is in its faults."""
     try:
-        import ruamel.yaml
-        import ruamel.yaml.events
-    except ImportError:
-        other = "/usr/bin/python3"
-        if os.path.exists(other) and not os.environ.get("FROM_YAML_TRIED"):
-            os.environ["FROM_YAML_TRIED"] = "yes"
-            os.execv(other, [other, os.path.abspath(__file__), *sys.argv[1:]])
-        print("from-yaml: it needs the library ruamel.yaml: apt-get install python3-ruamel.yaml", file=sys.stderr)
-        sys.exit(3)
-    return ruamel.yaml
-
-
-def decoded(data):
-    """The text of a file's bytes."""
-    try:
-        text = data.decode("utf-8")
-    except UnicodeDecodeError as fault:
-        raise Refused(len(data[:fault.start].decode("utf-8")), "the file is no UTF-8") from None
-    return text[1:] if text.startswith("\ufeff") else text
-
-
-def read(text, yaml):
-    """The document of a text. All that is wrong with the text is in its faults."""
-    document = Document(text)
-    try:
-        strange = NOT_YAML.search(text)
+        strange = NOT_YAML.search(reader.text)
         if strange:
-            raise Refused(strange.start(), f"YAML has no character U+{ord(strange.group()):04X}")
-        for event in yaml.YAML(typ="safe", pure=True).parse(text):
-            document.take(event, yaml.events)
-        if document.value is EMPTY:
-            raise Refused(len(text), "there is nothing in the file")
-    except Refused as fault:
-        document.faults.append((fault.at, fault.why))
+            raise Stop(strange.start(), f"the character U+{ord(strange.group()):04X} is not allowed in YAML")
+        for event in yaml.YAML(typ="safe", pure=True).parse(reader.text):
+            reader.take(event, yaml.events)
+        if reader.value is EMPTY:
+            raise Stop(len(reader.text), "the file is empty")
+    except Stop as fault:
+        reader.faults.append((fault.at, fault.why))
     except yaml.error.MarkedYAMLError as fault:
         mark = fault.problem_mark or fault.context_mark
         why = ", ".join(it for it in (fault.context, fault.problem) if it)
-        document.faults.append((mark.index if mark else 0, "this cannot be read as YAML: " + why.replace("\n", " ")))
-    except Exception as fault:  # the library does not foresee all that can stand in a text, as `"\UFFFFFFFF"`
-        document.faults.append((document.place, f"this cannot be read as YAML: {fault}".replace("\n", " ")))
-    return document
+        reader.faults.append((mark.index if mark else 0, "this is not valid YAML: " + why.replace("\n", " ")))
+    except Exception as fault:  # the library does not foresee every text, as `"\UFFFFFFFF"`
+        reader.faults.append((reader.place, f"this is not valid YAML: {fault}".replace("\n", " ")))
 
 
-def made(data, name, yaml):
-    """The JSON of a file's bytes, or nothing. What there is to tell is told."""
+def read_document(data: bytes) -> Document:
+    """The document of a file's bytes. Faults say why there is no value; notes say where GitHub reads another value."""
+    import ruamel.yaml
+    import ruamel.yaml.events
     try:
-        document = read(decoded(data), yaml)
-    except Refused as fault:
-        document = Document(data.decode("utf-8", "replace"))
-        document.faults.append((fault.at, fault.why))
-    told = document.faults or document.notes
-    for at, why in sorted(told, key=lambda it: it[0]):
-        print(f"{name}:{document.line(at)}: {why}", file=sys.stderr)
-    return None if document.faults else text_of(document.value) + "\n"
-
-
-def place_of(name):
-    """Where the JSON of a file goes, if the words do not say it."""
-    if name == "-":
-        return "-"
-    base, end = os.path.splitext(name)
-    return (base if end.lower() in (".yml", ".yaml") else name) + ".json"
-
-
-def words(given):
-    """The files, and the place of the JSON where the words say it. Nothing where they make no sense."""
-    names, out, given = [], None, list(given)
-    while given:
-        word = given.pop(0)
-        if word == "-o" and given and out is None:
-            out = given.pop(0)
-        elif word.startswith("-") and word != "-":
-            return None
-        else:
-            names.append(word)
-    return (names, out) if len(names) == 1 or names and out is None else None
-
-
-def read_bytes(place):
-    """The bytes of a file, or of the stream of a number."""
-    with open(place, "rb", closefd=place != 0) as it:
-        return it.read()
-
-
-def convert(name, out, yaml):
-    """Makes the JSON of a file, and returns the status."""
-    try:
-        if name == "-":
-            name, data = "standard input", read_bytes(0)
-        else:
-            data = read_bytes(name)
-        text = made(data, name, yaml)
-        if text is None:
-            return 2
-        with open(1 if out == "-" else out, "wb", closefd=out != "-") as it:
-            it.write(text.encode())
-        return 0
-    except (OSError, ValueError) as fault:  # a name with a zero byte is a ValueError
-        told = getattr(fault, "filename", None)
-        print(f"from-yaml: {told if isinstance(told, str) else name}: {getattr(fault, 'strerror', None) or fault}", file=sys.stderr)
-        return 3
-
-
-def main():
-    if "--help" in sys.argv[1:]:
-        print(__doc__.strip())
-        return 0
-    taken = words(sys.argv[1:])
-    if taken is None:
-        print("from-yaml: the words make no sense; tools/from-yaml --help has them", file=sys.stderr)
-        return 2
-    names, out = taken
-    yaml = library()
-    return max(convert(name, out or place_of(name), yaml) for name in names)
-
-
-sys.exit(main())
+        text = data.decode("utf-8")
+    except UnicodeDecodeError as fault:
+        reader = Reader(data.decode("utf-8", "replace"))
+        reader.refuse(len(data[:fault.start].decode("utf-8")), "the file is not UTF-8")
+        return reader.document()
+    reader = Reader(text[1:] if text.startswith("\ufeff") else text)
+    read_events(reader, ruamel.yaml)
+    return reader.document()
