@@ -15,6 +15,7 @@ import shutil
 from dataclasses import dataclass, field
 from typing import Iterable
 
+PRELUDE = '[ -z "${ACTRUN_PRELUDE-}" ] || . "$ACTRUN_PRELUDE"'
 STUBS = pathlib.Path(__file__).resolve().parent.parent / "stubs"
 
 
@@ -81,12 +82,10 @@ def check_program(action: str, program: str) -> pathlib.Path | None:
     return pathlib.Path(os.path.abspath(found)) if os.path.isabs(program) else None
 
 
-def stubs_for(uses: Iterable[str], named: dict[str, str], lenient: bool, folder: pathlib.Path, python: str,
-              first: str = "") -> Stubs:
+def stubs_for(uses: Iterable[str], named: dict[str, str], lenient: bool, folder: pathlib.Path, python: str) -> Stubs:
     """Writes one wrapper script below `folder` for each `uses` text and returns which program stands for what.
 
     `named` maps actions to programs as `--stub ACTION=PROGRAM` gives them, with or without `@ref`; the longest match wins.
-    `first` holds lines of `sh` that each wrapper executes before the program (the marker line, the lines for GITHUB_PATH).
     Raises StubError where a named program isn't there.
     """
     stubs = Stubs(binds=[STUBS])
@@ -100,7 +99,7 @@ def stubs_for(uses: Iterable[str], named: dict[str, str], lenient: bool, folder:
             command = [program]
         else:
             command = shipped_command(text, table, lenient, python, stubs)
-        stubs.programs[text] = str(write_wrapper(folder, number, text, command, first))
+        stubs.programs[text] = str(write_wrapper(folder, number, text, command))
     return stubs
 
 
@@ -116,12 +115,14 @@ def shipped_command(text: str, table: dict[str, dict], lenient: bool, python: st
     return command
 
 
-def write_wrapper(folder: pathlib.Path, number: int, text: str, command: list[str], first: str) -> pathlib.Path:
-    """Writes the executable script that starts `command` for the action `text`, and returns its place."""
+def write_wrapper(folder: pathlib.Path, number: int, text: str, command: list[str]) -> pathlib.Path:
+    """Writes the executable script that starts `command` for the action `text`, and returns its place.
+
+    It is a script of bash, since other shells drop variables such as INPUT_PYTHON-VERSION.
+    """
     place = folder / f"{number:03}-{re.sub(r'[^A-Za-z0-9.]+', '-', text).strip('-')[:60]}"
-    lines = ["#!/bin/sh", first.rstrip("\n"), f"ACTRUN_ACTION={shlex.quote(text)}", "export ACTRUN_ACTION",
-             "exec " + " ".join(shlex.quote(word) for word in command)]
-    place.write_text("\n".join(line for line in lines if line) + "\n", encoding="utf-8")
+    lines = ["#!" + (shutil.which("bash") or "/bin/sh"), PRELUDE, f"ACTRUN_ACTION={shlex.quote(text)} exec {shlex.join(command)}", ""]
+    place.write_text("\n".join(lines), encoding="utf-8")
     place.chmod(0o755)
     return place.resolve()
 

@@ -66,8 +66,11 @@ def set_variable(name: str, value: str) -> None:
 
 
 def add_path(folder: pathlib.Path) -> None:
-    """Puts a folder in front of PATH for the steps that follow."""
-    append("GITHUB_PATH", f"{folder}\n")
+    """Puts a folder in front of PATH for the steps that follow in the leg."""
+    if os.environ.get("GITHUB_PATH"):
+        append("GITHUB_PATH", f"{folder}\n")
+    else:
+        set_variable("PATH", f"{folder}:{os.environ.get('PATH', os.defpath)}")
 
 
 def workspace() -> pathlib.Path:

@@ -1,0 +1,236 @@
+"""Caches and artifacts: what is kept, where, and what comes back."""
+
+from __future__ import annotations
+
+import os
+import pathlib
+import subprocess
+import sys
+import unittest
+
+from actrun_front import actions
+from tests.stub_case import StubCase
+
+
+class Cache(StubCase):
+    def restore(self, **inputs: str):
+        return self.start("actions/cache/restore@v4", {name.replace("_", "-"): value for name, value in inputs.items()})
+
+    def save(self, key: str, path: str):
+        return self.start("actions/cache/save@v4", {"key": key, "path": path})
+
+    def test_what_was_saved_is_restored(self) -> None:
+        self.write("home/.cache/pip/wheel", "w")
+        self.write("tree/node_modules/a/index.js", "j", 0o755)
+        (self.tree / "node_modules" / "link").symlink_to("a")
+        os.link(self.tree / "node_modules/a/index.js", self.tree / "node_modules/hard.js")
+        path = "~/.cache/pip\nnode_modules\n"
+        self.assertEqual(self.restore(key="k1", path=path).outputs, {"cache-primary-key": "k1"})
+        self.assertIn("k1 is saved", self.save("k1", path).shown)
+        for place in ("home/.cache", "tree/node_modules"):
+            subprocess.run(["rm", "-rf", self.room / place], check=True)
+        ended = self.restore(key="k1", path=path)
+        self.assertEqual(ended.outputs, {"cache-primary-key": "k1", "cache-hit": "true", "cache-matched-key": "k1"})
+        self.assertEqual((self.room / "home/.cache/pip/wheel").read_text(encoding="utf-8"), "w")
+        self.assertTrue(os.access(self.tree / "node_modules/a/index.js", os.X_OK))
+        self.assertEqual(os.readlink(self.tree / "node_modules/link"), "a")
+        self.assertEqual((self.tree / "node_modules/hard.js").read_text(encoding="utf-8"), "j")
+
+    def test_it_is_restored_into_another_tree_and_home(self) -> None:
+        self.write("home/.cache/x", "home")
+        self.write("tree/build/y", "tree")
+        self.save("k", "~/.cache\nbuild")
+        self.environment["HOME"] = str(self.room / "home 2")
+        self.environment["GITHUB_WORKSPACE"] = str(self.room / "tree 2")
+        self.assertEqual(self.restore(key="k", path="~/.cache\nbuild").outputs["cache-hit"], "true")
+        self.assertEqual((self.room / "home 2/.cache/x").read_text(encoding="utf-8"), "home")
+        self.assertEqual((self.room / "tree 2/build/y").read_text(encoding="utf-8"), "tree")
+
+    def test_the_newest_with_the_first_prefix_is_taken(self) -> None:
+        for key in ("pip-a", "pip-b", "npm-a"):
+            self.write("tree/c", key)
+            self.save(key, "c")
+        ended = self.restore(key="pip-c", path="c", restore_keys="gem-\npip-\nnpm-\n")
+        self.assertEqual(ended.outputs, {"cache-primary-key": "pip-c", "cache-hit": "false", "cache-matched-key": "pip-b"})
+        self.assertEqual((self.tree / "c").read_text(encoding="utf-8"), "pip-b")
+
+    def test_other_paths_are_another_cache(self) -> None:
+        self.write("tree/c", "1")
+        self.save("k", "c")
+        self.assertEqual(self.restore(key="k", path="d").outputs, {"cache-primary-key": "k"})
+
+    def test_a_key_is_saved_once(self) -> None:
+        self.write("tree/c", "1")
+        self.save("k", "c")
+        self.write("tree/c", "2")
+        self.assertIn("is there already", self.save("k", "c").shown)
+        self.restore(key="k", path="c")
+        self.assertEqual((self.tree / "c").read_text(encoding="utf-8"), "1")
+        self.assertEqual(len(list((self.room / "cache").iterdir())), 1)
+
+    def test_wildcards_and_exclusions(self) -> None:
+        for name in ("a/one.o", "a/two.c", "b/x/three.o", "b/skip/four.o"):
+            self.write(f"tree/{name}", name)
+        path = "**/*.o\n!b/skip/**"
+        self.save("k", path)
+        subprocess.run("rm -r a b", shell=True, cwd=self.tree, check=True)
+        self.restore(key="k", path=path)
+        self.assertEqual(self.files_below("tree"), ["a/one.o", "b/x/three.o"])
+
+    def test_looking_up_brings_no_files(self) -> None:
+        self.write("tree/c", "1")
+        self.save("k", "c")
+        (self.tree / "c").unlink()
+        self.assertEqual(self.restore(key="k", path="c", lookup_only="true").outputs["cache-hit"], "true")
+        self.assertFalse((self.tree / "c").exists())
+
+    def test_bad_inputs(self) -> None:
+        self.assertEqual(self.restore(key="k", path="c", fail_on_cache_miss="true").code, 1)
+        self.assertIn("the input `path` is missing", self.restore(key="k").shown)
+        self.assertIn("the input `key` is missing", self.restore(path="c").shown)
+        self.assertIn("is not valid", self.restore(key="a,b", path="c").shown)
+        self.assertIn("::warning::the cache k is not saved: nothing matches", self.save("k", "none").shown)
+        del self.environment["ACTRUN_CACHE"]
+        ended = self.restore(key="k", path="c")
+        self.assertEqual((ended.code, ended.outputs), (0, {"cache-primary-key": "k"}))
+        self.assertIn("::warning::nothing is cached", ended.shown)
+
+    def after(self, ends: str) -> str:
+        """Executes what `try` executes after the play of a record whose leg 0 ended so."""
+        self.environment["ACTRUN_PROGRAM"] = str(self.program("actrun", f"cat >/dev/null; echo 'leg 0 ended {ends}'"))
+        command = actions.after_play(sys.executable, self.write("record", "{}\n"))
+        return subprocess.run(command, env=self.environment, cwd=self.tree, capture_output=True, text=True, check=True).stdout
+
+    def test_the_cache_action_saves_after_a_success_alone(self) -> None:
+        self.write("tree/c", "1")
+        for ends, saved in (("failure", False), ("success", True)):
+            self.assertEqual(self.start("actions/cache@v4", {"key": "k", "path": "c"}, number=3).code, 0)
+            self.assertIn("is saved" if saved else "is not saved: leg 0 did not succeed", self.after(ends))
+            self.assertEqual("cache-hit" in self.restore(key="k", path="c").outputs, saved)
+        self.assertEqual(self.after("success"), "")
+
+    def test_two_that_save_at_once_leave_one_whole_cache(self) -> None:
+        self.write("tree/c", "x" * 100000)
+        uses = "actions/cache/save@v4"
+        wrapper = actions.stubs_for([uses], {}, False, self.room / "wrappers", sys.executable).programs[uses]
+        environment = {**self.environment, "INPUT_KEY": "k", "INPUT_PATH": "c"}
+        started = [subprocess.Popen([wrapper], env=environment, cwd=self.tree, stdout=subprocess.DEVNULL) for _ in range(6)]
+        self.assertEqual([one.wait() for one in started], [0] * 6)
+        self.assertEqual(len(list((self.room / "cache").iterdir())), 1)
+        (self.tree / "c").unlink()
+        self.assertEqual(self.restore(key="k", path="c").outputs["cache-hit"], "true")
+        self.assertEqual((self.tree / "c").stat().st_size, 100000)
+
+
+class Artifacts(StubCase):
+    def upload(self, path: str, ref: str = "v4", **inputs: str):
+        given = {"path": path, **{name.replace("_", "-"): value for name, value in inputs.items()}}
+        return self.start(f"actions/upload-artifact@{ref}", given)
+
+    def download(self, **inputs: str):
+        return self.start("actions/download-artifact@v4", {name.replace("_", "-"): value for name, value in inputs.items()})
+
+    def kept(self) -> list[str]:
+        return self.files_below("artifacts")
+
+    def test_names_start_at_the_folder_that_was_looked_through(self) -> None:
+        for name in ("dist/a.whl", "dist/deep/b.whl", "dist/c.txt"):
+            self.write(f"tree/{name}", name)
+        for name, path, expected in (("one", "dist/a.whl", ["a.whl"]), ("folder", "dist", ["a.whl", "c.txt", "deep/b.whl"]),
+                                     ("slash", "./dist/", ["a.whl", "c.txt", "deep/b.whl"]), ("star", "dist/*.whl", ["a.whl"]),
+                                     ("stars", "dist/**/*.whl", ["a.whl", "deep/b.whl"]), ("letter", "dist/?.[!x]hl", ["a.whl"]),
+                                     ("out", "dist/**\n!dist/**/*.whl", ["c.txt"])):
+            self.assertEqual(self.upload(path, name=name).code, 0)
+            self.assertEqual(self.files_below(f"artifacts/{name}"), expected)
+
+    def test_several_paths_start_at_their_common_folder(self) -> None:
+        for name in ("path/output/bin/app", "path/output/test.txt", "other"):
+            self.write(f"tree/{name}", name)
+        self.upload("path/output/bin/\npath/output/test.txt", name="two")
+        self.assertEqual(self.files_below("artifacts/two"), ["bin/app", "test.txt"])
+        self.upload(f"path/output/bin\n{self.tree}/other", name="three")
+        self.assertEqual(self.files_below("artifacts/three"), ["other", "path/output/bin/app"])
+
+    def test_hidden_files_are_left_out_unless_asked_for(self) -> None:
+        for name in (".env", "d/.git/x", "d/y"):
+            self.write(f"tree/{name}")
+        self.upload(".", name="a")
+        self.assertEqual(self.files_below("artifacts/a"), ["d/y"])
+        self.upload(".", name="b", include_hidden_files="true")
+        self.assertEqual(self.files_below("artifacts/b"), [".env", "d/.git/x", "d/y"])
+
+    def test_no_files(self) -> None:
+        self.assertIn("::warning::no files match", self.upload("none/*").shown)
+        self.assertNotIn("::", self.upload("none/*", if_no_files_found="ignore").shown)
+        self.assertEqual(self.upload("none/*", if_no_files_found="error").code, 1)
+        self.assertIn("the input `path` is missing", self.upload("").shown)
+        self.assertEqual(self.kept(), [])
+
+    def test_the_digest_tells_contents_apart(self) -> None:
+        digests = []
+        for number, text in enumerate(("1", "1", "2")):
+            self.write("tree/a", text)
+            digests.append(self.upload("a", name=f"n{number}").outputs["artifact-digest"])
+        self.assertEqual(digests[0], digests[1])
+        self.assertNotEqual(digests[0], digests[2])
+        self.assertRegex(digests[0], r"\A[0-9a-f]{64}\Z")
+
+    def test_a_second_artifact_of_one_name(self) -> None:
+        self.write("tree/a", "1")
+        self.write("tree/b", "2")
+        self.upload("a")
+        ended = self.upload("b")
+        self.assertEqual(ended.code, 1)
+        self.assertIn("an artifact artifact is there already", ended.shown)
+        self.assertEqual(self.kept(), ["artifact/a"])
+        self.assertEqual(self.upload("b", ref="v3").code, 0)
+        self.assertEqual(self.kept(), ["artifact/a", "artifact/b"])
+        self.assertEqual(self.upload("b", overwrite="true").code, 0)
+        self.assertEqual(self.kept(), ["artifact/b"])
+
+    def test_names_that_github_refuses(self) -> None:
+        self.write("tree/a", "1")
+        for name in ("a/b", "../x", "..", "a:b", "a\nb", 'a"b', "a*"):
+            self.assertEqual(self.upload("a", name=name).code, 1, name)
+        self.assertEqual(self.kept(), [])
+        self.assertFalse((self.room / "x").exists())
+
+    def three(self) -> None:
+        for name in ("lib-a", "lib-b", "docs"):
+            self.write(f"tree/{name}.txt", name)
+            self.upload(f"{name}.txt", name=name)
+            (self.tree / f"{name}.txt").unlink()
+
+    def test_one_by_its_name(self) -> None:
+        self.three()
+        ended = self.download(name="docs", path="got")
+        self.assertEqual(ended.outputs, {"download-path": str(self.tree / "got")})
+        self.assertEqual(self.files_below("tree"), ["got/docs.txt"])
+        ended = self.download(name="none")
+        self.assertEqual(ended.code, 1)
+        self.assertIn("there are: docs, lib-a, lib-b", ended.shown)
+
+    def test_all_each_in_its_folder(self) -> None:
+        self.three()
+        self.assertEqual(self.download().outputs, {"download-path": str(self.tree)})
+        self.assertEqual(self.files_below("tree"), ["docs/docs.txt", "lib-a/lib-a.txt", "lib-b/lib-b.txt"])
+
+    def test_some_by_a_pattern_merged(self) -> None:
+        self.three()
+        self.download(pattern="lib-*", merge_multiple="true", path=str(self.room / "temporary/all"))
+        self.assertEqual(self.files_below("temporary/all"), ["lib-a.txt", "lib-b.txt"])
+
+    def test_another_run_is_refused(self) -> None:
+        ended = self.download(name="x", run_id="12")
+        self.assertEqual(ended.code, 1)
+        self.assertIn("`run-id` asks for artifacts of another run", ended.shown)
+
+    def test_without_a_folder_they_are_among_the_temporary_files(self) -> None:
+        del self.environment["ACTRUN_ARTIFACTS"]
+        self.write("tree/a", "1")
+        self.upload("a", name="n")
+        self.assertEqual(self.files_below("temporary"), ["artifacts/n/a"])
+
+
+if __name__ == "__main__":
+    unittest.main()
