@@ -1,0 +1,177 @@
+"""A person's words after each of the program's error lines."""
+
+from __future__ import annotations
+
+import os
+import pathlib
+import re
+import subprocess
+import sys
+import tempfile
+import unittest
+
+from actrun_front.explain import Origin, explain, take_apart
+
+TOP = pathlib.Path(__file__).resolve().parents[2]
+# what `actrun lint` prints of these two files, by docs/FORMATS.md, "Lines of `lint`"
+LINT = """\
+bad.json: jobs.test.steps.0.run: refused, Expr UnclosedTemplate at 13: the `${{` there has no `}}`: close it
+bad.json: jobs.test.need: `need` is not known and does nothing; did you mean `needs`?
+"""
+
+
+def section(title: str) -> str:
+    """A part of docs/FORMATS.md, from its title to the next of the same or a higher level."""
+    text = (TOP / "docs" / "FORMATS.md").read_text(encoding="utf-8")
+    start = text.index(f"{title}\n")
+    level = title.split(" ")[0]
+    end = re.search(rf"^#{{1,{len(level)}}} ", text[start + len(title):], re.MULTILINE)
+    return text[start:start + len(title) + end.start()] if end else text[start:]
+
+
+def names_of_row(row: str) -> list[str]:
+    """The names of faults that the first cell of a row has, and those after `NAME is` in the last."""
+    names = re.findall(r"NAME is (.*?)(?: \||, of contexts)", row)
+    return re.findall(r"`(\w+)`", names[0]) if names else []
+
+
+class Explain(unittest.TestCase):
+    def setUp(self) -> None:
+        room = tempfile.TemporaryDirectory(prefix="actrun explain ")
+        self.addCleanup(room.cleanup)
+        before = os.getcwd()
+        self.addCleanup(os.chdir, before)
+        os.chdir(room.name)
+        for name in ("ACTRUN_PROGRAM", "ACTRUN_TOP"):
+            value = os.environ.pop(name, None)
+            self.addCleanup(os.environ.__setitem__ if value else os.environ.pop, name, value)
+        self.write("ok.json", '{"on": {"push": null, "schedule": []}, "jobs": {"build": {"steps": []}}}')
+        self.write("bad.json", "{}")
+
+    def write(self, name: str, text: str, mode: int = 0o644) -> pathlib.Path:
+        place = pathlib.Path(name)
+        place.write_text(text, encoding="utf-8")
+        place.chmod(mode)
+        return place.resolve()
+
+    def program(self, prints: str) -> None:
+        """Makes a program that answers `lint -- FILE` with these lines."""
+        place = self.write("program", f"#!/bin/sh\n[ \"$1 $2\" = 'lint --' ] || exit 9\ncat <<'END'\n{prints}END\nexit 2\n", 0o755)
+        os.environ["ACTRUN_PROGRAM"] = str(place)
+
+    def test_every_line_of_the_table_has_an_explanation(self) -> None:
+        rows = [row for row in section("## Fault lines and exit statuses").splitlines() if row.startswith("| `actrun: ")]
+        self.assertEqual(len(rows), 14)
+        self.assertEqual({re.match(r"\| `actrun: (\w+)", row)[1] for row in rows},
+                         {"load", "line", "flow", "plan", "expr", "value", "why", "pool", "words", "io", "memory"})
+        lines = ["load NotJson", "load Version", "load NotPlan", "line 3 NotEntry", "why NoSuch", "pool Workers", "words", "io", "memory"]
+        lines += [f"line 3 {name}" for row in rows if "`actrun: line N NAME`" in row for name in names_of_row(row)]
+        lines += [f"flow f.json {name}" for row in rows if "`actrun: flow" in row for name in names_of_row(row)]
+        lines += [f"plan {name}" for row in rows if "`actrun: plan NAME`" in row for name in names_of_row(row)]
+        lines += [f"plan Matrix {name}" for row in rows if "Matrix NAME" in row for name in names_of_row(row)]
+        faults = re.findall(r"^\| ((?:`\w+`(?:, )?)+) \| ", section("## Expressions"), re.MULTILINE)
+        names = [name for row in faults for name in re.findall(r"`(\w+)`", row)]
+        read = names[:names.index("NotWhole")]
+        templates = re.findall(r"^\| `(UnclosedTemplate|StatusHere)` \|", section("### Faults of planning"), re.MULTILINE)
+        lines += [f"plan Expr {name} at 0" for name in read + templates] + [f"expr {name} at 0" for name in read]
+        lines += [f"value {name}" for name in names[len(read):]]
+        self.assertEqual(len(lines), 9 + 9 + 7 + 5 + 3 + 9 + 2 + 9 + 5)
+        for line in lines:
+            words = explain(f"actrun: {line}\n", "plan", ["f.json"])
+            self.assertGreater(len((words or "").split()), 4, line)
+
+    def test_other_lines_have_none(self) -> None:
+        for line in ("actrun: this is no fault of the program", "actrun: load Other", "actrun: flow f.json Other", "", "run 0 success"):
+            self.assertIsNone(explain(line, "plan", ["f.json"]), line)
+
+    def test_the_lines_of_lint_that_have_the_fault(self) -> None:
+        self.program(LINT)
+        words = explain("actrun: plan Expr UnclosedTemplate at 13", "plan", ["--event", "push", "bad.json"])
+        self.assertEqual(words, "bad.json: jobs.test.steps.0.run: the `${{` there has no `}}`: close it")
+
+    def test_the_line_of_the_yaml_file(self) -> None:
+        self.program(LINT)
+        lines = {("jobs",): 3, ("jobs", "test"): 4, ("jobs", "test", "steps", 0): 7, ("jobs", "test", "steps", 0, "run"): 9}
+        origin = Origin({str(pathlib.Path("bad.json").resolve()): ("ci.yml", lines)})
+        words = explain("actrun: plan Expr UnclosedTemplate at 13", "plan", ["bad.json"], origin)
+        self.assertTrue(words.startswith("ci.yml:9: jobs.test.steps.0.run: the"), words)
+        del lines[("jobs", "test", "steps", 0, "run")]
+        words = explain("actrun: plan Expr UnclosedTemplate at 13", "plan", ["bad.json"], origin)
+        self.assertTrue(words.startswith("ci.yml:7: jobs.test.steps.0.run: the"), words)
+
+    def test_without_lint_the_sentence(self) -> None:
+        self.assertIn("a shell is neither", explain("actrun: flow my file.json UnknownShell", "plan", ["my file.json"]))
+        self.program("")
+        self.assertIn("take one of the needs out", explain("actrun: plan Cycle", "plan", ["bad.json"]))
+
+    def test_events_and_jobs_that_are_there(self) -> None:
+        words = explain("actrun: plan NoWorkflow", "plan", ["--event", "pusch", "ok.json"])
+        self.assertIn("pusch; did you mean push?\nthere are: push, schedule", words)
+        self.assertIn("there are: build", explain("actrun: plan UnknownJob", "plan", ["--job", "x", "ok.json"]))
+
+    def test_yaml_where_json_is_needed(self) -> None:
+        self.assertIn("actrun from-yaml ci.yml", explain("actrun: flow ci.yml NotJson", "plan", ["ci.yml"]))
+
+    def test_contexts_and_stubs(self) -> None:
+        words = explain("actrun: flow c.json WrongShape", "plan", ["--contexts", "c.json", "ok.json"])
+        self.assertIn("c.json: this is no JSON object", words)
+
+    def test_the_file_that_cannot_be_opened(self) -> None:
+        self.write("here.plan", "{}")
+        os.mkdir("folder")
+        for command, arguments, expected in (
+                ("plan", ["ok.json", "ok.jsn"], "ok.jsn is not there; did you mean ok.json?"),
+                ("plan", ["--contexts", "none", "ok.jsn"], "none is not there"),
+                ("why", ["none/x.record", "leg", "0"], "the folder none of x.record is not there"),
+                ("run", ["folder"], "folder is a folder"),
+                ("run", ["--work", "none", "here.plan"], "the folder none of --work is not there"),
+                ("run", ["--record", "none/r", "here.plan"], "the record none/r cannot be written"),
+                ("run", ["--record", "folder", "here.plan"], "the record folder cannot be written"),
+                ("list", ["ok.json"], "is the disk full"), ("table", [], "is the disk full")):
+            words = explain("actrun: io", command, arguments)
+            self.assertTrue(words.startswith(expected) or expected == "is the disk full" and expected in words, words)
+
+    def test_a_pipe_is_not_waited_for(self) -> None:
+        os.mkfifo("pipe")
+        self.assertIn("a read or a write failed", explain("actrun: io", "replay", ["pipe"]))
+
+    def test_what_is_wrong_with_the_arguments(self) -> None:
+        for command, arguments, expected in (
+                ("plam", [], "there is no command plam; did you mean plan?"), ("plan", [], "plan needs a file"),
+                ("eval", [], "eval needs an expression"), ("run", ["--worker", "x"], "run has no option --worker; did you mean --workers?"),
+                ("run", ["x", "--work"], "a value is missing after --work"), ("replay", ["--settled", "--settled", "r"], "stands twice"),
+                ("plan", ["--event", "a", "--job", "b", "f"], "--event and --job are not taken together")):
+            self.assertIn(expected, explain("actrun: words", command, arguments))
+
+    def test_the_usage_of_the_command(self) -> None:
+        os.makedirs("top/docs")
+        self.write("top/docs/commands.txt", "usage: actrun plan FLOW..\n  prints a plan\n\nusage: actrun why RECORD\n")
+        os.environ["ACTRUN_TOP"] = "top"
+        self.assertEqual(explain("actrun: words", "plan", []), "plan needs a file\nusage: actrun plan FLOW..\n  prints a plan")
+        self.assertEqual(explain("actrun: words", "why", []), "why needs a file\nusage: actrun why RECORD")
+
+    def test_arguments_are_taken_apart(self) -> None:
+        words = take_apart("run", ["--workers", "3", "--progress", "--", "-x.plan"])
+        self.assertEqual((words.options, words.operands, words.wrong), ({"--workers": "3", "--progress": ""}, ["-x.plan"], None))
+        self.assertEqual(take_apart("eval", ["-1"]).operands, ["-1"])
+
+    def test_the_place_in_an_expression(self) -> None:
+        self.assertTrue(explain("actrun: expr BadChar at 6", "eval", ["'ä' = 1"]).endswith("\n  'ä' = 1\n       ^"))
+        self.assertNotIn("^", explain("actrun: expr BadChar at 1", "eval", ["1\n="]))
+
+    def test_files_and_lines_of_records(self) -> None:
+        self.assertTrue(explain("actrun: line 7 WrongState", "why", ["a.record"]).startswith("a.record:7: "))
+        self.assertTrue(explain("actrun: line 7 NotEntry", "table", []).startswith("standard input:7: "))
+
+    def test_the_command_explains_the_last_line_on_standard_error(self) -> None:
+        self.write("err", "leg 0 (a) step 0 of 1 started: x\nactrun: pool Workers\n")
+        command = [sys.executable, str(TOP / "front"), "explain", "2", "err", "run", "--workers", "40", "p"]
+        done = subprocess.run(command, capture_output=True, text=True, check=False)
+        self.assertEqual((done.returncode, done.stdout, done.stderr), (0, "", "  --workers takes 1 to 16, not 40\n"))
+        self.write("err", "nothing of ours\n")
+        done = subprocess.run(command, capture_output=True, text=True, check=False)
+        self.assertEqual((done.returncode, done.stdout, done.stderr), (0, "", ""))
+
+
+if __name__ == "__main__":
+    unittest.main()
