@@ -1,0 +1,62 @@
+"""The sandbox around a whole play: `bwrap` with a read-only system, an empty home folder and the play's own folders."""
+from __future__ import annotations
+
+import os
+import shutil
+import subprocess
+from dataclasses import dataclass, field
+from pathlib import Path
+
+from .tree import Room
+
+# root keeps what changes files and persons inside, and nothing by which it could leave
+ROOT_KEEPS = ("CHOWN", "DAC_OVERRIDE", "FOWNER", "FSETID", "KILL", "SETGID", "SETUID", "SETPCAP", "NET_BIND_SERVICE", "SYS_CHROOT")
+# whoever can write to these has the rights of their servers, which are outside
+SERVERS = ("/run/docker.sock", "/run/podman/podman.sock", "/run/containerd/containerd.sock", "/run/dbus/system_bus_socket",
+           "/var/run/docker.sock", "/run/libvirt/libvirt-sock")
+
+
+@dataclass
+class Sandbox:
+    """What the sandbox shows beside the system."""
+
+    room: Room
+    home: Path
+    cache: Path                                            # of all plays and of actions/cache: hidden but for `stub_cache`
+    stub_cache: Path
+    readable: list[Path] = field(default_factory=list)     # wherever they are
+    writable: list[Path] = field(default_factory=list)
+    offline: bool = False
+
+    def words(self) -> list[str]:
+        """The words before the command that executes inside."""
+        result = ["bwrap", "--ro-bind", "/", "/", "--dev", "/dev", "--proc", "/proc", "--unshare-pid", "--unshare-ipc",
+                  "--die-with-parent"]
+        if os.geteuid() == 0:
+            result += ["--cap-drop", "ALL", *(word for name in ROOT_KEEPS for word in ("--cap-add", f"CAP_{name}"))]
+        if self.offline:
+            result.append("--unshare-net")
+        hidden = {Path("/home"), Path("/root"), Path("/run/user"), self.home, self.home.resolve(), self.cache, self.room.folder}
+        for folder in sorted(hidden, key=lambda path: len(path.parts)):
+            if folder.is_dir() and folder != Path("/") or folder == self.home != Path("/"):
+                result += ["--tmpfs", os.fspath(folder)]
+        for name in SERVERS:
+            if os.path.exists(name):
+                result += ["--ro-bind", "/dev/null", os.path.realpath(name)]
+        temporary = self.room.below("tmp")
+        result += ["--bind", os.fspath(temporary), "/tmp", "--bind", os.fspath(temporary), "/var/tmp"]
+        for path in [*self.readable, self.room.private / "stubs.json"]:
+            result += ["--ro-bind", os.fspath(path), os.fspath(path)]
+        for path in [*self.writable, self.stub_cache, self.room.play, self.room.private / "record"]:
+            result += ["--bind", os.fspath(path), os.fspath(path)]
+        return [*result, "--chdir", os.fspath(self.room.play), "--"]
+
+
+def why_not(sandbox: Sandbox) -> str | None:
+    """Why the sandbox cannot be used; None where it works."""
+    if shutil.which("bwrap") is None:
+        return "bwrap is not installed (apt-get install bubblewrap)"
+    answer = subprocess.run([*sandbox.words(), "/bin/sh", "-c", ":"], stdin=subprocess.DEVNULL, capture_output=True, check=False)
+    if answer.returncode == 0:
+        return None
+    return "bwrap fails: " + (answer.stderr.decode("utf-8", "replace").strip().splitlines() or ["it says nothing"])[-1]
