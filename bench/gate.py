@@ -1,13 +1,14 @@
 #!/usr/bin/env python3
-"""Runs the gate and tells what it took: processor minutes by crate, for the proof, its tests and its must-fail edits.
+"""Runs the gate and prints what it took: processor minutes by crate, for the proof, its tests and its must-fail edits.
 
   bench/gate.py [COMMAND ..]      rt ci, or another command, from the top of the repository
 
 Linux alone: every half second it reads from /proc how long each checking process has run so far. What a process took
 after the last look at it is lost, so the sums are a little low. The table goes to standard error, at the end; the
-status is the command's.
+status is the command's. Its last column has the minutes of the proof that tools/proof_costs.tsv lists.
 """
 import collections
+import csv
 import os
 import subprocess
 import sys
@@ -15,6 +16,14 @@ import time
 
 TICK = os.sysconf("SC_CLK_TCK")
 PARTS = ["proof", "tests", "edits", "program"]
+COSTS = os.path.join(os.path.dirname(os.path.abspath(__file__)), "../tools/proof_costs.tsv")
+
+
+def listed():
+    """Returns the minutes of each crate's proof, as tools/proof_costs.tsv has them."""
+    with open(COSTS, encoding="utf-8", newline="") as it:
+        rows = csv.DictReader((line for line in it if not line.startswith("#")), delimiter="\t")
+        return {row["crate"]: row["minutes"] for row in rows}
 
 
 def children():
@@ -72,9 +81,11 @@ def main():
     for key, seconds in took.items():
         sums[owner.get(key, ("other", "program"))] += seconds
     crates = sorted({crate for crate, _ in sums})
-    print(f"{'crate':16}" + "".join(f"{part:>9}" for part in PARTS), file=sys.stderr)
+    minutes = listed()
+    print(f"{'crate':16}" + "".join(f"{part:>9}" for part in [*PARTS, "listed"]), file=sys.stderr)
     for crate in crates:
-        print(f"{crate:16}" + "".join(f"{sums[crate, part] / 60:9.1f}" for part in PARTS), file=sys.stderr)
+        cells = [*(f"{sums[crate, part] / 60:.1f}" for part in PARTS), minutes.get(crate, "-")]
+        print(f"{crate:16}" + "".join(f"{cell:>9}" for cell in cells), file=sys.stderr)
     whole = os.times()
     print(f"processor minutes in all: {(whole.children_user + whole.children_system) / 60:.1f}", file=sys.stderr)
     print(f"minutes from start to end: {(time.time() - began) / 60:.1f}", file=sys.stderr)

@@ -1,14 +1,13 @@
-# What the program is made of, and whether it was made of what lies here. Read by ../actrun and prove.sh, which set `top`.
-# shellcheck shell=bash disable=SC2154
+# The sources that programs are built from, and the programs that are kept of them. Read by ../actrun and by scripts beside this
+# one, which set `top`.
+#
+# A program is kept in crates/CRATE/out where it is proved, and in crates/CRATE/out/unproved where it is not; the file `made_of`
+# beside it says from which sources it was built.
+# shellcheck shell=bash disable=SC2034,SC2154
 
-program=$top/crates/actrun/out/actrun
-# which sources the program was made of, and which program that was
-stamp=$top/crates/actrun/out/made_of
-
-# the crates that the program is made of, its own last: a line 'CRATE BELOW..' for each, after the lines of those that stand
-# below it
+# the crates that a program is built from, its own last: a line 'CRATE BELOW..' for each, after the lines of those below it
 crates() {
-  awk '
+  awk -v program="${1:-actrun}" '
     /^[[:space:]]*(#|$)/ { next }
     { split($0, half, ":"); split(half[1], left, " "); uses[left[1]] = half[2] }
     function add(name, below,    words, count, i) {
@@ -26,35 +25,92 @@ crates() {
       for (i = 1; i <= count; i++) put(words[i])
       print name below
     }
-    END { put("actrun") }
+    END { put(program) }
   ' "$top/crates.txt"
 }
 
-# a sum over all that the program is made of: which files there are, and what stands in them
-sources() {
-  local name
-  {
-    crates | while read -r name _; do
-      cd "$top/crates/$name" && find src specs proofs -type f -print0 2>/dev/null | LC_ALL=C sort -z | xargs -0 -r sha256sum
+# the files that say how a program is built and proved
+builders=(crates.txt tools/prove.sh tools/sources.sh tools/unproved.sh tools/verdicts.py)
+
+# the folders of sources of a program, below the top
+folders() {
+  local name folder
+  while read -r name _; do
+    for folder in "crates/$name/src" "crates/$name/specs" "crates/$name/proofs"; do
+      [ ! -d "$top/$folder" ] || echo "$folder"
     done
-    cat "$top/crates.txt" "$top/tools/prove.sh" "$top/tools/sources.sh" "$top/tools/verdicts.py"
-  } | sha256sum
+  done < <(crates "$1")
 }
 
-# what the stamp holds where the program is made of these sources
+# a sum over all that the program of a crate is built from: the names of the files, and their contents
+sources() {
+  local folders
+  mapfile -t folders < <(folders "${1:-actrun}")
+  (
+    cd "$top" || exit
+    { find "${folders[@]}" -type f -print0; printf '%s\0' "${builders[@]}"; } | LC_ALL=C sort -z | xargs -0 sha256sum
+  ) | sha256sum
+}
+
+# what `made_of` holds where a program is built from the sources with a sum
 made_of() {
-  [ -x "$program" ] && echo "$1" && sha256sum <"$program"
+  [ -x "$1" ] && echo "$2" && sha256sum <"$1"
 }
 
-# whether the program is there, and made of these sources
+# whether a program is there and built from the sources with a sum
 is_made_of() {
-  [ -x "$program" ] && [ -e "$stamp" ] && [ "$(made_of "$1")" = "$(cat "$stamp")" ]
+  local stamp=${1%/*}/made_of
+  [ -x "$1" ] && [ -e "$stamp" ] && [ "$(made_of "$1" "$2")" = "$(cat "$stamp")" ]
 }
 
-# how many processor minutes the proof of a crate took when it was last measured, as docs/GATE.md has it: 'CRATE MINUTES' a line
+# the program that was chosen, and the files and folders that the choice rests on (a folder changes where a file comes or goes)
+watched() {
+  local folders
+  mapfile -t folders < <(folders "$1")
+  printf '%s\0' "$2" "${2%/*}/made_of" "${builders[@]}"
+  (cd "$top" && find "${folders[@]}" -print0)
+  printf '%s\n' "${folders[@]%/*}" | sort -u | tr '\n' '\0'
+}
+
+# whether a choice still holds: nothing that it rests on has changed since, and no program was proved
+holds() {
+  local changed
+  # shellcheck disable=SC2185 # the choice has the paths
+  [ ! "${1%/*}/made_of" -nt "$1" ] && changed=$(cd "$top" && find -files0-from "$1" -prune -cnewer "$1" -print -quit 2>/dev/null) &&
+    [ -z "$changed" ]
+}
+
+# Sets `program` to the program of a crate that is built from the sources as they are: the proved one, else the unproved one.
+# Fails where there is neither. The choice is kept in out/chosen with what it rests on, and sums are taken only after a change.
+choose() {
+  local out=crates/$1/out chosen=$top/crates/$1/out/chosen name sum
+  if [ -e "$chosen" ] && IFS= read -r -d '' name <"$chosen" && [ -x "$top/$name" ] && holds "$chosen"; then
+    program=$top/$name
+    return
+  fi
+  [ -e "$top/$out/made_of" ] || [ -e "$top/$out/unproved/made_of" ] || return 1
+  # (its time is before the sum, so that whatever changes meanwhile is newer)
+  { : >"$chosen.$$"; } 2>/dev/null
+  sum=$(sources "$1")
+  for name in "$out/$1" "$out/unproved/$1"; do
+    if is_made_of "$top/$name" "$sum"; then
+      program=$top/$name
+      [ ! -e "$chosen.$$" ] || keep_choice "$1" "$name" "$chosen"
+      return
+    fi
+  done
+  rm -f -- "$chosen.$$"
+  return 1
+}
+
+keep_choice() {
+  watched "$1" "$2" >"$3.$$.new" && touch -r "$3.$$" "$3.$$.new" && mv -f -- "$3.$$.new" "$3"
+  rm -f -- "$3.$$" "$3.$$.new"
+}
+
+# the processor minutes of each crate's proof: 'CRATE MINUTES' a line
 figures() {
-  awk -F'|' '/^\| *crate *\| *functions *\| *edits *\| *proof/ { inside = 1; next } !/^\|/ { inside = 0 }
-    inside && $2 ~ /^ [a-z_]+ $/ && $5 + 0 > 0 { gsub(/ /, "", $2); print $2, $5 + 0 }' "$top/docs/GATE.md"
+  awk -F'\t' '!/^#/ && $4 + 0 > 0 { print $1, $4 + 0 }' "$top/tools/proof_costs.tsv"
 }
 
 # the crates of the program, each with its figure, in tenths of a minute (without a figure: one minute), before what `crates` has
@@ -62,11 +118,11 @@ figures() {
 costs() {
   { figures; echo; crates; } | awk '
     NF == 0 { inside = 1; next }
-    !inside { takes[$1] = int($2 * 10); next }
+    !inside { takes[$1] = int($2 * 10 + 0.5); next }
     { name = $1; $1 = ""; print name, (name in takes) ? takes[name] : 10, $0 }'
 }
 
-# how long a proof of all that the program is made of takes
+# how long a proof of all that the program is built from takes
 whole_time() {
   costs | awk '{ sum += $2 } END { printf "some %d processor minutes", sum / 10 }'
 }

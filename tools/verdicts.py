@@ -9,11 +9,12 @@ so, and of which nothing changed, nor of a crate below, is not proved again. No 
 the gate's alone.
 
 A crate gets up to three processors where others wait for it, so that the longest chain of crates, by the figures of
-docs/GATE.md, ends soon. A line is told for each crate that is proved, and for one that is not the end of what the prover
+tools/proof_costs.tsv, ends soon. A line is told for each crate that is proved, and for one that is not the end of what the prover
 said, all of which stands in crates/NAME/out/verdict. The status is 1 where a crate is not proved.
 
 It works by the toolchain's own `rt`, which it loads as a module; the libraries serve `rt check` in the crates above too.
 """
+import csv
 import functools
 import importlib.machinery
 import importlib.util
@@ -44,10 +45,10 @@ def load():
 
 
 def figures():
-    """Returns the processor minutes of each crate's proof, as docs/GATE.md has them."""
-    with open(f"{TOP}/docs/GATE.md", encoding="utf-8") as it:
-        rows = [[cell.strip() for cell in line.split("|")] for line in it if line.startswith("| ")]
-    return {row[1]: float(row[4]) for row in rows if len(row) > 4 and re.fullmatch(r"[0-9.]+", row[4])}
+    """Returns the processor minutes of each crate's proof, as tools/proof_costs.tsv has them."""
+    with open(f"{TOP}/tools/proof_costs.tsv", encoding="utf-8", newline="") as it:
+        rows = csv.DictReader((line for line in it if not line.startswith("#")), delimiter="\t")
+        return {row["crate"]: float(row["minutes"]) for row in rows}
 
 
 def chains(crates, takes):
