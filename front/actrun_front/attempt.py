@@ -19,7 +19,7 @@ from .contexts import Play, contexts, excluded, plain, triggers
 from .environment import RunPart, marker, passed, variables, write_prelude, write_sudo
 from .execute import Execution, ask, program, read_progress
 from .explain import Origin, explain
-from .facts import find_top, read_facts
+from .facts import find_project, find_top, read_facts
 from .lower import EvaluationError, Lowered, Refused, Setting, lower
 from .present import Board, Groups, Screen, legs_of, mask, one_line, placed, summaries, table, tree
 from .sandbox import Sandbox, why_not
@@ -71,12 +71,12 @@ def attempt(arguments: list[str], screen: Screen) -> int:
     if not start.is_dir():
         raise Problem(f"--directory {start}: there is no such folder")
     found = find_top(start)
-    top = found or start.resolve()
+    top = find_project(start, found) if found and not line.workflows else found or start.resolve()
     chosen = words.complete(line, top)
     if chosen.in_place and chosen.keep is None and not os.access(top, os.W_OK):
         raise Problem(f"--in-place: {top} cannot be written")
     flows = read_flows(workflow_files(chosen, here, start, top), top, screen)
-    facts = read_facts(top, found is not None)
+    facts = read_facts(top, found is not None, found is not None and found.resolve() != top.resolve())
     event = chosen.event or "push"
     look = chosen.list or chosen.dryrun or chosen.graph
     room = rooms.make_room(work_folder(), top.name, None if look or not chosen.keep else here / chosen.keep)
@@ -215,7 +215,7 @@ def fill_tree(play: Play, room: rooms.Room, screen: Screen) -> None:
         return
     if not play.facts.repository and top in (Path.home(), Path("/")):
         raise Problem(f"{top} is no repository, and too much to copy: name a folder by --directory DIR")
-    for text in rooms.copy_tree(play.facts, room.tree):
+    for text in rooms.copy_tree(play.facts, room):
         screen.tell(f"note: not copied: {text}", "note")
 
 
@@ -446,9 +446,6 @@ class Trial:
         """What the sandbox of this play shows."""
         top = self.play.facts.top
         readable = [Path(program()), FRONT, *stubs.binds]
-        alternates = self.room.tree / ".git" / "objects" / "info" / "alternates"
-        if not self.play.options.in_place and alternates.is_file():
-            readable += [Path(os.fsdecode(line)) for line in alternates.read_bytes().splitlines() if os.path.isdir(line)]
         own = os.environ.get("BASH_ENV", "")
         if own and os.path.isfile(own):
             readable.append(Path(own).absolute())

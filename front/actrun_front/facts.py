@@ -62,6 +62,7 @@ class Facts:
 
     top: Path
     repository: bool = False
+    nested: bool = False     # `top` is a folder below that of the repository, with workflows of its own
     sha: str = ""
     branch: str = ""         # empty on a detached head
     tag: str = ""            # of a detached head at a tag
@@ -88,7 +89,18 @@ def find_top(folder: Path) -> Path | None:
     return Path(os.fsdecode(answer.stdout.removesuffix(b"\n")))
 
 
-def read_facts(top: Path, repository: bool) -> Facts:
+def find_project(start: Path, top: Path) -> Path:
+    """The nearest folder from `start` up to the repository's top that has workflows; the top where none has."""
+    start, top = start.resolve(), top.resolve()
+    for folder in (start, *start.parents):
+        if folder == top or top not in folder.parents:
+            break
+        if (folder / ".github" / "workflows").is_dir():
+            return folder
+    return top
+
+
+def read_facts(top: Path, repository: bool, nested: bool = False) -> Facts:
     """The facts of the working tree with that top."""
     login = git(top, "config", "github.user") or os.environ.get("USER") or "user"
     persons = {"actor": login, "person": git(top, "config", "user.name") or login, "mail": git(top, "config", "user.email") or ""}
@@ -96,7 +108,7 @@ def read_facts(top: Path, repository: bool) -> Facts:
         return Facts(top, **persons)
     branch = git(top, "symbolic-ref", "--quiet", "--short", "HEAD") or ""
     tag = "" if branch else git(top, "describe", "--tags", "--exact-match", "HEAD") or ""
-    return Facts(top, True, git(top, "rev-parse", "--verify", "--quiet", "HEAD") or "", branch, tag,
+    return Facts(top, True, nested, git(top, "rev-parse", "--verify", "--quiet", "HEAD") or "", branch, tag,
                  default_branch(top, branch), read_remote(top, branch), **persons)
 
 

@@ -55,7 +55,7 @@ def parser() -> Parser:
     pair = {"action": "append", "metavar": "NAME=VALUE"}
     add("-l", "--list", help="list the jobs of all workflows, or those of EVENT, and execute nothing", **flag)
     add("-n", "--dryrun", help="print runs, jobs, legs and steps as a tree, and execute nothing", **flag)
-    add("-g", "--graph", help="print the graph of the plan (DOT, except on a terminal), and execute nothing", **flag)
+    add("-g", "--graph", help="print the graph of the plan in DOT, and execute nothing", **flag)
     add("-j", "--job", metavar="ID", help="execute this job and those that it needs")
     add("-W", "--workflows", metavar="PATH", help="file or folder of workflows (default: .github/workflows)")
     add("-C", "--directory", metavar="DIR", help="a folder of the repository (default: the current folder)")

@@ -47,6 +47,9 @@ class Sandbox:
         result += ["--bind", os.fspath(temporary), "/tmp", "--bind", os.fspath(temporary), "/var/tmp"]
         for path in [*self.readable, self.room.private / "stubs.json"]:
             result += ["--ro-bind", os.fspath(path), os.fspath(path)]
+        for link in self.room.objects.glob("*"):
+            if link.is_dir():
+                result += ["--ro-bind", os.path.realpath(link), os.fspath(link)]
         for path in [*self.writable, self.stub_cache, self.room.play, self.room.private / "record"]:
             result += ["--bind", os.fspath(path), os.fspath(path)]
         return [*result, "--chdir", os.fspath(self.room.play), "--"]

@@ -47,6 +47,11 @@ class Room:
         """Contexts, workflows, plan, record, diagrams."""
         return self.folder / "private"
 
+    @property
+    def objects(self) -> Path:
+        """Links to the folders in which the repository keeps its objects."""
+        return self.folder / "objects"
+
     def below(self, name: str) -> Path:
         """A folder for the steps, made where it is missing."""
         folder = self.play / name
@@ -115,13 +120,17 @@ def remove(folder: Path) -> None:
         shutil.rmtree(folder, ignore_errors=True)
 
 
-def copy_tree(facts: Facts, target: Path) -> list[str]:
-    """Copies the working tree to the new folder `target`, and gives what was left out, a sentence each."""
+def copy_tree(facts: Facts, room: Room) -> list[str]:
+    """Copies the working tree into the room, and gives what was left out, a sentence each."""
     left: list[str] = []
+    target = room.tree
     target.mkdir()
     if facts.repository:
         names = list(files_of(facts.top, left))
-        copy_repository(facts.top, target)
+        if facts.nested:
+            left.append("the history: the folder is a part of a repository, so git knows no commit in the copy")
+        else:
+            copy_repository(facts.top, room)
     else:
         names = list(all_files(facts.top, left))
     copy_files(facts.top, target, names)
@@ -194,8 +203,9 @@ def copy_files(top: Path, target: Path, names: Iterable[bytes]) -> None:
         raise Problem(f"the working tree cannot be copied to {target}: {lines[0]}", 3)
 
 
-def copy_repository(top: Path, target: Path) -> None:
-    """Makes the copy a repository at the same commit. It reads the objects where they are and can write none of them."""
+def copy_repository(top: Path, room: Room) -> None:
+    """Makes the copy a repository at the same commit. It reads the objects through links in the room, and can write none of them."""
+    target = room.tree
     where = os.fsdecode((ask(top, "rev-parse", "--git-path", "objects").stdout).removesuffix(b"\n"))  # type: ignore[union-attr]
     objects = (top / where).resolve()
     folder = target / ".git"
@@ -204,8 +214,11 @@ def copy_repository(top: Path, target: Path) -> None:
     links = (objects / "info" / "alternates")
     more = links.read_bytes() if links.is_file() else b""
     inherited = [line if line.startswith(b"/") else os.path.join(os.fsencode(objects), line) for line in more.splitlines()]
-    (folder / "objects" / "info" / "alternates").write_bytes(
-        b"".join(quoted(path) + b"\n" for path in (os.fsencode(objects), *inherited)))
+    room.objects.mkdir()
+    places = [room.objects / str(number) for number in range(len(inherited) + 1)]
+    for place, path in zip(places, (os.fsencode(objects), *inherited)):
+        place.symlink_to(os.fsdecode(path))
+    (folder / "objects" / "info" / "alternates").write_bytes(b"".join(quoted(os.fsencode(place)) + b"\n" for place in places))
     refs = git(top, "for-each-ref", "--format=%(objectname) %(refname)") or ""
     (folder / "packed-refs").write_text("".join(line + "\n" for line in refs.splitlines()), encoding="utf-8", errors="replace")
     branch = git(top, "symbolic-ref", "--quiet", "HEAD")

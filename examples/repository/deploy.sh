@@ -1,0 +1,2 @@
+#!/bin/sh
+echo "deploying $GITHUB_REF_NAME"
