@@ -1,15 +1,16 @@
 #!/usr/bin/env bash
 # usage: ./actrun --prove
 #
-# Proves each crate that the program is made of, builds the program, and has it print the board of a record as a check. What
-# is told goes to standard error; where a proof or the build fails the status is 3.
+# Proves each crate that the program is built from, builds the program, and has it print the board of a record as a check.
+# Messages go to standard error; where a proof or the build fails the status is 3.
 #
-# The proofs are those of verdicts.py: each crate over the statements of those below it, as many side by side as there are
-# processors, the one with the longest chain of work above it first. What was proved is kept, also where a run is broken off.
+# The proofs are those of verdicts.py: each crate over the statements of the crates below it, as many side by side as there are
+# processors, the one with the longest chain of work above it first. Proved crates are kept, also where this is interrupted.
 set -u
 top=$(cd "$(dirname "${BASH_SOURCE[0]}")/.." && pwd) || exit 3
 # shellcheck source=tools/sources.sh
 . "$top/tools/sources.sh"
+program=$top/crates/actrun/out/actrun
 
 say() { printf 'actrun: %s\n' "$1" >&2; }
 
@@ -33,8 +34,8 @@ check() {
 main() {
   local now before
   now=$(sources) || exit 3
-  until is_made_of "$now"; do
-    rm -f "$stamp"
+  until is_made_of "$program" "$now"; do
+    rm -f "${program%/*}/made_of"
     if ! build; then
       say 'not all is proved; no program is built'
       exit 3
@@ -43,13 +44,13 @@ main() {
     before=$now
     now=$(sources) || exit 3
     [ "$now" = "$before" ] || continue
-    if ! made_of "$now" >"$stamp"; then
+    if ! made_of "$program" "$now" >"${program%/*}/made_of"; then
       say 'no program was built'
       exit 3
     fi
   done
   check
-  say "the program is $program; cp it where you like, it needs nothing else"
+  say "the program is $program; ./actrun --install installs it"
 }
 
 main; exit
