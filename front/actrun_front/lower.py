@@ -1,44 +1,87 @@
 """Rewrites a workflow so that `actrun plan` takes it: what the program leaves out is replaced or dropped, with a note for each."""
 from __future__ import annotations
 
-import pathlib
 from dataclasses import dataclass, field
-from typing import Any, Callable, Dict, List, Tuple
+from typing import Any, Dict, List, Tuple
 
+from .expressions import EvaluationError
+from .lower_actions import inline_actions
+from .lower_calls import inline_calls
+from .lower_contexts import KnownContexts, action_names, rewrite_job, rewrite_texts, set_default_variables
+from .lower_matrix import legs_or_none, lower_env, lower_strategy, lower_system
+from .lower_scripts import default_shell, lower_shells, lower_time_limits, prepend_to_sh, push_workflow_shell
+from .lower_tree import Lowering, Refused, Setting, annotated, is_set, mark_of, plain
 from .yaml_reader import Document, Note, Path
 
-
-class Refused(Exception):
-    """A workflow cannot be lowered: the line of its file, and a sentence with the remedy."""
-
-    def __init__(self, line: int, text: str):
-        super().__init__(text)
-        self.line, self.text = line, text
-
-
-class EvaluationError(Exception):
-    """An expression has no value: the text says why."""
-
-
-@dataclass
-class Setting:
-    """What is known before execution."""
-    repository: pathlib.Path
-    contexts: Dict[str, Any] = field(default_factory=dict)
-    matrices: Dict[Tuple[str, str], Any] = field(default_factory=dict)
-    any_system: bool = False
-    evaluate: Callable[[str, dict], Any] = lambda text, contexts: None
+__all__ = ["EvaluationError", "Lowered", "Refused", "Setting", "lower"]
 
 
 @dataclass
 class Lowered:
     """A workflow that `actrun plan` reads."""
     value: Any
-    lines: Dict[Path, int]
+    lines: Dict[Path, int]  # places in `value` -> line of the YAML file
     notes: List[Note] = field(default_factory=list)
-    foreign: List[Tuple[str, str]] = field(default_factory=list)
+    foreign: List[Tuple[str, str]] = field(default_factory=list)  # (job id, labels of runs-on) of legs that execute nothing here
 
 
 def lower(document: Document, file: str, setting: Setting) -> Lowered:
     """The lowered workflow of a document without faults. Raises Refused where a part cannot be rewritten."""
-    return Lowered(document.value, document.lines)
+    lowering = Lowering(setting)
+    flow = annotated(document)
+    if isinstance(flow, dict) and isinstance(flow.get("jobs"), dict):
+        inline_calls(lowering, flow)
+        known = KnownContexts(lowering)
+        for key in ("env", "concurrency", "defaults"):
+            rewrite_texts_at(flow, key, known)
+        lower_env(lowering, flow, [{}])
+        push_workflow_shell(flow)
+        for job_id, job in flow["jobs"].items():
+            if isinstance(job, dict) and isinstance(job.get("steps"), list):
+                lower_job(lowering, flow, str(job_id), job)
+    value, lines = plain(flow)
+    return Lowered(value, lines, sorted(lowering.notes, key=lambda note: note.line), lowering.foreign)
+
+
+def rewrite_texts_at(node: Any, key: str, known: KnownContexts) -> None:
+    """Rewrites the text, or all texts, at one key."""
+    if isinstance(node.get(key), (dict, list)):
+        rewrite_texts(node[key], known)
+    elif isinstance(node.get(key), str):
+        node[key] = known.rewrite(node[key], mark_of(node, key))
+
+
+def lower_job(lowering: Lowering, flow: Any, job_id: str, job: Any) -> None:
+    """Lowers one job that has steps."""
+    for key in ("container", "services"):
+        if key in job:
+            lowering.note(mark_of(job, key), f"{key} of job {job_id} is dropped: its steps are executed on this machine, without it")
+            del job[key]
+    name = getattr(job, "known_as", "") or job_id
+    for step, action in zip(job["steps"], action_names(job["steps"])):
+        if isinstance(step, dict):
+            step.known_as = action
+    inline_actions(lowering, job, default_directory(job) or default_directory(flow))
+    known = KnownContexts(lowering, name)
+
+    def each_step(_: int, step: Any) -> None:
+        known.action = getattr(step, "known_as", "")
+    rewrite_job(job, known, each_step)
+    lower_strategy(lowering, job_id, job)
+    legs = legs_or_none(lowering, job)
+    lower_env(lowering, job, legs)
+    for step in job["steps"]:
+        if isinstance(step, dict):
+            lower_env(lowering, step, legs)
+    here = lower_system(lowering, job_id, job, legs)
+    lower_shells(lowering, job, here)
+    shell = default_shell(job) or default_shell(flow)
+    prepend_to_sh(lowering, job, shell)
+    lower_time_limits(lowering, job, shell)
+    set_default_variables(name, job, flow)
+
+
+def default_directory(node: Any) -> bool:
+    """Whether a workflow or job has a default working directory."""
+    run = node["defaults"].get("run") if isinstance(node.get("defaults"), dict) else None
+    return isinstance(run, dict) and is_set(run.get("working-directory"))

@@ -1,0 +1,142 @@
+"""Rewrites what expressions read that the program does not know: runner, hashFiles, and what differs by job or step."""
+from __future__ import annotations
+
+from typing import Any, Optional, Tuple
+
+from .expressions import (Access, EvaluationError, Rules, has_expression, literal, rewrite_condition, rewrite_template)
+from .hash_files import GlobError, digest
+from .lower_tree import Lowering, Mark, mark_of
+
+Replacement = Optional[Tuple[str, int]]
+
+
+class KnownContexts:
+    """The rules for the texts of one job, or of the workflow where there is no job."""
+
+    def __init__(self, lowering: Lowering, job_id: str = ""):
+        self.lowering = lowering
+        self.job_id = job_id
+        self.action = ""
+        self.condition = False
+        self.mark = Mark(1)
+        self.rules = Rules({"runner": self.runner, "github": self.github}, {"hashfiles": self.hash_files}, self.fraction)
+
+    def runner(self, access: Access) -> Replacement:
+        """`runner.os` becomes the value that this machine has."""
+        values = {key.lower(): value for key, value in self.lowering.contexts["runner"].items()}
+        if not access.keys:
+            self.lowering.note(self.mark, "`runner` is replaced by its values on this machine")
+            return literal(values), 0
+        value = values.get(access.keys[0].lower())
+        self.lowering.note(self.mark, f"`runner.{access.keys[0]}` is replaced by its value on this machine, {literal(value)}")
+        return literal(value), 1
+
+    def github(self, access: Access) -> Replacement:
+        """What differs by job or step, and the token."""
+        key = access.keys[0].lower() if access.keys else ""
+        if key == "token":
+            if self.condition:
+                self.lowering.note(self.mark, "`github.token` in a condition is the one of the contexts: a condition reads no secrets")
+                return None
+            self.lowering.note(self.mark, "`github.token` is replaced by `secrets.GITHUB_TOKEN`")
+            return "secrets.GITHUB_TOKEN", 1
+        value = {"job": self.job_id, "action": self.action}.get(key)
+        if not value:
+            return None
+        self.lowering.note(self.mark, f"`github.{key}` is replaced by {literal(value)}")
+        return literal(value), 1
+
+    def hash_files(self, given: list[str]) -> str:
+        """A call of hashFiles becomes the digest of the files in the repository."""
+        setting = self.lowering.setting
+        workspace = str((self.lowering.contexts.get("github") or {}).get("workspace") or "")
+        try:
+            patterns = [self.lowering.evaluate(f"format('{{0}}', {one})") for one in given] if self.has_access(given) else \
+                [one[1:-1].replace("''", "'") for one in given]
+            value = digest(patterns, setting.repository, workspace)
+        except (EvaluationError, GlobError) as fault:
+            raise self.lowering.refuse(self.mark, f"hashFiles({', '.join(given)}) has no value before execution: {fault}; "
+                                                  "write its patterns as texts in quotes") from None
+        self.lowering.note(self.mark, f"hashFiles({', '.join(given)}) is replaced by " + (
+            f"the digest {value[:12]}.. of the repository's files" if value else "an empty text: no file matches"))
+        return literal(value)
+
+    def has_access(self, given: list[str]) -> bool:
+        """Whether an argument is more than a text in quotes."""
+        return not all(one.startswith("'") and one.endswith("'") and "'" not in one[1:-1].replace("''", "") for one in given)
+
+    def fraction(self, text: str) -> str:
+        """A fraction becomes a text, as the reader of YAML makes texts of fractions."""
+        self.lowering.note(self.mark, f"the number {text} is compared as a text: actrun has whole numbers only")
+        return literal(text)
+
+    def rewrite(self, text: str, mark: Mark, condition: bool = False) -> str:
+        self.mark, self.condition = mark, condition
+        return rewrite_condition(text, self.rules) if condition else rewrite_template(text, self.rules)
+
+
+def rewrite_texts(node: Any, known: Any, condition_key: str = "") -> None:
+    """Rewrites all texts of a list or a map. At the key `condition_key` of the map itself is a condition."""
+    for key, value in list(node.items() if isinstance(node, dict) else enumerate(node)):
+        if isinstance(value, (dict, list)):
+            rewrite_texts(value, known)
+        elif isinstance(value, str) and (key == condition_key and isinstance(node, dict) or has_expression(value)):
+            node[key] = known.rewrite(value, mark_of(node, key), key == condition_key and isinstance(node, dict))
+
+
+def rewrite_job(job: Any, known: Any, each_step: Any = None) -> None:
+    """Rewrites all texts of a job, those of its steps included; `each_step` is called before each step's."""
+    steps = job.get("steps")
+    for key, value in list(job.items()):
+        if key == "steps" and isinstance(steps, list):
+            continue
+        if key == "if" and isinstance(value, str) or has_expression(value):
+            job[key] = known.rewrite(value, mark_of(job, key), key == "if")
+        elif isinstance(value, (dict, list)):
+            rewrite_texts(value, known)
+    for at, step in enumerate(steps if isinstance(steps, list) else []):
+        if isinstance(step, dict):
+            if each_step:
+                each_step(at, step)
+            rewrite_texts(step, known, "if")
+
+
+def action_names(steps: list) -> list[str]:
+    """GITHUB_ACTION of each step: its id, else `__run` or the action's name, with a number from the second on."""
+    counts: dict[str, int] = {}
+    names = []
+    for step in steps:
+        uses = step.get("uses") if isinstance(step, dict) else None
+        name = "__run"
+        if isinstance(uses, str):
+            path = "self" if uses.startswith(".") else uses.replace("docker://", "").partition("@")[0]
+            name = "__" + "".join(char if char.isalnum() or char == "-" else "_" for char in path)
+        if isinstance(step, dict) and isinstance(step.get("id"), str):
+            names.append(step["id"])
+            continue
+        counts[name] = counts.get(name, 0) + 1
+        names.append(name if counts[name] == 1 else f"{name}_{counts[name]}")
+    return names
+
+
+def set_default_variables(job_id: str, job: Any, flow: Any) -> None:
+    """Adds GITHUB_JOB to a job's variables and GITHUB_ACTION to those of each step, where the workflow does not define them."""
+    outer = {**(flow.get("env") if isinstance(flow.get("env"), dict) else {})}
+    given = job.get("env")
+    if given is None or isinstance(given, dict):
+        if "GITHUB_JOB" not in {**outer, **(given or {})}:
+            job["env"] = with_member(given, "GITHUB_JOB", job_id)
+        outer.update(job.get("env") or {})
+    for step in job["steps"]:
+        name = getattr(step, "known_as", "")
+        if name and (step.get("env") is None or isinstance(step["env"], dict)):
+            if "GITHUB_ACTION" not in {**outer, **(step.get("env") or {})}:
+                step["env"] = with_member(step.get("env"), "GITHUB_ACTION", name)
+
+
+def with_member(node: Any, key: str, value: Any) -> Any:
+    """The map with one more member, or a new one."""
+    made = {} if node is None else node
+    made[key] = value
+    return made
+
