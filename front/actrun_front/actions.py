@@ -88,7 +88,7 @@ def stubs_for(uses: Iterable[str], named: dict[str, str], lenient: bool, folder:
     `named` maps actions to programs as `--stub ACTION=PROGRAM` gives them, with or without `@ref`; the longest match wins.
     Raises StubError where a named program isn't there.
     """
-    stubs = Stubs(binds=[STUBS])
+    stubs = Stubs(binds=[STUBS.parent])
     stubs.binds += [place for action, program in named.items() if (place := check_program(action, program))]
     table = shipped_actions()
     folder.mkdir(parents=True, exist_ok=True)

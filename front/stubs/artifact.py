@@ -33,7 +33,7 @@ def checked_name() -> str:
 
 def common_folder(patterns: list[globs.Pattern], found: list[pathlib.Path]) -> pathlib.Path:
     """The folder from which an artifact's files keep their names: the least common ancestor of what was looked for."""
-    roots = globs.search_roots(patterns)
+    roots = globs.roots(patterns)
     if len(roots) > 1:
         return pathlib.Path(os.path.commonpath(roots))
     return roots[0].parent if found == roots else roots[0]
@@ -71,7 +71,7 @@ def keep(new: pathlib.Path, final: pathlib.Path, text: str) -> None:
 def upload(text: str) -> None:
     """Keeps the files that `path` matches as an artifact."""
     name, patterns = checked_name(), globs.read_patterns(step.given_lines("path"))
-    if not any(not pattern.leaves_out for pattern in patterns):
+    if all(pattern.negative for pattern in patterns):
         step.fail("the input `path` is missing")
     found = globs.files(patterns, step.given_flag("include-hidden-files"))
     if not found:
@@ -110,7 +110,7 @@ def download() -> None:
     for name in ("run-id", "artifact-ids"):
         if step.given(name) not in ("", os.environ.get("GITHUB_RUN_ID")):
             step.fail(f"the input `{name}` asks for artifacts of another run; only those of this run are there")
-    target = pathlib.Path(globs.absolute(step.given("path", ".")))
+    target = globs.absolute(step.given("path", "."))
     found = chosen(artifacts_folder())
     for artifact in found:
         into = target if step.given("name") or step.given_flag("merge-multiple") else target / artifact.name

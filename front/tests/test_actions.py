@@ -89,7 +89,8 @@ class Actions(unittest.TestCase):
 
     def test_a_sandbox_is_told_of_the_programs_it_has_to_show(self) -> None:
         program = self.program("mine", "")
-        self.assertEqual(self.stubs(["a/b@v1"], {"a/b": program, "c/d": "true"}).binds, [actions.STUBS, pathlib.Path(program)])
+        self.assertEqual(self.stubs(["a/b@v1"], {"a/b": program, "c/d": "true"}).binds,
+                         [actions.STUBS.parent, pathlib.Path(program)])
 
     def test_a_wrapper_executes_the_prelude_and_hands_the_text_on(self) -> None:
         text = "who/wh'at $(touch x)\n`touch y`@v1"

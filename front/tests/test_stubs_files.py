@@ -151,6 +151,24 @@ class Artifacts(StubCase):
         self.upload(f"path/output/bin\n{self.tree}/other", name="three")
         self.assertEqual(self.files_below("artifacts/three"), ["other", "path/output/bin/app"])
 
+    def test_wildcards_in_the_name_of_the_tree_are_none(self) -> None:
+        self.tree = self.room / "a tree [1]*"
+        self.tree.mkdir()
+        self.environment["GITHUB_WORKSPACE"] = str(self.tree)
+        self.write("a tree [1]*/dist/a.whl")
+        self.write("a tree 1/dist/b.whl")
+        self.upload("dist/../dist/*.whl", name="relative")
+        self.upload(f"{self.tree}/dist", name="absolute")
+        self.assertEqual(self.kept(), ["absolute/a.whl", "relative/a.whl"])
+
+    def test_links_to_folders_are_followed_once(self) -> None:
+        self.write("elsewhere/file")
+        self.write("tree/d/file")
+        (self.tree / "d" / "out").symlink_to(self.room / "elsewhere")
+        (self.tree / "d" / "up").symlink_to("..")
+        self.upload("d", name="a")
+        self.assertEqual(self.kept(), ["a/file", "a/out/file"])
+
     def test_hidden_files_are_left_out_unless_asked_for(self) -> None:
         for name in (".env", "d/.git/x", "d/y"):
             self.write(f"tree/{name}")
