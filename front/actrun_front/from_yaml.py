@@ -1,15 +1,20 @@
 """The command `from-yaml`: makes JSON, as `actrun` reads it, of workflows in YAML."""
 from __future__ import annotations
 
+import json
 import os
+import pathlib
 import sys
+from dataclasses import dataclass, field
+from typing import Any, Optional
 
+from .lower import Refused, Setting, lower
 from .yaml_reader import read_document, text_of
 
 HELP = """\
 Makes JSON, as `actrun` reads it, of workflows in YAML.
 
-usage: from-yaml [-o OUT] FILE..
+usage: from-yaml [-o OUT] [--lower [--contexts FILE] [--repository DIR] [--matrix JOB.VARIABLE=JSON].. [--any-system]] FILE..
 
 Each FILE holds one workflow. Its JSON is written beside it, to FILE with `.json` in the place of `.yml` or `.yaml`, over an
 older file of that name. With `-o OUT` the JSON of the one FILE is written to OUT, and with `-o -` to standard output. The
@@ -24,15 +29,90 @@ Anchors, aliases and `<<` are written out. A file is refused, by lines `FILE:LIN
 UTF-8 or not YAML, or has a second document, a key that is twice in a map or is not a text, a tag beyond the core schema, an
 alias without its anchor or inside it, infinity or no number, half a character, more than 127 levels, or more than 16 MiB of JSON.
 
+With --lower the workflow is rewritten so that `actrun plan` takes it, and a line on standard error names each thing that was
+replaced or dropped: hashFiles, `runner`, shells other than sh and bash, containers and services, called workflows, composite
+actions of the repository, matrices and variables by expression, limits of time, and legs for Windows and macOS.
+
+  --contexts FILE  JSON with the objects github, inputs, vars, secrets and runner, as far as they are known; hand the same
+                   file to `actrun plan`
+  --repository DIR the folder that hashFiles, ./ACTION and ./.github/workflows/FILE look in; without it the one with the
+                   .github/workflows that FILE is in, else the current folder
+  --matrix JOB.VARIABLE=JSON  the value of a matrix variable, of `matrix`, `include`, `exclude`, `fail-fast` or `max-parallel`
+  --any-system     let legs for Windows and macOS execute their steps here
+
 Exit statuses: 0 all JSON is written, 2 the arguments or a FILE is refused, 3 a file, a stream or the library failed."""
 
 
-def made(data, name):
+@dataclass
+class Options:
+    """What the arguments ask for."""
+    names: list = field(default_factory=list)
+    out: Optional[str] = None
+    lower: bool = False
+    any_system: bool = False
+    contexts: Optional[str] = None
+    known: dict = field(default_factory=dict)  # what the file of --contexts holds
+    repository: Optional[str] = None
+    matrices: dict = field(default_factory=dict)
+
+
+def parsed(given: list[str]) -> Options | None:
+    """The options, or None if the arguments make no sense."""
+    options, given = Options(), list(given)
+    named = {"-o": "out", "--contexts": "contexts", "--repository": "repository"}
+    while given:
+        word = given.pop(0)
+        if word in named and given and getattr(options, named[word]) is None:
+            setattr(options, named[word], given.pop(0))
+        elif word in ("--lower", "--any-system"):
+            setattr(options, word[2:].replace("-", "_"), True)
+        elif word == "--matrix" and given:
+            place, _, text = given.pop(0).partition("=")
+            job, _, variable = place.rpartition(".")
+            try:
+                options.matrices[job, variable] = json.loads(text)
+            except ValueError:
+                return None
+        elif word.startswith("-") and word != "-":
+            return None
+        else:
+            options.names.append(word)
+    beside = options.contexts or options.repository or options.matrices or options.any_system
+    good = options.names and (len(options.names) == 1 or options.out is None) and (options.lower or not beside)
+    return options if good else None
+
+
+def made(data: bytes, name: str, options: Options) -> str | None:
     """The JSON of a file's bytes, or None. Faults or notes are printed."""
     document = read_document(data)
-    for note in document.faults or document.notes:
+    value, notes = document.value, document.faults or document.notes
+    if options.lower and not document.faults:
+        try:
+            lowered = lower(document, name, setting(name, options))
+        except Refused as refused:
+            print(f"{name}:{refused.line}: {refused.text}", file=sys.stderr)
+            return None
+        value, notes = lowered.value, sorted([*notes, *lowered.notes], key=lambda note: note.line)
+    for note in notes:
         print(f"{name}:{note.line}: {note.text}", file=sys.stderr)
-    return None if document.faults else text_of(document.value) + "\n"
+    return None if document.faults else text_of(value) + "\n"
+
+
+def setting(name: str, options: Options) -> Setting:
+    """What the options say of a file."""
+    folder = pathlib.Path(name).absolute().parent
+    found = folder.parent.parent if folder.parts[-2:] == (".github", "workflows") else pathlib.Path()
+    repository = pathlib.Path(options.repository) if options.repository else found
+    return Setting(repository, options.known, options.matrices, options.any_system)
+
+
+def contexts_of(name: str) -> dict[str, Any]:
+    """The objects in the file of --contexts. Raises ValueError where it holds something else."""
+    given = json.loads(read_bytes(name))
+    for key in ("github", "inputs", "vars", "secrets", "runner"):
+        if not isinstance(given, dict) or not isinstance(given.get(key, {}), dict):
+            raise ValueError("it must hold a JSON object whose github, inputs, vars, secrets and runner are objects")
+    return given
 
 
 def place_of(name):
@@ -43,34 +123,20 @@ def place_of(name):
     return (base if end.lower() in (".yml", ".yaml") else name) + ".json"
 
 
-def parsed(given):
-    """The files, and the place of the JSON if -o names it. None if the arguments make no sense."""
-    names, out, given = [], None, list(given)
-    while given:
-        word = given.pop(0)
-        if word == "-o" and given and out is None:
-            out = given.pop(0)
-        elif word.startswith("-") and word != "-":
-            return None
-        else:
-            names.append(word)
-    return (names, out) if len(names) == 1 or names and out is None else None
-
-
 def read_bytes(place):
     """The bytes of a file, or of the stream of a number."""
     with open(place, "rb", closefd=place != 0) as it:
         return it.read()
 
 
-def convert(name, out):
+def convert(name: str, out: str, options: Options) -> int:
     """Makes the JSON of a file, and returns the status."""
     try:
         if name == "-":
             name, data = "standard input", read_bytes(0)
         else:
             data = read_bytes(name)
-        text = made(data, name)
+        text = made(data, name, options)
         if text is None:
             return 2
         with open(1 if out == "-" else out, "wb", closefd=out != "-") as it:
@@ -87,9 +153,13 @@ def main(arguments: list[str]) -> int:
     if "--help" in arguments:
         print(HELP)
         return 0
-    taken = parsed(arguments)
-    if taken is None:
+    options = parsed(arguments)
+    if options is None:
         print("from-yaml: the arguments make no sense; from-yaml --help lists them", file=sys.stderr)
         return 2
-    names, out = taken
-    return max(convert(name, out or place_of(name)) for name in names)
+    try:
+        options.known = contexts_of(options.contexts) if options.contexts is not None else {}
+    except (OSError, ValueError) as fault:
+        print(f"from-yaml: --contexts {options.contexts}: {getattr(fault, 'strerror', None) or fault}", file=sys.stderr)
+        return 3 if isinstance(fault, OSError) else 2
+    return max(convert(name, options.out or place_of(name), options) for name in options.names)

@@ -32,8 +32,9 @@ def lower(document: Document, file: str, setting: Setting) -> Lowered:
     if isinstance(flow, dict) and isinstance(flow.get("jobs"), dict):
         inline_calls(lowering, flow)
         known = KnownContexts(lowering)
-        for key in ("env", "concurrency", "defaults"):
-            rewrite_texts_at(flow, key, known)
+        jobs = flow.pop("jobs")
+        rewrite_texts(flow, known.rewrite)
+        flow["jobs"] = jobs
         lower_env(lowering, flow, [{}])
         push_workflow_shell(flow)
         for job_id, job in flow["jobs"].items():
@@ -41,14 +42,6 @@ def lower(document: Document, file: str, setting: Setting) -> Lowered:
                 lower_job(lowering, flow, str(job_id), job)
     value, lines = plain(flow)
     return Lowered(value, lines, sorted(lowering.notes, key=lambda note: note.line), lowering.foreign)
-
-
-def rewrite_texts_at(node: Any, key: str, known: KnownContexts) -> None:
-    """Rewrites the text, or all texts, at one key."""
-    if isinstance(node.get(key), (dict, list)):
-        rewrite_texts(node[key], known)
-    elif isinstance(node.get(key), str):
-        node[key] = known.rewrite(node[key], mark_of(node, key))
 
 
 def lower_job(lowering: Lowering, flow: Any, job_id: str, job: Any) -> None:
@@ -64,9 +57,9 @@ def lower_job(lowering: Lowering, flow: Any, job_id: str, job: Any) -> None:
     inline_actions(lowering, job, default_directory(job) or default_directory(flow))
     known = KnownContexts(lowering, name)
 
-    def each_step(_: int, step: Any) -> None:
+    def each_step(step: Any) -> None:
         known.action = getattr(step, "known_as", "")
-    rewrite_job(job, known, each_step)
+    rewrite_job(job, known.rewrite, each_step)
     lower_strategy(lowering, job_id, job)
     legs = legs_or_none(lowering, job)
     lower_env(lowering, job, legs)

@@ -5,7 +5,7 @@ from typing import Any, Dict, List, Optional, Tuple
 
 from .expressions import (Access, Rules, condition_expression, conjunction, has_expression, literal, names_status, reads_only, references,
                           rewrite, rewrite_condition, rewrite_template, tokens)
-from .lower_contexts import rewrite_texts
+from .lower_contexts import by_rules, rewrite_texts
 from .lower_tree import Lowering, Map, Mark, Sequence, annotated, expression_of, is_set, mark_of
 from .yaml_reader import read_document
 
@@ -26,7 +26,7 @@ def inline_actions(lowering: Lowering, job: Any, has_directory: bool) -> None:
 def inlined(lowering: Lowering, step: Any, mark: Mark, taken: set, has_directory: bool, above: Tuple[str, ...]) -> List[Any]:
     """The steps that take the place of a step: itself, unless it uses a composite action of the repository."""
     uses = step.get("uses") if isinstance(step, dict) else None
-    if not isinstance(uses, str) or not (uses == "." or uses.startswith("./")):
+    if not isinstance(uses, str) or not (uses == "." or uses.startswith("./")) or uses.endswith((".yml", ".yaml")):
         return [step]
     folder = uses[2:].strip("/") or "."
     action = read_action(lowering, folder, uses, mark_of(step, "uses"))
@@ -81,6 +81,8 @@ class Use:
         self.path = workspace.rstrip("/") + ("" if folder == "." else "/" + folder)
         self.inputs = self.input_expressions()
         self.ids = self.new_ids(taken)
+        self.named = {one["id"]: new for one, new in zip(self.inner, self.ids) if isinstance(one.get("id"), str)}
+        self.tolerated = [one.get("continue-on-error") for one in self.inner]
 
     def input_expressions(self) -> Dict[str, str]:
         """The expression of each input, whose value is a text."""
@@ -105,8 +107,6 @@ class Use:
 
     def rules(self, inner: Any, condition: bool) -> Rules:
         """What the texts of a step of the action read. A condition reads no secrets, so an input with one comes by a variable."""
-        named = {one["id"]: new for one, new in zip(self.inner, self.ids) if isinstance(one.get("id"), str)}
-
         def input_value(access: Access) -> Optional[Tuple[str, int]]:
             if not access.keys:
                 return literal({}), 0
@@ -119,7 +119,7 @@ class Use:
             return f"({value})", 1
 
         def step_value(access: Access) -> Optional[Tuple[str, int]]:
-            return (f"steps.{named[access.keys[0]]}", 1) if access.keys and access.keys[0] in named else None
+            return (f"steps.{self.named[access.keys[0]]}", 1) if access.keys and access.keys[0] in self.named else None
 
         def github(access: Access) -> Optional[Tuple[str, int]]:
             return (literal(self.path), 1) if access.keys and access.keys[0].lower() == "action_path" else None
@@ -152,11 +152,8 @@ class Use:
 
     def failed(self, before: int) -> str:
         """The expression that holds where a step of the action before a place has failed."""
-        found = []
-        for one, new in zip(self.inner[:before], self.ids):
-            tolerated = one.get("continue-on-error")
-            if tolerated is not True:
-                found.append(f"steps.{new}.{'conclusion' if has_expression(tolerated) else 'outcome'} == 'failure'")
+        found = [f"steps.{new}.{'conclusion' if has_expression(tolerated) else 'outcome'} == 'failure'"
+                 for tolerated, new in zip(self.tolerated[:before], self.ids) if tolerated is not True]
         return "(" + (" || ".join(found) or "false") + ")"
 
     def adopted(self, at: int) -> Any:
@@ -164,8 +161,9 @@ class Use:
         step = self.inner[at]
         own = condition_expression(rewrite_condition(step["if"], self.rules(step, True)) if isinstance(step.get("if"), str) else step.get("if"))
         step.pop("if", None)
-        rewrite_texts(step, Inner(self.rules(step, False)))
-        step["id"] = self.ids[at]
+        rewrite_texts(step, by_rules(self.rules(step, False)))
+        if "id" in step or self.gated:
+            step["id"] = self.ids[at]
         condition = self.condition(own, at)
         if condition is not None:
             step["if"] = condition
@@ -202,12 +200,3 @@ class Use:
         made["run"] = "\n".join(lines + ['[ "$ACTRUN_FAILED" != true ]', ""])
         return made
 
-
-class Inner:
-    """Hands rules to `rewrite_texts`."""
-
-    def __init__(self, rules: Rules):
-        self.rules = rules
-
-    def rewrite(self, text: str, mark: Mark, condition: bool = False) -> str:
-        return rewrite_template(text, self.rules)

@@ -6,10 +6,10 @@ from typing import Any, Dict, List, Optional, Tuple
 
 from .expressions import (Access, EvaluationError, Rules, condition_expression, has_expression, literal, names_status, references,
                           rewrite, rewrite_condition, rewrite_template, template_expression)
-from .lower_contexts import rewrite_job
+from .lower_contexts import by_rules, rewrite_job
 from .lower_matrix import lower_strategy
-from .lower_tree import Lowering, Map, Mark, Sequence, annotated, expression_of, is_set, mark_of, shown, texts
-from .yaml_reader import read_document
+from .lower_tree import Lowering, Map, Mark, Sequence, annotated, expression_of, is_set, mark_of, plain, shown, texts
+from .yaml_reader import read_document, text_of
 
 MOST_LEVELS = 4  # of workflows, the first caller included
 CALLED_PARTS = ("name", "uses", "with", "secrets", "needs", "if", "strategy", "permissions", "concurrency")
@@ -138,7 +138,7 @@ class Call:
         result["outputs"] = {name: "${{ " + " || ".join(f"({outputs_of[name]})" for _, outputs_of in reversed(copies)) + " }}"
                              for name in (outputs if isinstance(outputs, dict) else {})}
         failing = Map({"name": f"a job of {self.path} did not succeed", "run": "exit 1", "shell": "sh",
-                       "if": "contains(needs.*.result, 'failure') || contains(needs.*.result, 'cancelled')"}, self.mark)
+                       "if": " || ".join(f"needs.{name}.result == '{bad}'" for name in ids for bad in ("failure", "cancelled"))}, self.mark)
         result["steps"] = Sequence([failing], self.mark)
         made[self.id] = result
         return made
@@ -155,8 +155,10 @@ class Call:
         except EvaluationError as fault:
             raise self.lowering.refuse(mark_of(self.job, "strategy"), f"the matrix of job {self.id} has no combinations: {fault}") from None
 
-    def name(self) -> str:
-        return str(self.job.get("name") or self.id)
+    def name(self, leg: Optional[dict] = None) -> str:
+        """The name of the call, with the values of its combination as GitHub shows them."""
+        name = str(self.job.get("name") or self.id)
+        return f"{name} ({', '.join(shown(value) for value in leg.values())})" if leg else name
 
     def copy(self, made: Dict[str, Any], leg: Optional[dict], at: int, count: int) -> Tuple[List[str], Dict[str, str]]:
         """Adds the jobs of one call. Their ids, and the expressions of the outputs of the call."""
@@ -170,7 +172,7 @@ class Call:
         rules = self.rules(leg, ids)
         for old, job in inner.items():
             if isinstance(job, dict):
-                self.adopt(job, old, ids, gate, rules, suffix)
+                self.adopt(job, old, ids, gate, rules, leg)
             made[ids[old]] = job
         outputs = self.declared.get("outputs")
         given = {name: one.get("value") for name, one in outputs.items() if isinstance(one, dict)} if isinstance(outputs, dict) else {}
@@ -182,7 +184,7 @@ class Call:
         if not self.caller_needs and condition_expression(self.job.get("if")) is None:
             return None
         gate_id = self.free_id("call" + suffix)
-        made[gate_id] = Map({"name": f"{self.name()} (condition)", "needs": list(self.caller_needs), "steps": Sequence(mark=self.mark)}, self.mark)
+        made[gate_id] = Map({"name": f"{self.name(leg)} (condition)", "needs": list(self.caller_needs), "steps": Sequence(mark=self.mark)}, self.mark)
         if is_set(self.job.get("if")) or self.job.get("if") is False:
             condition = self.job["if"]
             made[gate_id]["if"] = rewrite_condition(condition, matrix_rules(leg)) if isinstance(condition, str) else condition
@@ -227,18 +229,21 @@ class Call:
             found[name.lower()] = rewrite(typed(one.get("type"), value), matrix_rules(leg))
         return found
 
-    def adopt(self, job: Any, old: str, ids: Dict[str, str], gate: Optional[str], rules: Rules, suffix: str) -> None:
+    def adopt(self, job: Any, old: str, ids: Dict[str, str], gate: Optional[str], rules: Rules, leg: Optional[dict]) -> None:
         """Makes a job of the called workflow one of the caller's."""
         job.known_as = job.known_as or old
-        needs = [ids[one] for one in texts(job.get("needs")) if one in ids]
-        unknown = [one for one in texts(job.get("needs")) if one not in ids]
-        rewrite_job(job, Called(rules))
-        job["name"] = f"{self.name()} / {job.get('name') or old}"
+        needs = [ids.get(one, one) for one in texts(job.get("needs"))]
+        rewrite_job(job, by_rules(rules))
+        job["name"] = f"{self.name(leg)} / {job.get('name') or old}"
+        condition = condition_expression(job.get("if"))
         if gate:
-            job["if"] = self.condition(condition_expression(job.get("if")), gate, needs)
-        if job.get("if") is None:
-            job.pop("if", None)
-        job["needs"] = needs + unknown + ([gate] if gate else []) + [one for one in self.needs_of_inputs if one in self.caller_needs]
+            condition = self.condition(condition, gate, needs)
+        if condition is not None:
+            job["if"] = condition
+        whole = text_of(plain(job)[0])
+        wanted = [gate] if gate and not needs else []
+        wanted += [one for one in ([gate] if gate else []) + self.needs_of_inputs if one not in wanted and f"needs.{one}." in whole]
+        job["needs"] = needs + wanted
 
     def condition(self, own: Optional[str], gate: str, needs: List[str]) -> Optional[str]:
         """The condition of a called job where the call itself has one."""
@@ -251,16 +256,6 @@ class Call:
         inner = rewrite(own, rules) if own and names_status(own) else f"{success} && ({own})" if own else success
         self.lowering.note(self.mark, f"the condition of job {self.id} names a status: in {self.path} success() and failure() look at direct needs alone")
         return f"{state} && needs.{gate}.result == 'success' && {inner}"
-
-
-class Called:
-    """Hands rules to `rewrite_job`."""
-
-    def __init__(self, rules: Rules):
-        self.rules = rules
-
-    def rewrite(self, text: str, mark: Mark, condition: bool = False) -> str:
-        return rewrite_condition(text, self.rules) if condition else rewrite_template(text, self.rules)
 
 
 def matrix_rules(leg: Optional[dict]) -> Rules:

@@ -1,7 +1,7 @@
 """Rewrites what expressions read that the program does not know: runner, hashFiles, and what differs by job or step."""
 from __future__ import annotations
 
-from typing import Any, Optional, Tuple
+from typing import Any, Callable, Optional, Tuple
 
 from .expressions import (Access, EvaluationError, Rules, has_expression, literal, rewrite_condition, rewrite_template)
 from .hash_files import GlobError, digest
@@ -71,34 +71,39 @@ class KnownContexts:
         return literal(text)
 
     def rewrite(self, text: str, mark: Mark, condition: bool = False) -> str:
+        """A text of the job after the rules."""
         self.mark, self.condition = mark, condition
         return rewrite_condition(text, self.rules) if condition else rewrite_template(text, self.rules)
 
 
-def rewrite_texts(node: Any, known: Any, condition_key: str = "") -> None:
-    """Rewrites all texts of a list or a map. At the key `condition_key` of the map itself is a condition."""
+Rewrite = Callable[[str, Mark, bool], str]  # of a text, with whether it is a condition
+
+
+def by_rules(rules: Rules) -> Rewrite:
+    """Rewrites texts by rules alone."""
+    return lambda text, _, condition: rewrite_condition(text, rules) if condition else rewrite_template(text, rules)
+
+
+def rewrite_texts(node: Any, rewrite: Rewrite, conditions: bool = False) -> None:
+    """Rewrites all texts of a list or a map; with `conditions` the one at the key `if` is a condition."""
     for key, value in list(node.items() if isinstance(node, dict) else enumerate(node)):
+        condition = conditions and key == "if"
         if isinstance(value, (dict, list)):
-            rewrite_texts(value, known)
-        elif isinstance(value, str) and (key == condition_key and isinstance(node, dict) or has_expression(value)):
-            node[key] = known.rewrite(value, mark_of(node, key), key == condition_key and isinstance(node, dict))
+            rewrite_texts(value, rewrite)
+        elif isinstance(value, str) and (condition or has_expression(value)):
+            node[key] = rewrite(value, mark_of(node, key), condition)
 
 
-def rewrite_job(job: Any, known: Any, each_step: Any = None) -> None:
-    """Rewrites all texts of a job, those of its steps included; `each_step` is called before each step's."""
-    steps = job.get("steps")
-    for key, value in list(job.items()):
-        if key == "steps" and isinstance(steps, list):
-            continue
-        if key == "if" and isinstance(value, str) or has_expression(value):
-            job[key] = known.rewrite(value, mark_of(job, key), key == "if")
-        elif isinstance(value, (dict, list)):
-            rewrite_texts(value, known)
-    for at, step in enumerate(steps if isinstance(steps, list) else []):
+def rewrite_job(job: Any, rewrite: Rewrite, each_step: Callable[[Any], None] = lambda step: None) -> None:
+    """Rewrites all texts of a job, those of its steps included; `each_step` is called with each step before its texts."""
+    steps = job.pop("steps", None)
+    rewrite_texts(job, rewrite, True)
+    if steps is not None:
+        job["steps"] = steps
+    for step in steps if isinstance(steps, list) else []:
         if isinstance(step, dict):
-            if each_step:
-                each_step(at, step)
-            rewrite_texts(step, known, "if")
+            each_step(step)
+            rewrite_texts(step, rewrite, True)
 
 
 def action_names(steps: list) -> list[str]:

@@ -108,7 +108,8 @@ class Lowering:
         self.notes: List[Note] = []
         self.foreign: List[Tuple[str, str]] = []
         self.contexts = dict(setting.contexts)
-        self.contexts["runner"] = {**RUNNER, **(setting.contexts.get("runner") or {})}
+        workspace = str((setting.contexts.get("github") or {}).get("workspace") or setting.repository.absolute())
+        self.contexts["runner"] = {**RUNNER, "workspace": os.path.dirname(workspace), **(setting.contexts.get("runner") or {})}
 
     def note(self, mark: Mark, text: str) -> None:
         """Keeps a sentence about a line, once."""
