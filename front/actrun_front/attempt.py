@@ -16,17 +16,18 @@ from typing import Any, Iterable
 from . import Problem, options as words, tree as rooms
 from .actions import StubError, Stubs, after_play, stubs_for
 from .contexts import Play, contexts, excluded, plain, triggers
-from .environment import RunPart, marker, passed, variables, write_prelude, write_sudo
+from .environment import SH_HOOK, JobPart, marker, passed, settle, variables, write_prelude, write_sudo
 from .execute import Execution, ask, program, read_progress
 from .explain import Origin, explain
 from .facts import find_project, find_top, read_facts
-from .lower import EvaluationError, Lowered, Refused, Setting, lower
+from .lower import Lowered, Refused, Setting, lower
 from .present import Board, Groups, Screen, legs_of, mask, one_line, placed, summaries, table, tree
 from .sandbox import Sandbox, why_not
 from .yaml_reader import Document, read_document
 
 FRONT = Path(__file__).resolve().parent.parent
 INTERRUPTED = 130
+LEAST_SPACE = 1 << 20
 
 
 @dataclass
@@ -242,16 +243,9 @@ def lower_flow(flow: Flow, number: int, play: Play, room: rooms.Room, screen: Sc
     """Lowers one workflow into a file that the program reads."""
     flow.contexts = contexts(play, flow.name, flow.document.value)
     top = play.facts.top if play.options.in_place or not room.tree.exists() else room.tree
-
-    def evaluate(text: str, known: dict[str, Any]) -> Any:
-        write_private(room.private / "known.json", json.dumps(known))
-        answer = ask("eval", "--contexts", room.private / "known.json", "--", text)
-        if answer.status != 0:
-            raise EvaluationError(answer.err.strip().removeprefix("actrun: "))
-        return json.loads(answer.out)
     try:
-        flow.lowered = lower(flow.document, flow.name, Setting(top, flow.contexts, play.options.matrices,
-                                                               bool(play.options.any_system), evaluate))
+        flow.lowered = lower(flow.document, flow.name, Setting(
+            top, flow.contexts, play.options.matrices, bool(play.options.any_system), sh_line=SH_HOOK))
     except Refused as refused:
         raise Problem(f"{flow.name}:{refused.line}: {refused.text}") from None
     for note in sorted({*flow.document.notes, *flow.lowered.notes}, key=lambda note: note.line):
@@ -355,7 +349,7 @@ class Trial:
 
     def execute(self) -> int:
         """Executes the plan and shows all that came of it; gives the exit status."""
-        self.move_folders()
+        self.settle()
         stubs = stubs_of(self.plan, self.play, self.room)
         for text in stubs.missing:
             self.screen.tell(f"note: no stub stands for {text}: its steps will fail; name a program by --stub "
@@ -385,27 +379,27 @@ class Trial:
             self.errors.append(line)
         self.screen.tell(line)
 
-    def move_folders(self) -> None:
-        """Lets steps start in the tree, below the folder in which the program puts its own files."""
-        for job in (job for run in self.plan["runs"] for job in run["jobs"]):
-            for step in job["steps"]:
-                if step["work"]["kind"] == "run":
-                    step["work"]["dir"] = below_tree(step["work"]["dir"], self.room)
+    def settle(self) -> None:
+        """Prepares the plan for the prelude; several legs have a tree each, unless they share the one of --in-place."""
+        self.own_trees = len(self.legs) > 1 and not self.play.options.in_place
+        settle(self.plan, str(self.room.below("legs")) if self.own_trees else "")
         write_private(self.room.private / "plan", json.dumps(self.plan, ensure_ascii=False))
 
     def environment(self, mark: str) -> dict[str, str]:
         """The variables of the play."""
-        runs, files = [], self.room.below("files")
-        for number, flow in enumerate(self.flows):
-            own = [leg.number for leg in self.legs if leg.run == number]
-            event = files / f"event-{number}.json"
+        files, first, jobs = self.room.below("files"), 0, []
+        for run, flow in zip(self.plan["runs"], self.flows):
+            event = files / f"event-{len(jobs)}.json"
             event.write_text(json.dumps(flow.contexts["github"]["event"], ensure_ascii=False, indent=2), encoding="utf-8",
                              errors="replace")
-            runs.append(RunPart(range(own[0], own[-1] + 1), flow.contexts["github"], event))
-        prelude = write_prelude(self.room, runs, mark, os.environ.get("BASH_ENV"))
+            for job in run["jobs"]:
+                place = f"{self.room.play}/legs/{job['number']}" if self.own_trees else str(self.play.workspace)
+                jobs.append(JobPart(range(first, first + len(job["legs"])), place, self.own_trees, flow.contexts["github"], event))
+                first += len(job["legs"])
+        prelude = write_prelude(self.room, jobs, mark)
         result = passed(os.environ)
-        result.update(variables(self.room, self.flows[0].contexts, prelude, self.cache(), runs[0].event_path))
-        result["ACTRUN_PROGRAM"] = program()
+        result.update(variables(self.room, self.flows[0].contexts, prelude, self.cache(), jobs[0].event_path))
+        result.update({"ACTRUN_PROGRAM": program(), "ACTRUN_BASH_ENV": os.environ.get("BASH_ENV", "")})
         result.update(self.play.options.variables)
         return result
 
@@ -473,10 +467,22 @@ class Trial:
         else:
             self.without_record(interrupted)
         for line in self.errors:
-            more = explain(line, "run", [], Origin({}))
+            space = os.statvfs(self.room.folder)
+            full = line == "actrun: io" and space.f_bavail * space.f_frsize < LEAST_SPACE
+            more = str(rooms.no_room(self.room.folder, os.strerror(errno.ENOSPC))) if full else explain(line, "run", [], Origin({}))
             if more:
                 screen.tell(more)
         self.places(known)
+        if self.own_trees and self.play.options.keep is None:
+            self.drop_trees(groups)
+
+    def drop_trees(self, groups: Groups) -> None:
+        """Removes the trees of the runs that succeeded, since each leg has one."""
+        for number, run in enumerate(self.plan["runs"]):
+            if groups.results.get(number) == "success":
+                for job in run["jobs"]:
+                    for folder in self.room.below("legs").glob(f"{job['number']}-*"):
+                        rooms.remove(folder)
 
     def reasons(self) -> None:
         """Why what did not succeed did not, each with its place in YAML."""
@@ -502,7 +508,8 @@ class Trial:
     def places(self, known: bool) -> None:
         """Where the record, the logs and the diagrams are."""
         private = self.room.private
-        lines = [f"logs      {self.room.play}/step-LEG-STEP.log", f"tree      {self.play.workspace}"]
+        trees = f"{self.room.play}/legs/JOB-INDEX" if self.own_trees else str(self.play.workspace)
+        lines = [f"logs      {self.room.play}/step-LEG-STEP.log", f"tree      {trees}"]
         if known:
             lines.insert(0, f"record    {private / 'record'}")
             for name, command in (("timeline.svg", "timeline"), ("graph.dot", "graph")):
@@ -513,17 +520,6 @@ class Trial:
         self.screen.say("")
         for text in lines:
             self.screen.say(text, "note")
-
-
-def below_tree(folder: str | None, room: rooms.Room) -> str:
-    """The folder of a step, from the work folder: the program looks for it there."""
-    if not folder:
-        return "tree"
-    own = re.match(r"\$\{\{\s*(?:github\.workspace|'(/(?:[^']|'')*)')\s*\}\}", folder)
-    if own and own[1] is None:
-        return "tree" + folder[own.end():]
-    path = own[1].replace("''", "'") + folder[own.end():] if own else folder
-    return os.path.join("../" * (len(room.play.parts) - 1), path.lstrip("/")) if path.startswith("/") else f"tree/{folder}"
 
 
 def texts_of(value: Any) -> Iterable[str]:

@@ -9,6 +9,7 @@ from dataclasses import dataclass
 from pathlib import Path
 from typing import Any, Iterable, Mapping
 
+from .expressions import Rules, rewrite_condition, rewrite_template
 from .tree import Room
 
 # the first words of a script for sh, which has no BASH_ENV
@@ -31,28 +32,37 @@ if [ "${{ACTRUN_STEP-}}" != "$GITHUB_OUTPUT" ]; then
   actrun_place=${{GITHUB_OUTPUT##*/step-}}
   actrun_place=${{actrun_place%.out}}
   actrun_leg=${{actrun_place%-*}}
-{mark}  if [ -e {files}/stopped ]; then echo 'stopped by the user'; exit 130; fi
+{mark}  if [ -e {files}/stopped ]; then echo 'stopped by Ctrl-C'; exit 130; fi
   GITHUB_PATH={files}/path-$actrun_leg
   GITHUB_STEP_SUMMARY={files}/summary-$actrun_place
   : >>"$GITHUB_PATH"
   : >>"$GITHUB_STEP_SUMMARY"
   case $actrun_leg in
-{runs}  esac
+{jobs}  esac
+  if [ ! -d "$GITHUB_WORKSPACE" ]; then
+    cp -a --reflink=auto {tree} "$GITHUB_WORKSPACE" || {{ echo "the tree cannot be copied to $GITHUB_WORKSPACE"; exit 1; }}
+  fi
+  CDPATH= cd -- "$GITHUB_WORKSPACE" || exit 1
+  if [ -n "${{ACTRUN_DIRECTORY-}}" ]; then
+    CDPATH= cd -- "$ACTRUN_DIRECTORY" || {{ echo "the working-directory $ACTRUN_DIRECTORY is not there"; exit 1; }}
+  fi
   while IFS= read -r actrun_line || [ -n "$actrun_line" ]; do
     if [ -n "$actrun_line" ]; then PATH=$actrun_line:$PATH; fi
   done <"$GITHUB_PATH"
-  export ACTRUN_STEP PATH GITHUB_PATH GITHUB_STEP_SUMMARY GITHUB_WORKFLOW GITHUB_WORKFLOW_REF GITHUB_EVENT_PATH
-  if [ "$PWD" = {play} ]; then cd "$GITHUB_WORKSPACE"; fi
-  unset actrun_place actrun_leg actrun_line
+  export ACTRUN_STEP PATH GITHUB_PATH GITHUB_STEP_SUMMARY GITHUB_WORKFLOW GITHUB_WORKFLOW_REF GITHUB_EVENT_PATH GITHUB_WORKSPACE
+  unset actrun_place actrun_leg actrun_line ACTRUN_DIRECTORY OLDPWD
 fi
+if [ -n "${{BASH_VERSION-}}" ] && [ -r "${{ACTRUN_BASH_ENV-}}" ]; then . "$ACTRUN_BASH_ENV"; fi
 """
 
 
 @dataclass(frozen=True)
-class RunPart:
-    """One run of the plan, as the prelude tells its steps of it."""
+class JobPart:
+    """One job of the plan, as the prelude tells its steps of it."""
 
     legs: range
+    workspace: str               # where own_trees, without the leg's place in its job
+    own_trees: bool
     github: Mapping[str, Any]
     event_path: Path
 
@@ -62,23 +72,67 @@ def marker(secret_texts: Iterable[str]) -> str:
     return "" if any(MARK_LIKE.fullmatch(text) for text in secret_texts) else f"actrun-{secrets.token_hex(8)}"
 
 
-def write_prelude(room: Room, runs: list[RunPart], mark: str, caller: str | None) -> Path:
-    """Writes the prelude of a play; `caller` is the BASH_ENV of the caller, which counts after it."""
+def write_prelude(room: Room, jobs: list[JobPart], mark: str) -> Path:
+    """Writes the prelude of a play."""
     files = room.below("files")
     cases = []
-    for part in runs:
+    for part in jobs:
         values = {"GITHUB_WORKFLOW": part.github["workflow"], "GITHUB_WORKFLOW_REF": part.github["workflow_ref"],
                   "GITHUB_EVENT_PATH": str(part.event_path)}
-        words = "; ".join(f"{name}={shlex.quote(value)}" for name, value in values.items())
-        cases.append(f"    {'|'.join(map(str, part.legs))}) {words} ;;\n")
+        words = [f"{name}={shlex.quote(value)}" for name, value in values.items()]
+        place = shlex.quote(part.workspace)
+        if part.own_trees:
+            place += f"-$((actrun_leg - {part.legs.start}))"
+        cases.append(f"    {'|'.join(map(str, part.legs))}) {'; '.join([*words, f'GITHUB_WORKSPACE={place}'])} ;;\n")
     text = PRELUDE.format(mark=f"  printf '%s\\n' \"{mark}:$actrun_place\"\n" if mark else "", files=shlex.quote(str(files)),
-                          play=shlex.quote(str(room.play)), runs="".join(cases))
-    if caller:
-        place = shlex.quote(caller)
-        text += f'if [ -n "${{BASH_VERSION-}}" ] && [ -r {place} ]; then . {place}; fi\n'
+                          tree=shlex.quote(str(room.tree)), jobs="".join(cases))
     path = files / "prelude.sh"
     path.write_text(text, encoding="utf-8")
     return path
+
+
+def settle(plan: dict[str, Any], own_trees: str) -> None:
+    """Prepares a plan for the prelude: it goes to the working-directory of a step, and sources what the workflow names BASH_ENV.
+    With `own_trees` each leg has the tree `OWN_TREES/JOB-INDEX`, and `github.workspace` is that."""
+    for run in plan["runs"]:
+        renamed(run["env"])
+        for job in run["jobs"]:
+            renamed(job["env"])
+            for step in job["steps"]:
+                renamed(step["env"])
+                if step["work"].get("dir"):
+                    step["env"]["ACTRUN_DIRECTORY"] = step["work"]["dir"]
+                    step["work"]["dir"] = None
+            if own_trees:
+                with_workspace(job, f"{own_trees}/{job['number']}")
+
+
+def renamed(env: dict[str, Any]) -> None:
+    """Hands a BASH_ENV of the workflow to the prelude."""
+    if "BASH_ENV" in env:
+        env["ACTRUN_BASH_ENV"] = env.pop("BASH_ENV")
+
+
+def with_workspace(job: dict[str, Any], start: str) -> None:
+    """Puts the tree of the leg in place of `github.workspace` in all texts of a job that see `strategy`."""
+    quoted = (start + "-").replace("'", "''").replace("{", "{{").replace("}", "}}")
+    text = f"format('{quoted}{{0}}', strategy.job-index)"
+    rules = Rules({"github": lambda access: (text, 1) if access.keys[:1] and access.keys[0].lower() == "workspace" else None})
+
+    def template(value: Any) -> Any:
+        return rewrite_template(value, rules) if isinstance(value, str) and "workspace" in value.lower() else value
+
+    def all_of(values: dict[str, Any]) -> dict[str, Any]:
+        return {name: template(value) for name, value in values.items()}
+    job["env"], job["outputs"] = all_of(job["env"]), all_of(job["outputs"])
+    for step in job["steps"]:
+        work = step["work"]
+        step["env"], step["tolerate"] = all_of(step["env"]), template(step["tolerate"])
+        if "workspace" in (step["condition"] or "").lower():
+            step["condition"] = rewrite_condition(step["condition"], rules)
+        for name in ("run", "with"):
+            if name in work:
+                work[name] = all_of(work[name]) if name == "with" else template(work[name])
 
 
 def passed(environment: Mapping[str, str]) -> dict[str, str]:

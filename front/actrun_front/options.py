@@ -72,7 +72,7 @@ def parser() -> Parser:
     add("--env-file", metavar="FILE", help="file of environment variables")
     add("--matrix", help="the values of a matrix variable that is known only during execution", action="append",
         metavar="JOB.VARIABLE=JSON")
-    add("--workers", metavar="N", type=workers, help="legs that execute at once (default: the processors, at most 16)")
+    add("--workers", metavar="N", type=workers, help="legs that execute at once (default: the processors, at most 16; with --in-place 1)")
     add("--stub", help="a program that stands for an action", action="append", metavar="ACTION=PROGRAM")
     add("--stubs", metavar="FILE", help="JSON file, an object of such programs")
     add("--lenient", help="skip actions that have no stub, with a warning", **flag)
@@ -168,7 +168,8 @@ def complete(line: argparse.Namespace, top: Path) -> argparse.Namespace:
         (name, os.environ.get(name, "") if value is None else value) for name, value in parted(result.env))
     result.matrices = dict(matrix(text) for text in result.matrix)
     result.named_stubs = named_stubs(result)
-    result.workers = result.workers or min(MOST_WORKERS, os.cpu_count() or 1)
+    # the legs of --in-place share one tree
+    result.workers = result.workers or (1 if result.in_place else min(MOST_WORKERS, os.cpu_count() or 1))
     return result
 
 

@@ -112,6 +112,34 @@ class Steps(TryCase):
         self.assertIn("path /opt/a of a\n", done.stdout)
         self.assertIn("path /opt/b of b\n", done.stdout)
 
+    def test_each_leg_has_a_tree_of_its_own(self) -> None:
+        self.write("file", "one\n")
+        self.workflow("""
+- run: cat file; echo more >> file; sleep 0.2; wc -l < file; touch left-${{ matrix.word }}
+- run: ls | tr '\\n' ' '; [ "$PWD" = "${{ github.workspace }}" ] && [ "$PWD" = "$GITHUB_WORKSPACE" ]; git status --porcelain
+""", "on: push\njobs:\n  one:\n    runs-on: ubuntu-latest\n    strategy:\n      matrix:\n        word: [a, b]\n    steps:\n")
+        self.commit()
+        done = self.attempt()
+        self.assert_status(done, 0)
+        self.assertEqual(done.stdout.count("one\n2\n"), 2)
+        for word in "ab":
+            self.assertIn(f"file left-{word}  M file\n?? left-{word}\n", done.stdout)
+        self.assertEqual(list((self.work() / "play" / "legs").iterdir()), [])
+
+    def test_working_directory_that_is_not_there(self) -> None:
+        self.workflow("- run: echo unseen\n  working-directory: nowhere")
+        done = self.attempt()
+        self.assert_status(done, 1)
+        self.assertIn("the working-directory nowhere is not there\n", done.stdout)
+        self.assertNotIn("\nunseen", done.stdout)
+
+    def test_bash_env_of_the_workflow(self) -> None:
+        self.write("own.sh", "echo own file of the workflow\n")
+        self.workflow("- run: pwd\n  env:\n    BASH_ENV: ${{ github.workspace }}/own.sh")
+        done = self.attempt()
+        self.assert_status(done, 0)
+        self.assertRegex(done.stdout, r"own file of the workflow\n/.*/play/tree\n")
+
     def test_variables(self) -> None:
         self.workflow("- run: env | sort\n- run: cat $GITHUB_EVENT_PATH")
         self.commit()
