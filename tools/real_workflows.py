@@ -139,9 +139,12 @@ def attempt(tree: pathlib.Path, words: list[str], seconds: int) -> tuple[int | s
         return "timeout", (ended.stdout or b"").decode(errors="replace"), time.monotonic() - start
 
 
-def last_lines(shown: str, count: int) -> str:
-    """The last lines that are not blank, joined."""
-    return " / ".join([line.strip() for line in shown.splitlines() if line.strip()][-count:])
+def reason(shown: str) -> str:
+    """Why `try` did not succeed: its error, the steps that failed, or else its last line."""
+    lines = [line.strip() for line in shown.splitlines() if line.strip()]
+    errors = [f"{line} {after}" for line, after in zip(lines, lines[1:] + [""]) if line.startswith("actrun: ")]
+    steps = list(dict.fromkeys(line for line in lines if re.match(r"step \d+ \(.*\) failed at line", line)))
+    return " / ".join(errors[-1:] or steps[:3] or lines[-1:])
 
 
 def one_file(tree: pathlib.Path, file: pathlib.Path, source: Source, options: argparse.Namespace) -> tuple[bool, bool]:
@@ -149,13 +152,13 @@ def one_file(tree: pathlib.Path, file: pathlib.Path, source: Source, options: ar
     name, event = str(file.relative_to(tree)), event_of(file)
     status, shown, _ = attempt(tree, [event, "-n", "-W", name], 120)
     jobs = {} if options.plan else source.jobs.get(file.name, {})
-    how = "planned" if status == 0 else f"not planned: {last_lines(shown, 2)}"
+    how = "planned" if status == 0 else f"not planned: {reason(shown)}"
     print(f"{source.package} {file.name} ({event}): {how}" + ("" if jobs or options.plan else ", executes nothing"), flush=True)
     right = True
     for job, expected in jobs.items():
         status_of_job, shown, seconds = attempt(tree, [event, "-W", name, "-j", job], options.seconds)
         right = right and status_of_job == expected
-        end = "succeeded" if status_of_job == 0 else f"status {status_of_job}: {last_lines(shown, 3)}"
+        end = "succeeded" if status_of_job == 0 else f"status {status_of_job}: {reason(shown)}"
         print(f"{source.package} {file.name} job {job}: {end}, {seconds:.1f} s"
               + ("" if status_of_job == expected else f" (status {expected} was expected)"), flush=True)
     return status == 0, right

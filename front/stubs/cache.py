@@ -105,8 +105,8 @@ def save(cache: pathlib.Path, key: str, paths: list[str]) -> None:
 
 
 def checked_inputs() -> tuple[str, list[str]]:
-    """The inputs `key` and `path`; fails where one is missing or not as GitHub takes it."""
-    key, paths = step.given("key"), step.given_lines("path")
+    """The inputs `key` and `path`, whose lines start at the tree; fails where one is missing or not as GitHub takes it."""
+    key, paths = step.given("key"), [line.replace(f"{step.workspace()}/", "") for line in step.given_lines("path")]
     if not key or not paths:
         step.fail(f"the input `{'path' if key else 'key'}` is missing")
     if len(key) > KEY_LENGTH or "," in key or "\n" in key:
@@ -136,7 +136,7 @@ def leave_request(key: str, paths: list[str]) -> None:
     """Notes that the cache shall be saved after the play if this leg succeeds."""
     match = re.search(r"step-(\d+)-(\d+)\.out$", os.environ.get("GITHUB_OUTPUT", ""))
     if match and os.environ.get("ACTRUN_CACHE"):
-        request = {"leg": int(match[1]), "key": key, "paths": paths}
+        request = {"leg": int(match[1]), "key": key, "paths": paths, "workspace": str(step.workspace())}
         place = step.temporary() / f"cache-request-{match[1]}-{match[2]}.json"
         place.write_text(json.dumps(request), encoding="utf-8")
 
@@ -152,6 +152,7 @@ def after(record: str) -> None:
     for place in requests:
         request = json.loads(place.read_text(encoding="utf-8"))
         cache = cache_folder()
+        os.environ["GITHUB_WORKSPACE"] = request["workspace"]
         if cache and request["leg"] in succeeded:
             save(cache, request["key"], request["paths"])
         else:

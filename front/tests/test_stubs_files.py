@@ -46,6 +46,13 @@ class Cache(StubCase):
         self.assertEqual((self.room / "home 2/.cache/x").read_text(encoding="utf-8"), "home")
         self.assertEqual((self.room / "tree 2/build/y").read_text(encoding="utf-8"), "tree")
 
+    def test_a_path_below_the_tree_is_the_same_in_another_tree(self) -> None:
+        self.write("tree/build/y", "tree")
+        self.save("k", f"{self.tree}/build")
+        self.environment["GITHUB_WORKSPACE"] = str(self.room / "tree 2")
+        self.assertEqual(self.restore(key="k", path=f"{self.room}/tree 2/build").outputs["cache-hit"], "true")
+        self.assertEqual(self.files_below("tree 2"), ["build/y"])
+
     def test_the_newest_with_the_first_prefix_is_taken(self) -> None:
         for key in ("pip-a", "pip-b", "npm-a"):
             self.write("tree/c", key)
@@ -99,7 +106,8 @@ class Cache(StubCase):
         """Executes what `try` executes after the play of a record whose leg 0 ended so."""
         self.environment["ACTRUN_PROGRAM"] = str(self.program("actrun", f"cat >/dev/null; echo 'leg 0 ended {ends}'"))
         command = actions.after_play(sys.executable, self.write("record", "{}\n"))
-        return subprocess.run(command, env=self.environment, cwd=self.tree, capture_output=True, text=True, check=True).stdout
+        environment = {**self.environment, "GITHUB_WORKSPACE": "/"}  # of no leg
+        return subprocess.run(command, env=environment, cwd=self.room, capture_output=True, text=True, check=True).stdout
 
     def test_the_cache_action_saves_after_a_success_alone(self) -> None:
         self.write("tree/c", "1")
