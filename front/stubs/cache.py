@@ -122,7 +122,7 @@ def restore_step(key: str, paths: list[str]) -> bool:
     if match is None:
         if step.given_flag("fail-on-cache-miss"):
             step.fail(f"no cache has the key {key}")
-        print(f"no cache has the key {key}, or begins with one of restore-keys")
+        print(f"no cache has the key {key}" + (", and none begins with one of restore-keys" if step.given("restore-keys") else ""))
         return False
     if not step.given_flag("lookup-only"):
         restore(match[0])
@@ -154,7 +154,8 @@ def after(record: str) -> None:
         cache = cache_folder()
         os.environ["GITHUB_WORKSPACE"] = request["workspace"]
         if cache and request["leg"] in succeeded:
-            save(cache, request["key"], request["paths"])
+            if not place_of(cache, request["key"], request["paths"]).exists():
+                save(cache, request["key"], request["paths"])
         else:
             print(f"the cache {request['key']} is not saved: leg {request['leg']} did not succeed")
         place.unlink()
