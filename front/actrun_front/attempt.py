@@ -102,7 +102,8 @@ def attempt(arguments: list[str], screen: Screen) -> int:
 
 
 def work_folder() -> Path:
-    """The folder of the work folders."""
+    """The folder of the work folders, in a cache that nobody else can read."""
+    rooms.cache_root().mkdir(mode=0o700, parents=True, exist_ok=True)
     return rooms.cache_root() / "work"
 
 
