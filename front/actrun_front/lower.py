@@ -8,7 +8,7 @@ from .expressions import EvaluationError
 from .lower_actions import inline_actions
 from .lower_calls import inline_calls
 from .lower_contexts import KnownContexts, action_names, rewrite_job, rewrite_texts, set_default_variables
-from .lower_matrix import legs_or_none, lower_env, lower_strategy, lower_system
+from .lower_matrix import lower_env, lower_strategy, lower_system
 from .lower_scripts import default_shell, lower_shells, lower_time_limits, prepend_to_sh, push_workflow_shell
 from .lower_tree import Lowering, Refused, Setting, annotated, is_set, mark_of, plain
 from .yaml_reader import Document, Note, Path
@@ -29,19 +29,27 @@ def lower(document: Document, file: str, setting: Setting) -> Lowered:
     """The lowered workflow of a document without faults. Raises Refused where a part cannot be rewritten."""
     lowering = Lowering(setting)
     flow = annotated(document)
+    try:
+        lower_flow(lowering, flow)
+    except RecursionError:
+        raise Refused(1, "an expression nests too deep") from None
+    value, lines = plain(flow)
+    return Lowered(value, lines, sorted(lowering.notes, key=lambda note: note.line), lowering.foreign)
+
+
+def lower_flow(lowering: Lowering, flow: Any) -> None:
+    """Lowers the jobs of a workflow, and what they share."""
     if isinstance(flow, dict) and isinstance(flow.get("jobs"), dict):
         inline_calls(lowering, flow)
         known = KnownContexts(lowering)
         jobs = flow.pop("jobs")
         rewrite_texts(flow, known.rewrite)
         flow["jobs"] = jobs
-        lower_env(lowering, flow, [{}])
+        lower_env(lowering, flow, {})
         push_workflow_shell(flow)
         for job_id, job in flow["jobs"].items():
             if isinstance(job, dict) and isinstance(job.get("steps"), list):
                 lower_job(lowering, flow, str(job_id), job)
-    value, lines = plain(flow)
-    return Lowered(value, lines, sorted(lowering.notes, key=lambda note: note.line), lowering.foreign)
 
 
 def lower_job(lowering: Lowering, flow: Any, job_id: str, job: Any) -> None:
@@ -61,13 +69,11 @@ def lower_job(lowering: Lowering, flow: Any, job_id: str, job: Any) -> None:
         known.action = getattr(step, "known_as", "")
     rewrite_job(job, known.rewrite, each_step)
     lower_strategy(lowering, job_id, job)
-    legs = legs_or_none(lowering, job)
-    lower_env(lowering, job, legs)
-    for step in job["steps"]:
-        if isinstance(step, dict):
-            lower_env(lowering, step, legs)
-    here = lower_system(lowering, job_id, job, legs)
-    lower_shells(lowering, job, here)
+    for node in [job, *job["steps"]]:
+        if isinstance(node, dict):
+            lower_env(lowering, node, job)
+    lower_system(lowering, job_id, job)
+    lower_shells(lowering, job)
     shell = default_shell(job) or default_shell(flow)
     prepend_to_sh(lowering, job, shell)
     lower_time_limits(lowering, job, shell)

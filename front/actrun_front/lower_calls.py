@@ -151,7 +151,8 @@ class Call:
         self.lowering.note(mark_of(self.job, "strategy"), f"the matrix of job {self.id} calls {self.path} once for each combination, side by side: "
                                                           "fail-fast and max-parallel do not hold between the calls")
         try:
-            return list(self.lowering.legs(self.job))
+            matrix = self.job["strategy"].get("matrix") if isinstance(self.job["strategy"], dict) else None
+            return list(self.lowering.combinations(matrix)) if matrix is not None else [None]
         except EvaluationError as fault:
             raise self.lowering.refuse(mark_of(self.job, "strategy"), f"the matrix of job {self.id} has no combinations: {fault}") from None
 

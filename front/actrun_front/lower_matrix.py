@@ -1,10 +1,11 @@
 """Matrices by expression, variables by one expression, and legs that are for another system."""
 from __future__ import annotations
 
-from typing import Any, List, Optional
+from typing import Any, List, Optional, Tuple
 
 from .expressions import (EvaluationError, condition_expression, conjunction, has_expression, literal, reads_only, template_expression)
-from .lower_tree import EXPRESSION_CONTEXTS, Lowering, Mark, expression_of, is_set, mark_of, shown
+from .lower_tree import EXPRESSION_CONTEXTS, Lowering, Mark, expression_of, is_set, mark_of, plain, shown, texts
+from .yaml_reader import text_of
 
 FOREIGN = ("windows", "macos")
 
@@ -76,14 +77,7 @@ def without_expressions(lowering: Lowering, job_id: str, variable: str, value: A
     return decided(lowering, job_id, variable, value, mark) if has_expression(value) else value
 
 
-def legs_or_none(lowering: Lowering, job: Any) -> Optional[List[dict]]:
-    try:
-        return lowering.legs(job)
-    except EvaluationError:
-        return None  # the planner says what is wrong with the matrix
-
-
-def lower_env(lowering: Lowering, node: Any, legs: Optional[List[dict]]) -> None:
+def lower_env(lowering: Lowering, node: Any, job: Any) -> None:
     """Writes the variables of a workflow, job or step one by one, where one expression gives all of them."""
     text, mark = node.get("env"), mark_of(node, "env")
     if not has_expression(text):
@@ -94,7 +88,7 @@ def lower_env(lowering: Lowering, node: Any, legs: Optional[List[dict]]) -> None
             node["env"] = lowering.evaluate(expression)
             lowering.note(mark, f"env is evaluated before execution: {shown(node['env'])}")
         else:
-            values = [value or {} for value in lowering.by_leg(expression, legs or [])]
+            values = [value or {} for value in lowering.by_leg(expression, lowering.legs(job) or [])]
             names = sorted({name for value in values for name in (value if isinstance(value, dict) else {})})
             node["env"] = {name: "${{ (" + expression + ")[" + literal(name) + "] }}" for name in names}
             missing = [name for name in names if any(name not in value for value in values)]
@@ -112,31 +106,43 @@ def labels_expression(runs_on: Any) -> str:
     return "format(" + ", ".join([literal("".join(f" {{{at}}}" for at in range(len(parts))))] + parts) + ")" if parts else "''"
 
 
+def labels_by_leg(lowering: Lowering, job: Any) -> Optional[List[Tuple[dict, str]]]:
+    """The legs of a job, each with its labels, with a space before each label. None where they are known only during execution."""
+    runs_on, legs = job.get("runs-on"), lowering.legs(job)
+    if legs is None:
+        return None
+    try:
+        return list(zip(legs, lowering.by_leg(labels_expression(runs_on), legs)))
+    except EvaluationError:
+        return None
+
+
 def is_foreign(labels: Any) -> bool:
     """Whether a text of labels, each with a space before it, names Windows or macOS."""
     return isinstance(labels, str) and any(" " + name in labels.lower() for name in FOREIGN)
 
 
-def lower_system(lowering: Lowering, job_id: str, job: Any, legs: Optional[List[dict]]) -> Optional[List[dict]]:
-    """Puts a condition before each step of a job with legs for another system. The legs that execute steps here, if known."""
+def lower_system(lowering: Lowering, job_id: str, job: Any) -> None:
+    """Puts a condition before each step of a job with legs for another system."""
     if lowering.setting.any_system or not is_set(job.get("runs-on")):
-        return legs
-    expression, mark = labels_expression(job["runs-on"]), mark_of(job, "runs-on")
-    try:
-        labels = lowering.by_leg(expression, legs if legs is not None else [{}])
-    except EvaluationError:
-        labels = None
-    if labels is None:
-        lowering.note(mark, f"the system of job {job_id} is known only during execution: its steps are skipped on Windows and macOS")
+        return
+    mark, runs_on = mark_of(job, "runs-on"), plain(job["runs-on"])[0]
+    guard = " && ".join(f"!contains({labels_expression(runs_on)}, ' {name}')" for name in FOREIGN)
+    if "${{" in text_of(runs_on):
+        legs = labels_by_leg(lowering, job)
+        foreign = sorted({labels.strip() for _, labels in legs or [] if is_foreign(labels)})
+        everywhere = bool(legs) and all(is_foreign(labels) for _, labels in legs or [])
     else:
-        foreign = sorted({one.strip() for one in labels if is_foreign(one)})
-        lowering.foreign += [(job_id, one) for one in foreign]
-        if not foreign:
-            return legs
+        labels = runs_on.get("labels") if isinstance(runs_on, dict) else runs_on
+        foreign = [one for one in [" ".join(texts(labels))] if is_foreign(" " + one)]
+        legs, everywhere = [], bool(foreign)
+    if legs is None:
+        lowering.note(mark, f"the system of job {job_id} is known only during execution: its steps are skipped on Windows and macOS")
+    elif foreign:
         lowering.note(mark, f"no step of job {job_id} is executed on {', '.join(foreign)}: this machine has Linux")
-    here = [leg for leg, one in zip(legs or [], labels or []) if not is_foreign(one)] if labels is not None else legs
-    guard = "false" if here == [] else " && ".join(f"!contains({expression}, ' {name}')" for name in FOREIGN)
+    else:
+        return
+    lowering.foreign += [(job_id, one) for one in foreign]
     for step in job["steps"]:
         if isinstance(step, dict):
-            step["if"] = False if guard == "false" else conjunction(guard, condition_expression(step.get("if")))
-    return here
+            step["if"] = False if everywhere else conjunction(guard, condition_expression(step.get("if")))

@@ -2,9 +2,10 @@
 from __future__ import annotations
 
 import shlex
-from typing import Any, List, NamedTuple, Optional
+from typing import Any, List, NamedTuple
 
 from .expressions import EvaluationError, has_expression, template_expression
+from .lower_matrix import is_foreign, labels_by_leg
 from .lower_tree import Lowering, Mark, is_set, keep_name, mark_of, shown
 
 BASH = "bash --noprofile --norc -eo pipefail"
@@ -94,7 +95,7 @@ def push_workflow_shell(flow: Any) -> None:
     push_down_shell(flow, [run for run in runs if isinstance(run, dict)])
 
 
-def lower_shells(lowering: Lowering, job: Any, legs: Optional[List[dict]]) -> None:
+def lower_shells(lowering: Lowering, job: Any) -> None:
     """Rewrites the scripts of a job whose shell the program does not know."""
     steps = [step for step in job["steps"] if isinstance(step, dict) and isinstance(step.get("run"), str)]
     push_down_shell(job, steps)
@@ -103,15 +104,17 @@ def lower_shells(lowering: Lowering, job: Any, legs: Optional[List[dict]]) -> No
         if step.get("if") is False:
             step.pop("shell", None)
         elif has_expression(text):
-            lower_shell_of_legs(lowering, step, text, mark, legs)
+            lower_shell_of_legs(lowering, step, text, mark, job)
         elif isinstance(text, str) and text not in ("sh", "bash"):
             lower_shell(lowering, step, text, mark)
 
 
-def lower_shell_of_legs(lowering: Lowering, step: Any, text: str, mark: Mark, legs: Optional[List[dict]]) -> None:
+def lower_shell_of_legs(lowering: Lowering, step: Any, text: str, mark: Mark, job: Any) -> None:
     """Rewrites a script whose shell is an expression. Where legs differ, those that do not want bash fail."""
+    known = labels_by_leg(lowering, job)
+    legs = [leg for leg, labels in known if lowering.setting.any_system or not is_foreign(labels)] if known else lowering.legs(job)
     try:
-        shells = sorted({str(value or "bash") for value in lowering.by_leg(template_expression(text), [{}] if legs is None else legs)})
+        shells = sorted({str(value or "bash") for value in lowering.by_leg(template_expression(text), legs or [])})
     except EvaluationError:
         shells = []
     if len(shells) == 1:

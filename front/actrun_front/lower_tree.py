@@ -6,7 +6,7 @@ import pathlib
 from dataclasses import dataclass, field
 from typing import Any, Callable, Dict, List, NamedTuple, Optional, Tuple
 
-from .expressions import EvaluationError, Program, literal, reads_only, template_expression
+from .expressions import EvaluationError, Program, literal, reads_only, references, template_expression
 from .yaml_reader import Document, Note, Path, short, text_of
 
 EXPRESSION_CONTEXTS = ("github", "inputs", "vars", "runner")  # those that GitHub gives before execution and outside of steps
@@ -107,6 +107,7 @@ class Lowering:
         self.setting = setting
         self.notes: List[Note] = []
         self.foreign: List[Tuple[str, str]] = []
+        self.kept_legs: Dict[int, Tuple[Any, Optional[List[dict]]]] = {}
         self.contexts = dict(setting.contexts)
         workspace = str((setting.contexts.get("github") or {}).get("workspace") or setting.repository.absolute())
         self.contexts["runner"] = {**RUNNER, "workspace": os.path.dirname(workspace), **(setting.contexts.get("runner") or {})}
@@ -128,13 +129,20 @@ class Lowering:
             raise EvaluationError("its value is known only during execution")
         return (self.setting.evaluate or self.program().evaluate)(expression, {**known, **(more or {})})
 
-    def legs(self, job: Any) -> List[dict]:
-        """The combinations of a job's matrix, `[{}]` without one. Raises EvaluationError where they are not known."""
+    def combinations(self, matrix: Any) -> List[dict]:
+        """The combinations that the planner makes of a matrix. Raises EvaluationError where it makes none."""
+        return (self.setting.legs or self.program().legs)(plain(matrix)[0])
+
+    def legs(self, job: Any) -> Optional[List[dict]]:
+        """The combinations of a job's matrix, `[{}]` without one; None where the planner refuses it, and says why."""
         strategy = job.get("strategy")
         matrix = strategy.get("matrix") if isinstance(strategy, dict) else None
-        if matrix is None:
-            return [{}]
-        return (self.setting.legs or self.program().legs)(plain(matrix)[0])
+        if id(matrix) not in self.kept_legs:
+            try:
+                self.kept_legs[id(matrix)] = (matrix, [{}] if matrix is None else self.combinations(matrix))
+            except EvaluationError:
+                self.kept_legs[id(matrix)] = (matrix, None)
+        return self.kept_legs[id(matrix)][1]
 
     def program(self) -> Program:
         """The program of the environment, where the setting has none."""
@@ -144,7 +152,13 @@ class Lowering:
 
     def by_leg(self, expression: str, legs: List[dict]) -> List[Any]:
         """The values of an expression that reads `matrix` at most, one for each leg. Raises EvaluationError."""
-        return [self.evaluate(expression, {"matrix": leg}) for leg in legs]
+        read = [access.keys[:1] for access in references(expression)[0] if access.context == "matrix"]
+        values: Dict[str, Any] = {}
+        parts = [leg if () in read else {key: leg[key] for (key,) in read if key in leg} for leg in legs]
+        for part in parts:
+            if text_of(part) not in values:
+                values[text_of(part)] = self.evaluate(expression, {"matrix": part})
+        return [values[text_of(part)] for part in parts]
 
 
 def is_set(value: Any) -> bool:
