@@ -64,7 +64,7 @@ LIST = [
     Source("libgit2", "GPL-2.0 with linking exception"),
     Source("libuv1", "MIT", {"CI-sample.yml": {"build": 0}}),
     Source("libzstd", "BSD-3-Clause or GPL-2.0", {"dev-short-tests.yml": {
-        "linux-kernel": 0, "benchmarking": 0, "build-c89": 0, "cpp-gnu90-c99-compatibility": 0, "implicit-fall-through": 0}}),
+        "linux-kernel": 0, "build-c89": 0, "cpp-gnu90-c99-compatibility": 0, "implicit-fall-through": 0}}),
     Source("lz4", "BSD-2-Clause and GPL-2.0", {"ci.yml": {
         "lz4-standard-makefile-variables": 0, "lz4-memory-usage": 0, "lz4-custom-distance": 0, "unicode-lint": 0, "lz4-build-make": 0,
         "lz4-build-make-travis-install": 0, "lz4-build-cmake": 0, "lz4-build-make-cmake": 0, "lz4-check-tag": 0}}),

@@ -4,6 +4,7 @@ from __future__ import annotations
 
 import os
 import pathlib
+import shutil
 import subprocess
 
 import step
@@ -24,11 +25,26 @@ def is_present(folder: str) -> bool:
     return place.is_dir() and any(place.iterdir())
 
 
-def check_place(repository: str, folder: str) -> None:
-    """Fails where the files that the step is to bring are not in the tree."""
+def copy_tree(folder: str) -> None:
+    """Copies the files of the tree that git has or would have into a folder of it."""
+    names = known_to_git("ls-files", "-z", "--cached", "--others", "--exclude-standard").split("\0")
+    for name in filter(None, names):
+        source, target = step.workspace() / name, step.workspace() / folder / name
+        if os.path.lexists(source) and not source.is_dir():
+            target.parent.mkdir(parents=True, exist_ok=True)
+            shutil.copy2(source, target, follow_symlinks=False)
+
+
+def check_place(repository: str, folder: str, same: bool) -> None:
+    """Makes sure that the files which the step is to bring are in the tree; `same`: at the commit that the tree has."""
     own = os.environ.get("GITHUB_REPOSITORY", "")
     other = bool(repository) and repository.lower() != own.lower()
-    if folder and pathlib.PurePath(folder) != pathlib.PurePath("."):
+    place = (step.workspace() / folder).resolve()
+    if place != step.workspace():
+        if step.workspace() not in place.parents:
+            step.fail(f"the path {folder} is not below the tree")
+        if not is_present(folder) and same and not other:
+            copy_tree(folder)
         if not is_present(folder):
             step.fail(f"checkout brings no files: the folder {folder} is not in the tree. Put it there (git clone "
                       f"{repository or 'this repository'} {folder}), or name a program with --stub actions/checkout=PROGRAM")
@@ -38,12 +54,11 @@ def check_place(repository: str, folder: str) -> None:
                   "Name a program for this step with --stub actions/checkout=PROGRAM")
 
 
-def check_ref(ref: str, commit: str) -> None:
-    """Warns where another commit is asked for than the tree has."""
+def is_same(ref: str, commit: str) -> bool:
+    """Whether a ref is that of the run, or names the commit that the tree has."""
     if not ref or ref in (os.environ.get("GITHUB_REF"), os.environ.get("GITHUB_REF_NAME"), commit):
-        return
-    if not commit or known_to_git("rev-parse", "--verify", "--quiet", f"{ref}^{{commit}}") != commit:
-        step.warn(f"the ref {ref} is not checked out: the tree stays as it is" + (f", at {commit}" if commit else ""))
+        return True
+    return bool(commit) and known_to_git("rev-parse", "--verify", "--quiet", "--end-of-options", f"{ref}^{{commit}}") == commit
 
 
 def check_submodules() -> None:
@@ -59,9 +74,10 @@ def check_submodules() -> None:
 def main() -> None:
     """Checks that the tree serves for what the step asks, and says what commit it has."""
     repository, ref, folder = step.given("repository"), step.given("ref"), step.given("path")
-    check_place(repository, folder)
     commit = known_to_git("rev-parse", "--verify", "--quiet", "HEAD") or os.environ.get("GITHUB_SHA", "")
-    check_ref(ref, commit)
+    check_place(repository, folder, is_same(ref, commit))
+    if not is_same(ref, commit):
+        step.warn(f"the ref {ref} is not checked out: the tree stays as it is" + (f", at {commit}" if commit else ""))
     check_submodules()
     print(f"the tree is there{', at ' + commit if commit else ''}")
     step.set_output("ref", ref or os.environ.get("GITHUB_REF", ""))

@@ -42,6 +42,24 @@ class Checkout(StubCase):
         self.assertEqual(self.start("actions/checkout@v4", {"path": "other", "repository": "who/else"}).code, 0)
         self.assertEqual(self.start("actions/checkout@v4", {"path": "."}).code, 0)
 
+    def test_a_path_of_this_repository_is_filled(self) -> None:
+        self.git("init", "-q")
+        self.write("tree/.gitignore", "*.o\n")
+        self.write("tree/a/run", "#!/bin/sh\n", 0o755)
+        self.write("tree/a/b.o")
+        (self.tree / "link").symlink_to("a/run")
+        self.git("add", "-A")
+        self.assertEqual(self.start("actions/checkout@v4", {"path": "source", "ref": "main"}).code, 0)
+        self.assertEqual(self.files_below("tree/source"), [".gitignore", "a/run", "link"])
+        self.assertTrue((self.tree / "source/a/run").stat().st_mode & 0o100)
+        self.assertTrue((self.tree / "source/link").is_symlink())
+        self.assertEqual(self.start("actions/checkout@v4", {"path": "pages", "ref": "gh-pages"}).code, 1)
+
+    def test_a_path_outside_of_the_tree_fails(self) -> None:
+        for path in ("..", "../x", str(self.room / "home")):
+            self.assertIn("is not below the tree", self.start("actions/checkout@v4", {"path": path}).shown)
+        self.assertEqual(self.start("actions/checkout@v4", {"path": str(self.tree)}).code, 0)
+
     def test_another_repository_fails(self) -> None:
         ended = self.start("actions/checkout@v4", {"repository": "who/else"})
         self.assertEqual(ended.code, 1)
