@@ -65,16 +65,32 @@ def find(cache: pathlib.Path, key: str, prefixes: list[str], paths: list[str]) -
 
 def bases() -> dict[str, pathlib.Path]:
     """The folders that names in an archive start from: they may lie elsewhere in another run."""
-    return {"workspace": step.workspace(), "home": pathlib.Path.home(), "root": pathlib.Path("/")}
+    return {"workspace": step.workspace(), "home": pathlib.Path.home().resolve(), "root": pathlib.Path("/")}
 
 
-def restore(place: pathlib.Path) -> None:
-    """Writes the files of a cache where they belong."""
+def belongs(member: tarfile.TarInfo, folder: pathlib.Path, patterns: list[globs.Pattern]) -> bool:
+    """Whether a member is a file, folder or link at one of the paths that the step names, and no link leads there."""
+    names = [member.name, member.linkname] if member.islnk() else [member.name]
+    places = [pathlib.Path(os.path.normpath(folder / name)) for name in names]
+    straight = all(os.path.realpath(place.parent) == str(place.parent) for place in places)
+    return straight and not member.isdev() and all(globs.is_chosen(patterns, place.parts[1:]) for place in places)
+
+
+def restore(place: pathlib.Path, paths: list[str]) -> None:
+    """Writes the files of a cache where they belong: whatever it has, nothing outside of the paths that the step names."""
+    patterns, refused = globs.read_patterns(paths), 0
     for base, folder in bases().items():
-        if (place / f"{base}.tar").exists():
-            with tarfile.open(place / f"{base}.tar") as archive:
-                archive.extraction_filter = staticmethod(lambda member, _: member)  # its files are those that a step kept
-                archive.extractall(folder)
+        if not (place / f"{base}.tar").exists():
+            continue
+        with tarfile.open(place / f"{base}.tar") as archive:
+            archive.extraction_filter = staticmethod(lambda member, _: member)  # `belongs` has judged it
+            for member in archive:
+                if belongs(member, folder, patterns):
+                    archive.extract(member, folder)
+                else:
+                    refused += 1
+    if refused:
+        step.warn(f"{refused} files of the cache are not restored: they are not below {', '.join(paths)}, or a link leads there")
 
 
 def save(cache: pathlib.Path, key: str, paths: list[str]) -> None:
@@ -125,7 +141,7 @@ def restore_step(key: str, paths: list[str]) -> bool:
         print(f"no cache has the key {key}" + (", and none begins with one of restore-keys" if step.given("restore-keys") else ""))
         return False
     if not step.given_flag("lookup-only"):
-        restore(match[0])
+        restore(match[0], paths)
     print(f"the cache {match[1]} is {'there' if step.given_flag('lookup-only') else 'restored'}")
     step.set_output("cache-hit", "true" if match[1] == key else "false")
     step.set_output("cache-matched-key", match[1])

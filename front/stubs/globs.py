@@ -18,7 +18,7 @@ def whole_path(text: str) -> list[str]:
     tree = step.workspace()
     if text == str(tree) or text.startswith(f"{tree}/"):
         text = "." + text[len(str(tree)):]
-    base = pathlib.Path.home() if text == "~" or text.startswith("~/") else pathlib.Path("/") if text.startswith("/") else tree
+    base = pathlib.Path.home().resolve() if text == "~" or text.startswith("~/") else pathlib.Path("/") if text.startswith("/") else tree
     segments = [re.sub(r"([\\*?\[])", r"\\\1", part) for part in base.parts[1:]]
     for part in text.split("/"):
         if part == "..":

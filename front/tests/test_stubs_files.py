@@ -6,6 +6,7 @@ import os
 import pathlib
 import subprocess
 import sys
+import tarfile
 import unittest
 
 from actrun_front import actions
@@ -74,6 +75,27 @@ class Cache(StubCase):
         self.restore(key="k", path="c")
         self.assertEqual((self.tree / "c").read_text(encoding="utf-8"), "1")
         self.assertEqual(len(list((self.room / "cache").iterdir())), 1)
+
+    def test_nothing_is_written_outside_of_the_paths(self) -> None:
+        self.write("tree/c/x", "1")
+        self.save("k", "c")
+        secret = self.write("home/secret", "untouched")
+        (place,) = (self.room / "cache").glob("*/workspace.tar")
+        with tarfile.open(place, "a") as archive:
+            for name, kind, target in (("c/up", tarfile.SYMTYPE, "../../home"), ("c/up/secret", tarfile.REGTYPE, ""),
+                                       ("../home/secret", tarfile.REGTYPE, ""), ("other", tarfile.REGTYPE, ""),
+                                       ("c/hard", tarfile.LNKTYPE, "../home/secret"), ("c/pipe", tarfile.FIFOTYPE, ""),
+                                       ("/etc/actrun-test", tarfile.REGTYPE, "")):
+                member = tarfile.TarInfo(name)
+                member.type, member.linkname = kind, target
+                archive.addfile(member)
+        subprocess.run(["rm", "-rf", self.tree / "c"], check=True)
+        ended = self.restore(key="k", path="c")
+        self.assertIn("::warning::6 files of the cache are not restored", ended.shown)
+        self.assertEqual(self.files_below("tree"), ["c/x"])
+        self.assertTrue((self.tree / "c/up").is_symlink())
+        self.assertEqual(secret.read_text(encoding="utf-8"), "untouched")
+        self.assertFalse(pathlib.Path("/etc/actrun-test").exists())
 
     def test_wildcards_and_exclusions(self) -> None:
         for name in ("a/one.o", "a/two.c", "b/x/three.o", "b/skip/four.o"):
