@@ -6,7 +6,7 @@ from typing import Any, List, NamedTuple
 
 from .expressions import EvaluationError, has_expression, template_expression
 from .lower_matrix import is_foreign, labels_by_leg
-from .lower_tree import Lowering, Mark, is_set, keep_name, mark_of, shown
+from .lower_tree import Lowering, Map, Mark, is_set, keep_name, mark_of, shown
 
 BASH = "bash --noprofile --norc -eo pipefail"
 SWITCHES = "abefhkmnptuvxBCEHPT"  # the letters of `set`
@@ -91,7 +91,7 @@ def push_workflow_shell(flow: Any) -> None:
     for job in flow["jobs"].values():
         if isinstance(job, dict) and default_shell(job) is None and default_shell(flow) not in (None, "sh", "bash"):
             defaults = job["defaults"] = job.get("defaults") if isinstance(job.get("defaults"), dict) else {}
-            runs.append(defaults.setdefault("run", {}))
+            runs.append(defaults.setdefault("run", Map()))
     push_down_shell(flow, [run for run in runs if isinstance(run, dict)])
 
 
