@@ -2,9 +2,9 @@
 
 `actions.json` has an entry for each action with its `tools`. Of a tool: `programs`, the names of the program; `asked`, the
 inputs with the version (`@` is the action's ref); `files`, version files or inputs that name one; `names`, more programs to
-look for by the version that is asked for; `version`, the arguments that print its version; `links`, names under which later
-steps shall find it; `siblings`, programs beside it; `outputs` and `variables`, texts with {version}, {path}, {folder}, {home};
-`when`, the input without which the tool is not looked for.
+look for by the version that is asked for; `version`, the arguments that print its version; `environment`, true where it is a
+Python that makes a virtual environment; `links`, names under which later steps shall find it; `siblings`, programs beside it;
+`outputs` and `variables`, texts with {version}, {path}, {folder}, {home}; `when`, the input without which it is not looked for.
 """
 
 from __future__ import annotations
@@ -119,6 +119,22 @@ def choose(tool: dict, asked: str) -> Found | None:
     return next((one for one in found if fits(asked, one.version)), found[0] if found else None)
 
 
+def own_folder(name: str, found: Found) -> pathlib.Path:
+    """The folder for a tool of that version in this leg."""
+    leg = re.search(r"step-(\d+)-\d+\.out$", os.environ.get("GITHUB_OUTPUT", ""))
+    return step.temporary() / f"actrun-{name}-{found.version or 'any'}-{leg[1] if leg else 0}"
+
+
+def own_environment(name: str, found: Found) -> Found:
+    """Python in a virtual environment of the leg, where pip can install; the program itself where it makes none."""
+    folder = own_folder(name, found)
+    words = ["-m", "venv", "--system-site-packages", "--without-pip", str(folder)]
+    if not folder.exists():
+        subprocess.run([found.path, *words], stdout=subprocess.DEVNULL, stderr=subprocess.DEVNULL, check=False)
+    place = folder / "bin" / name
+    return Found(str(place), found.version) if place.exists() else found
+
+
 def put_in_front(tool: dict, found: Found) -> None:
     """Makes later steps find this program under its usual names, by a folder of small scripts in front of PATH."""
     parts = (found.version + "..").split(".")
@@ -126,13 +142,12 @@ def put_in_front(tool: dict, found: Found) -> None:
     names = {name.format(major=parts[0], minor=parts[1]): [found.path, *words] for name, words in links.items()}
     beside = pathlib.Path(found.path).parent
     names.update({name: [str(beside / name)] for name in tool.get("siblings", []) if (beside / name).exists()})
-    folder = step.temporary() / f"actrun-{tool['programs'][0]}-{found.version or 'any'}"
-    folder.mkdir(exist_ok=True)
+    folder = own_folder(tool["programs"][0], found) / "bin"
+    folder.mkdir(parents=True, exist_ok=True)
     for name, words in names.items():
-        made = folder / f".{name}.{os.getpid()}"
-        made.write_text("#!/bin/sh\nexec " + " ".join(map(shlex.quote, words)) + ' "$@"\n', encoding="utf-8")
-        made.chmod(0o755)
-        made.replace(folder / name)
+        if not (folder / name).exists():
+            (folder / name).write_text(f'#!/bin/sh\nexec {shlex.join(words)} "$@"\n', encoding="utf-8")
+            (folder / name).chmod(0o755)
     step.add_path(folder)
 
 
@@ -146,9 +161,12 @@ def set_up(tool: dict, text: str) -> None:
     print(f"{name} {found.version} ({found.path})", flush=True)
     if asked and not fits(asked, found.version):
         step.warn(f"{name} {asked} is asked for, and {found.version or 'another version'} is what is there")
+    if tool.get("environment"):
+        found = own_environment(name, found)
     if shutil.which(name) != found.path:
         put_in_front(tool, found)
-    folder = pathlib.Path(found.path).resolve().parent
+    place = pathlib.Path(found.path)
+    folder = place.parent if tool.get("environment") else place.resolve().parent
     values = {"version": found.version, "path": found.path, "folder": str(folder), "home": str(folder.parent)}
     for output, form in tool.get("outputs", {}).items():
         step.set_output(output, form.format(**values))

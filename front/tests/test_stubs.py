@@ -2,6 +2,8 @@
 
 from __future__ import annotations
 
+import pathlib
+import sys
 import unittest
 
 from tests.stub_case import StubCase
@@ -102,12 +104,24 @@ class Setup(StubCase):
         ended = self.start("actions/setup-python@v5", {"python-version": "3.9"})
         self.assertEqual(ended.outputs["python-version"], "3.9.18")
         self.assertNotIn("::warning::", ended.shown)
-        folder = self.room / "temporary" / "actrun-python-3.9.18"
+        folder = self.room / "temporary" / "actrun-python-3.9.18-0" / "bin"
         self.assertEqual(ended.paths, [str(folder)])
-        self.assertEqual(self.files_below("temporary/actrun-python-3.9.18"), ["pip", "pip3", "python", "python3", "python3.9"])
+        self.assertEqual(self.files_below("temporary/actrun-python-3.9.18-0/bin"), ["pip", "pip3", "python", "python3", "python3.9"])
         self.environment["PATH"] = f"{folder}:{self.room / 'bin'}:/bin"
         self.program("asks", 'python "a b"; pip list')
         self.assertEqual(self.start("a/b@v1", named={"a/b": str(self.room / "bin/asks")}).shown, "3.9.18:a b\n3.9.18:-m pip list\n")
+
+    def test_python_is_in_an_environment_where_pip_can_install(self) -> None:
+        self.program("python3", f'exec "{sys.executable}" "$@"')
+        ended = self.start("actions/setup-python@v5")
+        (folder,) = ended.paths
+        self.assertEqual((ended.code, ended.outputs["python-path"]), (0, f"{folder}/python"))
+        self.assertEqual(ended.variables["pythonLocation"], str(pathlib.Path(folder).parent))
+        self.assertTrue(folder.startswith(str(self.room / "temporary" / "actrun-python-")))
+        self.environment["PATH"] = f"{folder}:/bin"
+        asks = self.program("asks", "for name in python python3; do $name -c 'import sys; print(sys.prefix)'; done; command -v pip; command -v pip3")
+        shown = self.start("a/b@v1", named={"a/b": str(asks)}).shown.splitlines()
+        self.assertEqual(shown, [str(pathlib.Path(folder).parent)] * 2 + [f"{folder}/pip", f"{folder}/pip3"])
 
     def test_a_missing_tool_fails_by_its_name(self) -> None:
         ended = self.start("actions/setup-go@v5", {"go-version": "1.22"})
