@@ -200,7 +200,7 @@ def explain_io(command: str, words: Words) -> str:
 def lint(file: str, fault: str, origin: Origin) -> list[str]:
     """What `actrun lint` says of the fault in a file, each line with its place."""
     program = os.environ.get("ACTRUN_PROGRAM")
-    if not program or unreadable(file):
+    if not program or not os.path.isfile(file):
         return []
     done = subprocess.run([program, "lint", "--", file], capture_output=True, text=True, errors="replace", check=False)
     found = []
@@ -214,8 +214,8 @@ def lint(file: str, fault: str, origin: Origin) -> list[str]:
 def workflow_keys(file: str, *names: str) -> list[str]:
     """The keys of an object in a workflow's file, or the texts of a list there; none where it cannot be read."""
     try:
-        value = json.loads(pathlib.Path(file).read_text(encoding="utf-8"))
-    except (OSError, ValueError):
+        value = json.loads(pathlib.Path(file).read_text(encoding="utf-8")) if os.path.isfile(file) else None
+    except (OSError, ValueError, RecursionError):
         return []
     found = next((value[name] for name in names if isinstance(value, dict) and name in value), [])
     return [found] if isinstance(found, str) else [str(key) for key in found] if isinstance(found, (dict, list)) else []

@@ -133,7 +133,10 @@ class Explain(unittest.TestCase):
 
     def test_a_pipe_is_not_waited_for(self) -> None:
         os.mkfifo("pipe")
+        self.program("")
         self.assertIn("a read or a write failed", explain("actrun: io", "replay", ["pipe"]))
+        self.assertIn("pipe: a key or", explain("actrun: flow pipe LeftOut", "plan", ["pipe"]))
+        self.assertIn("no workflow is started", explain("actrun: plan NoWorkflow", "plan", ["--event", "x", "pipe"]))
 
     def test_what_is_wrong_with_the_arguments(self) -> None:
         for command, arguments, expected in (
