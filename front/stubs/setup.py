@@ -4,7 +4,7 @@
 inputs with the version (`@` is the action's ref); `files`, version files or inputs that name one; `names`, more programs to
 look for by the version that is asked for; `version`, the arguments that print its version; `environment`, true where it is a
 Python that makes a virtual environment; `links`, names under which later steps shall find it; `siblings`, programs beside it;
-`outputs` and `variables`, texts with {version}, {path}, {folder}, {home}; `when`, the input without which it is not looked for.
+`outputs` and `variables`, texts with {version}, {path} and the like; `when`, the input without which it is not looked for.
 """
 
 from __future__ import annotations
@@ -111,9 +111,9 @@ def asked_for(tool: dict, text: str) -> str:
 
 def choose(tool: dict, asked: str) -> Found | None:
     """The program that fits best: one that has the version asked for, else the first that is there."""
-    names, number = list(tool["programs"]), NUMBER.search(asked)
-    if number:
-        parts = (number[0] + "..").split(".")
+    names = list(tool["programs"])
+    for number in NUMBER.findall(asked):
+        parts = f"{number}..".split(".")
         names += [name.format(major=parts[0], minor=parts[1]) for name in tool.get("names", [])]
     found = find(names, tool.get("version", ["--version"]))
     return next((one for one in found if fits(asked, one.version)), found[0] if found else None)
@@ -167,7 +167,8 @@ def set_up(tool: dict, text: str) -> None:
         put_in_front(tool, found)
     place = pathlib.Path(found.path)
     folder = place.parent if tool.get("environment") else place.resolve().parent
-    values = {"version": found.version, "path": found.path, "folder": str(folder), "home": str(folder.parent)}
+    values = {"version": found.version, "path": found.path, "folder": str(folder), "home": str(folder.parent),
+              "distribution": step.given("distribution")}
     for output, form in tool.get("outputs", {}).items():
         step.set_output(output, form.format(**values))
     for variable, form in tool.get("variables", {}).items():

@@ -172,7 +172,13 @@ class Setup(StubCase):
         self.program("java", "echo 'openjdk version \"17.0.15\"' >&2")
         ended = self.start("actions/setup-java@v4", {"java-version": "17", "distribution": "temurin"})
         self.assertEqual((ended.code, ended.variables), (0, {"JAVA_HOME": str(self.room)}))
-        self.assertEqual((ended.outputs["version"], ended.outputs["path"]), ("17.0.15", str(self.room)))
+        expected = {"version": "17.0.15", "path": str(self.room), "distribution": "temurin", "cache-hit": "false"}
+        self.assertEqual(ended.outputs, expected)
+
+    def test_one_of_several_versions(self) -> None:
+        self.python("python", "3.8.1")
+        self.python("python3.10", "3.10.4")
+        self.assertEqual(self.start("actions/setup-python@v5", {"python-version": "3.9\n3.10"}).outputs["python-version"], "3.10.4")
 
     def test_several_tools_and_those_that_are_not_asked_for(self) -> None:
         self.program("erl", "printf 25")
