@@ -1,35 +1,63 @@
-# Completion of actrun's words for bash: source this file.
+# Completion of actrun's commands and options for bash: source this file.
 _actrun() {
   local word=${COMP_WORDS[COMP_CWORD]} before=${COMP_WORDS[COMP_CWORD - 1]} command=${COMP_WORDS[1]} offered
+  local commands='try from-yaml dap plan list lint run table replay why graph timeline debug eval'
+  local events='push pull_request workflow_dispatch schedule release'
   COMPREPLY=()
   if [ "$COMP_CWORD" -eq 1 ]; then
-    offered='plan list lint run table replay why graph timeline debug eval --help --version --prove'
-    mapfile -t COMPREPLY < <(compgen -W "$offered" -- "$word")
+    _actrun_offer "$commands --help --version --install --uninstall --prove" "$word"
     return
   fi
+  # the value of an option
   case $before in
-    --contexts | --record | --stubs) compopt -o filenames; mapfile -t COMPREPLY < <(compgen -f -- "$word"); return ;;
-    --work) compopt -o filenames; mapfile -t COMPREPLY < <(compgen -d -- "$word"); return ;;
-    --workers) mapfile -t COMPREPLY < <(compgen -W '1 2 4 8 16' -- "$word"); return ;;
-    --event) mapfile -t COMPREPLY < <(compgen -W 'push pull_request workflow_dispatch schedule release' -- "$word"); return ;;
-    --job) return ;;
+    --contexts | --record | --stubs | --secret-file | --var-file | --input-file | --env-file | --eventpath | -e | -o)
+      _actrun_files -f "$word"
+      return
+      ;;
+    --work | --keep | --repository | --directory | -C) _actrun_files -d "$word"; return ;;
+    --workflows | -W) _actrun_files -f "$word"; return ;;
+    --workers) _actrun_offer '1 2 4 8 16' "$word"; return ;;
+    --event) _actrun_offer "$events" "$word"; return ;;
+    --job | -j | --secret | -s | --var | --input | --env | --matrix | --stub) return ;;
+    --install | --uninstall) _actrun_files -d "$word"; return ;;
   esac
   case $command in
-    plan) offered='--event --job --contexts' ;;
-    run) offered='--workers --record --work --stubs --progress' ;;
-    eval) offered='--contexts' ;;
-    replay) offered='--settled' ;;
-    *) offered= ;;
+    try)
+      offered='--help --list --dryrun --graph --job --workflows --directory --eventpath --secret --secret-file --var --var-file
+        --input --input-file --env --env-file --matrix --workers --stub --stubs --lenient --any-system --in-place --keep
+        --no-sandbox --offline'
+      ;;
+    from-yaml) offered='--help -o --lower --contexts --repository --matrix --any-system' ;;
+    plan) offered='--help --event --job --contexts' ;;
+    run) offered='--help --workers --record --work --stubs --progress' ;;
+    eval) offered='--help --contexts' ;;
+    replay) offered='--help --settled' ;;
+    *) offered=--help ;;
   esac
   if [[ $word == -* ]]; then
-    mapfile -t COMPREPLY < <(compgen -W "$offered" -- "$word")
-  elif [[ $command == why && $COMP_CWORD -eq 3 ]]; then
-    mapfile -t COMPREPLY < <(compgen -W 'run job leg step' -- "$word")
-  elif [[ $command == why && $COMP_CWORD -gt 3 ]]; then
+    _actrun_offer "$offered" "$word"
     return
-  elif [[ $command == plan || $command == list || $command == lint || $command == run || $command == replay || $command == why || $command == graph || $command == timeline || $command == debug ]]; then
-    compopt -o filenames
-    mapfile -t COMPREPLY < <(compgen -f -- "$word")
   fi
+  case $command in
+    try) _actrun_offer "$events" "$word" ;;
+    why)
+      case $COMP_CWORD in
+        2) _actrun_files -f "$word" ;;
+        3) _actrun_offer 'run job leg step' "$word" ;;
+      esac
+      ;;
+    from-yaml | plan | list | lint | run | replay | graph | timeline | debug) _actrun_files -f "$word" ;;
+  esac
+}
+
+# offers those of some words that begin with a word
+_actrun_offer() {
+  mapfile -t COMPREPLY < <(compgen -W "$1" -- "$2")
+}
+
+# offers files (-f) or folders (-d) that begin with a word
+_actrun_files() {
+  compopt -o filenames
+  mapfile -t COMPREPLY < <(compgen "$1" -- "$2")
 }
 complete -F _actrun actrun ./actrun

@@ -1,0 +1,42 @@
+# Runs commands whose last line is `N passed, M failed`, and adds up what they say. Read by test and ../.ci/run.
+# shellcheck shell=bash disable=SC2034
+
+passed=0 failed=0 status=0
+
+# adds the last line of a file, which a command wrote that ended with a status; the command failed where either says so
+add_counts() {
+  local more=1
+  status=$2
+  if [[ $(tail -n 1 "$1") =~ ^([0-9]+)\ passed,\ ([0-9]+)\ failed$ ]]; then
+    passed=$((passed + BASH_REMATCH[1])) more=${BASH_REMATCH[2]}
+  fi
+  if [ "$status" -ne 0 ] && [ "$more" -eq 0 ]; then more=1; fi
+  if [ "$status" -eq 0 ] && [ "$more" -ne 0 ]; then status=1; fi
+  failed=$((failed + more))
+}
+
+# runs a command, shows what it prints, and adds what it counts
+count() {
+  local told
+  told=$(mktemp) || exit 2
+  "$@" </dev/null | tee "$told"
+  add_counts "$told" "${PIPESTATUS[0]}"
+  rm -f "$told"
+}
+
+# installs the packages that tests need where they are missing, or says which those are; the tests then fail, or say that they
+# are skipped
+need_packages() {
+  local missing=()
+  python3 -c 'import ruamel.yaml' 2>/dev/null || /usr/bin/python3 -c 'import ruamel.yaml' 2>/dev/null || missing+=(python3-ruamel.yaml)
+  command -v bwrap >/dev/null || missing+=(bubblewrap)
+  command -v git >/dev/null || missing+=(git)
+  [ "${#missing[@]}" -gt 0 ] || return 0
+  if [ "$(id -u)" -eq 0 ] && command -v apt-get >/dev/null; then
+    echo "installing ${missing[*]}"
+    { apt-get install -y -qq "${missing[@]}" || { apt-get update -qq && apt-get install -y -qq "${missing[@]}"; }; } \
+      </dev/null >/dev/null && return
+  fi
+  echo "the tests need packages that are missing: apt-get install ${missing[*]}"
+  return 1
+}
