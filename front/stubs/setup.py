@@ -54,9 +54,10 @@ def fits(asked: str, version: str) -> bool:
     """Whether a version is what a version input asks for; a name without digits (`stable`, `lts/*`) is any version."""
     if not version:
         return not NUMBER.search(asked)
-    joined = re.sub(r"(>=|<=|>|<|==|!=|\^|~>|~)\s+", r"\1", asked)
+    spans = re.sub(r"(\S+) +- +(\S+)", r">=\1 <=\2", asked)
+    joined = re.sub(r"(>=|<=|>|<|==|!=|\^|~>|~)\s+", r"\1", spans)
     ways = [re.split(r"[\s,]+", way.strip()) for way in re.split(r"\|\||\n", joined) if way.strip()]
-    return not ways or any(all(fits_one(part, version) for part in way if part != "-") for way in ways)
+    return not ways or any(all(fits_one(part, version) for part in way) for way in ways)
 
 
 def version_of(program: str, words: list[str]) -> str | None:

@@ -3,9 +3,11 @@
 from __future__ import annotations
 
 import pathlib
+import runpy
 import sys
 import unittest
 
+from actrun_front import actions
 from tests.stub_case import StubCase
 
 
@@ -153,12 +155,12 @@ class Setup(StubCase):
     def test_what_versions_fit(self) -> None:
         fitting = ["3", "3.x", "3.10", "3.10.4", "v3.10", "3.10.x", "^3.9", "~3.10", "~> 3.10.1", ">=3.9", ">= 3.9 <3.11", ">=3.9,<4",
                    "2 || 3.10", "stable", "lts/*", "latest", "3.9\n3.10", "3.10-dev", "3.9 - 3.10"]
-        others = ["2", "3.1", "3.11", "^3.11", "^2", "~3.9", ">3.11", ">=3.9 <3.10", "pypy3.10", "2 || 4", "nightly-2023-01-01", "3.9\n3.11"]
-        self.python("python", "3.10.4")
-        for asked in fitting[:-1]:
-            self.assertNotIn("::", self.start("actions/setup-python@v5", {"python-version": asked}).shown, asked)
-        for asked in others:
-            self.assertIn("::warning::", self.start("actions/setup-python@v5", {"python-version": asked}).shown, asked)
+        others = ["2", "3.1", "3.11", "^3.11", "^2", "~3.9", ">3.11", ">=3.9 <3.10", "pypy3.10", "2 || 4", "3.7 - 3.9", "nightly-2023-01-01", "3.9\n3.11"]
+        sys.path.insert(0, str(actions.STUBS))
+        self.addCleanup(sys.path.remove, str(actions.STUBS))
+        fits = runpy.run_path(str(actions.STUBS / "setup.py"), run_name="stub")["fits"]
+        self.assertEqual([asked for asked in fitting if not fits(asked, "3.10.4")], [])
+        self.assertEqual([asked for asked in others if fits(asked, "3.10.4")], [])
 
     def test_the_ref_names_the_toolchain_of_rust(self) -> None:
         self.program("rustc", "echo 'rustc 1.63.0'")
