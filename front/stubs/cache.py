@@ -13,6 +13,7 @@ import json
 import os
 import pathlib
 import re
+import shutil
 import subprocess
 import sys
 import tarfile
@@ -23,6 +24,7 @@ import globs
 import step
 
 KEY_LENGTH = 512
+MOST_BYTES = 10 * 1024 ** 3  # of all caches of a repository, as on GitHub
 
 
 def cache_folder() -> pathlib.Path | None:
@@ -117,7 +119,20 @@ def save(cache: pathlib.Path, key: str, paths: list[str]) -> None:
         except OSError:
             print(f"the cache {key} was saved meanwhile")
             return
+    make_room(cache)
     print(f"the cache {key} is saved")
+
+
+def make_room(cache: pathlib.Path) -> None:
+    """Removes the oldest caches where all have too many bytes, and what broken off saves left a day ago."""
+    total = 0
+    for place, _ in entries(cache):
+        total += sum(file.stat().st_size for file in place.iterdir())
+        if total > MOST_BYTES:
+            shutil.rmtree(place, ignore_errors=True)
+    for place in cache.glob(".new-*"):
+        if time.time() - place.stat().st_mtime > 86400:
+            shutil.rmtree(place, ignore_errors=True)
 
 
 def checked_inputs() -> tuple[str, list[str]]:

@@ -4,6 +4,7 @@ from __future__ import annotations
 
 import os
 import pathlib
+import runpy
 import subprocess
 import sys
 import tarfile
@@ -112,6 +113,21 @@ class Cache(StubCase):
         (self.tree / "c").unlink()
         self.assertEqual(self.restore(key="k", path="c", lookup_only="true").outputs["cache-hit"], "true")
         self.assertFalse((self.tree / "c").exists())
+
+    def test_the_oldest_caches_make_room(self) -> None:
+        for key in ("a", "b", "c"):
+            self.write("tree/c", key * 100000)
+            self.save(key, "c")
+        left = self.room / "cache" / ".new-left"
+        left.mkdir()
+        os.utime(left, (0, 0))
+        sys.path.insert(0, str(actions.STUBS))
+        self.addCleanup(sys.path.remove, str(actions.STUBS))
+        make_room = runpy.run_path(str(actions.STUBS / "cache.py"), run_name="stub")["make_room"]
+        make_room.__globals__["MOST_BYTES"] = 250000
+        make_room(self.room / "cache")
+        self.assertEqual([self.restore(key=key, path="c").outputs.get("cache-hit") for key in "abc"], [None, "true", "true"])
+        self.assertFalse(left.exists())
 
     def test_bad_inputs(self) -> None:
         self.assertEqual(self.restore(key="k", path="c", fail_on_cache_miss="true").code, 1)
