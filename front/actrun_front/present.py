@@ -51,9 +51,9 @@ def one_line(text: str, most: int = 100) -> str:
 
 
 def step_name(step: dict[str, Any]) -> str:
-    """The step's name, else what GitHub shows in its place."""
+    """The step's name, else the first line of what it does."""
     work = step["work"]
-    return one_line(step["name"] or f"Run {one_line(work['run'] if work['kind'] == 'run' else work['uses'])}")
+    return one_line(step["name"] or (work["run"] if work["kind"] == "run" else work["uses"]))
 
 
 def mask(text: str, secrets: Iterable[str]) -> str:
@@ -120,6 +120,7 @@ class Board:
 
     screen: Screen
     legs: list[Leg]
+    stopped: bool = False                                                # by Ctrl-C
     running: dict[int, int] = field(default_factory=dict)                # leg -> step
     ended: dict[tuple[int, int], Progress] = field(default_factory=dict)
 
@@ -135,7 +136,8 @@ class Board:
         else:
             self.running.pop(progress.leg, None)
             self.ended[progress.leg, progress.step] = progress
-            detail = "".join(f", {text}" for text in (progress.detail, f"{progress.seconds} s" if progress.seconds else "") if text)
+            reason = "stopped by Ctrl-C" if self.stopped and progress.state == "failure" else progress.detail
+            detail = "".join(f", {text}" for text in (reason, f"{progress.seconds} s" if progress.seconds else "") if text)
             sign = self.screen.sign(progress.state, self.screen.err)
             self.screen.tell(f"{sign} {self.title(progress.leg, progress.step)}{detail}")
         self.screen.status("; ".join(f"{self.title(leg, step)} .." for leg, step in sorted(self.running.items())))

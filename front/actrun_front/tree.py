@@ -140,13 +140,13 @@ def copy_tree(facts: Facts, room: Room) -> list[str]:
 def files_of(top: Path, left: list[str], prefix: bytes = b"") -> Iterator[bytes]:
     """The names of the files that git tracks or would add, those of submodules among them, from the top."""
     root = os.fsencode(top)
-    answer = ask(top, "ls-files", "-co", "--exclude-standard", "--deduplicate", "-z")
+    answer = ask(top, "ls-files", "-co", "--exclude-standard", "-z")
     links = ask(top, "ls-files", "-s", "-z")
     if answer is None or links is None or answer.returncode != 0:
         raise Problem(f"{top}: git cannot list the files: {answer.stderr.decode(errors='replace').strip() if answer else ''}", 3)
     modules = {entry.partition(b"\t")[2] for entry in links.stdout.split(b"\0") if entry.startswith(GITLINK)}
     plain = real_folders(root)
-    for name in filter(None, answer.stdout.split(b"\0")):
+    for name in dict.fromkeys(filter(None, answer.stdout.split(b"\0"))):
         path = os.path.join(root, name)
         if name in modules:
             if os.path.exists(os.path.join(path, b".git")):
@@ -169,7 +169,7 @@ def real_folders(root: bytes) -> Callable[[bytes], bool]:
 
 
 def all_files(top: Path, left: list[str]) -> Iterator[bytes]:
-    """The names of all files and empty folders of a folder that is no repository."""
+    """The names of all files and links of a folder that is no repository."""
     root = os.fsencode(top)
     for folder, folders, files in os.walk(root):
         links = [name for name in folders if os.path.islink(os.path.join(folder, name))]
@@ -180,27 +180,19 @@ def all_files(top: Path, left: list[str]) -> Iterator[bytes]:
                 yield os.path.relpath(path, root)
             else:
                 left.append(f"{os.fsdecode(path)} is neither a file nor a link")
-        if not folders and not files:
-            yield os.path.relpath(folder, root)
 
 
 def copy_files(top: Path, target: Path, names: Iterable[bytes]) -> None:
     """Copies files with their modes and times, links as links; blocks are shared where the file system can."""
     words = ["xargs", "-0", "-r", "cp", "-d", "--reflink=auto", "--preserve=mode,timestamps", "--parents",
              "--target-directory", os.fspath(target), "--"]
-    text = b"".join(b"./" + name + b"\0" for name in names if name != b".")
-    folders = [name for name in text.split(b"\0") if name and os.path.isdir(os.path.join(os.fsencode(top), name))
-               and not os.path.islink(os.path.join(os.fsencode(top), name))]
-    for name in folders:
-        os.makedirs(os.path.join(os.fsencode(target), name), exist_ok=True)
-    if folders:
-        text = b"".join(name + b"\0" for name in text.split(b"\0") if name and name not in set(folders))
+    text = b"".join(b"./" + name + b"\0" for name in names)
     answer = subprocess.run(words, cwd=top, input=text, capture_output=True, check=False, env={**os.environ, "LC_ALL": "C"})
     if answer.returncode != 0:
         lines = answer.stderr.decode("utf-8", "replace").strip().splitlines() or ["cp failed"]
         if "No space left" in answer.stderr.decode("utf-8", "replace"):
             raise no_room(target, "No space left on device")
-        raise Problem(f"the working tree cannot be copied to {target}: {lines[0]}", 3)
+        raise Problem(f"the working tree cannot be copied to {target}: {lines[0]}: change the rights, or name the file in .gitignore", 3)
 
 
 def copy_repository(top: Path, room: Room) -> None:
@@ -253,6 +245,9 @@ def config(top: Path) -> str:
     form = git(top, "rev-parse", "--show-object-format") or "sha1"
     lines = ["[core]", "\trepositoryformatversion = 1", "\tbare = false", "\tlogallrefupdates = true",
              "\tcheckStat = minimal", "\ttrustctime = false", "[extensions]", f"\tobjectFormat = {form}", "[gc]", "\tauto = 0"]
+    for line in (git(top, "config", "--get-regexp", r"^core\.(autocrlf|eol|filemode|symlinks|ignorecase)$") or "").splitlines():
+        key, _, value = line.partition(" ")
+        lines.insert(1, f'\t{key.removeprefix("core.")} = "{escaped(value)}"')
     for name in (git(top, "remote") or "").splitlines():
         url = re.sub(r"^([a-z+]+://)[^/@]*@", r"\1", git(top, "config", f"remote.{name}.url") or "")
         fetch = (git(top, "config", "--get-all", f"remote.{name}.fetch") or "").splitlines()
