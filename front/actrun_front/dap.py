@@ -211,11 +211,11 @@ class Session:
         """Tells the client where the record is, and which leg to look at."""
         place, self.hit = self.walker.place, hit
         about = {key: value for key, value in self.record.entries[place].items() if key in ("run", "job", "leg")}
-        focus = self.record.focus(about) if leg is None else leg
-        if focus is not None and about != {"run": self.record.legs[self.thread].run}:
-            self.thread = focus
+        if leg is None and about and about != {"run": self.record.legs[self.thread].run}:
+            leg = self.record.focus(about)
+        self.thread = self.thread if leg is None else leg
         where = f"{hit.filter + ' at ' if hit else ''}place {place} of {self.walker.last}"
-        fact = self.masks.hide(self.record.why(place, hit.words).partition("\n")[0] if hit else self.record.happened(place))
+        fact = self.masks.hide(hit.fact if hit else self.record.happened(place))
         self.print(f"{where}: {fact}\n", "console")
         self.send("stopped", {"reason": reason, "description": where, "text": fact, "threadId": self.thread + 1,
                               "allThreadsStopped": True, **({"hitBreakpointIds": hits} if hits else {})})

@@ -141,9 +141,10 @@ class Walker:
 
 @dataclass(frozen=True)
 class Mishap:
-    """Something that did not succeed: where, by which filter, and the words by which `why` is asked about it."""
+    """Something that did not succeed: where, by which filter, what is said of it, and the words by which `why` is asked about it."""
     place: int
     filter: str
+    fact: str
     words: tuple[str, ...]
 
 
@@ -215,15 +216,17 @@ class Record:
 
     def mishaps(self, board: Board) -> list[Mishap]:
         """All that did not succeed: steps by the board after the last entry, the rest by what `why` says."""
-        found = [Mishap(self.done[leg][at], FILTER_OF[step.outcome], ("step", str(leg), str(at)))
+        found = [Mishap(self.done[leg][at], FILTER_OF[step.outcome], f"{self.name('step', leg, at)} of {self.name('leg', leg)}: {step}",
+                        ("step", str(leg), str(at)))
                  for leg, stand in enumerate(board.legs) for at, step in enumerate(stand.steps) if step.outcome in FILTER_OF]
         for line in self.why(self.last, []).split("\n"):
-            kind, number = (line.lstrip(" ").split(" ", 2) + [""])[:2]
-            if kind in ("run", "job", "leg") and line.lstrip(" ").startswith(self.name(kind, int(number))):
-                fact = MISHAP.fullmatch(line.lstrip(" ")[len(self.name(kind, int(number))):])
-                if fact and (fact[3] or "cancelled" in fact[1]):  # else it failed by something that is told below it
-                    displaced = kind != "job" and line.endswith(" took its place in the group")
-                    found.append(Mishap(int(fact[2]) - 1, "displaced" if displaced else FILTER_OF[fact[1]], (kind, number)))
+            line = line.lstrip(" ")
+            kind, number = (line.split(" ", 2) + [""])[:2]
+            name = self.name(kind, int(number)) if kind in ("run", "job", "leg") else "no name"
+            fact = MISHAP.fullmatch(line[len(name):]) if line.startswith(name) else None
+            if fact and (fact[3] or "cancelled" in fact[1]):  # else it failed by something that is told below it
+                displaced = kind != "job" and line.endswith(" took its place in the group")
+                found.append(Mishap(int(fact[2]) - 1, "displaced" if displaced else FILTER_OF[fact[1]], line, (kind, number)))
         return found
 
 
