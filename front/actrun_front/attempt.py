@@ -56,7 +56,7 @@ def attempt(arguments: list[str], screen: Screen) -> int:
     look = bool(chosen.list or chosen.dryrun or chosen.graph)
     rooms.cache_root().mkdir(mode=0o700, parents=True, exist_ok=True)
     work = rooms.cache_root() / "work"
-    room = rooms.make_room(work, top.name, here / chosen.keep if chosen.keep and not look else None)
+    room = rooms.make_room(work, facts.remote.name or top.name, here / chosen.keep if chosen.keep and not look else None)
     try:
         play = new_play(event, facts, chosen, room, not look)
         if chosen.list:

@@ -9,7 +9,7 @@ from dataclasses import dataclass
 from pathlib import Path
 from typing import Any, Iterable, Mapping
 
-from .expressions import Rules, rewrite_condition, rewrite_template
+from .expressions import Rules, has_expression, rewrite, split
 from .tree import Room
 
 # the first words of a script for sh, which has no BASH_ENV
@@ -39,8 +39,9 @@ if [ "${{ACTRUN_STEP-}}" != "$GITHUB_OUTPUT" ]; then
   : >>"$GITHUB_STEP_SUMMARY"
   case $actrun_leg in
 {jobs}  esac
+  RUNNER_WORKSPACE=${{GITHUB_WORKSPACE%/*}}
   if [ ! -d "$GITHUB_WORKSPACE" ]; then
-    cp -a --reflink=auto {tree} "$GITHUB_WORKSPACE" || {{ echo "the tree cannot be copied to $GITHUB_WORKSPACE"; exit 1; }}
+    {{ mkdir -p "$RUNNER_WORKSPACE" && cp -a --reflink=auto {tree} "$GITHUB_WORKSPACE"; }} || {{ echo "the tree cannot be copied to $GITHUB_WORKSPACE"; exit 1; }}
   fi
   CDPATH= cd -- "$GITHUB_WORKSPACE" || exit 1
   if [ -n "${{ACTRUN_DIRECTORY-}}" ]; then
@@ -49,7 +50,8 @@ if [ "${{ACTRUN_STEP-}}" != "$GITHUB_OUTPUT" ]; then
   while IFS= read -r actrun_line || [ -n "$actrun_line" ]; do
     if [ -n "$actrun_line" ]; then PATH=$actrun_line:$PATH; fi
   done <"$GITHUB_PATH"
-  export ACTRUN_STEP PATH GITHUB_PATH GITHUB_STEP_SUMMARY GITHUB_WORKFLOW GITHUB_WORKFLOW_REF GITHUB_EVENT_PATH GITHUB_WORKSPACE
+  export ACTRUN_STEP PATH GITHUB_PATH GITHUB_STEP_SUMMARY GITHUB_WORKFLOW GITHUB_WORKFLOW_REF GITHUB_EVENT_PATH
+  export GITHUB_WORKSPACE RUNNER_WORKSPACE
   unset actrun_place actrun_leg actrun_line ACTRUN_DIRECTORY OLDPWD
 fi
 if [ -n "${{BASH_VERSION-}}" ] && [ -r "${{ACTRUN_BASH_ENV-}}" ]; then . "$ACTRUN_BASH_ENV"; fi
@@ -61,7 +63,7 @@ class JobPart:
     """One job of the plan, as the prelude tells its steps of it."""
 
     legs: range
-    workspace: str               # where own_trees, without the leg's place in its job
+    workspace: str               # with own_trees the start of it, before the leg's place in its job
     own_trees: bool
     github: Mapping[str, Any]
     event_path: Path
@@ -82,7 +84,7 @@ def write_prelude(room: Room, jobs: list[JobPart], mark: str) -> Path:
         words = [f"{name}={shlex.quote(value)}" for name, value in values.items()]
         place = shlex.quote(part.workspace)
         if part.own_trees:
-            place += f"-$((actrun_leg - {part.legs.start}))"
+            place += f"-$((actrun_leg - {part.legs.start}))/{room.name}"
         cases.append(f"    {'|'.join(map(str, part.legs))}) {'; '.join([*words, f'GITHUB_WORKSPACE={place}'])} ;;\n")
     text = PRELUDE.format(mark=f"  printf '%s\\n' \"{mark}:$actrun_place\"\n" if mark else "", files=shlex.quote(str(files)),
                           tree=shlex.quote(str(room.tree)), jobs="".join(cases))
@@ -91,9 +93,9 @@ def write_prelude(room: Room, jobs: list[JobPart], mark: str) -> Path:
     return path
 
 
-def settle(plan: dict[str, Any], own_trees: str) -> None:
+def settle(plan: dict[str, Any], room: Room, own_trees: bool) -> None:
     """Prepares a plan for the prelude: it goes to the working-directory of a step, and sources what the workflow names BASH_ENV.
-    With `own_trees` each leg has the tree `OWN_TREES/JOB-INDEX`, and `github.workspace` is that."""
+    With `own_trees` each leg has a tree, and the texts that see `strategy` name that one."""
     for run in plan["runs"]:
         renamed(run["env"])
         for job in run["jobs"]:
@@ -104,7 +106,7 @@ def settle(plan: dict[str, Any], own_trees: str) -> None:
                     step["env"]["ACTRUN_DIRECTORY"] = step["work"]["dir"]
                     step["work"]["dir"] = None
             if own_trees:
-                with_workspace(job, f"{own_trees}/{job['number']}")
+                with_own_tree(job, room)
 
 
 def renamed(env: dict[str, Any]) -> None:
@@ -113,23 +115,33 @@ def renamed(env: dict[str, Any]) -> None:
         env["ACTRUN_BASH_ENV"] = env.pop("BASH_ENV")
 
 
-def with_workspace(job: dict[str, Any], start: str) -> None:
-    """Puts the tree of the leg in place of `github.workspace` in all texts of a job that see `strategy`."""
-    quoted = (start + "-").replace("'", "''").replace("{", "{{").replace("}", "}}")
-    text = f"format('{quoted}{{0}}', strategy.job-index)"
-    rules = Rules({"github": lambda access: (text, 1) if access.keys[:1] and access.keys[0].lower() == "workspace" else None})
+def with_own_tree(job: dict[str, Any], room: Room) -> None:
+    """Puts the tree of the leg in place of `github.workspace`, and of the path of the copy, in a job's texts."""
+    common = str(room.tree.parent)
+
+    def place(rest: str) -> str:
+        text = f"{room.play}/legs/{job['number']}-".replace("'", "''").replace("{", "{{").replace("}", "}}")
+        return f"format('{text}{{0}}{rest.replace('{', '{{').replace('}', '}}')}', strategy.job-index)"
+    literal = re.compile("'" + re.escape(common.replace("'", "''")) + "((?:[^']|'')*)'")
+    rules = Rules({"github": lambda access: (place(f"/{room.name}"), 1) if access.keys[:1] and access.keys[0].lower() == "workspace" else None})
 
     def template(value: Any) -> Any:
-        return rewrite_template(value, rules) if isinstance(value, str) and "workspace" in value.lower() else value
+        if not isinstance(value, str) or not ("workspace" in value.lower() or common in value):
+            return value
+        parts = (f"${{{{{expression(text)}}}}}" if inside else text.replace(common, f"${{{{ {place('')} }}}}") for inside, text in split(value))
+        return "".join(parts)
+
+    def expression(text: str) -> str:
+        return rewrite(literal.sub(lambda found: place(found[1]), text), rules)
 
     def all_of(values: dict[str, Any]) -> dict[str, Any]:
         return {name: template(value) for name, value in values.items()}
     job["env"], job["outputs"] = all_of(job["env"]), all_of(job["outputs"])
     for step in job["steps"]:
-        work = step["work"]
+        condition, work = step["condition"], step["work"]
         step["env"], step["tolerate"] = all_of(step["env"]), template(step["tolerate"])
-        if "workspace" in (step["condition"] or "").lower():
-            step["condition"] = rewrite_condition(step["condition"], rules)
+        if condition:
+            step["condition"] = template(condition) if has_expression(condition) else expression(condition)
         for name in ("run", "with"):
             if name in work:
                 work[name] = all_of(work[name]) if name == "with" else template(work[name])
@@ -149,7 +161,7 @@ def variables(room: Room, contexts: Mapping[str, Any], prelude: Path, cache: Pat
         "CI": "true", "GITHUB_ACTIONS": "true", "GITHUB_EVENT_PATH": str(event_path), "GITHUB_PATH": str(files / "path"),
         "GITHUB_STEP_SUMMARY": str(files / "summary"), "RUNNER_OS": runner["os"],
         "RUNNER_ARCH": runner["arch"], "RUNNER_NAME": runner["name"], "RUNNER_ENVIRONMENT": runner["environment"],
-        "RUNNER_TEMP": runner["temp"], "RUNNER_TOOL_CACHE": runner["tool_cache"], "BASH_ENV": str(prelude),
+        "RUNNER_TEMP": runner["temp"], "RUNNER_WORKSPACE": os.path.dirname(github["workspace"]), "RUNNER_TOOL_CACHE": runner["tool_cache"], "BASH_ENV": str(prelude),
         "ACTRUN_PRELUDE": str(prelude), "ACTRUN_CACHE": str(cache), "ACTRUN_ARTIFACTS": str(room.below("artifacts"))})
     if runner["debug"]:
         result["RUNNER_DEBUG"] = runner["debug"]

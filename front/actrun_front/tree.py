@@ -30,6 +30,7 @@ class Room:
     """The folder of one play. Steps see `play` alone; what may hold secrets is in `private`."""
 
     folder: Path
+    name: str            # of the repository
     lock: IO[str]
 
     @property
@@ -39,8 +40,8 @@ class Room:
 
     @property
     def tree(self) -> Path:
-        """Where steps start: the copy, or a link to the tree itself."""
-        return self.play / "tree"
+        """The copy of the working tree, or a link to it, in a folder of its own as on GitHub."""
+        return self.play / "tree" / self.name
 
     @property
     def private(self) -> Path:
@@ -72,13 +73,13 @@ def make_room(parent: Path, name: str, keep: Path | None = None) -> Room:
         folder.mkdir(mode=0o700, parents=True, exist_ok=keep is not None)
         os.chmod(folder, 0o700)
         folder = folder.resolve()
-        for part in ("play", "private"):
+        for part in ("play", "private", "play/tree"):
             (folder / part).mkdir(mode=0o700)
         lock = open(folder / "lock", "w", encoding="utf-8")
     except OSError as error:
         raise no_room(folder, error.strerror) from None
     fcntl.flock(lock, fcntl.LOCK_EX | fcntl.LOCK_NB)
-    return Room(folder, lock)
+    return Room(folder, short_name(name), lock)
 
 
 def short_name(name: str) -> str:

@@ -71,7 +71,7 @@ class Trial:
     def execute(self) -> int:
         """Executes the plan and shows all that came of it; gives the exit status."""
         private, mark = self.room.private, marker(self.secrets)
-        settle(self.plan, str(self.room.below("legs")) if self.own_trees else "")
+        settle(self.plan, self.room, self.own_trees)
         write_private(private / "plan", json.dumps(self.plan, ensure_ascii=False))
         stubs = stubs_of(self.plan, self.play, self.room)
         for text in stubs.missing:
@@ -198,7 +198,7 @@ class Trial:
         if self.own_trees and self.play.options.keep is None:
             done = [run for number, run in enumerate(self.plan["runs"]) if groups.results.get(number) == "success"]
             for job in (job for run in done for job in run["jobs"]):
-                for folder in self.room.below("legs").glob(f"{job['number']}-*"):
+                for folder in (self.room.play / "legs").glob(f"{job['number']}-*"):
                     rooms.remove(folder)
 
     def reasons(self) -> Iterable[str]:
@@ -223,7 +223,7 @@ class Trial:
         yield f"logs      {play}/step-LEG-STEP.log"
         trees = sorted((play / "legs").glob("*")) if self.own_trees else [self.play.workspace]
         if trees:
-            yield f"tree      {trees[0] if len(trees) == 1 else play / 'legs' / 'JOB-INDEX'}"
+            yield f"tree      {trees[0] if len(trees) == 1 else play / 'legs' / 'JOB-INDEX' / self.room.name}"
         if known:
             yield f"record    {self.record}"
             for name, command in (("timeline.svg", "timeline"), ("graph.dot", "graph")):

@@ -97,10 +97,10 @@ class Steps(TryCase):
         self.assertIn("not yet\n", done.stdout)
         self.assertEqual(done.stdout.count("hello from greet\n"), 2)
         self.assertIn("the word is blue\n", done.stdout)
-        self.assertRegex(done.stdout, r"/play/tree/tools\n1\n")
-        self.assertRegex(done.stdout, r"absolute /.*/play/tree/tools\n")
+        self.assertRegex(done.stdout, r"/play/tree/project/tools\n1\n")
+        self.assertRegex(done.stdout, r"absolute /.*/play/tree/project/tools\n")
         self.assertIn("\n# one\n", done.stdout)
-        self.assertEqual(self.git("status", "--porcelain", folder=self.work() / "play" / "tree"), "")
+        self.assertEqual(self.git("status", "--porcelain", folder=self.work() / "play" / "tree" / "project"), "")
 
     def test_legs_have_paths_of_their_own(self) -> None:
         self.workflow("""
@@ -116,6 +116,8 @@ class Steps(TryCase):
         self.write("file", "one\n")
         self.workflow("""
 - run: cat file; echo more >> file; sleep 0.2; wc -l < file; touch left-${{ matrix.word }}
+- run: |
+    echo ${{ matrix.word }} > ../beside; sleep 0.2; [ "$(cat ${{ runner.workspace }}/beside $RUNNER_WORKSPACE/beside | tr '\\n' ' ')" = "${{ matrix.word }} ${{ matrix.word }} " ]
 - run: ls | tr '\\n' ' '; [ "$PWD" = "${{ github.workspace }}" ] && [ "$PWD" = "$GITHUB_WORKSPACE" ]; git status --porcelain
 """, "on: push\njobs:\n  one:\n    runs-on: ubuntu-latest\n    strategy:\n      matrix:\n        word: [a, b]\n    steps:\n")
         self.commit()
@@ -138,7 +140,7 @@ class Steps(TryCase):
         self.workflow("- run: pwd\n  env:\n    BASH_ENV: ${{ github.workspace }}/own.sh")
         done = self.attempt()
         self.assert_status(done, 0)
-        self.assertRegex(done.stdout, r"own file of the workflow\n/.*/play/tree\n")
+        self.assertRegex(done.stdout, r"own file of the workflow\n/.*/play/tree/project\n")
 
     def test_variables(self) -> None:
         self.workflow("- run: env | sort\n- run: cat $GITHUB_EVENT_PATH")
@@ -156,7 +158,7 @@ class Steps(TryCase):
             self.assertIn(line, lines)
         self.assertIn('  "ref": "refs/heads/main",', lines)
         self.assertNotIn("leak", done.stdout)
-        self.assertNotIn("hunter2", done.stdout + (self.work() / "play" / "tree" / ".git" / "config").read_text())
+        self.assertNotIn("hunter2", done.stdout + (self.work() / "play" / "tree" / "hello" / ".git" / "config").read_text())
         self.assertNotIn("RUNNER_DEBUG=1", lines)
 
     def test_own_bash_env_counts(self) -> None:
@@ -172,7 +174,7 @@ class Steps(TryCase):
 - run: |
     echo "the token is ${{ secrets.TOKEN }}"
     echo "summary ${{ secrets.TOKEN }}" >> "$GITHUB_STEP_SUMMARY"
-    cat ../../private/* || true
+    cat ../../../private/* || true
     exit 1
 """)
         done = self.attempt("-s", "TOKEN", TOKEN="hunter2-word")
@@ -254,7 +256,7 @@ class Steps(TryCase):
         done = self.attempt("--keep", "../kept here")
         self.assert_status(done, 0)
         kept = self.home / "kept here"
-        self.assertEqual((kept / "play" / "tree" / "kept").read_text(encoding="utf-8"), "kept\n")
+        self.assertEqual((kept / "play" / "tree" / "project" / "kept").read_text(encoding="utf-8"), "kept\n")
         self.assertIn(f"{kept}/private/timeline.svg", done.stdout)
         self.assert_status(self.attempt("--keep", "../kept here"), 2)
 
@@ -343,7 +345,7 @@ class InSandbox(TryCase):
         self.workflow("- uses: some/action@v1\n  with: {word: well}")
         done = self.attempt("--stub", f"some/action={program}")
         self.assert_status(done, 0)
-        self.assertRegex(done.stdout, r"the stub has well in /.*/play/tree\n")
+        self.assertRegex(done.stdout, r"the stub has well in /.*/play/tree/project\n")
 
 
 @NEEDS_PROGRAM
@@ -356,7 +358,7 @@ class Interrupted(TryCase):
         child = subprocess.Popen(self.command(*words), cwd=self.project, env=self.environment, text=True,
                                  stdout=subprocess.PIPE, stderr=subprocess.PIPE, start_new_session=True)
         end = time.time() + 20
-        while not list(self.home.glob(".cache/actrun/work/*/play/tree/here")) and time.time() < end:
+        while not list(self.home.glob(".cache/actrun/work/*/play/tree/project/here")) and time.time() < end:
             time.sleep(0.05)
         begun = time.time()
         os.killpg(child.pid, signal.SIGINT)

@@ -14,7 +14,7 @@ from actrun_front.execute import Progress, read_progress
 from actrun_front.facts import Remote, find_project, find_top, parse_remote, read_facts
 from actrun_front.payloads import payload
 from actrun_front.present import legs_of, mask, one_line, placed, table
-from actrun_front.tree import clean, make_room, short_name
+from actrun_front.tree import Room, clean, make_room, short_name
 from .try_case import TryCase
 
 
@@ -242,19 +242,27 @@ class Surroundings(unittest.TestCase):
         for text in ("0", "3-1", "a:7"):
             self.assertEqual(marker([text]), "")
 
-    def test_settle(self) -> None:
-        step = {"env": {"A": "${{ github.workspace }}/a", "BASH_ENV": "own"}, "tolerate": False, "condition": "github.workspace != ''",
-                "work": {"kind": "run", "run": "ls ${{ github.workspace }} 'github.workspace'", "dir": "${{ github.workspace }}/d"}}
+    def settled(self, step: dict, own_trees: bool) -> dict:
+        """One step of job 4 after `settle`."""
         plan = {"runs": [{"env": {}, "jobs": [{"number": 4, "env": {}, "outputs": {}, "steps": [step]}]}]}
-        settle(plan, "/w/it's {x}")
-        own = "format('/w/it''s {{x}}/4-{0}', strategy.job-index)"
+        settle(plan, Room(Path("/w/it's {x}"), "hello", None), own_trees)
+        return step
+
+    def test_settle(self) -> None:
+        step = self.settled({
+            "env": {"A": "${{ github.workspace }}/a", "BASH_ENV": "own"}, "tolerate": False, "condition": "github.workspace != ''",
+            "work": {"kind": "run", "run": "ls ${{ github.workspace }} /w/it's {x}/play/tree/b ${{ '/w/it''s {x}/play/tree/c{' }}",
+                     "dir": "${{ github.workspace }}/d"}}, True)
+        start = "format('/w/it''s {{x}}/play/legs/4-{0}%s', strategy.job-index)"
+        own = start % "/hello"
         self.assertEqual(step["env"], {"A": "${{ %s }}/a" % own, "ACTRUN_BASH_ENV": "own", "ACTRUN_DIRECTORY": "${{ %s }}/d" % own})
-        self.assertEqual(step["work"], {"kind": "run", "run": "ls ${{ %s }} 'github.workspace'" % own, "dir": None})
+        self.assertEqual(step["work"], {"kind": "run", "dir": None, "run": "ls ${{ %s }} ${{ %s }}/b ${{ %s }}" % (
+            own, start % "", start % "/c{{")})
         self.assertEqual(step["condition"], f"{own} != ''")
 
     def test_settle_of_a_shared_tree(self) -> None:
-        step = {"env": {}, "tolerate": False, "condition": None, "work": {"kind": "run", "run": "${{ github.workspace }}", "dir": "d"}}
-        settle({"runs": [{"env": {}, "jobs": [{"number": 0, "env": {}, "outputs": {}, "steps": [step]}]}]}, "")
+        step = self.settled({"env": {}, "tolerate": False, "condition": None,
+                             "work": {"kind": "run", "run": "${{ github.workspace }}", "dir": "d"}}, False)
         self.assertEqual((step["env"], step["work"]["run"]), ({"ACTRUN_DIRECTORY": "d"}, "${{ github.workspace }}"))
 
 
