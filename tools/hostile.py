@@ -1,5 +1,5 @@
 #!/usr/bin/env python3
-"""Feeds the program hostile inputs, and looks whether each answer is one that docs/FORMATS.md allows.
+"""Feeds the program hostile inputs, and looks whether each answer is one that docs/REFERENCE.md allows.
 
 usage: tools/hostile.py NUMBER SEED [PROGRAM]      PROGRAM is crates/actrun/out/actrun if none is named
 
@@ -10,7 +10,7 @@ of a seed is always the same, whatever NUMBER is.
 Of each answer it is asked that
 - the program ended by itself within 60 seconds of a processor, with a status from 0 to 4, and 1 and 4 only from `replay`, `graph`
   and `timeline`;
-- standard error is empty where the status is 0, 1 or 4, and where `lint` refuses a file; else it is one line that FORMATS.md has, of
+- standard error is empty where the status is 0, 1 or 4, and where `lint` refuses a file; else it is one line that REFERENCE.md has, of
   that status;
 - standard output is empty beside a fault, and else is what the command prints: a value, a plan, jobs by stages, what is to be known of
   the files that `lint` is given, in lines without a control character, a board, a graph, a picture that a reader of XML takes,
@@ -270,7 +270,7 @@ def wrong_fault(tried, answer, line):
         fits = answer.status == 3 and tried.free if told[1] == "io" else answer.status == 2 and tried.has_strange_words()
         return None if fits else f"it told {told[1]}, for which there is no reason"
     fits = answer.status == 2 and re.fullmatch(REFUSALS.get(tried.command, "words"), told[1])
-    return None if fits else "its line is none that FORMATS.md has for the command and the status"
+    return None if fits else "its line is none that REFERENCE.md has for the command and the status"
 
 
 def wrong(tried, answer):

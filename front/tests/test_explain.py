@@ -13,7 +13,7 @@ import unittest
 from actrun_front.explain import Origin, explain, take_apart
 
 TOP = pathlib.Path(__file__).resolve().parents[2]
-# what `actrun lint` prints of these two files, by docs/FORMATS.md, "Lines of `lint`"
+# what `actrun lint` prints of this file, by docs/REFERENCE.md, "Lines of `lint`"
 LINT = """\
 bad.json: jobs.test.steps.0.run: refused, Expr UnclosedTemplate at 13: the `${{` there has no `}}`: close it
 bad.json: jobs.test.need: `need` is not known and does nothing; did you mean `needs`?
@@ -21,18 +21,26 @@ bad.json: jobs.test.need: `need` is not known and does nothing; did you mean `ne
 
 
 def section(title: str) -> str:
-    """A part of docs/FORMATS.md, from its title to the next of the same or a higher level."""
-    text = (TOP / "docs" / "FORMATS.md").read_text(encoding="utf-8")
+    """A part of docs/REFERENCE.md, from its title to the next of the same or a higher level."""
+    text = (TOP / "docs" / "REFERENCE.md").read_text(encoding="utf-8")
     start = text.index(f"{title}\n")
     level = title.split(" ")[0]
     end = re.search(rf"^#{{1,{len(level)}}} ", text[start + len(title):], re.MULTILINE)
     return text[start:start + len(title) + end.start()] if end else text[start:]
 
 
-def names_of_row(row: str) -> list[str]:
-    """The names of faults that the first cell of a row has, and those after `NAME is` in the last."""
-    names = re.findall(r"NAME is (.*?)(?: \||, of contexts)", row)
-    return re.findall(r"`(\w+)`", names[0]) if names else []
+def names_of_rows(text: str) -> list[str]:
+    """The names in the first cells of rows that have nothing else there."""
+    rows = re.findall(r"^((?:`\w+`(?:, )?)+) \|", text, re.MULTILINE)
+    return [name for row in rows for name in re.findall(r"`(\w+)`", row)]
+
+
+def names_of_planning() -> tuple[list[str], list[str], list[str]]:
+    """The errors of planning: those without more, those inside `Matrix`, and those inside `Expr`."""
+    plan, matrix = section("### Errors of planning").split("inside `Matrix`")
+    matrix, expression = matrix.split("inside `Expr`")
+    own = set(names_of_rows(plan)) | set(re.findall(r"`(NoWorkflow|UnknownJob)`", plan))
+    return sorted(own - {"Expr"}), names_of_rows(matrix), names_of_rows(expression)
 
 
 class Explain(unittest.TestCase):
@@ -60,21 +68,18 @@ class Explain(unittest.TestCase):
         os.environ["ACTRUN_PROGRAM"] = str(place)
 
     def test_every_line_of_the_table_has_an_explanation(self) -> None:
-        rows = [row for row in section("## Fault lines and exit statuses").splitlines() if row.startswith("| `actrun: ")]
-        self.assertEqual(len(rows), 14)
-        self.assertEqual({re.match(r"\| `actrun: (\w+)", row)[1] for row in rows},
+        text = section("## Error lines and exit statuses")
+        self.assertEqual(set(re.findall(r"^\d \|`actrun: (\w+)", text, re.MULTILINE)) | {"value"},
                          {"load", "line", "flow", "plan", "expr", "value", "why", "pool", "words", "io", "memory"})
         lines = ["load NotJson", "load Version", "load NotPlan", "line 3 NotEntry", "why NoSuch", "pool Workers", "words", "io", "memory"]
-        lines += [f"line 3 {name}" for row in rows if "`actrun: line N NAME`" in row for name in names_of_row(row)]
-        lines += [f"flow f.json {name}" for row in rows if "`actrun: flow" in row for name in names_of_row(row)]
-        lines += [f"plan {name}" for row in rows if "`actrun: plan NAME`" in row for name in names_of_row(row)]
-        lines += [f"plan Matrix {name}" for row in rows if "Matrix NAME" in row for name in names_of_row(row)]
-        faults = re.findall(r"^\| ((?:`\w+`(?:, )?)+) \| ", section("## Expressions"), re.MULTILINE)
-        names = [name for row in faults for name in re.findall(r"`(\w+)`", row)]
-        read = names[:names.index("NotWhole")]
-        templates = re.findall(r"^\| `(UnclosedTemplate|StatusHere)` \|", section("### Faults of planning"), re.MULTILINE)
+        rejections = set(re.findall(r"\(`(\w+)`\)", section("## Events").partition("###")[0]))
+        flows, (plans, matrices, templates) = names_of_rows(section("### Errors of workflows")), names_of_planning()
+        names = names_of_rows(section("## Expressions"))
+        read, values = names[:names.index("NotWhole")], names[names.index("NotWhole"):]
+        lines += [f"line 3 {name}" for name in rejections] + [f"flow f.json {name}" for name in flows]
+        lines += [f"plan {name}" for name in plans] + [f"plan Matrix {name}" for name in matrices]
         lines += [f"plan Expr {name} at 0" for name in read + templates] + [f"expr {name} at 0" for name in read]
-        lines += [f"value {name}" for name in names[len(read):]]
+        lines += [f"value {name}" for name in values]
         self.assertEqual(len(lines), 9 + 9 + 7 + 5 + 3 + 9 + 2 + 9 + 5)
         for line in lines:
             words = explain(f"actrun: {line}\n", "plan", ["f.json"])
