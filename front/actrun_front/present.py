@@ -18,6 +18,7 @@ COLOURS = {"success": "32", "failure": "31", "cancelled": "33", "skipped": "90",
            "warning": "33"}
 SIGNS = {"success": ("✓", "ok"), "failure": ("✗", "FAILED"), "cancelled": ("⊘", "CANCELLED"), "skipped": ("-", "skipped"),
          "stalled": ("✗", "STALLED")}
+MATRIX = re.compile(r"\$\{\{\s*matrix\.([\w-]+)\s*\}\}")
 RUN_LINE = re.compile(r"run (\d+) (success|failure|cancelled|skipped|stalled)")
 WHY_LINE = re.compile(r"( *)(job|leg|step) (\d+) \(")
 
@@ -34,8 +35,13 @@ class Leg:
     @property
     def name(self) -> str:
         """The job's name, with the values of the matrix behind it."""
+        name = self.filled(self.job["name"])
         words = [str(value) if isinstance(value, (str, int)) else "..." for value in self.values.values()]
-        return one_line(self.job["name"] + (f" ({', '.join(words)})" if words else ""))
+        return one_line(name if name != self.job["name"] and "${{" not in name or not words else f"{name} ({', '.join(words)})")
+
+    def filled(self, text: str) -> str:
+        """A name with the values of the matrix that it mentions."""
+        return MATRIX.sub(lambda found: str(self.values.get(found[1], found[0])), text)
 
 
 def legs_of(plan: dict[str, Any]) -> list[Leg]:
@@ -127,7 +133,7 @@ class Board:
     def title(self, leg: int, step: int) -> str:
         """Leg and step in words."""
         part = self.legs[leg]
-        return f"{part.name}: {step_name(part.job['steps'][step])}"
+        return f"{part.name}: {part.filled(step_name(part.job['steps'][step]))}"
 
     def take(self, progress: Progress) -> None:
         """Shows one line."""
@@ -200,7 +206,7 @@ def tree(plan: dict[str, Any], files: list[str], stands: dict[str, str]) -> Iter
                 yield from (f"    leg {leg.number}: {leg.name}" for leg in own)
             for place, step in enumerate(job["steps"]):
                 work = step["work"]
-                uses = f" [{work['uses']}: {stands.get(work['uses'], 'no stub')}]" if work["kind"] == "uses" else ""
+                uses = f" [{work['uses'] + ': ' if step['name'] else ''}{stands[work['uses']]}]" if work["kind"] == "uses" else ""
                 when = f", if {one_line(step['condition'])}" if step["condition"] else ""
                 yield f"    {place} {step_name(step)}{uses}{when}"
 

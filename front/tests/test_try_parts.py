@@ -293,6 +293,8 @@ class Shown(unittest.TestCase):
         job = {"number": 1, "id": "test", "name": "Tests", "legs": [{}], "steps": []}
         legs = legs_of({"runs": [{"jobs": [{**job, "number": 0, "legs": [{"v": 1}]}]}, {"jobs": [job]}]})
         self.assertEqual([leg.name for leg in legs], ["Tests (1)", "Tests"])
+        named = legs_of({"runs": [{"jobs": [{**job, "name": name, "legs": [{"v": 1}]} for name in ("On ${{ matrix.v }}", "${{ matrix.w }}")]}]})
+        self.assertEqual([leg.name for leg in named], ["On 1", "${{ matrix.w }} (1)"])
         lines = ["run 1 (CI) failed at line 3", "  job 1 (Tests) failed", "    leg 1 (Tests) ended failure at line 2",
                  "      step 0 (x) failed at line 1: the program ended with 1", "job 0 (Tests) (above)"]
         found = list(placed(lines, {0: job, 1: job}, legs, lambda run, name, step: f"{run} {name} {step}"))
