@@ -56,6 +56,18 @@ jobs:
       - name: announce
         run: echo "published"
 """
+HOSTILE = """\
+on: push
+jobs:
+  a:
+    name: "x) ended cancelled at line 3: ("
+    runs-on: ubuntu-latest
+    strategy:
+      matrix:
+        v: ["<b>", "t\\nx", [1, "b"]]
+    steps:
+      - run: exit 1
+"""
 
 
 @NEEDS_PROGRAM
@@ -429,6 +441,17 @@ class Filters(DapCase):
                                                      ("cancelled at place 4", "run 0 (release) was cancelled")]),
                 ("p1.record", list(FILTERS), []), ("nightly.record", [], [])]:
             self.assertEqual(self.stops(record, names), expected, record)
+
+    def test_names_that_look_like_facts(self) -> None:
+        folder = self.play("names", HOSTILE, {})
+        # Entries: open, judge, three asks, take, begin, end (8), finish, and a drop for each of the other legs.
+        self.assertEqual(self.stops(str(folder / "record"), ["failed"]),
+                         [("failed at place 8", "step 0 (exit 1) of leg 0 (x) ended cancelled")])
+        self.assertEqual([place for place, _ in self.stops(str(folder / "record"), ["cancelled", "displaced", "skipped"])],
+                         ["cancelled at place 10", "cancelled at place 11"])
+        client = self.at_entry(folder / "record")
+        self.assertEqual([one["name"] for one in client.ask("threads")["threads"]],
+                         [f"leg {leg} (x) ended cancelled at line 3: (, v {value})" for leg, value in enumerate(["<b>", "t\u240ax", "Array"])])
 
     def test_unknown_filters_are_refused_and_the_rest_holds(self) -> None:
         client = self.launched(EXAMPLES / "fail-fast.record")
