@@ -85,7 +85,7 @@ def restore(place: pathlib.Path, paths: list[str]) -> None:
         if not (place / f"{base}.tar").exists():
             continue
         with tarfile.open(place / f"{base}.tar") as archive:
-            archive.extraction_filter = staticmethod(lambda member, _: member)  # `belongs` has judged it
+            archive.extraction_filter = lambda member, _: member  # `belongs` has judged it
             for member in archive:
                 if belongs(member, folder, patterns):
                     archive.extract(member, folder)
