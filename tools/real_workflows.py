@@ -43,11 +43,12 @@ SOURCES = "deb-src [signed-by=/usr/share/keyrings/debian-archive-keyring.gpg] ht
 
 @dataclass(frozen=True)
 class Source:
-    """A source package, and the jobs of its workflows that are executed: file -> job -> exit status of `try`."""
+    """A source package, the jobs of its workflows that are executed (file -> job -> exit status of `try`), and its repository."""
 
     package: str
     licence: str
     jobs: dict[str, dict[str, int]] = field(default_factory=dict)
+    repository: str = ""  # the name where it is not that of the package
 
 
 LIST = [
@@ -62,7 +63,7 @@ LIST = [
     Source("htop", "GPL-2.0-or-later"),
     Source("jansson", "MIT", {"tests.yml": {"cmake": 0}}),
     Source("libgit2", "GPL-2.0 with linking exception"),
-    Source("libuv1", "MIT", {"CI-sample.yml": {"build": 0}}),
+    Source("libuv1", "MIT", {"CI-sample.yml": {"build": 0}}, "libuv"),
     Source("libzstd", "BSD-3-Clause or GPL-2.0", {"dev-short-tests.yml": {
         "linux-kernel": 0, "build-c89": 0, "cpp-gnu90-c99-compatibility": 0, "implicit-fall-through": 0}}),
     Source("lz4", "BSD-2-Clause and GPL-2.0", {"ci.yml": {
@@ -107,13 +108,13 @@ def archive(cache: pathlib.Path, package: str) -> str | None:
     return found[-1] if found else None
 
 
-def unpack(cache: pathlib.Path, package: str) -> pathlib.Path | None:
+def unpack(cache: pathlib.Path, source: Source) -> pathlib.Path | None:
     """The package's tree as a git repository with one commit; None where its archive could not be fetched."""
-    tree, source = cache / "trees" / package, archive(cache, package)
-    if (tree / ".git").is_dir() or source is None:
-        return tree if source else None
+    tree, packed = cache / "trees" / (source.repository or source.package), archive(cache, source.package)
+    if (tree / ".git").is_dir() or packed is None:
+        return tree if packed else None
     tree.mkdir(parents=True, exist_ok=True)
-    subprocess.run(["tar", "xf", source, "-C", tree, "--strip-components=1"], check=True)
+    subprocess.run(["tar", "xf", packed, "-C", tree, "--strip-components=1"], check=True)
     for words in (["init", "-q", "-b", "main"], ["add", "-A", "-f"],
                   ["-c", "user.name=nobody", "-c", "user.email=nobody@localhost", "commit", "-q", "-m", "the source"]):
         subprocess.run(["git", *words], cwd=tree, check=True, stdout=subprocess.DEVNULL, stderr=subprocess.DEVNULL)
@@ -174,9 +175,10 @@ def main() -> int:
     options = parser.parse_args()
     chosen = [source for source in LIST if not options.packages or source.package in options.packages]
     fetch(options.cache, [source.package for source in chosen])
+    subprocess.run([str(TOP / "actrun"), "eval", "1"], stdout=subprocess.DEVNULL, check=True)  # builds the program where it must
     planned, right = [], []
     for source in chosen:
-        tree = unpack(options.cache, source.package)
+        tree = unpack(options.cache, source)
         if tree is None:
             print(f"{source.package}: its source could not be fetched")
             continue
