@@ -52,6 +52,8 @@ def attempt(arguments: list[str], screen: Screen) -> int:
     chosen = words.complete(line, top)
     flows = read_flows(workflow_files(chosen.workflows, [here, start, top], top), top, screen)
     facts = read_facts(top, whole is not None, whole is not None and whole.resolve() != top.resolve())
+    if chosen.in_place and not os.fsencode(top).decode("utf-8", "replace") == str(top):
+        raise Problem(f"--in-place {top}: the program takes names in UTF-8 alone: leave --in-place out")
     event = chosen.event or "push"
     look = bool(chosen.list or chosen.dryrun or chosen.graph)
     rooms.cache_root().mkdir(mode=0o700, parents=True, exist_ok=True)

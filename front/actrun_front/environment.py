@@ -9,7 +9,7 @@ from dataclasses import dataclass
 from pathlib import Path
 from typing import Any, Iterable, Mapping
 
-from .expressions import Rules, has_expression, rewrite, split
+from .expressions import Access, Rules, has_expression, rewrite, split
 from .tree import Room
 
 # the first words of a script for sh, which has no BASH_ENV
@@ -41,7 +41,9 @@ if [ "${{ACTRUN_STEP-}}" != "$GITHUB_OUTPUT" ]; then
 {jobs}  esac
   RUNNER_WORKSPACE=${{GITHUB_WORKSPACE%/*}}
   if [ ! -d "$GITHUB_WORKSPACE" ]; then
-    {{ mkdir -p "$RUNNER_WORKSPACE" && cp -a --reflink=auto {tree} "$GITHUB_WORKSPACE"; }} || {{ echo "the tree cannot be copied to $GITHUB_WORKSPACE"; exit 1; }}
+    mkdir -p "$RUNNER_WORKSPACE" || exit 1
+    cp -a --reflink=auto {tree} "$GITHUB_WORKSPACE" ||
+      {{ echo "the tree cannot be copied to $GITHUB_WORKSPACE"; exit 1; }}
   fi
   CDPATH= cd -- "$GITHUB_WORKSPACE" || exit 1
   if [ -n "${{ACTRUN_DIRECTORY-}}" ]; then
@@ -123,13 +125,16 @@ def with_own_tree(job: dict[str, Any], room: Room) -> None:
         text = f"{room.play}/legs/{job['number']}-".replace("'", "''").replace("{", "{{").replace("}", "}}")
         return f"format('{text}{{0}}{rest.replace('{', '{{').replace('}', '}}')}', strategy.job-index)"
     literal = re.compile("'" + re.escape(common.replace("'", "''")) + "((?:[^']|'')*)'")
-    rules = Rules({"github": lambda access: (place(f"/{room.name}"), 1) if access.keys[:1] and access.keys[0].lower() == "workspace" else None})
+
+    def workspace(access: Access) -> tuple[str, int] | None:
+        return (place(f"/{room.name}"), 1) if [key.lower() for key in access.keys[:1]] == ["workspace"] else None
+    rules = Rules({"github": workspace})
 
     def template(value: Any) -> Any:
         if not isinstance(value, str) or not ("workspace" in value.lower() or common in value):
             return value
-        parts = (f"${{{{{expression(text)}}}}}" if inside else text.replace(common, f"${{{{ {place('')} }}}}") for inside, text in split(value))
-        return "".join(parts)
+        own = f"${{{{ {place('')} }}}}"
+        return "".join(f"${{{{{expression(text)}}}}}" if inside else text.replace(common, own) for inside, text in split(value))
 
     def expression(text: str) -> str:
         return rewrite(literal.sub(lambda found: place(found[1]), text), rules)
@@ -159,10 +164,10 @@ def variables(room: Room, contexts: Mapping[str, Any], prelude: Path, cache: Pat
     files = room.below("files")
     result.update({
         "CI": "true", "GITHUB_ACTIONS": "true", "GITHUB_EVENT_PATH": str(event_path), "GITHUB_PATH": str(files / "path"),
-        "GITHUB_STEP_SUMMARY": str(files / "summary"), "RUNNER_OS": runner["os"],
-        "RUNNER_ARCH": runner["arch"], "RUNNER_NAME": runner["name"], "RUNNER_ENVIRONMENT": runner["environment"],
-        "RUNNER_TEMP": runner["temp"], "RUNNER_WORKSPACE": os.path.dirname(github["workspace"]), "RUNNER_TOOL_CACHE": runner["tool_cache"], "BASH_ENV": str(prelude),
-        "ACTRUN_PRELUDE": str(prelude), "ACTRUN_CACHE": str(cache), "ACTRUN_ARTIFACTS": str(room.below("artifacts"))})
+        "GITHUB_STEP_SUMMARY": str(files / "summary"), "BASH_ENV": str(prelude), "ACTRUN_PRELUDE": str(prelude),
+        "ACTRUN_CACHE": str(cache), "ACTRUN_ARTIFACTS": str(room.below("artifacts")),
+        "RUNNER_WORKSPACE": os.path.dirname(github["workspace"])})
+    result.update((f"RUNNER_{name.upper()}", runner[name]) for name in ("os", "arch", "name", "environment", "temp", "tool_cache"))
     if runner["debug"]:
         result["RUNNER_DEBUG"] = runner["debug"]
     for name in ("path", "summary"):

@@ -11,6 +11,7 @@ from urllib.parse import urlsplit
 from . import Problem
 
 GITHUB = "github.com"
+OF_HOOKS = ("GIT_DIR", "GIT_WORK_TREE", "GIT_INDEX_FILE", "GIT_COMMON_DIR", "GIT_PREFIX", "GIT_OBJECT_DIRECTORY")
 SCP_FORM = re.compile(r"(?:[^@/\[\]]+@)?(\[[^\]]+\]|[^:/\[\]]{2,}):(?!//)(.*)", re.DOTALL)
 
 
@@ -22,7 +23,9 @@ def git(folder: Path, *words: str) -> str | None:
 
 def ask(folder: Path, *words: str) -> subprocess.CompletedProcess[bytes] | None:
     """The whole answer of git; None where it is not installed."""
-    environment = {**os.environ, "GIT_OPTIONAL_LOCKS": "0", "LC_ALL": "C"}
+    # within a hook of git, variables name the repository of the hook
+    environment = {name: value for name, value in os.environ.items() if name not in OF_HOOKS}
+    environment.update(GIT_OPTIONAL_LOCKS="0", LC_ALL="C")
     try:
         return subprocess.run(["git", "-c", "core.fsmonitor=false", "-C", os.fspath(folder), *words], env=environment,
                               stdin=subprocess.DEVNULL, capture_output=True, check=False)
@@ -34,7 +37,6 @@ def ask(folder: Path, *words: str) -> subprocess.CompletedProcess[bytes] | None:
 class Remote:
     """Where the repository is hosted; every text is empty without a remote."""
 
-    url: str = ""            # without user and password
     server: str = f"https://{GITHUB}"
     owner: str = ""
     name: str = ""
@@ -69,7 +71,6 @@ class Facts:
     default_branch: str = "main"
     remote: Remote = Remote()
     actor: str = ""
-    person: str = ""
     mail: str = ""
 
     @property
@@ -103,7 +104,7 @@ def find_project(start: Path, top: Path) -> Path:
 def read_facts(top: Path, repository: bool, nested: bool = False) -> Facts:
     """The facts of the working tree with that top."""
     login = git(top, "config", "github.user") or os.environ.get("USER") or "user"
-    persons = {"actor": login, "person": git(top, "config", "user.name") or login, "mail": git(top, "config", "user.email") or ""}
+    persons = {"actor": login, "mail": git(top, "config", "user.email") or ""}
     if not repository:
         return Facts(top, **persons)
     branch = git(top, "symbolic-ref", "--quiet", "--short", "HEAD") or ""
@@ -134,11 +135,10 @@ def read_remote(top: Path, branch: str) -> Remote:
 
 
 def parse_remote(url: str) -> Remote:
-    """Host, owner and name of a remote's URL, without user and password. A path of this machine has no owner."""
+    """Host, owner and name of a remote's URL. A path of this machine has no owner."""
     scp = None if "://" in url else SCP_FORM.fullmatch(url)
     if scp:
         host, path, port = scp[1].lower(), scp[2], ""
-        clean = f"{host}:{path}"
     else:
         try:
             parts = urlsplit(url)
@@ -147,11 +147,10 @@ def parse_remote(url: str) -> Remote:
             return Remote()
         if not host or parts.scheme not in ("http", "https", "ssh", "git", "git+ssh"):
             return Remote()
-        clean = f"{parts.scheme}://{host}{port}{path}"
     # an alias of ~/.ssh/config has no dot
     host = GITHUB if "." not in host or host in ("ssh.github.com", "www.github.com") else host
     words = path.strip("/").removesuffix(".git").split("/")
     if len(words) < 2 or not all(words):
-        return Remote(clean)
+        return Remote()
     server = f"https://{host}{port}" if not scp and parts.scheme in ("http", "https") else f"https://{host}"
-    return Remote(clean, server, words[-2], words[-1])
+    return Remote(server, words[-2], words[-1])

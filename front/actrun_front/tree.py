@@ -250,7 +250,7 @@ def config(top: Path) -> str:
         key, _, value = line.partition(" ")
         lines.insert(1, f'\t{key.removeprefix("core.")} = "{escaped(value)}"')
     for name in (git(top, "remote") or "").splitlines():
-        url = re.sub(r"^([a-z+]+://)[^/@]*@", r"\1", git(top, "config", f"remote.{name}.url") or "")
+        url = re.sub(r"^([a-z+]+://)[^/]*@", r"\1", git(top, "config", f"remote.{name}.url") or "")
         fetch = (git(top, "config", "--get-all", f"remote.{name}.fetch") or "").splitlines()
         lines += [f'[remote "{escaped(name)}"]', f'\turl = "{escaped(url)}"', *(f'\tfetch = "{escaped(text)}"' for text in fetch)]
     return "".join(line + "\n" for line in lines)

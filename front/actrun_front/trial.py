@@ -40,6 +40,12 @@ def python() -> str:
     return system if os.access(system, os.X_OK) else sys.executable
 
 
+def own_bash_env() -> str:
+    """The caller's own BASH_ENV, unless that is the prelude of a play in whose step this one is executed."""
+    own = os.environ.get("BASH_ENV", "")
+    return os.path.abspath(own) if os.path.isfile(own) and own != os.environ.get("ACTRUN_PRELUDE") else ""
+
+
 def texts_of(value: Any) -> Iterable[str]:
     """All texts inside a value."""
     if isinstance(value, str):
@@ -118,7 +124,7 @@ class Trial:
         prelude = write_prelude(self.room, jobs, mark)
         return {**passed(os.environ),
                 **variables(self.room, self.flows[0].contexts, prelude, self.cache(), jobs[0].event_path),
-                "ACTRUN_PROGRAM": program(), "ACTRUN_BASH_ENV": os.environ.get("BASH_ENV", ""), **self.play.options.variables}
+                "ACTRUN_PROGRAM": program(), "ACTRUN_BASH_ENV": own_bash_env(), **self.play.options.variables}
 
     def cache(self) -> Path:
         """The folder of actions/cache for this repository."""
@@ -151,9 +157,8 @@ class Trial:
         """What the sandbox of this play shows."""
         top, in_place = self.play.facts.top, self.play.options.in_place
         readable = [Path(program()), FRONT, *stubs.binds]
-        own = os.environ.get("BASH_ENV", "")
-        if own and os.path.isfile(own):
-            readable.append(Path(own).absolute())
+        if own_bash_env():
+            readable.append(Path(own_bash_env()))
         writable = [top] if in_place else []
         common = git(top, "rev-parse", "--path-format=absolute", "--git-common-dir") if in_place else None
         if common:

@@ -128,6 +128,13 @@ class Steps(TryCase):
             self.assertIn(f"file left-{word}  M file\n?? left-{word}\n", done.stdout)
         self.assertEqual(list((self.work() / "play" / "legs").iterdir()), [])
 
+    def test_a_play_within_a_step(self) -> None:
+        self.write("inner/.github/workflows/ci.yml", "on: push\njobs:\n  in:\n    runs-on: ubuntu-latest\n    steps:\n      - run: echo deep\n")
+        self.workflow(f"- run: /usr/bin/python3 '{FRONT}' try -C inner --no-sandbox")
+        done = self.attempt()
+        self.assert_status(done, 0)
+        self.assertIn("--- in: echo deep\ndeep\n", done.stdout)
+
     def test_working_directory_that_is_not_there(self) -> None:
         self.workflow("- run: echo unseen\n  working-directory: nowhere")
         done = self.attempt()
