@@ -35,7 +35,7 @@ def main(arguments: list[str]) -> int:
         return 3
     except OSError as error:
         name = f"{os.fsdecode(error.filename)}: " if error.filename else ""
-        more = ": make room, or name another place by XDG_CACHE_HOME or --keep DIR" if error.errno == errno.ENOSPC else ""
+        more = ": make room there, or name another place by the variable XDG_CACHE_HOME" if error.errno == errno.ENOSPC else ""
         screen.tell(f"actrun: {name}{error.strerror}{more}", "failure")
         return 3
 
@@ -56,8 +56,7 @@ def attempt(arguments: list[str], screen: Screen) -> int:
         raise Problem(f"--in-place {top}: the program takes names in UTF-8 alone: leave --in-place out")
     event = chosen.event or "push"
     look = bool(chosen.list or chosen.dryrun or chosen.graph)
-    rooms.cache_root().mkdir(mode=0o700, parents=True, exist_ok=True)
-    work = rooms.cache_root() / "work"
+    work = rooms.work_folder()
     room = rooms.make_room(work, facts.remote.name or top.name, here / chosen.keep if chosen.keep and not look else None)
     try:
         play = new_play(event, facts, chosen, room, not look)

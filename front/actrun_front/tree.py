@@ -25,6 +25,16 @@ def cache_root() -> Path:
     return Path(os.environ.get("XDG_CACHE_HOME") or Path.home() / ".cache").absolute() / "actrun"
 
 
+def work_folder() -> Path:
+    """The folder of the work folders, in a cache that nobody else can read."""
+    try:
+        cache_root().mkdir(mode=0o700, parents=True, exist_ok=True)
+        (cache_root() / "work").mkdir(exist_ok=True)
+    except OSError as error:
+        raise no_room(cache_root(), error.strerror) from None
+    return cache_root() / "work"
+
+
 @dataclass
 class Room:
     """The folder of one play. Steps see `play` alone; what may hold secrets is in `private`."""
@@ -89,8 +99,8 @@ def short_name(name: str) -> str:
 
 def no_room(folder: Path, why: str | None) -> Problem:
     """The problem of a work folder that cannot be written."""
-    return Problem(f"the work folder {folder} cannot be written ({why}): make room there, or name another place by "
-                   "XDG_CACHE_HOME or --keep DIR", 3)
+    return Problem(f"the work folder {folder} cannot be written ({why}): make room there, or name another place by the "
+                   "variable XDG_CACHE_HOME", 3)
 
 
 def clean(parent: Path, kept: int = KEPT) -> None:
