@@ -59,6 +59,8 @@ def read_log(path: pathlib.Path, masks: Masks) -> tuple[str, Masks]:
         lines = path.read_bytes().decode("utf-8").split("\n")
     except UnicodeDecodeError:
         return "(output is not UTF-8)\n", masks
+    except OSError as fault:
+        return f"(the log cannot be read: {fault.strerror})\n", masks
     shown, resume = [], ""
     for line in lines[:-1] if lines[-1] == "" else lines:
         command = None if resume else COMMAND.fullmatch(line)

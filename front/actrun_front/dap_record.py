@@ -2,6 +2,7 @@
 from __future__ import annotations
 
 import bisect
+import contextlib
 import json
 import pathlib
 import re
@@ -126,17 +127,9 @@ class Walker:
         return board
 
     def close(self) -> None:
-        """Ends the program, which ends with its input."""
-        for stream in (self.process.stdin, self.process.stdout, self.process.stderr):
-            try:
-                stream.close()
-            except OSError:
-                pass
-        try:
-            self.process.wait(timeout=1)
-        except subprocess.TimeoutExpired:
+        """Ends the program."""
+        with contextlib.suppress(OSError), self.process:
             self.process.kill()
-            self.process.wait()
 
 
 @dataclass(frozen=True)
