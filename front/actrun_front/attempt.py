@@ -24,20 +24,22 @@ def main(arguments: list[str]) -> int:
     try:
         return attempt(arguments, screen)
     except (Problem, StubError) as problem:
-        screen.tell(f"actrun: {problem}", "failure")
-        return problem.status if isinstance(problem, Problem) else 2
+        text, status = str(problem), problem.status if isinstance(problem, Problem) else 2
     except KeyboardInterrupt:
-        screen.tell("actrun: stopped by Ctrl-C")
-        return INTERRUPTED
+        text, status = "stopped by Ctrl-C", INTERRUPTED
     except BrokenPipeError:
-        os.dup2(os.open(os.devnull, os.O_WRONLY), sys.stdout.fileno())
-        print("actrun: standard output was closed before the end", file=sys.stderr)
-        return 3
+        text, status = "standard output was closed before the end", 3
     except OSError as error:
-        name = f"{os.fsdecode(error.filename)}: " if error.filename else ""
         more = ": make room there, or name another place by the variable XDG_CACHE_HOME" if error.errno == errno.ENOSPC else ""
-        screen.tell(f"actrun: {name}{error.strerror}{more}", "failure")
-        return 3
+        text, status = f"{os.fsdecode(error.filename) + ': ' if error.filename else ''}{error.strerror}{more}", 3
+    for stream in (sys.stderr, sys.stdout):
+        try:
+            if stream is sys.stderr:
+                screen.tell(f"actrun: {text}", "failure")
+            stream.flush()
+        except OSError:
+            os.dup2(os.open(os.devnull, os.O_WRONLY), stream.fileno())
+    return status
 
 
 def attempt(arguments: list[str], screen: Screen) -> int:

@@ -113,9 +113,12 @@ class Execution:
                 signal.signal(number, handler)
 
     def read_progress(self) -> None:
-        """Hands on each line of standard error."""
+        """Hands on each line of standard error, and reads on where it cannot be shown: the program must not wait."""
         for line in self.child.stderr:
-            self.progress(line.decode("utf-8", "replace").removesuffix("\n"))
+            try:
+                self.progress(line.decode("utf-8", "replace").removesuffix("\n"))
+            except OSError:
+                continue
 
     def interrupt(self, *_: Any) -> None:
         """What Ctrl-C does."""

@@ -488,10 +488,12 @@ class BadInput(TryCase):
         os.close(reader)
         done = subprocess.run(self.command(), cwd=self.project, env=self.environment, stdout=writer, stderr=subprocess.PIPE,
                               check=False, timeout=60)
-        os.close(writer)
         self.assertEqual(done.returncode, 3)
         self.assertIn(b"standard output was closed", done.stderr)
         self.assertNotIn(b"Traceback", done.stderr)
+        done = subprocess.run(self.command(), cwd=self.project, env=self.environment, stdout=writer, stderr=writer, check=False)
+        os.close(writer)
+        self.assertEqual(done.returncode, 3)
 
 
 @NEEDS_PROGRAM
