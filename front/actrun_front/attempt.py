@@ -110,7 +110,7 @@ def show_graph(plan: dict[str, Any], room: rooms.Room, screen: Screen) -> int:
 
 
 def show_tree(plan: dict[str, Any], flows: list[Flow], play: Play, room: rooms.Room, screen: Screen) -> int:
-    """The tree of the plan, with what stands for its actions."""
+    """The tree of the plan, with the stubs of its actions."""
     stubs = stubs_of(plan, play, room)
     stands = {**dict.fromkeys(stubs.programs, "stub"), **dict.fromkeys(stubs.named, "named program"),
               **dict.fromkeys(stubs.missing, "no stub, its step fails"), **dict.fromkeys(stubs.lenient, "no stub, its step is skipped")}

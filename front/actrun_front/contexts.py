@@ -35,7 +35,7 @@ class Play:
 
 
 def triggers(value: Any) -> dict[str, Any]:
-    """The events of a workflow's value, each with what stands below it."""
+    """The events of a workflow's value, each with what is below it."""
     events = value.get("on", value.get("true")) if isinstance(value, dict) else None
     if isinstance(events, str):
         return {events: None}
@@ -163,7 +163,7 @@ def typed(name: str, kind: Any, value: Any, workflow: str) -> Any:
 def plain(value: Any, place: str, depth: int = DEEPEST) -> Any:
     """A payload as a plan can hold it: fractions and numbers that are too great become texts."""
     if depth < 0:
-        raise Problem(f"--eventpath: what stands at {place} nests too deep: 100 levels are the most")
+        raise Problem(f"--eventpath: the value at {place} nests too deep: 100 levels are the most")
     if isinstance(value, dict):
         return {key: plain(part, f"{place}.{key}", depth - 1) for key, part in value.items()}
     if isinstance(value, list):

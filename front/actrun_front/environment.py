@@ -62,7 +62,7 @@ if [ -n "${{BASH_VERSION-}}" ] && [ -r "${{ACTRUN_BASH_ENV-}}" ]; then . "$ACTRU
 
 @dataclass(frozen=True)
 class JobPart:
-    """One job of the plan, as the prelude tells its steps of it."""
+    """One job of the plan, as the prelude describes it to its steps."""
 
     legs: range
     workspace: str               # with own_trees the start of it, before the leg's place in its job
@@ -77,7 +77,7 @@ def marker(secret_texts: Iterable[str]) -> str:
 
 
 def write_prelude(room: Room, jobs: list[JobPart], mark: str) -> Path:
-    """Writes the prelude of a play."""
+    """Writes the prelude of an execution."""
     files = room.below("files")
     cases = []
     for part in jobs:
@@ -181,7 +181,7 @@ def text_of(value: Any) -> str:
 
 
 def write_sudo(folder: Path, root: bool) -> None:
-    """A program `sudo` for the sandbox: there root executes the command, and anybody else is told what to do."""
+    """A program `sudo` for the sandbox: there root executes the command, and anybody else reads what to do."""
     hint = "sudo: the sandbox shows the system read-only: `actrun try --no-sandbox` lets steps change this machine"
     if root:
         text = SUDO_OF_ROOT.format(hint=hint)

@@ -1,4 +1,4 @@
-"""Executes a plan by `actrun run`, hands its lines on as they come, and ends the play at Ctrl-C."""
+"""Executes a plan by `actrun run`, hands its lines on as they come, and ends the steps at Ctrl-C."""
 from __future__ import annotations
 
 import os

@@ -45,7 +45,7 @@ def parser() -> Parser:
     result = Parser(prog="actrun try", allow_abbrev=False, formatter_class=argparse.RawDescriptionHelpFormatter, description=(
         "Finds the workflows of the repository, plans them for EVENT, executes them on a copy of\n"
         "the working tree in a sandbox, and explains what did not succeed."), epilog=(
-        f"Options can also stand in {RC_NAME} of the repository or of ~/.config/actrun/, one a line;\n"
+        f"Options can also be in {RC_NAME} of the repository or of ~/.config/actrun/, one a line;\n"
         "that of the repository cannot hold secrets or lift the sandbox. Exit status: 0 all runs\n"
         "succeeded, 1 a run failed or was cancelled, 2 an option or a file is wrong, 3 the system\n"
         "failed, 4 a run is not closed, 130 Ctrl-C."))
@@ -125,7 +125,7 @@ def of_repository(top: Path) -> argparse.Namespace | None:
     options = parse(rc_words(file), top, f"{file}: ")
     for name in NOT_IN_REPOSITORY:
         if getattr(options, name):
-            raise Problem(f"{file}: --{name.replace('_', '-')} cannot stand in a file of the repository, whose author would "
+            raise Problem(f"{file}: --{name.replace('_', '-')} cannot be in a file of the repository, whose author would "
                           "decide it for its reader: write it on the command line or into ~/.config/actrun/" + RC_NAME)
     for name in FILES:
         path = getattr(options, name)

@@ -114,7 +114,7 @@ def repository_key(top: Path) -> str:
 
 
 def next_number(top: Path) -> int:
-    """The number of this play of the repository, from 1."""
+    """The number of this execution in the repository, from 1."""
     folder = cache_root() / "numbers"
     folder.mkdir(parents=True, exist_ok=True)
     with open(folder / repository_key(top), "a+", encoding="ascii", errors="replace") as file:

@@ -1,4 +1,4 @@
-"""Shows a play to a person: live lines, the output of steps in groups, trees, tables and results."""
+"""Shows an execution to a person: live lines, the output of steps in groups, trees, tables and results."""
 from __future__ import annotations
 
 import os
@@ -192,7 +192,7 @@ class Groups:
 
 
 def tree(plan: dict[str, Any], files: list[str], stands: dict[str, str]) -> Iterable[str]:
-    """Runs, jobs, legs and steps of a plan; `stands` has what stands for each action."""
+    """Runs, jobs, legs and steps of a plan; `stands` has the stub of each action."""
     legs = legs_of(plan)
     for number, run in enumerate(plan["runs"]):
         yield f"{one_line(run['flow'])} ({files[number]})"

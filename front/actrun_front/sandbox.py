@@ -1,4 +1,4 @@
-"""The sandbox around a whole play: `bwrap` with a read-only system, an empty home folder and the play's own folders."""
+"""The sandbox around a whole execution: `bwrap` with a read-only system, an empty home folder and the folders of the execution."""
 from __future__ import annotations
 
 import os
@@ -23,7 +23,7 @@ class Sandbox:
 
     room: Room
     home: Path
-    cache: Path                                            # of all plays and of actions/cache: hidden but for `stub_cache`
+    cache: Path                                            # of all executions and of actions/cache: hidden but for `stub_cache`
     stub_cache: Path
     readable: list[Path] = field(default_factory=list)     # wherever they are
     writable: list[Path] = field(default_factory=list)

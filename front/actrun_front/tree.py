@@ -1,4 +1,4 @@
-"""Work folders of plays, and the copy of the working tree in them."""
+"""Work folders of executions, and the copy of the working tree in them."""
 from __future__ import annotations
 
 import fcntl
@@ -37,7 +37,7 @@ def work_folder() -> Path:
 
 @dataclass
 class Room:
-    """The folder of one play. Steps see `play` alone; what may hold secrets is in `private`."""
+    """The folder of one execution. Steps see `play` alone; what may hold secrets is in `private`."""
 
     folder: Path
     name: str            # of the repository
@@ -71,7 +71,7 @@ class Room:
 
 
 def make_room(parent: Path, name: str, keep: Path | None = None) -> Room:
-    """A new folder for one play, which nobody else can read and no other play removes while it is in use."""
+    """A new folder for one execution. Nobody else can read it, and no other execution removes it while it is in use."""
     if keep is not None:
         folder = keep.absolute()
         if folder.exists() and (not folder.is_dir() or any(folder.iterdir())):
@@ -104,7 +104,7 @@ def no_room(folder: Path, why: str | None) -> Problem:
 
 
 def clean(parent: Path, kept: int = KEPT) -> None:
-    """Removes all but the last work folders that no play uses."""
+    """Removes all but the last work folders that no execution uses."""
     folders = sorted((entry for entry in parent.glob("*") if entry.is_dir() and not entry.is_symlink()),
                      key=lambda entry: entry.stat().st_mtime, reverse=True)
     for folder in folders[kept:]:

@@ -41,7 +41,7 @@ def python() -> str:
 
 
 def own_bash_env() -> str:
-    """The caller's own BASH_ENV, unless that is the prelude of a play in whose step this one is executed."""
+    """The caller's own BASH_ENV, unless that is the prelude of another `try`, in whose step this one is executed."""
     own = os.environ.get("BASH_ENV", "")
     return os.path.abspath(own) if os.path.isfile(own) and own != os.environ.get("ACTRUN_PRELUDE") else ""
 
@@ -111,7 +111,7 @@ class Trial:
         self.screen.tell(line)
 
     def environment(self, mark: str) -> dict[str, str]:
-        """The variables of the play."""
+        """The variables of the steps."""
         files, first, jobs = self.room.below("files"), 0, []
         for run, flow in zip(self.plan["runs"], self.flows):
             event = files / f"event-{len(jobs)}.json"
@@ -154,7 +154,7 @@ class Trial:
         return result
 
     def sandbox(self, stubs: Stubs) -> Sandbox:
-        """What the sandbox of this play shows."""
+        """What the sandbox shows."""
         top, in_place = self.play.facts.top, self.play.options.in_place
         readable = [Path(program()), FRONT, *stubs.binds]
         if own_bash_env():
