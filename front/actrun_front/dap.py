@@ -159,9 +159,7 @@ class Session:
         answer = {"line": meant - 1 + self.base, "verified": bool(things)}
         if not things:
             return {**answer, "message": "the record's plan has nothing of this line"}
-        places = [self.record.judged.get(job, 0) if step < 0 else places[step] for job, step in things
-                  for places in (self.record.begins[leg] for leg in self.record.legs_of[job]) if step < len(places)]
-        return {**answer, "id": self.add_stop(file, places)}
+        return {**answer, "id": self.add_stop(file, self.record.places_of(things))}
 
     def things(self, file: str, line: int) -> list[tuple[int, int]]:
         """The jobs (with -1) and steps of the plan that a line of a file stands for."""
@@ -169,7 +167,7 @@ class Session:
 
     def add_stop(self, owner: str, places: list[int]) -> int:
         self.count += 1
-        self.stops[owner].append((self.count, [place for place in places if place]))
+        self.stops[owner].append((self.count, places))
         return self.count
 
     def on_setExceptionBreakpoints(self, given: dict) -> dict:
@@ -235,7 +233,7 @@ class Session:
             return
         target = min(ahead) if forward else max(ahead)
         hit = mishaps.get(target)
-        leg = self.record.focus({hit.words[0].replace("step", "leg"): int(hit.words[1])}) if hit else None
+        leg = self.record.focus(hit.about()) if hit else None
         self.move(f"goto {target}", "exception" if hit else "breakpoint", leg=leg, hits=found.get(target), hit=hit)
 
     def on_continue(self, given: dict) -> dict:
@@ -277,14 +275,9 @@ class Session:
         """The places where the steps of a line begin and end, and where its job is judged."""
         file = os.path.realpath(text(given.get("source") or {}, "path"))
         meant = self.flows[file].meant(given["line"] + 1 - self.base) if file in self.flows else None
-        places = set()
-        for job, step in self.things(file, meant) if meant else []:
-            if step < 0:
-                places.add(self.record.judged.get(job, 0))
-            for leg in self.record.legs_of[job] if step >= 0 else []:
-                places |= {*self.record.begins[leg][step:step + 1], *self.record.done[leg][step:step + 1]}
+        places = self.record.places_of(self.things(file, meant) if meant else [], ends=True)
         return {"targets": [{"id": place, "label": self.masks.hide(f"place {place}: {self.record.happened(place)}"), "line": given["line"]}
-                            for place in sorted(places - {0})]}
+                            for place in places]}
 
     def on_goto(self, given: dict) -> dict:
         place = given.get("targetId")

@@ -140,6 +140,10 @@ class Mishap:
     fact: str
     words: tuple[str, ...]
 
+    def about(self) -> dict[str, int]:
+        """The run, job or leg, as entries name it."""
+        return {"leg" if self.words[0] == "step" else self.words[0]: int(self.words[1])}
+
 
 class Record:
     """The plan and the entries of a record that the program accepted. Places count from 0, as those of `debug`."""
@@ -170,6 +174,14 @@ class Record:
     def begun(self, leg: int, place: int) -> int:
         """How many steps of a leg have begun at a place."""
         return bisect.bisect_right(self.begins[leg], place)
+
+    def places_of(self, things: list[tuple[int, int]], ends: bool = False) -> list[int]:
+        """Where jobs (those with -1) are judged and steps of jobs begin in each leg, and with `ends` where the steps end."""
+        found = {self.judged[job] for job, step in things if step < 0 and job in self.judged}
+        for job, step in things:
+            for leg in self.legs_of[job] if step >= 0 else []:
+                found.update(self.begins[leg][step:step + 1] + (self.done[leg][step:step + 1] if ends else []))
+        return sorted(found)
 
     def focus(self, about: dict) -> int | None:
         """The leg that an entry is about; of a job or a run the first one."""
