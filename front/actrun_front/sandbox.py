@@ -11,6 +11,8 @@ from .tree import Room
 
 # root keeps what changes files and persons inside, and nothing by which it could leave
 ROOT_KEEPS = ("CHOWN", "DAC_OVERRIDE", "FOWNER", "FSETID", "KILL", "SETGID", "SETUID", "SETPCAP", "NET_BIND_SERVICE", "SYS_CHROOT")
+# the home folder of steps, as on GitHub; in that of the caller are only the folders of the execution
+HOME = Path("/home/runner")
 # parts of /proc in which root could change the machine
 PROC = ("sys", "sysrq-trigger", "irq", "bus", "fs", "scsi", "acpi", "mtrr")
 # of /run, which has the sockets of servers outside, only what names are looked up by and some systems' programs
@@ -42,6 +44,8 @@ class Sandbox:
         for folder in sorted(hidden, key=lambda path: len(path.parts)):
             if folder.is_dir() and folder != Path("/") or folder == self.home != Path("/"):
                 result += ["--tmpfs", os.fspath(folder)]
+        if has_home():
+            result += ["--dir", os.fspath(HOME)]
         names = os.path.realpath("/etc/resolv.conf")
         for name in [*RUN, *([names] if names.startswith("/run/") else [])]:
             result += ["--ro-bind-try", name, name]
@@ -55,6 +59,11 @@ class Sandbox:
         for path in [*self.writable, self.stub_cache, self.room.play, self.room.private / "record"]:
             result += ["--bind", os.fspath(path), os.fspath(path)]
         return [*result, "--chdir", os.fspath(self.room.play), "--"]
+
+
+def has_home() -> bool:
+    """Whether the sandbox can have a home folder of its own."""
+    return HOME.parent.is_dir()
 
 
 def why_not(sandbox: Sandbox) -> str | None:

@@ -20,7 +20,7 @@ from .explain import Origin, explain
 from .facts import git
 from .planning import Flow, repository_key, write_private
 from .present import Board, Groups, Screen, legs_of, mask, one_line, placed, summaries
-from .sandbox import Sandbox, why_not
+from .sandbox import HOME, Sandbox, has_home, why_not
 
 FRONT = Path(__file__).resolve().parent.parent
 INTERRUPTED = 130
@@ -147,6 +147,8 @@ class Trial:
                 write_sudo(self.room.below("bin"), os.geteuid() == 0)
                 environment["PATH"] = f"{self.room.below('bin')}:{environment.get('PATH', os.defpath)}"
                 environment.pop("TMPDIR", None)
+                if has_home() and "HOME" not in options.variables:
+                    environment["HOME"] = str(HOME)
                 return [*sandbox.words(), *result]
             self.screen.tell(f"note: steps execute with all your rights: {problem}", "warning")
         if options.offline:

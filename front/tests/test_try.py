@@ -160,7 +160,7 @@ class Steps(TryCase):
                      "GITHUB_REPOSITORY=octo/hello", "GITHUB_REPOSITORY_OWNER=octo", "GITHUB_SERVER_URL=https://github.com",
                      "GITHUB_API_URL=https://api.github.com", "GITHUB_GRAPHQL_URL=https://api.github.com/graphql",
                      "GITHUB_EVENT_NAME=push", "GITHUB_RUN_ATTEMPT=1", "GITHUB_RUN_NUMBER=1", "GITHUB_HEAD_REF=",
-                     "GITHUB_WORKFLOW=.github/workflows/ci.yml", "RUNNER_OS=Linux", "EXTRA=1", "NAMED=yes", f"HOME={self.home}",
+                     "GITHUB_WORKFLOW=.github/workflows/ci.yml", "RUNNER_OS=Linux", "EXTRA=1", "NAMED=yes", "HOME=/home/runner" if sandbox_works() else f"HOME={self.home}",
                      "GITHUB_WORKFLOW_REF=octo/hello/.github/workflows/ci.yml@refs/heads/main"):
             self.assertIn(line, lines)
         self.assertIn('  "ref": "refs/heads/main",', lines)
@@ -296,16 +296,17 @@ class InSandbox(TryCase):
 
     def test_home_is_neither_seen_nor_written(self) -> None:
         (self.home / "private-note").write_text("mine", encoding="utf-8")
-        self.workflow("""
+        self.workflow(f"""
 - run: |
-    echo "seen: $(ls -A "$HOME" | tr '\\n' ' ')"
+    echo "seen: $(ls -A "$HOME"), $(ls -A '{self.home}'), $(ls -A '{self.home}/.cache/actrun' | tr '\\n' ' ')"
     echo x > "$HOME/planted"
-    test ! -e "$HOME/private-note"
+    echo x > '{self.home}/planted'
+    test ! -e '{self.home}/private-note'
     touch /etc/planted && exit 1
     touch /usr/planted && exit 1
     test ! -w /proc/sys/kernel/core_pattern
     test -z "$(find /run -type s ! -path '/run/systemd/resolve/*' ! -path '/run/nscd/*')"
-    test ! -e "$HOME/project"
+    test ! -e '{self.home}/project'
     git log --format=%s
     for folder in $(cat .git/objects/info/alternates); do touch "$folder/planted" && exit 1; done; true
 """)
@@ -313,7 +314,7 @@ class InSandbox(TryCase):
         before = sorted(self.home.rglob("*"))
         done = self.attempt()
         self.assert_status(done, 0)
-        self.assertIn("seen: .cache \n", done.stdout)
+        self.assertIn("seen: , .cache, caches work \n", done.stdout)
         self.assertIn("\nfirst: all\n", done.stdout)
         after = [path for path in sorted(self.home.rglob("*")) if self.home / ".cache" not in (path, *path.parents)]
         self.assertEqual(after, [path for path in before if self.home / ".cache" not in (path, *path.parents)])
