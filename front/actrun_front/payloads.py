@@ -25,11 +25,16 @@ def common(facts: Facts) -> dict[str, Any]:
     return {"repository": repository(facts), "sender": {"login": facts.actor, "type": "User"}}
 
 
+def is_known(event: str) -> bool:
+    """Whether the payload of the event has more than what every payload has."""
+    return event in ("push", "workflow_dispatch", "schedule", "workflow_call") or event.startswith("pull_request")
+
+
 def payload(event: str, facts: Facts, trigger: Any, workflow: str, inputs: dict[str, Any]) -> dict[str, Any]:
     """The payload of `event` for one workflow; `trigger` is what the workflow has at the event's name under `on`."""
     if event == "push":
         return push(facts)
-    if event in ("pull_request", "pull_request_target"):
+    if event.startswith("pull_request"):
         return pull_request(facts)
     if event == "workflow_dispatch":
         texts = {name: value if isinstance(value, str) else str(value).lower() for name, value in inputs.items()}

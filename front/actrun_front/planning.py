@@ -18,6 +18,7 @@ from .execute import Answer, ask
 from .explain import Origin, explain
 from .facts import Facts
 from .lower import Lowered, Refused, Setting, lower
+from .payloads import is_known
 from .present import Screen, one_line
 from .tree import Room, cache_root, short_name
 from .yaml_reader import Document, read_document
@@ -134,6 +135,8 @@ def make_plan(flows: list[Flow], play: Play, room: Room, screen: Screen) -> dict
         filtered = excluded(play.event, triggers(flow.document.value).get(play.event), flow.contexts["github"])
         if filtered:
             screen.tell(f"note: {flow.name}: on GitHub its filter would keep it from this event ({filtered})", "note")
+    if play.event_file is None and not is_known(play.event):
+        screen.tell(f"note: github.event of {play.event} has only repository and sender: --eventpath FILE names a whole payload", "note")
     unknown = set(map(str.lower, play.options.inputs)) - {name.lower() for flow in flows for name in flow.contexts["inputs"]}
     if unknown:
         raise Problem(f"--input {min(unknown)}: no workflow declares this input for the event {play.event}")

@@ -108,7 +108,8 @@ class Trial:
             return
         if line.startswith("actrun: "):
             self.errors.append(line)
-        self.screen.tell(line)
+        command = re.match(r"::(notice|warning|error)::", line)
+        self.screen.tell(f"{command[1]}: {line[command.end():]}" if command else line)
 
     def environment(self, mark: str) -> dict[str, str]:
         """The variables of the steps."""

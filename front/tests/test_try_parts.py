@@ -134,6 +134,12 @@ class Contexts(TryCase):
         self.assertEqual((request["title"], request["body"], request["draft"]), ("second", "with a body", False))
         self.assertEqual((request["head"]["ref"], request["base"]["ref"]), ("feature", "main"))
 
+    def test_other_events(self) -> None:
+        self.git("checkout", "-q", "-b", "feature")
+        for event, ref in (("pull_request_review", "refs/pull/1/merge"), ("issues", "refs/heads/main"), ("workflow_call", "refs/heads/feature")):
+            github = contexts(self.play(event), "ci.yml", {"on": event})["github"]
+            self.assertEqual((github["ref"], github["event"]["repository"]["full_name"]), (ref, "octo/hello"))
+
     def test_event_of_a_file(self) -> None:
         data = {"number": 7, "pull_request": {"head": {"ref": "h"}, "base": {"ref": "b", "sha": "5" * 40}}}
         github = contexts(self.play("pull_request_target", data), "ci.yml", {"on": "pull_request_target"})["github"]
