@@ -2,6 +2,7 @@
 from __future__ import annotations
 
 import argparse
+import json
 import platform
 import re
 from dataclasses import dataclass
@@ -47,7 +48,10 @@ def triggers(value: Any) -> dict[str, Any]:
 def contexts(play: Play, workflow: str, value: dict[str, Any]) -> dict[str, Any]:
     """The contexts of one workflow: `workflow` is its file from the top of the repository."""
     options, trigger = play.options, triggers(value).get(play.event)
-    inputs = read_inputs(trigger, options.inputs, workflow)
+    of_file = (play.event_file or {}).get("inputs")
+    pairs = of_file.items() if isinstance(of_file, dict) else ()
+    given = {name: value if isinstance(value, str) else json.dumps(value) for name, value in pairs}
+    inputs = read_inputs(trigger, {**given, **options.inputs}, workflow)
     event = play.event_file
     if event is None:
         event = payload(play.event, play.facts, trigger, workflow, inputs)

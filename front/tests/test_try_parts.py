@@ -134,6 +134,11 @@ class Contexts(TryCase):
         self.assertEqual((request["title"], request["body"], request["draft"]), ("second", "with a body", False))
         self.assertEqual((request["head"]["ref"], request["base"]["ref"]), ("feature", "main"))
 
+    def test_inputs_of_a_file(self) -> None:
+        trigger = {"on": {"workflow_dispatch": {"inputs": {"dry": {"type": "boolean"}, "word": None, "count": {"type": "number"}}}}}
+        play = self.play("workflow_dispatch", {"inputs": {"dry": True, "word": "file", "count": "4"}}, inputs={"word": "line"})
+        self.assertEqual(contexts(play, "ci.yml", trigger)["inputs"], {"dry": True, "word": "line", "count": 4})
+
     def test_other_events(self) -> None:
         self.git("checkout", "-q", "-b", "feature")
         for event, ref in (("pull_request_review", "refs/pull/1/merge"), ("issues", "refs/heads/main"), ("workflow_call", "refs/heads/feature")):
