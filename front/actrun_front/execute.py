@@ -123,15 +123,20 @@ class Execution:
     def interrupt(self, *_: Any) -> None:
         """What Ctrl-C does."""
         self.interrupts += 1
-        if self.child is None or self.interrupts > 1:
+        if self.child is None:
+            raise KeyboardInterrupt
+        if self.interrupts > 1:
             self.end()
             return
-        self.on_stop()
         self.stopped.touch()
         self.signal_steps(signal.SIGTERM)
         for seconds in (PATIENCE, PATIENCE + 1):
             self.later(seconds, lambda: self.signal_steps(signal.SIGKILL))
         self.later(3 * PATIENCE, self.end)
+        try:
+            self.on_stop()
+        except (OSError, RuntimeError):  # the line was being written to, or nobody reads it
+            pass
 
     def later(self, seconds: float, what: Callable[[], None]) -> None:
         """Does something after a while, unless the front has ended."""
