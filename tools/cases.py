@@ -19,15 +19,18 @@ from pathlib import Path
 
 CRATE = Path(__file__).resolve().parent.parent / "crates/conformance"
 TOLD = re.compile(r"(\d+) cases agree(?:, (\d+) differ)?$")
-SECONDS = 600
+SECONDS = 1800
 
 
 def execute(program: Path, file: str) -> tuple[int, int, str]:
     """How many cases of a file agree and differ, and what the program printed before it counted them."""
     with tempfile.TemporaryDirectory() as folder:
         shutil.copytree(CRATE / "data", folder, dirs_exist_ok=True)
-        ran = subprocess.run([program, file], cwd=folder, stdin=subprocess.DEVNULL, stdout=subprocess.PIPE, stderr=subprocess.STDOUT,
-                             text=True, errors="replace", timeout=SECONDS, check=False)
+        try:
+            ran = subprocess.run([program, file], cwd=folder, stdin=subprocess.DEVNULL, stdout=subprocess.PIPE, stderr=subprocess.STDOUT,
+                                 text=True, errors="replace", timeout=SECONDS, check=False)
+        except subprocess.TimeoutExpired:
+            return 0, 1, f"{file}: no answer came within {SECONDS} s\n"
     *lines, last = ran.stdout.splitlines() or [""]
     counted = TOLD.match(last)
     if counted is None:
