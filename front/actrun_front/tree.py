@@ -164,7 +164,7 @@ def files_of(top: Path, left: list[str], prefix: bytes = b"") -> Iterator[bytes]
                 yield from files_of(Path(os.fsdecode(path)), left, prefix + name + b"/")
         elif name.endswith(b"/"):
             left.append(f"{os.fsdecode(prefix + name)} is a repository of its own that git does not track")
-        elif plain(os.path.dirname(name)) and os.path.lexists(path):
+        elif plain(os.path.dirname(name)) and os.path.lexists(path) and (os.path.islink(path) or not os.path.isdir(path)):
             yield prefix + name
 
 

@@ -205,16 +205,18 @@ class Steps(TryCase):
         self.workflow("""
 - run: |
     test ! -e deleted; test -x run.sh; test -L link; test "$(readlink link)" = run.sh
-    test ! -e ignored; test -f new; test -f $'odd \\n name'; test -f $'b\\xff'
+    test ! -e ignored; test -f new; test -f replaced/inside; test -f $'odd \\n name'; test -f $'b\\xff'
     git status --porcelain
     git log --format=%s
 """)
-        for name in ("deleted", "run.sh"):
+        for name in ("deleted", "run.sh", "replaced"):
             self.write(name, "text\n", 0o755)
         self.write(".gitignore", "ignored\n")
         (self.project / "link").symlink_to("run.sh")
         self.commit()
         (self.project / "deleted").unlink()
+        (self.project / "replaced").unlink()
+        self.write("replaced/inside", "")
         for name in (b"ignored", b"new", b"odd \n name", b"b\xff"):
             Path(os.fsdecode(os.path.join(os.fsencode(self.project), name))).write_text("x", encoding="utf-8")
         done = self.attempt()
