@@ -22,12 +22,13 @@ PROGRAM = os.environ.get("ACTRUN_PROGRAM", "")
 NEEDS_PROGRAM = unittest.skipUnless(PROGRAM, "the variable ACTRUN_PROGRAM names no built program")
 PYTHON = sys.executable if importlib.util.find_spec("ruamel.yaml") else "/usr/bin/python3"
 COMMAND = [PYTHON, "-m", "actrun_front.dap"]
-DEADLINE = 60.0
+DEADLINE = 300.0
 
 
 def surroundings() -> dict[str, str]:
     """The variables of the server."""
-    return {**os.environ, "PYTHONPATH": str(FRONT), "ACTRUN_PROGRAM": PROGRAM}
+    path = os.pathsep.join(filter(None, [str(FRONT), os.environ.get("PYTHONPATH")]))
+    return {**os.environ, "PYTHONPATH": path, "ACTRUN_PROGRAM": PROGRAM}
 
 
 class Client:
@@ -149,7 +150,8 @@ class DapCase(unittest.TestCase):
         (folder / "ci.yml").write_text(workflow, encoding="utf-8")
         for file, value in {"ci.json": read_document(workflow.encode()).value, "contexts": contexts, "stubs": stubs or {}}.items():
             (folder / file).write_text(json.dumps(value), encoding="utf-8")
-        plan = subprocess.run([PROGRAM, "plan", "--event", "push", "--contexts", "contexts", "ci.json"], cwd=folder, check=True, capture_output=True)
+        words = [PROGRAM, "plan", "--event", "push", "--contexts", "contexts", "ci.json"]
+        plan = subprocess.run(words, cwd=folder, check=True, capture_output=True)
         (folder / "plan").write_bytes(plan.stdout)
         subprocess.run([PROGRAM, "run", "--stubs", "stubs", "--record", "record", "plan"], cwd=folder, check=False, capture_output=True)
         return folder

@@ -1,4 +1,4 @@
-"""Tests of `actrun dap` by a client of their own: every request, in good and in bad order, on records that were made by hand or by `run`."""
+"""Tests of `actrun dap` by a client: every request, in good and in bad order, on the example records and on records of `run`."""
 from __future__ import annotations
 
 import json
@@ -12,7 +12,7 @@ from pathlib import Path
 from actrun_front.dap import FILTERS
 from actrun_front.dap_record import Record, Walker
 
-from .dap_case import COMMAND, EXAMPLES, NEEDS_PROGRAM, PROGRAM, Client, DapCase, surroundings
+from .dap_case import COMMAND, DEADLINE, EXAMPLES, NEEDS_PROGRAM, PROGRAM, Client, DapCase, surroundings
 
 FIRST = (EXAMPLES / "first/ci.yml").read_text(encoding="utf-8")
 CONTEXTS = json.loads((EXAMPLES / "first/contexts.json").read_text(encoding="utf-8"))
@@ -125,7 +125,8 @@ class Orders(DapCase):
         client.ask("initialize")
         os.mkfifo(self.room / "pipe")
         for given, words in [
-                ({}, "`record` has to be a text"), ({"record": ""}, "`record` has to be a text"), ({"record": 3}, "`record` has to be a text"),
+                ({}, "`record` has to be a text"), ({"record": ""}, "`record` has to be a text"),
+                ({"record": 3}, "`record` has to be a text"),
                 ({"record": "/nowhere/record"}, "/nowhere/record: there is no such file"),
                 ({"record": str(self.room / "pipe")}, "there is no such file"), ({"record": "a\0b"}, "there is no such file"),
                 ({"record": str(EXAMPLES / "refused.record")}, "refused.record: actrun: line 2 WrongState"),
@@ -182,7 +183,8 @@ class Story(DapCase):
 
     def test_lines_of_breakpoints(self) -> None:
         client = self.start()
-        lines = {1: 4, 4: 4, 5: 9, 9: 9, 10: 10, 11: 10, 12: 12, 13: 20, 20: 20, 21: 21, 22: 21, 24: 21, 25: 21, 26: 26, 27: 30, 31: 31, 36: 36}
+        lines = {1: 4, 4: 4, 5: 9, 9: 9, 10: 10, 11: 10, 12: 12, 13: 20, 20: 20, 21: 21, 22: 21, 24: 21, 25: 21, 26: 26, 27: 30,
+                 31: 31, 36: 36}
         body = client.ask("setBreakpoints", source={"path": self.yaml}, breakpoints=[{"line": line} for line in lines])
         self.assertEqual([one["line"] for one in body["breakpoints"]], list(lines.values()))
         self.assertTrue(all(one["verified"] for one in body["breakpoints"]))
@@ -264,9 +266,11 @@ class Story(DapCase):
         for words, frame, answer in [
                 ("why", step, failed), ("why", job, "leg 2 (test, suite browser) runs since line 19 by worker 0"),
                 ("why leg 1", step, "leg 1 (test, suite unit) ended success at line 18"),
-                ("why  step 2 1", step, failed), ("place", step, "place 22 of 31: end of step 1 (browser tests) of leg 2 (test, suite browser)"),
+                ("why  step 2 1", step, failed),
+                ("place", step, "place 22 of 31: end of step 1 (browser tests) of leg 2 (test, suite browser)"),
                 ("needs.build.outputs.version", step, "1.4.2"), ("${{ matrix.suite }}-1", step, "browser-1"),
-                ("strategy.job-index", step, "1"), ("job.status", step, "failure"), ("failure()", step, "true"), ("success()", step, "false"),
+                ("strategy.job-index", step, "1"), ("job.status", step, "failure"), ("failure()", step, "true"),
+                ("success()", step, "false"),
                 ("always() && github.ref_name", step, "main"), ("github.event_name", run, "push"), ("github.workflow", run, "CI"),
                 ("'a' == 'A'", None, "true"), ("runner.os", step, "null (runner is not in a record, and empty here)"),
                 ("needs.build", run, "null (needs is empty in this frame: choose that of a step)"),
@@ -353,7 +357,8 @@ class Variables(DapCase):
         self.assertEqual((top["name"], top["line"]), ("step 2 (publish): failure", 32))
         variables = self.scope(client, top["id"], "Variables")
         self.assertEqual({name: (one["value"], one["type"]) for name, one in variables.items()}, {
-            "CHANNEL": ("nightly-1", "env of the step: ${{ env.CHANNEL }}-1"), "VERSION": ("1.4.2", "env of the job: 1.4.${{ github.run_number }}"),
+            "CHANNEL": ("nightly-1", "env of the step: ${{ env.CHANNEL }}-1"),
+            "VERSION": ("1.4.2", "env of the job: 1.4.${{ github.run_number }}"),
             "TOKEN": ("Bearer ***", "env of the workflow: Bearer ${{ secrets.TOKEN }}")})
         scopes = {one["name"]: one["variablesReference"] for one in client.ask("scopes", frameId=top["id"])["scopes"]}
         info = client.ask("dataBreakpointInfo", variablesReference=scopes["Variables"], name="CHANNEL")
@@ -450,8 +455,8 @@ class Filters(DapCase):
         self.assertEqual([place for place, _ in self.stops(str(folder / "record"), ["cancelled", "displaced", "skipped"])],
                          ["cancelled at place 10", "cancelled at place 11"])
         client = self.at_entry(folder / "record")
-        self.assertEqual([one["name"] for one in client.ask("threads")["threads"]],
-                         [f"leg {leg} (x) ended cancelled at line 3: (, v {value})" for leg, value in enumerate(["<b>", "t\u240ax", "Array"])])
+        names = [f"leg {leg} (x) ended cancelled at line 3: (, v {value})" for leg, value in enumerate(["<b>", "t\u240ax", "Array"])]
+        self.assertEqual([one["name"] for one in client.ask("threads")["threads"]], names)
 
     def test_unknown_filters_are_refused_and_the_rest_holds(self) -> None:
         client = self.launched(EXAMPLES / "fail-fast.record")
@@ -484,7 +489,7 @@ class Ends(DapCase):
     def assert_ended(self, client: Client, children: list[int], statuses: tuple[int, ...] = (0,)) -> None:
         self.assertIn(client.status(), statuses)
         for number in children:
-            for _ in range(100):
+            for _ in range(1000):
                 if not Path(f"/proc/{number}").exists():
                     break
                 time.sleep(0.05)
@@ -521,7 +526,7 @@ class Ends(DapCase):
         body = b'{"seq":1,"type":"request","command":"initialize"}'
         server.stdin.write(b"Content-Length: %d\r\n\r\n" % len(body) + body)
         server.stdin.flush()
-        self.assertEqual(server.wait(timeout=30), 0)
+        self.assertEqual(server.wait(timeout=DEADLINE), 0)
         self.assertEqual(server.stderr.read(), b"")
         server.stdin.close()
         server.stderr.close()
@@ -549,7 +554,8 @@ class Messages(DapCase):
 
     def test_one_bad_message_is_refused_and_the_next_is_answered(self) -> None:
         client = self.client()
-        for body in (b"{", b"", b"[1]", b"null", b"\xff\xfe", b'{"a":', b"[" * 100_000, b'"' + b"x" * 1_000_000, b'{"type":"event","seq":4}'):
+        for body in (b"{", b"", b"[1]", b"null", b"\xff\xfe", b'{"a":', b"[" * 100_000, b'"' + b"x" * 1_000_000,
+                     b'{"type":"event","seq":4}'):
             client.send_bytes(b"Content-Length: %d\r\n\r\n" % len(body) + body)
             self.assertFalse(client.response()["success"])
         for head in (b"content-length:49\r\n\r\n", b"Content-Type: x\r\nContent-Length: 49\r\n\r\n", b"Content-Length: 49\n\n"):
@@ -562,7 +568,8 @@ class Messages(DapCase):
                             (b"Content-Length: 99999999999999999999999999\r\n\r\n", "no number from 0 to"),
                             (b"Content-Length: -1\r\n\r\n", "no number"), (b"Content-Length: x\r\n\r\n", "no number"),
                             (b"\r\n", "has no Content-Length"), (b"X: y\r\n\r\n", "has no Content-Length"),
-                            (b"a" * 5000, "too long"), (b"X: y\r\n" * 20, "too many lines"), (b'{"seq":1}\n{"seq":2}\n\n', "has no Content-Length")]:
+                            (b"a" * 5000, "too long"), (b"X: y\r\n" * 20, "too many lines"),
+                            (b'{"seq":1}\n{"seq":2}\n\n', "has no Content-Length")]:
             client = self.client()
             client.send_bytes(data)
             answer = client.response()

@@ -22,7 +22,7 @@ SCRIPT = """
 (defun tell (kind value) (princ (format "%%s\\t%%s\\n" kind value)))
 (defun await (what)
   (let ((count 0))
-    (while (and (not (funcall what)) (< count 6000)) (accept-process-output nil 0.01) (setq count (1+ count)))
+    (while (and (not (funcall what)) (< count 30000)) (accept-process-output nil 0.01) (setq count (1+ count)))
     (unless (funcall what) (error "nothing came"))))
 (defun stopped ()
   (await (lambda () frame))
@@ -67,7 +67,7 @@ class Emacs(DapCase):
         script = folder / "session.el"
         script.write_text(SCRIPT % {"command": " ".join(json.dumps(word) for word in COMMAND)}, encoding="utf-8")
         done = subprocess.run(["emacs", "--batch", "-l", str(script)], cwd=folder, env={**surroundings(), "HOME": str(folder)},
-                              stdin=subprocess.DEVNULL, capture_output=True, text=True, timeout=300, check=False)
+                              stdin=subprocess.DEVNULL, capture_output=True, text=True, timeout=800, check=False)
         self.assertEqual(done.returncode, 0, done.stderr)
         self.assertEqual([tuple(line.split("\t")) for line in done.stdout.splitlines() if not line.startswith("shown")], [
             ("frame", "step 0 (choose the channel): running"), ("line", "20"), ("threads", "2"),

@@ -129,7 +129,8 @@ class Boards(unittest.TestCase):
                      "job 1 shut skipped", "leg 2 fresh", "ends 1"):
             board.take(line)
         self.assertEqual([str(one) for one in board.runs + board.jobs + board.legs], [
-            "going, told to stop", "closed failure", "open", "shut skipped", "running 3 call, told to stop", "ended failure tolerated", "fresh"])
+            "going, told to stop", "closed failure", "open", "shut skipped", "running 3 call, told to stop", "ended failure tolerated",
+            "fresh"])
         step = board.legs[0].steps[0]
         self.assertEqual((str(step), step.outputs, step.variables), ("failure, counts as success", {"a b": "c group d"}, {"A": "2"}))
         self.assertEqual((board.legs[1].outputs, board.ends), ({"v": "1"}, [1]))
