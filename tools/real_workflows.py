@@ -10,7 +10,7 @@ system is changed; each unpacked tree becomes a git repository. For each file on
 not, then for each of its jobs that is executed how it ended and after how many seconds. The status is 0 if at least 95 % of the
 files are planned and every job ends as the list says.
 
-`--plan` executes nothing, `--seconds` is the limit of one job (default 900). Packages that are named choose among those of the list.
+`--plan` executes nothing, `--seconds` is the limit of one `try` (default 900). Packages that are named choose among those of the list.
 """
 
 from __future__ import annotations
@@ -65,17 +65,17 @@ LIST = [
     Source("libgit2", "GPL-2.0 with linking exception"),
     Source("libuv1", "MIT", {"CI-sample.yml": {"build": 0}}, "libuv"),
     Source("libzstd", "BSD-3-Clause or GPL-2.0", {"dev-short-tests.yml": {
-        "linux-kernel": 0, "build-c89": 0, "cpp-gnu90-c99-compatibility": 0, "implicit-fall-through": 0}}),
+        "linux-kernel": 0, "build-c89": 0, "implicit-fall-through": 0}}),
     Source("lz4", "BSD-2-Clause and GPL-2.0", {"ci.yml": {
-        "lz4-standard-makefile-variables": 0, "lz4-memory-usage": 0, "lz4-custom-distance": 0, "unicode-lint": 0, "lz4-build-make": 0,
+        "lz4-standard-makefile-variables": 0, "lz4-memory-usage": 0, "unicode-lint": 0, "lz4-build-make": 0,
         "lz4-build-make-travis-install": 0, "lz4-build-cmake": 0, "lz4-build-make-cmake": 0, "lz4-check-tag": 0}}),
     Source("nghttp2", "MIT"),
     Source("ninja-build", "Apache-2.0"),
     Source("nlohmann-json3", "MIT"),
-    Source("pugixml", "MIT", {"build.yml": {"unix": 0}}),
+    Source("pugixml", "MIT"),
     Source("rich", "MIT"),
     Source("simdjson", "Apache-2.0", {"fix-trailing-whitespace.yml": {"whitespace": 0}}),
-    Source("tinyxml2", "Zlib", {"test.yml": {"test": 0}}),
+    Source("tinyxml2", "Zlib"),
     Source("xxhash", "BSD-2-Clause", {"ci.yml": {"ubuntu-consistency": 0, "ubuntu-cmake-unofficial": 0}}),
 ]
 
@@ -136,8 +136,8 @@ def attempt(tree: pathlib.Path, words: list[str], seconds: int) -> tuple[int | s
         done = subprocess.run([*COMMAND, *words], cwd=tree, stdin=subprocess.DEVNULL, stdout=subprocess.PIPE,
                               stderr=subprocess.STDOUT, timeout=seconds, check=False)
         return done.returncode, done.stdout.decode(errors="replace"), time.monotonic() - start
-    except subprocess.TimeoutExpired as ended:
-        return "timeout", (ended.stdout or b"").decode(errors="replace"), time.monotonic() - start
+    except subprocess.TimeoutExpired:
+        return "timeout", f"no end within {seconds} s", time.monotonic() - start
 
 
 def reason(shown: str) -> str:
@@ -151,7 +151,7 @@ def reason(shown: str) -> str:
 def one_file(tree: pathlib.Path, file: pathlib.Path, source: Source, options: argparse.Namespace) -> tuple[bool, bool]:
     """Plans a file and executes its jobs, with a line for each; whether it is planned, and whether all jobs ended as expected."""
     name, event = str(file.relative_to(tree)), event_of(file)
-    status, shown, _ = attempt(tree, [event, "-n", "-W", name], 120)
+    status, shown, _ = attempt(tree, [event, "-n", "-W", name], options.seconds)
     jobs = {} if options.plan else source.jobs.get(file.name, {})
     how = "planned" if status == 0 else f"not planned: {reason(shown)}"
     print(f"{source.package} {file.name} ({event}): {how}" + ("" if jobs or options.plan else ", executes nothing"), flush=True)
@@ -170,7 +170,7 @@ def main() -> int:
     parser = argparse.ArgumentParser(description=__doc__, formatter_class=argparse.RawDescriptionHelpFormatter)
     parser.add_argument("--cache", type=pathlib.Path, default=pathlib.Path.home() / ".cache" / "actrun-real")
     parser.add_argument("--plan", action="store_true", help="execute nothing")
-    parser.add_argument("--seconds", type=int, default=900, help="limit of one job")
+    parser.add_argument("--seconds", type=int, default=900, help="limit of one try")
     parser.add_argument("packages", nargs="*", metavar="PACKAGE")
     options = parser.parse_args()
     chosen = [source for source in LIST if not options.packages or source.package in options.packages]
