@@ -10,7 +10,7 @@ from .lower_calls import inline_calls
 from .lower_contexts import KnownContexts, action_names, rewrite_job, rewrite_texts, set_default_variables
 from .lower_matrix import lower_env, lower_strategy, lower_system
 from .lower_scripts import default_shell, lower_shells, lower_time_limits, prepend_to_sh, push_workflow_shell
-from .lower_tree import Lowering, Refused, Setting, annotated, is_set, mark_of, plain
+from .lower_tree import Lowering, Refused, Setting, annotated, is_set, mark_of, part, plain
 from .yaml_reader import Document, Note, Path
 
 __all__ = ["EvaluationError", "Lowered", "Refused", "Setting", "lower"]
@@ -82,5 +82,4 @@ def lower_job(lowering: Lowering, flow: Any, job_id: str, job: Any) -> None:
 
 def default_directory(node: Any) -> bool:
     """Whether a workflow or job has a default working directory."""
-    run = node["defaults"].get("run") if isinstance(node.get("defaults"), dict) else None
-    return isinstance(run, dict) and is_set(run.get("working-directory"))
+    return is_set(part(part(node, "defaults"), "run").get("working-directory"))

@@ -1,12 +1,13 @@
 """Composite actions of the repository: their steps stand in for the step that uses them."""
 from __future__ import annotations
 
+import shlex
 from typing import Any, Dict, List, Optional, Tuple
 
 from .expressions import (Access, Rules, condition_expression, conjunction, has_expression, literal, names_status, reads_only, references,
                           rewrite, rewrite_condition, rewrite_template, tokens)
 from .lower_contexts import by_rules, rewrite_texts
-from .lower_tree import Lowering, Map, Mark, Sequence, annotated, expression_of, is_set, mark_of
+from .lower_tree import Lowering, Map, Mark, Sequence, annotated, expression_of, is_set, mark_of, part
 from .yaml_reader import read_document
 
 STABLE = ("github", "inputs", "vars", "matrix", "needs", "strategy", "runner")  # contexts that no step changes
@@ -49,9 +50,8 @@ def read_action(lowering: Lowering, folder: str, uses: str, mark: Mark) -> Any:
         for fault in document.faults:
             raise lowering.refuse(mark, f"the action {uses} has a fault: {folder}/{names[0]}:{fault.line}: {fault.text}")
         action = annotated(document, mark, f"{folder}/{names[0]}")
-        runs = action.get("runs") if isinstance(action, dict) else None
-        if isinstance(runs, dict) and runs.get("using") == "composite" and isinstance(runs.get("steps"), list) and \
-                all(isinstance(one, dict) for one in runs["steps"]):
+        runs = part(action, "runs")
+        if runs.get("using") == "composite" and isinstance(runs.get("steps"), list) and all(isinstance(one, dict) for one in runs["steps"]):
             return action
         why = "is not a composite action"
     lowering.note(mark, f"the action {uses} {why}: its step needs a program (--stub)")
@@ -86,10 +86,8 @@ class Use:
 
     def input_expressions(self) -> Dict[str, str]:
         """The expression of each input, whose value is a text."""
-        declared = self.action.get("inputs") if isinstance(self.action.get("inputs"), dict) else {}
-        given = self.step.get("with") if isinstance(self.step.get("with"), dict) else {}
-        found = {name.lower(): one.get("default") if isinstance(one, dict) else None for name, one in declared.items()}
-        found.update({name.lower(): value for name, value in given.items()})
+        found = {name.lower(): one.get("default") if isinstance(one, dict) else None for name, one in part(self.action, "inputs").items()}
+        found.update({name.lower(): value for name, value in part(self.step, "with").items()})
         return {name: "''" if value is None else as_text(expression_of(value)) if isinstance(value, str) else literal(literal(value))
                 for name, value in found.items()}
 
@@ -189,10 +187,10 @@ class Use:
 
     def closing(self) -> Any:
         """A step that has the id, the outputs and the outcome of the outer step."""
-        outputs = self.action.get("outputs") if isinstance(self.action.get("outputs"), dict) else {}
+        outputs = part(self.action, "outputs")
         names = [name for name, one in outputs.items() if isinstance(one, dict)]
         rules = self.rules({}, False)
-        lines = [f"printf '%s<<ACTRUN_END\\n%s\\nACTRUN_END\\n' '{name}' \"$ACTRUN_OUTPUT_{at}\" >> \"$GITHUB_OUTPUT\"" for at, name in enumerate(names)]
+        lines = [f"printf '%s<<ACTRUN_END\\n%s\\nACTRUN_END\\n' {shlex.quote(name)} \"$ACTRUN_OUTPUT_{at}\" >> \"$GITHUB_OUTPUT\"" for at, name in enumerate(names)]
         made = self.own({"id": self.step["id"], "name": f"outputs of {self.step.get('name') or self.step['uses']}", "shell": "bash",
                          "if": f"always() && steps.{self.ids[-1]}.conclusion == 'success'"})
         made["env"] = {f"ACTRUN_OUTPUT_{at}": rewrite_template(str(outputs[name].get("value") or ""), rules) for at, name in enumerate(names)}

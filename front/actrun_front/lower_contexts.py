@@ -5,7 +5,7 @@ from typing import Any, Callable, Optional, Tuple
 
 from .expressions import (Access, EvaluationError, Rules, has_expression, literal, rewrite_condition, rewrite_template)
 from .hash_files import GlobError, digest
-from .lower_tree import Lowering, Mark, mark_of
+from .lower_tree import Lowering, Mark, mark_of, part
 
 Replacement = Optional[Tuple[str, int]]
 
@@ -126,7 +126,7 @@ def action_names(steps: list) -> list[str]:
 
 def set_default_variables(job_id: str, job: Any, flow: Any) -> None:
     """Adds GITHUB_JOB to a job's variables and GITHUB_ACTION to those of each step, where the workflow does not define them."""
-    outer = {**(flow.get("env") if isinstance(flow.get("env"), dict) else {})}
+    outer = dict(part(flow, "env"))
     given = job.get("env")
     if given is None or isinstance(given, dict):
         if "GITHUB_JOB" not in {**outer, **(given or {})}:

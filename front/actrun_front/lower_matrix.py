@@ -21,15 +21,13 @@ def lower_strategy(lowering: Lowering, job_id: str, job: Any) -> None:
         mark = mark_of(strategy, key)
         if has_expression(strategy.get(key)):
             value = decided(lowering, job_id, key, strategy[key], mark)
-            strategy[key] = {"true": True, "false": False}.get(value, value) if kind is bool else whole(value)
+            if isinstance(value, str):
+                value = {"true": True, "false": False}.get(value, value) if kind is bool else int(value) if value.isdecimal() else value
+            strategy[key] = value
             if type(strategy[key]) is not kind:
                 raise lowering.refuse(mark, f"{key} of job {job_id} is {shown(value)}, but has to be "
                                             + ("true or false" if kind is bool else "a whole number"))
     lower_matrix(lowering, job_id, strategy)
-
-
-def whole(value: Any) -> Any:
-    return int(value) if isinstance(value, str) and value.isdecimal() else value
 
 
 def lower_matrix(lowering: Lowering, job_id: str, strategy: Any) -> None:

@@ -6,7 +6,7 @@ from typing import Any, List, NamedTuple
 
 from .expressions import EvaluationError, has_expression, template_expression
 from .lower_matrix import is_foreign, labels_by_leg
-from .lower_tree import Lowering, Map, Mark, is_set, keep_name, mark_of, shown
+from .lower_tree import Lowering, Map, Mark, is_set, keep_name, mark_of, part, shown
 
 BASH = "bash --noprofile --norc -eo pipefail"
 SWITCHES = "abefhkmnptuvxBCEHPT"  # the letters of `set`
@@ -68,8 +68,7 @@ def with_options(name: str, words: List[str]) -> Shell:
 
 def default_shell(node: Any) -> Any:
     """The shell in `defaults.run` of a workflow or job."""
-    run = (node.get("defaults") or {}).get("run") if isinstance(node.get("defaults"), dict) else None
-    return run.get("shell") if isinstance(run, dict) else None
+    return part(part(node, "defaults"), "run").get("shell")
 
 
 def push_down_shell(node: Any, below: List[Any]) -> None:
@@ -189,7 +188,8 @@ def limit_script(lowering: Lowering, step: Any, limit: Any, default: Any, mark: 
         minutes = '"${ACTRUN_MINUTES:-360}"'
     elif not minutes.replace(".", "", 1).isdecimal():
         raise lowering.refuse(mark, f"timeout-minutes is {shown(limit)}, but has to be a number")
-    start = {"bash": BASH, "sh": "sh -e"}.get(step.get("shell") or default, "bash -e")
+    shell = step.get("shell") or default
+    start = BASH if shell == "bash" else "sh -e" if shell == "sh" else "bash -e"
     step["run"] = f"""\
 if [ "${{ACTRUN_LIMITED-}}" != "$0" ]; then
   limit={minutes} status=0

@@ -135,8 +135,7 @@ class Lowering:
 
     def legs(self, job: Any) -> Optional[List[dict]]:
         """The combinations of a job's matrix, `[{}]` without one; None where the planner refuses it, and says why."""
-        strategy = job.get("strategy")
-        matrix = strategy.get("matrix") if isinstance(strategy, dict) else None
+        matrix = part(job, "strategy").get("matrix")
         if id(matrix) not in self.kept_legs:
             try:
                 self.kept_legs[id(matrix)] = (matrix, [{}] if matrix is None else self.combinations(matrix))
@@ -159,6 +158,12 @@ class Lowering:
             if text_of(part) not in values:
                 values[text_of(part)] = self.evaluate(expression, {"matrix": part})
         return [values[text_of(part)] for part in parts]
+
+
+def part(node: Any, key: str) -> Any:
+    """The map at a key, or an empty one where there is none."""
+    value = node.get(key) if isinstance(node, dict) else None
+    return value if isinstance(value, dict) else {}
 
 
 def is_set(value: Any) -> bool:
