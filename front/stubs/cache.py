@@ -95,6 +95,11 @@ def restore(place: pathlib.Path, paths: list[str]) -> None:
         step.warn(f"{refused} files of the cache are not restored: they are not below {', '.join(paths)}, or a link leads there")
 
 
+def is_own(cache: pathlib.Path, path: pathlib.Path) -> bool:
+    """Whether a path is what actrun itself keeps: a cache of `~/.cache` would hold all caches before it."""
+    return path in (cache.resolve(), pathlib.Path.home().resolve() / ".cache/actrun")
+
+
 def save(cache: pathlib.Path, key: str, paths: list[str]) -> None:
     """Keeps the files that the paths match under the key, once; the first of two that save at once wins."""
     final = place_of(cache, key, paths)
@@ -111,7 +116,7 @@ def save(cache: pathlib.Path, key: str, paths: list[str]) -> None:
         for path in found:
             base, folder = next(one for one in bases().items() if one[1] == path or one[1] in path.parents)
             with tarfile.open(new / f"{base}.tar", "a") as archive:
-                archive.add(path, path.relative_to(folder))
+                archive.add(path, path.relative_to(folder), filter=lambda member: None if is_own(cache, folder / member.name) else member)
         entry = {"key": key, "paths": paths, "time": time.time()}
         (new / "entry.json").write_text(json.dumps(entry), encoding="utf-8")
         try:

@@ -5,6 +5,7 @@ from __future__ import annotations
 import os
 import pathlib
 import runpy
+import shutil
 import subprocess
 import sys
 import tarfile
@@ -106,6 +107,17 @@ class Cache(StubCase):
         subprocess.run("rm -r a b", shell=True, cwd=self.tree, check=True)
         self.restore(key="k", path=path)
         self.assertEqual(self.files_below("tree"), ["a/one.o", "b/x/three.o"])
+
+    def test_what_actrun_keeps_is_in_no_cache(self) -> None:
+        self.environment["ACTRUN_CACHE"] = str(self.room / "home/.cache/actrun/caches/one")
+        self.write("home/.cache/pip/wheel", "wheel")
+        self.write("home/.cache/actrun/work/tree/file", "file")
+        self.assertEqual(self.save("k", "~/.cache").code, 0)
+        shutil.rmtree(self.room / "home/.cache/pip")
+        shutil.rmtree(self.room / "home/.cache/actrun/work")
+        self.assertEqual(self.restore(key="k", path="~/.cache").outputs["cache-hit"], "true")
+        self.assertEqual((self.room / "home/.cache/pip/wheel").read_text(encoding="utf-8"), "wheel")
+        self.assertFalse((self.room / "home/.cache/actrun/work").exists())
 
     def test_looking_up_brings_no_files(self) -> None:
         self.write("tree/c", "1")
