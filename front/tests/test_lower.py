@@ -262,7 +262,7 @@ class Limits(LowerCase):
           sleep 30 &
           echo begun
           wait
-        timeout-minutes: 0.01
+        timeout-minutes: 0.1
       - run: echo "in time ${ACTRUN_LIMITED-}"
         if: always()
         shell: sh
@@ -271,7 +271,7 @@ class Limits(LowerCase):
         if: always()
         timeout-minutes: 1
 """)
-        self.assertEqual(self.run_plan(status=1), ["begun", "error: the step was ended after 0.01 minutes, its timeout-minutes", "in time "])
+        self.assertEqual(self.run_plan(status=1), ["begun", "error: the step was ended after 0.1 minutes, its timeout-minutes", "in time "])
         self.assertEqual(self.notes()[0], (3, "timeout-minutes of a job is not enforced; that of a step with a script is"))
 
     def test_others(self):
