@@ -1,5 +1,5 @@
 #!/usr/bin/env python3
-"""Executes the cases of crates/conformance by its program, several files at once, each in a folder of its own.
+"""Executes the cases of crates/conformance by its program, several parts of a file at once, each in a folder of its own.
 
   tools/cases.py PROGRAM [FILE..]      PROGRAM is the built crate `conformance`; all files that its `args` names if none is named
 
@@ -20,12 +20,49 @@ from pathlib import Path
 CRATE = Path(__file__).resolve().parent.parent / "crates/conformance"
 TOLD = re.compile(r"(\d+) cases agree(?:, (\d+) differ)?$")
 SECONDS = 1800
+# a program without proofs takes minutes for some files, so each is executed in parts; not the one whose cases read the files
+# that programs of cases before them wrote
+PARTS = 4
+WHOLE = {"programs.cases"}
+ASKS, DEFINES, GOES_ON = "$?", "#|/:", "+&*@-\\"
 
 
-def execute(program: Path, file: str) -> tuple[int, int, str]:
-    """How many cases of a file agree and differ, and what the program printed before it counted them."""
+def mark(line: str) -> str:
+    """The mark of a line of a case, or nothing for a line that is for the reader."""
+    return line[:1] if line[1:2] in ("", " ") else ""
+
+
+def definitions(case: list[str]) -> list[str]:
+    """The lines of a case that define texts and files for the cases after it."""
+    kept, defines = [], False
+    for line in case:
+        if mark(line) and mark(line) not in GOES_ON:
+            defines = mark(line) in DEFINES
+        if mark(line) and defines:
+            kept.append(line)
+    return kept
+
+
+def part_of(text: str, number: int) -> str:
+    """The cases of a file that are in a part, and what the other cases define."""
+    lines, asked = [], 0
+    for case in (it.split("\n") for it in re.split(r"\n{2,}", text)):
+        asks = any(mark(line) and mark(line) in ASKS for line in case)
+        asked += asks
+        lines += [*(definitions(case) if asks and asked % PARTS != number else case), ""]
+    return "\n".join(lines)
+
+
+def execute(program: Path, file: str, number: int) -> tuple[int, int, str]:
+    """How many cases of a part of a file agree and differ, and what the program printed before it counted them."""
     with tempfile.TemporaryDirectory() as folder:
         shutil.copytree(CRATE / "data", folder, dirs_exist_ok=True)
+        cases = Path(folder, file)
+        if file not in WHOLE:
+            with cases.open(encoding="utf-8", newline="") as it:
+                text = it.read()
+            with cases.open("w", encoding="utf-8", newline="") as it:
+                it.write(part_of(text, number))
         try:
             ran = subprocess.run([program, file], cwd=folder, stdin=subprocess.DEVNULL, stdout=subprocess.PIPE, stderr=subprocess.STDOUT,
                                  text=True, errors="replace", timeout=SECONDS, check=False)
@@ -48,13 +85,15 @@ def main() -> int:
         print(__doc__, file=sys.stderr)
         return 2
     program, named = Path(sys.argv[1]).resolve(), sys.argv[2:]
-    # (the longest first, so that none is left alone at the end)
-    files = sorted(named or (CRATE / "args").read_text(encoding="utf-8").split(), key=lambda it: "sweeps" not in it)
+    files = named or (CRATE / "args").read_text(encoding="utf-8").split()
     agree = differ = 0
     with concurrent.futures.ThreadPoolExecutor(os.cpu_count()) as pool:
-        for some, others, said in pool.map(lambda it: execute(program, it), files):
+        started = [pool.submit(execute, program, file, number) for file in files
+                   for number in range(1 if file in WHOLE else PARTS)]
+        for it in started:
+            some, others, said = it.result()
             agree, differ = agree + some, differ + others
-            print(said, end="")
+            print(said, end="", flush=True)
     if not named and agree + differ != wanted():
         print(f"{agree + differ} cases were executed, and crates/conformance/stdout has {wanted()}")
         differ += 1
