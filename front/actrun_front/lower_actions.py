@@ -190,7 +190,8 @@ class Use:
         outputs = part(self.action, "outputs")
         names = [name for name, one in outputs.items() if isinstance(one, dict)]
         rules = self.rules({}, False)
-        lines = [f"printf '%s<<ACTRUN_END\\n%s\\nACTRUN_END\\n' {shlex.quote(name)} \"$ACTRUN_OUTPUT_{at}\" >> \"$GITHUB_OUTPUT\"" for at, name in enumerate(names)]
+        block = "printf '%s<<ACTRUN_END\\n%s\\nACTRUN_END\\n'"
+        lines = [f'{block} {shlex.quote(name)} "$ACTRUN_OUTPUT_{at}" >> "$GITHUB_OUTPUT"' for at, name in enumerate(names)]
         made = self.own({"id": self.step["id"], "name": f"outputs of {self.step.get('name') or self.step['uses']}", "shell": "bash",
                          "if": f"always() && steps.{self.ids[-1]}.conclusion == 'success'"})
         made["env"] = {f"ACTRUN_OUTPUT_{at}": rewrite_template(str(outputs[name].get("value") or ""), rules) for at, name in enumerate(names)}

@@ -8,7 +8,7 @@ from .expressions import (Access, EvaluationError, Rules, condition_expression, 
                           rewrite_condition, template_expression)
 from .lower_contexts import by_rules, rewrite_job
 from .lower_matrix import lower_strategy
-from .lower_tree import Lowering, Map, Mark, Sequence, annotated, expression_of, is_set, mark_of, part, plain, shown, texts
+from .lower_tree import Lowering, Map, Sequence, annotated, expression_of, is_set, mark_of, part, plain, shown, texts
 from .yaml_reader import read_document, text_of
 
 MOST_LEVELS = 4  # of workflows, the first caller included
@@ -237,7 +237,8 @@ class Call:
         """The condition of a called job where the call itself has one."""
         if not self.names_status:
             return f"needs.{gate}.result == 'success' && ({own})" if names_status(own) else own
-        self.lowering.note(self.mark, f"the condition of job {self.id} names a status: in {self.path} success() and failure() look at direct needs alone")
+        self.lowering.note(self.mark, f"the condition of job {self.id} names a status: in {self.path} success() and failure() look at "
+                                      "direct needs alone")
         success = "(" + (" && ".join(f"needs.{one}.result == 'success'" for one in needs) or "true") + ")"
         failure = "(" + (" || ".join(f"needs.{one}.result == 'failure'" for one in needs) or "false") + ")"
         state = "always()" if "always" in references(own or "")[1] else "!cancelled()"

@@ -3,7 +3,8 @@ from __future__ import annotations
 
 from typing import Any, Callable, Optional, Tuple
 
-from .expressions import (Access, EvaluationError, Rules, has_expression, literal, rewrite_condition, rewrite_template)
+from .expressions import (Access, EvaluationError, Rules, has_expression, literal, rewrite_condition, rewrite_template, tokens,
+                          unquoted)
 from .hash_files import GlobError, digest
 from .lower_tree import Lowering, Mark, mark_of, part
 
@@ -48,12 +49,9 @@ class KnownContexts:
 
     def hash_files(self, given: list[str]) -> str:
         """A call of hashFiles becomes the digest of the files in the repository."""
-        setting = self.lowering.setting
-        workspace = str((self.lowering.contexts.get("github") or {}).get("workspace") or "")
+        workspace = str(part(self.lowering.contexts, "github").get("workspace") or "")
         try:
-            patterns = [self.lowering.evaluate(f"format('{{0}}', {one})") for one in given] if self.has_access(given) else \
-                [one[1:-1].replace("''", "'") for one in given]
-            value = digest(patterns, setting.repository, workspace)
+            value = digest([self.pattern(one) for one in given], self.lowering.setting.repository, workspace)
         except (EvaluationError, GlobError) as fault:
             raise self.lowering.refuse(self.mark, f"hashFiles({', '.join(given)}) has no value before execution: {fault}; "
                                                   "write its patterns as texts in quotes") from None
@@ -61,9 +59,10 @@ class KnownContexts:
             f"the digest {value[:12]}.. of the repository's files" if value else "an empty text: no file matches"))
         return literal(value)
 
-    def has_access(self, given: list[str]) -> bool:
-        """Whether an argument is more than a text in quotes."""
-        return not all(one.startswith("'") and one.endswith("'") and "'" not in one[1:-1].replace("''", "") for one in given)
+    def pattern(self, argument: str) -> str:
+        """The text of an argument: written in quotes, else evaluated over what is known before execution."""
+        found = tokens(argument) or []
+        return unquoted(argument) if len(found) == 1 and found[0].kind == "text" else self.lowering.evaluate(f"format('{{0}}', {argument})")
 
     def fraction(self, text: str) -> str:
         """A fraction becomes a text, as the reader of YAML makes texts of fractions."""

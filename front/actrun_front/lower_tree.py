@@ -107,6 +107,7 @@ class Lowering:
         self.setting = setting
         self.notes: List[Note] = []
         self.foreign: List[Tuple[str, str]] = []
+        self.asked: Optional[Program] = None
         self.kept_legs: Dict[int, Tuple[Any, Optional[List[dict]]]] = {}
         self.contexts = dict(setting.contexts)
         workspace = str((setting.contexts.get("github") or {}).get("workspace") or setting.repository.absolute())
@@ -145,9 +146,11 @@ class Lowering:
 
     def program(self) -> Program:
         """The program of the environment, where the setting has none."""
-        if not os.environ.get("ACTRUN_PROGRAM"):
-            raise EvaluationError("ACTRUN_PROGRAM does not name the program that evaluates it")
-        return Program(os.environ["ACTRUN_PROGRAM"])
+        if self.asked is None:
+            if not os.environ.get("ACTRUN_PROGRAM"):
+                raise EvaluationError("ACTRUN_PROGRAM does not name the program that evaluates it")
+            self.asked = Program(os.environ["ACTRUN_PROGRAM"])
+        return self.asked
 
     def by_leg(self, expression: str, legs: List[dict]) -> List[Any]:
         """The values of an expression that reads `matrix` at most, one for each leg. Raises EvaluationError."""
