@@ -5,11 +5,11 @@ use Rattle.std.proofs.lemmas.Bool.{true≢false, cases_lt, leb-true, le-leb}
 use Rattle.std.proofs.lemmas.Option.{slice_get-map}
 use Rattle.board_decisions.specs.Ancestors.{IsAncestor, need, of_need, SomeAncestor, SaysOf, NeedsPointBack, StandsAfterNeeds, any_need}
 use Rattle.board_decisions.specs.Derived.{holds, holds_at, places_needed, needs_at, some_ancestor, is_success, is_failure, job_results, status_by, ancestors_status, job_status}
-use Rattle.board_places.specs.Place.{JobAt}
+use Rattle.board_decisions.specs.Place.{JobAt}
 use Rattle.expr_value.specs.declared.status.Status.TheVariants as status
 use Rattle.flow_model.specs.declared.plan.JobPlan.{JobPlan}
 use Rattle.flow_model.specs.declared.event.Outcome.{Outcome}
-use Rattle.board_places.proofs.Lists.{and-left, and-right, and-both, get-left}
+use Rattle.board_decisions.proofs.Lists.{and-left, and-right, and-both, get-left}
 
 -- ---- tests of lists
 

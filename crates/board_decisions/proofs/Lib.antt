@@ -1,6 +1,9 @@
 pub mod Backwards
+pub mod Following
 pub mod Lineages
+pub mod Lists
 pub mod Maps
-pub mod OwnSteps
 pub mod Overlays
+pub mod OwnSteps
+pub mod Placed
 pub mod Succeeded

@@ -5,8 +5,8 @@ use Rattle.board_decisions.specs.Contexts.{overlaid, step_pair, planned_pair}
 use Rattle.flow_model.specs.declared.board.DoneStep.{DoneStep}
 use Rattle.flow_model.specs.declared.plan.StepPlan.{StepPlan}
 use Rattle.flow_model.specs.Plain.{Plain}
-use Rattle.text_values.specs.Env.{laid_over}
-use Rattle.text_values.specs.Values.{Env}
+use Rattle.plan_values.specs.Env.{laid_over}
+use Rattle.plan_values.specs.Values.{Env}
 
 -- levels that some items may have, one item and then the others
 pub overlaid_next : {X A : Type 0} (level : A → Env) (f : X → Option A) (x : X) (xs : List X) (made : Env)

@@ -6,7 +6,7 @@ use Rattle.board_decisions.specs.Own.{HasOwnEnv, IsOwnStep}
 use Rattle.board_decisions.specs.declared.kept.Called.{Called}
 use Rattle.board_decisions.specs.declared.kept.Called.TheVariants.{Yes, No, Unknown}
 use Rattle.board_decisions.specs.declared.kept.Calls.{Calls}
-use Rattle.board_places.specs.Place.{LegAt}
+use Rattle.board_decisions.specs.Place.{LegAt}
 use Rattle.expr_value.specs.Answer.{Gives}
 use Rattle.expr_value.specs.Context.{Contexts}
 use Rattle.expr_value.specs.declared.status.Status.{Status}
@@ -23,11 +23,11 @@ use Rattle.flow_model.specs.declared.reply.StepCall.{StepCall}
 use Rattle.flow_model.specs.declared.reply.ValueFault.{ValueFault}
 use Rattle.flow_model.specs.declared.reply.ValueFault.TheVariants.{NotWhole, NoIdentity, BadFormat, BadJson, TooLarge, Memory}
 use Rattle.flow_model.specs.Plain.{Plain}
-use Rattle.text_values.specs.Env.{env_value}
-use Rattle.text_values.specs.Own.{HasNoFault}
-use Rattle.text_values.specs.Texts.{text_text, condition_value}
-use Rattle.text_values.specs.Values.{Env}
-use Rattle.text_values.specs.declared.place.Place.TheVariants as place
+use Rattle.plan_values.specs.Env.{env_value}
+use Rattle.plan_values.specs.Own.{HasNoFault}
+use Rattle.plan_values.specs.Texts.{text_text, condition_value}
+use Rattle.plan_values.specs.Values.{Env}
+use Rattle.plan_values.specs.declared.place.Place.TheVariants as place
 
 then_none : {A B : Type 0} (r : Result A ValueFault) (next : A → Result B ValueFault) → HasNoFault r → ((x : A) → HasNoFault (next x)) → HasNoFault (then_value r next)
 then_none (Ok x) next h k = k x

@@ -3,12 +3,12 @@ use Rattle.std.proofs.Common.{◌≡◌, ℕ, zero, suc, ◌||◌, Bool, true, f
 use Rattle.std.specs.List.{list_all, list_any}
 use Rattle.std.proofs.lemmas.Bool.{true≢false}
 use Rattle.board_decisions.specs.Derived.{all_succeed, ancestors_status, holds_at, is_failure, is_success, job_results, job_status, needs_at, some_ancestor, status_by}
-use Rattle.board_places.specs.Place.{JobAt}
+use Rattle.board_decisions.specs.Place.{JobAt}
 use Rattle.expr_value.specs.declared.status.Status.TheVariants as status
 use Rattle.flow_model.specs.declared.plan.JobPlan.{JobPlan}
 use Rattle.flow_model.specs.declared.event.Outcome.{Outcome}
 use Rattle.flow_model.specs.declared.event.Outcome.TheVariants as outcome
-use Rattle.board_places.proofs.Lists.{and-left, and-right}
+use Rattle.board_decisions.proofs.Lists.{and-left, and-right}
 
 no-test : (t : Outcome → Bool) → ((how : Outcome) → is_success how ≡ true → t how ≡ false) → (results : List Outcome) → list_all is_success results ≡ true
     → (k : ℕ) → holds_at (map t results) k ≡ false

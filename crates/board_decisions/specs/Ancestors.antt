@@ -3,7 +3,7 @@ use Rattle.std.specs.Prelude.{◌≡◌, ℕ, ◌+◌, ◌-◌, ◌<◌, ◌&&�
 use Rattle.std.specs.List.{list_all, list_any, Contains}
 use Rattle.board_decisions.specs.declared.ancestors.Lineage.{Lineage}
 use Rattle.board_decisions.specs.Derived.{needs_at, holds_at, any_ancestor, is_success, is_failure, job_results}
-use Rattle.board_places.specs.Place.{JobAt}
+use Rattle.board_decisions.specs.Place.{JobAt}
 use Rattle.expr_value.specs.declared.status.Status.{Status}
 use Rattle.expr_value.specs.declared.status.Status.TheVariants as status
 use Rattle.flow_model.specs.declared.plan.JobPlan.{JobPlan}

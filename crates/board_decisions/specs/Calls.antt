@@ -4,7 +4,7 @@ use Rattle.board_decisions.specs.Decisions.{is_called, leg_result, step_decision
 use Rattle.board_decisions.specs.declared.kept.Called.{Called}
 use Rattle.board_decisions.specs.declared.kept.Called.TheVariants.{Yes, No, Unknown}
 use Rattle.board_decisions.specs.declared.kept.Calls.{Calls}
-use Rattle.board_places.specs.Place.{LegAt}
+use Rattle.board_decisions.specs.Place.{LegAt}
 use Rattle.flow_model.specs.declared.event.Outcome.{Outcome}
 use Rattle.flow_model.specs.declared.event.Outcome.TheVariants as outcome
 use Rattle.flow_model.specs.declared.plan.JobPlan.{JobPlan}

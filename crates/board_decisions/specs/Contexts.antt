@@ -2,10 +2,10 @@
 use Rattle.std.specs.Prelude.{ℕ, pos, ◌-◌, ◌==◌, ◌&&◌, List, [], ◌∷◌, map, length, codes, nat_le, Option, Some, None, slice_get, if◌then◌else◌}
 use Rattle.std.specs.List.{zip, filter_map}
 use Rattle.board_decisions.specs.Derived.{job_result}
-use Rattle.board_places.specs.Numbered.{leg_there}
-use Rattle.board_places.specs.Place.{◌>>=◌, JobAt, LegAt, job_in_run, leg_place}
-use Rattle.board_places.specs.declared.place.JobPlace.{JobPlace}
-use Rattle.board_places.specs.declared.place.LegPlace.{LegPlace}
+use Rattle.board_decisions.specs.Numbered.{leg_there}
+use Rattle.board_decisions.specs.Place.{◌>>=◌, JobAt, LegAt, job_in_run, leg_place}
+use Rattle.board_decisions.specs.declared.place.JobPlace.{JobPlace}
+use Rattle.board_decisions.specs.declared.place.LegPlace.{LegPlace}
 use Rattle.expr_reader.specs.declared.tree.Context.TheVariants as context
 use Rattle.flow_model.specs.Mapping.{with_pair}
 use Rattle.flow_model.specs.Plain.{Plain, text, truth, whole, members_of}
@@ -19,8 +19,8 @@ use Rattle.flow_model.specs.declared.event.Outcome.TheVariants as outcome
 use Rattle.flow_model.specs.declared.plan.JobPlan.{JobPlan}
 use Rattle.flow_model.specs.declared.plan.RunPlan.{RunPlan}
 use Rattle.flow_model.specs.declared.plan.StepPlan.{StepPlan}
-use Rattle.text_values.specs.Env.{laid_over}
-use Rattle.text_values.specs.Values.{Values, Env, env_context}
+use Rattle.plan_values.specs.Env.{laid_over}
+use Rattle.plan_values.specs.Values.{Values, Env, env_context}
 
 -- A map of these pairs.
 abbrev pub object : List (List ℕ × Plain) → Plain

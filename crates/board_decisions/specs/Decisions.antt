@@ -4,7 +4,7 @@ use Rattle.std.specs.Prelude.{ℕ, ◌&&◌, ◌||◌, Bool, true, false, not, L
 use Rattle.std.specs.List.{list_any}
 use Rattle.board_decisions.specs.Contexts.{overlaid, run_values, job_values, job_of, leg_values_by}
 use Rattle.board_decisions.specs.Derived.{is_failure, has_failed}
-use Rattle.board_places.specs.Place.{RunAt, JobAt, LegAt}
+use Rattle.board_decisions.specs.Place.{RunAt, JobAt, LegAt}
 use Rattle.board_decisions.specs.declared.entrance.Entrance.{Entrance}
 use Rattle.expr_reader.specs.Fold.{fold}
 use Rattle.expr_value.specs.Context.{Contexts}
@@ -21,12 +21,12 @@ use Rattle.flow_model.specs.declared.reply.CallWork.{CallWork}
 use Rattle.flow_model.specs.declared.reply.CallWork.TheVariants as call_work
 use Rattle.flow_model.specs.declared.reply.StepCall.{StepCall}
 use Rattle.flow_model.specs.declared.reply.ValueFault.{ValueFault}
-use Rattle.text_values.specs.Env.{env_value, laid_over}
-use Rattle.text_values.specs.Outputs.{outputs_value}
-use Rattle.text_values.specs.Texts.{text_text, condition_value, flag_value}
-use Rattle.text_values.specs.Values.{Values, Env, contexts_at, with_env}
-use Rattle.text_values.specs.declared.place.Place.{Place}
-use Rattle.text_values.specs.declared.place.Place.TheVariants as place
+use Rattle.plan_values.specs.Env.{env_value, laid_over}
+use Rattle.plan_values.specs.Outputs.{outputs_value}
+use Rattle.plan_values.specs.Texts.{text_text, condition_value, flag_value}
+use Rattle.plan_values.specs.Values.{Values, Env, contexts_at, with_env}
+use Rattle.plan_values.specs.declared.place.Place.{Place}
+use Rattle.plan_values.specs.declared.place.Place.TheVariants as place
 
 -- What follows from a value, unless there was a fault.
 abbrev pub then_value : {A B : Type 0} → Result A ValueFault → (A → Result B ValueFault) → Result B ValueFault

@@ -1,7 +1,7 @@
 -- What follows from a board: what has ended, the results of jobs, what is to stop, and the statuses.
 use Rattle.std.specs.Prelude.{ℕ, zero, suc, ◌-◌, ◌&&◌, ◌||◌, Bool, true, false, not, List, [], map, length, Option, Some, None, slice_get, nat_le, count_by, if◌then◌else◌}
 use Rattle.std.specs.List.{list_all, list_any}
-use Rattle.board_places.specs.Place.{JobAt}
+use Rattle.board_decisions.specs.Place.{JobAt}
 use Rattle.expr_value.specs.declared.status.Status.{Status}
 use Rattle.expr_value.specs.declared.status.Status.TheVariants as status
 use Rattle.flow_model.specs.declared.plan.JobPlan.{JobPlan}

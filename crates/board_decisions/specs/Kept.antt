@@ -4,7 +4,7 @@ use Rattle.std.specs.List.{list_any}
 use Rattle.board_decisions.specs.Calls.{AreCallsOf}
 use Rattle.board_decisions.specs.Decisions.{stops_anyway}
 use Rattle.board_decisions.specs.Derived.{is_failure}
-use Rattle.board_places.specs.Place.{LegAt}
+use Rattle.board_decisions.specs.Place.{LegAt}
 use Rattle.board_decisions.specs.declared.kept.Kept.{Kept}
 use Rattle.flow_model.specs.declared.plan.StepPlan.{StepPlan}
 

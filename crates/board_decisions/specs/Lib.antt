@@ -4,5 +4,9 @@ pub mod Contexts
 pub mod Decisions
 pub mod Derived
 pub mod Kept
+pub mod Numbered
 pub mod Own
+pub mod Place
+pub mod Places
 pub mod Scenes
+pub mod Seen

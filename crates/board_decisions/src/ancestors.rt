@@ -6,10 +6,10 @@ ghost use Rattle.std.specs.Prelude.{◌≡◌, ◌<◌, true, IfOk, length};
 ghost use Rattle.board_decisions.specs.Ancestors as spec;
 ghost use Rattle.board_decisions.specs.Derived as derived;
 ghost use Rattle.board_decisions.specs.Derived.{job_results};
-ghost use Rattle.board_places.specs.Seen.{job_seen};
+ghost use Rattle.board_decisions.specs.Seen.{job_seen};
 
 use crate::derived::{is_failure, is_success, job_result};
-use board_places::place::SeenJob;
+use crate::place::SeenJob;
 use expr_value::Status;
 use flow_model::{JobPlan, Outcome, Run};
 use std::alloc::{AllocError, Global};

@@ -9,7 +9,7 @@ ghost use Rattle.expr_value.specs.Condition.{condition_holds};
 ghost use Rattle.expr_value.specs.Context.{Contexts};
 ghost use Rattle.expr_value.specs.Functions.{is_success as is_success_of};
 ghost use Rattle.expr_value.specs.Named.{any_names_context, expr_names_context, piece_names_context, pieces_name_context};
-ghost use Rattle.text_values.specs.Texts.{condition_value};
+ghost use Rattle.plan_values.specs.Texts.{condition_value};
 
 use expr_reader::{Piece, Template, Tree, read_condition};
 use expr_value::{Status, condition_by_its_contexts, eval_condition};
@@ -89,7 +89,7 @@ fn read_holds_anywhere(alloc: Global, template: &Template, status: Status) -> Op
 
 /// Whether the text of a condition holds, where it may be no more than calls of status functions. Most texts that name a
 /// context end otherwise, and are not read here.
-#[tactic(auto, unfolding(text_values::specs::Texts::condition_value))]
+#[tactic(auto, unfolding(plan_values::specs::Texts::condition_value))]
 fn text_holds_anywhere(alloc: Global, text: &str, status: Status) -> Option<bool>
     ensures { (c : Contexts) → IfSome result
         (λ holds. condition_value c status (Some text.now) ≡ Ok holds) }
@@ -115,7 +115,7 @@ fn is_success(status: Status) -> bool
 
 /// Whether a condition holds whatever the contexts are: none does where the status is success. Nothing is told of one for
 /// which they may count.
-#[tactic(auto, unfolding(text_values::specs::Texts::condition_value))]
+#[tactic(auto, unfolding(plan_values::specs::Texts::condition_value))]
 pub(crate) fn holds_anywhere(
     alloc: Global,
     condition: &Option<Text>,

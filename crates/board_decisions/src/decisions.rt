@@ -4,31 +4,31 @@ ghost use Rattle.std.specs.Prelude.{◌≡◌, [], not, Some, IfOk, IfSome, OnOk
 ghost use Rattle.board_decisions.specs.Decisions as spec;
 ghost use Rattle.board_decisions.specs.Kept.{IsKeptOf};
 ghost use Rattle.board_decisions.specs.Scenes.{leg_scene};
-ghost use Rattle.board_places.specs.Seen.{job_seen, leg_seen, run_seen};
+ghost use Rattle.board_decisions.specs.Seen.{job_seen, leg_seen, run_seen};
 ghost use Rattle.expr_value.specs.Answer.{Gives};
 ghost use Rattle.expr_value.specs.declared.status.Status.TheVariants as status;
 ghost use Rattle.flow_model.specs.declared.event.Outcome.TheVariants as outcome;
 ghost use Rattle.flow_model.specs.declared.reply.ValueFault.{ValueFault as ValueFaultOf};
-ghost use Rattle.text_values.specs.Known.{IsKnownOf, known_env};
-ghost use Rattle.text_values.specs.Texts.{condition_value};
-ghost use Rattle.text_values.specs.Values.{Env, Values, contexts_at, with_env};
-ghost use Rattle.text_values.specs.declared.place.Place.TheVariants as place;
+ghost use Rattle.plan_values.specs.Known.{IsKnownOf, known_env};
+ghost use Rattle.plan_values.specs.Texts.{condition_value};
+ghost use Rattle.plan_values.specs.Values.{Env, Values, contexts_at, with_env};
+ghost use Rattle.plan_values.specs.declared.place.Place.TheVariants as place;
 
 use crate::contexts::job_of;
 use crate::derived::{is_any_failed, is_any_step_failed};
 use crate::entrance::Entrance;
 use crate::kept::Kept;
+use crate::place::{SeenJob, SeenLeg, SeenRun};
 use crate::scene::{JobScene, LegScene, RunScene};
-use board_places::place::{SeenJob, SeenLeg, SeenRun};
 use expr_reader::fold;
 use expr_value::Status;
 use flow_model::{
     CallWork, Duplicate, Flag, Group, Mapping, Outcome, StepCall, StepPlan, Text, ValueFault, Work,
 };
-use std::alloc::{AllocError, Global};
-use text_values::{
+use plan_values::{
     Known, Place, Scene, condition_at, env_at, env_over_at, flag_at, outputs_at, text_at,
 };
+use std::alloc::{AllocError, Global};
 
 /// Whether a job's condition holds under a status.
 #[tactic(auto, unfolding(crate::specs::Decisions::job_condition))]
@@ -411,7 +411,7 @@ pub fn step_decision(
 }
 
 /// Whether a failure of a step may be passed over.
-#[tactic(auto, unfolding(crate::specs::Decisions::step_tolerates, text_values::specs::Texts::flag_value))]
+#[tactic(auto, unfolding(crate::specs::Decisions::step_tolerates, plan_values::specs::Texts::flag_value))]
 pub fn step_tolerates(alloc: Global, at: &SeenLeg, step: &StepPlan) -> Result<bool, AllocError>
     ensures { IfOk result
         (λ tolerates. tolerates ≡ spec.step_tolerates (leg_seen at.now) step.now) }
@@ -447,7 +447,7 @@ pub fn job_tolerates(alloc: Global, at: &SeenLeg) -> Result<bool, AllocError>
 }
 
 /// The outputs that a leg gives its job.
-#[tactic(auto, unfolding(crate::specs::Decisions::leg_outputs, text_values::specs::Outputs::outputs_value))]
+#[tactic(auto, unfolding(crate::specs::Decisions::leg_outputs, plan_values::specs::Outputs::outputs_value))]
 pub fn leg_outputs(alloc: Global, at: &SeenLeg) -> Result<Mapping<Text>, AllocError>
     ensures { IfOk result (λ outputs. outputs ≡ spec.leg_outputs (leg_seen at.now)) }
 {

@@ -1,5 +1,9 @@
-//! board_decisions: what a board and its plan tell of each
-//! place, and what the texts of the place decide there.
+//! board_decisions: what stands at a number of a board, what a board and its plan tell of each place, and what the texts of the
+//! place decide there.
+//!
+//! Jobs are numbered through all runs, and legs through all jobs. `place` finds the run, job or leg with a number, with what
+//! was planned for it; `places` lists where all of them stand, in the order of their numbers, so that whoever keeps such a
+//! list finds each at once.
 //!
 //! `derived` says what follows from what stands at a place: what has ended, how jobs and runs count, and
 //! when a job has as many legs under way as it may have; `ancestors` says the status by which a job
@@ -10,10 +14,10 @@
 //! see it.
 //! Nothing here changes a board.
 //!
-//! All are defined in `specs/`: `Derived`, `Ancestors`, `Contexts` (what the contexts of a place hold), `Decisions`,
-//! `Own` (steps of whose texts none is evaluated) and `Kept`. The crate stands on `board_places` (what is found at a
-//! number), on `flow_model` (plans and boards), on `text_values` (a text's value where it stands), and on `expr_reader`
-//! and `expr_value` for what these speak of.
+//! All are defined in `specs/`: `Place` (what is found at a number), `Numbered` (that places are in the order of the numbers),
+//! `Places`, `Derived`, `Ancestors`, `Contexts` (what the contexts of a place hold), `Decisions`, `Own` (steps of whose texts
+//! none is evaluated) and `Kept`. The crate stands on `flow_model` (plans and boards), on `plan_values` (a text's value where
+//! it stands), and on `expr_reader` and `expr_value` for what these speak of.
 
 #![tactic(auto)]
 
@@ -25,5 +29,7 @@ pub mod derived;
 pub mod entrance;
 pub mod kept;
 mod nodes;
+pub mod place;
+pub mod places;
 pub mod scene;
 pub mod unasked;

@@ -2,16 +2,16 @@
 
 ghost use Rattle.std.specs.Prelude.{◌≡◌, IfOk};
 ghost use Rattle.board_decisions.specs.Decisions.{leg_values};
-ghost use Rattle.board_places.specs.Seen.{leg_seen};
+ghost use Rattle.board_decisions.specs.Seen.{leg_seen};
 ghost use Rattle.flow_model.specs.Value.{view};
 
 use crate::contexts::{job_context, leg_context, run_context};
 use crate::decisions::leg_result;
-use board_places::place::{SeenJob, SeenLeg, SeenRun};
+use crate::place::{SeenJob, SeenLeg, SeenRun};
 use expr_reader::Context;
 use flow_model::{Node, Outcome, Value};
+use plan_values::Scene;
 use std::alloc::{AllocError, Global};
-use text_values::Scene;
 
 /// A run in play, for what its texts see.
 #[derive(Clone, Copy)]

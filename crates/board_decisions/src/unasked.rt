@@ -6,23 +6,23 @@ ghost use Rattle.board_decisions.specs.Calls.{AreCallsOf, Tells, called_as as ca
 ghost use Rattle.board_decisions.specs.Decisions as spec;
 ghost use Rattle.board_decisions.specs.Kept.{IsKeptOf};
 ghost use Rattle.board_decisions.specs.Own.{HasOwnEnv};
-ghost use Rattle.board_places.specs.Seen.{leg_seen};
+ghost use Rattle.board_decisions.specs.Seen.{leg_seen};
 ghost use Rattle.expr_value.specs.Answer.{Gives};
 ghost use Rattle.expr_value.specs.Context.{Contexts};
 ghost use Rattle.flow_model.specs.declared.plan.JobPlan.{JobPlan as JobPlanOf};
 ghost use Rattle.flow_model.specs.declared.plan.RunPlan.{RunPlan as RunPlanOf};
 ghost use Rattle.flow_model.specs.declared.plan.StepPlan.{StepPlan as StepPlanOf};
-ghost use Rattle.text_values.specs.Own.{HasNoFault};
-ghost use Rattle.text_values.specs.Texts.{condition_value};
+ghost use Rattle.plan_values.specs.Own.{HasNoFault};
+ghost use Rattle.plan_values.specs.Texts.{condition_value};
 
 use crate::anywhere::holds_anywhere;
 use crate::decisions::{leg_result_kept, result_at_once, step_decision};
 use crate::kept::{Called, Calls, Kept};
-use board_places::place::SeenLeg;
+use crate::place::SeenLeg;
 use expr_value::Status;
 use flow_model::{JobPlan, Outcome, RunPlan, StepCall, StepPlan, Text, ValueFault, Work};
+use plan_values::{is_own_env, is_own_text};
 use std::alloc::Global;
-use text_values::{is_own_env, is_own_text};
 
 /// Whether nothing of a working directory is evaluated.
 #[tactic(auto, using(crate::proofs::OwnSteps::no_directory, crate::proofs::OwnSteps::some_directory))]

@@ -28,15 +28,27 @@
 //!   \           the line has no newline
 //!
 //! There are no escapes: a text goes to the end of its line. A `Case` takes the lines, says what is asked, and is handed what
-//! came of that; a verb writes its answer on a `Page`. It stands on no other crate.
+//! came of that; a verb writes its answer on a `Page`.
+//!
+//! `perform` does what a verb of plans, entries and records as texts asks, at the head of `documents`. For the verbs of the
+//! crates above, a plan or a record is loaded onto a page by `loads`; boards, replies, members and moves are written on it by
+//! `boards`, `replies` and `members`. The crate stands on `flow_model` and `plan_text`, and promises no more than that it
+//! answers.
 
 #![tactic(auto)]
 
 pub mod asked;
+pub mod boards;
 mod case;
+mod documents;
+pub mod loads;
+pub mod members;
 pub mod page;
+pub mod replies;
+pub mod samples;
 pub mod streams;
 
 pub use asked::{Asked, Files, Found, Spoiled};
 pub use case::{Case, Told};
+pub use documents::perform;
 pub use page::{Page, parted};

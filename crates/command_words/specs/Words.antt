@@ -3,21 +3,21 @@ use Rattle.std.specs.Prelude.{◌≡◌, ℕ, ◌⊎◌, List, Option}
 use Rattle.std.specs.declared.io.ErrorKind.{ErrorKind}
 use Rattle.std.specs.declared.io.ErrorKind.TheVariants.{InvalidData, OutOfMemory}
 use Rattle.plan_assembler.specs.declared.choice.Choice.{Choice}
-use Rattle.debug_session.specs.Debug.{DebugTells}
-use Rattle.commands.specs.Eval.{EvalTells}
-use Rattle.board_causes.specs.declared.question.Question.{Question}
+use Rattle.command_debug.specs.Debug.{DebugTells}
+use Rattle.command_print.specs.Eval.{EvalTells}
+use Rattle.why_causes.specs.declared.question.Question.{Question}
 use Rattle.command_io.specs.Files.{File}
-use Rattle.commands.specs.Lint.{LintTells}
-use Rattle.commands.specs.List.{ListTells}
-use Rattle.commands.specs.Plan.{PlanTells}
-use Rattle.commands.specs.Replay.{ReplayTells, SettledTells}
-use Rattle.graph_command.specs.Graph.{GraphTells}
-use Rattle.timeline_command.specs.Timeline.{TimelineTells}
-use Rattle.why_command.specs.Why.{WhyTells}
-use Rattle.run_command.specs.RecordFile.{Keeping, Writes}
-use Rattle.run_command.specs.Run as run
+use Rattle.command_print.specs.Lint.{LintTells}
+use Rattle.command_print.specs.List.{ListTells}
+use Rattle.command_print.specs.Plan.{PlanTells}
+use Rattle.command_print.specs.Replay.{ReplayTells, SettledTells}
+use Rattle.command_graph.specs.Graph.{GraphTells}
+use Rattle.command_timeline.specs.Timeline.{TimelineTells}
+use Rattle.command_why.specs.Why.{WhyTells}
+use Rattle.command_run.specs.RecordFile.{Keeping, Writes}
+use Rattle.command_run.specs.Run as run
 use Rattle.command_io.specs.Stream.{Stream}
-use Rattle.commands.specs.Table.{TableTells}
+use Rattle.command_print.specs.Table.{TableTells}
 use Rattle.command_io.specs.Tell.{Says, TellsSome, TellsTrouble}
 use Rattle.command_io.specs.Trouble.{line, trouble_status}
 use Rattle.command_io.specs.declared.trouble.Trouble.{Trouble}

@@ -5,14 +5,14 @@ ghost use Rattle.std.specs.Prelude.{◌≡◌, IfOk, map};
 use crate::choice::{choice_of, text_of};
 use crate::folder::Folder;
 use crate::question::question_of;
-use board_causes::question::Question;
 use clap::ArgMatches;
 use command_io::files::{NamedSource, OptionalFile};
 use command_io::trouble::Trouble;
+use command_run::run::RunWords;
 use flow_model::Text;
 use plan_assembler::Choice;
-use run_command::run::RunWords;
 use std::alloc::Global;
+use why_causes::question::Question;
 
 /// What `eval` is asked for.
 #[derive(Drop)]

@@ -1,7 +1,7 @@
 //! Where the files are that words name.
 
 use command_io::stream::Source;
-use run_command::machine::Machine;
+use command_run::machine::Machine;
 use std::sync::Wait;
 use std::thread::Threads;
 

@@ -2,8 +2,8 @@
 //!
 //! `run_line` runs the command that the words of a command line ask for, and answers its exit status always: what it leaves
 //! is what one of the commands tells, or the one line of a trouble. The crate alone stands on `clap`, which takes words
-//! apart; the commands are those of `commands`, `debug_session`, `graph_command`, `timeline_command`, `why_command` and
-//! `run_command`.
+//! apart; the commands are those of `command_print`, `command_debug`, `command_graph`, `command_timeline`,
+//! `command_why` and `command_run`.
 
 #![tactic(auto)]
 

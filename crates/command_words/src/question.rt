@@ -1,7 +1,7 @@
 //! What the words of `why` ask about.
 
-use board_causes::question::Question;
 use command_io::trouble::Trouble;
+use why_causes::question::Question;
 
 /// The number that digits write; one beyond the greatest of 64 bits counts as that.
 fn number_of(digits: &str) -> Result<u64, Trouble> {

@@ -9,28 +9,28 @@ use crate::asked::{Asked, AskedEval, AskedPlan, AskedReplay, AskedRun, AskedWhy,
 use crate::folder::Folder;
 use crate::known::known_commands;
 use clap::{ArgMatches, Error};
+use command_debug::debug::debug;
+use command_graph::graph::graph;
 use command_io::files::NamedSource;
 use command_io::stream::{LineSource, Sink, Source};
 use command_io::tell::refuse;
 use command_io::trouble::Trouble;
-use commands::eval::eval;
-use commands::lint::lint;
-use commands::list::list;
-use commands::plan::plan;
-use commands::replay::{replay, replay_settled};
-use commands::table::table;
-use debug_session::debug::debug;
-use graph_command::graph::graph;
-use run_command::machine::Machine;
-use run_command::run::run as run_plan;
+use command_print::eval::eval;
+use command_print::lint::lint;
+use command_print::list::list;
+use command_print::plan::plan;
+use command_print::replay::{replay, replay_settled};
+use command_print::table::table;
+use command_run::machine::Machine;
+use command_run::run::run as run_plan;
+use command_timeline::timeline::timeline;
+use command_why::why::why;
 use std::alloc::Global;
 use std::env::Args;
 use std::io;
 use std::io::ErrorKind;
 use std::sync::Wait;
 use std::thread::Threads;
-use timeline_command::timeline::timeline;
-use why_command::why::why;
 
 /// Runs `eval`.
 fn perform_eval<S: Source + Drop, O: Sink, E: Sink>(

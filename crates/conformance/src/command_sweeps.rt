@@ -11,12 +11,12 @@
 
 use crate::record_sweeps::put_lines;
 use crate::verbs::run;
+use case_reader::loads::record_in;
 use case_reader::streams::{Behind, Limits, Sheet};
 use case_reader::{Asked, Found, Page, Spoiled};
 use command_io::stream::{Output, Sink};
-use record_verbs::loads::record_in;
-use run_command::machine::Machine;
-use run_command::record_file::text_of_record;
+use command_run::machine::Machine;
+use command_run::record_file::text_of_record;
 use std::sync::Wait;
 use std::thread::Threads;
 

@@ -7,13 +7,13 @@
 //! debugger goes over the plain board, and over the flat one, which have to come to the same.
 
 use crate::record_sweeps::{put_lines, put_told};
-use board_verbs::put_difference;
+use case_boards::put_difference;
 use case_reader::Page;
+use case_reader::boards::shown;
+use case_reader::loads::record_in;
 use debugger::{DebugFault, Debugger};
 use flat_board::FlatBoard;
 use flow_model::{Duplicate, Entry, Sequence};
-use record_verbs::boards::shown;
-use record_verbs::loads::record_in;
 use status_table::{PlainBoard, Reversible};
 use std::alloc::AllocError;
 

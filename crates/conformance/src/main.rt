@@ -2,8 +2,8 @@
 //!
 //! A case asks for a command, by the words of the command line, or for a verb. The verbs that play commands stand here, at the
 //! heads of `command_sweeps`, `record_sweeps`, `debug_sweeps` and `program_calls`, and all others in libraries of their own:
-//! `expression_verbs`, `record_verbs`, `workflow_verbs`, `board_verbs` and `host_verbs`. `case_reader` reads the cases. The
-//! program proves nothing of its own; what it wants stands in `data/`.
+//! `case_reader`, which reads the cases too, `case_workflows`, `case_boards` and `case_hosts`. The program proves nothing of its
+//! own; what it wants stands in `data/`.
 
 #![tactic(auto)]
 
@@ -14,7 +14,7 @@ mod record_sweeps;
 mod verbs;
 
 use case_reader::{Case, Told};
-use run_command::machine::Machine;
+use command_run::machine::Machine;
 use std::alloc::Global;
 use std::io::Write;
 use std::process::ExitCode;

@@ -3,11 +3,11 @@
 //!   program SHELL        the answer to the script that the input is, started as step 0 of leg 0 in this folder
 //!   program uses ACTION  the same of an action without inputs, for which `./stub` stands where it is `stubbed`
 
+use case_hosts::text_calls::put_played;
 use case_reader::Page;
+use case_reader::samples::pair;
+use command_run::machine::Machine;
 use flow_model::Sequence;
-use host_verbs::text_calls::put_played;
-use record_verbs::samples::pair;
-use run_command::machine::Machine;
 
 /// A host of programs in this folder, with the stub of the one action that has one.
 fn host<R: Machine>(rt: &R, page: &mut Page<'_>) -> Option<R::Host> {

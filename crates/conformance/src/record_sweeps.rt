@@ -12,7 +12,7 @@ use case_reader::Page;
 use case_reader::streams::{Behind, Feed, Limits, Sheet};
 use command_io::bounded::{Bounded, MOST_READS};
 use command_io::stream::{Input, Output};
-use commands::table::table;
+use command_print::table::table;
 use std::str;
 
 /// No line.

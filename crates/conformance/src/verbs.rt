@@ -1,15 +1,15 @@
 //! What a case asks for: a command, by the words of the command line, or a verb.
 
 use crate::{command_sweeps, program_calls, record_sweeps};
-use board_verbs::compare;
+use case_boards::compare;
 use case_reader::streams::{Feed, Sheet};
 use case_reader::{Asked, Found, Page};
 use command_io::bounded::{Bounded, MOST_READS};
 use command_io::stream::{Input, Output};
 use command_io::trouble::FAILED;
+use command_run::machine::Machine;
 use command_words::folder::Folder;
 use command_words::words;
-use run_command::machine::Machine;
 use std::alloc::Global;
 use std::io;
 use std::io::{BufReader, ErrorKind};
@@ -100,11 +100,10 @@ fn answered<R: Machine + Threads + Wait + Sync>(rt: &R, alloc: Global, asked: &A
 
 /// Does what a verb of the libraries asks.
 fn answer<R: Threads + Wait + Sync>(rt: &R, page: &mut Page<'_>) {
-    let is_known = expression_verbs::perform(page)
-        || record_verbs::perform(page)
-        || workflow_verbs::perform(page)
-        || board_verbs::perform(page)
-        || host_verbs::perform(rt, page);
+    let is_known = case_workflows::perform(page)
+        || case_reader::perform(page)
+        || case_boards::perform(page)
+        || case_hosts::perform(rt, page);
     if !is_known {
         page.put("no such verb");
     }

@@ -3,11 +3,11 @@ use Rattle.std.proofs.Common.{◌≡◌, ℕ, zero, suc, true, List, [], ◌∷�
 use Rattle.std.specs.Prelude.{slice_get}
 use Rattle.std.specs.List.{flat_map, AllZip}
 use Rattle.board_decisions.specs.Derived.{is_ended}
-use Rattle.board_places.specs.Numbered.{leg_there}
-use Rattle.board_places.specs.Place.{◌>>=◌}
-use Rattle.board_places.specs.Places.{all_legs_from, leg_places, run_sizes, sizes}
-use Rattle.board_places.specs.declared.place.LegPlace.{LegPlace}
-use Rattle.board_places.proofs.Placed.{leg_placed}
+use Rattle.board_decisions.specs.Numbered.{leg_there}
+use Rattle.board_decisions.specs.Place.{◌>>=◌}
+use Rattle.board_decisions.specs.Places.{all_legs_from, leg_places, run_sizes, sizes}
+use Rattle.board_decisions.specs.declared.place.LegPlace.{LegPlace}
+use Rattle.board_decisions.proofs.Placed.{leg_placed}
 use Rattle.flow_model.specs.Numbers.{board_jobs, board_legs}
 use Rattle.flow_model.specs.declared.board.Board.{Board}
 use Rattle.flow_model.specs.declared.board.Job.{Job}

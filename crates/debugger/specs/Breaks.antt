@@ -10,7 +10,7 @@ use Rattle.flow_model.specs.declared.board.LegState.TheVariants as leg_state
 use Rattle.flow_model.specs.declared.event.Entry.{Entry}
 use Rattle.flow_model.specs.declared.event.Event.{Event}
 use Rattle.flow_model.specs.declared.event.Event.TheVariants as event
-use Rattle.board_places.specs.Places.{numbers}
+use Rattle.board_decisions.specs.Places.{numbers}
 use Rattle.debugger.specs.declared.breaks.Break.{Break}
 use Rattle.debugger.specs.declared.breaks.Break.TheVariants as break'
 

@@ -1,6 +1,6 @@
 -- The way that a board came: the boards before it, each of which can be gone back to.
 use Rattle.std.specs.Prelude.{◌≡◌, ◌≤◌, ◌<◌, ◌++◌, ℕ, suc, List, [], ◌∷◌, length, Option, Some, Result, Ok, Err, slice_get}
-use Rattle.board_places.specs.Places.{leg_places}
+use Rattle.board_decisions.specs.Places.{leg_places}
 use Rattle.flow_model.specs.declared.plan.Plan.{Plan}
 use Rattle.flow_model.specs.declared.board.Board.{Board}
 use Rattle.flow_model.specs.declared.event.Entry.{Entry}

@@ -5,12 +5,12 @@
 
 ghost use Rattle.std.specs.Prelude.{◌≡◌, slice_get};
 ghost use Rattle.std.specs.Option.{option_copied};
-ghost use Rattle.board_places.specs.Places.{leg_places};
+ghost use Rattle.board_decisions.specs.Places.{leg_places};
 ghost use Rattle.debugger.specs.Breaks as breaks;
 ghost use Rattle.debugger.specs.Marks as spec;
 ghost use Rattle.flow_model.specs.Numbers.{board_legs};
 
-use board_places::place::{LegPlace, leg_there};
+use board_decisions::place::{LegPlace, leg_there};
 use flow_model::{Board, Event, Leg, LegState, Outcome};
 
 /// The place of the leg with a number, if there is one.

@@ -1,13 +1,13 @@
 //! What is kept of an entry, so that its breaks are found without a board.
 
 ghost use Rattle.std.specs.Prelude.{◌≡◌, slice_get};
-ghost use Rattle.board_places.specs.Places.{leg_places};
+ghost use Rattle.board_decisions.specs.Places.{leg_places};
 ghost use Rattle.debugger.specs.Marks as spec;
 
 use crate::breaks::Break;
 use crate::brief::Brief;
 use crate::looks::has_failed;
-use board_places::place::LegPlace;
+use board_decisions::place::LegPlace;
 use flow_model::Board;
 
 /// What is kept of an entry: at most one leg becomes Ended by it, and none where it begins a step.

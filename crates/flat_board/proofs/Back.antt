@@ -3,10 +3,10 @@ use Rattle.std.proofs.Common.{◌≡◌, ◌≢◌, ℕ, ◌≤◌, Bool, true, 
 use Rattle.std.specs.Prelude.{IfOk}
 use Rattle.board_decisions.specs.Decisions.{is_stopping, leg_entrance, run_entrance}
 use Rattle.board_decisions.specs.Derived.{is_full}
-use Rattle.board_places.specs.Numbered.{leg_there}
-use Rattle.board_places.specs.Place.{◌>>=◌, RunAt, LegAt, run_at, leg_at}
+use Rattle.board_decisions.specs.Numbered.{leg_there}
+use Rattle.board_decisions.specs.Place.{◌>>=◌, RunAt, LegAt, run_at, leg_at}
 use Rattle.board_decisions.specs.declared.entrance.Entrance.{Entrance}
-use Rattle.board_places.specs.declared.place.LegPlace.{LegPlace}
+use Rattle.board_decisions.specs.declared.place.LegPlace.{LegPlace}
 use Rattle.flow_model.specs.Mapping.{value_at, Ascends}
 use Rattle.flow_model.specs.declared.board.Board.{Board}
 use Rattle.flow_model.specs.declared.board.Run.{Run}
@@ -46,8 +46,8 @@ use Rattle.flat_board.proofs.Names.{EventComes, ThenSeen, event_step}
 use Rattle.flat_board.proofs.Groupless.{asks_none, leg_left_none, opens_none, run_left_none}
 use Rattle.flat_board.proofs.Playing.{sound_after}
 use Rattle.flat_board.proofs.Reached.{asks_outside, opens_outside}
-use Rattle.flat_counters.specs.Names.{IsName}
-use Rattle.flat_counters.proofs.Tallies.{there}
+use Rattle.board_counters.specs.Names.{IsName}
+use Rattle.board_counters.proofs.Tallies.{there}
 use Rattle.status_table.specs.Admissions.{asked, left, opened}
 use Rattle.status_table.specs.Change.{with_numbered_leg, with_run}
 use Rattle.status_table.specs.Grouped.{KeptAsShown, after_event, leg_asked, leg_left, run_left, run_opened}
@@ -61,7 +61,7 @@ use Rattle.status_table.specs.declared.fault.EventFault.{EventFault}
 use Rattle.status_table.specs.declared.fault.EventFault.TheVariants as fault
 use Rattle.status_table.proofs.Found.{leg_stands, run_stands}
 use Rattle.status_table.proofs.Lists.{changed-there}
-use Rattle.board_places.proofs.Lists.{same_some, no_some}
+use Rattle.board_decisions.proofs.Lists.{same_some, no_some}
 
 -- ---- what a board shows is one
 

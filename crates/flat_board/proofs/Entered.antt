@@ -21,10 +21,10 @@ use Rattle.flat_board.specs.Undo.{name_put_back}
 use Rattle.flat_board.specs.declared.undo.Stood.{Stood}
 use Rattle.flat_board.proofs.Index.{own_same}
 use Rattle.flat_board.proofs.Names.{displaced_step, stopped_step}
-use Rattle.flat_counters.specs.Names.{IsName}
+use Rattle.board_counters.specs.Names.{IsName}
 use Rattle.status_table.specs.Grouped.{KeptAsShown}
 use Rattle.status_table.specs.Groups.{Done, admitted, cancelled, displaced, enters_held, holder, moved, queued, waiter, waits}
-use Rattle.board_places.proofs.Lists.{same_some, no_some}
+use Rattle.board_decisions.proofs.Lists.{same_some, no_some}
 
 -- ---- a member that is in no group
 

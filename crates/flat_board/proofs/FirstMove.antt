@@ -5,7 +5,7 @@ use Rattle.flow_model.specs.declared.board.Board.{Board}
 use Rattle.status_table.specs.Kinds.{events_of}
 use Rattle.status_table.specs.declared.moves.Kind.TheVariants as kind
 use Rattle.status_table.specs.Moves.{clerk_events}
-use Rattle.board_places.specs.Places.{numbers}
+use Rattle.board_decisions.specs.Places.{numbers}
 use Rattle.status_table.proofs.Accepting.{step}
 use Rattle.flat_board.proofs.Accepting.{one_more, none_more}
 

@@ -4,7 +4,7 @@ use Rattle.std.proofs.lemmas.Bool.{true≢false}
 use Rattle.board_decisions.specs.declared.entrance.Entrance.{Entrance}
 use Rattle.board_decisions.specs.Contexts.{run_values}
 use Rattle.board_decisions.specs.Decisions.{entrance_value, leg_entrance, run_entrance, seen_from}
-use Rattle.board_places.specs.Place.{RunAt, LegAt}
+use Rattle.board_decisions.specs.Place.{RunAt, LegAt}
 use Rattle.expr_value.specs.Context.{Contexts}
 use Rattle.flow_model.specs.declared.plan.Group.{Group}
 use Rattle.flow_model.specs.declared.board.LegState.{LegState}
@@ -19,8 +19,8 @@ use Rattle.flat_board.specs.declared.groups.Stand.TheVariants as stand
 use Rattle.flat_board.proofs.Leaving.{none_left}
 use Rattle.status_table.specs.Admissions.{asked, left, opened}
 use Rattle.status_table.specs.Groups.{leg_stands, run_stands}
-use Rattle.text_values.specs.Values.{contexts_at, with_env}
-use Rattle.text_values.specs.declared.place.Place.TheVariants as place
+use Rattle.plan_values.specs.Values.{contexts_at, with_env}
+use Rattle.plan_values.specs.declared.place.Place.TheVariants as place
 
 -- ---- entering
 

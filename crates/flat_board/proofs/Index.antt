@@ -11,8 +11,8 @@ use Rattle.group_admission.specs.declared.held.Held.{Held}
 use Rattle.status_table.specs.Grouped.{KeptAsShown}
 use Rattle.status_table.specs.Groups.{holder, is_own, waiter}
 use Rattle.flat_board.specs.Index.{Goes}
-use Rattle.flat_counters.specs.Names.{IsName}
-use Rattle.board_places.proofs.Lists.{same_some, no_some}
+use Rattle.board_counters.specs.Names.{IsName}
+use Rattle.board_decisions.proofs.Lists.{same_some, no_some}
 
 -- an event that asks nothing of the groups leaves them
 pub goes_same : {T E : Type 0} (r : Result T E) (groups : Known) → Goes r groups (content groups) groups

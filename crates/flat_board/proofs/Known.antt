@@ -3,10 +3,10 @@ use Rattle.std.proofs.Common.{◌≡◌, ◌≢◌, ℕ, ◌&&◌, Bool, true, f
 use Rattle.std.proofs.lemmas.Bool.{true≢false}
 use Rattle.board_decisions.specs.Decisions.{leg_entrance, run_entrance}
 use Rattle.board_decisions.specs.Derived.{is_fresh, is_going, is_open}
-use Rattle.board_places.specs.Numbered.{leg_there}
-use Rattle.board_places.specs.Place.{RunAt, LegAt, leg_place, run_at, leg_at}
+use Rattle.board_decisions.specs.Numbered.{leg_there}
+use Rattle.board_decisions.specs.Place.{RunAt, LegAt, leg_place, run_at, leg_at}
 use Rattle.board_decisions.specs.declared.entrance.Entrance.{Entrance}
-use Rattle.board_places.specs.declared.place.LegPlace.{LegPlace}
+use Rattle.board_decisions.specs.declared.place.LegPlace.{LegPlace}
 use Rattle.flow_model.specs.Mapping.{value_at, with_pair}
 use Rattle.flow_model.proofs.Lookups.{found_same}
 use Rattle.flow_model.specs.declared.board.Board.{Board}
@@ -32,13 +32,13 @@ use Rattle.flat_board.specs.declared.undo.CellBack.{CellBack}
 use Rattle.flat_board.specs.declared.undo.Stood.{Stood}
 use Rattle.flat_board.proofs.Named.{leg_asks, run_asks}
 use Rattle.flat_board.proofs.Names.{EnterComes, EventComes, ThenSeen, event_step}
-use Rattle.flat_counters.specs.Names.{IsName}
-use Rattle.flat_counters.proofs.Tallies.{there}
+use Rattle.board_counters.specs.Names.{IsName}
+use Rattle.board_counters.proofs.Tallies.{there}
 use Rattle.status_table.specs.Admissions.{asked, opened}
 use Rattle.status_table.specs.Grouped.{after_event, leg_asked, run_opened}
 use Rattle.status_table.specs.Row.{Row, event_row, may_ask}
 use Rattle.status_table.proofs.Found.{leg_stands, run_stands}
-use Rattle.board_places.proofs.Lists.{same_some}
+use Rattle.board_decisions.proofs.Lists.{same_some}
 
 -- ---- who is new
 

@@ -1,7 +1,7 @@
 -- A member that ended leaves its group, by the name of that.
 use Rattle.std.proofs.Common.{◌≡◌, ◌≢◌, ℕ, Bool, true, false, List, [], ◌∷◌, Option, Some, None, option_map, option_and_then, ap, subst, sym, refl, ◌∙◌}
-use Rattle.board_places.specs.Numbered.{leg_there}
-use Rattle.board_places.specs.Place.{RunAt, LegAt, leg_place, run_at, leg_at}
+use Rattle.board_decisions.specs.Numbered.{leg_there}
+use Rattle.board_decisions.specs.Place.{RunAt, LegAt, leg_place, run_at, leg_at}
 use Rattle.flow_model.specs.declared.plan.Plan.{Plan}
 use Rattle.flow_model.specs.declared.board.Board.{Board}
 use Rattle.flow_model.specs.declared.board.Run.{Run}
@@ -18,7 +18,7 @@ use Rattle.group_admission.proofs.Nowhere.{nothing_released, nothing_withdrawn}
 use Rattle.flat_board.specs.Stands.{StandsOnlyThere, standing_by}
 use Rattle.flat_board.specs.declared.groups.Stand.{Stand}
 use Rattle.flat_board.specs.declared.groups.Stand.TheVariants as stand
-use Rattle.flat_counters.proofs.Tallies.{there}
+use Rattle.board_counters.proofs.Tallies.{there}
 use Rattle.status_table.specs.Admissions.{left}
 use Rattle.status_table.specs.Change.{changed, leg_changed, with_leg}
 use Rattle.status_table.specs.Grouped.{KeptAsShown, leg_left, run_left}
@@ -26,7 +26,7 @@ use Rattle.status_table.specs.Groups.{Standing, apart, dropped, holding, waiting
 use Rattle.status_table.specs.Row.{leg_ended}
 use Rattle.status_table.proofs.Found.{leg_item, leg_stands, run_stands}
 use Rattle.status_table.proofs.Lists.{changed-there}
-use Rattle.board_places.proofs.Lists.{same_some, no_some}
+use Rattle.board_decisions.proofs.Lists.{same_some, no_some}
 use Rattle.status_table.proofs.Steps.{standing}
 use Rattle.status_table.proofs.Turnover.{a_holder, a_waiter, numbered}
 

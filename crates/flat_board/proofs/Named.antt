@@ -5,17 +5,17 @@ use Rattle.std.specs.Char.{to_ascii_lowercase}
 use Rattle.board_decisions.specs.declared.entrance.Entrance.{Entrance}
 use Rattle.board_decisions.specs.Contexts.{run_values}
 use Rattle.board_decisions.specs.Decisions.{then_value, entrance, entrance_value, run_entrance, leg_entrance, seen_from}
-use Rattle.board_places.specs.Place.{RunAt, LegAt}
+use Rattle.board_decisions.specs.Place.{RunAt, LegAt}
 use Rattle.expr_reader.specs.Fold.{fold}
 use Rattle.expr_value.specs.Answer.{Gives}
 use Rattle.expr_value.specs.Context.{Contexts}
 use Rattle.flow_model.specs.declared.plan.Group.{Group}
 use Rattle.flow_model.specs.declared.reply.ValueFault.{ValueFault}
-use Rattle.text_values.specs.Texts.{text_text, flag_value}
-use Rattle.text_values.specs.Values.{contexts_at, with_env}
-use Rattle.text_values.specs.declared.place.Place.TheVariants as place
+use Rattle.plan_values.specs.Texts.{text_text, flag_value}
+use Rattle.plan_values.specs.Values.{contexts_at, with_env}
+use Rattle.plan_values.specs.declared.place.Place.TheVariants as place
 use Rattle.flat_board.specs.Index.{EntersNamed, AsksNamed}
-use Rattle.flat_counters.proofs.Lists.{map-twice}
+use Rattle.board_counters.proofs.Lists.{map-twice}
 
 fold-fold : (text : List ℕ) → fold (fold text) ≡ fold text
 fold-fold text = map-twice to_ascii_lowercase to_ascii_lowercase to_ascii_lowercase text lowercase-lowercase

@@ -2,15 +2,15 @@
 use Rattle.std.proofs.Common.{◌≡◌, ℕ, zero, suc, ◌||◌, ◌==◌, ◌++◌, Bool, true, false, not, List, [], ◌∷◌, Option, Some, None, Result, Ok, Err, slice_get, nat_lt, length, if◌then◌else◌, subst, sym, refl, ◌∙◌}
 use Rattle.board_decisions.specs.Decisions.{is_stopping, leg_entrance, leg_outputs, leg_result, run_entrance}
 use Rattle.board_decisions.specs.Derived.{is_closed, is_fresh, is_full, jobs_have_ended, run_result}
-use Rattle.board_places.specs.Numbered.{leg_there}
-use Rattle.board_places.specs.Place.{◌>>=◌, RunAt, JobAt, LegAt, leg_place, run_at, job_at, leg_at}
+use Rattle.board_decisions.specs.Numbered.{leg_there}
+use Rattle.board_decisions.specs.Place.{◌>>=◌, RunAt, JobAt, LegAt, leg_place, run_at, job_at, leg_at}
 use Rattle.board_decisions.specs.declared.entrance.Entrance.{Entrance}
-use Rattle.board_places.specs.declared.place.JobPlace.{JobPlace}
-use Rattle.board_places.specs.declared.place.LegPlace.{LegPlace}
+use Rattle.board_decisions.specs.declared.place.JobPlace.{JobPlace}
+use Rattle.board_decisions.specs.declared.place.LegPlace.{LegPlace}
 use Rattle.flat_board.specs.Names.{Seen, in_job, in_jobs, in_run, is_new, leg_names, run_names, seen_at}
 use Rattle.flat_board.specs.declared.undo.Stood.{Stood}
 use Rattle.flat_board.specs.declared.undo.Stood.TheVariants as stood
-use Rattle.flat_counters.proofs.Tallies.{there}
+use Rattle.board_counters.proofs.Tallies.{there}
 use Rattle.flow_model.specs.declared.board.Board.{Board}
 use Rattle.flow_model.specs.declared.board.DoneStep.{DoneStep}
 use Rattle.flow_model.specs.declared.board.Run.{Run}

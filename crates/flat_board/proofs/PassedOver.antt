@@ -4,9 +4,9 @@ use Rattle.std.proofs.lemmas.Bool.{true≢false}
 use Rattle.std.proofs.lemmas.Bool.Decides.{nat_tests}
 use Rattle.std.proofs.lemmas.List.Sums.{sum_by-cons}
 use Rattle.board_decisions.specs.Derived.{is_ended, is_fresh, is_full, is_untaken, is_under_way as takes_slot}
-use Rattle.board_places.specs.Place.{LegAt, leg_at, leg_place}
-use Rattle.board_places.proofs.Following.{further, place_further}
-use Rattle.board_places.proofs.Lists.{and-left, and-right, same_some, no_some}
+use Rattle.board_decisions.specs.Place.{LegAt, leg_at, leg_place}
+use Rattle.board_decisions.proofs.Following.{further, place_further}
+use Rattle.board_decisions.proofs.Lists.{and-left, and-right, same_some, no_some}
 use Rattle.flat_board.specs.Idle.{is_idle, is_under_way}
 use Rattle.flow_model.specs.declared.board.Board.{Board}
 use Rattle.flow_model.specs.declared.board.Leg.{Leg}
@@ -18,7 +18,7 @@ use Rattle.status_table.specs.Moves.{accepts, is_accepted}
 use Rattle.status_table.specs.Row.{ask_found, drop_found, may_ask, may_drop}
 use Rattle.status_table.specs.declared.moves.Kind.{Kind}
 use Rattle.status_table.specs.declared.moves.Kind.TheVariants as kind
-use Rattle.board_places.specs.Places.{numbers}
+use Rattle.board_decisions.specs.Places.{numbers}
 use Rattle.flat_board.proofs.FirstMove.{none_yet}
 use Rattle.status_table.proofs.Counts.{one}
 use Rattle.status_table.proofs.Found.{LegStands, leg_stands}

@@ -16,7 +16,7 @@ use Rattle.flat_board.specs.Names.{NamesKnown, Seen, SeenNamed, in_job, in_run, 
 use Rattle.flat_board.specs.Sound.{IsSound}
 use Rattle.flat_board.specs.declared.undo.Stood.TheVariants as stood
 use Rattle.flat_board.proofs.Known.{names_after}
-use Rattle.board_places.specs.Place.{◌>>=◌}
+use Rattle.board_decisions.specs.Place.{◌>>=◌}
 use Rattle.status_table.specs.Answers.{Answers}
 use Rattle.status_table.specs.Grouped.{KeptAsShown, after_event}
 use Rattle.status_table.specs.InPlay.{InPlay}

@@ -2,8 +2,8 @@
 use Rattle.std.proofs.Common.{◌≡◌, ℕ, Bool, true, false, not, Some, Ok, Err, slice_get, if◌then◌else◌, ap, sym, refl, ◌∙◌}
 use Rattle.board_decisions.specs.Decisions.{is_stopping, job_condition, run_entrance, leg_entrance}
 use Rattle.board_decisions.specs.Derived.{is_full, job_status, needs_have_ended}
-use Rattle.board_places.specs.Numbered.{job_there}
-use Rattle.board_places.specs.Place.{◌>>=◌, RunAt, JobAt, LegAt, run_at, job_at, leg_at}
+use Rattle.board_decisions.specs.Numbered.{job_there}
+use Rattle.board_decisions.specs.Place.{◌>>=◌, RunAt, JobAt, LegAt, run_at, job_at, leg_at}
 use Rattle.flow_model.specs.declared.plan.Plan.{Plan}
 use Rattle.flow_model.specs.declared.board.Board.{Board}
 use Rattle.flow_model.specs.declared.board.JobState.TheVariants as job_state
@@ -12,8 +12,8 @@ use Rattle.flow_model.specs.declared.event.Event.TheVariants as event
 use Rattle.flow_model.specs.declared.event.Member.TheVariants as member
 use Rattle.group_admission.specs.Content.{Content, is_in_group}
 use Rattle.flat_board.specs.Index.{EntersOnce}
-use Rattle.flat_counters.specs.Changes.{job_of}
-use Rattle.flat_counters.specs.Names.{IsGroup, IsNamed}
+use Rattle.board_counters.specs.Changes.{job_of}
+use Rattle.board_counters.specs.Names.{IsGroup, IsNamed}
 use Rattle.status_table.specs.declared.fault.EventFault.TheVariants as fault
 use Rattle.status_table.specs.Grouped.{KeptAsShown}
 use Rattle.status_table.specs.Moves.{is_accepted, accepts}

@@ -6,17 +6,17 @@ use Rattle.std.proofs.lemmas.Bool.Decides.{nat_tests}
 use Rattle.std.proofs.lemmas.List.Sums.{sum_by-cons}
 use Rattle.board_decisions.specs.Decisions.{is_stopping, stops_anyway}
 use Rattle.board_decisions.specs.Derived.{has_failed, is_fresh, is_going, is_open, is_untaken}
-use Rattle.board_places.specs.Place.{JobAt, LegAt, job_at, job_place, leg_at, leg_place}
-use Rattle.board_places.specs.declared.place.JobPlace.{JobPlace}
-use Rattle.board_places.specs.declared.place.LegPlace.{LegPlace}
-use Rattle.board_places.proofs.Lists.{and-both, and-left, and-right, same_some, no_some}
+use Rattle.board_decisions.specs.Place.{JobAt, LegAt, job_at, job_place, leg_at, leg_place}
+use Rattle.board_decisions.specs.declared.place.JobPlace.{JobPlace}
+use Rattle.board_decisions.specs.declared.place.LegPlace.{LegPlace}
+use Rattle.board_decisions.proofs.Lists.{and-both, and-left, and-right, same_some, no_some}
 use Rattle.flat_board.specs.Idle.{is_all_judged, is_none_stopping, is_run_idle}
 use Rattle.flat_board.proofs.PassedOver.{fresh-left, untaken-left}
 use Rattle.flat_board.proofs.RunNumbers.{job_further, leg_further}
-use Rattle.flat_counters.specs.Counters.{tally_of}
-use Rattle.flat_counters.specs.Standing.{is_unjudged, run_tally, standing_of}
-use Rattle.flat_counters.specs.Stopping.{legs_of_jobs, run_legs, told_of}
-use Rattle.flat_counters.proofs.Lists.{any-counted}
+use Rattle.board_counters.specs.Counters.{tally_of}
+use Rattle.board_counters.specs.Standing.{is_unjudged, run_tally, standing_of}
+use Rattle.board_counters.specs.Stopping.{legs_of_jobs, run_legs, told_of}
+use Rattle.board_counters.proofs.Lists.{any-counted}
 use Rattle.flow_model.specs.declared.board.Board.{Board}
 use Rattle.flow_model.specs.declared.board.Job.{Job}
 use Rattle.flow_model.specs.declared.board.JobState.{JobState}

@@ -1,10 +1,10 @@
 -- Runs in which nothing may happen that a clerk reports, and jobs to none of whose legs anything may.
 use Rattle.std.specs.Prelude.{◌==◌, ◌&&◌, ◌||◌, Bool, false, not, nat_le}
 use Rattle.board_decisions.specs.Derived.{is_going, is_open, is_full}
-use Rattle.board_places.specs.Place.{LegAt}
-use Rattle.flat_counters.specs.Counters.{tally_of}
-use Rattle.flat_counters.specs.Standing.{run_tally}
-use Rattle.flat_counters.specs.Stopping.{run_legs}
+use Rattle.board_decisions.specs.Place.{LegAt}
+use Rattle.board_counters.specs.Counters.{tally_of}
+use Rattle.board_counters.specs.Standing.{run_tally}
+use Rattle.board_counters.specs.Stopping.{run_legs}
 use Rattle.flow_model.specs.declared.board.Run.{Run}
 use Rattle.status_table.specs.declared.moves.Kind.{Kind}
 use Rattle.status_table.specs.declared.moves.Kind.TheVariants as kind

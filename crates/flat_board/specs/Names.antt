@@ -1,11 +1,11 @@
 -- The names of groups that stand on a board, beside the groups that know them.
 use Rattle.std.specs.Prelude.{◌≡◌, ℕ, Bool, true, false, List, Option, Some, None, slice_get}
 use Rattle.board_decisions.specs.Derived.{is_fresh}
-use Rattle.board_places.specs.Place.{◌>>=◌}
-use Rattle.board_places.specs.declared.place.LegPlace.{LegPlace}
+use Rattle.board_decisions.specs.Place.{◌>>=◌}
+use Rattle.board_decisions.specs.declared.place.LegPlace.{LegPlace}
 use Rattle.flat_board.specs.declared.undo.Stood.{Stood}
 use Rattle.flat_board.specs.declared.undo.Stood.TheVariants as stood
-use Rattle.flat_counters.specs.Names.{IsName}
+use Rattle.board_counters.specs.Names.{IsName}
 use Rattle.flow_model.specs.declared.board.Board.{Board}
 use Rattle.flow_model.specs.declared.board.Run.{Run}
 use Rattle.flow_model.specs.declared.board.RunState.{RunState}

@@ -1,6 +1,6 @@
 -- Which name of the concurrency groups an event asks for, and what was held of it before.
 use Rattle.std.specs.Prelude.{ℕ, Bool, true, false, List, Option, Some, None, is_some, if◌then◌else◌}
-use Rattle.board_places.specs.Place.{RunAt, LegAt, run_at, leg_at}
+use Rattle.board_decisions.specs.Place.{RunAt, LegAt, run_at, leg_at}
 use Rattle.expr_reader.specs.Fold.{fold}
 use Rattle.flat_board.specs.Names.{group_at}
 use Rattle.flat_board.specs.declared.touched.Touch.{Touch}

@@ -5,8 +5,8 @@ use Rattle.flat_board.specs.Names.{NamesKnown, group_at}
 use Rattle.flat_board.specs.declared.undo.CellBack.{CellBack}
 use Rattle.flat_board.specs.declared.undo.Undo.{Undo}
 use Rattle.flat_board.specs.declared.undo.Undo.TheVariants as takes
-use Rattle.flat_counters.specs.Undo.{only_before, undone}
-use Rattle.flat_counters.specs.declared.undo.OnlyChange.TheVariants as only_change
+use Rattle.board_counters.specs.Undo.{only_before, undone}
+use Rattle.board_counters.specs.declared.undo.OnlyChange.TheVariants as only_change
 use Rattle.flow_model.specs.Mapping.{Ascends}
 use Rattle.flow_model.specs.declared.board.Board.{Board}
 use Rattle.flow_model.specs.declared.plan.Plan.{Plan}

@@ -3,8 +3,8 @@
 //! Each function looks for a refusal first, makes what room it needs, and only then changes the board.
 
 ghost use Rattle.std.specs.Prelude.{◌≡◌, ◌≤◌, OnOk, Some};
-ghost use Rattle.board_places.specs.Place.{job_at, leg_at, run_at};
-ghost use Rattle.board_places.specs.Seen.{job_seen};
+ghost use Rattle.board_decisions.specs.Place.{job_at, leg_at, run_at};
+ghost use Rattle.board_decisions.specs.Seen.{job_seen};
 ghost use Rattle.flat_board.specs.Index.{Goes};
 ghost use Rattle.group_admission.specs.Known.{content};
 ghost use Rattle.status_table.specs.Answers.{Answers, Decides};
@@ -16,11 +16,11 @@ use crate::found::{find_job, find_leg, is_full, is_stopping, keep};
 use crate::groups::{enter_leg, enter_run, leave, leave_leg, leg_stand, next_after, run_stand};
 use crate::laws::who_enters_is_outside;
 use crate::members::{close_run, drop_leg, pass_on, set_ended, stop_run};
+use board_counters::{Counted, LegChange, Tracked};
 use board_decisions::ancestors::job_status_kept;
 use board_decisions::decisions::{job_condition, leg_entrance, leg_outputs, run_entrance};
 use board_decisions::derived::is_closed;
-use board_places::place::{SeenJob, find_run};
-use flat_counters::{Counted, LegChange, Tracked};
+use board_decisions::place::{SeenJob, find_run};
 use flow_model::{Answer, JobState, LegState, Member, Outcome, Reply, RunState, What};
 use group_admission::Groups;
 use status_table::EventFault;

@@ -4,8 +4,8 @@ ghost use Rattle.std.specs.Prelude.{◌≡◌, ◌≤◌, true, Ok, Some, None, 
 ghost use Rattle.flat_board.specs.Index.{Follows, FollowsUnasked, most_changes};
 ghost use Rattle.flat_board.specs.Touched.{cell_before, touched as touched_by};
 ghost use Rattle.flat_board.specs.Undo.{board_before, cell_of, groups_put_back};
-ghost use Rattle.flat_counters.specs.Names.{IsGroup, IsName, IsNamed};
-ghost use Rattle.flat_counters.specs.Track.{play_of};
+ghost use Rattle.board_counters.specs.Names.{IsGroup, IsName, IsNamed};
+ghost use Rattle.board_counters.specs.Track.{play_of};
 ghost use Rattle.flow_model.specs.declared.board.Board.{Board};
 ghost use Rattle.flow_model.specs.declared.reply.Reply.{Reply as ReplyOf};
 ghost use Rattle.group_admission.specs.Content.{EachOnce};
@@ -24,7 +24,7 @@ use crate::moves::{find_first, find_moves};
 use crate::touched::{Touch, held_before, name_at, touched};
 use crate::unasked::{begin_unasked, end_unasked, undo_apart};
 use crate::undo::{CellBack, Stood, Undo};
-use flat_counters::{Counted, OnlyChange, Tracked};
+use board_counters::{Counted, OnlyChange, Tracked};
 use flow_model::{Board, CheckedPlan, Duplicate, Entry, Event, Leg, Member, Reply, Run, Sequence};
 use group_admission::Groups;
 use status_table::{EventFault, Reversible, Table};
@@ -49,7 +49,7 @@ impl Model for FlatBoard {
     ghost coded = { Prim.hlevel (codes, coded_plain) };
 
     ghost use Rattle.flat_board.specs.Sound.{IsSound};
-    ghost use Rattle.flat_counters.specs.Track.{play_of};
+    ghost use Rattle.board_counters.specs.Track.{play_of};
 
     ghost view = { λ f. play_of f.state };
 

@@ -4,17 +4,17 @@ ghost use Rattle.std.specs.Prelude.{◌≡◌, ◌==◌, IfOk, IfSome, Some, nat
 ghost use Rattle.board_decisions.specs.Decisions as decision;
 ghost use Rattle.board_decisions.specs.Derived as derived;
 ghost use Rattle.board_decisions.specs.Kept.{IsKeptOf};
-ghost use Rattle.board_places.specs.Numbered.{leg_there};
-ghost use Rattle.board_places.specs.Place.{job_at, leg_at};
-ghost use Rattle.board_places.specs.Seen.{job_seen, leg_seen};
-ghost use Rattle.flat_counters.specs.Counters.{tally_of};
-ghost use Rattle.flat_counters.specs.Names.{IsNamed};
+ghost use Rattle.board_decisions.specs.Numbered.{leg_there};
+ghost use Rattle.board_decisions.specs.Place.{job_at, leg_at};
+ghost use Rattle.board_decisions.specs.Seen.{job_seen, leg_seen};
+ghost use Rattle.board_counters.specs.Counters.{tally_of};
+ghost use Rattle.board_counters.specs.Names.{IsNamed};
 
+use board_counters::counted::job_of;
+use board_counters::{Counted, Tally};
 use board_decisions::decisions::is_stopping_given;
 use board_decisions::kept::Kept;
-use board_places::place::{SeenJob, SeenLeg, find_placed_leg, find_run, job_in_run};
-use flat_counters::counted::job_of;
-use flat_counters::{Counted, Tally};
+use board_decisions::place::{SeenJob, SeenLeg, find_placed_leg, find_run, job_in_run};
 use std::alloc::{AllocError, Global};
 
 /// A leg in play, with the tally of its job.

@@ -3,14 +3,14 @@
 //! Memory is asked for first; what comes after it changes the board in place.
 
 ghost use Rattle.std.specs.Prelude.{◌≡◌, ◌≤◌, ℕ, List, Ok, OnOk, Option, Result, Some, false};
-ghost use Rattle.board_places.specs.Numbered.{leg_there as leg_there_of};
-ghost use Rattle.board_places.specs.Place.{LegAt};
+ghost use Rattle.board_decisions.specs.Numbered.{leg_there as leg_there_of};
+ghost use Rattle.board_decisions.specs.Place.{LegAt};
 ghost use Rattle.board_decisions.specs.declared.entrance.Entrance.{Entrance as EntranceOf};
 ghost use Rattle.expr_value.specs.Answer.{Gives};
 ghost use Rattle.flat_board.specs.Index.{AsksNamed, EntersNamed, Goes, Keeps, entered};
 ghost use Rattle.flat_board.specs.Stands.{StandsOnlyThere, standing_by};
 ghost use Rattle.flat_board.specs.declared.groups.Stand.{Stand as StandOf};
-ghost use Rattle.flat_counters.specs.Names.{IsGroup, IsName, IsNamed};
+ghost use Rattle.board_counters.specs.Names.{IsGroup, IsName, IsNamed};
 ghost use Rattle.flow_model.specs.declared.board.Board.{Board as BoardOf};
 ghost use Rattle.flow_model.specs.declared.board.Leg.{Leg as LegOf};
 ghost use Rattle.flow_model.specs.declared.event.Member.TheVariants as member;
@@ -24,9 +24,9 @@ ghost use Rattle.status_table.specs.Groups as spec;
 ghost use Rattle.status_table.specs.Row.{leg_enters, run_enters};
 
 use crate::members::{admit, close_run, delay, drop_leg, forget_end, note_end, put_out, stop};
+use board_counters::Tracked;
 use board_decisions::entrance::Entrance;
-use board_places::place::{LegPlace, leg_there};
-use flat_counters::Tracked;
+use board_decisions::place::{LegPlace, leg_there};
 use flow_model::{Board, LegState, Member, Outcome, Reply, RunState, Text, ValueFault};
 use group_admission::Groups;
 use status_table::EventFault;

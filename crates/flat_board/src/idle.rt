@@ -2,15 +2,15 @@
 //! anything may, by what is counted of them.
 
 ghost use Rattle.std.specs.Prelude.{◌≡◌, ◌+◌, ◌<◌, ℕ, Some, false, slice_get};
-ghost use Rattle.board_places.specs.Seen.{leg_seen};
+ghost use Rattle.board_decisions.specs.Seen.{leg_seen};
 ghost use Rattle.flat_board.specs.Idle as spec;
 ghost use Rattle.flow_model.specs.declared.event.Event.TheVariants as event;
 ghost use Rattle.status_table.specs.Kinds.{event_of};
 ghost use Rattle.status_table.specs.Moves.{accepts};
 
 use crate::found::{TalliedLeg, find_leg, have_all_ended, is_full, is_none_fresh};
-use flat_counters::Counted;
-use flat_counters::counted::job_of;
+use board_counters::Counted;
+use board_counters::counted::job_of;
 use flow_model::{JobState, Run, RunState};
 use status_table::moves::Kind;
 

@@ -1,8 +1,8 @@
 //! Changes of one member of a concurrency group, and of the legs that ended, with the counters.
 
 ghost use Rattle.std.specs.Prelude.{◌≡◌, ◌≤◌, ◌+◌, true, Some, OnOk, OnErr};
-ghost use Rattle.flat_counters.specs.Changes.{leg_after};
-ghost use Rattle.flat_counters.specs.Names.{IsGroup, IsName, LegComesNamed};
+ghost use Rattle.board_counters.specs.Changes.{leg_after};
+ghost use Rattle.board_counters.specs.Names.{IsGroup, IsName, LegComesNamed};
 ghost use Rattle.flow_model.specs.declared.board.Board.{Board as BoardOf};
 ghost use Rattle.flow_model.specs.declared.event.Member.TheVariants as member;
 ghost use Rattle.status_table.specs.Groups as spec;
@@ -10,8 +10,8 @@ ghost use Rattle.status_table.specs.Change.{with_numbered_leg};
 ghost use Rattle.status_table.specs.Row.{leg_ended};
 ghost use Rattle.status_table.specs.Seen.{noted, put_out as put_out_of};
 
-use board_places::place::LegPlace;
-use flat_counters::{LegChange, RunChange, Tracked};
+use board_counters::{LegChange, RunChange, Tracked};
+use board_decisions::place::LegPlace;
 use flow_model::{LegState, Mapping, Member, Outcome, RunState, Text};
 use std::alloc::{AllocError, Global};
 

@@ -10,8 +10,8 @@ ghost use Rattle.status_table.specs.Moves as rule;
 
 use crate::found::{find_job, find_leg, is_full, is_stopping};
 use crate::idle::count_idle;
-use board_places::place::find_run;
-use flat_counters::Counted;
+use board_counters::Counted;
+use board_decisions::place::find_run;
 use flow_model::{Event, JobState, RunState};
 use status_table::events::{may_ask, may_drop};
 use status_table::moves::{Kind, count_jobs, count_legs, event_of, opens};

@@ -1,15 +1,15 @@
 //! Which name of the concurrency groups an event asks for, and what was held of it before.
 
 ghost use Rattle.std.specs.Prelude.{◌≡◌, is_some, option_map};
-ghost use Rattle.board_places.specs.Place.{leg_at, run_at};
+ghost use Rattle.board_decisions.specs.Place.{leg_at, run_at};
 ghost use Rattle.flat_board.specs.Names.{group_at};
 ghost use Rattle.flat_board.specs.Touched as spec;
 ghost use Rattle.group_admission.specs.Known.{content};
 
 use crate::found::find_leg;
 use crate::undo::{CellBack, Stood};
-use board_places::place::{LegPlace, find_run, leg_there};
-use flat_counters::Counted;
+use board_counters::Counted;
+use board_decisions::place::{LegPlace, find_run, leg_there};
 use flow_model::{Board, Event, Group, Member, Text};
 use group_admission::member::{is_member, same_member};
 use group_admission::{Groups, Held};

@@ -12,7 +12,7 @@ ghost use Rattle.status_table.specs.Unasked.{Leads};
 use crate::events::end;
 use crate::found::{find_leg, keep};
 use crate::undo::Undo;
-use flat_counters::{LegChange, OnlyChange, Tracked};
+use board_counters::{LegChange, OnlyChange, Tracked};
 use flow_model::{Answer, LegState, Outcome};
 use status_table::EventFault;
 use status_table::events::{ended_step, failed_step, skipped_step};

@@ -1,7 +1,7 @@
 //! What takes an entry back.
 
-use board_places::place::LegPlace;
-use flat_counters::Change;
+use board_counters::Change;
+use board_decisions::place::LegPlace;
 use flow_model::LegState;
 use group_admission::Held;
 

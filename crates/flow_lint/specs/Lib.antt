@@ -1,3 +1,6 @@
+pub mod FaultNodes
 pub mod Nodes
 pub mod Notes
+pub mod Places
 pub mod Shows
+pub mod Unknown

@@ -8,7 +8,7 @@ use Rattle.flow_reader.specs.declared.fault.FlowFault.TheVariants as flow
 use Rattle.plan_assembler.specs.declared.fault.PlanFault.{PlanFault}
 use Rattle.plan_assembler.specs.declared.fault.PlanFault.TheVariants as plan
 use Rattle.flow_lint.specs.Shows.{ShowsFlow, ShowsText}
-use Rattle.flow_places.specs.Places.{StandsAt, ShowsNeed}
+use Rattle.flow_lint.specs.Places.{StandsAt, ShowsNeed}
 
 -- The path leads to a value that shows something, behind its last key or number.
 pub record LeadsTo (root : Data) (path : List ℕ) (Shows : List ℕ → Data → Type 0) : Type 0 where

@@ -5,7 +5,7 @@ use Rattle.serde_json.specs.Find.{get, as_str}
 use Rattle.expr_reader.specs.Faults.{fault_name, fault_place}
 use Rattle.expr_reader.specs.declared.fault.ExprFault.{ExprFault}
 use Rattle.flow_model.specs.Json.{value_of}
-use Rattle.flow_places.specs.Places.{IsUnread}
+use Rattle.flow_lint.specs.Places.{IsUnread}
 use Rattle.flow_reader.specs.Parts.{shell_named}
 use Rattle.flow_reader.specs.Checked.{bad}
 use Rattle.flow_reader.specs.declared.fault.FlowFault.{FlowFault}

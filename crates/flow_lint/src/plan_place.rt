@@ -4,19 +4,21 @@ ghost use Rattle.std.specs.Prelude.{IsTrue, IfOk, IfSome, codes};
 ghost use Rattle.serde_json.specs.Find.{get};
 ghost use Rattle.std.specs.List.{All};
 ghost use Rattle.serde_json.specs.View.{view};
-ghost use Rattle.flow_lint.specs.Nodes.{HasText};
+ghost use Rattle.flow_lint.specs.FaultNodes.{HasText};
 ghost use Rattle.flow_lint.specs.Notes.{IsPlanPlace, IsSeen, PlanPlace};
 ghost use Rattle.flow_lint.specs.Shows.{ShowsText};
-ghost use Rattle.flow_places.specs.Nodes.{Fits, HasNeed};
+ghost use Rattle.flow_lint.specs.Nodes.{Fits, HasNeed};
 ghost use Rattle.plan_assembler.specs.declared.fault.PlanFault.TheVariants.{UnknownNeed};
 
 use crate::cycles::find_cycle;
+use crate::kind::Kind;
+use crate::node::{Node, below, nodes_of};
+use crate::note::{Note, noted};
 use crate::sentences::{many_sentence, matrix_sentence, text_sentence};
+use crate::texts::read_text;
+use crate::unknown::{need_sentence, unknown_need};
 use expr_reader::ExprFault;
 use flow_model::{Flow, FlowJob, Text, read_json};
-use flow_places::{
-    Kind, Node, Note, below, need_sentence, nodes_of, noted, read_text, unknown_need,
-};
 use flow_reader::{FlowFault, read_flow};
 use matrix_expand::{MatrixFault, expand};
 use plan_assembler::PlanFault;

@@ -1,8 +1,9 @@
 //! What is said of faults, and what to write instead.
 
+use crate::kind::Kind;
+use crate::node::Node;
 use expr_reader::ExprFault;
 use flow_model::is_id;
-use flow_places::{Kind, Node};
 use flow_reader::FlowFault;
 use matrix_expand::MatrixFault;
 use std::alloc::{AllocError, Global};

@@ -3,7 +3,7 @@ use Rattle.std.proofs.Common.{◌≡◌, ℕ, ◌≤◌, ◌++◌, Bool, true, f
 use Rattle.std.specs.List.{list_all}
 use Rattle.std.proofs.lemmas.Bool.{le-leb}
 use Rattle.std.proofs.lemmas.List.Folds.{list_all-append}
-use Rattle.board_places.proofs.Lists.{and-left, and-right, and-both}
+use Rattle.board_decisions.proofs.Lists.{and-left, and-right, and-both}
 use Rattle.flow_model.specs.Numbers.{board_jobs, board_legs}
 use Rattle.flow_model.specs.declared.board.Board.{Board}
 use Rattle.flow_model.specs.declared.event.Event.{Event}
@@ -14,7 +14,7 @@ use Rattle.locked_board.specs.Fault.{Refuses}
 use Rattle.locked_board.specs.declared.fault.PostFault.{PostFault}
 use Rattle.locked_board.specs.declared.fault.PostFault.TheVariants as post
 use Rattle.status_table.specs.Moves.{clerk_events, is_accepted, accepts, moves}
-use Rattle.board_places.specs.Places.{numbers}
+use Rattle.board_decisions.specs.Places.{numbers}
 use Rattle.status_table.specs.Row.{Row, row, event_row}
 use Rattle.status_table.specs.declared.fault.EventFault.TheVariants as fault
 

@@ -3,7 +3,7 @@ use Rattle.std.specs.Prelude.{◌≡◌, ◌+◌, ℕ, List, map, sum_by, Result
 use Rattle.locked_board.specs.declared.clerk.Clerk.{Clerk}
 use Rattle.locked_board.specs.declared.clerk.Clerk.TheVariants as clerk
 use Rattle.locked_board.specs.declared.fault.PostFault.{PostFault}
-use Rattle.board_places.specs.Places.{numbers}
+use Rattle.board_decisions.specs.Places.{numbers}
 
 -- a worker, and how many of its entries were accepted
 pub record Hand : Type 0 where

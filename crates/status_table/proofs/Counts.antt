@@ -4,9 +4,9 @@ use Rattle.std.specs.List.{flat_map, list_all, AllZip}
 use Rattle.std.proofs.lemmas.List.Sums.{sum_by-cons, sum_by-append}
 use Rattle.status_table.specs.Change.{changed}
 use Rattle.status_table.specs.Groups.{first_place}
-use Rattle.board_places.proofs.Lists.{and-left, and-right, and-both}
+use Rattle.board_decisions.proofs.Lists.{and-left, and-right, and-both}
 use Rattle.status_table.proofs.Lists.{changed-cons, zip-changed}
-use Rattle.board_places.proofs.Lists.{same_some, no_some}
+use Rattle.board_decisions.proofs.Lists.{same_some, no_some}
 
 -- ---- sums
 

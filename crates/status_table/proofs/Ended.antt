@@ -3,7 +3,7 @@ use Rattle.std.proofs.Common.{◌≡◌, ◌⊎◌, inl, inr, ℕ, zero, suc, �
 use Rattle.std.specs.List.{list_all, AllZip}
 use Rattle.std.proofs.lemmas.Bool.{true≢false}
 use Rattle.board_decisions.specs.Derived.{is_closed, is_open, is_shut, is_fresh, is_ended, job_has_ended, result_by, holds_at, needs_have_ended}
-use Rattle.board_places.specs.Place.{JobAt, job_at, job_place, job_place_from}
+use Rattle.board_decisions.specs.Place.{JobAt, job_at, job_place, job_place_from}
 use Rattle.flow_model.specs.declared.plan.Plan.{Plan}
 use Rattle.flow_model.specs.declared.plan.JobPlan.{JobPlan}
 use Rattle.flow_model.specs.declared.board.Board.{Board}
@@ -18,11 +18,11 @@ use Rattle.flow_model.specs.declared.board.LegState.TheVariants as leg_state
 use Rattle.status_table.specs.Lawful.{leg_stands_right, JobFits, NeedsEnded}
 use Rattle.status_table.specs.Row.{first_of}
 use Rattle.status_table.specs.Stays.{LegStays, JobStays, RunStays, Stays}
-use Rattle.board_places.proofs.Lists.{and-left}
+use Rattle.board_decisions.proofs.Lists.{and-left}
 use Rattle.status_table.proofs.Counts.{zip-beside, zip-then, zip-left, all-weaker}
 use Rattle.status_table.proofs.Found.{job_stands}
 use Rattle.status_table.proofs.Lists.{zip-length}
-use Rattle.board_places.proofs.Lists.{same_some}
+use Rattle.board_decisions.proofs.Lists.{same_some}
 
 -- ---- nothing changed, and one change after the other
 

@@ -6,7 +6,7 @@ use Rattle.std.proofs.lemmas.Bool.{true≢false}
 use Rattle.board_decisions.specs.declared.entrance.Entrance.{Entrance}
 use Rattle.board_decisions.specs.Decisions.{run_entrance, leg_entrance, is_stopping}
 use Rattle.board_decisions.specs.Derived.{is_going, is_open, is_fresh, is_full}
-use Rattle.board_places.specs.Place.{RunAt, LegAt, run_at, leg_at}
+use Rattle.board_decisions.specs.Place.{RunAt, LegAt, run_at, leg_at}
 use Rattle.flow_model.specs.Mapping.{value_at, Ascends}
 use Rattle.flow_model.specs.Numbers.{board_legs, plan_jobs, plan_legs}
 use Rattle.flow_model.specs.declared.plan.Plan.{Plan}
@@ -31,11 +31,11 @@ use Rattle.status_table.specs.Lawful.{Lawful}
 use Rattle.status_table.specs.Moves.{is_accepted}
 use Rattle.status_table.specs.Row.{Row, row, open_run, open_found, run_enters, may_ask, ask_found, leg_enters, close_found, drop_found, finish_found}
 use Rattle.status_table.specs.Runs.{new_leg, new_job, new_run, new_board}
-use Rattle.board_places.proofs.Lists.{and-right}
+use Rattle.board_decisions.proofs.Lists.{and-right}
 use Rattle.status_table.proofs.Decided.{by_test}
 use Rattle.status_table.proofs.Found.{run_stands as run_found, leg_stands as leg_found, leg_item}
 use Rattle.status_table.proofs.Lists.{flat_map-map}
-use Rattle.board_places.proofs.Lists.{same_some, no_some}
+use Rattle.board_decisions.proofs.Lists.{same_some, no_some}
 use Rattle.status_table.proofs.Shown.{opens_as_entered, asks_as_entered, closes_as_left, drops_as_left, finishes_as_left}
 use Rattle.status_table.proofs.Steps.{standing}
 use Rattle.status_table.proofs.Still.{judge_shows, take_shows, begin_shows, end_shows, cancel_shows}

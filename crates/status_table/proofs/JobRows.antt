@@ -4,7 +4,7 @@ use Rattle.std.specs.List.{flat_map, list_all}
 use Rattle.std.proofs.lemmas.Bool.{true≢false, cases_eq}
 use Rattle.board_decisions.specs.Decisions.{job_condition}
 use Rattle.board_decisions.specs.Derived.{is_going, is_closed, is_open, is_shut, is_fresh, is_under_way, job_status, needs_have_ended}
-use Rattle.board_places.specs.Place.{JobAt, job_at}
+use Rattle.board_decisions.specs.Place.{JobAt, job_at}
 use Rattle.flow_model.specs.Numbers.{board_legs}
 use Rattle.flow_model.specs.declared.plan.Plan.{Plan}
 use Rattle.flow_model.specs.declared.board.Board.{Board}
@@ -31,7 +31,7 @@ use Rattle.status_table.proofs.Ended.{leg-stays, job-stays, run-stays, unjudged-
 use Rattle.status_table.proofs.Entering.{Follows, Leads}
 use Rattle.status_table.proofs.Found.{JobStands, job_stands}
 use Rattle.status_table.proofs.Lists.{flat_map-kept, flat_map-twice, zip-get, changed-there, changed-elsewhere}
-use Rattle.board_places.proofs.Lists.{same_some}
+use Rattle.board_decisions.proofs.Lists.{same_some}
 use Rattle.status_table.proofs.Numbers.{jobs_before, number_of_job}
 
 -- ---- Judge

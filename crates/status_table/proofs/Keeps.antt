@@ -6,10 +6,10 @@ use Rattle.std.proofs.lemmas.Bool.Decides.{nat_tests}
 use Rattle.std.proofs.lemmas.List.{length-append}
 use Rattle.std.proofs.lemmas.Option.{slice_get_within}
 use Rattle.board_decisions.specs.declared.entrance.Entrance.{Entrance}
-use Rattle.board_places.specs.declared.place.JobPlace.{JobPlace}
+use Rattle.board_decisions.specs.declared.place.JobPlace.{JobPlace}
 use Rattle.board_decisions.specs.Derived.{is_ended, is_going, is_closed, is_open, is_fresh, is_untaken, is_full, jobs_have_ended, run_result}
 use Rattle.board_decisions.specs.Decisions.{is_stopping, leg_result, leg_outputs, run_entrance, leg_entrance}
-use Rattle.board_places.specs.Place.{RunAt, JobAt, LegAt, run_at, job_at, leg_at}
+use Rattle.board_decisions.specs.Place.{RunAt, JobAt, LegAt, run_at, job_at, leg_at}
 use Rattle.flow_model.specs.Numbers.{board_legs}
 use Rattle.flow_model.specs.declared.plan.Plan.{Plan}
 use Rattle.flow_model.specs.declared.plan.JobPlan.{JobPlan}
@@ -38,10 +38,10 @@ use Rattle.status_table.specs.Ends.{times_ended}
 use Rattle.status_table.specs.Groups.{leg_standing, dropped, stopped, moved, leaves}
 use Rattle.status_table.specs.Row.{Row, Beginning, calls, skips, faults, row, event_row, job_state_set, leg_state_set, step_done, leg_ended, run_enters, open_run, open_found, judge_job, judge_found, judgement, may_ask, ask_found, leg_enters, may_drop, drop_found, take_leg, take_found, idle_owner, calling_owner, next_step, skipped_step, failed_step, begin_leg, begin_found, beginning_by, end_leg, end_found, ending_by, finish_leg, finish_found, finishing_by, ended_state, run_closes, close_run, close_found, close_waiting, cancel_found}
 use Rattle.status_table.specs.Shape.{open_calls, steps_begun, has_room, JobShape, RunShape, HasShape}
-use Rattle.board_places.proofs.Lists.{and-right}
+use Rattle.board_decisions.proofs.Lists.{and-right}
 use Rattle.status_table.proofs.Found.{LegStands, leg_stands, leg_item}
 use Rattle.status_table.proofs.Lists.{changed-there, changed-elsewhere, length-changed, flat_map-kept, flat_map-twice, zip-changed, all-changed, all-get}
-use Rattle.board_places.proofs.Lists.{same_some, no_some}
+use Rattle.board_decisions.proofs.Lists.{same_some, no_some}
 use Rattle.status_table.proofs.Numbers.{board_legs-changed, numbered_leg-changed}
 use Rattle.status_table.proofs.Standings.{Unended}
 use Rattle.status_table.proofs.Turns.{Fits, same_legs, ends_pushed, close_fits, drop_fits, stop_fits, enter_fits, run_leaves, leg_leaves}

@@ -36,7 +36,7 @@ use Rattle.status_table.proofs.Found.{job_stands}
 use Rattle.status_table.proofs.Keeps.{Keeps, row_keeps}
 use Rattle.status_table.proofs.Legal.{new_fits as new_board_fits}
 use Rattle.status_table.proofs.Lists.{flat_map-map, all-map}
-use Rattle.board_places.proofs.Lists.{same_some, no_some}
+use Rattle.board_decisions.proofs.Lists.{same_some, no_some}
 use Rattle.status_table.proofs.Rows.{event_leads, row_leads}
 use Rattle.status_table.proofs.Turns.{Fits}
 

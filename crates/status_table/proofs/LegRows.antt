@@ -7,7 +7,7 @@ use Rattle.std.proofs.lemmas.Option.{slice_get_within}
 use Rattle.board_decisions.specs.declared.entrance.Entrance.{Entrance}
 use Rattle.board_decisions.specs.Decisions.{is_stopping, leg_result, leg_outputs, leg_entrance}
 use Rattle.board_decisions.specs.Derived.{is_going, is_open, is_fresh, is_untaken, is_ended, is_under_way, is_full}
-use Rattle.board_places.specs.Place.{LegAt}
+use Rattle.board_decisions.specs.Place.{LegAt}
 use Rattle.flow_model.specs.Numbers.{board_legs}
 use Rattle.flow_model.specs.declared.plan.Plan.{Plan}
 use Rattle.flow_model.specs.declared.plan.JobPlan.{JobPlan}
@@ -39,12 +39,12 @@ use Rattle.status_table.specs.Rank.{leg_rank, rank_of_leg, rank}
 use Rattle.status_table.specs.Row.{Row, Beginning, calls, skips, faults}
 use Rattle.status_table.specs.Row as rows
 use Rattle.status_table.specs.Shape.{open_calls, has_room, JobShape, RunShape, HasShape}
-use Rattle.board_places.proofs.Lists.{and-left, and-right}
+use Rattle.board_decisions.proofs.Lists.{and-left, and-right}
 use Rattle.status_table.proofs.Counts.{one, sum-changed, only_first}
 use Rattle.status_table.proofs.Entering.{Follows, Leads, leads-if, lawfully, Asker, enters_leads, leaves_leads, ends_apart, stands_still}
 use Rattle.status_table.proofs.Found.{LegStands}
 use Rattle.status_table.proofs.Lists.{zip-get, all-get}
-use Rattle.board_places.proofs.Lists.{same_some, no_some}
+use Rattle.board_decisions.proofs.Lists.{same_some, no_some}
 use Rattle.status_table.proofs.Steps.{Step, Live, leg_step, as_much}
 use Rattle.status_table.proofs.Turnover.{under-context, right-there, right-waiting, numbered}
 

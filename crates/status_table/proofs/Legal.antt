@@ -19,7 +19,7 @@ use Rattle.status_table.specs.Shape.{has_room, JobShape, RunShape}
 use Rattle.status_table.proofs.Keeps.{Keeps, row_keeps}
 use Rattle.status_table.proofs.Turns.{Fits}
 use Rattle.status_table.proofs.Lists.{flat_map-map, zip-map, all-map}
-use Rattle.board_places.proofs.Lists.{same_some, no_some}
+use Rattle.board_decisions.proofs.Lists.{same_some, no_some}
 
 -- ---- the board on which all is new
 

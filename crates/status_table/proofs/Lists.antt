@@ -3,9 +3,9 @@ use Rattle.std.proofs.Common.{◌≡◌, ◌≢◌, ℕ, zero, suc, ◌-◌, ◌
 use Rattle.std.specs.List.{flat_map, list_all, AllZip}
 use Rattle.std.proofs.lemmas.List.{map-append}
 use Rattle.std.proofs.lemmas.List.Concat.{flat_map-append}
-use Rattle.board_places.specs.Place.{◌>>=◌}
+use Rattle.board_decisions.specs.Place.{◌>>=◌}
 use Rattle.status_table.specs.Change.{put, changed}
-use Rattle.board_places.proofs.Lists.{and-left, and-right, and-both, same_some, no_some}
+use Rattle.board_decisions.proofs.Lists.{and-left, and-right, and-both, same_some, no_some}
 
 -- ---- an item changed
 

@@ -1,6 +1,6 @@
 -- Each row of the table leads from a lawful board to a lawful one.
 use Rattle.std.proofs.Common.{◌≡◌, ℕ, Option, Some, None, Err, nat_le, refl}
-use Rattle.board_places.specs.Place.{RunAt, JobAt, LegAt, run_at, job_at, leg_at}
+use Rattle.board_decisions.specs.Place.{RunAt, JobAt, LegAt, run_at, job_at, leg_at}
 use Rattle.flow_model.specs.declared.plan.Plan.{Plan}
 use Rattle.flow_model.specs.declared.board.Board.{Board}
 use Rattle.flow_model.specs.declared.event.Event.{Event}

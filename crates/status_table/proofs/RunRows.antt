@@ -5,7 +5,7 @@ use Rattle.std.proofs.lemmas.Bool.{true≢false}
 use Rattle.board_decisions.specs.declared.entrance.Entrance.{Entrance}
 use Rattle.board_decisions.specs.Decisions.{run_entrance}
 use Rattle.board_decisions.specs.Derived.{is_going, is_closed, jobs_have_ended, run_result}
-use Rattle.board_places.specs.Place.{RunAt}
+use Rattle.board_decisions.specs.Place.{RunAt}
 use Rattle.flow_model.specs.declared.plan.Plan.{Plan}
 use Rattle.flow_model.specs.declared.plan.RunPlan.{RunPlan}
 use Rattle.flow_model.specs.declared.board.Board.{Board}

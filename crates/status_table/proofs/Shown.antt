@@ -5,10 +5,10 @@ use Rattle.std.specs.Str.{bytes_eq}
 use Rattle.std.proofs.lemmas.Bool.{true≢false}
 use Rattle.std.proofs.lemmas.Slice.Eq.{bytes_eq-Decides}
 use Rattle.board_decisions.specs.declared.entrance.Entrance.{Entrance}
-use Rattle.board_places.specs.declared.place.LegPlace.{LegPlace}
+use Rattle.board_decisions.specs.declared.place.LegPlace.{LegPlace}
 use Rattle.board_decisions.specs.Decisions.{run_entrance, leg_entrance, is_stopping, leg_result, leg_outputs}
 use Rattle.board_decisions.specs.Derived.{is_going, is_open, is_closed, is_untaken, is_fresh, is_full, jobs_have_ended, run_result}
-use Rattle.board_places.specs.Place.{RunAt, LegAt, run_at, leg_at, leg_place}
+use Rattle.board_decisions.specs.Place.{RunAt, LegAt, run_at, leg_at, leg_place}
 use Rattle.flow_model.specs.Mapping.{value_at, Ascends}
 use Rattle.flow_model.specs.Numbers.{board_legs}
 use Rattle.flow_model.specs.declared.plan.Plan.{Plan}
@@ -35,13 +35,13 @@ use Rattle.status_table.specs.Lawful.{JobFits, RunFits, Lawful}
 use Rattle.status_table.specs.Members.{count_members, holders, waiters}
 use Rattle.status_table.specs.Rank.{run_rank}
 use Rattle.status_table.specs.Row.{Row, open_run, open_found, run_enters, run_closes, close_waiting, close_run, close_found, may_drop, drop_found, may_ask, ask_found, leg_enters, idle_owner, ended_state, leg_ended, finishing_by, finish_leg, finish_found}
-use Rattle.board_places.proofs.Lists.{and-left, and-right}
+use Rattle.board_decisions.proofs.Lists.{and-left, and-right}
 use Rattle.status_table.proofs.Counts.{one, counted, first-some, only_first, map-some}
 use Rattle.status_table.proofs.Decided.{by_test}
 use Rattle.status_table.proofs.Entering.{Asker}
 use Rattle.status_table.proofs.Found.{RunStands, run_stands as run_found, LegStands, leg_stands as leg_found, leg_item}
 use Rattle.status_table.proofs.Lists.{changed-cons, changed-there}
-use Rattle.board_places.proofs.Lists.{same_some}
+use Rattle.board_decisions.proofs.Lists.{same_some}
 use Rattle.status_table.proofs.LegRows.{leg_drops, ask_asker, idle-holds, idle-rank, holding-live}
 use Rattle.status_table.proofs.Numbers.{numbered_leg-changed}
 use Rattle.status_table.proofs.RunRows.{run_asker, new_changes}

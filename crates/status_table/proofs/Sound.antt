@@ -5,9 +5,9 @@ use Rattle.std.proofs.lemmas.Bool.Decides.{nat_tests}
 use Rattle.std.proofs.lemmas.Bool.{leb-true, le-leb}
 use Rattle.std.proofs.lemmas.List.{length-append}
 use Rattle.std.proofs.lemmas.Option.{slice_get_within}
-use Rattle.board_places.specs.Numbered.{HasAsMany, IsNumberedIn}
+use Rattle.board_decisions.specs.Numbered.{HasAsMany, IsNumberedIn}
 use Rattle.board_decisions.specs.Ancestors.{NeedsPointBack, StandsAfterNeeds}
-use Rattle.board_places.specs.Place.{JobAt, job_at}
+use Rattle.board_decisions.specs.Place.{JobAt, job_at}
 use Rattle.flow_model.specs.Numbers.{plan_jobs, board_jobs}
 use Rattle.flow_model.specs.Found.{Path, rule, or_else, under, each_pair, if_there}
 use Rattle.flow_model.specs.Name.{is_id}
@@ -21,10 +21,10 @@ use Rattle.flow_model.specs.declared.board.Job.{Job}
 use Rattle.status_table.specs.InPlay.{InPlay}
 use Rattle.status_table.specs.Row.{first_of}
 use Rattle.status_table.specs.Shape.{JobShape, RunShape, HasShape}
-use Rattle.board_places.proofs.Lists.{get-left, and-left, and-right, and-both}
+use Rattle.board_decisions.proofs.Lists.{get-left, and-left, and-right, and-both}
 use Rattle.status_table.proofs.Found.{job_stands}
 use Rattle.status_table.proofs.Lists.{zip-length, zip-append}
-use Rattle.board_places.proofs.Lists.{same_some, no_some, get-right}
+use Rattle.board_decisions.proofs.Lists.{same_some, no_some, get-right}
 use Rattle.status_table.proofs.Numbers.{jobs_before, number_of_job}
 
 -- ---- a search that finds nothing

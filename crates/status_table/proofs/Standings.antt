@@ -2,7 +2,7 @@
 use Rattle.std.proofs.Common.{◌≡◌, ◌≢◌, ℕ, zero, suc, ◌+◌, Bool, true, false, List, [], ◌∷◌, Option, Some, None, slice_get, drop, cond, ap, sym, refl, ◌∙◌, arith}
 use Rattle.std.proofs.lemmas.Bool.{true≢false}
 use Rattle.board_decisions.specs.Derived.{is_ended}
-use Rattle.board_places.specs.Numbered.{numbered_leg}
+use Rattle.board_decisions.specs.Numbered.{numbered_leg}
 use Rattle.flow_model.specs.Numbers.{board_legs}
 use Rattle.flow_model.specs.declared.board.Board.{Board}
 use Rattle.flow_model.specs.declared.board.Leg.{Leg}
@@ -11,7 +11,7 @@ use Rattle.flow_model.specs.declared.board.LegState.TheVariants as leg_state
 use Rattle.flow_model.specs.declared.event.Member.{Member}
 use Rattle.flow_model.specs.declared.event.Member.TheVariants as member
 use Rattle.status_table.specs.Groups.{Standing, apart, holding, waiting, run_standing, leg_standing, leg_stands, waits_name, first_place, run_or_leg, first_member, waiter, next_after}
-use Rattle.board_places.proofs.Lists.{same_some, no_some}
+use Rattle.board_decisions.proofs.Lists.{same_some, no_some}
 use Rattle.status_table.proofs.Numbers.{legs_are_numbered}
 
 -- the leg at the place of a number is that item of all legs

@@ -1,10 +1,10 @@
 -- Events that take part in no group: who holds a name and who waits for it is found as before.
 use Rattle.std.proofs.Common.{◌≡◌, ℕ, zero, suc, ◌||◌, Bool, true, false, List, [], ◌∷◌, ◌++◌, Option, Some, None, Result, Ok, Err, slice_get, nat_le, if◌then◌else◌, ap, subst, sym, refl, ◌∙◌}
 use Rattle.std.specs.List.{flat_map}
-use Rattle.board_places.specs.declared.place.JobPlace.{JobPlace}
+use Rattle.board_decisions.specs.declared.place.JobPlace.{JobPlace}
 use Rattle.board_decisions.specs.Decisions.{is_stopping}
 use Rattle.board_decisions.specs.Derived.{is_closed}
-use Rattle.board_places.specs.Place.{RunAt, JobAt, LegAt, run_at, job_at, leg_at}
+use Rattle.board_decisions.specs.Place.{RunAt, JobAt, LegAt, run_at, job_at, leg_at}
 use Rattle.flow_model.specs.Numbers.{board_legs}
 use Rattle.flow_model.specs.declared.plan.Plan.{Plan}
 use Rattle.flow_model.specs.declared.board.Board.{Board}
@@ -29,7 +29,7 @@ use Rattle.status_table.proofs.Decided.{by_test}
 use Rattle.status_table.proofs.Found.{LegStands, leg_stands as leg_found, leg_item}
 use Rattle.status_table.proofs.LegRows.{idle-holds}
 use Rattle.status_table.proofs.Lists.{changed-cons, flat_map-kept, flat_map-twice}
-use Rattle.board_places.proofs.Lists.{same_some, no_some}
+use Rattle.board_decisions.proofs.Lists.{same_some, no_some}
 use Rattle.status_table.proofs.Numbers.{board_legs-changed}
 use Rattle.status_table.proofs.Shown.{first-kept, stop_keeps}
 

@@ -4,9 +4,9 @@ use Rattle.std.specs.List.{list_all, AllZip}
 use Rattle.std.proofs.lemmas.Bool.{true≢false}
 use Rattle.std.proofs.lemmas.Slice.Eq.{bytes_eq-Decides}
 use Rattle.board_decisions.specs.Derived.{is_going, is_closed, is_open, is_shut, is_fresh, is_ended, is_under_way, leg_has_ended, job_has_ended}
-use Rattle.board_places.specs.Numbered.{leg_there}
-use Rattle.board_places.specs.Place.{◌>>=◌, LegAt, leg_place}
-use Rattle.board_places.specs.declared.place.LegPlace.{LegPlace}
+use Rattle.board_decisions.specs.Numbered.{leg_there}
+use Rattle.board_decisions.specs.Place.{◌>>=◌, LegAt, leg_place}
+use Rattle.board_decisions.specs.declared.place.LegPlace.{LegPlace}
 use Rattle.flow_model.specs.Numbers.{board_legs}
 use Rattle.flow_model.specs.declared.plan.Plan.{Plan}
 use Rattle.flow_model.specs.declared.plan.JobPlan.{JobPlan}
@@ -28,7 +28,7 @@ use Rattle.status_table.specs.Groups.{Standing, apart, holding, waiting, run_sta
 use Rattle.status_table.specs.Lawful.{leg_stands_right, JobFits, RunFits, MembersFit}
 use Rattle.status_table.specs.Members.{count_members, holders, waiters, is_waiting, share_name}
 use Rattle.status_table.specs.Rank.{run_rank, leg_rank}
-use Rattle.board_places.proofs.Lists.{and-left, and-right, and-both}
+use Rattle.board_decisions.proofs.Lists.{and-left, and-right, and-both}
 use Rattle.status_table.proofs.Counts.{one, counted, first-none, first-some, map-some, zip-left, zip-weaker, all-weaker}
 use Rattle.status_table.proofs.Ended.{stays-same}
 use Rattle.status_table.proofs.Lists.{all-get, bind-some}

@@ -5,9 +5,9 @@ use Rattle.std.proofs.lemmas.Bool.{cases_eq}
 use Rattle.std.proofs.lemmas.Bool.Decides.{nat_tests}
 use Rattle.std.proofs.lemmas.List.Sums.{sum_by-append}
 use Rattle.board_decisions.specs.declared.entrance.Entrance.{Entrance}
-use Rattle.board_places.specs.declared.place.LegPlace.{LegPlace}
+use Rattle.board_decisions.specs.declared.place.LegPlace.{LegPlace}
 use Rattle.board_decisions.specs.Derived.{is_ended}
-use Rattle.board_places.specs.Place.{leg_place}
+use Rattle.board_decisions.specs.Place.{leg_place}
 use Rattle.flow_model.specs.Numbers.{board_legs}
 use Rattle.flow_model.specs.declared.plan.Plan.{Plan}
 use Rattle.flow_model.specs.declared.plan.JobPlan.{JobPlan}
@@ -26,7 +26,7 @@ use Rattle.status_table.specs.Ends.{times_ended, EndOnce}
 use Rattle.status_table.specs.Groups.{Done, run_standing, leg_standing, holder, waiter, next_after, closed, dropped, admitted, waits, passed_on, cancelled, displaced, stopped, stop_told, told, moved, is_own, enters_held, enters, leaves}
 use Rattle.status_table.specs.Shape.{steps_begun, has_room, JobShape, RunShape, HasShape}
 use Rattle.status_table.proofs.Lists.{changed-there, changed-elsewhere, changed-same, length-changed, flat_map-kept, zip-changed, all-each}
-use Rattle.board_places.proofs.Lists.{same_some}
+use Rattle.board_decisions.proofs.Lists.{same_some}
 use Rattle.status_table.proofs.Numbers.{numbered_leg-changed}
 use Rattle.status_table.proofs.Standings.{Unended, waiter_unended, next_other, next_unended}
 

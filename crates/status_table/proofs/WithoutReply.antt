@@ -2,7 +2,7 @@
 use Rattle.std.proofs.Common.{◌≡◌, ◌==◌, ℕ, ℤ, pos, Bool, true, not, List, [], ◌∷◌, length, Option, Some, None, Result, Ok, Err, if◌then◌else◌, refl, ap, sym, subst, ◌∙◌, arith}
 use Rattle.std.proofs.lemmas.Bool.Decides.{nat_tests}
 use Rattle.board_decisions.specs.Decisions.{is_called}
-use Rattle.board_places.specs.Place.{LegAt}
+use Rattle.board_decisions.specs.Place.{LegAt}
 use Rattle.flow_model.specs.declared.board.Board.{Board}
 use Rattle.flow_model.specs.declared.event.Answer.{Answer}
 use Rattle.flow_model.specs.declared.event.Answer.TheVariants as answer

@@ -1,7 +1,7 @@
 -- The concurrency groups as they are kept by names, beside a board: what an event asks of them, and what is true of them.
 use Rattle.std.specs.Prelude.{◌≡◌, ℕ, true, false, [], Option, Some, None}
 use Rattle.board_decisions.specs.Decisions.{run_entrance, leg_entrance}
-use Rattle.board_places.specs.Place.{RunAt, LegAt, run_at, leg_at}
+use Rattle.board_decisions.specs.Place.{RunAt, LegAt, run_at, leg_at}
 use Rattle.flow_model.specs.Mapping.{value_at, Ascends}
 use Rattle.flow_model.specs.declared.board.Board.{Board}
 use Rattle.flow_model.specs.declared.event.Event.{Event}

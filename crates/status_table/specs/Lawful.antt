@@ -2,7 +2,7 @@
 use Rattle.std.specs.Prelude.{◌≡◌, ℕ, ◌≤◌, ◌&&◌, ◌||◌, Bool, true, not, List, length, Option, Some, None, count_by}
 use Rattle.std.specs.List.{list_all, AllZip}
 use Rattle.board_decisions.specs.Derived.{is_going, is_open, is_fresh, is_under_way, needs_have_ended}
-use Rattle.board_places.specs.Place.{JobAt, job_at}
+use Rattle.board_decisions.specs.Place.{JobAt, job_at}
 use Rattle.flow_model.specs.declared.plan.Plan.{Plan}
 use Rattle.flow_model.specs.declared.plan.RunPlan.{RunPlan}
 use Rattle.flow_model.specs.declared.plan.JobPlan.{JobPlan}

@@ -2,7 +2,7 @@
 use Rattle.std.specs.Prelude.{◌&&◌, ◌++◌, Bool, true, false, not, List, [], ◌∷◌, length, map, filter, slice_get, Option, Ok, Err}
 use Rattle.std.specs.List.{list_all, list_any}
 use Rattle.board_decisions.specs.Derived.{is_closed}
-use Rattle.board_places.specs.Places.{numbers}
+use Rattle.board_decisions.specs.Places.{numbers}
 use Rattle.flow_model.specs.Numbers.{board_jobs, board_legs}
 use Rattle.flow_model.specs.declared.plan.Plan.{Plan}
 use Rattle.flow_model.specs.declared.board.Board.{Board}

@@ -1,11 +1,11 @@
 -- The table: what each event does to a board, and when it is refused.
 use Rattle.std.specs.Prelude.{ℕ, pos, negsuc, zero, suc, ◌-◌, ◌==◌, ◌++◌, ◌&&◌, ◌||◌, Bool, true, false, not, List, [], ◌∷◌, length, nat_le, nat_lt, Option, Some, None, Result, Ok, Err, slice_get, if◌then◌else◌}
 use Rattle.board_decisions.specs.declared.entrance.Entrance.{Entrance}
-use Rattle.board_places.specs.declared.place.JobPlace.{JobPlace}
-use Rattle.board_places.specs.declared.place.LegPlace.{LegPlace}
+use Rattle.board_decisions.specs.declared.place.JobPlace.{JobPlace}
+use Rattle.board_decisions.specs.declared.place.LegPlace.{LegPlace}
 use Rattle.board_decisions.specs.Decisions.{job_condition, is_stopping, leg_result, step_decision, step_tolerates, job_tolerates, leg_outputs, run_entrance, leg_entrance}
 use Rattle.board_decisions.specs.Derived.{is_going, is_closed, is_open, is_fresh, is_untaken, job_status, is_full, needs_have_ended, jobs_have_ended, run_result, is_failure}
-use Rattle.board_places.specs.Place.{RunAt, JobAt, LegAt, run_at, job_at, leg_at}
+use Rattle.board_decisions.specs.Place.{RunAt, JobAt, LegAt, run_at, job_at, leg_at}
 use Rattle.flow_model.specs.Answer.{is_well_formed}
 use Rattle.flow_model.specs.declared.plan.Plan.{Plan}
 use Rattle.flow_model.specs.declared.plan.StepPlan.{StepPlan}

@@ -1,6 +1,6 @@
 -- Entries whose reply nobody asks for.
 use Rattle.std.specs.Prelude.{◌≡◌, ℕ, Bool, true, false, Some, Result, Ok, Err}
-use Rattle.board_places.specs.Place.{LegAt}
+use Rattle.board_decisions.specs.Place.{LegAt}
 use Rattle.flow_model.specs.declared.board.Board.{Board}
 use Rattle.flow_model.specs.declared.board.LegState.TheVariants as leg_state
 use Rattle.flow_model.specs.declared.reply.Reply.{Reply}

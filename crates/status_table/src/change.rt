@@ -5,7 +5,7 @@ ghost use Rattle.status_table.specs.Change.{with_leg, with_numbered_leg, with_ru
 ghost use Rattle.status_table.specs.Row as row;
 ghost use Rattle.status_table.specs.Seen.{leg_after};
 
-use board_places::place::{JobPlace, LegPlace, find_leg_place};
+use board_decisions::place::{JobPlace, LegPlace, find_leg_place};
 use flow_model::{Board, DoneStep, JobState, Leg, LegState, Mapping, RunState, Text};
 use std::alloc::AllocError;
 

@@ -7,7 +7,7 @@ ghost use Rattle.std.specs.Option.{option_copied};
 ghost use Rattle.board_decisions.specs.Ancestors.{StandsAfterNeeds};
 ghost use Rattle.board_decisions.specs.Decisions.{step_decision as step_decision_of};
 ghost use Rattle.board_decisions.specs.Kept.{IsKeptOf};
-ghost use Rattle.board_places.specs.Seen.{job_seen, leg_seen};
+ghost use Rattle.board_decisions.specs.Seen.{job_seen, leg_seen};
 ghost use Rattle.expr_value.specs.Answer.{Gives};
 ghost use Rattle.flow_model.specs.declared.reply.StepCall.{StepCall as StepCallOf};
 ghost use Rattle.flow_model.specs.declared.reply.ValueFault.{ValueFault as ValueFaultOf};
@@ -31,7 +31,7 @@ use board_decisions::derived::{
     is_closed, is_failure, is_full, is_untaken, jobs_have_ended, needs_have_ended, run_result,
 };
 use board_decisions::kept::Kept;
-use board_places::place::{SeenJob, SeenLeg, find_job, find_leg, find_run};
+use board_decisions::place::{SeenJob, SeenLeg, find_job, find_leg, find_run};
 use flow_model::{
     Answer, Board, DoneStep, JobState, LegState, Mapping, Outcome, Plan, Reply, RunState, StepCall,
     StepPlan, ValueFault, What,

@@ -3,7 +3,7 @@
 //! Memory is asked for first; what comes after it changes the board in place.
 
 ghost use Rattle.std.specs.Prelude.{◌≡◌, Ok, Option, Result};
-ghost use Rattle.board_places.specs.Place.{LegAt};
+ghost use Rattle.board_decisions.specs.Place.{LegAt};
 ghost use Rattle.board_decisions.specs.declared.entrance.Entrance.{Entrance as EntranceOf};
 ghost use Rattle.expr_value.specs.Answer.{Gives};
 ghost use Rattle.flow_model.specs.declared.reply.ValueFault.{ValueFault as ValueFaultOf};

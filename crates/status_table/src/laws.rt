@@ -1,8 +1,8 @@
 //! Where jobs and legs stand, as the contract of a function that does nothing.
 
 ghost use Rattle.std.specs.Prelude.{◌≡◌, ℕ, Some};
-ghost use Rattle.board_places.specs.Numbered.{HasAsMany, IsNumberedIn, IsPlannedAt, JobsAreNumbered, LegsAreNumbered};
-ghost use Rattle.board_places.specs.Place.{JobAt, LegAt, job_at, leg_at};
+ghost use Rattle.board_decisions.specs.Numbered.{HasAsMany, IsNumberedIn, IsPlannedAt, JobsAreNumbered, LegsAreNumbered};
+ghost use Rattle.board_decisions.specs.Place.{JobAt, LegAt, job_at, leg_at};
 ghost use Rattle.flow_model.specs.declared.board.Board.{Board};
 ghost use Rattle.flow_model.specs.declared.plan.Plan.{Plan};
 ghost use Rattle.status_table.specs.InPlay.{InPlay};

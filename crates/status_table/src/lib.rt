@@ -6,7 +6,7 @@
 //! accepted and the board has its shape; the trait `Reversible` promises besides that an entry can
 //! be taken back. `PlainBoard` is the plain body of both, and `run_entries` plays a list of entries
 //! on any table, up to the first that is refused. `laws` has where the numbers stand, and `board_laws`
-//! how long a legal list can be; the other laws of the table are those of `play_laws`. Who holds a
+//! how long a legal list can be; the other laws of the table are those of `board_settled`. Who holds a
 //! concurrency group, who waits for it, and what comes of entering and leaving one, is in
 //! `specs/Groups.antt`; what a clerk may do, in `specs/Moves.antt`; what is true of each board in
 //! play, in `specs/Lawful.antt`; and what an event asks of the groups that `group_admission` keeps by

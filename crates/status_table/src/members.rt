@@ -9,7 +9,7 @@ ghost use Rattle.status_table.specs.Seen.{has_role, noted, put_out as put_out_of
 ghost use Rattle.status_table.specs.Shape.{HasFewLegs};
 
 use crate::change::{LegChange, change_leg, set_run_state};
-use board_places::place::numbered_leg;
+use board_decisions::place::numbered_leg;
 use flow_model::{Board, Leg, LegState, Member, Outcome, Run, RunState, Text};
 use std::alloc::AllocError;
 

@@ -10,7 +10,7 @@ ghost use Rattle.status_table.specs.Moves as rule;
 use crate::events::{may_ask, may_drop};
 use board_decisions::decisions::is_stopping;
 use board_decisions::derived::{is_full, jobs_have_ended, needs_have_ended};
-use board_places::place::{find_job, find_leg, find_run};
+use board_decisions::place::{find_job, find_leg, find_run};
 use flow_model::{Board, Event, Job, JobState, Plan, Run, RunState};
 use std::alloc::{AllocError, Global};
 

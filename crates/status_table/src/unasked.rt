@@ -2,7 +2,7 @@
 
 ghost use Rattle.std.specs.Prelude.{◌≡◌, ℕ, [], Bool, true, Result, Ok, pos};
 ghost use Rattle.board_decisions.specs.Kept.{IsKeptOf};
-ghost use Rattle.board_places.specs.Seen.{leg_seen};
+ghost use Rattle.board_decisions.specs.Seen.{leg_seen};
 ghost use Rattle.expr_value.specs.Answer.{Gives};
 ghost use Rattle.flow_model.specs.declared.event.Answer.TheVariants as answer_of;
 ghost use Rattle.flow_model.specs.declared.reply.ValueFault.{ValueFault as ValueFaultOf};
@@ -14,8 +14,8 @@ ghost use Rattle.status_table.specs.Unasked.{begins_by, begins_called};
 use crate::events::{calling_owner, step_to_begin};
 use crate::fault::EventFault;
 use board_decisions::kept::Kept;
+use board_decisions::place::SeenLeg;
 use board_decisions::unasked::{is_called_at_once, is_step_called};
-use board_places::place::SeenLeg;
 use flow_model::{Answer, Outcome, ValueFault};
 use std::alloc::Global;
 

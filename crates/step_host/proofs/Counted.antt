@@ -18,7 +18,7 @@ use Rattle.flow_model.specs.declared.reply.What.{What}
 use Rattle.flow_model.specs.declared.reply.What.TheVariants as what
 use Rattle.status_table.specs.Row.{Row, row, event_row}
 use Rattle.status_table.specs.Runs.{new_leg, new_board, then_after, after_from}
-use Rattle.board_places.proofs.Lists.{no_some}
+use Rattle.board_decisions.proofs.Lists.{no_some}
 use Rattle.step_host.specs.Counted.{begun_after, begun_from, begun, answer_counted, answers_after, counted}
 use Rattle.step_host.specs.Laws.{RecordsAreCounted}
 use Rattle.step_host.specs.Replay.{step_line, event_lines, then_lines, lines_from}

@@ -11,7 +11,7 @@ use Rattle.std.specs.declared.cmp.Ordering.{Ordering}
 use Rattle.std.specs.declared.cmp.Ordering.TheVariants.{Less, Equal, Greater}
 use Rattle.flow_model.specs.Answer.{is_well_formed}
 use Rattle.flow_model.specs.declared.event.Answer.{Answer}
-use Rattle.board_places.proofs.Lists.{no_some, same_some}
+use Rattle.board_decisions.proofs.Lists.{no_some, same_some}
 use Rattle.step_host.specs.declared.fault.ScriptFault.{ScriptFault}
 use Rattle.step_host.specs.declared.fault.ScriptFault.TheVariants.{BadScript, Memory}
 use Rattle.step_host.specs.Entries.{Kept, step_cmp, kept_for, AreWellFormed, KeepsLine, Keeps}

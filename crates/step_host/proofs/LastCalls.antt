@@ -10,7 +10,7 @@ use Rattle.flow_model.specs.declared.reply.StepCall.{StepCall}
 use Rattle.flow_model.specs.declared.reply.What.{What}
 use Rattle.status_table.specs.Row.{Row, row}
 use Rattle.status_table.specs.Runs.{then_after, after_from, new_board}
-use Rattle.board_places.proofs.Lists.{no_some, same_some}
+use Rattle.board_decisions.proofs.Lists.{no_some, same_some}
 use Rattle.step_host.specs.Lawful.{PassesBy, IsLastCalled}
 use Rattle.status_table.specs.Calls.{called, call_after, then_call, call_from}
 use Rattle.step_host.specs.Laws.{OpenCallsAreLast}

@@ -3,10 +3,10 @@ use Rattle.std.proofs.Common.{◌≡◌, ◌≢◌, ℕ, ◌==◌, arith, Bool, 
 use Rattle.std.specs.List.{flat_map}
 use Rattle.std.proofs.lemmas.Bool.{true≢false}
 use Rattle.board_decisions.specs.declared.entrance.Entrance.{Entrance}
-use Rattle.board_places.specs.declared.place.JobPlace.{JobPlace}
-use Rattle.board_places.specs.declared.place.LegPlace.{LegPlace}
+use Rattle.board_decisions.specs.declared.place.JobPlace.{JobPlace}
+use Rattle.board_decisions.specs.declared.place.LegPlace.{LegPlace}
 use Rattle.board_decisions.specs.Derived.{is_untaken, is_ended}
-use Rattle.board_places.specs.Place.{leg_place}
+use Rattle.board_decisions.specs.Place.{leg_place}
 use Rattle.flow_model.specs.Numbers.{board_legs}
 use Rattle.flow_model.specs.declared.board.Board.{Board}
 use Rattle.flow_model.specs.declared.board.Run.{Run}
@@ -23,7 +23,7 @@ use Rattle.status_table.specs.Change.{put, changed, with_run, with_leg, with_num
 use Rattle.status_table.specs.Groups.{Standing, apart, holding, waiting, leg_stands, waits_name, closed, dropped, admitted, waits, passed_on, cancelled, displaced, stopped, moved, Done, is_own, queued, enters_held, enters, holder, waiter, next_after, leaves}
 use Rattle.status_table.specs.Row.{job_state_set}
 use Rattle.status_table.proofs.Lists.{changed-there, changed-elsewhere, flat_map-kept, flat_map-twice}
-use Rattle.board_places.proofs.Lists.{same_some, no_some}
+use Rattle.board_decisions.proofs.Lists.{same_some, no_some}
 use Rattle.status_table.proofs.Numbers.{board_legs-changed, numbered_leg-changed}
 use Rattle.status_table.proofs.Standings.{leg_found}
 

@@ -3,10 +3,10 @@ use Rattle.std.proofs.Common.{◌≡◌, ◌≢◌, ℕ, suc, ◌==◌, ◌++◌
 use Rattle.std.proofs.lemmas.Bool.{true≢false}
 use Rattle.std.proofs.lemmas.List.{length-append}
 use Rattle.board_decisions.specs.declared.entrance.Entrance.{Entrance}
-use Rattle.board_places.specs.declared.place.JobPlace.{JobPlace}
+use Rattle.board_decisions.specs.declared.place.JobPlace.{JobPlace}
 use Rattle.board_decisions.specs.Decisions.{then_value, step_env, called_if, is_stopping, leg_result, step_decision, leg_outputs, leg_entrance, run_entrance}
 use Rattle.board_decisions.specs.Derived.{is_going, is_closed, is_open, is_fresh, is_untaken, is_ended, is_full, jobs_have_ended, run_result}
-use Rattle.board_places.specs.Place.{RunAt, JobAt, LegAt, run_at, job_at, leg_at}
+use Rattle.board_decisions.specs.Place.{RunAt, JobAt, LegAt, run_at, job_at, leg_at}
 use Rattle.flow_model.specs.Answer.{is_well_formed}
 use Rattle.flow_model.specs.Numbers.{board_legs}
 use Rattle.flow_model.specs.declared.plan.Plan.{Plan}
@@ -35,11 +35,11 @@ use Rattle.status_table.specs.Change.{with_leg}
 use Rattle.status_table.specs.Groups.{run_standing, leg_standing, closed, dropped, stopped, moved, leaves}
 use Rattle.status_table.specs.Row as rows
 use Rattle.status_table.specs.Row.{Row, leg_state_set, step_done, skipped_step, failed_step, decided}
-use Rattle.board_places.proofs.Lists.{and-right}
+use Rattle.board_decisions.proofs.Lists.{and-right}
 use Rattle.status_table.proofs.Decided.{by_test}
 use Rattle.status_table.proofs.Found.{leg_stands, leg_item}
 use Rattle.status_table.proofs.Lists.{changed-there, changed-elsewhere}
-use Rattle.board_places.proofs.Lists.{same_some, no_some}
+use Rattle.board_decisions.proofs.Lists.{same_some, no_some}
 use Rattle.status_table.proofs.Numbers.{board_legs-changed}
 use Rattle.step_host.proofs.Quiet.{is_calling, QuietAt, quiet-same, quiet_at-same, leg_of, Quieted, quiet-untaken, quiet-ended, quiet-leg, quiet-job, IsUntaken, quiet-closed, quiet-dropped, quiet-stopped, quiet-enters, quiet-leaves}
 

@@ -8,3 +8,8 @@ pub mod Masked
 pub mod Program
 pub mod Replay
 pub mod Script
+pub use Rattle.flow_commands.specs.CommandTexts
+pub use Rattle.flow_commands.specs.Mask
+pub use Rattle.flow_commands.specs.PairFiles
+pub use Rattle.flow_commands.specs.Shell
+pub use Rattle.flow_commands.specs.Shown

@@ -4,7 +4,7 @@ use Rattle.flow_model.specs.Answer.{is_well_formed}
 use Rattle.flow_model.specs.Mapping.{map_values}
 use Rattle.flow_model.specs.declared.event.Answer.{Answer}
 use Rattle.flow_model.specs.declared.event.Answer.TheVariants.{Exit, NotStarted, BadOutput}
-use Rattle.program_texts.specs.Mask.{masked}
+use Rattle.flow_commands.specs.Mask.{masked}
 
 -- the answer, if it may end a call; else what it gives is bad
 abbrev pub checked : Answer → Answer

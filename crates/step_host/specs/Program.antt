@@ -15,9 +15,9 @@ use Rattle.flow_model.specs.declared.event.Answer.TheVariants.{Exit, BadOutput}
 use Rattle.flow_model.specs.declared.plan.Shell.{Shell}
 use Rattle.flow_model.specs.declared.plan.Shell.TheVariants.{Default, Sh, Bash}
 use Rattle.flow_model.specs.declared.reply.StepCall.{StepCall}
-use Rattle.program_texts.specs.PairFiles.{Pair, Reading, outputs, env, with_pairs}
-use Rattle.program_texts.specs.Replace.{replaced}
-use Rattle.program_texts.specs.Shell.{words}
+use Rattle.flow_commands.specs.PairFiles.{Pair, Reading, outputs, env, with_pairs}
+use Rattle.flow_commands.specs.Replace.{replaced}
+use Rattle.flow_commands.specs.Shell.{words}
 use Rattle.flow_model.specs.Lines.{newline}
 use Rattle.step_host.specs.declared.launch.Launch.{Launch}
 

@@ -4,11 +4,11 @@ ghost use Rattle.std.specs.Prelude.{◌≡◌, IfOk, IfSome, None, true};
 ghost use Rattle.std.specs.Process.{exit_code};
 ghost use Rattle.flow_model.specs.Answer.{is_exit_code, is_well_formed};
 ghost use Rattle.flow_model.specs.declared.event.Answer.TheVariants.{Exit};
-ghost use Rattle.program_texts.specs.PairFiles.{Reading, Refuses, are_outputs, are_variables, env as env_of, outputs as outputs_of};
+ghost use Rattle.flow_commands.specs.PairFiles.{Reading, Refuses, are_outputs, are_variables, env as env_of, outputs as outputs_of};
 ghost use Rattle.step_host.specs.Program as spec;
 
+use flow_commands::{OutputFault, read_env_file, read_output_file};
 use flow_model::{Answer, Mapping, Text};
-use program_texts::{OutputFault, read_env_file, read_output_file};
 use std::alloc::{AllocError, Global};
 use std::process::ExitStatus;
 

@@ -1,12 +1,12 @@
 //! How the program of a step is started: its words, its own variables and its folder.
 
 ghost use Rattle.std.specs.Prelude.{◌≡◌, [], ◌∷◌, IfOk};
-ghost use Rattle.program_texts.specs.PairFiles.{with_pairs};
+ghost use Rattle.flow_commands.specs.PairFiles.{with_pairs};
 ghost use Rattle.step_host.specs.Program as spec;
 
+use flow_commands::replace::{Rule, begins, replace};
+use flow_commands::shell_words;
 use flow_model::{Duplicate, Mapping, Sequence, Shell, StepCall, Text};
-use program_texts::replace::{Rule, begins, replace};
-use program_texts::shell_words;
 use std::alloc::{AllocError, Global};
 use std::fmt::Write;
 

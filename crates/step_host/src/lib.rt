@@ -10,8 +10,11 @@
 //! with the values of their outputs and variables masked. `ProgramHost` starts a program for each step, and admits every
 //! well-formed answer: how a program is started and what its end answers is said of values (`specs/Program.antt`).
 //!
+//! The readers and makers of the texts of programs are offered here too: `shell_words`, `read_output_file`, `read_env_file`,
+//! `read_commands`, `shown` and `mask` (`flow_commands`).
+//!
 //! The crate stands on `status_table`, whose table says which call a step makes, on `flat_board`, the board on which plans
-//! are played (`PlayBoard`), on `board_decisions` for where a leg stands, on `program_texts`, which reads and makes the texts
+//! are played (`PlayBoard`), on `board_decisions` for where a leg stands, on `flow_commands`, which reads and makes the texts
 //! of programs, on `flow_model`, and on `thiserror` for its errors.
 
 #![tactic(auto)]
@@ -34,6 +37,7 @@ pub mod watched;
 pub use board::PlayBoard;
 pub use fault::{HostFault, ScriptFault};
 pub use files::file_bytes;
+pub use flow_commands::{mask, read_commands, read_env_file, read_output_file, shell_words, shown};
 pub use host::{DecidedHost, StepHost, WatchedHost};
 pub use launch::log_file;
 pub use masked::Masked;

@@ -4,14 +4,14 @@ ghost use Rattle.std.specs.Prelude.{◌≡◌, ◌↔◌, IfOk};
 ghost use Rattle.flow_model.specs.Mapping.{map_values};
 ghost use Rattle.flow_model.specs.declared.event.Answer.{Answer};
 ghost use Rattle.flow_model.specs.declared.reply.StepCall.{StepCall};
-ghost use Rattle.program_texts.specs.Mask.{masked};
+ghost use Rattle.flow_commands.specs.Mask.{masked};
 ghost use Rattle.step_host.specs.Masked.{IsMasked, IsMasked-one, IsMasked-well_formed, checked as checked_of, masked_answer as masked_answer_of};
 
 use crate::fault::HostFault;
 use crate::host::{DecidedHost, StepHost, WatchedHost};
 use crate::watch::Watch;
+use flow_commands::mask;
 use flow_model::{Answer, Mapping, Sequence, StepCall, Text};
-use program_texts::mask;
 use std::alloc::{AllocError, Global};
 
 /// The host that gives the answers of another with the values of their outputs and variables masked.

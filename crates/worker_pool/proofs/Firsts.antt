@@ -11,7 +11,7 @@ use Rattle.flow_model.specs.declared.board.Job.{Job}
 use Rattle.flow_model.specs.declared.board.Leg.{Leg}
 use Rattle.flow_model.specs.declared.board.LegState.{LegState}
 use Rattle.flow_model.specs.declared.board.LegState.TheVariants as leg_state
-use Rattle.board_places.proofs.Lists.{no_some, same_some}
+use Rattle.board_decisions.proofs.Lists.{no_some, same_some}
 use Rattle.worker_pool.specs.Alone.{is_admitted, IsLowestAdmitted}
 use Rattle.worker_pool.specs.Lowest.{IsFirstAdmitted}
 

@@ -2,7 +2,7 @@
 use Rattle.std.proofs.Common.{◌≡◌, ℕ, ◌-◌, ◌<◌, ◌≤◌, Bool, true, false, List, [], ◌∷◌, ◌++◌, Some, length, take, slice_get, nat_lt, ap, subst, sym, refl, ◌∙◌, arith}
 use Rattle.std.proofs.lemmas.List.{length-append, take-append-le, take_all}
 use Rattle.std.proofs.lemmas.Option.{slice_get_within}
-use Rattle.board_places.proofs.Lists.{get-left}
+use Rattle.board_decisions.proofs.Lists.{get-left}
 use Rattle.flow_model.specs.declared.plan.Plan.{Plan}
 use Rattle.flow_model.specs.declared.board.Board.{Board}
 use Rattle.flow_model.specs.declared.event.Answer.{Answer}
@@ -11,7 +11,7 @@ use Rattle.flow_model.specs.declared.event.Event.{Event}
 use Rattle.flow_model.specs.declared.reply.Reply.{Reply}
 use Rattle.flow_model.specs.declared.reply.StepCall.{StepCall}
 use Rattle.status_table.specs.Runs.{after, new_board}
-use Rattle.board_places.proofs.Lists.{get-right, no_some, same_some}
+use Rattle.board_decisions.proofs.Lists.{get-right, no_some, same_some}
 use Rattle.status_table.proofs.RunsLemmas.{after_from-last}
 use Rattle.step_host.specs.Lawful.{EndsAdmitted}
 use Rattle.status_table.specs.Calls.{open_call}

@@ -2,7 +2,7 @@
 use Rattle.std.proofs.Common.{◌≡◌, ◌≢◌, ℕ, ◌==◌, Bool, true, false, not, [], ◌∷◌, ◌++◌, Option, Some, None, Result, Ok, Err, length, slice_get, nat_lt, if◌then◌else◌, inl, inr, ap, subst, sym, refl, ◌∙◌}
 use Rattle.std.proofs.lemmas.Bool.{cases_eq}
 use Rattle.board_decisions.specs.Decisions.{then_value, is_stopping, leg_status, leg_result, leg_outputs, seen_from, step_env, work_value, called_if, step_decision}
-use Rattle.board_places.specs.Place.{LegAt, leg_at}
+use Rattle.board_decisions.specs.Place.{LegAt, leg_at}
 use Rattle.flow_model.specs.Numbers.{board_legs}
 use Rattle.flow_model.specs.declared.plan.Plan.{Plan}
 use Rattle.flow_model.specs.declared.plan.StepPlan.{StepPlan}
@@ -29,11 +29,11 @@ use Rattle.status_table.specs.Row as rows
 use Rattle.status_table.proofs.Decided.{by_test}
 use Rattle.status_table.proofs.Found.{LegStands, leg_stands, leg_item}
 use Rattle.status_table.proofs.Lists.{changed-there, changed-elsewhere}
-use Rattle.board_places.proofs.Lists.{same_some}
+use Rattle.board_decisions.proofs.Lists.{same_some}
 use Rattle.status_table.proofs.Numbers.{board_legs-changed}
-use Rattle.text_values.specs.Texts.{condition_value}
-use Rattle.text_values.specs.Values.{Env}
-use Rattle.text_values.specs.declared.place.Place.TheVariants as place
+use Rattle.plan_values.specs.Texts.{condition_value}
+use Rattle.plan_values.specs.Values.{Env}
+use Rattle.plan_values.specs.declared.place.Place.TheVariants as place
 use Rattle.worker_pool.specs.Alone.{is_running, NobodyRuns}
 use Rattle.worker_pool.specs.Hand.{Holds}
 use Rattle.worker_pool.proofs.Legs.{EachLegThen, of_leaves, clerk_legs}

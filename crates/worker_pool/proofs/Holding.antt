@@ -21,11 +21,11 @@ use Rattle.status_table.specs.Lawful.{leg_stands_right, Lawful}
 use Rattle.status_table.specs.Members.{OneHolder, waiters, is_waiting, share_name}
 use Rattle.status_table.specs.Moves.{is_active}
 use Rattle.worker_pool.specs.Stalls.{WaitsForAnotherRun}
-use Rattle.board_places.proofs.Lists.{and-right}
+use Rattle.board_decisions.proofs.Lists.{and-right}
 use Rattle.status_table.proofs.Counts.{counted, map-some}
 use Rattle.status_table.proofs.LegRows.{job-fits}
 use Rattle.status_table.proofs.Lists.{all-get}
-use Rattle.board_places.proofs.Lists.{same_some}
+use Rattle.board_decisions.proofs.Lists.{same_some}
 use Rattle.status_table.proofs.Turnover.{no_holder, a_holder, lives}
 
 -- a name is its own

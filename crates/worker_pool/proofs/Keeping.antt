@@ -2,11 +2,11 @@
 use Rattle.std.proofs.Common.{◌≡◌, ℕ, ◌||◌, Bool, true, false, List, [], ◌∷◌, ◌++◌, ◌==◌, Option, Some, None, Result, Ok, Err, not, length, nat_le, nat_lt, map, if◌then◌else◌, ap, subst, sym, refl, ◌∙◌}
 use Rattle.std.specs.List.{flat_map, list_all}
 use Rattle.board_decisions.specs.declared.entrance.Entrance.{Entrance}
-use Rattle.board_places.specs.declared.place.JobPlace.{JobPlace}
-use Rattle.board_places.specs.declared.place.LegPlace.{LegPlace}
+use Rattle.board_decisions.specs.declared.place.JobPlace.{JobPlace}
+use Rattle.board_decisions.specs.declared.place.LegPlace.{LegPlace}
 use Rattle.board_decisions.specs.Decisions.{is_stopping, leg_result, leg_outputs, run_entrance, leg_entrance}
 use Rattle.board_decisions.specs.Derived.{is_closed, is_full, jobs_have_ended, run_result}
-use Rattle.board_places.specs.Place.{RunAt, JobAt, LegAt, run_at, job_at, leg_at, leg_place}
+use Rattle.board_decisions.specs.Place.{RunAt, JobAt, LegAt, run_at, job_at, leg_at, leg_place}
 use Rattle.flow_model.specs.Numbers.{board_legs, plan_jobs, plan_legs}
 use Rattle.flow_model.specs.declared.plan.Plan.{Plan}
 use Rattle.flow_model.specs.declared.board.Board.{Board}
@@ -37,7 +37,7 @@ use Rattle.status_table.specs.Runs.{new_leg, new_job, new_run, new_board, then_a
 use Rattle.status_table.proofs.Decided.{by_test}
 use Rattle.status_table.proofs.Found.{leg_stands}
 use Rattle.status_table.proofs.Lists.{all-each, all-map, flat_map-kept, flat_map-twice, flat_map-map}
-use Rattle.board_places.proofs.Lists.{same_some, no_some}
+use Rattle.board_decisions.proofs.Lists.{same_some, no_some}
 use Rattle.status_table.proofs.Numbers.{numbered_leg-changed, board_legs-changed}
 
 -- a test that all members pass but some that wait

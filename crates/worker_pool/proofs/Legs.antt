@@ -4,10 +4,10 @@ use Rattle.std.proofs.Common.{◌≡◌, ℕ, Bool, true, false, not, List, Opti
 use Rattle.std.specs.List.{flat_map}
 use Rattle.std.proofs.lemmas.Bool.{true≢false, cases_eq}
 use Rattle.board_decisions.specs.declared.entrance.Entrance.{Entrance}
-use Rattle.board_places.specs.declared.place.JobPlace.{JobPlace}
+use Rattle.board_decisions.specs.declared.place.JobPlace.{JobPlace}
 use Rattle.board_decisions.specs.Decisions.{is_stopping, run_entrance, leg_entrance}
 use Rattle.board_decisions.specs.Derived.{is_full, jobs_have_ended, run_result}
-use Rattle.board_places.specs.Place.{RunAt, JobAt, LegAt, run_at, job_at, leg_at}
+use Rattle.board_decisions.specs.Place.{RunAt, JobAt, LegAt, run_at, job_at, leg_at}
 use Rattle.flow_model.specs.Numbers.{board_legs}
 use Rattle.flow_model.specs.declared.plan.Plan.{Plan}
 use Rattle.flow_model.specs.declared.board.Board.{Board}
@@ -33,7 +33,7 @@ use Rattle.status_table.specs.Groups.{Done, Standing, run_standing, leg_standing
 use Rattle.status_table.specs.Row as rows
 use Rattle.status_table.proofs.Decided.{by_test}
 use Rattle.status_table.proofs.Lists.{changed-there, changed-elsewhere, flat_map-kept, flat_map-twice}
-use Rattle.board_places.proofs.Lists.{same_some}
+use Rattle.board_decisions.proofs.Lists.{same_some}
 use Rattle.status_table.proofs.Numbers.{numbered_leg-changed}
 use Rattle.status_table.proofs.Turns.{run_legs}
 use Rattle.worker_pool.specs.Alone.{is_running}

@@ -2,14 +2,14 @@
 use Rattle.std.proofs.Common.{◌≡◌, Bool, true, false, List, [], ◌∷◌, ◌++◌, Some, length, map, filter, cond, slice_get, refl, ◌∙◌}
 use Rattle.std.specs.List.{list_all}
 use Rattle.std.proofs.lemmas.List.Folds.{list_all-append}
-use Rattle.board_places.proofs.Lists.{and-left, and-right, and-both}
+use Rattle.board_decisions.proofs.Lists.{and-left, and-right, and-both}
 use Rattle.flow_model.specs.Numbers.{board_jobs, board_legs}
 use Rattle.flow_model.specs.declared.plan.Plan.{Plan}
 use Rattle.flow_model.specs.declared.board.Board.{Board}
 use Rattle.flow_model.specs.declared.event.Event.{Event}
 use Rattle.flow_model.specs.declared.event.Event.TheVariants as event
 use Rattle.status_table.specs.Moves.{clerk_events, is_accepted, accepts, moves}
-use Rattle.board_places.specs.Places.{numbers}
+use Rattle.board_decisions.specs.Places.{numbers}
 use Rattle.status_table.specs.Row.{row}
 use Rattle.status_table.proofs.Lists.{all-get, all-map}
 use Rattle.worker_pool.proofs.Legs.{is_clerks}

@@ -8,7 +8,7 @@ use Rattle.std.proofs.lemmas.List.Folds.{list_all-append}
 use Rattle.std.proofs.lemmas.Option.{slice_get_within}
 use Rattle.board_decisions.specs.Decisions.{job_condition, is_stopping, run_entrance, leg_entrance}
 use Rattle.board_decisions.specs.Derived.{is_going, is_closed, is_open, is_fresh, is_untaken, is_full, job_status, needs_have_ended, jobs_have_ended, run_result}
-use Rattle.board_places.specs.Place.{RunAt, JobAt, LegAt, run_at, job_at, leg_at}
+use Rattle.board_decisions.specs.Place.{RunAt, JobAt, LegAt, run_at, job_at, leg_at}
 use Rattle.flow_model.specs.Numbers.{board_jobs, board_legs}
 use Rattle.flow_model.specs.declared.plan.Plan.{Plan}
 use Rattle.flow_model.specs.declared.board.Board.{Board}
@@ -23,9 +23,9 @@ use Rattle.flow_model.specs.declared.event.Outcome.TheVariants as outcome
 use Rattle.status_table.specs.declared.fault.EventFault.TheVariants as fault
 use Rattle.status_table.specs.Groups.{leg_standing, dropped, leaves}
 use Rattle.status_table.specs.Moves.{clerk_events, is_accepted, accepts, moves, is_none_left}
-use Rattle.board_places.specs.Places.{numbers}
+use Rattle.board_decisions.specs.Places.{numbers}
 use Rattle.status_table.specs.Row as rows
-use Rattle.board_places.proofs.Lists.{and-left, and-right, and-both}
+use Rattle.board_decisions.proofs.Lists.{and-left, and-right, and-both}
 use Rattle.status_table.proofs.Accepting.{run_enters_accepted, leg_enters_accepted}
 use Rattle.status_table.proofs.Found.{run_stands, job_stands, leg_stands, leg_item}
 use Rattle.status_table.proofs.Numbers.{jobs_are_numbered}

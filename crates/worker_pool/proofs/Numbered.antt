@@ -2,8 +2,8 @@
 use Rattle.std.proofs.Common.{◌≡◌, ℕ, zero, suc, ◌+◌, ◌-◌, ◌<◌, true, false, List, [], ◌∷◌, Some, length, slice_get, nat_lt, if◌then◌else◌, ap, subst, sym, refl, ◌∙◌, arith}
 use Rattle.std.proofs.lemmas.Bool.Decides.{nat_tests}
 use Rattle.std.proofs.lemmas.Option.{slice_get_within}
-use Rattle.board_places.specs.Place.{job_at, leg_at, job_place_from, leg_place_from}
-use Rattle.board_places.specs.declared.place.JobPlace.{JobPlace}
+use Rattle.board_decisions.specs.Place.{job_at, leg_at, job_place_from, leg_place_from}
+use Rattle.board_decisions.specs.declared.place.JobPlace.{JobPlace}
 use Rattle.flow_model.specs.declared.plan.Plan.{Plan}
 use Rattle.flow_model.specs.declared.plan.RunPlan.{RunPlan}
 use Rattle.flow_model.specs.declared.plan.JobPlan.{JobPlan}
@@ -11,10 +11,10 @@ use Rattle.flow_model.specs.declared.board.Board.{Board}
 use Rattle.flow_model.specs.declared.board.Run.{Run}
 use Rattle.flow_model.specs.declared.board.Job.{Job}
 use Rattle.flow_model.specs.declared.board.Leg.{Leg}
-use Rattle.settled_plans.proofs.Numbers.{leg_spot, leg_numbered}
+use Rattle.board_settled.proofs.Numbers.{leg_spot, leg_numbered}
 use Rattle.status_table.specs.Shape.{JobShape, RunShape, HasShape}
 use Rattle.status_table.proofs.Counts.{zip-left}
-use Rattle.board_places.proofs.Lists.{same_some, no_some}
+use Rattle.board_decisions.proofs.Lists.{same_some, no_some}
 
 abbrev pub job_spot : ℕ → ℕ → JobPlace
 job_spot r j = record { run = r; job = j }

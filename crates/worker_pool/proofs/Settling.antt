@@ -9,10 +9,10 @@ use Rattle.flow_model.specs.declared.event.Event.{Event}
 use Rattle.flow_model.specs.declared.event.Event.TheVariants as event
 use Rattle.flow_model.specs.declared.plan.Plan.{Plan}
 use Rattle.flow_model.specs.declared.reply.StepCall.{StepCall}
-use Rattle.settled_plans.specs.Agrees.{FinishesAsSettled, IsSettled}
-use Rattle.settled_plans.specs.Free.{IsFree}
-use Rattle.settled_plans.specs.Histories.{IsAnswered, LeadsTo}
-use Rattle.settled_plans.specs.Settled.{Answers, settled}
+use Rattle.board_settled.specs.Agrees.{FinishesAsSettled, IsSettled}
+use Rattle.board_settled.specs.Free.{IsFree}
+use Rattle.board_settled.specs.Histories.{IsAnswered, LeadsTo}
+use Rattle.board_settled.specs.Settled.{Answers, settled}
 use Rattle.status_table.specs.Calls.{open_call}
 use Rattle.status_table.specs.Moves.{finished}
 use Rattle.status_table.specs.Runs.{after}
@@ -23,7 +23,7 @@ use Rattle.worker_pool.specs.Settles.{AdmitsOnly, SettlesAll, ManySettle, OneSet
 use Rattle.worker_pool.specs.declared.played.Ending.{Ending}
 use Rattle.worker_pool.specs.declared.played.Ending.TheVariants as ending
 use Rattle.worker_pool.specs.declared.played.Played.{Played}
-use Rattle.board_places.proofs.Lists.{same_some, no_some}
+use Rattle.board_decisions.proofs.Lists.{same_some, no_some}
 
 admitted : (admits : StepCall → Answer → Type 0) (answers : Answers) → AdmitsOnly admits answers → (there : Option StepCall) (a : Answer) → IsAdmitted admits there a
     → (call : StepCall) → there ≡ Some call → answers call ≡ Some a

@@ -9,7 +9,7 @@ use Rattle.std.proofs.lemmas.Option.{slice_get-map, slice_get_within, slice_get-
 use Rattle.board_decisions.specs.declared.entrance.Entrance.{Entrance}
 use Rattle.board_decisions.specs.Decisions.{leg_entrance}
 use Rattle.board_decisions.specs.Derived.{is_closed, is_shut, is_ended, is_under_way, is_full, leg_has_ended, job_has_ended, holds, holds_at, needs_have_ended}
-use Rattle.board_places.specs.Place.{RunAt, JobAt, LegAt}
+use Rattle.board_decisions.specs.Place.{RunAt, JobAt, LegAt}
 use Rattle.flow_model.specs.Numbers.{board_legs}
 use Rattle.flow_model.specs.Rules.{IsPlan, greatest}
 use Rattle.flow_model.specs.Sound.{SoundPlan}
@@ -27,7 +27,7 @@ use Rattle.flow_model.specs.declared.board.LegState.{LegState}
 use Rattle.flow_model.specs.declared.board.LegState.TheVariants as leg_state
 use Rattle.flow_model.specs.declared.event.Entry.{Entry}
 use Rattle.flow_model.specs.declared.reply.ValueFault.{ValueFault}
-use Rattle.settled_plans.proofs.Numbers.{leg_spot}
+use Rattle.board_settled.proofs.Numbers.{leg_spot}
 use Rattle.status_table.specs.Groups.{Standing, apart, holding, waiting, leg_standing, leg_stands}
 use Rattle.status_table.specs.InPlay.{InPlay}
 use Rattle.status_table.specs.Members.{is_waiting}
@@ -36,13 +36,13 @@ use Rattle.status_table.specs.Row.{first_of}
 use Rattle.status_table.specs.Runs.{after}
 use Rattle.status_table.specs.Shape.{RunShape}
 use Rattle.worker_pool.specs.Stalls.{HasNoJobGroup, WaitsForAnotherRun}
-use Rattle.board_places.proofs.Lists.{and-left, and-right, and-both}
+use Rattle.board_decisions.proofs.Lists.{and-left, and-right, and-both}
 use Rattle.status_table.proofs.Counts.{one, zip-left, all-weaker}
 use Rattle.status_table.proofs.Found.{job_stands as job_found, leg_stands as leg_found, leg_item}
 use Rattle.status_table.proofs.Lawfulness.{legal_lawful}
 use Rattle.status_table.proofs.Legal.{after_fits}
 use Rattle.status_table.proofs.Lists.{all-get, flat_map-twice}
-use Rattle.board_places.proofs.Lists.{same_some, no_some}
+use Rattle.board_decisions.proofs.Lists.{same_some, no_some}
 use Rattle.status_table.proofs.Sound.{stands_after_needs}
 use Rattle.worker_pool.proofs.Holding.{IsQuiet, has_name, run_waits_for, leg_waits_for}
 use Rattle.worker_pool.proofs.Keeping.{Passes, AllStand, legal_stands}

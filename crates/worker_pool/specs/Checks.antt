@@ -2,7 +2,7 @@
 use Rattle.std.specs.Prelude.{◌≡◌, ℕ, Bool, List, length, take, Some, Result, Ok, Err, slice_get}
 use Rattle.flow_model.specs.declared.event.Entry.{Entry}
 use Rattle.flow_model.specs.declared.plan.Plan.{Plan}
-pub use Rattle.settled_boards.specs.Records.{TellsSettled}
+pub use Rattle.board_settled.specs.Records.{TellsSettled}
 use Rattle.status_table.specs.Runs.{IsLegal}
 use Rattle.status_table.specs.declared.fault.EventFault.{EventFault}
 use Rattle.status_table.specs.declared.fault.EventFault.TheVariants as event_fault

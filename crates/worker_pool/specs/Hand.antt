@@ -13,7 +13,7 @@ use Rattle.flow_model.specs.declared.reply.Reply.{Reply}
 use Rattle.flow_model.specs.declared.reply.StepCall.{StepCall}
 use Rattle.flow_model.specs.declared.reply.What.{What}
 use Rattle.flow_model.specs.declared.reply.What.TheVariants as what
-use Rattle.board_places.specs.Place.{LegAt, leg_at}
+use Rattle.board_decisions.specs.Place.{LegAt, leg_at}
 use Rattle.status_table.specs.InPlay.{InPlay}
 use Rattle.status_table.specs.Moves.{moves}
 use Rattle.status_table.specs.Row.{next_step}

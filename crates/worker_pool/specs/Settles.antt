@@ -5,9 +5,9 @@ use Rattle.flow_model.specs.declared.board.Board.{Board}
 use Rattle.flow_model.specs.declared.event.Answer.{Answer}
 use Rattle.flow_model.specs.declared.plan.Plan.{Plan}
 use Rattle.flow_model.specs.declared.reply.StepCall.{StepCall}
-use Rattle.settled_plans.specs.Agrees.{IsSettled}
-use Rattle.settled_plans.specs.Free.{IsFree}
-use Rattle.settled_plans.specs.Settled.{Answers, settled}
+use Rattle.board_settled.specs.Agrees.{IsSettled}
+use Rattle.board_settled.specs.Free.{IsFree}
+use Rattle.board_settled.specs.Settled.{Answers, settled}
 use Rattle.status_table.specs.Runs.{after}
 use Rattle.worker_pool.specs.Alone.{EndsAlone}
 use Rattle.worker_pool.specs.Many.{EndsByMany}

@@ -1,6 +1,6 @@
 -- Why a plan in play may not go on: the groups of its jobs.
 use Rattle.std.specs.Prelude.{◌≡◌, ◌≢◌, ℕ, List, Some, None, slice_get}
-use Rattle.board_places.specs.Place.{LegAt, leg_at}
+use Rattle.board_decisions.specs.Place.{LegAt, leg_at}
 use Rattle.flow_model.specs.Sound.{Each}
 use Rattle.flow_model.specs.declared.plan.Plan.{Plan}
 use Rattle.flow_model.specs.declared.board.Board.{Board}

@@ -7,7 +7,7 @@ ghost use Rattle.flow_model.specs.Numbers.{board_legs};
 ghost use Rattle.worker_pool.specs.Alone as spec;
 ghost use Rattle.worker_pool.specs.Lowest.{IsFirstAdmitted};
 
-use board_places::place::numbered_leg;
+use board_decisions::place::numbered_leg;
 use flow_model::{Board, Job, Leg, LegState};
 use status_table::laws::numbers_are_places;
 

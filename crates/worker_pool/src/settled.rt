@@ -5,8 +5,8 @@ ghost use Rattle.worker_pool.specs.Checks.{ChecksSettled, IsUnplayed};
 
 use crate::fault::PoolFault;
 use crate::stop::Stop;
+use board_settled::is_record_settled;
 use flow_model::{CheckedPlan, Duplicate, Entry};
-use settled_boards::is_record_settled;
 use status_table::EventFault;
 use std::alloc::{AllocError, Global};
 

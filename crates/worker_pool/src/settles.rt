@@ -3,7 +3,7 @@
 
 ghost use Rattle.worker_pool.specs.Settles.{ManySettle, OneSettles};
 
-use settled_plans::laws::boards_agree_with_what_is_settled;
+use board_settled::settled_laws::boards_agree_with_what_is_settled;
 use step_host::StepHost;
 
 /// A play that is Done, of a plan in which nothing rests on the order of events, over a host that

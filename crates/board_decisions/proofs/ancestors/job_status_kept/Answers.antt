@@ -1,5 +1,5 @@
 use Rattle.std.proofs.Common.{◌≡◌, true, false, rules, sym}
-use Rattle.board_places.specs.Seen.{job_seen}
+use Rattle.board_decisions.specs.Seen.{job_seen}
 use Rattle.board_decisions.proofs.Succeeded.{all_succeeded}
 use Rattle.board_decisions.proofs.ancestors.job_status_kept.Goals as goal
 

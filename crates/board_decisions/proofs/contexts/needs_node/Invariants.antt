@@ -1,6 +1,6 @@
 use Rattle.std.proofs.Common.{◌≡◌, [], drop}
 use Rattle.board_decisions.specs.Contexts.{with_needs}
-use Rattle.board_places.specs.Seen.{job_seen}
+use Rattle.board_decisions.specs.Seen.{job_seen}
 use Rattle.flow_model.specs.Value.{viewed}
 use Rattle.board_decisions.proofs.contexts.needs_node.Given as goal
 

@@ -2,7 +2,7 @@ use Rattle.std.proofs.Common.{◌≡◌, [], drop}
 use Rattle.std.specs.List.{filter_map, zip}
 use Rattle.board_decisions.specs.Contexts.{step_pair}
 use Rattle.flow_model.specs.Value.{viewed}
-use Rattle.text_values.specs.Env.{laid_over}
+use Rattle.plan_values.specs.Env.{laid_over}
 use Rattle.board_decisions.proofs.contexts.steps_node.Given as goal
 
 -- The steps that are left, over those that were set, are all.

@@ -1,7 +1,7 @@
 use Rattle.std.proofs.Common.{◌≡◌, Some, subst, sym, ◌∙◌}
 use Rattle.board_decisions.specs.Decisions.{leg_entrance}
-use Rattle.board_places.specs.Place.{leg_at}
-use Rattle.board_places.specs.Seen.{leg_seen}
+use Rattle.board_decisions.specs.Place.{leg_at}
+use Rattle.board_decisions.specs.Seen.{leg_seen}
 use Rattle.status_table.specs.Play.{Play}
 use Rattle.flat_board.proofs.Named.{given_named, leg_asks}
 use Rattle.flat_board.proofs.Reached.{asks_outside}

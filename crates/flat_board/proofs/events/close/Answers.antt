@@ -1,6 +1,6 @@
 use Rattle.std.proofs.Common.{◌≡◌, Some, subst, sym, ◌∙◌}
-use Rattle.board_places.specs.Place.{run_at}
-use Rattle.board_places.specs.Seen.{run_seen}
+use Rattle.board_decisions.specs.Place.{run_at}
+use Rattle.board_decisions.specs.Seen.{run_seen}
 use Rattle.status_table.specs.Play.{Play}
 use Rattle.flat_board.proofs.Leaving.{run_has_left}
 use Rattle.group_admission.specs.Known.{content}

@@ -1,6 +1,6 @@
 use Rattle.std.proofs.Common.{◌≡◌, Some, ap, subst, sym, ◌∙◌}
-use Rattle.board_places.specs.Place.{leg_at}
-use Rattle.board_places.specs.Seen.{leg_seen}
+use Rattle.board_decisions.specs.Place.{leg_at}
+use Rattle.board_decisions.specs.Seen.{leg_seen}
 use Rattle.status_table.specs.Play.{Play}
 use Rattle.flat_board.proofs.Leaving.{ended_has_left}
 use Rattle.group_admission.specs.Known.{content}

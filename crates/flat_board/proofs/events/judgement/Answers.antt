@@ -2,7 +2,7 @@ use Rattle.std.proofs.Common.{◌≡◌, ℕ, true, false, Ok, refl, ap, sym, su
 use Rattle.board_decisions.specs.Ancestors.{StandsAfterNeeds}
 use Rattle.board_decisions.specs.Decisions.{job_condition}
 use Rattle.board_decisions.specs.Derived.{is_going, job_status}
-use Rattle.board_places.specs.Seen.{job_seen}
+use Rattle.board_decisions.specs.Seen.{job_seen}
 use Rattle.expr_value.specs.Answer.{Gives}
 use Rattle.expr_value.specs.declared.status.Status.{Status}
 use Rattle.flow_model.specs.declared.board.JobState.{JobState}

@@ -1,7 +1,7 @@
 use Rattle.std.proofs.Common.{◌≡◌, Some, subst, sym, ◌∙◌}
 use Rattle.board_decisions.specs.Decisions.{run_entrance}
-use Rattle.board_places.specs.Place.{run_at}
-use Rattle.board_places.specs.Seen.{run_seen}
+use Rattle.board_decisions.specs.Place.{run_at}
+use Rattle.board_decisions.specs.Seen.{run_seen}
 use Rattle.status_table.specs.Play.{Play}
 use Rattle.flat_board.proofs.Named.{given_named, run_asks}
 use Rattle.flat_board.proofs.Reached.{opens_outside}

@@ -1,6 +1,6 @@
 use Rattle.std.proofs.Common.{Ok, Err, subst, sym}
 use Rattle.std.proofs.lemmas.Result.{err_from_is_err_and}
-use Rattle.flat_counters.specs.Track.{play_of}
+use Rattle.board_counters.specs.Track.{play_of}
 use Rattle.flow_model.specs.declared.event.Event.{Event}
 use Rattle.flat_board.specs.Index.{FollowsUnasked}
 use Rattle.flat_board.proofs.Playing.{begun_unasked, ended_unasked}

@@ -1,5 +1,5 @@
 use Rattle.std.proofs.Common.{subst, sym}
-use Rattle.flat_counters.specs.Track.{play_of}
+use Rattle.board_counters.specs.Track.{play_of}
 use Rattle.flow_model.specs.declared.event.Event.{Event}
 use Rattle.status_table.specs.Reversible.{done_of}
 use Rattle.flat_board.specs.Index.{FollowsUnasked}

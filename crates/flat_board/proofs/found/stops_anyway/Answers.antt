@@ -2,8 +2,8 @@ use Rattle.std.proofs.Common.{◌&&◌, ◌||◌, nat_lt, ap, sym, ◌∙◌}
 use Rattle.std.specs.List.{list_any}
 use Rattle.board_decisions.specs.Derived.{has_failed}
 use Rattle.flow_model.specs.declared.board.Leg.{Leg}
-use Rattle.flat_counters.specs.declared.tally.Tally.{Tally}
-use Rattle.flat_counters.proofs.Lists.{any-counted}
+use Rattle.board_counters.specs.declared.tally.Tally.{Tally}
+use Rattle.board_counters.proofs.Lists.{any-counted}
 use Rattle.flat_board.proofs.found.stops_anyway.Goals as goal
 
 pub returns-then-leg-2 : goal.returns-then-leg-2

@@ -2,7 +2,7 @@ use Rattle.std.proofs.Common.{◌≡◌, List, ℕ, Option, ap, subst, sym, ◌�
 use Rattle.expr_reader.specs.Fold.{fold}
 use Rattle.group_admission.specs.Content.{holder_of, waiter_of}
 use Rattle.flat_board.specs.Stands.{StandsOnlyThere, standing_by}
-use Rattle.flat_counters.specs.Names.{IsGroup}
+use Rattle.board_counters.specs.Names.{IsGroup}
 use Rattle.status_table.specs.Admissions.{left}
 use Rattle.flat_board.proofs.Leaving.{name_left, none_left}
 use Rattle.group_admission.specs.Known.{content}

@@ -5,7 +5,7 @@ use Rattle.flat_board.proofs.RunPassedOver.{idle_run}
 use Rattle.flow_model.specs.declared.board.Board.{Board}
 use Rattle.flow_model.specs.declared.board.Run.{Run}
 use Rattle.flat_board.proofs.idle.count_idle_legs.Goals as goal
-use Rattle.flat_counters.specs.declared.stopping.RunLegs.{RunLegs}
+use Rattle.board_counters.specs.declared.stopping.RunLegs.{RunLegs}
 
 pub returns-in-Some-get : goal.returns-in-Some-get
 returns-in-Some-get c =

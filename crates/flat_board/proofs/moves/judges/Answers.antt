@@ -1,6 +1,6 @@
 use Rattle.std.proofs.Common.{refl, ap, sym}
 use Rattle.board_decisions.specs.Derived.{is_going}
-use Rattle.board_places.specs.Seen.{job_seen}
+use Rattle.board_decisions.specs.Seen.{job_seen}
 use Rattle.flat_board.proofs.Reached.{judge_accepted}
 use Rattle.flat_board.proofs.moves.judges.Goals as goal
 

@@ -1,7 +1,7 @@
 use Rattle.std.proofs.Common.{◌≡◌, ◌∷◌, ◌++◌, string_bytes, ap, sym, ◌∙◌}
 use Rattle.flow_model.specs.Mapping.{pairs_of, map_values}
 use Rattle.flow_model.proofs.Pairs.{with_pair-next, Ascends-map_values}
-use Rattle.program_texts.specs.Mask.{masked}
+use Rattle.flow_commands.specs.Mask.{masked}
 use Rattle.step_host.proofs.masked.masked_values.Goals as goal
 
 pub loop-name-preserved : goal.loop-name-preserved

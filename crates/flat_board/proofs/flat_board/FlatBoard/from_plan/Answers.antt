@@ -1,7 +1,7 @@
 use Rattle.std.proofs.Common.{ap, subst, ◌∙◌}
 use Rattle.flow_model.specs.Rules.{IsPlan}
 use Rattle.flow_model.specs.Sound.{SoundPlan}
-use Rattle.flat_counters.specs.Track.{play_of}
+use Rattle.board_counters.specs.Track.{play_of}
 use Rattle.flat_board.proofs.Playing.{new_sound}
 use Rattle.status_table.specs.Play.{Play}
 use Rattle.flat_board.proofs.flat_board.FlatBoard.from_plan.Goals as goal

@@ -1,6 +1,6 @@
 use Rattle.std.proofs.Common.{◌≡◌, subst}
 use Rattle.std.specs.Prelude.{IfOk}
-use Rattle.flat_counters.specs.Track.{play_of}
+use Rattle.board_counters.specs.Track.{play_of}
 use Rattle.flat_board.proofs.Back.{fits_all}
 use Rattle.flat_board.proofs.Playing.{sound_after, stays_after}
 use Rattle.flat_board.proofs.flat_board.FlatBoardReversible.apply_with_undo.Goals as goal

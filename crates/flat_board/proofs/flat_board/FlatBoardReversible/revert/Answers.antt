@@ -1,5 +1,5 @@
 use Rattle.std.proofs.Common.{◌≡◌, Option, ap, subst, sym, ◌∙◌}
-use Rattle.flat_counters.specs.Track.{play_of}
+use Rattle.board_counters.specs.Track.{play_of}
 use Rattle.flat_board.specs.Undo.{Fits, groups_put_back}
 use Rattle.flat_board.specs.declared.undo.CellBack.{CellBack}
 use Rattle.flat_board.proofs.Back.{sound_before}

@@ -1,5 +1,5 @@
 use Rattle.std.proofs.Common.{subst}
-use Rattle.flat_counters.specs.Track.{play_of}
+use Rattle.board_counters.specs.Track.{play_of}
 use Rattle.flat_board.proofs.Playing.{sound_after, stays_after}
 use Rattle.status_table.specs.Play.{Play}
 use Rattle.status_table.specs.Stays.{Stays}

@@ -1,2 +1,0 @@
-pub mod AskedOnce
-pub mod Trees

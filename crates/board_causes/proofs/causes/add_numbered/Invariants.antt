@@ -1,7 +1,0 @@
-use Rattle.std.proofs.Common.{◌≡◌, ◌++◌, map, drop}
-use Rattle.board_causes.proofs.causes.add_numbered.Given as goal
-use Rattle.board_causes.specs.declared.question.Question.TheVariants as question
-
-abbrev pub invariant-loop-number : goal.invariant-loop-number
-invariant-loop-number l =
-    l.out.items ++ map question.Job (drop l.number-index l.numbers) ≡ l.initial.out.items ++ map question.Job l.numbers

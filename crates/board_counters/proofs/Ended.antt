@@ -1,0 +1,117 @@
+-- What has ended, by the counters.
+use Rattle.std.proofs.Common.{◌≡◌, ℕ, zero, suc, ◌+◌, ◌-◌, ◌==◌, ◌||◌, ◌&&◌, Bool, true, false, not, List, [], ◌∷◌, Option, Some, slice_get, count_by, ap, sym, refl, ◌∙◌, arith}
+use Rattle.std.specs.List.{list_all}
+use Rattle.std.proofs.lemmas.Bool.{true≢false}
+use Rattle.std.proofs.lemmas.Bool.Decides.{nat_tests}
+use Rattle.std.proofs.lemmas.List.Sums.{sum_by-cons}
+use Rattle.board_decisions.specs.Derived.{is_going, is_closed, is_shut, is_ended, job_has_ended, jobs_have_ended, holds_at, needs_have_ended}
+use Rattle.board_decisions.specs.Place.{◌>>=◌, JobAt, job_at}
+use Rattle.flow_model.specs.Laws.{NeedsPointBack}
+use Rattle.flow_model.specs.Numbers.{first_job}
+use Rattle.flow_model.specs.declared.plan.Plan.{Plan}
+use Rattle.flow_model.specs.declared.plan.RunPlan.{RunPlan}
+use Rattle.flow_model.specs.declared.plan.JobPlan.{JobPlan}
+use Rattle.flow_model.specs.declared.board.Board.{Board}
+use Rattle.flow_model.specs.declared.board.Run.{Run}
+use Rattle.flow_model.specs.declared.board.RunState.{RunState}
+use Rattle.flow_model.specs.declared.board.RunState.TheVariants as run_state
+use Rattle.flow_model.specs.declared.board.Job.{Job}
+use Rattle.flow_model.specs.declared.board.Leg.{Leg}
+use Rattle.board_counters.specs.Counters.{is_settled, settled_jobs, first_number, need_of, run_needs, needs_of, needs_none}
+use Rattle.board_counters.specs.declared.need.Need.{Need}
+use Rattle.board_counters.proofs.Lists.{map-each}
+use Rattle.board_decisions.proofs.Lists.{map-get}
+use Rattle.status_table.specs.InPlay.{InPlay}
+use Rattle.status_table.specs.Row.{first_of}
+use Rattle.status_table.proofs.Counts.{one}
+use Rattle.status_table.proofs.Found.{JobStands, job_stands}
+use Rattle.board_decisions.proofs.Lists.{same_some, no_some}
+use Rattle.status_table.proofs.Sound.{is_numbered_in}
+
+-- ---- a job of a run that is Going has ended where it is settled
+
+going-not_closed : (s : RunState) → is_going s ≡ true → is_closed s ≡ false
+going-not_closed run_state.New h = refl
+going-not_closed run_state.Waiting h = refl
+going-not_closed run_state.Going h = refl
+going-not_closed (run_state.Closed result) h = absurd (true≢false (sym h))
+
+-- all pass a test where none is counted that does not
+pub all-counted : {A : Type 0} (t : A → Bool) (xs : List A) → list_all t xs ≡ (count_by (λ x. not (t x)) xs == 0)
+all-counted t [] = refl
+all-counted {A} t (x ∷ xs) = by (all-counted t xs) (t x) refl
+  where
+    cons : count_by (λ y. not (t y)) (x ∷ xs) ≡ one (not (t x)) + count_by (λ y. not (t y)) xs
+    cons = sum_by-cons (λ (y : A). one (not (t y))) x xs
+
+    by : list_all t xs ≡ (count_by (λ y. not (t y)) xs == 0) → (c : Bool) → t x ≡ c → list_all t (x ∷ xs) ≡ (count_by (λ y. not (t y)) (x ∷ xs) == 0)
+    by later true is =
+        let a = ap (λ d. one (not d)) is in
+        let n = cons in
+        let same : count_by (λ y. not (t y)) (x ∷ xs) ≡ count_by (λ y. not (t y)) xs = omega (arith, a, n) in
+        ap (λ d. d && list_all t xs) is ∙ later ∙ ap (λ k. k == 0) (sym same)
+    by later false is =
+        let a = ap (λ d. one (not d)) is in
+        let n = cons in
+        let some : (count_by (λ y. not (t y)) (x ∷ xs) == 0) ≡ false = grind (arith, nat_tests, a, n) in
+        ap (λ d. d && list_all t xs) is ∙ sym some
+
+ended-by : (closed shut : Bool) → closed ≡ false → (legs : List Leg)
+    → list_all (λ leg. closed || shut || is_ended leg.state) legs ≡ (shut || (count_by (λ leg. not (is_ended leg.state)) legs == 0))
+ended-by true shut is legs = absurd (true≢false is)
+ended-by false true is [] = refl
+ended-by false true is (x ∷ xs) = ended-by false true is xs
+ended-by false false is legs = all-counted (λ (leg : Leg). is_ended leg.state) legs
+
+settled-ended : (run : Run) (job : Job) → is_going run.state ≡ true → is_settled job ≡ job_has_ended run job
+settled-ended run job going = sym (ended-by (is_closed run.state) (is_shut job.state) (going-not_closed run.state going) job.legs)
+
+all-each : {A : Type 0} (s t : A → Bool) (xs : List A) → ((x : A) → s x ≡ t x) → list_all s xs ≡ list_all t xs
+all-each s t [] step = refl
+all-each s t (x ∷ xs) step = (λ i. step x i && list_all s xs) ∙ ap (λ c. t x && c) (all-each s t xs step)
+
+pub jobs_ended : (run : Run) → is_going run.state ≡ true → list_all is_settled run.jobs ≡ jobs_have_ended run
+jobs_ended run going = all-each is_settled (job_has_ended run) run.jobs (λ job. settled-ended run job going)
+
+-- ---- needs
+
+needs-at : (plans : List RunPlan) (runs : List Run) (r : ℕ) (plan : RunPlan) (run : Run) → slice_get plans r ≡ Some plan → slice_get runs r ≡ Some run
+    → slice_get (needs_of plans runs) r ≡ Some (run_needs plan run)
+needs-at [] runs r plan run planned at = absurd (no_some plan planned)
+needs-at (p ∷ ps) [] r plan run planned at = absurd (no_some run at)
+needs-at (p ∷ ps) (x ∷ xs) zero plan run planned at =
+    (λ i. Some (run_needs (same_some p plan planned i) (same_some x run at i)))
+needs-at (p ∷ ps) (x ∷ xs) (suc r) plan run planned at = needs-at ps xs r plan run planned at
+
+first-is : NeedsPointBack → (p : Plan) (b : Board) (j : ℕ) (at : JobAt) → InPlay p b → job_at p b j ≡ Some at → first_number at.run_plan.jobs ≡ first_of j at
+first-is law p b j at play is = by at.run_plan.jobs refl
+  where
+    stands : JobStands p b j at
+    stands = job_stands p b j at is
+
+    number : at.plan.number ≡ j
+    number = (is_numbered_in p b j at play is).number
+
+    placed : at.plan.number ≡ first_job p at.place.run + at.place.job
+    placed = (law p play.rules at.place.run at.place.job at.run_plan at.plan stands.in_plan stands.plan).0
+
+    by : (jobs : List JobPlan) → at.run_plan.jobs ≡ jobs → first_number jobs ≡ first_of j at
+    by [] none = absurd (no_some at.plan (ap (λ (js : List JobPlan). slice_get js at.place.job) (sym none) ∙ stands.plan))
+    by (x ∷ xs) some =
+        let first : x.number ≡ first_job p at.place.run + 0 = (law p play.rules at.place.run 0 at.run_plan x stands.in_plan (ap (λ (js : List JobPlan). slice_get js 0) some)).0 in
+        let n = number in
+        let k = placed in
+        omega (arith, first, n, k)
+
+pub needs_told : NeedsPointBack → (p : Plan) (b : Board) (j : ℕ) (at : JobAt) → InPlay p b → job_at p b j ≡ Some at → is_going at.run.state ≡ true
+    → needs_none (slice_get (needs_of p.runs b.runs) at.place.run >>= λ row. slice_get row at.place.job) ≡ needs_have_ended (first_of j at) at.run at.plan
+needs_told law p b j at play is going =
+    let stands = job_stands p b j at is in
+    let row = needs-at p.runs b.runs at.place.run at.run_plan at.run stands.in_plan stands.in_board in
+    let item = map-get (need_of (first_number at.run_plan.jobs) (settled_jobs at.run)) at.run_plan.jobs at.place.job at.plan stands.plan in
+    let first = first-is law p b j at play is in
+    let flags = map-each is_settled (job_has_ended at.run) at.run.jobs (λ job. settled-ended at.run job going) in
+    ap (λ (o : Option (List Need)). needs_none (o >>= λ row. slice_get row at.place.job)) row
+    ∙ ap needs_none item
+    ∙ sym (all-counted (λ need. holds_at (settled_jobs at.run) (need - first_number at.run_plan.jobs)) at.plan.needs)
+    ∙ (λ i. list_all (λ need. holds_at (flags i) (need - first i)) at.plan.needs)

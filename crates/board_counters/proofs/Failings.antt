@@ -1,0 +1,130 @@
+-- Which legs have a failed step after a change.
+use Rattle.std.proofs.Common.{◌≡◌, ℕ, suc, zero, ◌-◌, ◌||◌, Bool, true, false, List, [], ◌∷◌, ◌++◌, Option, Some, None, map, option_map, slice_get, length, take, if◌then◌else◌, ap, sym, refl, ◌∙◌}
+use Rattle.std.proofs.lemmas.Bool.{true≢false}
+use Rattle.std.proofs.lemmas.List.Folds.{list_any-append}
+use Rattle.board_decisions.specs.Derived.{is_failure}
+use Rattle.board_decisions.specs.Numbered.{leg_there}
+use Rattle.board_decisions.specs.Place.{◌>>=◌}
+use Rattle.board_decisions.specs.declared.place.JobPlace.{JobPlace}
+use Rattle.board_decisions.specs.declared.place.LegPlace.{LegPlace}
+use Rattle.flow_model.specs.declared.board.Board.{Board}
+use Rattle.flow_model.specs.declared.board.DoneStep.{DoneStep}
+use Rattle.flow_model.specs.declared.board.Job.{Job}
+use Rattle.flow_model.specs.declared.board.JobState.{JobState}
+use Rattle.flow_model.specs.declared.board.Leg.{Leg}
+use Rattle.flow_model.specs.declared.board.LegState.{LegState}
+use Rattle.flow_model.specs.declared.board.Run.{Run}
+use Rattle.board_counters.specs.Changes.{leg_after, step_taken}
+use Rattle.board_counters.specs.Failing.{any_failed, failing_at, failing_noted, failing_of, failing_set, failing_taken, job_failing, leg_failed, leg_failing, or_false, run_failing}
+use Rattle.board_counters.specs.declared.change.LegChange.{LegChange}
+use Rattle.board_counters.specs.declared.change.LegChange.TheVariants as leg_change
+use Rattle.board_counters.proofs.Lists.{map-changed, map-same}
+use Rattle.board_decisions.proofs.Lists.{map-get, map-past}
+use Rattle.board_counters.proofs.Tallies.{leg_there_changed, there}
+use Rattle.status_table.specs.Change.{changed, with_job, with_leg, with_run}
+use Rattle.status_table.specs.Row.{step_done}
+
+-- ---- the leg at a place
+
+pub failing_there : (b : Board) (place : LegPlace) → failing_at (failing_of b) place ≡ leg_failed (leg_there b place)
+failing_there b place = by_run (slice_get b.runs place.run) refl
+  where
+    by_leg : (job : Job) (o : Option Leg) → slice_get job.legs place.leg ≡ o → or_false (slice_get (map leg_failing job.legs) place.leg) ≡ leg_failed o
+    by_leg job None at = ap or_false (map-past leg_failing job.legs place.leg at)
+    by_leg job (Some leg) at = ap or_false (map-get leg_failing job.legs place.leg leg at)
+
+    by_job : (run : Run) (o : Option Job) → slice_get run.jobs place.job ≡ o
+        → or_false (slice_get (map job_failing run.jobs) place.job >>= λ legs. slice_get legs place.leg) ≡ leg_failed (o >>= λ job. slice_get job.legs place.leg)
+    by_job run None at = ap (λ o. or_false (o >>= λ legs. slice_get legs place.leg)) (map-past job_failing run.jobs place.job at)
+    by_job run (Some job) at =
+        ap (λ o. or_false (o >>= λ legs. slice_get legs place.leg)) (map-get job_failing run.jobs place.job job at) ∙ by_leg job (slice_get job.legs place.leg) refl
+
+    by_run : (o : Option Run) → slice_get b.runs place.run ≡ o
+        → failing_at (failing_of b) place ≡ leg_failed (o >>= λ run. slice_get run.jobs place.job >>= λ job. slice_get job.legs place.leg)
+    by_run None at = ap (λ o. or_false (o >>= λ row. slice_get row place.job >>= λ legs. slice_get legs place.leg)) (map-past run_failing b.runs place.run at)
+    by_run (Some run) at =
+        ap (λ o. or_false (o >>= λ row. slice_get row place.job >>= λ legs. slice_get legs place.leg)) (map-get run_failing b.runs place.run run at)
+        ∙ by_job run (slice_get run.jobs place.job) refl
+
+-- ---- changes
+
+module _ (b : Board) (place : LegPlace) (f : Leg → Leg) where
+  abbrev in_job : Job → Job
+  in_job job = record job { legs = changed job.legs place.leg f }
+
+  abbrev in_run : Run → Run
+  in_run run = record run { jobs = changed run.jobs place.job in_job }
+
+  -- they stay where as many steps of the leg failed
+  pub leg_failing_kept : ((leg : Leg) → leg_there b place ≡ Some leg → any_failed (f leg).steps ≡ any_failed leg.steps) → failing_of (with_leg b place f) ≡ failing_of b
+  leg_failing_kept keeps = map-same run_failing b.runs place.run in_run (λ run in_runs. map-same job_failing run.jobs place.job in_job (λ job in_jobs.
+      map-same leg_failing job.legs place.leg f (λ leg in_legs. keeps leg (there b place run job in_runs in_jobs ∙ in_legs))))
+
+  -- the truth at the place is that of the leg that is there then
+  pub leg_failing_set : (holds : Bool) → ((leg : Leg) → leg_there b place ≡ Some leg → any_failed (f leg).steps ≡ holds) → failing_set place holds (failing_of b) ≡ failing_of (with_leg b place f)
+  leg_failing_set holds is = sym (map-changed run_failing b.runs place.run in_run (λ row. changed row place.job (λ legs. changed legs place.leg (λ before. holds)))
+      (λ run in_runs. map-changed job_failing run.jobs place.job in_job (λ legs. changed legs place.leg (λ before. holds))
+      (λ job in_jobs. map-changed leg_failing job.legs place.leg f (λ before. holds)
+      (λ leg in_legs. is leg (there b place run job in_runs in_jobs ∙ in_legs)))))
+
+-- no change of a leg's state, group, outputs or flag changes its steps
+pub steps_stay : (how : LegChange) (leg : Leg) → (leg_after how leg).steps ≡ leg.steps
+steps_stay (leg_change.State state) leg = refl
+steps_stay (leg_change.Group state group) leg = refl
+steps_stay (leg_change.Outputs state outputs) leg = refl
+steps_stay (leg_change.Stop stop) leg = refl
+
+or-none : (c : Bool) → c || false ≡ c
+or-none true = refl
+or-none false = refl
+
+or-some : (c : Bool) → c || true ≡ true
+or-some true = refl
+or-some false = refl
+
+one-more : (steps : List DoneStep) (done : DoneStep) → any_failed (steps ++ done ∷ []) ≡ (any_failed steps || is_failure done.conclusion)
+one-more steps done = list_any-append (λ (step : DoneStep). is_failure step.conclusion) steps (done ∷ []) ∙ ap (λ c. any_failed steps || c) (or-none (is_failure done.conclusion))
+
+-- a step more
+pub failing_done : (b new : Board) (place : LegPlace) (worker : ℕ) (done : DoneStep) (failed : Bool) (old made : List (List (List Bool))) → old ≡ failing_of b → new ≡ step_done b place worker done
+    → failed ≡ is_failure done.conclusion → made ≡ failing_noted place failed old → made ≡ failing_of new
+failing_done b new place worker done failed old made old_is new_is failed_is made_is =
+    made_is ∙ (λ i. failing_noted place (failed_is i) (old_is i)) ∙ by (is_failure done.conclusion) refl ∙ ap failing_of (sym new_is)
+  where
+    by : (c : Bool) → is_failure done.conclusion ≡ c → failing_noted place c (failing_of b) ≡ failing_of (step_done b place worker done)
+    by true is = leg_failing_set b place _ true (λ leg at. one-more leg.steps done ∙ ap (λ c. any_failed leg.steps || c) is ∙ or-some (any_failed leg.steps))
+    by false is = sym (leg_failing_kept b place _ (λ leg at. one-more leg.steps done ∙ ap (λ c. any_failed leg.steps || c) is ∙ or-none (any_failed leg.steps)))
+
+none-left : (steps : List DoneStep) (n : ℕ) → any_failed steps ≡ false → any_failed (take n steps) ≡ false
+none-left [] zero none = refl
+none-left [] (suc n) none = refl
+none-left (step ∷ steps) zero none = refl
+none-left (step ∷ steps) (suc n) none = by (none-left steps n) (is_failure step.conclusion) refl
+  where
+    by : (any_failed steps ≡ false → any_failed (take n steps) ≡ false) → (c : Bool) → is_failure step.conclusion ≡ c → any_failed (take (suc n) (step ∷ steps)) ≡ false
+    by later true is = absurd (true≢false (sym (ap (λ d. d || any_failed steps) is) ∙ none))
+    by later false is = ap (λ d. d || any_failed (take n steps)) is ∙ later (sym (ap (λ d. d || any_failed steps) is) ∙ none)
+
+-- the last step taken off
+pub failing_off : (b new : Board) (place : LegPlace) (state : LegState) (old made : List (List (List Bool))) → old ≡ failing_of b → new ≡ with_leg b place (step_taken state)
+    → made ≡ failing_taken place (leg_there new place) old → made ≡ failing_of new
+failing_off b new place state old made old_is new_is made_is =
+    made_is ∙ (λ i. failing_taken place (leg_there (new_is i) place) (old_is i)) ∙ by (failing_at (failing_of b) place) refl ∙ ap failing_of (sym new_is)
+  where
+    is_left : (leg : Leg) → leg_there b place ≡ Some leg → any_failed (step_taken state leg).steps ≡ leg_failed (leg_there (with_leg b place (step_taken state)) place)
+    is_left leg at = sym (ap leg_failed (leg_there_changed b place (step_taken state)) ∙ ap (λ o. leg_failed (option_map (step_taken state) o)) at)
+
+    by : (c : Bool) → failing_at (failing_of b) place ≡ c
+        → (if c then failing_set place (leg_failed (leg_there (with_leg b place (step_taken state)) place)) (failing_of b) else failing_of b) ≡ failing_of (with_leg b place (step_taken state))
+    by true is = leg_failing_set b place (step_taken state) (leg_failed (leg_there (with_leg b place (step_taken state)) place)) is_left
+    by false is = sym (leg_failing_kept b place (step_taken state) (λ leg at.
+        let none : any_failed leg.steps ≡ false = sym (ap leg_failed at) ∙ sym (failing_there b place) ∙ is in
+        none-left leg.steps (length leg.steps - 1) none ∙ sym none))
+
+-- they stay where a job comes into a state, and where a run is changed, but not its jobs
+pub job_failing_kept : (b : Board) (place : JobPlace) (state : JobState) → failing_of (with_job b place (λ job. record job { state = state })) ≡ failing_of b
+job_failing_kept b place state = map-same run_failing b.runs place.run (λ run. record run { jobs = changed run.jobs place.job (λ job. record job { state = state }) })
+    (λ run in_runs. map-same job_failing run.jobs place.job (λ (job : Job). record job { state = state }) (λ job in_jobs. refl))
+
+pub run_failing_kept : (b : Board) (r : ℕ) (f : Run → Run) → ((run : Run) → (f run).jobs ≡ run.jobs) → failing_of (with_run b r f) ≡ failing_of b
+run_failing_kept b r f keeps = map-same run_failing b.runs r f (λ run in_runs. ap (map job_failing) (keeps run))

@@ -1,0 +1,160 @@
+-- What is kept beside a board after a change of it.
+use Rattle.std.proofs.Common.{◌≡◌, ℕ, inl, inr, Bool, true, false, List, Option, map, slice_get, ap, subst, sym, refl, ◌∙◌}
+use Rattle.board_decisions.specs.declared.place.JobPlace.{JobPlace}
+use Rattle.board_decisions.specs.declared.place.LegPlace.{LegPlace}
+use Rattle.flow_model.specs.declared.plan.Plan.{Plan}
+use Rattle.flow_model.specs.declared.board.Board.{Board}
+use Rattle.flow_model.specs.declared.board.Job.{Job}
+use Rattle.flow_model.specs.declared.board.JobState.{JobState}
+use Rattle.flow_model.specs.declared.board.Leg.{Leg}
+use Rattle.flow_model.specs.declared.board.LegState.{LegState}
+use Rattle.flow_model.specs.declared.board.Run.{Run}
+use Rattle.board_counters.specs.Changes.{CameTo, LegRecounted, job_of, resettled, run_after, standing_counted}
+use Rattle.board_counters.specs.Counted.{AreCounts, IsCounted}
+use Rattle.board_counters.specs.Counters.{is_settled, moved, needs_of, tallies_of}
+use Rattle.board_counters.specs.Dependents.{all_dependents, dependents_at}
+use Rattle.board_counters.specs.Failing.{failing_of}
+use Rattle.board_counters.specs.Lasting.{IsLasting}
+use Rattle.board_counters.specs.Names.{IsGroup, IsNamed, RunComesNamed}
+use Rattle.board_counters.specs.Standing.{run_moved, run_tally, standing_in, standing_read}
+use Rattle.board_counters.specs.Stopping.{run_legs}
+use Rattle.board_counters.specs.declared.change.RunChange.{RunChange}
+use Rattle.board_counters.specs.declared.counts.Counts.{Counts}
+use Rattle.board_counters.specs.declared.lasting.Lasting.{Lasting}
+use Rattle.board_counters.specs.declared.need.Need.{Need}
+use Rattle.board_counters.specs.declared.standing.JobStanding.{JobStanding}
+use Rattle.board_counters.specs.declared.standing.RunTally.{RunTally}
+use Rattle.board_counters.specs.declared.stopping.RunLegs.{RunLegs}
+use Rattle.board_counters.specs.declared.tally.Tally.{Tally}
+use Rattle.board_counters.proofs.Failings.{job_failing_kept, run_failing_kept}
+use Rattle.board_counters.proofs.Lists.{changed-same}
+use Rattle.board_counters.proofs.Named.{leg_named, job_named, run_named, jobs_stay}
+use Rattle.board_counters.proofs.Needs.{needs_follow, needs-kept, settled_in}
+use Rattle.board_decisions.specs.Places.{run_sizes}
+use Rattle.board_counters.proofs.Placed.{leg_sizes, job_sizes, run_sizes_kept, still_lasts}
+use Rattle.board_counters.proofs.Standings.{moved_alike, read_before, read_in, run_tallies_kept, runs_follow, standing_settles}
+use Rattle.board_counters.proofs.Stops.{job_told_kept, run_told_kept}
+use Rattle.board_counters.proofs.Tallies.{ComesSo, alike_tallies, job_tallies, moved_same, run_tallies, tallied_so}
+use Rattle.status_table.specs.Change.{changed, with_run, with_job, with_leg}
+
+-- where a leg is counted alike, nothing is counted again
+pub alike_recounted : (place : LegPlace) (was is : LegState) (run : Option Run) (dependents : List (List (List ℕ))) (counts : Counts) → ((t : Tally) → moved was is t ≡ t)
+    → LegRecounted place was is run dependents counts counts
+alike_recounted place was is run dependents counts alike = record {
+  tallies = sym (alike_tallies place was is counts.tallies alike);
+  runs = sym (changed-same counts.runs place.run (run_moved standing standing) (moved_alike standing));
+  legs = refl;
+  needs = sym (stays standing.is_settled);
+}
+  where
+    standing : JobStanding
+    standing = standing_counted place run counts
+
+    stays : (c : Bool) → resettled c c place.run (dependents_at dependents (job_of place)) counts.needs ≡ counts.needs
+    stays true = refl
+    stays false = refl
+
+-- so it is where it would be counted alike where it came to, and came there or nowhere
+pub came_alike : (place : LegPlace) (was to is : LegState) (run : Option Run) (dependents : List (List (List ℕ))) (counts : Counts) → CameTo was to is → ((t : Tally) → moved was to t ≡ t)
+    → LegRecounted place was is run dependents counts counts
+came_alike place was to is run dependents counts came alike = alike_recounted place was is run dependents counts (λ t. elim came [
+  | inl there ↦ ap (λ (s : LegState). moved was s t) there ∙ alike t
+  | inr nowhere ↦ ap (λ (s : LegState). moved was s t) nowhere ∙ moved_same was t
+])
+
+-- the needs where a job was changed
+job-needed : (p : Plan) (b new : Board) (r j : ℕ) (g : Job → Job) (was is : JobStanding) (ls : Lasting) (old made : List (List Need)) → IsLasting p b ls → old ≡ needs_of p.runs b.runs
+    → new.runs ≡ changed b.runs r (λ run. record run { jobs = changed run.jobs j g }) → was ≡ standing_in (slice_get b.runs r) j → is ≡ standing_in (slice_get new.runs r) j
+    → made ≡ resettled was.is_settled is.is_settled r (dependents_at ls.dependents (record { run = r; job = j })) old → made ≡ needs_of p.runs new.runs
+job-needed p b new r j g was is ls old made lasts needed runs was_is is_is made_is =
+    let was_settled : was.is_settled ≡ settled_in (slice_get b.runs r) j = ap (λ (s : JobStanding). s.is_settled) was_is ∙ standing_settles (slice_get b.runs r) j in
+    let is_settled : is.is_settled ≡ settled_in (slice_get new.runs r) j = ap (λ (s : JobStanding). s.is_settled) is_is ∙ standing_settles (slice_get new.runs r) j in
+    made_is
+    ∙ (λ i. resettled (was_settled i) (is_settled i) r (dependents_at (lasts.dependents i) (record { run = r; job = j })) (needed i))
+    ∙ (λ i. resettled (settled_in (slice_get b.runs r) j) (settled_in (slice_get (runs i) r) j) r (dependents_at (all_dependents p.runs (run_sizes b.runs)) (record { run = r; job = j })) (needs_of p.runs b.runs))
+    ∙ needs_follow j g p.runs b.runs r
+    ∙ ap (needs_of p.runs) (sym runs)
+
+-- how the jobs stand where one was changed
+jobs-stand : (b new : Board) (r j : ℕ) (g : Job → Job) (was is : JobStanding) (old made : List RunTally) → old ≡ map run_tally b.runs
+    → new.runs ≡ changed b.runs r (λ run. record run { jobs = changed run.jobs j g }) → was ≡ standing_in (slice_get b.runs r) j → is ≡ standing_in (slice_get new.runs r) j
+    → made ≡ changed old r (run_moved was is) → made ≡ map run_tally new.runs
+jobs-stand b new r j g was is old made stand runs was_is is_is made_is =
+    made_is
+    ∙ (λ i. changed (stand i) r (run_moved (was_is i) ((is_is ∙ ap (λ (xs : List Run). standing_in (slice_get xs r) j) runs) i)))
+    ∙ runs_follow j g b.runs r
+    ∙ ap (map run_tally) (sym runs)
+
+-- the counts where a leg was changed, with those of the legs that are told to stop
+pub leg_counts : (p : Plan) (b new : Board) (place : LegPlace) (f : Leg → Leg) (was is : LegState) (old made : Counts) (legs : List RunLegs) (ls : Lasting) → AreCounts p b old → IsLasting p b ls
+    → new ≡ with_leg b place f → ComesSo b new place was is → LegRecounted place was is (slice_get new.runs place.run) ls.dependents old made → legs ≡ map run_legs new.runs
+    → AreCounts p new (record made { legs = legs })
+leg_counts p b new place f was is old made legs ls counted lasts new_is so again told =
+    let g : Job → Job = λ job. record job { legs = changed job.legs place.leg f } in
+    let runs : new.runs ≡ (with_leg b place f).runs = ap (λ (x : Board). x.runs) new_is in
+    let tallied : made.tallies ≡ tallies_of new = again.tallies ∙ tallied_so b new place f was is old.tallies counted.tallied new_is so in
+    let before : standing_counted place (slice_get new.runs place.run) old ≡ standing_in (slice_get b.runs place.run) place.job =
+    (λ i. standing_read (slice_get (runs i) place.run) (slice_get (counted.tallied i) place.run) place.job) ∙ read_before b place f in
+    let after : standing_counted place (slice_get new.runs place.run) made ≡ standing_in (slice_get new.runs place.run) place.job =
+    ap (λ ts. standing_read (slice_get new.runs place.run) (slice_get ts place.run) place.job) tallied ∙ read_in new place.run place.job in
+    record {
+      tallied = tallied;
+      stand = jobs-stand b new place.run place.job g _ _ old.runs made.runs counted.stand runs before after again.runs;
+      told = told;
+      needed = job-needed p b new place.run place.job g _ _ ls old.needs made.needs lasts counted.needed runs before after again.needs;
+    }
+
+-- all that is kept where a leg was changed
+pub leg_counted : (p : Plan) (b new : Board) (place : LegPlace) (f : Leg → Leg) (was is : LegState) (old made : Counts) (legs : List RunLegs) (fs gs : List (List (List Bool))) (ls : Lasting)
+    → IsCounted p b old fs ls → ((leg : Leg) → IsGroup leg.group → IsGroup (f leg).group) → new ≡ with_leg b place f → ComesSo b new place was is
+    → LegRecounted place was is (slice_get new.runs place.run) ls.dependents old made → legs ≡ map run_legs new.runs → gs ≡ failing_of new → IsCounted p new (record made { legs = legs }) gs ls
+leg_counted p b new place f was is old made legs fs gs ls counted names new_is so again told failed = record {
+  counted = leg_counts p b new place f was is old made legs ls counted.counted counted.lasts new_is so again told;
+  failed = failed;
+  named = subst IsNamed (sym new_is) (leg_named b place f names counted.named);
+  lasts = still_lasts p b new ls (ap (λ (x : Board). run_sizes x.runs) new_is ∙ leg_sizes b place f) counted.lasts;
+}
+
+-- where a job came into a state
+pub job_counted : (p : Plan) (b new : Board) (place : JobPlace) (state : JobState) (was is : JobStanding) (old made : Counts) (fs : List (List (List Bool))) (ls : Lasting)
+    → IsCounted p b old fs ls → new ≡ with_job b place (λ job. record job { state = state })
+    → was ≡ standing_read (slice_get b.runs place.run) (slice_get old.tallies place.run) place.job → is ≡ standing_read (slice_get new.runs place.run) (slice_get old.tallies place.run) place.job
+    → made.tallies ≡ old.tallies → made.legs ≡ old.legs → made.runs ≡ changed old.runs place.run (run_moved was is)
+    → made.needs ≡ resettled was.is_settled is.is_settled place.run (dependents_at ls.dependents place) old.needs → IsCounted p new made fs ls
+job_counted p b new place state was is old made fs ls counted new_is was_is is_is tallies_is legs_is runs_is needs_is =
+    let g : Job → Job = λ job. record job { state = state } in
+    let runs : new.runs ≡ (with_job b place g).runs = ap (λ (x : Board). x.runs) new_is in
+    let stay : old.tallies ≡ tallies_of new = counted.counted.tallied ∙ sym (job_tallies b place state) ∙ ap tallies_of (sym new_is) in
+    let before : was ≡ standing_in (slice_get b.runs place.run) place.job =
+    was_is ∙ ap (λ ts. standing_read (slice_get b.runs place.run) (slice_get ts place.run) place.job) counted.counted.tallied ∙ read_in b place.run place.job in
+    let after : is ≡ standing_in (slice_get new.runs place.run) place.job =
+    is_is ∙ ap (λ ts. standing_read (slice_get new.runs place.run) (slice_get ts place.run) place.job) stay ∙ read_in new place.run place.job in
+    record {
+      counted = record {
+        tallied = tallies_is ∙ stay;
+        stand = jobs-stand b new place.run place.job g was is old.runs made.runs counted.counted.stand runs before after runs_is;
+        told = legs_is ∙ counted.counted.told ∙ sym (job_told_kept b.runs place.run place.job g (λ job. refl) (λ job. refl)) ∙ ap (map run_legs) (sym runs);
+        needed = job-needed p b new place.run place.job g was is ls old.needs made.needs counted.lasts counted.counted.needed runs before after needs_is;
+      };
+      failed = counted.failed ∙ sym (job_failing_kept b place state) ∙ ap failing_of (sym new_is);
+      named = subst IsNamed (sym new_is) (job_named b place state counted.named);
+      lasts = still_lasts p b new ls (ap (λ (x : Board). run_sizes x.runs) new_is ∙ job_sizes b place state) counted.lasts;
+    }
+
+-- where a run was changed, but not its jobs
+pub run_counted : (p : Plan) (b new : Board) (r : ℕ) (how : RunChange) (counts : Counts) (fs : List (List (List Bool))) (ls : Lasting) → IsCounted p b counts fs ls → RunComesNamed how
+    → new ≡ with_run b r (run_after how) → IsCounted p new counts fs ls
+run_counted p b new r how counts fs ls counted comes new_is = subst (λ (x : Board). IsCounted p x counts fs ls) (sym new_is) (record {
+  counted = record {
+    tallied = counted.counted.tallied ∙ sym (run_tallies b r (run_after how) (jobs_stay how));
+    stand = counted.counted.stand ∙ sym (run_tallies_kept b.runs r (run_after how) (jobs_stay how));
+    told = counted.counted.told ∙ sym (run_told_kept b.runs r (run_after how) (jobs_stay how));
+    needed = counted.counted.needed ∙ sym (needs-kept p.runs b.runs r (run_after how) (λ run at. ap settled (jobs_stay how run)));
+  };
+  failed = counted.failed ∙ sym (run_failing_kept b r (run_after how) (jobs_stay how));
+  named = run_named b r how comes counted.named;
+  lasts = still_lasts p b (with_run b r (run_after how)) ls (run_sizes_kept b r (run_after how) (jobs_stay how)) counted.lasts;
+})
+  where
+    settled : List Job → List Bool
+    settled jobs = map is_settled jobs

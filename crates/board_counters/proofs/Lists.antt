@@ -1,0 +1,150 @@
+-- Lists with one item changed: what is made of each item, and how many pass a test.
+use Rattle.std.proofs.Common.{◌≡◌, ℕ, zero, suc, ◌+◌, ◌<◌, ◌≤◌, ◌||◌, Bool, true, false, List, [], ◌∷◌, ◌++◌, Some, None, length, map, take, drop, get_or, slice_get, slice_set, nat_lt, count_by, if◌then◌else◌, append_assoc, ap, subst, sym, refl, ◌∙◌, arith}
+use Rattle.std.specs.List.{list_any}
+use Rattle.std.proofs.lemmas.Bool.Decides.{nat_tests}
+use Rattle.std.proofs.lemmas.List.{drop_more}
+use Rattle.std.proofs.lemmas.List.Sums.{sum_by-cons}
+use Rattle.flow_model.specs.Sound.{Each}
+use Rattle.board_counters.specs.Counters.{turned}
+use Rattle.status_table.specs.Change.{put, changed}
+use Rattle.status_table.proofs.Counts.{one, sum-changed}
+use Rattle.status_table.proofs.Lists.{changed-cons}
+use Rattle.board_decisions.proofs.Lists.{same_some, no_some}
+
+-- ---- what is made of each item
+
+pub map-changed : {A B : Type 0} (g : A → B) (xs : List A) (i : ℕ) (f : A → A) (h : B → B) → ((x : A) → slice_get xs i ≡ Some x → g (f x) ≡ h (g x))
+    → map g (changed xs i f) ≡ changed (map g xs) i h
+map-changed g [] i f h step = refl
+map-changed g (x ∷ xs) zero f h step = ap (λ y. y ∷ map g xs) (step x refl)
+map-changed g (x ∷ xs) (suc i) f h step =
+    ap (map g) (changed-cons x xs i f) ∙ ap (λ ys. g x ∷ ys) (map-changed g xs i f h step) ∙ sym (changed-cons (g x) (map g xs) i h)
+
+pub map-same : {A B : Type 0} (g : A → B) (xs : List A) (i : ℕ) (f : A → A) → ((x : A) → slice_get xs i ≡ Some x → g (f x) ≡ g x) → map g (changed xs i f) ≡ map g xs
+map-same g [] i f step = refl
+map-same g (x ∷ xs) zero f step = ap (λ y. y ∷ map g xs) (step x refl)
+map-same g (x ∷ xs) (suc i) f step = ap (map g) (changed-cons x xs i f) ∙ ap (λ ys. g x ∷ ys) (map-same g xs i f step)
+
+pub map-twice : {A B C : Type 0} (f : A → B) (g : B → C) (h : A → C) (xs : List A) → ((x : A) → g (f x) ≡ h x) → map g (map f xs) ≡ map h xs
+map-twice f g h [] step = refl
+map-twice {A} {B} {C} f g h (x ∷ xs) step = ap (λ (y : C). y ∷ map g (map f xs)) (step x) ∙ ap (λ (ys : List C). h x ∷ ys) (map-twice f g h xs step)
+
+pub map-each : {A B : Type 0} (f g : A → B) (xs : List A) → ((x : A) → f x ≡ g x) → map f xs ≡ map g xs
+map-each f g [] step = refl
+map-each {A} {B} f g (x ∷ xs) step = ap (λ (y : B). y ∷ map f xs) (step x) ∙ ap (λ (ys : List B). g x ∷ ys) (map-each f g xs step)
+
+-- what is made of one item more of those that are gone through
+pub made-more : {A B : Type 0} (f : A → B) (xs : List A) (i : ℕ) (x : A) (y : B) (ys made : List B) → i < length xs → x ≡ get_or xs i x → y ≡ f x → made ≡ ys ++ y ∷ []
+    → ys ++ map f (drop i xs) ≡ map f xs → made ++ map f (drop (i + 1) xs) ≡ map f xs
+made-more {A} {B} f xs i x y ys made within is y_is made_is so_far =
+    ap (λ (zs : List B). zs ++ map f (drop (i + 1) xs)) made_is
+    ∙ append_assoc ys (y ∷ []) (map f (drop (i + 1) xs))
+    ∙ ap (λ (z : B). ys ++ z ∷ map f (drop (i + 1) xs)) (y_is ∙ ap f is)
+    ∙ ap (λ (zs : List A). ys ++ map f zs) (sym (drop_more xs i x within))
+    ∙ so_far
+
+-- where each item stays, nothing is changed
+pub changed-same : {T : Type 0} (xs : List T) (i : ℕ) (f : T → T) → ((x : T) → f x ≡ x) → changed xs i f ≡ xs
+changed-same [] i f same = refl
+changed-same (x ∷ xs) zero f same = ap (λ y. y ∷ xs) (same x)
+changed-same (x ∷ xs) (suc i) f same = changed-cons x xs i f ∙ ap (λ ys. x ∷ ys) (changed-same xs i f same)
+
+-- where there is no item, nothing is changed
+pub changed-none : {T : Type 0} (xs : List T) (i : ℕ) (f : T → T) → slice_get xs i ≡ None → changed xs i f ≡ xs
+changed-none xs i f at = ap (put xs i f) at
+
+-- one item more of those that are changed in their order
+pub changed-more : {T : Type 0} (f : T → T) (xs : List T) (i : ℕ) → i < length xs → changed (map f (take i xs) ++ drop i xs) i f ≡ map f (take (suc i) xs) ++ drop (suc i) xs
+changed-more f [] i h = absurd (omega (arith, h))
+changed-more f (x ∷ xs) zero h = refl
+changed-more f (x ∷ xs) (suc i) h = changed-cons (f x) (map f (take i xs) ++ drop i xs) i f ∙ ap (λ ys. f x ∷ ys) (changed-more f xs i (omega (arith, h)))
+
+-- ---- each item
+
+pub each-changed : {T : Type 0} (P : T → Type 0) (xs : List T) (i : ℕ) (f : T → T) → ((x : T) → P x → P (f x)) → Each P xs → Each P (changed xs i f)
+each-changed P [] i f step h = h
+each-changed {T} P (y ∷ ys) zero f step h = λ k. each k
+  where
+    each : (k : ℕ) (x : T) → slice_get (f y ∷ ys) k ≡ Some x → P x
+    each zero x at = subst P (same_some (f y) x at) (step y (h 0 y refl))
+    each (suc k) x at = h (suc k) x at
+each-changed {T} P (y ∷ ys) (suc i) f step h =
+    subst (Each P) (sym (changed-cons y ys i f)) (each (each-changed P ys i f step (λ j z there. h (suc j) z there)))
+  where
+    each : Each P (changed ys i f) → (k : ℕ) (x : T) → slice_get (y ∷ changed ys i f) k ≡ Some x → P x
+    each later zero x at = h 0 x at
+    each later (suc k) x at = later k x at
+
+-- ---- how many pass a test
+
+pub not-counted : {T : Type 0} (t : T → Bool) (xs : List T) → count_by t xs ≤ length xs
+not-counted t [] = omega arith
+not-counted t (x ∷ xs) =
+    let cons = sum_by-cons (λ y. one (t y)) x xs in
+    let later = not-counted t xs in
+    let here = at_most (t x) in
+    omega (arith, cons, later, here)
+  where
+    at_most : (c : Bool) → one c ≤ 1
+    at_most true = omega arith
+    at_most false = omega arith
+
+pub left-out : {T : Type 0} (t : T → Bool) (xs : List T) (i : ℕ) (x : T) → slice_get xs i ≡ Some x → t x ≡ false → count_by t xs < length xs
+left-out t [] i x at h = absurd (no_some x at)
+left-out t (y ∷ ys) zero x at h =
+    let cons = sum_by-cons (λ z. one (t z)) y ys in
+    let later = not-counted t ys in
+    let here = ap (λ z. one (t z)) (same_some y x at) ∙ ap one h in
+    omega (arith, cons, later, here)
+left-out t (y ∷ ys) (suc i) x at h =
+    let cons = sum_by-cons (λ z. one (t z)) y ys in
+    let later = left-out t ys i x at h in
+    let here = at_most (t y) in
+    omega (arith, cons, later, here)
+  where
+    at_most : (c : Bool) → one c ≤ 1
+    at_most true = omega arith
+    at_most false = omega arith
+
+-- the count after an item was changed
+pub count-changed : {T : Type 0} (t : T → Bool) (xs : List T) (i : ℕ) (f : T → T) (x : T) → slice_get xs i ≡ Some x
+    → count_by t (changed xs i f) ≡ turned (length xs) (count_by t xs) (t x) (t (f x))
+count-changed t xs i f x at = by (t x) (t (f x)) refl refl
+  where
+    sums : count_by t (changed xs i f) + one (t x) ≡ count_by t xs + one (t (f x))
+    sums = sum-changed (λ y. one (t y)) xs i f x at
+
+    by : (was is : Bool) → t x ≡ was → t (f x) ≡ is → count_by t (changed xs i f) ≡ turned (length xs) (count_by t xs) was is
+    by false false was is = let a = ap one was in let b = ap one is in let s = sums in omega (arith, a, b, s)
+    by true true was is = let a = ap one was in let b = ap one is in let s = sums in omega (arith, a, b, s)
+    by true false was is = let a = ap one was in let b = ap one is in let s = sums in omega (arith, a, b, s)
+    by false true was is =
+        let a = ap one was in let b = ap one is in let s = sums in
+        let room = left-out t xs i x at was in
+        let more : nat_lt (count_by t xs) (length xs) ≡ true = grind (arith, nat_tests, room) in
+        let next : count_by t (changed xs i f) ≡ suc (count_by t xs) = omega (arith, a, b, s) in
+        next ∙ sym (ap (λ c. if c then suc (count_by t xs) else count_by t xs) more)
+
+-- some item passes a test where one is counted
+pub any-counted : {T : Type 0} (t : T → Bool) (xs : List T) → list_any t xs ≡ nat_lt 0 (count_by t xs)
+any-counted t [] = refl
+any-counted t (x ∷ xs) = by (any-counted t xs) (t x) refl
+  where
+    cons : count_by t (x ∷ xs) ≡ one (t x) + count_by t xs
+    cons = sum_by-cons (λ y. one (t y)) x xs
+
+    by : list_any t xs ≡ nat_lt 0 (count_by t xs) → (c : Bool) → t x ≡ c → list_any t (x ∷ xs) ≡ nat_lt 0 (count_by t (x ∷ xs))
+    by later true is =
+        let a = ap one is in let n = cons in
+        let more : nat_lt 0 (count_by t (x ∷ xs)) ≡ true = grind (arith, nat_tests, a, n) in
+        ap (λ c. c || list_any t xs) is ∙ sym more
+    by later false is =
+        let a = ap one is in let n = cons in
+        let same : count_by t (x ∷ xs) ≡ count_by t xs = omega (arith, a, n) in
+        ap (λ c. c || list_any t xs) is ∙ later ∙ ap (nat_lt 0) (sym same)
+
+-- an item that is put in its own place again changes nothing
+pub set_same : {T : Type 0} (xs : List T) (i : ℕ) (x y : T) → Some x ≡ slice_get xs i → y ≡ x → slice_set xs i y ≡ xs
+set_same [] i x y at same = absurd (no_some x (sym at))
+set_same (z ∷ xs) zero x y at same = ap (λ w. w ∷ xs) (same ∙ sym (same_some z x (sym at)))
+set_same (z ∷ xs) (suc i) x y at same = ap (λ ys. z ∷ ys) (set_same xs i x y at same)

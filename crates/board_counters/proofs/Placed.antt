@@ -1,0 +1,92 @@
+-- What is kept of a board and stays, whatever is changed of it.
+use Rattle.std.proofs.Common.{◌≡◌, ◌<◌, ◌+◌, ℕ, List, [], ◌∷◌, ◌++◌, Option, Some, None, length, take, get_or, slice_get, ap, subst, sym, refl, ◌∙◌}
+use Rattle.std.specs.List.{AllZip}
+use Rattle.std.proofs.lemmas.List.{take_more}
+use Rattle.board_decisions.specs.Calls.{AreCallsOf, Tells, called_as}
+use Rattle.board_decisions.specs.Decisions.{is_called, leg_result, step_decision}
+use Rattle.board_decisions.specs.declared.kept.Calls.{Calls}
+use Rattle.board_decisions.specs.Place.{◌>>=◌}
+use Rattle.board_decisions.specs.Places.{sizes, run_sizes, all_jobs_from, all_legs_from}
+use Rattle.board_decisions.specs.declared.place.JobPlace.{JobPlace}
+use Rattle.board_decisions.specs.declared.place.LegPlace.{LegPlace}
+use Rattle.board_counters.specs.Dependents.{all_dependents}
+use Rattle.board_counters.specs.Lasting.{IsLasting, TellsJobs, TellsRuns, TellsSteps, calls_at, or_unknown}
+use Rattle.board_counters.specs.declared.lasting.Lasting.{Lasting}
+use Rattle.board_counters.proofs.Lists.{map-same}
+use Rattle.flow_model.specs.declared.board.Board.{Board}
+use Rattle.flow_model.specs.declared.board.Run.{Run}
+use Rattle.flow_model.specs.declared.board.Job.{Job}
+use Rattle.flow_model.specs.declared.board.JobState.{JobState}
+use Rattle.flow_model.specs.declared.board.Leg.{Leg}
+use Rattle.flow_model.specs.declared.event.Outcome.{Outcome}
+use Rattle.flow_model.specs.declared.event.Outcome.TheVariants as outcome
+use Rattle.flow_model.specs.declared.plan.JobPlan.{JobPlan}
+use Rattle.flow_model.specs.declared.plan.Plan.{Plan}
+use Rattle.flow_model.specs.declared.plan.RunPlan.{RunPlan}
+use Rattle.flow_model.specs.declared.plan.StepPlan.{StepPlan}
+use Rattle.status_table.specs.Change.{changed, with_run, with_job, with_leg}
+use Rattle.status_table.proofs.Lists.{length-changed, zip-append, zip-get}
+
+-- ---- how many legs each job has
+
+-- as many as before, where a leg is changed
+pub leg_sizes : (b : Board) (place : LegPlace) (f : Leg → Leg) → run_sizes (with_leg b place f).runs ≡ run_sizes b.runs
+leg_sizes b place f = map-same (λ (run : Run). sizes run.jobs) b.runs place.run
+    (λ run. record run { jobs = changed run.jobs place.job (λ job. record job { legs = changed job.legs place.leg f }) })
+    (λ run in_runs. map-same (λ (job : Job). length job.legs) run.jobs place.job (λ job. record job { legs = changed job.legs place.leg f }) (λ job in_jobs. length-changed job.legs place.leg f))
+
+-- and where a job comes into a state, or a run is changed, but not its jobs
+pub job_sizes : (b : Board) (place : JobPlace) (state : JobState) → run_sizes (with_job b place (λ job. record job { state = state })).runs ≡ run_sizes b.runs
+job_sizes b place state = map-same (λ (run : Run). sizes run.jobs) b.runs place.run
+    (λ run. record run { jobs = changed run.jobs place.job (λ job. record job { state = state }) })
+    (λ run in_runs. map-same (λ (job : Job). length job.legs) run.jobs place.job (λ job. record job { state = state }) (λ job in_jobs. refl))
+
+pub run_sizes_kept : (b : Board) (r : ℕ) (f : Run → Run) → ((run : Run) → (f run).jobs ≡ run.jobs) → run_sizes (with_run b r f).runs ≡ run_sizes b.runs
+run_sizes_kept b r f keeps = map-same (λ (run : Run). sizes run.jobs) b.runs r f (λ run in_runs. ap sizes (keeps run))
+
+-- ---- what stays
+
+pub still_lasts : (p : Plan) (b new : Board) (lasting : Lasting) → run_sizes new.runs ≡ run_sizes b.runs → IsLasting p b lasting → IsLasting p new lasting
+still_lasts p b new lasting same is = record {
+  jobs = is.jobs ∙ sym (ap (all_jobs_from 0) same);
+  legs = is.legs ∙ sym (ap (all_legs_from 0) same);
+  calls = is.calls;
+  dependents = is.dependents ∙ sym (ap (all_dependents p.runs) same);
+}
+
+-- nothing is told where nothing is known
+nothing_told : (run : RunPlan) (job : JobPlan) (step : StepPlan) → AreCallsOf run job step (or_unknown None)
+nothing_told run job step l at in_run in_job = by_result (leg_result at)
+  where
+    by_result : (how : Outcome) → Tells (called_as (or_unknown None) how) (is_called (step_decision l at step))
+    by_result outcome.Success = tt
+    by_result outcome.Failure = tt
+    by_result outcome.Cancelled = tt
+    by_result outcome.Skipped = tt
+
+-- what is told of a step of the job at a place
+pub calls_told : (runs : List RunPlan) (calls : List (List (List Calls))) (place : JobPlace) (n : ℕ) (run : RunPlan) (job : JobPlan) (step : StepPlan) → TellsRuns runs calls
+    → slice_get runs place.run ≡ Some run → slice_get run.jobs place.job ≡ Some job → slice_get job.steps n ≡ Some step → AreCallsOf run job step (calls_at calls place n)
+calls_told runs calls place n run job step all in_runs in_jobs in_steps = by_row (slice_get calls place.run) refl
+  where
+    by_step : (told : List Calls) → TellsSteps run job told → (o : Option Calls) → slice_get told n ≡ o → AreCallsOf run job step (or_unknown o)
+    by_step told are None at = nothing_told run job step
+    by_step told are (Some one) at = zip-get (AreCallsOf run job) job.steps told n step one in_steps at are
+
+    by_job : (row : List (List Calls)) → TellsJobs run row → (o : Option (List Calls)) → slice_get row place.job ≡ o
+        → AreCallsOf run job step (or_unknown (o >>= λ told. slice_get told n))
+    by_job row are None at = nothing_told run job step
+    by_job row are (Some told) at = by_step told (zip-get (TellsSteps run) run.jobs row place.job job told in_jobs at are) (slice_get told n) refl
+
+    by_row : (o : Option (List (List Calls))) → slice_get calls place.run ≡ o
+        → AreCallsOf run job step (or_unknown (o >>= λ row. slice_get row place.job >>= λ told. slice_get told n))
+    by_row None at = nothing_told run job step
+    by_row (Some row) at = by_job row (zip-get TellsJobs runs calls place.run run row in_runs at all) (slice_get row place.job) refl
+
+-- one more item, side by side with one more
+pub zip-more : {A B : Type 0} (R : A → B → Type 0) (xs : List A) (i : ℕ) (x : A) (y : B) (ys made : List B) → i < length xs → x ≡ get_or xs i x → made ≡ ys ++ y ∷ [] → R x y
+    → AllZip R (take i xs) ys → AllZip R (take (i + 1) xs) made
+zip-more {A} {B} R xs i x y ys made within is more one before =
+    subst (AllZip R (take (i + 1) xs)) (sym more)
+    (subst (λ (zs : List A). AllZip R zs (ys ++ y ∷ [])) (sym (take_more xs i x within ∙ ap (λ (z : A). take i xs ++ z ∷ []) (sym is)))
+    (zip-append R (take i xs) (x ∷ []) ys (y ∷ []) before (one, tt)))

@@ -1,0 +1,222 @@
+-- How jobs stand by their tallies, and the counts of a run's jobs after one was changed.
+use Rattle.std.proofs.Common.{◌≡◌, ℕ, ◌==◌, ◌||◌, ◌&&◌, Bool, true, false, List, [], ◌∷◌, Option, Some, None, map, option_map, slice_get, length, nat_lt, if◌then◌else◌, ap, sym, refl, ◌∙◌}
+use Rattle.std.specs.List.{list_all, list_any}
+use Rattle.std.proofs.lemmas.Bool.{true≢false}
+use Rattle.board_decisions.specs.Derived.{all_succeed, has_failed, holds, is_any_job_cancelled, is_any_job_failed, is_cancelled, is_failure, is_going, is_success, job_result, jobs_have_ended, legs_result, result_by, run_result, was_cancelled}
+use Rattle.board_decisions.specs.declared.place.LegPlace.{LegPlace}
+use Rattle.flow_model.specs.declared.board.Board.{Board}
+use Rattle.flow_model.specs.declared.board.Job.{Job}
+use Rattle.flow_model.specs.declared.board.JobState.{JobState}
+use Rattle.flow_model.specs.declared.board.JobState.TheVariants as job_state
+use Rattle.flow_model.specs.declared.board.Leg.{Leg}
+use Rattle.flow_model.specs.declared.board.Run.{Run}
+use Rattle.flow_model.specs.declared.board.RunState.{RunState}
+use Rattle.flow_model.specs.declared.board.RunState.TheVariants as run_state
+use Rattle.flow_model.specs.declared.event.Outcome.{Outcome}
+use Rattle.flow_model.specs.declared.event.Outcome.TheVariants as outcome
+use Rattle.board_counters.specs.Counters.{is_settled, settled_jobs, tally_of, tallies_of, turned}
+use Rattle.board_counters.specs.Standing.{counted_jobs, counts_job, has_fresh, has_left, no_standing, run_moved, run_tally, run_tally_there, standing_by, standing_given, standing_in, standing_of, standing_read, standing_there, tally_result, told_result}
+use Rattle.board_counters.specs.declared.standing.JobCounter.{JobCounter}
+use Rattle.board_counters.specs.declared.standing.JobCounter.TheVariants as counter
+use Rattle.board_counters.specs.declared.standing.JobStanding.{JobStanding}
+use Rattle.board_counters.specs.declared.standing.RunTally.{RunTally}
+use Rattle.board_counters.proofs.Ended.{all-counted, jobs_ended}
+use Rattle.board_counters.proofs.Lists.{any-counted, changed-none, count-changed, map-changed, map-same}
+use Rattle.board_decisions.proofs.Lists.{map-get, map-past}
+use Rattle.board_counters.proofs.Needs.{settled_in}
+use Rattle.board_counters.proofs.Tallies.{get_changed, turned_same}
+use Rattle.status_table.specs.Change.{changed, with_leg}
+use Rattle.status_table.proofs.Lists.{changed-there, length-changed}
+
+-- ---- one job
+
+by-tally : (job : Job) → tally_result (tally_of job) ≡ legs_result job.legs
+by-tally job =
+    let failed = any-counted (λ (leg : Leg). has_failed leg.state) job.legs in
+    let cancelled = any-counted (λ (leg : Leg). was_cancelled leg.state) job.legs in
+    sym (λ i. if failed i then outcome.Failure else (if cancelled i then outcome.Cancelled else outcome.Success))
+
+by-state : (job : Job) (s : JobState) → standing_by s (tally_of job) ≡ standing_of (record job { state = s })
+by-state job (job_state.Shut how) = refl
+by-state job job_state.Open = λ i. record {
+  is_settled = (tally_of job).pending == 0;
+  result = by-tally job i;
+  is_unjudged = false;
+  may_ask = has_fresh (tally_of job);
+  may_drop = has_left (tally_of job);
+}
+by-state job job_state.Unjudged = λ i. record {
+  is_settled = (tally_of job).pending == 0;
+  result = by-tally job i;
+  is_unjudged = true;
+  may_ask = false;
+  may_drop = false;
+}
+
+pub by_state : (job : Job) → standing_by job.state (tally_of job) ≡ standing_of job
+by_state job = by-state job job.state
+
+given : (jobs : List Job) (j : ℕ) (f : Job → Job) → ((job : Job) → (f job).state ≡ job.state) → (o : Option Job) → slice_get jobs j ≡ o
+    → standing_given (option_map f o) (slice_get (map tally_of jobs) j) ≡ standing_there o
+given jobs j f keeps None at = refl
+given jobs j f keeps (Some job) at =
+    ap (standing_given (Some (f job))) (map-get tally_of jobs j job at) ∙ ap (λ (s : JobState). standing_by s (tally_of job)) (keeps job) ∙ by-state job job.state
+
+-- by the tallies of a board a job stands as it does
+pub read_in : (b : Board) (r j : ℕ) → standing_read (slice_get b.runs r) (slice_get (tallies_of b) r) j ≡ standing_in (slice_get b.runs r) j
+read_in b r j = by (slice_get b.runs r) refl
+  where
+    same : (o : Option Job) → option_map (λ (job : Job). job) o ≡ o
+    same None = refl
+    same (Some job) = refl
+
+    by : (o : Option Run) → slice_get b.runs r ≡ o → standing_read o (slice_get (tallies_of b) r) j ≡ standing_in o j
+    by None at = refl
+    by (Some run) at =
+        ap (λ row. standing_read (Some run) row j) (map-get (λ (x : Run). map tally_of x.jobs) b.runs r run at)
+        ∙ ap (λ o. standing_given o (slice_get (map tally_of run.jobs) j)) (sym (same (slice_get run.jobs j)))
+        ∙ given run.jobs j (λ (job : Job). job) (λ job. refl) (slice_get run.jobs j) refl
+
+-- and also where a leg of it was changed since they were counted
+pub read_before : (b : Board) (place : LegPlace) (f : Leg → Leg)
+    → standing_read (slice_get (with_leg b place f).runs place.run) (slice_get (tallies_of b) place.run) place.job ≡ standing_in (slice_get b.runs place.run) place.job
+read_before b place f = ap (λ o. standing_read o (slice_get (tallies_of b) place.run) place.job) (get_changed b.runs place.run in_run) ∙ by (slice_get b.runs place.run) refl
+  where
+    in_job : Job → Job
+    in_job job = record job { legs = changed job.legs place.leg f }
+
+    in_run : Run → Run
+    in_run run = record run { jobs = changed run.jobs place.job in_job }
+
+    by : (o : Option Run) → slice_get b.runs place.run ≡ o → standing_read (option_map in_run o) (slice_get (tallies_of b) place.run) place.job ≡ standing_in o place.job
+    by None at = refl
+    by (Some run) at =
+        ap (λ row. standing_read (Some (in_run run)) row place.job) (map-get (λ (x : Run). map tally_of x.jobs) b.runs place.run run at)
+        ∙ ap (λ o. standing_given o (slice_get (map tally_of run.jobs) place.job)) (get_changed run.jobs place.job in_job)
+        ∙ given run.jobs place.job in_job (λ job. refl) (slice_get run.jobs place.job) refl
+
+-- whether it has ended by itself is said too
+pub standing_settles : (o : Option Run) (j : ℕ) → (standing_in o j).is_settled ≡ settled_in o j
+standing_settles None j = refl
+standing_settles (Some run) j = by (slice_get run.jobs j) refl
+  where
+    by : (o : Option Job) → slice_get run.jobs j ≡ o → (standing_there o).is_settled ≡ holds (slice_get (settled_jobs run) j)
+    by None at = ap holds (sym (map-past is_settled run.jobs j at))
+    by (Some job) at = ap holds (sym (map-get is_settled run.jobs j job at))
+
+-- ---- the jobs of a run
+
+pub moved_alike : (s : JobStanding) (t : RunTally) → run_moved s s t ≡ t
+moved_alike s t = λ i. record {
+  jobs = t.jobs;
+  pending = turned_same t.jobs t.pending (counts_job counter.Open s) i;
+  failed = turned_same t.jobs t.failed (counts_job counter.Failed s) i;
+  cancelled = turned_same t.jobs t.cancelled (counts_job counter.Cancelled s) i;
+  unsuccessful = turned_same t.jobs t.unsuccessful (counts_job counter.Unsuccessful s) i;
+  unjudged = turned_same t.jobs t.unjudged (counts_job counter.Unjudged s) i;
+  asking = turned_same t.jobs t.asking (counts_job counter.Asking s) i;
+  dropping = turned_same t.jobs t.dropping (counts_job counter.Dropping s) i;
+}
+
+module _ (j : ℕ) (g : Job → Job) where
+  abbrev at_job : Run → Run
+  at_job run = record run { jobs = changed run.jobs j g }
+
+  one-run : (run : Run) (o : Option Job) → slice_get run.jobs j ≡ o → run_tally (at_job run) ≡ run_moved (standing_in (Some run) j) (standing_in (Some (at_job run)) j) (run_tally run)
+  one-run run None at =
+      let same = changed-none run.jobs j g at in
+      let old : standing_in (Some run) j ≡ no_standing = ap standing_there at in
+      let new : standing_in (Some (at_job run)) j ≡ no_standing = ap (λ (jobs : List Job). standing_there (slice_get jobs j)) same ∙ ap standing_there at in
+      ap (λ (jobs : List Job). run_tally (record run { jobs = jobs })) same ∙ sym (moved_alike no_standing (run_tally run)) ∙ sym (λ i. run_moved (old i) (new i) (run_tally run))
+  one-run run (Some job) at =
+      let old : standing_in (Some run) j ≡ standing_of job = ap standing_there at in
+      let new : standing_in (Some (at_job run)) j ≡ standing_of (g job) = ap standing_there (changed-there run.jobs j g job at) in
+      (λ i. record {
+        jobs = length-changed run.jobs j g i;
+        pending = each counter.Open i;
+        failed = each counter.Failed i;
+        cancelled = each counter.Cancelled i;
+        unsuccessful = each counter.Unsuccessful i;
+        unjudged = each counter.Unjudged i;
+        asking = each counter.Asking i;
+        dropping = each counter.Dropping i;
+      }) ∙ sym (λ i. run_moved (old i) (new i) (run_tally run))
+    where
+      each : (what : JobCounter) → counted_jobs what (changed run.jobs j g) ≡ turned (length run.jobs) (counted_jobs what run.jobs) (counts_job what (standing_of job)) (counts_job what (standing_of (g job)))
+      each what = count-changed (λ x. counts_job what (standing_of x)) run.jobs j g job at
+
+  -- the counts after a job of a run was changed
+  pub runs_follow : (runs : List Run) (r : ℕ)
+      → changed (map run_tally runs) r (run_moved (standing_in (slice_get runs r) j) (standing_in (slice_get (changed runs r at_job) r) j)) ≡ map run_tally (changed runs r at_job)
+  runs_follow runs r = sym (map-changed run_tally runs r at_job (run_moved (standing_in (slice_get runs r) j) (standing_in (slice_get (changed runs r at_job) r) j)) (λ run at.
+      one-run run (slice_get run.jobs j) refl
+      ∙ sym (λ i. run_moved (standing_in (at i) j) (standing_in (changed-there runs r at_job run at i) j) (run_tally run))))
+
+-- they stay where a run is changed, but not its jobs
+pub run_tallies_kept : (runs : List Run) (r : ℕ) (f : Run → Run) → ((run : Run) → (f run).jobs ≡ run.jobs) → map run_tally (changed runs r f) ≡ map run_tally runs
+run_tallies_kept runs r f keeps = map-same run_tally runs r f (λ run at. ap counted (keeps run))
+  where
+    counted : List Job → RunTally
+    counted jobs = record {
+      jobs = length jobs;
+      pending = counted_jobs counter.Open jobs;
+      failed = counted_jobs counter.Failed jobs;
+      cancelled = counted_jobs counter.Cancelled jobs;
+      unsuccessful = counted_jobs counter.Unsuccessful jobs;
+      unjudged = counted_jobs counter.Unjudged jobs;
+      asking = counted_jobs counter.Asking jobs;
+      dropping = counted_jobs counter.Dropping jobs;
+    }
+
+-- ---- what they tell of a run that is Going
+
+going-by : (s : RunState) → is_going s ≡ true → (state : JobState) (legs : List Leg) → result_by s state legs ≡ result_by run_state.Going state legs
+going-by run_state.Going h state legs = refl
+going-by run_state.New h state legs = absurd (true≢false (sym h))
+going-by run_state.Waiting h state legs = absurd (true≢false (sym h))
+going-by (run_state.Closed how) h state legs = absurd (true≢false (sym h))
+
+standing-result : (run : Run) → is_going run.state ≡ true → (job : Job) → (standing_of job).result ≡ job_result run job
+standing-result run going job = sym (going-by run.state going job.state job.legs)
+
+all-results : (run : Run) (t : Outcome → Bool) (jobs : List Job) → ((job : Job) → (standing_of job).result ≡ job_result run job)
+    → list_all (λ job. t (standing_of job).result) jobs ≡ list_all t (map (job_result run) jobs)
+all-results run t [] same = refl
+all-results run t (job ∷ jobs) same = (λ i. t (same job i) && list_all (λ x. t (standing_of x).result) jobs) ∙ ap (λ c. t (job_result run job) && c) (all-results run t jobs same)
+
+any-results : (run : Run) (t : Outcome → Bool) (jobs : List Job) → ((job : Job) → (standing_of job).result ≡ job_result run job)
+    → list_any (λ job. t (standing_of job).result) jobs ≡ list_any (λ job. t (job_result run job)) jobs
+any-results run t [] same = refl
+any-results run t (job ∷ jobs) same = (λ i. t (same job i) || list_any (λ x. t (standing_of x).result) jobs) ∙ ap (λ c. t (job_result run job) || c) (any-results run t jobs same)
+
+-- how the jobs of a run stand, by what is kept of it
+pub told_tally : (runs : List RunTally) (all : List Run) (r : ℕ) (run : Run) → runs ≡ map run_tally all → slice_get all r ≡ Some run → run_tally_there (slice_get runs r) ≡ run_tally run
+told_tally runs all r run stand at = ap (λ ts. run_tally_there (slice_get ts r)) stand ∙ ap run_tally_there (map-get run_tally all r run at)
+
+module _ (runs : List RunTally) (all : List Run) (r : ℕ) (run : Run) (stand : runs ≡ map run_tally all) (at : slice_get all r ≡ Some run) (going : is_going run.state ≡ true) where
+  tally_is : run_tally_there (slice_get runs r) ≡ run_tally run
+  tally_is = told_tally runs all r run stand at
+
+  pub told_ended : ((run_tally_there (slice_get runs r)).pending == 0) ≡ jobs_have_ended run
+  told_ended = ap (λ (t : RunTally). t.pending == 0) tally_is ∙ sym (all-counted (λ job. is_settled job) run.jobs) ∙ jobs_ended run going
+
+  pub told_succeed : ((run_tally_there (slice_get runs r)).unsuccessful == 0) ≡ all_succeed run
+  told_succeed =
+      ap (λ (t : RunTally). t.unsuccessful == 0) tally_is
+      ∙ sym (all-counted (λ job. is_success (standing_of job).result) run.jobs)
+      ∙ all-results run is_success run.jobs (standing-result run going)
+
+  told_failed : nat_lt 0 (run_tally_there (slice_get runs r)).failed ≡ is_any_job_failed run
+  told_failed =
+      ap (λ (t : RunTally). nat_lt 0 t.failed) tally_is
+      ∙ sym (any-counted (λ job. is_failure (standing_of job).result) run.jobs)
+      ∙ any-results run is_failure run.jobs (standing-result run going)
+
+  told_cancelled : nat_lt 0 (run_tally_there (slice_get runs r)).cancelled ≡ is_any_job_cancelled run
+  told_cancelled =
+      ap (λ (t : RunTally). nat_lt 0 t.cancelled) tally_is
+      ∙ sym (any-counted (λ job. is_cancelled (standing_of job).result) run.jobs)
+      ∙ any-results run is_cancelled run.jobs (standing-result run going)
+
+  pub run_told : (stop : Bool) → stop ≡ run.stop → told_result stop (run_tally_there (slice_get runs r)) ≡ run_result run
+  run_told stop stop_is = λ i. if told_failed i then outcome.Failure else (if stop_is i || told_cancelled i then outcome.Cancelled else outcome.Success)

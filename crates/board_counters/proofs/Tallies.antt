@@ -1,0 +1,180 @@
+-- The tallies of a board after a change.
+use Rattle.std.proofs.Common.{◌≡◌, ℕ, zero, suc, inl, inr, Bool, true, false, List, [], ◌∷◌, Option, Some, None, map, option_map, slice_get, length, ap, subst, sym, refl, ◌∙◌}
+use Rattle.board_decisions.specs.Numbered.{leg_there}
+use Rattle.board_decisions.specs.Place.{◌>>=◌}
+use Rattle.board_decisions.specs.declared.place.JobPlace.{JobPlace}
+use Rattle.board_decisions.specs.declared.place.LegPlace.{LegPlace}
+use Rattle.flow_model.specs.declared.board.Board.{Board}
+use Rattle.flow_model.specs.declared.board.Run.{Run}
+use Rattle.flow_model.specs.declared.board.Job.{Job}
+use Rattle.flow_model.specs.declared.board.JobState.{JobState}
+use Rattle.flow_model.specs.declared.board.Leg.{Leg}
+use Rattle.flow_model.specs.declared.board.LegState.{LegState}
+use Rattle.flow_model.specs.declared.board.LegState.TheVariants as leg_state
+use Rattle.board_counters.specs.Changes.{CameTo, leg_after, leg_was, retallied, state_in, state_of, state_there}
+use Rattle.board_counters.specs.Counters.{counts, counted, tally_of, tallies_of, turned, moved}
+use Rattle.board_counters.specs.declared.change.LegChange.{LegChange}
+use Rattle.board_counters.specs.declared.change.LegChange.TheVariants as leg_change
+use Rattle.board_counters.specs.declared.tally.Tally.{Tally}
+use Rattle.board_counters.specs.declared.tally.Counter.{Counter}
+use Rattle.board_counters.specs.declared.tally.Counter.TheVariants as counter
+use Rattle.board_counters.proofs.Lists.{map-changed, map-same, changed-none, changed-same, count-changed}
+use Rattle.status_table.specs.Change.{changed, with_run, with_job, with_leg}
+use Rattle.status_table.proofs.Lists.{length-changed, changed-cons, changed-there}
+
+-- ---- one job
+
+tally-changed : (job : Job) (l : ℕ) (f : Leg → Leg) (leg : Leg) → slice_get job.legs l ≡ Some leg
+    → tally_of (record job { legs = changed job.legs l f }) ≡ moved leg.state (f leg).state (tally_of job)
+tally-changed job l f leg at = λ i. record {
+  legs = length-changed job.legs l f i;
+  pending = each counter.Open i;
+  used = each counter.Used i;
+  failed = each counter.Failed i;
+  cancelled = each counter.Cancelled i;
+}
+  where
+    each : (what : Counter) → counted what (changed job.legs l f) ≡ turned (length job.legs) (counted what job.legs) (counts what leg.state) (counts what (f leg).state)
+    each what = count-changed (λ x. counts what x.state) job.legs l f leg at
+
+-- ---- one leg of a board
+
+pub there : (b : Board) (place : LegPlace) (run : Run) (job : Job) → slice_get b.runs place.run ≡ Some run → slice_get run.jobs place.job ≡ Some job
+    → leg_there b place ≡ slice_get job.legs place.leg
+there b place run job in_runs in_jobs =
+    ap (λ o. o >>= λ x. slice_get x.jobs place.job >>= λ y. slice_get y.legs place.leg) in_runs ∙ ap (λ o. o >>= λ y. slice_get y.legs place.leg) in_jobs
+
+module _ (b : Board) (place : LegPlace) (f : Leg → Leg) where
+  abbrev in_job : Job → Job
+  in_job job = record job { legs = changed job.legs place.leg f }
+
+  abbrev in_run : Run → Run
+  in_run run = record run { jobs = changed run.jobs place.job in_job }
+
+  was : LegState
+  was = state_there b place
+
+  is : LegState
+  is = state_there (with_leg b place f) place
+
+  module _ (run : Run) (job : Job) (in_runs : slice_get b.runs place.run ≡ Some run) (in_jobs : slice_get run.jobs place.job ≡ Some job) where
+    old_there : leg_there b place ≡ slice_get job.legs place.leg
+    old_there = there b place run job in_runs in_jobs
+
+    new_there : leg_there (with_leg b place f) place ≡ slice_get (changed job.legs place.leg f) place.leg
+    new_there = there (with_leg b place f) place (in_run run) (in_job job) (changed-there b.runs place.run in_run run in_runs) (changed-there run.jobs place.job in_job job in_jobs)
+
+    one_job : (o : Option Leg) → slice_get job.legs place.leg ≡ o → tally_of (in_job job) ≡ moved (state_there b place) (state_there (with_leg b place f) place) (tally_of job)
+    one_job None at =
+        let same = changed-none job.legs place.leg f at in
+        let old : state_there b place ≡ state_of None = ap state_of (old_there ∙ at) in
+        let new : state_there (with_leg b place f) place ≡ state_of None = ap state_of (new_there ∙ ap (λ ls. slice_get ls place.leg) same ∙ at) in
+        ap (λ (ls : List Leg). tally_of (record job { legs = ls })) same ∙ sym (λ i. moved (old i) (new i) (tally_of job))
+    one_job (Some leg) at =
+        let old : state_there b place ≡ leg.state = ap state_of (old_there ∙ at) in
+        let new : state_there (with_leg b place f) place ≡ (f leg).state = ap state_of (new_there ∙ changed-there job.legs place.leg f leg at) in
+        tally-changed job place.leg f leg at ∙ sym (λ i. moved (old i) (new i) (tally_of job))
+
+-- the tallies after a leg was changed
+pub leg_tallies : (b : Board) (place : LegPlace) (f : Leg → Leg)
+    → retallied place (state_there b place) (state_there (with_leg b place f) place) (tallies_of b) ≡ tallies_of (with_leg b place f)
+leg_tallies b place f = sym (map-changed (λ (run : Run). map tally_of run.jobs) b.runs place.run (in_run b place f)
+    (λ row. changed row place.job (moved (state_there b place) (state_there (with_leg b place f) place)))
+    (λ run in_runs. map-changed tally_of run.jobs place.job (in_job b place f) (moved (state_there b place) (state_there (with_leg b place f) place))
+    (λ job in_jobs. one_job b place f run job in_runs in_jobs (slice_get job.legs place.leg) refl)))
+
+-- where it is counted alike, they stay
+pub alike_tallies : (place : LegPlace) (before after : LegState) (tallies : List (List Tally)) → ((t : Tally) → moved before after t ≡ t)
+    → retallied place before after tallies ≡ tallies
+alike_tallies place before after tallies alike = changed-same tallies place.run (λ row. changed row place.job (moved before after)) (λ row. changed-same row place.job (moved before after) alike)
+
+pub turned_same : (all n : ℕ) (c : Bool) → turned all n c c ≡ n
+turned_same all n true = refl
+turned_same all n false = refl
+
+pub moved_same : (s : LegState) (t : Tally) → moved s s t ≡ t
+moved_same s t = λ i. record {
+  legs = t.legs;
+  pending = turned_same t.legs t.pending (counts counter.Open s) i;
+  used = turned_same t.legs t.used (counts counter.Used s) i;
+  failed = turned_same t.legs t.failed (counts counter.Failed s) i;
+  cancelled = turned_same t.legs t.cancelled (counts counter.Cancelled s) i;
+}
+
+-- a leg that came from a state to another is counted as one that came from its own to its own
+pub ComesSo : Board → Board → LegPlace → LegState → LegState → Type 0
+ComesSo b new place before after = (t : Tally) → moved before after t ≡ moved (state_there b place) (state_there new place) t
+
+pub tallied_so : (b new : Board) (place : LegPlace) (f : Leg → Leg) (before after : LegState) (tallies : List (List Tally)) → tallies ≡ tallies_of b → new ≡ with_leg b place f
+    → ComesSo b new place before after → retallied place before after tallies ≡ tallies_of new
+unfolding ComesSo
+tallied_so b new place f before after tallies tallied new_is so =
+    ap (λ (m : Tally → Tally). changed tallies place.run (λ row. changed row place.job m)) (λ i t. so t i)
+    ∙ (λ i. retallied place (state_there b place) (state_there (new_is i) place) (tallied i))
+    ∙ leg_tallies b place f
+    ∙ ap tallies_of (sym new_is)
+
+-- the leg at a place after it was changed
+pub get_changed : {T : Type 0} (xs : List T) (i : ℕ) (f : T → T) → slice_get (changed xs i f) i ≡ option_map f (slice_get xs i)
+get_changed [] i f = refl
+get_changed (x ∷ xs) zero f = refl
+get_changed (x ∷ xs) (suc i) f = ap (λ ys. slice_get ys (suc i)) (changed-cons x xs i f) ∙ get_changed xs i f
+
+pub leg_there_changed : (b : Board) (place : LegPlace) (f : Leg → Leg) → leg_there (with_leg b place f) place ≡ option_map f (leg_there b place)
+leg_there_changed b place f =
+    ap (λ (o : Option Run). o >>= λ run. slice_get run.jobs place.job >>= λ job. slice_get job.legs place.leg) (get_changed b.runs place.run (in_run b place f))
+    ∙ by_run (slice_get b.runs place.run)
+  where
+    by_job : (o : Option Job) → (option_map (in_job b place f) o >>= λ job. slice_get job.legs place.leg) ≡ option_map f (o >>= λ job. slice_get job.legs place.leg)
+    by_job None = refl
+    by_job (Some job) = get_changed job.legs place.leg f
+
+    by_run : (o : Option Run) → (option_map (in_run b place f) o >>= λ run. slice_get run.jobs place.job >>= λ job. slice_get job.legs place.leg)
+        ≡ option_map f (o >>= λ run. slice_get run.jobs place.job >>= λ job. slice_get job.legs place.leg)
+    by_run None = refl
+    by_run (Some run) =
+        ap (λ (o : Option Job). o >>= λ job. slice_get job.legs place.leg) (get_changed run.jobs place.job (in_job b place f)) ∙ by_job (slice_get run.jobs place.job)
+
+-- what is exchanged tells how the leg is counted
+exchanged_so : (b new : Board) (place : LegPlace) (how back : LegChange) → new ≡ with_leg b place (leg_after how) → back ≡ leg_was how (leg_there b place)
+    → ComesSo b new place (state_in back) (state_in how)
+unfolding ComesSo
+exchanged_so b new place how back new_is back_is = λ t.
+    (λ i. moved (state_in (back_is i)) (state_in how) t)
+    ∙ by (leg_there b place) how t
+    ∙ sym (λ i. moved (state_there b place) (state_of ((ap (λ (x : Board). leg_there x place) new_is ∙ leg_there_changed b place (leg_after how)) i)) t)
+  where
+    by : (o : Option Leg) (how : LegChange) (t : Tally) → moved (state_in (leg_was how o)) (state_in how) t ≡ moved (state_of o) (state_of (option_map (leg_after how) o)) t
+    by None how t = moved_same (state_in how) t ∙ sym (moved_same leg_state.Fresh t)
+    by (Some leg) (leg_change.State state) t = refl
+    by (Some leg) (leg_change.Group state group) t = refl
+    by (Some leg) (leg_change.Outputs state outputs) t = refl
+    by (Some leg) (leg_change.Stop stop) t = moved_same leg_state.Fresh t ∙ sym (moved_same leg.state t)
+
+pub exchanged_told : (b new : Board) (place : LegPlace) (how back : LegChange) (before after : LegState) → new ≡ with_leg b place (leg_after how) → back ≡ leg_was how (leg_there b place)
+    → before ≡ state_in back → after ≡ state_in how → ComesSo b new place before after
+unfolding ComesSo
+exchanged_told b new place how back before after new_is back_is before_is after_is = λ t. (λ i. moved (before_is i) (after_is i) t) ∙ exchanged_so b new place how back new_is back_is t
+
+pub same_so : (b new : Board) (place : LegPlace) (before after : LegState) → before ≡ state_there b place → after ≡ state_there new place → ComesSo b new place before after
+unfolding ComesSo
+same_so b new place before after before_is after_is = λ t. (λ i. moved (before_is i) (after_is i) t)
+
+-- a leg that is there came into the state into which it is put
+pub came_to : (b new : Board) (place : LegPlace) (f : Leg → Leg) (before to : LegState) → before ≡ state_there b place → new ≡ with_leg b place f → ((leg : Leg) → (f leg).state ≡ to)
+    → CameTo before to (state_there new place)
+came_to b new place f before to before_is new_is puts =
+    subst (λ (s : LegState). CameTo before to s) (sym (ap (λ (x : Board). state_there x place) new_is ∙ ap state_of (leg_there_changed b place f)))
+    (subst (λ (s : LegState). CameTo s to (state_of (option_map f (leg_there b place)))) (sym before_is) (by (leg_there b place)))
+  where
+    by : (o : Option Leg) → CameTo (state_of o) to (state_of (option_map f o))
+    by None = inr refl
+    by (Some leg) = inl (puts leg)
+
+-- they stay where a job comes into a state, and where a run is changed, but not its jobs
+pub job_tallies : (b : Board) (place : JobPlace) (state : JobState) → tallies_of (with_job b place (λ job. record job { state = state })) ≡ tallies_of b
+job_tallies b place state = map-same (λ (run : Run). map tally_of run.jobs) b.runs place.run (λ run. record run { jobs = changed run.jobs place.job (λ job. record job { state = state }) })
+    (λ run in_runs. map-same tally_of run.jobs place.job (λ (job : Job). record job { state = state }) (λ job in_jobs. refl))
+
+pub run_tallies : (b : Board) (r : ℕ) (f : Run → Run) → ((run : Run) → (f run).jobs ≡ run.jobs) → tallies_of (with_run b r f) ≡ tallies_of b
+run_tallies b r f keeps = map-same (λ (run : Run). map tally_of run.jobs) b.runs r f (λ run in_runs. ap (map tally_of) (keeps run))

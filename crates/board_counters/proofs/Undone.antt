@@ -1,0 +1,125 @@
+-- What was changed and is taken back is as it was.
+use Rattle.std.proofs.Common.{◌≡◌, ℕ, zero, suc, ◌-◌, false, List, [], ◌∷◌, ◌++◌, Some, length, take, slice_get, length-append, ap, sym, refl, ◌∙◌, arith}
+use Rattle.std.proofs.Math.Seq.{take-append_seam}
+use Rattle.board_decisions.specs.Numbered.{job_there, leg_there}
+use Rattle.board_decisions.specs.Place.{◌>>=◌}
+use Rattle.board_decisions.specs.declared.place.JobPlace.{JobPlace}
+use Rattle.board_decisions.specs.declared.place.LegPlace.{LegPlace}
+use Rattle.flow_model.specs.declared.board.Board.{Board}
+use Rattle.flow_model.specs.declared.board.DoneStep.{DoneStep}
+use Rattle.flow_model.specs.declared.board.Run.{Run}
+use Rattle.flow_model.specs.declared.board.Job.{Job}
+use Rattle.flow_model.specs.declared.board.JobState.{JobState}
+use Rattle.flow_model.specs.declared.board.Leg.{Leg}
+use Rattle.flow_model.specs.declared.board.LegState.{LegState}
+use Rattle.flow_model.specs.declared.board.LegState.TheVariants as leg_state
+use Rattle.board_counters.specs.Changes.{front, job_state_of, job_state_there, leg_after, leg_before, leg_was, noted_last, run_after, run_before, run_was, state_of, state_there, step_taken, unnoted}
+use Rattle.board_counters.specs.Undo.{board_before, undone}
+use Rattle.board_counters.specs.declared.change.LegChange.{LegChange}
+use Rattle.board_counters.specs.declared.change.LegChange.TheVariants as leg_change
+use Rattle.board_counters.specs.declared.change.RunChange.{RunChange}
+use Rattle.board_counters.specs.declared.change.RunChange.TheVariants as run_change
+use Rattle.board_counters.specs.declared.undo.Change.{Change}
+use Rattle.board_counters.proofs.Tallies.{there}
+use Rattle.status_table.specs.Change.{changed, with_run, with_job, with_leg}
+use Rattle.status_table.specs.Row.{job_state_set, leg_state_set, step_done}
+use Rattle.status_table.proofs.Lists.{changed-cons}
+
+-- ---- lists
+
+front-more : {A : Type 0} (xs : List A) (x : A) → front (xs ++ x ∷ []) ≡ xs
+front-more {A} xs x =
+    let more = length-append xs (x ∷ []) in
+    let left : length (xs ++ x ∷ []) - 1 ≡ length xs = omega (arith, more) in
+    ap (λ n. take n (xs ++ x ∷ [])) left ∙ take-append_seam xs (x ∷ [])
+
+changed-back : {T : Type 0} (xs : List T) (i : ℕ) (f g : T → T) → ((x : T) → slice_get xs i ≡ Some x → g (f x) ≡ x) → changed (changed xs i f) i g ≡ xs
+changed-back [] i f g step = refl
+changed-back (x ∷ xs) zero f g step = ap (λ y. y ∷ xs) (step x refl)
+changed-back {T} (x ∷ xs) (suc i) f g step =
+    ap (λ (ys : List T). changed ys (suc i) g) (changed-cons x xs i f) ∙ changed-cons x (changed xs i f) i g ∙ ap (λ (ys : List T). x ∷ ys) (changed-back xs i f g step)
+
+-- ---- a run, a job or a leg
+
+run-back : (how : RunChange) (run : Run) → run_after (run_before how run) (run_after how run) ≡ run
+run-back (run_change.State state) run = refl
+run-back (run_change.Group state group) run = refl
+run-back (run_change.Stop stop) run = refl
+
+leg-back : (how : LegChange) (leg : Leg) → leg_after (leg_before how leg) (leg_after how leg) ≡ leg
+leg-back (leg_change.State state) leg = refl
+leg-back (leg_change.Group state group) leg = refl
+leg-back (leg_change.Outputs state outputs) leg = refl
+leg-back (leg_change.Stop stop) leg = refl
+
+run-there : (b : Board) (r : ℕ) (f g : Run → Run) → ((run : Run) → slice_get b.runs r ≡ Some run → g (f run) ≡ run) → with_run (with_run b r f) r g ≡ b
+run-there b r f g step = ap (λ (runs : List Run). record b { runs = runs }) (changed-back b.runs r f g step)
+
+job-there : (b : Board) (place : JobPlace) (f g : Job → Job) → ((job : Job) → job_there b place ≡ Some job → g (f job) ≡ job) → with_job (with_job b place f) place g ≡ b
+job-there b place f g step = run-there b place.run (λ run. record run { jobs = changed run.jobs place.job f }) (λ run. record run { jobs = changed run.jobs place.job g }) (λ run in_runs.
+    ap (λ (jobs : List Job). record run { jobs = jobs }) (changed-back run.jobs place.job f g (λ job in_jobs.
+    step job (ap (λ o. o >>= λ (x : Run). slice_get x.jobs place.job) in_runs ∙ in_jobs))))
+
+leg-there : (b : Board) (place : LegPlace) (f g : Leg → Leg) → ((leg : Leg) → leg_there b place ≡ Some leg → g (f leg) ≡ leg) → with_leg (with_leg b place f) place g ≡ b
+leg-there b place f g step = run-there b place.run (in_run f) (in_run g) (λ run in_runs.
+    ap (λ (jobs : List Job). record run { jobs = jobs }) (changed-back run.jobs place.job (in_job f) (in_job g) (λ job in_jobs.
+    ap (λ (legs : List Leg). record job { legs = legs }) (changed-back job.legs place.leg f g (λ leg in_legs.
+    step leg (there b place run job in_runs in_jobs ∙ in_legs))))))
+  where
+    in_job : (Leg → Leg) → Job → Job
+    in_job h job = record job { legs = changed job.legs place.leg h }
+
+    in_run : (Leg → Leg) → Run → Run
+    in_run h run = record run { jobs = changed run.jobs place.job (in_job h) }
+
+-- ---- each change of a board
+
+pub run_back : (b new : Board) (r : ℕ) (how was : RunChange) → new ≡ with_run b r (run_after how) → was ≡ run_was how (slice_get b.runs r)
+    → with_run new r (run_after was) ≡ b
+run_back b new r how was new_is was_is =
+    (λ i. with_run (new_is i) r (run_after (was_is i)))
+    ∙ run-there b r (run_after how) (run_after (run_was how (slice_get b.runs r))) (λ run at. ap (λ o. run_after (run_was how o) (run_after how run)) at ∙ run-back how run)
+
+pub leg_back : (b new : Board) (place : LegPlace) (how was : LegChange) → new ≡ with_leg b place (leg_after how) → was ≡ leg_was how (leg_there b place)
+    → with_leg new place (leg_after was) ≡ b
+leg_back b new place how was new_is was_is =
+    (λ i. with_leg (new_is i) place (leg_after (was_is i)))
+    ∙ leg-there b place (leg_after how) (leg_after (leg_was how (leg_there b place))) (λ leg at. ap (λ o. leg_after (leg_was how o) (leg_after how leg)) at ∙ leg-back how leg)
+
+pub job_back : (b new : Board) (place : JobPlace) (state was : JobState) → new ≡ job_state_set b place state → was ≡ job_state_there b place
+    → job_state_set new place was ≡ b
+job_back b new place state was new_is was_is =
+    (λ i. job_state_set (new_is i) place was)
+    ∙ job-there b place (λ job. record job { state = state }) (λ job. record job { state = was }) (λ job at.
+    ap (λ (s : JobState). record job { state = s }) (was_is ∙ ap job_state_of at))
+
+pub step_back : (b new : Board) (place : LegPlace) (worker : ℕ) (done : DoneStep) (was : LegState) → new ≡ step_done b place worker done → was ≡ state_there b place
+    → with_leg new place (step_taken was) ≡ b
+step_back b new place worker done was new_is was_is =
+    (λ i. with_leg (new_is i) place (step_taken was))
+    ∙ leg-there b place (λ leg. record leg { state = leg_state.Running worker false; steps = leg.steps ++ done ∷ [] }) (step_taken was) (λ leg at i.
+    record leg { state = (was_is ∙ ap state_of at) i; steps = front-more leg.steps done i })
+
+pub state_back : (b new : Board) (place : LegPlace) (state was : LegState) → new ≡ leg_state_set b place state → was ≡ state_there b place
+    → leg_state_set new place was ≡ b
+state_back b new place state was new_is was_is =
+    (λ i. leg_state_set (new_is i) place was)
+    ∙ leg-there b place (λ leg. record leg { state = state }) (λ leg. record leg { state = was }) (λ leg at.
+    ap (λ (s : LegState). record leg { state = s }) (was_is ∙ ap state_of at))
+
+pub end_back : (b new : Board) (l : ℕ) → new ≡ noted_last b l → unnoted new ≡ b
+end_back b new l new_is = ap unnoted new_is ∙ ap (λ (ends : List ℕ). record b { ends = ends }) (front-more b.ends l)
+
+-- ---- all changes of a board
+
+undone-last : (xs : List Change) (x : Change) (b : Board) → undone (xs ++ x ∷ []) b ≡ undone xs (board_before x b)
+undone-last [] x b = refl
+undone-last (y ∷ ys) x b = ap (board_before y) (undone-last ys x b)
+
+-- one more change leads back to the same board
+pub still_back : (xs ys : List Change) (x : Change) (b new : Board) → ys ≡ xs ++ x ∷ [] → board_before x new ≡ b → undone ys new ≡ undone xs b
+still_back xs ys x b new more is = ap (λ (zs : List Change). undone zs new) more ∙ undone-last xs x new ∙ ap (undone xs) is
+
+-- the last one is taken back first
+pub one_back : (xs ys : List Change) (x : Change) (b new : Board) → ys ≡ xs ++ x ∷ [] → new ≡ board_before x b → undone xs new ≡ undone ys b
+one_back xs ys x b new more is = ap (undone xs) is ∙ sym (undone-last xs x b) ∙ ap (λ (zs : List Change). undone zs b) (sym more)

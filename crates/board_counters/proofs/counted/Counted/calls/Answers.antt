@@ -1,0 +1,16 @@
+use Rattle.std.proofs.Common.{◌≡◌, Some, slice_get, sym, subst}
+use Rattle.board_decisions.specs.Calls.{AreCallsOf}
+use Rattle.board_decisions.specs.declared.kept.Calls.{Calls}
+use Rattle.flow_model.specs.declared.plan.JobPlan.{JobPlan}
+use Rattle.flow_model.specs.declared.plan.RunPlan.{RunPlan}
+use Rattle.flow_model.specs.declared.plan.StepPlan.{StepPlan}
+use Rattle.board_counters.proofs.Placed.{calls_told}
+use Rattle.status_table.specs.Play.{Play}
+use Rattle.board_counters.proofs.counted.Counted.calls.Goals as goal
+
+pub returns : goal.returns
+returns c =
+    subst (λ (s : Play). (run : RunPlan) (job : JobPlan) (step : StepPlan) → slice_get s.plan.runs c.args.place.run ≡ Some run → slice_get run.jobs c.args.place.job ≡ Some job
+    → slice_get job.steps c.args.step ≡ Some step → AreCallsOf run job step c.calls_at.result) c.self.view_is
+    (λ run job step in_runs in_jobs in_steps. subst (λ (calls : Calls). AreCallsOf run job step calls) (sym c.calls_at.ensures)
+    (calls_told c.self.inside.plan.runs c.self.inside.lasting.calls c.args.place c.args.step run job step c.self.invariant.lasts.calls in_runs in_jobs in_steps))

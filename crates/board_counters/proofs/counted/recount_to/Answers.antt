@@ -1,0 +1,9 @@
+use Rattle.std.proofs.Common.{◌≡◌, true, rules, slice_get}
+use Rattle.board_counters.specs.Changes.{state_there}
+use Rattle.board_counters.proofs.Followed.{came_alike}
+use Rattle.board_counters.proofs.counted.recount_to.Goals as goal
+
+pub returns-then-are_alike : goal.returns-then-are_alike
+returns-then-are_alike c =
+    let is : c.are_alike.result ≡ true = search rules in
+    came_alike c.args.place c.args.was c.args.to (state_there c.args.board.now c.args.place) (slice_get c.args.board.now.runs c.args.place.run) c.args.dependents.now c.args.counts.now c.requires (λ t. c.are_alike.ensures t is)

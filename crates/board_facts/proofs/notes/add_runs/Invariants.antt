@@ -1,6 +1,0 @@
-use Rattle.std.proofs.Common.{◌≡◌, drop}
-use Rattle.board_facts.proofs.notes.add_runs.Given as goal
-use Rattle.board_facts.specs.Notes.{runs_added}
-
-abbrev pub invariant-loop-run : goal.invariant-loop-run
-invariant-loop-run l = runs_added l.notes (drop l.run-index l.runs) ≡ runs_added l.initial.notes l.runs

@@ -1,5 +1,0 @@
-use Rattle.board_notes.proofs.Named.{changes_name_whom_the_row_names}
-use Rattle.board_notes.proofs.laws.changes_name_whom_the_row_names.Goals as goal
-
-pub returns : goal.returns
-returns c = changes_name_whom_the_row_names

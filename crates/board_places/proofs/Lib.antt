@@ -1,3 +1,0 @@
-pub mod Following
-pub mod Lists
-pub mod Placed

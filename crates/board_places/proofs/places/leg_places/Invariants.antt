@@ -1,6 +1,0 @@
-use Rattle.std.proofs.Common.{◌≡◌, ◌++◌, drop}
-use Rattle.board_places.specs.Places.{run_sizes, all_legs_from}
-use Rattle.board_places.proofs.places.leg_places.Given as goal
-
-abbrev pub invariant-loop-place : goal.invariant-loop-place
-invariant-loop-place l = l.places.items ++ all_legs_from l.place (run_sizes (drop l.place l.runs)) ≡ all_legs_from 0 (run_sizes l.runs)

@@ -1,4 +1,0 @@
-pub mod Numbered
-pub mod Place
-pub mod Places
-pub mod Seen

@@ -1,0 +1,112 @@
+-- What a job comes to that is settled on a board: the result and the outputs that it shows are those that are settled.
+use Rattle.std.proofs.Common.{◌≡◌, ℕ, ◌&&◌, ◌||◌, Bool, true, false, not, List, [], ◌∷◌, Option, Some, option_map, map, slice_get, ap, sym, refl, ◌∙◌}
+use Rattle.std.specs.List.{list_any, AllZip}
+use Rattle.std.proofs.lemmas.Bool.{true≢false}
+use Rattle.board_decisions.specs.Contexts.{overlaid, job_outputs}
+use Rattle.board_decisions.specs.Derived.{is_failure, is_cancelled, is_open, is_fresh, is_ended, has_failed, was_cancelled, result_by, job_result}
+use Rattle.board_decisions.specs.declared.place.JobPlace.{JobPlace}
+use Rattle.flow_model.specs.declared.board.Board.{Board}
+use Rattle.flow_model.specs.declared.board.Job.{Job}
+use Rattle.flow_model.specs.declared.board.JobState.{JobState}
+use Rattle.flow_model.specs.declared.board.JobState.TheVariants as job_state
+use Rattle.flow_model.specs.declared.board.Leg.{Leg}
+use Rattle.flow_model.specs.declared.board.LegState.{LegState}
+use Rattle.flow_model.specs.declared.board.LegState.TheVariants as leg_state
+use Rattle.flow_model.specs.declared.board.Run.{Run}
+use Rattle.flow_model.specs.declared.event.Outcome.{Outcome}
+use Rattle.flow_model.specs.declared.plan.JobPlan.{JobPlan}
+use Rattle.flow_model.specs.declared.plan.Plan.{Plan}
+use Rattle.flow_model.specs.declared.plan.RunPlan.{RunPlan}
+use Rattle.board_settled.proofs.Ordered.{none_ended, all_ended}
+use Rattle.board_settled.specs.Quiet.{ended_in_order}
+use Rattle.board_settled.specs.Agrees.{LegIsSettled, JobIsSettled}
+use Rattle.board_settled.specs.Settled.{Finish, SettledLeg, SettledJob, shut, opened, all_given, fails, worst, legs_come_to, result_of, given_by, outputs_of_job}
+use Rattle.status_table.specs.Lawful.{JobFits, goes_rightly}
+use Rattle.status_table.specs.Shape.{HasShape}
+use Rattle.plan_values.specs.Env.{laid_over}
+use Rattle.plan_values.specs.Values.{Env}
+use Rattle.status_table.proofs.Counts.{zip-left}
+use Rattle.status_table.proofs.Lists.{all-get}
+
+-- ---- the legs of a job that was opened
+
+-- legs that are Ended as settled, and what they come to
+record LegsCome (given : List SettledLeg) (legs : List Leg) : Type 0 where
+  ends : List Finish
+  all : all_given (map (λ leg. leg.finish) given) ≡ Some ends
+  failed : list_any fails ends ≡ list_any (λ leg. has_failed leg.state) legs
+  cancelled : list_any (λ finish. is_cancelled finish.result) ends ≡ list_any (λ leg. was_cancelled leg.state) legs
+  overlays : (below : Env) → overlaid (map (λ leg. given_by leg.finish) given) below ≡ overlaid (map (λ leg. leg.outputs) legs) below
+
+next_comes : (given : SettledLeg) (more : List SettledLeg) (leg : Leg) (legs : List Leg) → LegIsSettled given leg → LegsCome more legs → LegsCome (given ∷ more) (leg ∷ legs)
+next_comes given more leg legs is later =
+    record {
+      ends = record { result = is.result; tolerated = is.tolerated; outputs = leg.outputs } ∷ later.ends;
+      all = ap (λ (o : Option Finish). all_given (o ∷ map (λ (x : SettledLeg). x.finish) more)) is.finish
+          ∙ ap (option_map (λ (ys : List Finish). record { result = is.result; tolerated = is.tolerated; outputs = leg.outputs } ∷ ys)) later.all;
+      failed = ap (λ c. (is_failure is.result && not is.tolerated) || c) later.failed ∙ ap (λ s. has_failed s || list_any (λ (x : Leg). has_failed x.state) legs) (sym is.state);
+      cancelled = ap (λ c. is_cancelled is.result || c) later.cancelled ∙ ap (λ s. was_cancelled s || list_any (λ (x : Leg). was_cancelled x.state) legs) (sym is.state);
+      overlays = λ below. ap (λ (o : Option Finish). overlaid (given_by o ∷ map (λ (x : SettledLeg). given_by x.finish) more) below) is.finish ∙ later.overlays (laid_over leg.outputs below);
+    }
+
+legs_come : (given : List SettledLeg) (legs : List Leg) → AllZip LegIsSettled given legs → LegsCome given legs
+legs_come [] [] h = record { ends = []; all = refl; failed = refl; cancelled = refl; overlays = λ below. refl }
+legs_come [] (leg ∷ legs) h = absurd h
+legs_come (given ∷ more) [] h = absurd h
+legs_come (given ∷ more) (leg ∷ legs) h = next_comes given more leg legs h.0 (legs_come more legs h.1)
+
+-- ---- a job
+
+-- the settled job comes to what the board shows
+pub record JobComes (b : Board) (place : JobPlace) (run : Run) (given : SettledJob) (job : Job) : Type 0 where
+  pub result : result_of given ≡ Some (job_result run job)
+  pub outputs : outputs_of_job given ≡ job_outputs b place
+
+fresh-unended : (s : LegState) → is_fresh s ≡ true → is_ended s ≡ false
+fresh-unended leg_state.Fresh h = refl
+fresh-unended leg_state.Waiting h = absurd (true≢false (sym h))
+fresh-unended leg_state.Admitted h = absurd (true≢false (sym h))
+fresh-unended (leg_state.Running worker in_call) h = absurd (true≢false (sym h))
+fresh-unended (leg_state.Ended result tolerated) h = absurd (true≢false (sym h))
+
+or-left : (a b c : Bool) → a ≡ false → (c || (a && b)) ≡ true → c ≡ true
+or-left true b c closed h = absurd (true≢false closed)
+or-left false b true closed h = refl
+or-left false b false closed h = h
+
+module _ (p : Plan) (b : Board) (place : JobPlace) (run_plan : RunPlan) (run : Run) (plan : JobPlan) (given : SettledJob) (job : Job) (shape : HasShape p b) (ends : b.ends ≡ ended_in_order b)
+    (planned : slice_get p.runs place.run ≡ Some run_plan) (in_board : slice_get b.runs place.run ≡ Some run) (in_run : slice_get run.jobs place.job ≡ Some job)
+    (fits : JobFits run.state run.group plan job) where
+  -- no leg is Ended of a job that was not opened
+  unended : is_open job.state ≡ false → (k : ℕ) (leg : Leg) → slice_get job.legs k ≡ Some leg → is_ended leg.state ≡ false
+  unended closed k leg is =
+      fresh-unended leg.state (or-left (is_open job.state) (goes_rightly run.state run.group leg) (is_fresh leg.state) closed
+      (all-get (λ (x : Leg). is_fresh x.state || (is_open job.state && goes_rightly run.state run.group x)) job.legs k leg is fits.legs))
+
+  shut_comes : (result : Outcome) → job.state ≡ job_state.Shut result → given ≡ shut result → JobComes b place run given job
+  shut_comes result is stands = record {
+    result = ap result_of stands ∙ ap (λ s. Some (result_by run.state s job.legs)) (sym is);
+    outputs = ap outputs_of_job stands ∙ sym (none_ended p b place run_plan run job shape ends planned in_board in_run (unended (ap is_open is)));
+  }
+
+  open_comes : (all : List SettledLeg) → job.state ≡ job_state.Open → given ≡ opened all → AllZip LegIsSettled all job.legs → JobComes b place run given job
+  open_comes all is stands legs =
+      let come = legs_come all job.legs legs in
+      let ended : (k : ℕ) (leg : Leg) → slice_get job.legs k ≡ Some leg → is_ended leg.state ≡ true = λ k leg there.
+      ap is_ended (zip-left LegIsSettled all job.legs k leg there legs).2.state in
+      record {
+        result = ap result_of stands ∙ ap (option_map legs_come_to) come.all
+            ∙ ap (λ c. Some (worst c (list_any (λ (f : Finish). is_cancelled f.result) come.ends))) come.failed
+            ∙ ap (λ c. Some (worst (list_any (λ (leg : Leg). has_failed leg.state) job.legs) c)) come.cancelled
+            ∙ ap (λ s. Some (result_by run.state s job.legs)) (sym is);
+        outputs = ap outputs_of_job stands ∙ come.overlays []
+            ∙ sym (all_ended p b place run_plan run job shape ends planned in_board in_run ended);
+      }
+
+  pub job_comes : JobIsSettled given job.legs job.state → JobComes b place run given job
+  job_comes = by job.state refl
+    where
+      by : (s : JobState) → job.state ≡ s → JobIsSettled given job.legs s → JobComes b place run given job
+      by job_state.Unjudged is h = absurd h
+      by job_state.Open is h = open_comes h.0 is h.1 h.2
+      by (job_state.Shut result) is h = shut_comes result is h

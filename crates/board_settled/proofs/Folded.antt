@@ -1,0 +1,150 @@
+-- The names that the groups keep have no letter A to Z.
+use Rattle.std.proofs.Common.{◌≡◌, ℕ, Bool, true, false, cond, if◌then◌else◌, inl, inr, Option, Some, None, option_map, option_and_then, Result, Ok, Err, List, [], ◌∷◌, Ordering, Less, Equal, Greater, refl, sym, subst, ◌∙◌}
+use Rattle.std.specs.Cmp.Lexicographic.{slice_cmp}
+use Rattle.std.specs.Ordering.{nat_cmp, is_eq, match_ordering}
+use Rattle.board_decisions.specs.declared.entrance.Entrance.{Entrance}
+use Rattle.board_decisions.specs.Decisions.{run_entrance, leg_entrance}
+use Rattle.board_decisions.specs.Place.{RunAt, LegAt, run_at, leg_at}
+use Rattle.expr_reader.specs.Fold.{fold}
+use Rattle.flat_board.specs.Index.{AsksNamed}
+use Rattle.flat_board.proofs.Named.{run_asks, leg_asks}
+use Rattle.flow_model.specs.Mapping.{value_at, with_pair}
+use Rattle.flow_model.specs.Rules.{IsPlan}
+use Rattle.flow_model.specs.declared.board.Board.{Board}
+use Rattle.flow_model.specs.declared.event.Entry.{Entry}
+use Rattle.flow_model.specs.declared.event.Event.{Event}
+use Rattle.flow_model.specs.declared.event.Event.TheVariants as event
+use Rattle.flow_model.specs.declared.event.Member.{Member}
+use Rattle.flow_model.specs.declared.event.Member.TheVariants as member
+use Rattle.flow_model.specs.declared.plan.Plan.{Plan}
+use Rattle.flow_model.specs.declared.reply.ValueFault.{ValueFault}
+use Rattle.group_admission.specs.Content.{Content, after_at, after_enter, each_held, is_own, released, with_held, withdrawn}
+use Rattle.group_admission.specs.declared.held.Held.{Held}
+use Rattle.board_settled.proofs.Pairs.{name_is, no_some}
+use Rattle.board_settled.specs.Grouped.{groups_after, groups_from, then_groups}
+use Rattle.board_settled.specs.Groups.{NamesAreFolded, OneHolderWhateverTheCase}
+use Rattle.status_table.specs.Admissions.{asked, left, opened}
+use Rattle.status_table.specs.Grouped.{KeptAsShown, after_event, leg_asked, leg_left, run_left, run_opened}
+use Rattle.status_table.specs.Groups.{Standing, apart, holding, leg_standing, run_standing, waiting}
+use Rattle.status_table.specs.Row.{Row, row}
+use Rattle.status_table.specs.Runs.{after, new_board}
+
+-- each name that is kept is folded
+abbrev Folded : Content → Type 0
+Folded [] = Unit {0}
+Folded (pair ∷ pairs) = (fold pair.0 ≡ pair.0) × Folded pairs
+
+with_pair_folded : (name : List ℕ) (held : Held) (groups : Content) → fold name ≡ name → Folded groups → Folded (with_pair name held groups)
+with_pair_folded name held [] same h = (same, tt)
+with_pair_folded name held (pair ∷ pairs) same h = by (slice_cmp nat_cmp name pair.0) (with_pair_folded name held pairs same h.1)
+  where
+    by : (o : Ordering) → Folded (with_pair name held pairs) → Folded (match_ordering o ((name, held) ∷ pair ∷ pairs) ((pair.0, held) ∷ pairs) (pair ∷ with_pair name held pairs))
+    by Less others = (same, h)
+    by Equal others = h
+    by Greater others = (h.0, others)
+
+at_folded : (name : List ℕ) (m : Member) (own : Option ℕ) (found : Option Held) (groups : Content) → fold name ≡ name → Folded groups → Folded (after_at name m own found groups)
+at_folded name m own None groups same h = with_pair_folded name (record { holder = m; waiter = None }) groups same h
+at_folded name m own (Some held) groups same h = by (is_own own held.holder)
+  where
+    by : (b : Bool) → Folded (if b then groups else with_pair name (record { holder = held.holder; waiter = Some m }) groups)
+    by true = h
+    by false = with_pair_folded name (record { holder = held.holder; waiter = Some m }) groups same h
+
+enter_folded : (name : List ℕ) (m : Member) (own : Option ℕ) (groups : Content) → fold name ≡ name → Folded groups → Folded (after_enter name m own groups)
+enter_folded [] m own groups same h = h
+enter_folded (c ∷ name) m own groups same h = at_folded (c ∷ name) m own (value_at (c ∷ name) groups) groups same h
+
+each_folded : (f : Held → Option Held) (groups : Content) → Folded groups → Folded (each_held f groups)
+each_folded f [] h = tt
+each_folded f (pair ∷ pairs) h = by (f pair.1) (each_folded f pairs h.1)
+  where
+    by : (o : Option Held) → Folded (each_held f pairs) → Folded (with_held pair.0 o (each_held f pairs))
+    by None others = others
+    by (Some held) others = (h.0, others)
+
+opened_folded : (groups : Content) (r : ℕ) (value : Result (Option Entrance) ValueFault) → AsksNamed value → Folded groups → Folded (opened groups r value)
+opened_folded groups r (Ok None) named h = h
+opened_folded groups r (Ok (Some group)) named h = enter_folded group.name (member.Run r) None groups named.folded h
+opened_folded groups r (Err f) named h = h
+
+asked_folded : (groups : Content) (l own : ℕ) (value : Result (Option Entrance) ValueFault) → AsksNamed value → Folded groups → Folded (asked groups l own value)
+asked_folded groups l own (Ok None) named h = h
+asked_folded groups l own (Ok (Some group)) named h = enter_folded group.name (member.Leg l) (Some own) groups named.folded h
+asked_folded groups l own (Err f) named h = h
+
+left_folded : (groups : Content) (m : Member) (standing : Standing) → Folded groups → Folded (left groups m standing)
+left_folded groups m apart h = h
+left_folded groups m (holding name) h = each_folded (released m) groups h
+left_folded groups m (waiting name) h = each_folded (withdrawn m) groups h
+
+run_opened_folded : (groups : Content) (r : ℕ) (at : Option RunAt) → Folded groups → Folded (run_opened groups r at)
+run_opened_folded groups r None h = h
+run_opened_folded groups r (Some at) h = opened_folded groups r (run_entrance at) (run_asks at) h
+
+leg_asked_folded : (groups : Content) (l : ℕ) (at : Option LegAt) → Folded groups → Folded (leg_asked groups l at)
+leg_asked_folded groups l None h = h
+leg_asked_folded groups l (Some at) h = asked_folded groups l at.place.run (leg_entrance at) (leg_asks at) h
+
+run_left_folded : (groups : Content) (r : ℕ) (at : Option RunAt) → Folded groups → Folded (run_left groups r at)
+run_left_folded groups r None h = h
+run_left_folded groups r (Some at) h = left_folded groups (member.Run r) (run_standing at.run) h
+
+leg_left_folded : (groups : Content) (l : ℕ) (at : Option LegAt) → Folded groups → Folded (leg_left groups l at)
+leg_left_folded groups l None h = h
+leg_left_folded groups l (Some at) h = left_folded groups (member.Leg l) (leg_standing at.leg) h
+
+event_folded : (p : Plan) (b : Board) (groups : Content) (e : Event) → Folded groups → Folded (after_event p b groups e)
+event_folded p b groups (event.Open r) h = run_opened_folded groups r (run_at p b r) h
+event_folded p b groups (event.Judge j) h = h
+event_folded p b groups (event.Ask l) h = leg_asked_folded groups l (leg_at p b l) h
+event_folded p b groups (event.Drop l) h = leg_left_folded groups l (leg_at p b l) h
+event_folded p b groups (event.Take l) h = h
+event_folded p b groups (event.Begin l) h = h
+event_folded p b groups (event.End l a) h = h
+event_folded p b groups (event.Finish l) h = leg_left_folded groups l (leg_at p b l) h
+event_folded p b groups (event.Close r) h = run_left_folded groups r (run_at p b r) h
+event_folded p b groups (event.Cancel r) h = h
+
+from_folded : (p : Plan) (b : Board) (groups : Content) (es : List Entry) → Folded groups → Folded (groups_from p b groups es)
+from_folded p b groups [] h = h
+from_folded p b groups (e ∷ es) h =
+    by (row p b e.worker e.event) (λ next. from_folded p next (after_event p b groups e.event) es (event_folded p b groups e.event h))
+  where
+    by : (r : Row) → ((next : Board) → Folded (groups_from p next (after_event p b groups e.event) es))
+        → Folded (then_groups r groups (λ next. groups_from p next (after_event p b groups e.event) es))
+    by (Ok x) rest = rest x.0
+    by (Err refusal) rest = h
+
+-- a name that is kept is folded
+kept_folded : (name : List ℕ) (groups : Content) (held : Held) → Folded groups → value_at name groups ≡ Some held → fold name ≡ name
+kept_folded name [] held h found = absurd (no_some found)
+kept_folded name (pair ∷ pairs) held h found = by (is_eq (slice_cmp nat_cmp name pair.0)) refl (kept_folded name pairs held h.1) found
+  where
+    by : (b : Bool) → is_eq (slice_cmp nat_cmp name pair.0) ≡ b → (value_at name pairs ≡ Some held → fold name ≡ name)
+        → cond b (Some pair.1) (value_at name pairs) ≡ Some held → fold name ≡ name
+    by true same others at = subst (λ (n : List ℕ). fold n ≡ n) (sym (name_is name pair.0 same)) h.0
+    by false same others at = others at
+
+there : {A B : Type 0} (f : A → B) (o : Option A) (y : B) → option_map f o ≡ Some y → (x : A) × (o ≡ Some x)
+there f None y h = absurd (no_some h)
+there f (Some x) y h = (x, refl)
+
+there_too : {A B : Type 0} (f : A → Option B) (o : Option A) (y : B) → option_and_then f o ≡ Some y → (x : A) × (o ≡ Some x)
+there_too f None y h = absurd (no_some h)
+there_too f (Some x) y h = (x, refl)
+
+abbrev AreShown : Type 0
+AreShown = (p : Plan) → IsPlan p → (es : List Entry) (b : Board) → after p es ≡ Some b → KeptAsShown (groups_after p es) b
+
+pub names_are_folded : AreShown → NamesAreFolded
+names_are_folded shown p rules es b leads name who some (inl held) =
+    let (at, is) = there (λ h. h.holder) (value_at name (groups_after p es)) who ((shown p rules es b leads).shown.holder name some ∙ held) in
+    kept_folded name (groups_after p es) at (from_folded p (new_board p) [] es tt) is
+names_are_folded shown p rules es b leads name who some (inr waited) =
+    let (at, is) = there_too (λ h. h.waiter) (value_at name (groups_after p es)) who ((shown p rules es b leads).shown.waiter name some ∙ waited) in
+    kept_folded name (groups_after p es) at (from_folded p (new_board p) [] es tt) is
+
+pub one_holder : AreShown → OneHolderWhateverTheCase
+one_holder shown p rules es b leads name other who whom some some_too held held_too same =
+    sym (names_are_folded shown p rules es b leads name who some (inl held)) ∙ same ∙ names_are_folded shown p rules es b leads other whom some_too (inl held_too)

@@ -1,0 +1,39 @@
+-- The groups as they are kept by names go with the board through each legal list of entries.
+use Rattle.std.proofs.Common.{◌≡◌, List, [], ◌∷◌, Some, Ok, Err, refl, subst}
+use Rattle.flow_model.specs.Sound.{SoundPlan}
+use Rattle.flow_model.specs.declared.board.Board.{Board}
+use Rattle.flow_model.specs.declared.event.Entry.{Entry}
+use Rattle.flow_model.specs.declared.plan.Plan.{Plan}
+use Rattle.group_admission.specs.Content.{Content}
+use Rattle.board_settled.specs.Grouped.{then_groups, groups_from, groups_after}
+use Rattle.status_table.specs.Grouped.{after_event, KeptAsShown, EntersFromOutside}
+use Rattle.status_table.specs.Lawful.{Lawful}
+use Rattle.status_table.specs.Row.{Row, row}
+use Rattle.status_table.specs.Runs.{new_board, then_after, after_from, after}
+use Rattle.board_decisions.proofs.Lists.{same_some, no_some}
+use Rattle.status_table.proofs.Entering.{Leads}
+use Rattle.status_table.proofs.Grouped.{GroupLaws, enters_from_outside, event_kept, new_kept}
+use Rattle.status_table.proofs.Keeps.{Keeps, row_keeps}
+use Rattle.status_table.proofs.Lawfulness.{new_lawful}
+use Rattle.status_table.proofs.Legal.{new_fits}
+use Rattle.status_table.proofs.Rows.{row_leads}
+use Rattle.status_table.proofs.Turns.{Fits}
+
+entries_kept : GroupLaws → (p : Plan) (b c : Board) (groups : Content) (es : List Entry) → Fits p b → Lawful p b → KeptAsShown groups b → after_from p b es ≡ Some c
+    → KeptAsShown (groups_from p b groups es) c
+entries_kept laws p b c groups [] fits lawful kept h = subst (KeptAsShown groups) (same_some b c h) kept
+entries_kept laws p b c groups (e ∷ es) fits lawful kept h =
+    step (λ d g f l k a. entries_kept laws p d c g es f l k a) (row p b e.worker e.event) refl (row_keeps p b e.worker e.event) (row_leads p b e.worker e.event fits.shape) h
+  where
+    step : ((d : Board) (g : Content) → Fits p d → Lawful p d → KeptAsShown g d → after_from p d es ≡ Some c → KeptAsShown (groups_from p d g es) c)
+        → (r : Row) → row p b e.worker e.event ≡ r → Keeps p b r → Leads p b r → then_after r (λ next. after_from p next es) ≡ Some c
+        → KeptAsShown (then_groups r groups (λ next. groups_from p next (after_event p b groups e.event) es)) c
+    step later (Ok x) is keeps leads k =
+        later x.0 (after_event p b groups e.event) (keeps fits) (leads lawful).lawful (event_kept laws p b e.worker groups lawful kept e.event x is) k
+    step later (Err f) is keeps leads k = absurd (no_some c k)
+
+pub legal_kept : GroupLaws → (p : Plan) → SoundPlan p → (es : List Entry) (b : Board) → after p es ≡ Some b → KeptAsShown (groups_after p es) b
+legal_kept laws p sound es b h = entries_kept laws p (new_board p) b [] es (new_fits p) (new_lawful p sound) (new_kept p) h
+
+pub legal_outside : GroupLaws → (p : Plan) → SoundPlan p → (es : List Entry) (b : Board) → after p es ≡ Some b → EntersFromOutside p b (groups_after p es)
+legal_outside laws p sound es b h = enters_from_outside laws p b (groups_after p es) (legal_kept laws p sound es b h)

@@ -1,0 +1,126 @@
+-- A job and its legs on a board beside what is settled of them.
+use Rattle.std.proofs.Common.{◌≡◌, ◌↔◌, ℕ, suc, ◌+◌, ◌<◌, Bool, true, false, List, ◌∷◌, Result, Ok, Err, length, drop, if◌then◌else◌, ap, subst, sym, refl, ◌∙◌, arith}
+use Rattle.std.specs.List.{AllZip}
+use Rattle.board_decisions.specs.Contexts.{needs_value}
+use Rattle.board_decisions.specs.Decisions.{job_condition}
+use Rattle.board_decisions.specs.Derived.{job_status, ancestors_status, job_results}
+use Rattle.board_decisions.specs.Place.{JobAt}
+use Rattle.expr_value.specs.declared.status.Status.TheVariants as status
+use Rattle.flow_model.specs.Plain.{Plain}
+use Rattle.flow_model.specs.declared.board.Job.{Job}
+use Rattle.flow_model.specs.declared.board.JobState.{JobState}
+use Rattle.flow_model.specs.declared.board.JobState.TheVariants as job_state
+use Rattle.flow_model.specs.declared.board.Leg.{Leg}
+use Rattle.flow_model.specs.declared.event.Outcome.{Outcome}
+use Rattle.flow_model.specs.declared.event.Outcome.TheVariants as outcome
+use Rattle.flow_model.specs.declared.plan.JobPlan.{JobPlan}
+use Rattle.flow_model.specs.declared.plan.RunPlan.{RunPlan}
+use Rattle.flow_model.specs.declared.reply.ValueFault.{ValueFault}
+use Rattle.board_settled.specs.Alone.{SeesSettled, IsOpened}
+use Rattle.board_settled.proofs.LegSteps.{item}
+use Rattle.board_settled.specs.Agrees.{LegIsSettled, JobIsSettled}
+use Rattle.board_settled.specs.Settled.{Answers, SettledLeg, SettledJob, unsettled, shut, opened, spot_at, leg_settled, legs_from, legs_settled, needs_of, status_after, condition_after, judged, job_settled}
+use Rattle.status_table.specs.Row.{judged_state}
+use Rattle.board_settled.proofs.Seen.{job_condition_is}
+use Rattle.status_table.proofs.Standings.{drop_at}
+
+-- what a job needs is not told by its own state
+pub needs_alone : (at : JobAt) (x : Job) → needs_value (record at { job = x }) ≡ needs_value at
+unfolding needs_value
+needs_alone at x = refl
+
+-- ---- the legs that are left
+
+module _ (answers : Answers) (run : RunPlan) (plan : JobPlan) (needs : Plain) (first : ℕ) (legs : List Leg) (k : ℕ) (leg : Leg)
+    (is : drop k legs ≡ leg ∷ drop (k + 1) legs) (within : k < length plan.legs) where
+  abbrev Left : ℕ → Type 0
+  Left i = AllZip LegIsSettled (legs_from answers run plan needs first i (drop i plan.legs)) (drop i legs)
+
+  abbrev here : SettledLeg
+  here = leg_settled answers (spot_at run plan needs first k)
+
+  abbrev later : List SettledLeg
+  later = legs_from answers run plan needs first (k + 1) (drop (k + 1) plan.legs)
+
+  left_is : legs_from answers run plan needs first k (drop k plan.legs) ≡ here ∷ later
+  left_is =
+      let combo = item plan.legs k within in
+      let next : suc k ≡ k + 1 = omega arith in
+      ap (legs_from answers run plan needs first k) (drop_at plan.legs k combo.0 combo.1)
+      ∙ ap (λ n. here ∷ legs_from answers run plan needs first n (drop (k + 1) plan.legs)) next
+
+  pub next_leg : Left k → LegIsSettled (leg_settled answers (spot_at run plan needs first k)) leg × Left (k + 1)
+  next_leg h = subst (λ (xs : List Leg). AllZip LegIsSettled (here ∷ later) xs) is (subst (λ (xs : List SettledLeg). AllZip LegIsSettled xs (drop k legs)) left_is h)
+
+  pub with_leg : LegIsSettled (leg_settled answers (spot_at run plan needs first k)) leg → Left (k + 1) → Left k
+  with_leg h more =
+      subst (λ (xs : List SettledLeg). AllZip LegIsSettled xs (drop k legs)) (sym left_is) (subst (λ (xs : List Leg). AllZip LegIsSettled (here ∷ later) xs) (sym is) (h, more))
+
+-- ---- a job
+
+opened-same : (xs ys : List SettledLeg) → opened xs ≡ opened ys → xs ≡ ys
+opened-same xs ys h = cc
+
+opened-shut : (legs : List SettledLeg) (result : Outcome) → opened legs ≡ shut result → ⊥
+opened-shut legs result h = cc
+
+shut-same : (r s : Outcome) → shut r ≡ shut s → r ≡ s
+shut-same r s h = cc
+
+-- a job that was opened, by what is settled of it
+pub open_settled : (given : SettledJob) (all : List SettledLeg) (job : Job) → given ≡ opened all → IsOpened all job ↔ JobIsSettled given job.legs job.state
+open_settled given all job is = (λ h. subst (JobIsSettled given job.legs) (sym h.state) (all, is, h.legs), λ h. by job.state refl h)
+  where
+    by : (s : JobState) → job.state ≡ s → JobIsSettled given job.legs s → IsOpened all job
+    by job_state.Unjudged e h = absurd h
+    by job_state.Open e h = record { state = e; legs = subst (λ (xs : List SettledLeg). AllZip LegIsSettled xs job.legs) (opened-same h.0 all (sym h.1 ∙ is)) h.2 }
+    by (job_state.Shut result) e h = absurd (opened-shut all result (sym is ∙ h))
+
+-- a job that was shut
+pub shut_settled : (given : SettledJob) (how : Outcome) (job : Job) → given ≡ shut how → (job.state ≡ job_state.Shut how) ↔ JobIsSettled given job.legs job.state
+shut_settled given how job is = (λ h. subst (JobIsSettled given job.legs) (sym h) is, λ h. by job.state refl h)
+  where
+    by : (s : JobState) → job.state ≡ s → JobIsSettled given job.legs s → job.state ≡ job_state.Shut how
+    by job_state.Unjudged e h = absurd h
+    by job_state.Open e h = absurd (opened-shut h.0 how (sym h.1 ∙ is))
+    by (job_state.Shut result) e h = e ∙ ap (λ r. job_state.Shut r) (shut-same result how (sym h ∙ is))
+
+opens : (x : Result Bool ValueFault) (legs : List SettledLeg) → judged_state false x ≡ job_state.Open → judged x legs ≡ opened legs
+opens (Ok true) legs h = refl
+opens (Ok false) legs h = cc
+opens (Err fault) legs h = cc
+
+shut_so : (r s : Outcome) → job_state.Shut r ≡ job_state.Shut s → shut r ≡ shut s
+shut_so r s h = cc
+
+shuts : (x : Result Bool ValueFault) (legs : List SettledLeg) (how : Outcome) → judged_state false x ≡ job_state.Shut how → judged x legs ≡ shut how
+shuts (Ok true) legs how h = cc
+shuts (Ok false) legs how h = shut_so outcome.Skipped how h
+shuts (Err fault) legs how h = shut_so outcome.Failure how h
+
+module _ (answers : Answers) (first_job first_leg : ℕ) (before : List SettledJob) (at : JobAt) (sees : SeesSettled first_job before at) (goes : at.run.stop ≡ false) where
+  abbrev condition : Result Bool ValueFault
+  condition = job_condition at (job_status first_job at)
+
+  abbrev legs : List SettledLeg
+  legs = legs_settled answers at.run_plan at.plan (needs_value at) first_leg
+
+  condition_same : condition_after at.run_plan before at.plan ≡ condition
+  unfolding condition_after
+  condition_same =
+      let status_is : job_status first_job at ≡ status_after at.run_plan before at.plan =
+      ap (λ c. if c then status.Cancelled else ancestors_status first_job at.run_plan.jobs (job_results at.run) at.place.job) goes ∙ sees.status in
+      sym (ap (job_condition at) status_is ∙ job_condition_is at (needs_of at.run_plan before at.plan) (status_after at.run_plan before at.plan) sees.needs)
+
+  settled_by : job_settled answers at.run_plan first_leg before at.plan ≡ judged condition legs
+  unfolding job_settled
+  settled_by =
+      ap (λ c. if c then judged (condition_after at.run_plan before at.plan) (legs_settled answers at.run_plan at.plan (needs_of at.run_plan before at.plan) first_leg) else unsettled) sees.given
+      ∙ ap (λ (x : Result Bool ValueFault). judged x (legs_settled answers at.run_plan at.plan (needs_of at.run_plan before at.plan) first_leg)) condition_same
+      ∙ ap (λ (needs : Plain). judged condition (legs_settled answers at.run_plan at.plan needs first_leg)) (sym sees.needs)
+
+  pub settled_open : judged_state false condition ≡ job_state.Open → job_settled answers at.run_plan first_leg before at.plan ≡ opened legs
+  settled_open h = settled_by ∙ opens condition legs h
+
+  pub settled_shut : (how : Outcome) → judged_state false condition ≡ job_state.Shut how → job_settled answers at.run_plan first_leg before at.plan ≡ shut how
+  settled_shut how h = settled_by ∙ shuts condition legs how h

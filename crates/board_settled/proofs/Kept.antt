@@ -1,0 +1,106 @@
+-- Each list of entries leads to a board that is played as settled.
+use Rattle.std.proofs.Common.{◌≡◌, ℕ, suc, List, [], ◌∷◌, Option, Some, None, Ok, Err, take, slice_get, nat_le, subst, refl}
+use Rattle.board_decisions.specs.Place.{RunAt, JobAt, LegAt, run_at, job_at, leg_at}
+use Rattle.flow_model.specs.declared.board.Board.{Board}
+use Rattle.flow_model.specs.declared.event.Entry.{Entry}
+use Rattle.flow_model.specs.declared.event.Event.{Event}
+use Rattle.flow_model.specs.declared.event.Event.TheVariants as event
+use Rattle.flow_model.specs.declared.plan.Plan.{Plan}
+use Rattle.flow_model.specs.declared.reply.StepCall.{StepCall}
+use Rattle.board_settled.specs.Histories.{IsAnswered}
+use Rattle.board_settled.specs.Settled.{Answers}
+use Rattle.status_table.specs.declared.fault.EventFault.TheVariants as fault
+use Rattle.status_table.specs.Calls.{call_after, then_call, call_from}
+use Rattle.status_table.specs.Row.{Row, row, event_row}
+use Rattle.status_table.specs.Row as rows
+use Rattle.status_table.specs.Runs.{then_after, after_from}
+use Rattle.status_table.proofs.Entering.{Leads}
+use Rattle.status_table.proofs.Keeps.{Keeps, row_keeps}
+use Rattle.board_decisions.proofs.Lists.{same_some, no_some}
+use Rattle.status_table.proofs.Rows.{row_leads}
+use Rattle.board_settled.proofs.InPlay.{Stands, IsFit}
+use Rattle.board_settled.proofs.LegEvents.{Goes, goes-if, ask_goes, drop_goes, take_goes, begin_goes, end_goes, finish_goes}
+use Rattle.board_settled.proofs.RunEvents.{open_goes, close_goes, judge_goes}
+
+-- ---- one entry
+
+event_goes : (p : Plan) (fit : IsFit p) (answers : Answers) (calls : ℕ → Option StepCall) (b : Board) (stands : Stands p answers calls b) (worker : ℕ) (e : Event)
+    → IsAnswered answers calls e → Goes p answers calls b e (event_row p b worker e)
+event_goes p fit answers calls b stands worker (event.Open r) ok = found (run_at p b r) refl
+  where
+    found : (o : Option RunAt) → run_at p b r ≡ o → Goes p answers calls b (event.Open r) (rows.open_found b r o)
+    found None is = tt
+    found (Some at) is = open_goes p fit answers calls b stands r at is
+event_goes p fit answers calls b stands worker (event.Judge j) ok = found (job_at p b j) refl
+  where
+    found : (o : Option JobAt) → job_at p b j ≡ o → Goes p answers calls b (event.Judge j) (rows.judge_found b j o)
+    found None is = tt
+    found (Some at) is = judge_goes p fit answers calls b stands j at is
+event_goes p fit answers calls b stands worker (event.Ask l) ok = found (leg_at p b l) refl
+  where
+    found : (o : Option LegAt) → leg_at p b l ≡ o → Goes p answers calls b (event.Ask l) (rows.ask_found b l o)
+    found None is = tt
+    found (Some at) is = ask_goes p fit answers calls b stands l at is
+event_goes p fit answers calls b stands worker (event.Drop l) ok = found (leg_at p b l) refl
+  where
+    found : (o : Option LegAt) → leg_at p b l ≡ o → Goes p answers calls b (event.Drop l) (rows.drop_found b l o)
+    found None is = tt
+    found (Some at) is = drop_goes p fit answers calls b stands l at is
+event_goes p fit answers calls b stands worker (event.Take l) ok = found (leg_at p b l) refl
+  where
+    found : (o : Option LegAt) → leg_at p b l ≡ o → Goes p answers calls b (event.Take l) (rows.take_found b worker o)
+    found None is = tt
+    found (Some at) is = take_goes p fit answers calls b stands l at is worker
+event_goes p fit answers calls b stands worker (event.Begin l) ok = found (leg_at p b l) refl
+  where
+    found : (o : Option LegAt) → leg_at p b l ≡ o → Goes p answers calls b (event.Begin l) (rows.begin_found b worker l o)
+    found None is = tt
+    found (Some at) is = begin_goes p fit answers calls b stands l at is worker
+event_goes p fit answers calls b stands worker (event.End l a) ok = found (leg_at p b l) refl
+  where
+    found : (o : Option LegAt) → leg_at p b l ≡ o → Goes p answers calls b (event.End l a) (rows.end_found b worker a o)
+    found None is = tt
+    found (Some at) is = end_goes p fit answers calls b stands l at is worker a ok
+event_goes p fit answers calls b stands worker (event.Finish l) ok = found (leg_at p b l) refl
+  where
+    found : (o : Option LegAt) → leg_at p b l ≡ o → Goes p answers calls b (event.Finish l) (rows.finish_found b worker l o)
+    found None is = tt
+    found (Some at) is = finish_goes p fit answers calls b stands l at is worker
+event_goes p fit answers calls b stands worker (event.Close r) ok = found (run_at p b r) refl
+  where
+    found : (o : Option RunAt) → run_at p b r ≡ o → Goes p answers calls b (event.Close r) (rows.close_found b r o)
+    found None is = tt
+    found (Some at) is = close_goes p fit answers calls b stands r at is
+event_goes p fit answers calls b stands worker (event.Cancel r) ok = absurd ok
+
+row_goes : (p : Plan) (fit : IsFit p) (answers : Answers) (calls : ℕ → Option StepCall) (b : Board) (stands : Stands p answers calls b) (worker : ℕ) (e : Event)
+    → IsAnswered answers calls e → Goes p answers calls b e (row p b worker e)
+row_goes p fit answers calls b stands worker e ok =
+    goes-if p answers calls b e (nat_le worker 15) (event_row p b worker e) (Err fault.NoSuch) (λ _. event_goes p fit answers calls b stands worker e ok) (λ _. tt)
+
+-- ---- lists of entries
+
+-- each entry of a list is answered by the calls that are open before it
+abbrev AnsweredFrom : Plan → Answers → Board → (ℕ → Option StepCall) → List Entry → Type 0
+AnsweredFrom p answers b calls es =
+    (k : ℕ) (e : Entry) → slice_get es k ≡ Some e → IsAnswered answers (λ l. call_from p b l (calls l) (take k es)) e.event
+
+pub after_stands : (p : Plan) (fit : IsFit p) (answers : Answers) (es : List Entry) (calls : ℕ → Option StepCall) (b c : Board) → Stands p answers calls b
+    → after_from p b es ≡ Some c → AnsweredFrom p answers b calls es → (later : ℕ → Option StepCall) × Stands p answers later c
+after_stands p fit answers [] calls b c stands h ok = (calls, subst (Stands p answers calls) (same_some b c h) stands)
+after_stands p fit answers (e ∷ es) calls b c stands h ok =
+    step (λ cs d. after_stands p fit answers es cs d c) (row p b e.worker e.event) refl (row_keeps p b e.worker e.event) (row_leads p b e.worker e.event stands.fits.shape)
+    (row_goes p fit answers calls b stands e.worker e.event (ok 0 e refl)) h
+  where
+    step : ((cs : ℕ → Option StepCall) (d : Board) → Stands p answers cs d → after_from p d es ≡ Some c → AnsweredFrom p answers d cs es → (later : ℕ → Option StepCall) × Stands p answers later c)
+        → (r : Row) → row p b e.worker e.event ≡ r → Keeps p b r → Leads p b r → Goes p answers calls b e.event r → then_after r (λ next. after_from p next es) ≡ Some c
+        → (later : ℕ → Option StepCall) × Stands p answers later c
+    step more (Err f) is keeps leads goes k = absurd (no_some c k)
+    step more (Ok x) is keeps leads goes k =
+        let led = leads stands.lawful in
+        more (λ l. call_after l (calls l) e.event x.1.what) x.0
+        (record { fits = keeps stands.fits; lawful = led.lawful; played = goes led.stays }) k
+        (λ i e' there. subst (λ (cs : ℕ → Option StepCall). IsAnswered answers cs e'.event) (from i) (ok (suc i) e' there))
+      where
+        from : (i : ℕ) → ◌≡◌ {A = ℕ → Option StepCall} (λ l. call_from p b l (calls l) (e ∷ take i es)) (λ l. call_from p x.0 l (call_after l (calls l) e.event x.1.what) (take i es))
+        from i = λ t l. then_call (is t) (λ next told. call_from p next l (call_after l (calls l) e.event told) (take i es))

@@ -1,0 +1,382 @@
+-- The events of legs keep what is played as settled.
+use Rattle.std.proofs.Common.{◌≡◌, ◌≢◌, ℕ, zero, suc, ◌+◌, ◌≤◌, ◌==◌, ◌&&◌, ◌++◌, Bool, true, false, not, List, [], ◌∷◌, Option, Some, None, Result, Ok, Err, option_map, length, take, drop, slice_get, nat_lt, if◌then◌else◌, ap, subst, sym, refl, ◌∙◌, arith}
+use Rattle.std.proofs.lemmas.Bool.{true≢false, leb-true}
+use Rattle.std.proofs.lemmas.Bool.Decides.{nat_tests}
+use Rattle.std.proofs.lemmas.List.{length-append}
+use Rattle.board_decisions.specs.declared.entrance.Entrance.{Entrance}
+use Rattle.board_decisions.specs.Decisions.{is_stopping, leg_result, step_decision, leg_outputs, leg_entrance, job_tolerates}
+use Rattle.board_decisions.specs.Derived.{is_going, is_closed, is_open, is_fresh, is_untaken, is_ended, is_failure, is_full, is_under_way}
+use Rattle.board_decisions.specs.Place.{LegAt, leg_at}
+use Rattle.flow_model.specs.Answer.{is_well_formed}
+use Rattle.flow_model.specs.declared.board.Board.{Board}
+use Rattle.flow_model.specs.declared.board.DoneStep.{DoneStep}
+use Rattle.flow_model.specs.declared.board.Job.{Job}
+use Rattle.flow_model.specs.declared.board.Leg.{Leg}
+use Rattle.flow_model.specs.declared.board.LegState.{LegState}
+use Rattle.flow_model.specs.declared.board.LegState.TheVariants as leg_state
+use Rattle.flow_model.specs.declared.board.Run.{Run}
+use Rattle.flow_model.specs.declared.event.Answer.{Answer}
+use Rattle.flow_model.specs.declared.event.Event.{Event}
+use Rattle.flow_model.specs.declared.event.Event.TheVariants as event
+use Rattle.flow_model.specs.declared.event.Member.TheVariants as member
+use Rattle.flow_model.specs.declared.event.Outcome.{Outcome}
+use Rattle.flow_model.specs.declared.event.Outcome.TheVariants as outcome
+use Rattle.flow_model.specs.declared.plan.JobPlan.{JobPlan}
+use Rattle.flow_model.specs.declared.plan.Plan.{Plan}
+use Rattle.flow_model.specs.declared.plan.RunPlan.{RunPlan}
+use Rattle.flow_model.specs.declared.plan.StepPlan.{StepPlan}
+use Rattle.flow_model.specs.declared.reply.Reply.{Reply}
+use Rattle.flow_model.specs.declared.reply.StepCall.{StepCall}
+use Rattle.flow_model.specs.declared.reply.ValueFault.{ValueFault}
+use Rattle.flow_model.specs.declared.reply.What.TheVariants as what
+use Rattle.board_settled.specs.Decided.{failure_counts, leg_passes}
+use Rattle.board_settled.specs.Sees.{Spot}
+use Rattle.board_settled.specs.Settled.{Answers, Finish, counts, seen_after, next_call, concludes, ends_so, answered, step_by, next_done, steps_from, steps_then, finish_of, spot_at, needs_of}
+use Rattle.status_table.specs.declared.fault.EventFault.TheVariants as fault
+use Rattle.status_table.specs.Calls.{call_after}
+use Rattle.status_table.specs.Change.{with_leg}
+use Rattle.status_table.specs.Groups.{holding, leg_standing, admitted, moved, leaves, dropped}
+use Rattle.status_table.specs.Row.{Row}
+use Rattle.status_table.specs.Row as rows
+use Rattle.status_table.specs.Shape.{has_room, open_calls, JobShape, RunShape}
+use Rattle.status_table.specs.Stays.{Stays}
+use Rattle.plan_values.specs.Values.{Env}
+use Rattle.board_decisions.proofs.Lists.{and-left, and-right}
+use Rattle.status_table.proofs.Found.{LegStands}
+use Rattle.status_table.proofs.LegRows.{holding-live, idle-holds}
+use Rattle.status_table.proofs.Lists.{all-get, zip-get}
+use Rattle.board_decisions.proofs.Lists.{same_some, no_some}
+use Rattle.status_table.proofs.Steps.{Live, going-unclosed}
+use Rattle.status_table.proofs.Turnover.{numbered}
+use Rattle.board_settled.proofs.Changes.{leg_put}
+use Rattle.board_settled.proofs.InPlay.{Stands, IsFit, here, first, spot, leg_played, number_is, not_stopping, quiet, spot_is}
+use Rattle.board_settled.proofs.Numbers.{before_run, before_job}
+use Rattle.board_settled.proofs.Played.{CallStands, InCall, LegPlayed, jobs_of, Played}
+use Rattle.board_settled.proofs.Seen.{spot_of, call_is, failure_is, tolerated_is, outputs_are}
+
+-- A row that is accepted keeps what is played as settled, by the calls that are open after it.
+abbrev pub Goes : Plan → Answers → (ℕ → Option StepCall) → Board → Event → Row → Type 0
+Goes p answers calls b e (Ok x) = Stays b x.0 → Played answers p (λ l. call_after l (calls l) e x.1.what) x.0.runs
+Goes p answers calls b e (Err f) = Unit {0}
+
+pub goes-if : (p : Plan) (answers : Answers) (calls : ℕ → Option StepCall) (b : Board) (e : Event) (c : Bool) (r s : Row)
+    → (c ≡ true → Goes p answers calls b e r) → (c ≡ false → Goes p answers calls b e s) → Goes p answers calls b e (if c then r else s)
+goes-if p answers calls b e true r s holds fails = holds refl
+goes-if p answers calls b e false r s holds fails = fails refl
+
+not-not : (c : Bool) → not c ≡ false → c ≡ true
+not-not true h = refl
+not-not false h = sym h
+
+-- ---- one more step of a leg
+
+next-drop : (xs : List StepPlan) (n : ℕ) (x : StepPlan) → slice_get xs n ≡ Some x → drop n xs ≡ x ∷ drop (suc n) xs
+next-drop [] n x h = absurd (no_some x h)
+next-drop (y ∷ ys) zero x h = ap (λ (z : StepPlan). z ∷ ys) (same_some y x h)
+next-drop (y ∷ ys) (suc n) x h = next-drop ys n x h
+
+one_more : (answers : Answers) (spot : Spot) (done : List DoneStep) (step : StepPlan) (next : DoneStep) → slice_get spot.job.steps (length done) ≡ Some step
+    → next_done answers spot done step ≡ Some next → steps_from answers spot done (drop (length done) spot.job.steps) ≡ steps_from answers spot [] spot.job.steps
+    → steps_from answers spot (done ++ next ∷ []) (drop (length (done ++ next ∷ [])) spot.job.steps) ≡ steps_from answers spot [] spot.job.steps
+one_more answers spot done step next planned given so_far =
+    let more = length-append done (next ∷ []) in
+    let size : length (done ++ next ∷ []) ≡ suc (length done) = omega (arith, more) in
+    let rest : drop (length done) spot.job.steps ≡ step ∷ drop (suc (length done)) spot.job.steps = next-drop spot.job.steps (length done) step planned in
+    ap (λ n. steps_from answers spot (done ++ next ∷ []) (drop n spot.job.steps)) size
+    ∙ sym (ap (λ (steps : List StepPlan). steps_from answers spot done steps) rest ∙ ap (λ (o : Option DoneStep). steps_then done o (λ x. steps_from answers spot (done ++ x ∷ []) (drop (suc (length done)) spot.job.steps))) given)
+    ∙ so_far
+
+module _ (p : Plan) (fit : IsFit p) (answers : Answers) (open_calls' : ℕ → Option StepCall) (b : Board) (stands : Stands p answers open_calls' b) (l : ℕ) (at : LegAt)
+    (is : leg_at p b l ≡ Some at) where
+  abbrev there : LegStands p b l at
+  there = here p fit answers open_calls' b stands l at is
+
+  abbrev mine : Spot
+  mine = spot p fit answers open_calls' b stands l at is
+
+  abbrev played : LegPlayed answers mine (open_calls' (first p fit answers open_calls' b stands l at is + at.place.leg)) at.leg
+  played = leg_played p fit answers open_calls' b stands l at is
+
+  -- the leg is changed, to one that is played as settled by the calls that are open then
+  put : (later : ℕ → Option StepCall) (f : Leg → Leg) (new : Board) → new.runs ≡ (with_leg b at.place f).runs → ((n : ℕ) → n ≢ l → open_calls' n ≡ later n) → Live p b l at
+      → LegPlayed answers mine (later l) (f at.leg) → Stays b new → Played answers p later new.runs
+  put later f new new_is others live now stays =
+      leg_put p b answers open_calls' later l at.place f new new_is stands.fits.shape there.place others stays stands.played
+      (λ run is_run. ap (λ (x : Run). is_closed x.state) (same_some run at.run (sym is_run ∙ there.in_board)) ∙ going-unclosed at.run.state live.going) (λ plan run job_plan job leg planned in_board in_plan in_run in_legs.
+      let plan_is : at.run_plan ≡ plan = same_some at.run_plan plan (sym there.in_plan ∙ planned) in
+      let run_is : at.run ≡ run = same_some at.run run (sym there.in_board ∙ in_board) in
+      let job_plan_is : at.job_plan ≡ job_plan = same_some at.job_plan job_plan (sym there.job_plan ∙ ap (λ (x : RunPlan). slice_get x.jobs at.place.job) plan_is ∙ in_plan) in
+      let job_is : at.job ≡ job = same_some at.job job (sym there.job ∙ ap (λ (x : Run). slice_get x.jobs at.place.job) run_is ∙ in_run) in
+      let leg_is : at.leg ≡ leg = same_some at.leg leg (sym there.leg ∙ ap (λ (x : Job). slice_get x.legs at.place.leg) job_is ∙ in_legs) in (
+        ap (λ (x : Job). is_open x.state) (sym job_is) ∙ live.opened,
+        subst (λ (x : RunPlan). LegPlayed answers
+            (spot_at x job_plan (needs_of x (take at.place.job (jobs_of answers (before_run at.place.run p.runs) x)) job_plan) (before_run at.place.run p.runs + before_job at.place.job x.jobs) at.place.leg)
+            (later (before_run at.place.run p.runs + before_job at.place.job x.jobs + at.place.leg)) (f leg)) plan_is
+            (subst (λ (x : JobPlan). LegPlayed answers
+            (spot_at at.run_plan x (needs_of at.run_plan (take at.place.job (jobs_of answers (before_run at.place.run p.runs) at.run_plan)) x) (before_run at.place.run p.runs + before_job at.place.job at.run_plan.jobs) at.place.leg)
+            (later (before_run at.place.run p.runs + before_job at.place.job at.run_plan.jobs + at.place.leg)) (f leg)) job_plan_is
+            (subst (λ (x : Leg). LegPlayed answers mine (later (before_run at.place.run p.runs + before_job at.place.job at.run_plan.jobs + at.place.leg)) (f x)) leg_is
+            (subst (λ n. LegPlayed answers mine (later n) (f at.leg)) (number_is p fit answers open_calls' b stands l at is) now))),
+      ))
+
+  -- a leg that is not in a call and not Ended, with the steps that it had
+  still : (call : Option StepCall) (leg : Leg) → leg.stop ≡ at.leg.stop → leg.group ≡ None → leg.steps ≡ at.leg.steps → CallStands mine leg.steps call leg.state → is_ended leg.state ≡ false
+      → LegPlayed answers mine call leg
+  still call leg stop group steps calling unended = record {
+    stop = stop ∙ played.stop;
+    group = group;
+    goes_on = subst (λ (done : List DoneStep). steps_from answers mine done (drop (length done) mine.job.steps) ≡ steps_from answers mine [] mine.job.steps) (sym steps) played.goes_on;
+    calling = calling;
+    ended = λ result tolerated e. absurd (true≢false (sym (ap is_ended e) ∙ unended));
+  }
+
+  -- ---- Ask
+
+  no_entrance : leg_entrance at ≡ Ok None
+  unfolding leg_entrance
+  no_entrance = rw ((fit.free at.place.run at.run_plan there.in_plan).jobs at.place.job at.job_plan there.job_plan).group refl
+
+  pub ask_goes : Goes p answers open_calls' b (event.Ask l) (rows.ask_leg b l at)
+  ask_goes = goes-if p answers open_calls' b (event.Ask l) (not (rows.may_ask at)) (Err fault.WrongState) unstarted (λ _. tt)
+      (λ ready. goes-if p answers open_calls' b (event.Ask l) (is_full at.job_plan at.job) (Err fault.SlotsFull) unstopped (λ _. tt)
+      (λ _. goes-if p answers open_calls' b (event.Ask l) (is_stopping at) (Err fault.Stopping) (rows.leg_enters b l at (leg_entrance at)) (λ _. tt)
+      (λ _.
+      let all = not-not (rows.may_ask at) ready in
+      let two = and-left (is_going at.run.state && is_open at.job.state) (is_fresh at.leg.state) all in
+      subst (λ (x : Result (Option Entrance) ValueFault). Goes p answers open_calls' b (event.Ask l) (rows.leg_enters b l at x)) (sym no_entrance)
+      (put open_calls' (λ x. record x { state = leg_state.Admitted; group = None }) (admitted b None (member.Leg l)) (numbered b l at.place (λ x. record x { state = leg_state.Admitted; group = None }) there.place)
+      (λ n _. refl) (record { stands = there; going = and-left (is_going at.run.state) (is_open at.job.state) two; opened = and-right (is_going at.run.state) (is_open at.job.state) two })
+      (still (open_calls' l) (record at.leg { state = leg_state.Admitted; group = None }) refl refl refl tt refl)))))
+    where
+      unstopped : Row
+      unstopped = if is_stopping at then Err fault.Stopping else rows.leg_enters b l at (leg_entrance at)
+
+      unstarted : Row
+      unstarted = if is_full at.job_plan at.job then Err fault.SlotsFull else unstopped
+
+  -- ---- Drop: no leg is to stop
+
+  pub drop_goes : Goes p answers open_calls' b (event.Drop l) (rows.drop_leg b l at)
+  drop_goes = goes-if p answers open_calls' b (event.Drop l) (not (rows.may_drop at)) (Err fault.WrongState)
+      (if is_stopping at then Ok (leaves b (leg_standing at.leg) (dropped b l outcome.Cancelled)) else Err fault.NotStopping) (λ _. tt)
+      (λ ready. goes-if p answers open_calls' b (event.Drop l) (is_stopping at) (Ok (leaves b (leg_standing at.leg) (dropped b l outcome.Cancelled))) (Err fault.NotStopping)
+      (λ stops. absurd (true≢false (sym stops ∙ not_stopping p fit answers open_calls' b stands l at is
+      (untaken at.leg.state (and-right (is_going at.run.state && is_open at.job.state) (is_untaken at.leg.state) (not-not (rows.may_drop at) ready))))))
+      (λ _. tt))
+    where
+      untaken : (s : LegState) → is_untaken s ≡ true → is_ended s ≡ false
+      untaken leg_state.Fresh h = refl
+      untaken leg_state.Waiting h = refl
+      untaken leg_state.Admitted h = refl
+      untaken (leg_state.Running worker in_call) h = absurd (true≢false (sym h))
+      untaken (leg_state.Ended result tolerated) h = absurd (true≢false (sym h))
+
+  -- ---- Take
+
+  -- a leg under way is of a Going run and an Open job
+  live : is_under_way at.leg.state ≡ true → Live p b l at
+  live under = holding-live p b l at stands.lawful.fits there under
+
+  pub take_goes : (worker : ℕ) → Goes p answers open_calls' b (event.Take l) (rows.take_leg b worker at at.leg.state)
+  take_goes worker = by at.leg.state refl
+    where
+      by : (s : LegState) → at.leg.state ≡ s → Goes p answers open_calls' b (event.Take l) (rows.take_leg b worker at s)
+      by leg_state.Fresh e = tt
+      by leg_state.Waiting e = tt
+      by leg_state.Admitted e = goes-if p answers open_calls' b (event.Take l) (is_stopping at) (Err fault.Stopping) (Ok (rows.leg_state_set b at.place (leg_state.Running worker false), moved)) (λ _. tt)
+          (λ _. put open_calls' (λ x. record x { state = leg_state.Running worker false }) (rows.leg_state_set b at.place (leg_state.Running worker false)) refl (λ n _. refl)
+          (live (ap is_under_way e))
+          (still (open_calls' l) (record at.leg { state = leg_state.Running worker false }) refl played.group refl tt refl))
+      by (leg_state.Running other in_call) e = tt
+      by (leg_state.Ended result tolerated) e = tt
+
+  -- ---- Begin and End
+
+  same_number : (l == l) ≡ true
+  same_number = grind (arith, nat_tests)
+
+  other_number : (n : ℕ) → n ≢ l → (l == n) ≡ false
+  other_number n differs = grind (arith, nat_tests, differs)
+
+  -- one more step is done
+  done_more : (later : ℕ → Option StepCall) → ((n : ℕ) → n ≢ l → open_calls' n ≡ later n) → (worker : ℕ) (step : StepPlan) (next : DoneStep) → is_under_way at.leg.state ≡ true
+      → rows.next_step at ≡ Some step → next_done answers mine at.leg.steps step ≡ Some next → Stays b (rows.step_done b at.place worker next)
+      → Played answers p later (rows.step_done b at.place worker next).runs
+  done_more later others worker step next under planned given =
+      put later (λ x. record x { state = leg_state.Running worker false; steps = x.steps ++ next ∷ [] }) (rows.step_done b at.place worker next) refl others (live under) (record {
+        stop = played.stop;
+        group = played.group;
+        goes_on = one_more answers mine at.leg.steps step next planned given played.goes_on;
+        calling = tt;
+        ended = λ result tolerated e. absurd (true≢false (sym (ap is_ended e)));
+      })
+
+  unended : (s : LegState) → is_under_way s ≡ true → is_ended s ≡ false
+  unended leg_state.Fresh h = refl
+  unended leg_state.Waiting h = refl
+  unended leg_state.Admitted h = refl
+  unended (leg_state.Running worker in_call) h = refl
+  unended (leg_state.Ended result tolerated) h = absurd (true≢false (sym h))
+
+  calm : is_under_way at.leg.state ≡ true → leg_result at ≡ counts at.leg.steps
+  calm under = quiet p fit answers open_calls' b stands l at is (unended at.leg.state under)
+
+  seen_so : is_under_way at.leg.state ≡ true → spot_of l at ≡ mine
+  seen_so under = spot_is p fit answers open_calls' b stands l at is (live under)
+
+  module _ (under : is_under_way at.leg.state ≡ true) (step : StepPlan) (planned : rows.next_step at ≡ Some step) where
+    decision : step_decision l at step ≡ next_call mine at.leg.steps step
+    decision = call_is l at (calm under) step ∙ ap (λ (x : Spot). next_call x at.leg.steps step) (seen_so under)
+
+    failure : rows.failure_of at (rows.next_step at) ≡ failure_counts (seen_after mine at.leg.steps) at.run_plan at.job_plan at.leg.steps step
+    failure = ap (rows.failure_of at) planned ∙ failure_is l at (calm under) step ∙ ap (λ (x : Spot). failure_counts (seen_after x at.leg.steps) at.run_plan at.job_plan at.leg.steps step) (seen_so under)
+
+    failed : rows.failed_step at ≡ ends_so mine at.leg.steps step outcome.Failure [] []
+    failed = ap (λ c. (let x : DoneStep = record { outcome = outcome.Failure; conclusion = c; outputs = []; env = [] } in x)) failure
+
+    concluded : (result : Outcome) → rows.conclusion_of at result ≡ concludes mine at.leg.steps step result
+    concluded outcome.Success = refl
+    concluded outcome.Failure = failure
+    concluded outcome.Cancelled = refl
+    concluded outcome.Skipped = refl
+
+    ended_so : (a : Answer) → rows.answered_step at a ≡ answered mine at.leg.steps step a
+    ended_so a = ap (λ c. (let x : DoneStep = record { outcome = rows.outcome_of a; conclusion = c; outputs = rows.outputs_of a; env = rows.set_by a } in x)) (concluded (rows.outcome_of a))
+
+    -- what a step comes to by its call
+    by_call : (d : Result (Option StepCall) ValueFault) (next : DoneStep) → step_decision l at step ≡ d → step_by answers mine at.leg.steps step d ≡ Some next → next_done answers mine at.leg.steps step ≡ Some next
+    unfolding next_done
+    by_call d next e given = ap (step_by answers mine at.leg.steps step) (sym decision ∙ e) ∙ given
+
+    begun : (worker : ℕ) (d : Result (Option StepCall) ValueFault) → step_decision l at step ≡ d → Goes p answers open_calls' b (event.Begin l) (rows.begin_leg b worker at (Ok (rows.decided d)))
+    begun worker (Ok None) e =
+        done_more (λ n. call_after n (open_calls' n) (event.Begin l) what.Skipped) (λ n differs. sym (ap (λ c. if c then None else open_calls' n) (other_number n differs))) worker step rows.skipped_step under planned
+        (by_call (Ok None) rows.skipped_step e refl)
+    begun worker (Err f) e =
+        done_more (λ n. call_after n (open_calls' n) (event.Begin l) (what.Faulted f)) (λ n differs. sym (ap (λ c. if c then None else open_calls' n) (other_number n differs))) worker step (rows.failed_step at) under planned
+        (by_call (Err f) (rows.failed_step at) e (ap (λ (x : DoneStep). Some x) (sym failed)))
+    begun worker (Ok (Some call)) e =
+        put (λ n. call_after n (open_calls' n) (event.Begin l) (what.Call call)) (λ x. record x { state = leg_state.Running worker true }) (rows.leg_state_set b at.place (leg_state.Running worker true)) refl
+        (λ n differs. sym (ap (λ c. if c then Some call else open_calls' n) (other_number n differs))) (live under)
+        (still (call_after l (open_calls' l) (event.Begin l) (what.Call call)) (record at.leg { state = leg_state.Running worker true }) refl played.group refl (record {
+          step = step;
+          planned = planned;
+          asked = call;
+          is_open = ap (λ c. if c then Some call else open_calls' l) same_number;
+          is_next = sym decision ∙ e;
+        }) refl)
+
+  pub begin_goes : (worker : ℕ) → Goes p answers open_calls' b (event.Begin l) (rows.begin_leg b worker at (rows.beginning worker l at))
+  begin_goes worker = by_owner (rows.idle_owner at.leg.state) refl (rows.next_step at) refl
+    where
+      by_owner : (owner : Option ℕ) → rows.idle_owner at.leg.state ≡ owner → (step : Option StepPlan) → rows.next_step at ≡ step
+          → Goes p answers open_calls' b (event.Begin l) (rows.begin_leg b worker at (rows.beginning_by worker l at owner step))
+      by_owner None was step next = tt
+      by_owner (Some owner) was None next = tt
+      by_owner (Some owner) was (Some step) next = by (worker == owner)
+        where
+          by : (c : Bool) → Goes p answers open_calls' b (event.Begin l) (rows.begin_leg b worker at (if c then Ok (rows.decided (step_decision l at step)) else Err fault.OtherWorker))
+          by true = begun (idle-holds at.leg.state owner was).under step next worker (step_decision l at step) refl
+          by false = tt
+
+  in_call : (s : LegState) (owner : ℕ) (call : Option StepCall) → rows.calling_owner s ≡ Some owner → CallStands mine at.leg.steps call s → InCall mine at.leg.steps call × (is_under_way s ≡ true)
+  in_call leg_state.Fresh owner call h calling = absurd (no_some owner h)
+  in_call leg_state.Waiting owner call h calling = absurd (no_some owner h)
+  in_call leg_state.Admitted owner call h calling = absurd (no_some owner h)
+  in_call (leg_state.Running worker true) owner call h calling = (calling, refl)
+  in_call (leg_state.Running worker false) owner call h calling = absurd (no_some owner h)
+  in_call (leg_state.Ended result tolerated) owner call h calling = absurd (no_some owner h)
+
+  next_is : (a : Answer) (step : StepPlan) (call : StepCall) → next_call mine at.leg.steps step ≡ Ok (Some call) → (next : DoneStep) → answers call ≡ Some a
+      → answered mine at.leg.steps step a ≡ next → next_done answers mine at.leg.steps step ≡ Some next
+  unfolding next_done
+  next_is a step call e next given same =
+      ap (step_by answers mine at.leg.steps step) e ∙ ap (option_map (answered mine at.leg.steps step)) given ∙ ap (λ (x : DoneStep). Some x) same
+
+  pub end_goes : (worker : ℕ) (a : Answer) → ((call : StepCall) → open_calls' l ≡ Some call → answers call ≡ Some a)
+      → Goes p answers open_calls' b (event.End l a) (rows.end_leg b worker at (rows.ending worker at a))
+  end_goes worker a answer = by_owner (rows.calling_owner at.leg.state) refl
+    where
+      ends : (owner : ℕ) → rows.calling_owner at.leg.state ≡ Some owner → Goes p answers open_calls' b (event.End l a) (rows.end_leg b worker at (Ok (rows.answered_step at a)))
+      ends owner was =
+          let calling = in_call at.leg.state owner (open_calls' (first p fit answers open_calls' b stands l at is + at.place.leg)) was played.calling in
+          let call = calling.0 in
+          let number = number_is p fit answers open_calls' b stands l at is in
+          let given = answer call.asked (ap open_calls' number ∙ call.is_open) in
+          let same : answered mine at.leg.steps call.step a ≡ rows.answered_step at a = sym (ended_so calling.1 call.step call.planned a) in
+          done_more (λ n. call_after n (open_calls' n) (event.End l a) what.Moved) (λ n differs. sym (ap (λ c. if c then None else open_calls' n) (other_number n differs))) worker call.step
+          (rows.answered_step at a) calling.1 call.planned
+          (next_is a call.step call.asked call.is_next (rows.answered_step at a) given same)
+
+      by_owner : (owner : Option ℕ) → rows.calling_owner at.leg.state ≡ owner → Goes p answers open_calls' b (event.End l a) (rows.end_leg b worker at (rows.ending_by worker at a owner))
+      by_owner None was = tt
+      by_owner (Some owner) was = by (not (worker == owner)) (not (is_well_formed a))
+        where
+          by : (other bad : Bool) → Goes p answers open_calls' b (event.End l a) (rows.end_leg b worker at (if other then Err fault.OtherWorker else (if bad then Err fault.BadAnswer else Ok (rows.answered_step at a))))
+          by true bad = tt
+          by false true = tt
+          by false false = ends owner was
+
+  -- ---- Finish
+
+  abbrev made : Outcome → Bool → Env → Finish
+  made result tolerated outputs = record { result = result; tolerated = tolerated; outputs = outputs }
+
+  finished : is_under_way at.leg.state ≡ true → made (leg_result at) (is_failure (leg_result at) && job_tolerates at) (leg_outputs at) ≡ finish_of mine at.leg.steps
+  unfolding finish_of
+  finished under =
+      ap (λ r. made r (is_failure r && job_tolerates at) (leg_outputs at)) (calm under)
+      ∙ ap (λ t. made (counts at.leg.steps) t (leg_outputs at)) (tolerated_is l at (calm under) (counts at.leg.steps))
+      ∙ ap (λ (o : Env). made (counts at.leg.steps) (leg_passes (seen_after (spot_of l at) at.leg.steps) at.job_plan (counts at.leg.steps)) o) (outputs_are l at (calm under))
+      ∙ ap (λ (x : Spot). finish_of x at.leg.steps) (seen_so under)
+
+  pub finish_goes : (worker : ℕ) → Goes p answers open_calls' b (event.Finish l) (rows.finish_leg b l at (rows.finishing worker at))
+  finish_goes worker = by_owner (rows.idle_owner at.leg.state) refl
+    where
+      alone : (after : Board) (owner : ℕ) → rows.idle_owner at.leg.state ≡ Some owner → leaves b (leg_standing at.leg) after ≡ leaves b (holding None) after
+      alone after owner was = ap (λ s. leaves b s after) ((idle-holds at.leg.state owner was).stands at.leg.group ∙ ap holding played.group)
+
+      room : length at.leg.steps ≤ length at.job_plan.steps
+      room =
+          let shape = zip-get JobShape at.run_plan.jobs at.run.jobs at.place.job at.job_plan at.job there.job_plan there.job
+          (zip-get RunShape p.runs b.runs at.place.run at.run_plan at.run there.in_plan there.in_board stands.fits.shape) in
+          let had = all-get (has_room at.job_plan) at.job.legs at.place.leg at.leg there.leg shape.steps in
+          let few = leb-true (length at.leg.steps + open_calls at.leg.state) (length at.job_plan.steps) had in
+          omega (arith, few)
+
+      same_ends : (r s : Outcome) (t u : Bool) → leg_state.Ended r t ≡ leg_state.Ended s u → (r ≡ s) × (t ≡ u)
+      same_ends r s t u h = (cc, cc)
+
+      ends : (owner : ℕ) → rows.idle_owner at.leg.state ≡ Some owner → nat_lt (length at.leg.steps) (length at.job_plan.steps) ≡ false
+          → Goes p answers open_calls' b (event.Finish l) (rows.finish_leg b l at (Ok (rows.ended_state at (leg_result at))))
+      ends owner was all =
+          let state = rows.ended_state at (leg_result at) in
+          let new : Board = rows.leg_ended b at.place l state (leg_outputs at) in
+          let left : length at.job_plan.steps ≤ length at.leg.steps = grind (arith, nat_tests, all) in
+          let had = room in
+          let whole : length at.leg.steps ≡ length at.job_plan.steps = omega (arith, left, had) in
+          let finish : finish_of mine at.leg.steps ≡ record { result = leg_result at; tolerated = is_failure (leg_result at) && job_tolerates at; outputs = leg_outputs at } = sym (finished (idle-holds at.leg.state owner was).under) in
+          subst (λ (x : Board × Reply). Goes p answers open_calls' b (event.Finish l) (Ok x)) (sym (alone new owner was))
+          (put open_calls' (λ x. record x { state = state; outputs = leg_outputs at }) new refl (λ n _. refl) (live (idle-holds at.leg.state owner was).under) (record {
+            stop = played.stop;
+            group = played.group;
+            goes_on = played.goes_on;
+            calling = tt;
+            ended = λ result tolerated e.
+                let both = same_ends (leg_result at) result (is_failure (leg_result at) && job_tolerates at) tolerated e in
+                record {
+                  all = whole;
+                  finish = finish ∙ ap (λ r. (let x : Finish = record { result = r; tolerated = is_failure (leg_result at) && job_tolerates at; outputs = leg_outputs at } in x)) both.0
+                      ∙ ap (λ t. (let x : Finish = record { result = result; tolerated = t; outputs = leg_outputs at } in x)) both.1;
+                };
+          }))
+
+      by_owner : (owner : Option ℕ) → rows.idle_owner at.leg.state ≡ owner → Goes p answers open_calls' b (event.Finish l) (rows.finish_leg b l at (rows.finishing_by worker at owner))
+      by_owner None was = tt
+      by_owner (Some owner) was = by (not (worker == owner)) (nat_lt (length at.leg.steps) (length at.job_plan.steps)) refl
+        where
+          by : (other more : Bool) → nat_lt (length at.leg.steps) (length at.job_plan.steps) ≡ more
+              → Goes p answers open_calls' b (event.Finish l) (rows.finish_leg b l at (if other then Err fault.OtherWorker else (if more then Err fault.StepsLeft else Ok (rows.ended_state at (leg_result at)))))
+          by true more e = tt
+          by false true e = tt
+          by false false e = ends owner was e

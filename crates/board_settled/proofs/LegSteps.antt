@@ -1,0 +1,211 @@
+-- The next step of a leg by itself, and its end, are those that are settled.
+use Rattle.std.proofs.Common.{◌≡◌, ◌↔◌, ℕ, zero, suc, ◌+◌, ◌<◌, ◌≤◌, ◌==◌, ◌&&◌, ◌||◌, Bool, true, false, not, List, [], ◌∷◌, ◌++◌, Option, Some, None, Result, Ok, Err, option_map, length, drop, slice_get, if◌then◌else◌, ap, sym, subst, refl, ◌∙◌, arith}
+use Rattle.std.specs.List.{list_any}
+use Rattle.std.proofs.lemmas.Bool.Decides.{nat_tests}
+use Rattle.board_decisions.specs.Decisions.{is_true, job_condition, is_stopping, leg_result, step_decision, job_tolerates, leg_outputs}
+use Rattle.board_decisions.specs.Derived.{is_failure, has_failed}
+use Rattle.board_decisions.specs.Place.{JobAt, LegAt}
+use Rattle.expr_value.specs.declared.status.Status.TheVariants as status
+use Rattle.flow_model.specs.declared.board.DoneStep.{DoneStep}
+use Rattle.flow_model.specs.declared.board.Leg.{Leg}
+use Rattle.flow_model.specs.declared.board.LegState.TheVariants as leg_state
+use Rattle.flow_model.specs.declared.event.Answer.{Answer}
+use Rattle.flow_model.specs.declared.event.Outcome.{Outcome}
+use Rattle.flow_model.specs.declared.event.Outcome.TheVariants as outcome
+use Rattle.flow_model.specs.declared.plan.StepPlan.{StepPlan}
+use Rattle.flow_model.specs.declared.reply.StepCall.{StepCall}
+use Rattle.flow_model.specs.declared.reply.ValueFault.{ValueFault}
+use Rattle.board_decisions.specs.Contexts.{job_of}
+use Rattle.board_settled.specs.Alone.{leg_on, planned, IsAlone, IsIdle, EndsAs, step_comes, next_comes, StepsCome}
+use Rattle.board_settled.specs.Agrees.{LegIsSettled}
+use Rattle.board_settled.specs.Sees.{Spot}
+use Rattle.board_settled.specs.Settled.{Answers, Finish, SettledLeg, counts, concludes, answered, ends_so, step_by, next_done, steps_then, steps_from, finish_of, leg_after, leg_settled}
+use Rattle.status_table.specs.Row.{next_step, failure_of, conclusion_of, answered_step, outcome_of, outputs_of, set_by}
+use Rattle.plan_values.specs.Values.{Env}
+use Rattle.board_settled.proofs.Seen.{spot_of, call_is, failure_is, tolerated_is, outputs_are}
+use Rattle.board_decisions.proofs.Lists.{same_some, no_some}
+use Rattle.status_table.proofs.Standings.{drop_at}
+
+-- ---- a leg that is alone
+
+and-none : (a : Bool) → a && false ≡ false
+and-none true = refl
+and-none false = refl
+
+-- It is not to stop, and counts by its steps.
+pub counts_alone : (at : JobAt) (k : ℕ) (leg : Leg) → IsAlone at → leg.stop ≡ false → leg_result (leg_on at k leg) ≡ counts leg.steps
+counts_alone at k leg alone goes = ap (λ c. if c then outcome.Cancelled else counts leg.steps) stopping
+  where
+    later : Bool
+    later = not (is_true (job_condition (job_of (leg_on at k leg)) status.Cancelled))
+
+    stopping : is_stopping (leg_on at k leg) ≡ false
+    stopping =
+        ap (λ c. (c || (at.plan.fail_fast && list_any (λ (x : Leg). has_failed x.state) at.job.legs)) || (at.run.stop && later)) goes
+        ∙ ap (λ (legs : List Leg). (at.plan.fail_fast && list_any (λ (x : Leg). has_failed x.state) legs) || (at.run.stop && later)) alone.no_others
+        ∙ ap (λ c. c || (at.run.stop && later)) (and-none at.plan.fail_fast)
+        ∙ ap (λ c. c && later) alone.goes
+
+-- ---- the next step
+
+module _ (answers : Answers) (l : ℕ) (at : LegAt) (quiet : leg_result at ≡ counts at.leg.steps) (step : StepPlan) (is : next_step at ≡ Some step) where
+  abbrev spot : Spot
+  spot = spot_of l at
+
+  concluded : (result : Outcome) → conclusion_of at result ≡ concludes spot at.leg.steps step result
+  concluded outcome.Success = refl
+  concluded outcome.Failure = ap (failure_of at) is ∙ failure_is l at quiet step
+  concluded outcome.Cancelled = refl
+  concluded outcome.Skipped = refl
+
+  ended : (result : Outcome) (outputs env : Env) → record { outcome = result; conclusion = conclusion_of at result; outputs = outputs; env = env } ≡ ends_so spot at.leg.steps step result outputs env
+  ended result outputs env = ap (λ (c : Outcome). (let x : DoneStep = record { outcome = result; conclusion = c; outputs = outputs; env = env } in x)) (concluded result)
+
+  by_answer : (o : Option Answer) → option_map (answered_step at) o ≡ option_map (answered spot at.leg.steps step) o
+  by_answer None = refl
+  by_answer (Some a) = ap (λ (d : DoneStep). Some d) (ended (outcome_of a) (outputs_of a) (set_by a))
+
+  by_call : (x : Result (Option StepCall) ValueFault) → step_comes answers at x ≡ step_by answers spot at.leg.steps step x
+  by_call (Ok None) = refl
+  by_call (Ok (Some call)) = by_answer (answers call)
+  by_call (Err fault) = ap (λ (d : DoneStep). Some d) (ended outcome.Failure [] [])
+
+  pub comes_next : next_comes answers l at step ≡ next_done answers spot at.leg.steps step
+  unfolding next_done
+  comes_next = by_call (step_decision l at step) ∙ ap (step_by answers spot at.leg.steps step) (call_is l at quiet step)
+
+-- ---- all steps
+
+pub goes_further : (answers : Answers) (spot : Spot) (done : List DoneStep) (step : StepPlan) (rest : List StepPlan) (next : DoneStep) → next_done answers spot done step ≡ Some next
+    → steps_from answers spot done (step ∷ rest) ≡ steps_from answers spot (done ++ next ∷ []) rest
+goes_further answers spot done step rest next is =
+    ap (λ (o : Option DoneStep). steps_then done o (λ x. steps_from answers spot (done ++ x ∷ []) rest)) is
+
+pub goes_nowhere : (answers : Answers) (spot : Spot) (done : List DoneStep) (step : StepPlan) (rest : List StepPlan) → next_done answers spot done step ≡ None
+    → steps_from answers spot done (step ∷ rest) ≡ done
+goes_nowhere answers spot done step rest is =
+    ap (λ (o : Option DoneStep). steps_then done o (λ x. steps_from answers spot (done ++ x ∷ []) rest)) is
+
+-- ---- the end of a leg
+
+-- a leg whose steps are not all given is not settled
+pub unended : (answers : Answers) (spot : Spot) (leg : Leg) → StepsCome answers spot None → LegIsSettled (leg_settled answers spot) leg → ⊥
+unfolding leg_settled
+unended answers spot leg come h =
+    let short : (length (steps_from answers spot [] spot.job.steps) == length spot.job.steps) ≡ false = grind (arith, nat_tests, come) in
+    no_some (record { result = h.result; tolerated = h.tolerated; outputs = leg.outputs })
+    (sym (ap (λ c. if c then Some (finish_of spot (steps_from answers spot [] spot.job.steps)) else None) short) ∙ h.finish)
+
+-- what is settled of a leg all of whose steps are these
+pub ended_leg : (answers : Answers) (spot : Spot) (steps : List DoneStep) → steps ≡ steps_from answers spot [] spot.job.steps → length steps ≡ length spot.job.steps
+    → leg_settled answers spot ≡ record { steps = steps; finish = Some (finish_of spot steps) }
+unfolding leg_settled
+ended_leg answers spot steps is many =
+    let full : (length steps == length spot.job.steps) ≡ true = grind (arith, nat_tests, many) in
+    ap (leg_after spot) (sym is)
+    ∙ ap (λ c. (let x : SettledLeg = record { steps = steps; finish = if c then Some (finish_of spot steps) else None } in x)) full
+
+-- how a leg ends that is alone
+pub finish_alone : (l : ℕ) (at : JobAt) (k : ℕ) (leg : Leg) → IsAlone at → leg.stop ≡ false
+    → finish_of (planned l at k) leg.steps
+    ≡ record {
+      result = leg_result (leg_on at k leg);
+      tolerated = is_failure (leg_result (leg_on at k leg)) && job_tolerates (leg_on at k leg);
+      outputs = leg_outputs (leg_on at k leg);
+    }
+unfolding finish_of
+finish_alone l at k leg alone goes =
+    let quiet = counts_alone at k leg alone goes in
+    let passes = tolerated_is l (leg_on at k leg) quiet (leg_result (leg_on at k leg)) in
+    let outputs = outputs_are l (leg_on at k leg) quiet in
+    rw (passes, outputs, quiet) refl
+
+-- a leg is settled where it is Ended so, with these steps and outputs
+pub settled_so : (answers : Answers) (spot : Spot) (leg : Leg) (how : Outcome) (passed : Bool) (steps : List DoneStep) (outputs : Env)
+    → leg_settled answers spot ≡ record { steps = steps; finish = Some (record { result = how; tolerated = passed; outputs = outputs }) }
+    → leg.state ≡ leg_state.Ended how passed → steps ≡ leg.steps → outputs ≡ leg.outputs → LegIsSettled (leg_settled answers spot) leg
+settled_so answers place leg how passed steps outputs is state same given =
+    subst (λ (x : SettledLeg). LegIsSettled x leg) (sym is) (record {
+      result = how;
+      tolerated = passed;
+      state = state;
+      steps = sym same;
+      finish = ap (λ (o : Env). Some (let x : Finish = record { result = how; tolerated = passed; outputs = o } in x)) given;
+    })
+
+-- and only there
+pub only_so : (answers : Answers) (spot : Spot) (leg : Leg) (how : Outcome) (passed : Bool) (steps : List DoneStep) (outputs : Env)
+    → leg_settled answers spot ≡ record { steps = steps; finish = Some (record { result = how; tolerated = passed; outputs = outputs }) }
+    → LegIsSettled (leg_settled answers spot) leg → (leg.state ≡ leg_state.Ended how passed) × (steps ≡ leg.steps) × (outputs ≡ leg.outputs)
+only_so answers place leg how passed steps outputs is settled =
+    let h = subst (λ (x : SettledLeg). LegIsSettled x leg) is settled in
+    let finish = same_some (record { result = how; tolerated = passed; outputs = outputs }) (record { result = h.result; tolerated = h.tolerated; outputs = leg.outputs }) h.finish in (
+      h.state ∙ sym (ap (λ (f : Finish). leg_state.Ended f.result f.tolerated) finish),
+      sym h.steps,
+      ap (λ (f : Finish). f.outputs) finish,
+    )
+
+-- a leg that is alone, with all its steps, ends as settled
+module _ (answers : Answers) (l : ℕ) (at : JobAt) (k : ℕ) (played : Leg) (alone : IsAlone at) (come : StepsCome answers (planned l at k) (Some played)) where
+  settled_is : leg_settled answers (planned l at k)
+      ≡ record {
+        steps = played.steps;
+        finish = Some (record {
+          result = leg_result (leg_on at k played);
+          tolerated = is_failure (leg_result (leg_on at k played)) && job_tolerates (leg_on at k played);
+          outputs = leg_outputs (leg_on at k played);
+        });
+      }
+  settled_is =
+      ended_leg answers (planned l at k) played.steps come.1 come.2
+      ∙ ap (λ (f : Finish). (let x : SettledLeg = record { steps = played.steps; finish = Some f } in x)) (finish_alone l at k played alone come.0.goes)
+
+  pub ends_settled : (leg : Leg) → EndsAs (leg_on at k played) leg ↔ LegIsSettled (leg_settled answers (planned l at k)) leg
+  ends_settled leg = (
+    (λ h. settled_so answers (planned l at k) leg (leg_result (leg_on at k played)) (is_failure (leg_result (leg_on at k played)) && job_tolerates (leg_on at k played))
+        played.steps (leg_outputs (leg_on at k played)) settled_is h.state h.steps h.outputs),
+    (λ h.
+        let so = only_so answers (planned l at k) leg (leg_result (leg_on at k played)) (is_failure (leg_result (leg_on at k played)) && job_tolerates (leg_on at k played))
+        played.steps (leg_outputs (leg_on at k played)) settled_is h in
+        record { state = so.0; steps = so.1; outputs = so.2 }),
+  )
+
+-- ---- one step after the other
+
+-- the item at a place
+pub item : {A : Type 0} (xs : List A) (i : ℕ) → i < length xs → (x : A) × (slice_get xs i ≡ Some x)
+item [] i h = absurd (omega (arith, h))
+item (x ∷ xs) zero h = (x, refl)
+item (x ∷ xs) (suc i) h = item xs i (omega (arith, h))
+
+module _ (answers : Answers) (l : ℕ) (at : JobAt) (k : ℕ) (leg : Leg) (alone : IsAlone at) (idle : IsIdle leg) (n : ℕ) (many : length leg.steps ≡ n) (left : n < length at.plan.steps)
+    (next : Option DoneStep) (come : (step : StepPlan) → next_step (leg_on at k leg) ≡ Some step → next ≡ next_comes answers l (leg_on at k leg) step)
+    (goes_on : steps_from answers (planned l at k) leg.steps (drop n at.plan.steps) ≡ steps_from answers (planned l at k) [] at.plan.steps) where
+  here : (step : StepPlan) × (slice_get at.plan.steps n ≡ Some step)
+  here = item at.plan.steps n left
+
+  done_next : next ≡ next_done answers (planned l at k) leg.steps here.0
+  done_next =
+      let is : next_step (leg_on at k leg) ≡ Some here.0 = ap (slice_get at.plan.steps) many ∙ here.1 in
+      come here.0 is ∙ comes_next answers l (leg_on at k leg) (counts_alone at k leg alone idle.goes) here.0 is
+
+  rest : steps_from answers (planned l at k) leg.steps (here.0 ∷ drop (n + 1) at.plan.steps) ≡ steps_from answers (planned l at k) [] at.plan.steps
+  rest = ap (steps_from answers (planned l at k) leg.steps) (sym (drop_at at.plan.steps n here.0 here.1)) ∙ goes_on
+
+  -- one step more is done
+  pub one_more : (done : DoneStep) → next ≡ Some done
+      → steps_from answers (planned l at k) (leg.steps ++ done ∷ []) (drop (n + 1) at.plan.steps) ≡ steps_from answers (planned l at k) [] at.plan.steps
+  one_more done is = sym (goes_further answers (planned l at k) leg.steps here.0 (drop (n + 1) at.plan.steps) done (sym done_next ∙ is)) ∙ rest
+
+  -- without an answer not all steps are given
+  pub no_more : next ≡ None → length (steps_from answers (planned l at k) [] at.plan.steps) ≡ length at.plan.steps → ⊥
+  no_more is all =
+      let same = ap length (sym rest ∙ goes_nowhere answers (planned l at k) leg.steps here.0 (drop (n + 1) at.plan.steps) (sym done_next ∙ is)) in
+      omega (arith, same, all, many, left)
+
+-- all steps are done
+pub past : {A : Type 0} (xs : List A) (n : ℕ) → length xs ≤ n → drop n xs ≡ []
+past [] zero h = refl
+past [] (suc n) h = refl
+past (x ∷ xs) zero h = absurd (omega (arith, h))
+past (x ∷ xs) (suc n) h = past xs n (omega (arith, h))

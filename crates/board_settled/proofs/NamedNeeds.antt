@@ -1,0 +1,81 @@
+-- The jobs that a job needs, by their ids.
+use Rattle.std.proofs.Common.{◌≡◌, ◌-◌, ℕ, zero, suc, ◌∷◌, Option, Some, None, List, [], map, refl, sym, ap, ◌∙◌}
+use Rattle.std.specs.List.{filter_map, slice_get}
+use Rattle.board_decisions.specs.Contexts.{first_number, job_beside, need_pair, need_value, needed_job, needs_value, with_needs}
+use Rattle.board_decisions.specs.Place.{◌>>=◌, JobAt}
+use Rattle.board_decisions.specs.declared.place.JobPlace.{JobPlace}
+use Rattle.board_settled.specs.Contexts.{IsNeeded, NeedsAreDirect}
+use Rattle.board_settled.specs.Pairs.{IsIn}
+use Rattle.flow_model.specs.Mapping.{value_at}
+use Rattle.flow_model.specs.Plain.{Plain}
+use Rattle.flow_model.specs.Sound.{HaveDistinctNames}
+use Rattle.flow_model.specs.declared.board.Board.{Board}
+use Rattle.flow_model.specs.declared.board.Job.{Job}
+use Rattle.flow_model.specs.declared.board.Run.{Run}
+use Rattle.flow_model.specs.declared.plan.JobPlan.{JobPlan}
+use Rattle.flow_model.specs.declared.plan.RunPlan.{RunPlan}
+use Rattle.board_settled.proofs.Pairs.{found_in, in_found, in_kept, kept_in, laid_alone, no_some, same_some}
+
+-- the job at a place is planned there
+planned_by : (b : Board) (run_plan : RunPlan) (run : Run) (place : JobPlace) (o : Option JobPlan) (q : Option Job) (at : JobAt)
+    → (o >>= (λ plan. q >>= (λ job. Some (record { board = b; place = place; run_plan = run_plan; plan = plan; run = run; job = job })))) ≡ Some at → o ≡ Some at.plan
+planned_by b run_plan run place None q at h = absurd (no_some h)
+planned_by b run_plan run place (Some plan) None at h = absurd (no_some h)
+planned_by b run_plan run place (Some plan) (Some job) at h = ap (λ (x : JobAt). Some x.plan) (same_some h)
+
+needed_planned : (at need : JobAt) (number : ℕ) → needed_job at number ≡ Some need → slice_get at.run_plan.jobs (number - first_number at) ≡ Some need.plan
+needed_planned at need number h =
+    planned_by at.board at.run_plan at.run (record { run = at.place.run; job = number - first_number at }) (slice_get at.run_plan.jobs (number - first_number at))
+    (slice_get at.run.jobs (number - first_number at)) need h
+
+-- two jobs of one id that a job needs are one
+needed_once : (at a b : JobAt) (m n : ℕ) → HaveDistinctNames (λ j. Some j.id) at.run_plan.jobs → needed_job at m ≡ Some a → needed_job at n ≡ Some b → a.plan.id ≡ b.plan.id
+    → a ≡ b
+needed_once at a b m n distinct is_a is_b same =
+    let place : m - first_number at ≡ n - first_number at =
+    distinct (m - first_number at) (n - first_number at) a.plan b.plan b.plan.id (needed_planned at a m is_a) (needed_planned at b n is_b) (ap Some same) refl in
+    same_some (sym is_a ∙ ap (job_beside at) place ∙ is_b)
+
+-- a pair of jobs that are needed is that of one
+pair_of : (at : JobAt) (i : ℕ) (id : List ℕ) (v : Plain) → slice_get (map need_pair (filter_map (needed_job at) at.plan.needs)) i ≡ Some (id, v)
+    → (need : JobAt) × IsNeeded at need × (need.plan.id ≡ id) × (need_value need ≡ v)
+pair_of at i id v there =
+    let (need, listed, is) = mapped need_pair (filter_map (needed_job at) at.plan.needs) i (id, v) there in
+    let (k, number, named, has) = in_kept (needed_job at) at.plan.needs i need listed in
+    (need, record { place = k; number = number; named = named; there = has }, ap (λ (p : List ℕ × Plain). p.0) is, ap (λ (p : List ℕ × Plain). p.1) is)
+  where
+    mapped : {X Y : Type 0} (f : X → Y) (xs : List X) (i : ℕ) (y : Y) → slice_get (map f xs) i ≡ Some y → (x : X) × (slice_get xs i ≡ Some x) × (f x ≡ y)
+    mapped f [] i y h = absurd (no_some h)
+    mapped f (x ∷ xs) zero y h = (x, refl, same_some h)
+    mapped f (x ∷ xs) (suc i) y h = mapped f xs i y h
+
+needed_pair : (at : JobAt) (id : List ℕ) (v : Plain) → (need : JobAt) × IsNeeded at need × (need.plan.id ≡ id) × (need_value need ≡ v)
+    → IsIn (id, v) (map need_pair (filter_map (needed_job at) at.plan.needs))
+needed_pair at id v (need, needed, named, has) =
+    let (i, there) = kept_in (needed_job at) at.plan.needs needed.place needed.number need needed.named needed.there in
+    (i, mapped need_pair (filter_map (needed_job at) at.plan.needs) i need there ∙ ap (λ n. Some (n, need_value need)) named ∙ ap (λ w. Some (id, w)) has)
+  where
+    mapped : {X Y : Type 0} (f : X → Y) (xs : List X) (i : ℕ) (x : X) → slice_get xs i ≡ Some x → slice_get (map f xs) i ≡ Some (f x)
+    mapped f [] i x h = absurd (no_some h)
+    mapped f (y ∷ xs) zero x h = ap (λ z. Some (f z)) (same_some h)
+    mapped f (y ∷ xs) (suc i) x h = mapped f xs i x h
+
+pub needs_are_direct : NeedsAreDirect
+unfolding needs_value
+needs_are_direct at distinct = (refl, λ id v. (found id v, given id v))
+  where
+    pairs : List (List ℕ × Plain)
+    pairs = map need_pair (filter_map (needed_job at) at.plan.needs)
+
+    found : (id : List ℕ) (v : Plain) → value_at id (with_needs at at.plan.needs []) ≡ Some v → (need : JobAt) × IsNeeded at need × (need.plan.id ≡ id) × (need_value need ≡ v)
+    found id v is = let (i, there) = found_in id (map need_pair (filter_map (needed_job at) at.plan.needs)) v (sym (laid_alone id (map need_pair (filter_map (needed_job at) at.plan.needs))) ∙ is) in
+        pair_of at i id v there
+
+    given : (id : List ℕ) (v : Plain) → (need : JobAt) × IsNeeded at need × (need.plan.id ≡ id) × (need_value need ≡ v) → value_at id (with_needs at at.plan.needs []) ≡ Some v
+    given id v (need, needed, named, has) =
+        let ps = map need_pair (filter_map (needed_job at) at.plan.needs) in
+        let (i, there) = needed_pair at id v (need, needed, named, has) in
+        let (w, last) = in_found id v ps i there in
+        let (other, is_other, same, others) = found id w (laid_alone id ps ∙ last) in
+        let one : other ≡ need = needed_once at other need is_other.number needed.number distinct is_other.there needed.there (same ∙ sym named) in
+        laid_alone id ps ∙ last ∙ ap Some (sym others ∙ ap need_value one ∙ has)

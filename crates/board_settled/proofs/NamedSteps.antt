@@ -1,0 +1,71 @@
+-- The steps of a leg that are done, by their ids.
+use Rattle.std.proofs.Common.{◌≡◌, ℕ, zero, suc, Option, Some, None, List, [], ◌∷◌, refl, sym, ap, ◌∙◌}
+use Rattle.std.specs.List.{filter_map, slice_get, zip}
+use Rattle.board_decisions.specs.Contexts.{done_value, id_pair, step_pair, steps_value}
+use Rattle.board_decisions.specs.Place.{LegAt}
+use Rattle.board_settled.specs.Contexts.{IsDone, StepsAreDone, done_pairs}
+use Rattle.board_settled.specs.Pairs.{IsIn}
+use Rattle.flow_model.specs.Mapping.{value_at}
+use Rattle.flow_model.specs.Plain.{Plain}
+use Rattle.flow_model.specs.Sound.{HaveDistinctNames}
+use Rattle.flow_model.specs.declared.board.DoneStep.{DoneStep}
+use Rattle.flow_model.specs.declared.plan.StepPlan.{StepPlan}
+use Rattle.board_settled.proofs.Pairs.{found_in, in_found, in_kept, kept_in, laid_alone, no_some, same_some}
+
+-- what stands beside what
+beside : (xs : List StepPlan) (ys : List DoneStep) (k : ℕ) (x : StepPlan) (y : DoneStep) → slice_get (zip xs ys) k ≡ Some (x, y)
+    → (slice_get xs k ≡ Some x) × (slice_get ys k ≡ Some y)
+beside [] ys k x y h = absurd (no_some h)
+beside (a ∷ xs) [] k x y h = absurd (no_some h)
+beside (a ∷ xs) (b ∷ ys) zero x y h = let is = same_some h in (ap (λ (p : StepPlan × DoneStep). Some p.0) is, ap (λ (p : StepPlan × DoneStep). Some p.1) is)
+beside (a ∷ xs) (b ∷ ys) (suc k) x y h = beside xs ys k x y h
+
+both_beside : (xs : List StepPlan) (ys : List DoneStep) (k : ℕ) (x : StepPlan) (y : DoneStep) → slice_get xs k ≡ Some x → slice_get ys k ≡ Some y
+    → slice_get (zip xs ys) k ≡ Some (x, y)
+both_beside [] ys k x y h g = absurd (no_some h)
+both_beside (a ∷ xs) [] k x y h g = absurd (no_some g)
+both_beside (a ∷ xs) (b ∷ ys) zero x y h g = ap (λ (z : StepPlan). Some (z, b)) (same_some h) ∙ ap (λ (z : DoneStep). Some (x, z)) (same_some g)
+both_beside (a ∷ xs) (b ∷ ys) (suc k) x y h g = both_beside xs ys k x y h g
+
+-- an id and what is seen at it
+id_of : (o : Option (List ℕ)) (done : DoneStep) (id : List ℕ) (v : Plain) → id_pair o done ≡ Some (id, v) → (o ≡ Some id) × (done_value done ≡ v)
+id_of None done id v h = absurd (no_some h)
+id_of (Some own) done id v h = let is = same_some h in (ap (λ (p : List ℕ × Plain). Some p.0) is, ap (λ (p : List ℕ × Plain). p.1) is)
+
+done_of : (at : LegAt) (i : ℕ) (id : List ℕ) (v : Plain) → slice_get (filter_map step_pair (zip at.job_plan.steps at.leg.steps)) i ≡ Some (id, v)
+    → (done : DoneStep) × IsDone at id done × (done_value done ≡ v)
+done_of at i id v there =
+    let (k, both, stands, has) = in_kept step_pair (zip at.job_plan.steps at.leg.steps) i (id, v) there in
+    let (planned, done) = beside at.job_plan.steps at.leg.steps k both.0 both.1 stands in
+    let (named, is) = id_of both.0.id both.1 id v has in
+    (both.1, record { place = k; plan = both.0; planned = planned; named = named; there = done }, is)
+
+done_pair : (at : LegAt) (id : List ℕ) (v : Plain) → (done : DoneStep) × IsDone at id done × (done_value done ≡ v)
+    → IsIn (id, v) (filter_map step_pair (zip at.job_plan.steps at.leg.steps))
+done_pair at id v (done, is, has) =
+    kept_in step_pair (zip at.job_plan.steps at.leg.steps) is.place (is.plan, done) (id, v) (both_beside at.job_plan.steps at.leg.steps is.place is.plan done is.planned is.there)
+    (ap (λ (o : Option (List ℕ)). id_pair o done) is.named ∙ ap (λ (w : Plain). Some (id, w)) has)
+
+-- two steps that are done and have one id are one
+done_once : (at : LegAt) (id : List ℕ) (a b : DoneStep) → HaveDistinctNames (λ s. s.id) at.job_plan.steps → IsDone at id a → IsDone at id b → a ≡ b
+done_once at id a b distinct is_a is_b =
+    let place : is_a.place ≡ is_b.place = distinct is_a.place is_b.place is_a.plan is_b.plan id is_a.planned is_b.planned is_a.named is_b.named in
+    same_some (sym is_a.there ∙ ap (slice_get at.leg.steps) place ∙ is_b.there)
+
+pub steps_are_done : StepsAreDone
+unfolding steps_value
+steps_are_done at distinct = (refl, λ id v. (found id v, given id v))
+  where
+    found : (id : List ℕ) (v : Plain) → value_at id (done_pairs at) ≡ Some v → (done : DoneStep) × IsDone at id done × (done_value done ≡ v)
+    found id v is =
+        let ps = filter_map step_pair (zip at.job_plan.steps at.leg.steps) in
+        let (i, there) = found_in id ps v (sym (laid_alone id ps) ∙ is) in
+        done_of at i id v there
+
+    given : (id : List ℕ) (v : Plain) → (done : DoneStep) × IsDone at id done × (done_value done ≡ v) → value_at id (done_pairs at) ≡ Some v
+    given id v (done, is, has) =
+        let ps = filter_map step_pair (zip at.job_plan.steps at.leg.steps) in
+        let (i, there) = done_pair at id v (done, is, has) in
+        let (w, last) = in_found id v ps i there in
+        let (other, is_other, others) = found id w (laid_alone id ps ∙ last) in
+        laid_alone id ps ∙ last ∙ ap Some (sym others ∙ ap done_value (done_once at id other done distinct is_other is) ∙ has)

@@ -1,0 +1,129 @@
+-- What stands in pairs that are laid over one another.
+use Rattle.std.proofs.Common.{◌≡◌, ℕ, zero, suc, Bool, true, false, cond, Option, Some, None, List, [], ◌∷◌, Ordering, Less, refl, sym, ap, subst, ◌∙◌}
+use Rattle.std.proofs.lemmas.Bool.{true≢false}
+use Rattle.std.proofs.lemmas.Map.Text.{is_eq-slice_cmp}
+use Rattle.std.proofs.lemmas.Option.{none-some, same_Some}
+use Rattle.std.proofs.lemmas.Slice.Eq.{bytes_eq-Decides}
+use Rattle.std.specs.Cmp.Lexicographic.{slice_cmp}
+use Rattle.std.specs.List.{AllByRecursion, filter_map, cons_option, slice_get}
+use Rattle.std.specs.List.Sorted.{IsStrictlySortedBy}
+use Rattle.std.specs.Ordering.{nat_cmp, is_eq}
+use Rattle.board_settled.specs.Pairs.{IsIn, last_at}
+use Rattle.flow_model.specs.Mapping.{value_at, with_pair, keys_of, Ascends}
+use Rattle.flow_model.proofs.Lookups.{found_other, found_same}
+use Rattle.plan_values.specs.Env.{laid_over, or_below}
+
+-- ---- what is there
+
+pub no_some : {A : Type 0} {x : A} → None ≡ Some x → ⊥
+no_some {A} {x} h = none-some x h
+
+pub same_some : {A : Type 0} {x y : A} → Some x ≡ Some y → x ≡ y
+same_some {A} {x} {y} h = same_Some x y h
+
+-- ---- names
+
+-- names that compare equal are one
+pub name_is : (a b : List ℕ) → is_eq (slice_cmp nat_cmp a b) ≡ true → a ≡ b
+name_is a b h = (bytes_eq-Decides a b).0 (sym (is_eq-slice_cmp a b) ∙ h)
+
+name_same : (name : List ℕ) → is_eq (slice_cmp nat_cmp name name) ≡ true
+name_same name = is_eq-slice_cmp name name ∙ (bytes_eq-Decides name name).1 refl
+
+-- what is set at a key is found there, and nothing else changes
+set_found : {V : Type 0} (key k : List ℕ) (v : V) (ps : List (List ℕ × V)) → value_at key (with_pair k v ps) ≡ cond (is_eq (slice_cmp nat_cmp key k)) (Some v) (value_at key ps)
+set_found {V} key k v ps = by (is_eq (slice_cmp nat_cmp key k)) refl
+  where
+    by : (b : Bool) → is_eq (slice_cmp nat_cmp key k) ≡ b → value_at key (with_pair k v ps) ≡ cond b (Some v) (value_at key ps)
+    by true h = subst (λ (n : List ℕ). value_at n (with_pair k v ps) ≡ Some v) (sym (name_is key k h)) (found_same k v ps)
+    by false h = found_other key k v ps (λ same. true≢false (sym (name_same k) ∙ ap (λ (n : List ℕ). is_eq (slice_cmp nat_cmp n k)) (sym same) ∙ h))
+
+-- ---- pairs
+
+below_twice : {V : Type 0} (above below : Option V) (v : V) (b : Bool) → or_below above (cond b (Some v) below) ≡ or_below (or_below above (cond b (Some v) None)) below
+below_twice (Some w) below v b = refl
+below_twice None below v true = refl
+below_twice None below v false = refl
+
+-- the last pair with a name is found, else what was below
+pub last_found : {V : Type 0} (name : List ℕ) (ps below : List (List ℕ × V)) → value_at name (laid_over ps below) ≡ or_below (last_at name ps) (value_at name below)
+unfolding laid_over
+last_found name [] below = refl
+last_found name (p ∷ ps) below =
+    last_found name ps (with_pair p.0 p.1 below) ∙ ap (or_below (last_at name ps)) (set_found name p.0 p.1 below)
+    ∙ below_twice (last_at name ps) (value_at name below) p.1 (is_eq (slice_cmp nat_cmp name p.0))
+
+none_below : {V : Type 0} (o : Option V) → or_below o None ≡ o
+none_below None = refl
+none_below (Some v) = refl
+
+-- laid over nothing, the last pair with a name is what is found
+pub laid_alone : {V : Type 0} (name : List ℕ) (ps : List (List ℕ × V)) → value_at name (laid_over ps []) ≡ last_at name ps
+laid_alone name ps = last_found name ps [] ∙ none_below (last_at name ps)
+
+-- a key below all others is none of them
+none_under : {V : Type 0} (key : List ℕ) (ps : List (List ℕ × V)) → AllByRecursion (λ y. slice_cmp nat_cmp key y ≡ Less) (keys_of ps) → last_at key ps ≡ None
+none_under key [] h = refl
+none_under {V} key (p ∷ ps) h =
+    ap (λ (o : Option V). or_below o (cond (is_eq (slice_cmp nat_cmp key p.0)) (Some p.1) None)) (none_under key ps h.1)
+    ∙ ap (λ (o : Ordering). cond (is_eq o) (Some p.1) None) h.0
+
+-- where names ascend the last pair with a name is the first
+pub ascending_last : {V : Type 0} (name : List ℕ) (ps : List (List ℕ × V)) → Ascends ps → last_at name ps ≡ value_at name ps
+unfolding IsStrictlySortedBy
+ascending_last name [] h = refl
+ascending_last {V} name (p ∷ ps) h = by (is_eq (slice_cmp nat_cmp name p.0)) refl (ascending_last name ps h.1)
+  where
+    by : (b : Bool) → is_eq (slice_cmp nat_cmp name p.0) ≡ b → last_at name ps ≡ value_at name ps → or_below (last_at name ps) (cond b (Some p.1) None) ≡ cond b (Some p.1) (value_at name ps)
+    by true same others = ap (λ (o : Option V). or_below o (Some p.1)) (subst (λ (n : List ℕ). last_at n ps ≡ None) (sym (name_is name p.0 same)) (none_under p.0 ps h.0))
+    by false same others = none_below (last_at name ps) ∙ others
+
+first_in : {V : Type 0} (name : List ℕ) (p : List ℕ × V) (ps : List (List ℕ × V)) (v : V) (b : Bool) → is_eq (slice_cmp nat_cmp name p.0) ≡ b
+    → cond b (Some p.1) None ≡ Some v → IsIn (name, v) (p ∷ ps)
+first_in {V} name p ps v true same is =
+    (zero, ap (λ (n : List ℕ). Some (n, p.1)) (sym (name_is name p.0 same)) ∙ ap (λ (w : V). Some (name, w)) (same_some is))
+first_in name p ps v false same is = absurd (no_some is)
+
+-- what is found stands there
+pub found_in : {V : Type 0} (name : List ℕ) (ps : List (List ℕ × V)) (v : V) → last_at name ps ≡ Some v → IsIn (name, v) ps
+found_in name [] v is = absurd (no_some is)
+found_in {V} name (p ∷ ps) v is = by (last_at name ps) refl (found_in name ps v) is
+  where
+    by : (o : Option V) → last_at name ps ≡ o → (last_at name ps ≡ Some v → IsIn (name, v) ps) → or_below o (cond (is_eq (slice_cmp nat_cmp name p.0)) (Some p.1) None) ≡ Some v → IsIn (name, v) (p ∷ ps)
+    by (Some w) at inner h = let (i, there) = inner (at ∙ h) in (suc i, there)
+    by None at inner h = first_in name p ps v (is_eq (slice_cmp nat_cmp name p.0)) refl h
+
+-- where a pair stands, the name is found
+pub in_found : {V : Type 0} (name : List ℕ) (v : V) (ps : List (List ℕ × V)) (i : ℕ) → slice_get ps i ≡ Some (name, v) → (w : V) × (last_at name ps ≡ Some w)
+in_found name v [] i there = absurd (no_some there)
+in_found {V} name v (p ∷ ps) zero there =
+    let is : p ≡ (name, v) = same_some there in by (last_at name ps) (ap (λ (q : List ℕ × V). is_eq (slice_cmp nat_cmp name q.0)) is ∙ name_same name)
+  where
+    by : (o : Option V) → is_eq (slice_cmp nat_cmp name p.0) ≡ true → (w : V) × (or_below o (cond (is_eq (slice_cmp nat_cmp name p.0)) (Some p.1) None) ≡ Some w)
+    by (Some w) same = (w, refl)
+    by None same = (p.1, ap (λ (b : Bool). cond b (Some p.1) None) same)
+in_found {V} name v (p ∷ ps) (suc i) there =
+    let (w, at) = in_found name v ps i there in (w, ap (λ (o : Option V). or_below o (cond (is_eq (slice_cmp nat_cmp name p.0)) (Some p.1) None)) at)
+
+-- ---- items that some have
+
+-- what some item has stands there
+pub kept_in : {X Y : Type 0} (f : X → Option Y) (xs : List X) (k : ℕ) (x : X) (y : Y) → slice_get xs k ≡ Some x → f x ≡ Some y → IsIn y (filter_map f xs)
+kept_in f [] k x y there has = absurd (no_some there)
+kept_in {X} {Y} f (z ∷ xs) zero x y there has =
+    (zero, ap (λ (o : Option Y). slice_get (cons_option o (filter_map f xs)) zero) (ap f (same_some there) ∙ has))
+kept_in {X} {Y} f (z ∷ xs) (suc k) x y there has = by (f z) (kept_in f xs k x y there has)
+  where
+    by : (o : Option Y) → IsIn y (filter_map f xs) → IsIn y (cons_option o (filter_map f xs))
+    by None h = h
+    by (Some w) (i, h) = (suc i, h)
+
+-- what stands there some item has
+pub in_kept : {X Y : Type 0} (f : X → Option Y) (xs : List X) (i : ℕ) (y : Y) → slice_get (filter_map f xs) i ≡ Some y → (k : ℕ) × (x : X) × (slice_get xs k ≡ Some x) × (f x ≡ Some y)
+in_kept f [] i y there = absurd (no_some there)
+in_kept {X} {Y} f (z ∷ xs) i y there = by (f z) refl (λ n h. in_kept f xs n y h) i there
+  where
+    by : (o : Option Y) → f z ≡ o → ((n : ℕ) → slice_get (filter_map f xs) n ≡ Some y → (k : ℕ) × (x : X) × (slice_get xs k ≡ Some x) × (f x ≡ Some y)) → (i : ℕ) → slice_get (cons_option o (filter_map f xs)) i ≡ Some y → (k : ℕ) × (x : X) × (slice_get (z ∷ xs) k ≡ Some x) × (f x ≡ Some y)
+    by None is inner i h = let (k, x, at, has) = inner i h in (suc k, x, at, has)
+    by (Some w) is inner zero h = (zero, z, refl, is ∙ h)
+    by (Some w) is inner (suc i) h = let (k, x, at, has) = inner i h in (suc k, x, at, has)

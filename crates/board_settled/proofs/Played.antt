@@ -1,0 +1,149 @@
+-- What holds of each run, job and leg in play beside what is settled.
+use Rattle.std.proofs.Common.{◌≡◌, ℕ, zero, suc, ◌+◌, ◌-◌, Bool, true, false, List, [], ◌∷◌, ◌++◌, Option, Some, None, Ok, length, take, drop, slice_get, ap, sym, refl, ◌∙◌, arith}
+use Rattle.board_decisions.specs.Derived.{is_closed, is_open, is_ended, needs_have_ended}
+use Rattle.flow_model.specs.declared.board.DoneStep.{DoneStep}
+use Rattle.flow_model.specs.declared.board.Job.{Job}
+use Rattle.flow_model.specs.declared.board.JobState.{JobState}
+use Rattle.flow_model.specs.declared.board.JobState.TheVariants as job_state
+use Rattle.flow_model.specs.declared.board.Leg.{Leg}
+use Rattle.flow_model.specs.declared.board.LegState.{LegState}
+use Rattle.flow_model.specs.declared.board.LegState.TheVariants as leg_state
+use Rattle.flow_model.specs.declared.board.Run.{Run}
+use Rattle.flow_model.specs.declared.board.RunState.TheVariants as run_state
+use Rattle.flow_model.specs.declared.event.Outcome.{Outcome}
+use Rattle.flow_model.specs.declared.plan.JobPlan.{JobPlan}
+use Rattle.flow_model.specs.declared.plan.Plan.{Plan}
+use Rattle.flow_model.specs.declared.plan.RunPlan.{RunPlan}
+use Rattle.flow_model.specs.declared.plan.StepPlan.{StepPlan}
+use Rattle.flow_model.specs.declared.reply.StepCall.{StepCall}
+use Rattle.board_settled.specs.Sees.{Spot}
+use Rattle.board_settled.specs.Settled.{Answers, SettledLeg, SettledJob, shut, opened, steps_from, finish_of, next_call, spot_at, needs_of, legs_settled, job_settled, jobs_from, run_after}
+use Rattle.board_settled.proofs.Numbers.{before_run, before_job}
+
+-- ---- legs
+
+-- a leg that has not asked
+abbrev pub fresh_leg : Leg
+fresh_leg = record { state = leg_state.Fresh; stop = false; group = None; steps = []; outputs = [] }
+
+-- a job that was judged
+abbrev pub is_judged : JobState → Bool
+is_judged job_state.Unjudged = false
+is_judged job_state.Open = true
+is_judged (job_state.Shut result) = true
+
+-- a call of a leg is open, for its next step
+pub record InCall (spot : Spot) (done : List DoneStep) (call : Option StepCall) : Type 0 where
+  pub step : StepPlan
+  pub planned : slice_get spot.job.steps (length done) ≡ Some step
+  pub asked : StepCall
+  pub is_open : call ≡ Some asked
+  pub is_next : next_call spot done step ≡ Ok (Some asked)
+
+-- where a leg is in a call
+abbrev pub CallStands : Spot → List DoneStep → Option StepCall → LegState → Type 0
+CallStands spot done call leg_state.Fresh = Unit {0}
+CallStands spot done call leg_state.Waiting = Unit {0}
+CallStands spot done call leg_state.Admitted = Unit {0}
+CallStands spot done call (leg_state.Running worker true) = InCall spot done call
+CallStands spot done call (leg_state.Running worker false) = Unit {0}
+CallStands spot done call (leg_state.Ended result tolerated) = Unit {0}
+
+-- a leg that is Ended has done all its steps, and ended as is settled
+pub record EndsRightly (spot : Spot) (leg : Leg) (result : Outcome) (tolerated : Bool) : Type 0 where
+  pub all : length leg.steps ≡ length spot.job.steps
+  pub finish : finish_of spot leg.steps ≡ record { result = result; tolerated = tolerated; outputs = leg.outputs }
+
+-- A leg that is not told to stop and is in no group: what is settled goes on from the steps that it has done.
+pub record LegPlayed (answers : Answers) (spot : Spot) (call : Option StepCall) (leg : Leg) : Type 0 where
+  pub stop : leg.stop ≡ false
+  pub group : leg.group ≡ None
+  pub goes_on : steps_from answers spot leg.steps (drop (length leg.steps) spot.job.steps) ≡ steps_from answers spot [] spot.job.steps
+  pub calling : CallStands spot leg.steps call leg.state
+  pub ended : (result : Outcome) (tolerated : Bool) → leg.state ≡ leg_state.Ended result tolerated → EndsRightly spot leg result tolerated
+
+-- ---- jobs
+
+-- a job is in the state into which it is settled to be judged, if it was judged
+abbrev pub StateStands : SettledJob → List SettledLeg → JobState → Type 0
+StateStands given legs job_state.Unjudged = Unit {0}
+StateStands given legs job_state.Open = given ≡ opened legs
+StateStands given legs (job_state.Shut result) = given ≡ shut result
+
+-- A job, by those of its run that are settled before it, and the number of its first leg.
+pub record JobPlayed (answers : Answers) (run : RunPlan) (before : List SettledJob) (first : ℕ) (plan : JobPlan) (calls : ℕ → Option StepCall) (job : Job) : Type 0 where
+  pub state : StateStands (job_settled answers run first before plan) (legs_settled answers run plan (needs_of run before plan) first) job.state
+  pub untouched : is_open job.state ≡ false → (k : ℕ) (leg : Leg) → slice_get job.legs k ≡ Some leg → leg ≡ fresh_leg
+  pub legs : (k : ℕ) (leg : Leg) → slice_get job.legs k ≡ Some leg → LegPlayed answers (spot_at run plan (needs_of run before plan) first k) (calls (first + k)) leg
+
+-- A job of a run that is Closed was judged, and each leg of it has ended if it is Open.
+pub record JobOver (job : Job) : Type 0 where
+  pub judged : is_judged job.state ≡ true
+  pub ended : is_open job.state ≡ true → (k : ℕ) (leg : Leg) → slice_get job.legs k ≡ Some leg → is_ended leg.state ≡ true
+
+pub judged-or : (s : JobState) → (s ≡ job_state.Unjudged → ⊥) → is_judged s ≡ true
+judged-or job_state.Unjudged h = absurd (h refl)
+judged-or job_state.Open h = refl
+judged-or (job_state.Shut result) h = refl
+
+-- ---- runs
+
+-- the jobs that are settled of a run whose first leg has this number
+abbrev pub jobs_of : Answers → ℕ → RunPlan → List SettledJob
+jobs_of answers first run = jobs_from answers run first [] run.jobs
+
+-- A run whose first leg has this number, not told to stop and in no group.
+pub record RunPlayed (answers : Answers) (first : ℕ) (plan : RunPlan) (calls : ℕ → Option StepCall) (run : Run) : Type 0 where
+  pub stop : run.stop ≡ false
+  pub group : run.group ≡ None
+  pub jobs : (j : ℕ) (job_plan : JobPlan) (job : Job) → slice_get plan.jobs j ≡ Some job_plan → slice_get run.jobs j ≡ Some job
+      → JobPlayed answers plan (take j (jobs_of answers first plan)) (first + before_job j plan.jobs) job_plan calls job
+  pub needs : (j : ℕ) (job_plan : JobPlan) (job : Job) → slice_get plan.jobs j ≡ Some job_plan → slice_get run.jobs j ≡ Some job
+      → is_judged job.state ≡ true → needs_have_ended (job_plan.number - j) run job_plan ≡ true
+  pub closed : (result : Outcome) → run.state ≡ run_state.Closed result → (run_after (jobs_of answers first plan)).result ≡ Some result
+  pub over : is_closed run.state ≡ true → (j : ℕ) (job : Job) → slice_get run.jobs j ≡ Some job → JobOver job
+
+-- each run of a list
+abbrev pub Played : Answers → Plan → (ℕ → Option StepCall) → List Run → Type 0
+Played answers p calls runs =
+    (r : ℕ) (plan : RunPlan) (run : Run) → slice_get p.runs r ≡ Some plan → slice_get runs r ≡ Some run
+    → RunPlayed answers (before_run r p.runs) plan calls run
+
+-- ---- what is settled of a run, at a place
+
+-- the settled jobs of a run are as many as are planned
+pub jobs_size : (answers : Answers) (run : RunPlan) (first : ℕ) (before : List SettledJob) (jobs : List JobPlan) → length (jobs_from answers run first before jobs) ≡ length jobs
+jobs_size answers run first before [] = refl
+jobs_size answers run first before (job ∷ jobs) =
+    ap suc (jobs_size answers run (first + length job.legs) (before ++ job_settled answers run first before job ∷ []) jobs)
+
+append-none : (xs : List SettledJob) → xs ++ [] ≡ xs
+append-none [] = refl
+append-none (x ∷ xs) = ap (λ (ys : List SettledJob). x ∷ ys) (append-none xs)
+
+append-assoc : (xs : List SettledJob) (y : SettledJob) (zs : List SettledJob) → (xs ++ y ∷ []) ++ zs ≡ xs ++ y ∷ zs
+append-assoc [] y zs = refl
+append-assoc (x ∷ xs) y zs = ap (λ (ys : List SettledJob). x ∷ ys) (append-assoc xs y zs)
+
+-- the job at a place is settled by those before it
+pub job_item : (answers : Answers) (run : RunPlan) (first : ℕ) (before : List SettledJob) (jobs : List JobPlan) (j : ℕ) (plan : JobPlan) → slice_get jobs j ≡ Some plan
+    → slice_get (jobs_from answers run first before jobs) j
+    ≡ Some (job_settled answers run (first + before_job j jobs) (before ++ take j (jobs_from answers run first before jobs)) plan)
+job_item answers run first before [] j plan is = cc
+job_item answers run first before (x ∷ xs) zero plan is =
+    let same : x ≡ plan = some x plan is in
+    let none : first ≡ first + 0 = omega arith in
+    ap (λ (y : JobPlan). Some (job_settled answers run first before y)) same
+    ∙ ap (λ n. Some (job_settled answers run n before plan)) none
+    ∙ ap (λ (b : List SettledJob). Some (job_settled answers run (first + 0) b plan)) (sym (append-none before))
+  where
+    some : (a b : JobPlan) → Some a ≡ Some b → a ≡ b
+    some a b h = cc
+job_item answers run first before (x ∷ xs) (suc j) plan is =
+    let given : SettledJob = job_settled answers run first before x in
+    let later = job_item answers run (first + length x.legs) (before ++ given ∷ []) xs j plan is in
+    let number : first + length x.legs + before_job j xs ≡ first + (length x.legs + before_job j xs) = omega arith in
+    later
+    ∙ ap (λ n. Some (job_settled answers run n ((before ++ given ∷ []) ++ take j (jobs_from answers run (first + length x.legs) (before ++ given ∷ []) xs)) plan)) number
+    ∙ ap (λ (b : List SettledJob). Some (job_settled answers run (first + (length x.legs + before_job j xs)) b plan))
+    (append-assoc before given (take j (jobs_from answers run (first + length x.legs) (before ++ given ∷ []) xs)))

@@ -1,0 +1,91 @@
+-- The answers that a list records are those of its host.
+use Rattle.std.proofs.Common.{◌≡◌, ◌↔◌, ℕ, zero, suc, ◌==◌, ◌&&◌, Bool, true, false, List, [], ◌∷◌, Option, Some, None, IsTrue, slice_get, if◌then◌else◌, subst, ap, refl, sym, ◌∙◌, arith}
+use Rattle.std.proofs.lemmas.Bool.{true≢false}
+use Rattle.std.proofs.lemmas.Bool.Decides.{nat_tests}
+use Rattle.board_decisions.proofs.Lists.{and-left, and-right, and-both}
+use Rattle.flow_model.specs.declared.event.Answer.{Answer}
+use Rattle.flow_model.specs.declared.board.Board.{Board}
+use Rattle.flow_model.specs.declared.event.Entry.{Entry}
+use Rattle.flow_model.specs.declared.plan.Plan.{Plan}
+use Rattle.flow_model.specs.declared.reply.StepCall.{StepCall}
+use Rattle.board_settled.specs.Alone.{ByAnswers}
+use Rattle.board_settled.specs.Records.{listed, recorded_answers, TellsSettled}
+use Rattle.board_settled.specs.Agrees.{IsSettled}
+use Rattle.board_settled.specs.Settled.{settled}
+use Rattle.status_table.specs.Play.{Play}
+use Rattle.status_table.specs.Runs.{StopsAt, after, after_from, new_play}
+use Rattle.status_table.specs.declared.fault.EventFault.{EventFault}
+use Rattle.step_host.specs.Replay.{IsRecorded, IsRefusedAt, recorded}
+use Rattle.board_decisions.proofs.Lists.{same_some, no_some}
+use Rattle.step_host.specs.Script.{Line, IsListed}
+
+-- what is given is listed
+pub is_listed : (lines : List Line) (leg step : ℕ) (a : Answer) → listed lines leg step ≡ Some a → IsListed lines leg step a
+is_listed [] leg step a h = absurd (no_some a h)
+is_listed (line ∷ lines) leg step a h = by ((line.0 == leg) && (line.1 == step)) refl h (is_listed lines leg step a)
+  where
+    made : ℕ → ℕ → Answer → Option Line
+    made l s x = Some (l, s, x)
+
+    by : (c : Bool) → ((line.0 == leg) && (line.1 == step)) ≡ c → (if c then Some line.2 else listed lines leg step) ≡ Some a
+        → (listed lines leg step ≡ Some a → IsListed lines leg step a) → IsListed (line ∷ lines) leg step a
+    by true is e more =
+        let left = and-left (line.0 == leg) (line.1 == step) is in
+        let right = and-right (line.0 == leg) (line.1 == step) is in
+        let of_leg : line.0 ≡ leg = grind (arith, nat_tests, left) in
+        let of_step : line.1 ≡ step = grind (arith, nat_tests, right) in
+        (0, ap (λ l. Some (l, line.1, line.2)) of_leg ∙ ap (λ s. Some (leg, s, line.2)) of_step ∙ ap (λ (x : Answer). Some (leg, step, x)) (same_some line.2 a e))
+    by false is e more = let later = more e in (suc later.0, later.1)
+
+-- what is listed is given, or another
+pub is_given : (lines : List Line) (leg step : ℕ) (a : Answer) → listed lines leg step ≡ None → IsListed lines leg step a → ⊥
+is_given [] leg step a h is = no_some (leg, step, a) is.1
+is_given (line ∷ lines) leg step a h is = by ((line.0 == leg) && (line.1 == step)) refl h (is_given lines leg step a) is.0 is.1
+  where
+    by : (c : Bool) → ((line.0 == leg) && (line.1 == step)) ≡ c → (if c then Some line.2 else listed lines leg step) ≡ None
+        → (listed lines leg step ≡ None → IsListed lines leg step a → ⊥) → (k : ℕ) → slice_get (line ∷ lines) k ≡ Some (leg, step, a) → ⊥
+    by true test e more k at = no_some line.2 (sym e)
+    by false test e more (suc k) at = more e (k, at)
+    by false test e more zero at =
+        let same = same_some line (leg, step, a) at in
+        let of_leg = ap (λ (x : Line). x.0) same in
+        let of_step = ap (λ (x : Line). x.1) same in
+        let left : (line.0 == leg) ≡ true = grind (arith, nat_tests, of_leg) in
+        let right : (line.1 == step) ≡ true = grind (arith, nat_tests, of_step) in
+        true≢false (sym (and-both (line.0 == leg) (line.1 == step) left right) ∙ test)
+
+-- ---- a record
+
+-- a table on which all is new that stops at an entry refuses the list there
+pub stops_refused : (p : Plan) (start : Play) (es : List Entry) (stop : ℕ × EventFault) (left : Board) → start ≡ new_play p
+    → StopsAt start.plan start.board es stop.0 stop.1 left → IsRefusedAt p es stop
+stops_refused p start es stop left new at named = (left, subst (λ (x : Play). StopsAt x.plan x.board es stop.0 stop.1 left) new at)
+
+module _ (admits : StepCall → Answer → Type 0) (declines : StepCall → Type 0) (p : Plan) (es : List Entry)
+    (own : (call : StepCall) (a : Answer) → admits call a ↔ IsRecorded p es call a)
+    (alone : (call : StepCall) (one other : Answer) → admits call one → admits call other → one ≡ other)
+    (silent : (call : StepCall) → declines call → (a : Answer) → admits call a → ⊥) where
+  -- what the host admits is what the list records
+  admitted : (call : StepCall) (a : Answer) → admits call a → recorded_answers p es call ≡ Some a
+  admitted call a is = by (recorded_answers p es call) refl
+    where
+      by : (o : Option Answer) → recorded_answers p es call ≡ o → o ≡ Some a
+      by None e = absurd (is_given (recorded p es) call.leg call.step a e ((own call a).0 is))
+      by (Some x) e = ap (λ (y : Answer). Some y) (alone call x a ((own call x).1 (is_listed (recorded p es) call.leg call.step x e)) is)
+
+  -- and a call that it declines has none
+  declined : (call : StepCall) → declines call → recorded_answers p es call ≡ None
+  declined call is = by (recorded_answers p es call) refl
+    where
+      by : (o : Option Answer) → recorded_answers p es call ≡ o → o ≡ None
+      by None e = refl
+      by (Some x) e = absurd (silent call is x ((own call x).1 (is_listed (recorded p es) call.leg call.step x e)))
+
+  -- what is told over the host of the list's answers is told of the list
+  pub tells_settled : (start : Play) (left seen : Board) (holds : Bool) → start ≡ new_play p → after_from start.plan start.board es ≡ Some left → seen ≡ left
+      → ByAnswers admits declines (λ answers. IsTrue holds ↔ IsSettled (settled p answers) seen) → TellsSettled p es holds
+  tells_settled start left seen holds new ran lent tells b is =
+      let led : after p es ≡ Some left = subst (λ (x : Play). after_from x.plan x.board es ≡ Some left) new ran in
+      let same : seen ≡ b = lent ∙ same_some left b (sym led ∙ is) in
+      subst (λ (x : Board). IsTrue holds ↔ IsSettled (settled p (recorded_answers p es)) x) same
+      (tells (recorded_answers p es) (record { admitted = admitted; declined = declined }))

@@ -1,0 +1,5 @@
+use Rattle.board_settled.proofs.NamedSteps.{steps_are_done}
+use Rattle.board_settled.proofs.contexts.steps_are_done.Goals as goal
+
+pub returns : goal.returns
+returns c = steps_are_done

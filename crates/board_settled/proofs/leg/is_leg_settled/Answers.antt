@@ -1,0 +1,23 @@
+use Rattle.std.proofs.Common.{Option, sym, subst}
+use Rattle.std.proofs.lemmas.Bool.{true≢false}
+use Rattle.std.proofs.lemmas.Result.{IfOk-weaker}
+use Rattle.board_decisions.specs.Seen.{job_seen}
+use Rattle.flow_model.specs.declared.board.Leg.{Leg}
+use Rattle.board_settled.specs.Alone.{planned, StepsCome}
+use Rattle.board_settled.proofs.LegSteps.{unended, ends_settled}
+use Rattle.board_settled.proofs.leg.is_leg_settled.Goals as goal
+
+pub returns-in_default : goal.returns-in_default
+returns-in_default g c = λ answers are.
+    let spot = planned c.args.number (job_seen c.args.at.now) c.args.place in (
+      (λ h. absurd (true≢false (sym h))),
+      (λ settled. absurd (unended answers spot c.args.leg.now (subst (λ (o : Option Leg). StepsCome answers spot o) c.in_default.is (c.in_ok-played.ensures answers are)) settled)),
+    )
+
+pub returns : goal.returns
+returns g c =
+    IfOk-weaker c.ends_as.result _ _ (λ yes h answers are.
+    let spot = planned c.args.number (job_seen c.args.at.now) c.args.place in
+    let come = subst (λ (o : Option Leg). StepsCome answers spot o) c.in-Some.is (c.in_ok-played.ensures answers are) in
+    let same = ends_settled answers c.args.number (job_seen c.args.at.now) c.args.place c.in-Some.played c.requires come c.args.leg.now in
+    ((λ t. same.0 (h.0 t)), (λ s. h.1 (same.1 s)))) c.ends_as.ensures

@@ -1,0 +1,17 @@
+pub mod Agrees
+pub mod Alone
+pub mod CallLaws
+pub mod Contexts
+pub mod Decided
+pub mod DecisionLaws
+pub mod Free
+pub mod Grouped
+pub mod Groups
+pub mod Histories
+pub mod Pairs
+pub mod Quiet
+pub mod Records
+pub mod Runs
+pub mod Sees
+pub mod Settled
+pub mod Variables

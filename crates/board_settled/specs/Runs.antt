@@ -1,0 +1,35 @@
+-- Runs on a board on which nothing is told to stop, and that are held against what is settled.
+use Rattle.std.specs.Prelude.{◌≡◌, ℕ, ◌+◌, false, Option, Some, None, slice_get}
+use Rattle.board_decisions.specs.Place.{RunAt}
+use Rattle.flow_model.specs.Rules.{IsPlan}
+use Rattle.flow_model.specs.Sound.{Each}
+use Rattle.flow_model.specs.declared.board.Board.{Board}
+use Rattle.flow_model.specs.declared.board.Run.{Run}
+use Rattle.flow_model.specs.declared.plan.Plan.{Plan}
+use Rattle.flow_model.specs.declared.plan.RunPlan.{RunPlan}
+use Rattle.board_settled.specs.Agrees.{RunIsSettled}
+use Rattle.board_settled.specs.Settled.{SettledRun, leg_count}
+use Rattle.board_settled.specs.Quiet.{ended_in_order}
+use Rattle.status_table.specs.Lawful.{MembersFit}
+use Rattle.status_table.specs.Shape.{HasShape}
+
+-- A board of a plan on which each leg stands rightly, no run is told to stop, and the legs that are Ended stand among
+-- the ends in the order of their numbers.
+pub record IsQuiet (p : Plan) (b : Board) : Type 0 where
+  pub rules : IsPlan p
+  pub shape : HasShape p b
+  pub fits : MembersFit p b
+  pub ends : b.ends ≡ ended_in_order b
+  pub runs : Each (λ run. run.stop ≡ false) b.runs
+
+-- A run of such a board, by its number.
+pub record RunStands (r : ℕ) (at : RunAt) : Type 0 where
+  pub whole : Plan
+  pub board : IsQuiet whole at.board
+  pub planned : slice_get whole.runs r ≡ Some at.plan
+  pub in_board : slice_get at.board.runs r ≡ Some at.run
+
+-- A run is settled, and the first leg after those of its jobs has the given number, where its own first has another; or it is not.
+abbrev pub RunComes : ℕ → RunPlan → SettledRun → Run → Option ℕ → Type 0
+RunComes first plan given run (Some next) = RunIsSettled given run × (next ≡ first + leg_count plan.jobs)
+RunComes first plan given run None = RunIsSettled given run → ⊥

@@ -1,0 +1,6 @@
+mod Ascending
+mod Entries
+mod NewRows
+mod Parts
+mod ReadingLaws
+mod TextLaws

@@ -1,0 +1,10 @@
+use Rattle.std.proofs.Common.{◌≡◌, ◌++◌, drop}
+use Rattle.board_timeline.specs.Layout.{after_legs, legs_shapes}
+use Rattle.board_timeline.proofs.layout.add_legs.Given as goal
+
+abbrev pub invariant-loop-leg : goal.invariant-loop-leg
+invariant-loop-leg l = record {
+  left : l.shapes.items ++ legs_shapes l.lines l.rows l.job l.at (drop l._leg-index l.legs)
+      ≡ l.initial.shapes.items ++ legs_shapes l.lines l.rows l.job l.fn.first l.legs;
+  end : after_legs l.job l.at (drop l._leg-index l.legs) ≡ after_legs l.job l.fn.first l.legs;
+}

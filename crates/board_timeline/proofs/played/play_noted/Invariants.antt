@@ -1,0 +1,17 @@
+use Rattle.std.proofs.Common.{◌≡◌, ◌≤◌, ◌+◌, Some, drop, take}
+use Rattle.status_table.specs.Runs.{after_from, most_entries, new_board}
+use Rattle.board_timeline.specs.Played.{track_from}
+use Rattle.board_timeline.proofs.played.play_noted.Given as goal
+
+-- the plan is the one that was passed, the board the one after the entries so far, and the rows are those that were noted of them
+abbrev pub invariant-loop-place : goal.invariant-loop-place
+invariant-loop-place g l =
+    let plan = g.T.Table.plan in
+    let board = g.T.Table.board in
+    record {
+      same : plan l.table ≡ plan l.fn.table;
+      played : after_from (plan l.fn.table) (board l.fn.table) (take l.place l.entries) ≡ Some (board l.table);
+      noted : track_from (plan l.fn.table) l.plan (board l.table) (l.place + 2) l.track (drop l.place l.entries)
+          ≡ track_from (plan l.fn.table) l.plan (board l.fn.table) 2 l.fn.track l.entries;
+      few : board l.fn.table ≡ new_board (plan l.fn.table) → l.place ≤ most_entries;
+    }

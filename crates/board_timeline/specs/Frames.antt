@@ -1,0 +1,34 @@
+-- Where bars and marks stand: the lines of a record have a width together, of which each has a share, by whole numbers.
+use Rattle.std.specs.Prelude.{ℕ, ◌+◌, ◌-◌, ◌*◌, ◌/◌, nat_lt, if◌then◌else◌}
+use Rattle.board_timeline.specs.declared.frames.Lane.{Lane}
+use Rattle.board_timeline.specs.declared.shape.Frame.{Frame}
+
+-- So many lines of a record that has so many.
+abbrev pub share : ℕ → ℕ → ℕ
+share parts whole = parts * 900 / whole
+
+-- Where a line begins; the first is that of the plan.
+abbrev pub place_of : ℕ → ℕ → ℕ
+place_of lines line = 430 + share (line - 1) lines
+
+-- How wide a bar is, which is seen however short it is.
+abbrev pub width_of : ℕ → ℕ → ℕ
+width_of left right = if nat_lt left right then right - left else 1
+
+-- From the beginning of a line to that of another.
+abbrev pub bar_frame : Lane → ℕ → ℕ → Frame
+bar_frame lane from to = record {
+  left = place_of lane.lines from;
+  top = lane.top;
+  width = width_of (place_of lane.lines from) (place_of lane.lines to);
+  height = lane.height;
+}
+
+-- At the beginning of a line.
+abbrev pub mark_frame : Lane → ℕ → ℕ → Frame
+mark_frame lane line width =
+    record { left = place_of lane.lines line; top = lane.top; width = width; height = lane.height }
+
+-- The whole record.
+abbrev pub lane_frame : Lane → Frame
+lane_frame lane = record { left = 430; top = lane.top; width = 900; height = lane.height }

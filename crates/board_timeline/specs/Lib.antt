@@ -1,0 +1,15 @@
+pub mod Bars
+pub mod Escaped
+pub mod Frames
+pub mod Laws
+pub mod Layout
+pub mod Legend
+pub mod Looks
+pub mod Noted
+pub mod Phases
+pub mod Picture
+pub mod Played
+pub mod Reading
+pub mod Rows
+pub mod Texts
+pub mod Words

@@ -1,0 +1,53 @@
+-- What is noted of a record: the entry after k others is that of line k + 2, since the plan's line is the first.
+use Rattle.std.specs.Prelude.{◌≡◌, ℕ, suc, List, [], ◌∷◌, Option, Some, None, Result, Ok, Err}
+use Rattle.flow_model.specs.declared.board.Board.{Board}
+use Rattle.flow_model.specs.declared.event.Entry.{Entry}
+use Rattle.flow_model.specs.declared.plan.Plan.{Plan}
+use Rattle.flow_model.specs.declared.reply.Reply.{Reply}
+use Rattle.status_table.specs.Answers.{Refuses}
+use Rattle.status_table.specs.Row.{Row, row}
+use Rattle.status_table.specs.Runs.{StopsAt, after_from, new_board}
+use Rattle.status_table.specs.declared.fault.EventFault.{EventFault}
+use Rattle.board_timeline.specs.Noted.{new_track, noted, touched}
+use Rattle.board_timeline.specs.declared.noted.Track.{Track}
+
+-- ---- the rows after entries, if none of them is refused
+
+abbrev pub then_noted : Row → (Board → Reply → Option Track) → Option Track
+then_noted (Ok x) rest = rest x.0 x.1
+then_noted (Err refusal) rest = None
+
+-- Entries from a line on, on this board and with these rows. The plan is that of the table and that by which runs, jobs and legs
+-- are found.
+abbrev pub track_from : Plan → Plan → Board → ℕ → Track → List Entry → Option Track
+track_from table plan board line track [] = Some track
+track_from table plan board line track (e ∷ es) =
+    then_noted (row table board e.worker e.event) (λ next reply.
+    track_from table plan next (suc line) (noted plan next line (touched e.event) reply track) es)
+
+-- The entries of a record.
+abbrev pub track_of : Plan → List Entry → Option Track
+track_of plan es = track_from plan plan (new_board plan) 2 (new_track plan) es
+
+-- ---- what the code answers
+
+-- An entry is played and noted.
+pub record NotesEntry (table plan : Plan) (line : ℕ) (old : Board) (track : Track) (e : Entry) (new : Board) (track' : Track) : Type 0 where
+  pub reply : Reply
+  pub played : row table old e.worker e.event ≡ Ok (new, reply)
+  pub noted : track' ≡ noted plan new line (touched e.event) reply track
+
+-- Or the table refuses it, or there was no memory.
+abbrev pub PlaysNoted : Plan → Plan → ℕ → Board → Track → Entry → Result (Unit {0}) EventFault → Board → Track → Type 0
+PlaysNoted table plan line old track e (Ok done) new track' = NotesEntry table plan line old track e new track'
+PlaysNoted table plan line old track e (Err f) new track' = Refuses (row table old e.worker e.event) f
+
+-- All entries are played, which leads to the new board, and noted.
+pub record NotesAll (table plan : Plan) (old : Board) (track : Track) (es : List Entry) (new : Board) (track' : Track) : Type 0 where
+  pub played : after_from table old es ≡ Some new
+  pub noted : track_from table plan old 2 track es ≡ Some track'
+
+-- Or they stop at one, on some board.
+abbrev pub RunsNoted : Plan → Plan → Board → Track → List Entry → Result (Unit {0}) (ℕ × EventFault) → Board → Track → Type 0
+RunsNoted table plan old track es (Ok done) new track' = NotesAll table plan old track es new track'
+RunsNoted table plan old track es (Err stop) new track' = (board : Board) × StopsAt table old es stop.0 stop.1 board

@@ -1,5 +1,0 @@
-use Rattle.std.proofs.Common.{length}
-use Rattle.board_verbs.proofs.both_boards.+return_unasked.Given as goal
-
-abbrev pub decreases-return_unasked : goal.decreases-return_unasked
-decreases-return_unasked g l = length l.entries.now

@@ -1,6 +1,0 @@
-mod Agreeing
-mod Becoming
-mod Going
-mod Grouping
-mod Members
-mod Noting

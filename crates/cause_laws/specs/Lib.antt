@@ -1,4 +1,0 @@
-pub mod Agrees
-pub mod Becomes
-pub mod Made
-pub mod Stands

@@ -1,0 +1,109 @@
+//! `actrun eval`: the value of an expression.
+
+ghost use Rattle.std.specs.Prelude.{◌≡◌, IfOk, string_bytes};
+ghost use Rattle.serde_json.specs.Written.{compact_text};
+ghost use Rattle.expr_reader.specs.View.{view as tree_view};
+ghost use Rattle.flow_model.specs.Json.{json_of as json_of_value};
+ghost use Rattle.command_print.specs.Eval as spec;
+ghost use Rattle.command_print.specs.Eval.{EvalTells};
+
+use command_io::contexts::{Unread, file_contexts};
+use command_io::stream::{Sink, Source};
+use command_io::tell::{refuse_source, tell};
+use command_io::trouble::{Trouble, contexts_trouble};
+use expr_reader::{ExprFault, Tree, read_expr};
+use expr_value::Status;
+use flow_model::{Mapping, Value, ValueFault, into_json};
+use std::alloc::{AllocError, Global};
+
+/// A fault of an expression's text, or want of memory.
+fn expression_trouble(fault: ExprFault) -> Trouble
+    ensures { result ≡ spec.expression_trouble fault }
+{
+    if fault.is_memory() {
+        return Trouble::Memory;
+    }
+    Trouble::NoExpression(fault)
+}
+
+/// The tree of an expression.
+fn tree_of(alloc: Global, expression: &str) -> Result<Tree, Trouble>
+    ensures { spec.IsTree expression.now result }
+{
+    match read_expr(alloc, expression) {
+        Ok(tree) => Ok(tree),
+        Err(fault) => Err(expression_trouble(fault)),
+    }
+}
+
+/// The value of a tree over contexts.
+fn value_of(alloc: Global, contexts: &Mapping<Value>, tree: &Tree) -> Result<Value, Trouble>
+    ensures { spec.IsValue contexts.now (tree_view tree.now) result }
+{
+    match expr_value::eval(alloc, tree, contexts, Status::Success) {
+        Ok(value) => Ok(value),
+        Err(ValueFault::Memory) => Err(Trouble::Memory),
+        Err(fault) => Err(Trouble::NoValue(fault)),
+    }
+}
+
+/// The compact JSON of a value.
+fn compact_json(alloc: Global, value: Value) -> Result<String, AllocError>
+    ensures { IfOk result (λ text. string_bytes text ≡ compact_text (json_of_value value)) }
+{
+    let json = into_json(alloc, value)?;
+    json.to_string(alloc)
+}
+
+/// The line of a value: its compact JSON, and a newline.
+fn line_of(alloc: Global, value: Value) -> Result<String, AllocError>
+    ensures { IfOk result (λ line. string_bytes line ≡ spec.value_line value) }
+{
+    let mut line = compact_json(alloc, value)?;
+    line.push_str("\n")?;
+    Ok(line)
+}
+
+/// The contexts that the bytes of the file of that name give.
+fn contexts_of(alloc: Global, file: &str, bytes: &[u8]) -> Result<Mapping<Value>, Trouble>
+    ensures { spec.HasContexts file.now bytes.now result }
+{
+    match file_contexts(alloc, bytes) {
+        Ok(contexts) => Ok(contexts),
+        Err(Unread::Fault(fault)) => Err(contexts_trouble(alloc, file, fault)),
+        Err(Unread::Memory) => Err(Trouble::Memory),
+    }
+}
+
+/// The line of the value of an expression over the contexts that the bytes of a file give.
+fn answer(alloc: Global, file: &str, bytes: &[u8], expression: &str) -> Result<String, Trouble>
+    ensures { spec.GivesValue file.now expression.now bytes.now result }
+{
+    let contexts = contexts_of(alloc, file, bytes)?;
+    let tree = tree_of(alloc, expression)?;
+    let value = value_of(alloc, &contexts, &tree)?;
+    match line_of(alloc, value) {
+        Ok(line) => Ok(line),
+        Err(_) => Err(Trouble::Memory),
+    }
+}
+
+/// Reads the file of contexts to its end and writes the value of an expression over them, as compact JSON and a
+/// newline, to `out`; or writes why there is none to `err`, in one line that may name `file`. Status functions see
+/// success. The answer is the exit status.
+pub fn eval<I: Source, O: Sink, E: Sink>(
+    alloc: Global,
+    file: &str,
+    input: &mut I,
+    expression: &str,
+    out: &mut O,
+    err: &mut E,
+) -> u8
+    ensures { EvalTells file.now expression.now (I.seen input.old) (I.seen input.new)
+        (O.seen out.old) (O.seen out.new) (E.seen err.old) (E.seen err.new) result }
+{
+    match input.read_all(alloc) {
+        Ok(bytes) => tell(answer(alloc, file, bytes.as_slice(), expression), out, err),
+        Err(fault) => refuse_source(err, fault),
+    }
+}

@@ -1,0 +1,307 @@
+//! `actrun lint`: what a person should know of workflows' files, place by place.
+
+ghost use Rattle.std.specs.Prelude.{◌≡◌, IfOk, OnOk, flat_map, map, string_bytes};
+ghost use Rattle.std.specs.List.{list_any};
+ghost use Rattle.plan_assembler.specs.declared.choice.Choice.TheVariants.{All};
+ghost use Rattle.plan_text.specs.BoardText.{Adds};
+ghost use Rattle.command_io.specs.Files.{file_seen, no_contexts as no_contexts_of};
+ghost use Rattle.command_print.specs.Lint as spec;
+ghost use Rattle.command_print.specs.Lint.{LintTells};
+ghost use Rattle.command_print.specs.Planning.{ComesTo, ComesToNone, Finds};
+
+use crate::list::plan_of_all;
+use crate::replay::tell_with;
+use crate::shown::add_line;
+use command_io::files::{Content, NamedSource, read_files};
+use command_io::stream::{Sink, Source};
+use command_io::tell::refuse_source;
+use command_io::trouble::{DONE, REFUSED, Trouble};
+use flow_lint::{Note, flow_note, hints, plan_note};
+use flow_model::Sequence;
+use std::alloc::{AllocError, Global};
+use std::marker::Model;
+use std::slice;
+
+/// What is told of a file: its lines, and whether one of them says that the file is refused.
+#[derive(Drop)]
+struct Told {
+    refused: bool,
+    text: String,
+}
+
+impl Model for Told {
+    ghost use Rattle.std.specs.Prelude.{Bool, List, ℕ, string_bytes};
+
+    ghost Value = { Bool × List ℕ };
+
+    ghost view = { λ t. (t.refused, string_bytes t.text) };
+}
+
+/// A place as it is shown.
+fn shown_path(path: &str) -> &str
+    ensures { result.now ≡ spec.shown_path path.now }
+{
+    if path.is_empty() { "." } else { path }
+}
+
+/// What is told of a note.
+fn note_words(alloc: Global, file: &str, note: &Note) -> Result<String, AllocError>
+    ensures { IfOk result (λ words. string_bytes words ≡ spec.note_words file.now note.now) }
+{
+    let path = shown_path(note.path.as_str());
+    let sentence = note.sentence.as_str();
+    format!(in alloc; "{file}: {path}: {sentence}")
+}
+
+/// Adds the line of a note.
+fn add_note(alloc: Global, text: &mut String, file: &str, note: &Note) -> Result<(), AllocError>
+    ensures { OnOk result (Adds text.old text.new (spec.note_line file.now note.now)) }
+{
+    let words = note_words(alloc, file, note)?;
+    add_line(text, words.as_str())
+}
+
+/// Adds the lines of notes.
+fn add_notes(alloc: Global, text: &mut String, file: &str, notes: &[Note]) -> Result<(), AllocError>
+    ensures { OnOk result (Adds text.old text.new (spec.hint_lines file.now notes.now)) }
+{
+    for note in notes {
+        add_note(alloc, text, file, note)?;
+    }
+    Ok(())
+}
+
+/// Adds what refuses nothing, but for the place of which something is told already.
+fn add_hints(alloc: Global, text: &mut String, file: &Content, told: &str) -> Result<(), AllocError>
+    ensures { OnOk result (spec.AddsHints file.now.name text.old text.new) }
+{
+    let notes = hints(alloc, file.bytes(), told)?;
+    add_notes(alloc, text, file.name(), notes.as_slice())
+}
+
+/// The name of that for which a file comes to no plan.
+fn fault_text(alloc: Global, trouble: &Trouble) -> Result<String, AllocError>
+    ensures { IfOk result (λ text. string_bytes text ≡ spec.fault_text trouble.now) }
+{
+    match trouble {
+        Trouble::NoFlow(_, fault) => String::from_str(alloc, fault.name()),
+        Trouble::NotPlanned(fault) => format!(in alloc; "{fault}"),
+        Trouble::NoExpression(_)
+        | Trouble::NoValue(_)
+        | Trouble::NoContexts(_, _)
+        | Trouble::NoPlan(_)
+        | Trouble::NoEntry(_)
+        | Trouble::Refused(_, _)
+        | Trouble::Words
+        | Trouble::Io
+        | Trouble::Memory => Ok(String::new(alloc)),
+    }
+}
+
+/// What is to be known of that for which a file comes to no plan.
+fn note_of(alloc: Global, file: &Content, trouble: &Trouble) -> Result<Note, AllocError>
+    ensures { IfOk result (λ note. spec.IsPlace file.now trouble.now note.path) }
+{
+    match trouble {
+        Trouble::NoFlow(_, fault) => flow_note(alloc, file.bytes(), fault),
+        Trouble::NotPlanned(fault) => plan_note(alloc, file.name(), file.bytes(), *fault),
+        Trouble::NoExpression(_)
+        | Trouble::NoValue(_)
+        | Trouble::NoContexts(_, _)
+        | Trouble::NoPlan(_)
+        | Trouble::NoEntry(_)
+        | Trouble::Refused(_, _)
+        | Trouble::Words
+        | Trouble::Io
+        | Trouble::Memory => Err(AllocError),
+    }
+}
+
+/// What is told of that for which a file comes to no plan.
+fn refusing_words(
+    alloc: Global,
+    file: &str,
+    trouble: &Trouble,
+    note: &Note,
+) -> Result<String, AllocError>
+    ensures { IfOk result (λ words.
+        string_bytes words ≡ spec.refusing_words file.now (spec.fault_text trouble.now) note.now) }
+{
+    let fault = fault_text(alloc, trouble)?;
+    let path = shown_path(note.path.as_str());
+    let sentence = note.sentence.as_str();
+    format!(in alloc; "{file}: {path}: refused, {fault}: {sentence}")
+}
+
+/// The line of that for which a file comes to no plan.
+fn refusing_line(
+    alloc: Global,
+    file: &str,
+    trouble: &Trouble,
+    note: &Note,
+) -> Result<String, AllocError>
+    ensures { IfOk result (λ text.
+        string_bytes text ≡ spec.refusing_line file.now (spec.fault_text trouble.now) note.now) }
+{
+    let words = refusing_words(alloc, file, trouble, note)?;
+    let mut text = String::new(alloc);
+    add_line(&mut text, words.as_str())?;
+    Ok(text)
+}
+
+/// The lines of a file that comes to no plan, for this trouble.
+fn refused(alloc: Global, file: &Content, trouble: &Trouble) -> Result<String, AllocError>
+    ensures { IfOk result (λ text. spec.Refuses file.now trouble.now (string_bytes text)) }
+{
+    let note = note_of(alloc, file, trouble)?;
+    let mut text = refusing_line(alloc, file.name(), trouble, &note)?;
+    add_hints(alloc, &mut text, file, note.path.as_str())?;
+    Ok(text)
+}
+
+/// The lines of a file that comes to a plan.
+fn passed(alloc: Global, file: &Content) -> Result<String, AllocError>
+    ensures { IfOk result (λ text. spec.Passes file.now (string_bytes text)) }
+{
+    let mut text = String::new(alloc);
+    add_hints(alloc, &mut text, file, "")?;
+    Ok(text)
+}
+
+/// Whether a file alone comes to a plan, or the trouble for which it comes to none.
+fn judged(alloc: Global, file: &Content) -> Result<Option<Trouble>, Trouble>
+    ensures { spec.Judges file.now result }
+{
+    match plan_of_all(alloc, slice::from_ref(file)) {
+        Ok(_) => Ok(None),
+        Err(Trouble::NoFlow(name, fault)) => Ok(Some(Trouble::NoFlow(name, fault))),
+        Err(Trouble::NotPlanned(fault)) => Ok(Some(Trouble::NotPlanned(fault))),
+        Err(_) => Err(Trouble::Memory),
+    }
+}
+
+/// What is told of a file that is refused, or is not.
+fn told_by(alloc: Global, file: &Content, trouble: &Option<Trouble>) -> Result<Told, AllocError>
+    ensures { IfOk result (λ told. spec.IsToldOf file.now trouble.now told) }
+{
+    match trouble {
+        Some(trouble) => {
+            let text = refused(alloc, file, trouble)?;
+            Ok(Told {
+                refused: true,
+                text,
+            })
+        },
+        None => {
+            let text = passed(alloc, file)?;
+            Ok(Told {
+                refused: false,
+                text,
+            })
+        },
+    }
+}
+
+/// What is told of a file.
+#[tactic(auto, using(crate::proofs::Linted::told_by_judged))]
+fn told_of(alloc: Global, file: &Content) -> Result<Told, Trouble>
+    ensures { spec.FindsTold file.now result }
+{
+    let trouble = judged(alloc, file)?;
+    match told_by(alloc, file, &trouble) {
+        Ok(told) => Ok(told),
+        Err(_) => Err(Trouble::Memory),
+    }
+}
+
+/// What is told of files, one after the other.
+fn told_each(alloc: Global, files: &[Content]) -> Result<Sequence<Told>, Trouble>
+    ensures { spec.FindTold files.now result }
+{
+    let mut tolds = Vec::new(alloc);
+    for file in files {
+        let told = told_of(alloc, file)?;
+        if tolds.push(told).is_err() {
+            return Err(Trouble::Memory);
+        }
+    }
+    Ok(Sequence::new(tolds))
+}
+
+impl Told {
+    /// The lines.
+    fn text(&self) -> &str
+        ensures { result.now ≡ self.now.1 }
+    {
+        self.text.as_str()
+    }
+
+    /// Whether the file is refused.
+    fn is_refused(&self) -> bool
+        ensures { result ≡ self.now.0 }
+    {
+        self.refused
+    }
+}
+
+/// All lines.
+fn text_of(alloc: Global, tolds: &[Told]) -> Result<String, AllocError>
+    ensures { IfOk result (λ text. string_bytes text ≡ spec.lint_text tolds.now) }
+{
+    let mut text = String::new(alloc);
+    for told in tolds {
+        text.push_str(told.text())?;
+    }
+    Ok(text)
+}
+
+/// Whether one of the files is refused.
+fn is_any_refused(tolds: &[Told]) -> bool
+    ensures { result ≡ list_any (λ told. told.0) tolds.now }
+{
+    for told in tolds {
+        if told.is_refused() {
+            return true;
+        }
+    }
+    false
+}
+
+/// The exit status.
+fn status_of(tolds: &[Told]) -> u8
+    ensures { result ≡ spec.lint_status tolds.now }
+{
+    if is_any_refused(tolds) {
+        return REFUSED;
+    }
+    DONE
+}
+
+/// What is told of files, and the exit status.
+fn answer(alloc: Global, files: &[Content]) -> Result<(String, u8), Trouble>
+    ensures { spec.GivesLint files.now result }
+{
+    let tolds = told_each(alloc, files)?;
+    match text_of(alloc, tolds.as_slice()) {
+        Ok(text) => Ok((text, status_of(tolds.as_slice()))),
+        Err(_) => Err(Trouble::Memory),
+    }
+}
+
+/// Reads the files of workflows to their ends, and writes to `out` what a person should know of each: first the line that
+/// says at which place it is refused, where it alone comes to no plan, and why; then what refuses nothing. The answer is the
+/// exit status: 2 where a file is refused, and else 0.
+pub fn lint<S: Source, O: Sink, E: Sink>(
+    alloc: Global,
+    files: &mut [NamedSource<S>],
+    out: &mut O,
+    err: &mut E,
+) -> u8
+    ensures { LintTells (map (file_seen S.seen) files.old) (map (file_seen S.seen) files.new)
+        (O.seen out.old) (O.seen out.new) (E.seen err.old) (E.seen err.new) result }
+{
+    match read_files(alloc, files) {
+        Ok(contents) => tell_with(answer(alloc, contents.as_slice()), out, err),
+        Err(fault) => refuse_source(err, fault),
+    }
+}

@@ -1,0 +1,72 @@
+//! `actrun plan`: the plan that workflows come to.
+
+ghost use Rattle.std.specs.Prelude.{◌≡◌, IfOk, map, string_bytes};
+ghost use Rattle.command_io.specs.Files.{file_seen};
+ghost use Rattle.command_print.specs.Plan as spec;
+ghost use Rattle.command_print.specs.Plan.{OnePlanText, PlanTells};
+
+use crate::planning::plan_of;
+use command_io::files::{Content, NamedSource, read_first};
+use command_io::stream::{Sink, Source};
+use command_io::tell::{refuse_source, tell};
+use command_io::trouble::Trouble;
+use flow_model::CheckedPlan;
+use plan_assembler::Choice;
+use plan_assembler::laws::one_plan;
+use plan_text::print_plan;
+use std::alloc::{AllocError, Global};
+
+/// The line of a plan: the compact text of its document, and a newline.
+fn line_of(alloc: Global, plan: &CheckedPlan) -> Result<String, AllocError>
+    ensures { IfOk result (λ line. spec.IsPlanLine plan.now (string_bytes line)) }
+{
+    let mut line = print_plan(alloc, plan)?;
+    line.push_str("\n")?;
+    Ok(line)
+}
+
+/// The line of the plan that files come to.
+fn answer(
+    alloc: Global,
+    choice: &Choice,
+    contexts: &Content,
+    flows: &[Content],
+) -> Result<String, Trouble>
+    ensures { spec.GivesPlan choice.now contexts.now flows.now result }
+{
+    let plan = plan_of(alloc, choice, contexts, flows)?;
+    match line_of(alloc, &plan) {
+        Ok(line) => Ok(line),
+        Err(_) => Err(Trouble::Memory),
+    }
+}
+
+/// Reads the file of contexts and those of the workflows to their ends, and writes the plan that a choice of the workflows
+/// comes to, as the compact text of its document and a newline, to `out`; or writes why there is none to `err`, in one
+/// line. The path of a workflow is the name of its file. The answer is the exit status.
+pub fn plan<R: Source, S: Source, O: Sink, E: Sink>(
+    alloc: Global,
+    choice: &Choice,
+    contexts: &mut NamedSource<R>,
+    flows: &mut [NamedSource<S>],
+    out: &mut O,
+    err: &mut E,
+) -> u8
+    ensures { PlanTells choice.now (file_seen R.seen contexts.old) (file_seen R.seen contexts.new)
+        (map (file_seen S.seen) flows.old) (map (file_seen S.seen) flows.new)
+        (O.seen out.old) (O.seen out.new) (E.seen err.old) (E.seen err.new) result }
+{
+    match read_first(alloc, contexts, flows) {
+        Ok((contexts, flows)) => {
+            tell(answer(alloc, choice, &contexts, flows.as_slice()), out, err)
+        },
+        Err(fault) => refuse_source(err, fault),
+    }
+}
+
+/// The same files come to one text at most.
+pub fn one_plan_text()
+    ensures { OnePlanText }
+{
+    one_plan();
+}

@@ -1,0 +1,96 @@
+//! What starts programs.
+
+ghost use Rattle.std.specs.Prelude.{Bool, IfErr, List, ℕ};
+ghost use Rattle.command_io.specs.Stream.{Stream};
+ghost use Rattle.command_run.specs.Run.{IsOfMachine};
+
+use crate::environment::variables;
+use crate::progress::Progress;
+use crate::step_names::StepNames;
+use command_io::stream::{Output, Sink};
+use command_io::trouble::Trouble;
+use flow_model::{Duplicate, Mapping, Sequence, Text};
+use std::alloc::{AllocError, Global};
+use std::fs::{File, Files};
+use std::io::ErrorKind;
+use std::path;
+use step_host::{Masked, ProgramHost, StepHost, Watched};
+
+/// Where programs run.
+pub trait Machine: Files {
+    /// What plays steps by programs.
+    type Host: StepHost + Drop;
+
+    /// That it wrote a file of this name with this text, whole or not, at a time when `out` showed this.
+    ghost writes: { List ℕ → List ℕ → Stream → Bool → Type 0 };
+
+    /// Writes a file of that name anew, and answers whether it was written whole; `out` is what the program tells its
+    /// answer to.
+    fn write_file<O: Sink>(&self, name: &str, text: &[u8], out: &O) -> bool
+        ensures { writes name.now text.now (O.seen out.now) result };
+
+    /// The whole path of a folder.
+    ///
+    /// # Errors
+    ///
+    /// `Trouble::Io` where there is none, and `Trouble::Memory`.
+    fn whole_path(&self, folder: &str) -> Result<String, Trouble>
+        ensures { IfErr result IsOfMachine };
+
+    /// The host that starts programs in a folder, with these stubs and those variables of this program that are texts, and
+    /// masks the values of outputs and of variables that steps set. Where the steps have names it tells on standard error of
+    /// each, when it starts and when it ends.
+    ///
+    /// # Errors
+    ///
+    /// There is no memory.
+    fn host(
+        &self,
+        alloc: Global,
+        work: &str,
+        stubs: Mapping<Text>,
+        masks: Sequence<Text>,
+        progress: Option<StepNames>,
+    ) -> Result<Self::Host, AllocError>;
+}
+
+impl Machine for HostRuntime {
+    type Host = Watched<Masked<ProgramHost<HostRuntime>>, Progress>;
+
+    // nothing is known of a disk
+    ghost writes = { λ _ _ _ _. Unit {0} };
+
+    fn write_file<O: Sink>(&self, name: &str, text: &[u8], _out: &O) -> bool {
+        match File::create(self, name) {
+            Ok(file) => Output::new(file).put(text),
+            Err(_) => false,
+        }
+    }
+
+    fn whole_path(&self, folder: &str) -> Result<String, Trouble> {
+        match path::absolute(self, folder) {
+            Ok(whole) => Ok(whole.into_string()),
+            Err(error) => {
+                if error.kind() == ErrorKind::OutOfMemory {
+                    return Err(Trouble::Memory);
+                }
+                Err(Trouble::Io)
+            },
+        }
+    }
+
+    fn host(
+        &self,
+        alloc: Global,
+        work: &str,
+        stubs: Mapping<Text>,
+        masks: Sequence<Text>,
+        progress: Option<StepNames>,
+    ) -> Result<Watched<Masked<ProgramHost<HostRuntime>>, Progress>, AllocError> {
+        let base = variables(self, alloc)?;
+        let work = Text::from_str(alloc, work)?;
+        let programs = ProgramHost::new(alloc, *self, work, base, stubs);
+        let progress = Progress::new(alloc, *self, progress, masks.copy(alloc)?);
+        Ok(Watched::new(Masked::new(alloc, programs, masks), progress))
+    }
+}

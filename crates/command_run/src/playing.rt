@@ -1,0 +1,92 @@
+//! What is played of a plan.
+
+ghost use Rattle.std.specs.Prelude.{◌≡◌, ℕ, IfErr, IfOk};
+ghost use Rattle.flow_model.specs.declared.plan.Plan.{Plan};
+ghost use Rattle.command_run.specs.Playing as spec;
+
+use command_io::stop::Stop;
+use flow_model::{CheckedPlan, Entry, Sequence};
+use std::alloc::Global;
+use std::sync::Wait;
+use std::thread::Threads;
+use step_host::{PlayBoard, StepHost};
+use worker_pool::{Played, PoolFault, play, play_alone};
+
+/// What was played of a plan.
+#[derive(Drop)]
+pub(crate) struct Playing {
+    pub(crate) history: Sequence<Entry>,
+    /// The plan in play after it, or why the play was stopped.
+    pub(crate) end: Result<PlayBoard, Stop>,
+}
+
+impl Playing {
+    /// Why the play was stopped, if it was.
+    pub(crate) fn stop(&self) -> Option<Stop>
+        ensures { result ≡ spec.stop_of self.now.end }
+    {
+        match &self.end {
+            Ok(_) => None,
+            Err(stop) => Some(*stop),
+        }
+    }
+}
+
+/// Plays a plan by so many workers. One plays in the thread of the program, so that the same answers make the same history.
+#[tactic(auto, using(crate::proofs::Played::stopped_is_played, crate::proofs::Played::many_stopped))]
+fn play_by<R: Threads + Wait + Sync, H: StepHost>(
+    rt: &R,
+    alloc: Global,
+    plan: &CheckedPlan,
+    host: &H,
+    workers: u64,
+) -> Result<Played, PoolFault>
+    ensures played { IfOk result (spec.EndsPlayed plan.now workers) }
+    ensures stopped { IfErr result (spec.StopsPlayed plan.now workers) }
+{
+    if workers == 1 {
+        return play_alone(alloc, plan, host);
+    }
+    play(rt, alloc, plan, host, workers)
+}
+
+/// What was played until a play was stopped, if there were so many workers.
+fn stopped(fault: PoolFault) -> Option<Playing>
+    ensures { (plan : Plan) (workers : ℕ) → spec.StopsPlayed plan workers fault
+        → spec.ComesTo plan workers result }
+{
+    match fault {
+        PoolFault::Workers => None,
+        PoolFault::Host { history, .. } => Some(Playing {
+            history,
+            end: Err(Stop::Host),
+        }),
+        PoolFault::Mismatch { history } => Some(Playing {
+            history,
+            end: Err(Stop::Mismatch),
+        }),
+        PoolFault::Memory { history } => Some(Playing {
+            history,
+            end: Err(Stop::Memory),
+        }),
+    }
+}
+
+/// What is played of a plan by so many workers, if there are so many.
+pub(crate) fn played_by<R: Threads + Wait + Sync, H: StepHost>(
+    rt: &R,
+    alloc: Global,
+    plan: &CheckedPlan,
+    host: &H,
+    workers: u64,
+) -> Option<Playing>
+    ensures { spec.ComesTo plan.now workers result }
+{
+    match play_by(rt, alloc, plan, host, workers) {
+        Ok(played) => Some(Playing {
+            history: played.history,
+            end: Ok(played.left),
+        }),
+        Err(fault) => stopped(fault),
+    }
+}

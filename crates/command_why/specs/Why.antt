@@ -1,0 +1,95 @@
+-- What `actrun why` tells of a text: the tree that answers what is asked of its record, that what is asked about is not
+-- there, or why the record is not played.
+use Rattle.std.specs.Prelude.{◌≡◌, ℕ, ◌⊎◌, List, codes, Option, Some, None, Result, Ok, Err, Vec}
+use Rattle.std.specs.Option.{option_map}
+use Rattle.std.specs.declared.alloc.Global.{Global}
+use Rattle.why_causes.specs.Tree.{tree}
+use Rattle.why_causes.specs.declared.question.Question.{Question}
+use Rattle.why_notes.specs.Account.{Account, account_of}
+use Rattle.flow_model.specs.declared.event.Entry.{Entry}
+use Rattle.flow_model.specs.declared.plan.Plan.{Plan}
+use Rattle.command_io.specs.Records.{IsNotPlayed, IsStopped, OfRecord}
+use Rattle.command_io.specs.Stream.{Stream, IsKept, IsRead}
+use Rattle.command_io.specs.Tell.{Says, TellsBy}
+use Rattle.command_io.specs.Trouble.{UnlessMemory, name_line}
+use Rattle.command_io.specs.declared.stream.SourceFault.{SourceFault}
+use Rattle.command_io.specs.declared.stream.SourceFault.TheVariants as source_fault
+use Rattle.command_io.specs.declared.trouble.Trouble.{Trouble}
+use Rattle.command_io.specs.declared.trouble.Trouble.TheVariants.{Io, Memory}
+use Rattle.command_why.specs.Roots.{roots}
+use Rattle.command_why.specs.Words.{tree_text}
+
+-- ---- what a record comes to
+
+-- the text of the tree that answers what is asked, if that is there
+abbrev pub explained : Account → Option Question → Option (List ℕ)
+explained a asked = option_map (λ questions. tree_text a (tree a questions)) (roots a asked)
+
+-- The entries are legal, and this is told of the account of them.
+pub record Explains (asked : Option Question) (told : Option (List ℕ)) (plan : Plan) (entries : List Entry) : Type 0 where
+  pub account : Account
+  pub leads : account_of plan entries ≡ Some account
+  pub tells : told ≡ explained account asked
+
+-- The text of a tree, or none where what is asked about is not there; or a trouble.
+abbrev pub WhyAnswer : Type 0
+WhyAnswer = Result (Option (List ℕ)) Trouble
+
+-- An answer to what is asked of a text.
+abbrev pub IsWhyAnswer : Option Question → List ℕ → WhyAnswer → Type 0
+IsWhyAnswer asked text (Ok told) = OfRecord text (Explains asked told)
+IsWhyAnswer asked text (Err trouble) = UnlessMemory trouble (IsNotPlayed text trouble)
+
+-- ---- what is left
+
+-- Nothing stands on out, and on err that what is asked about is not there.
+pub record TellsNoSuch (out out' err err' : Stream) (status : ℕ) : Type 0 where
+  pub kept : IsKept out out'
+  pub said : Says err err' (name_line (codes "why") (codes "NoSuch"))
+  pub is : status ≡ 2
+
+-- What is left of an answer.
+abbrev pub TellsWhy : WhyAnswer → Stream → Stream → Stream → Stream → ℕ → Type 0
+TellsWhy (Ok (Some text)) out out' err err' status = TellsBy 0 (Ok text) out out' err err' status
+TellsWhy (Ok None) out out' err err' status = TellsNoSuch out out' err err' status
+TellsWhy (Err trouble) out out' err err' status = TellsBy 0 (Err trouble) out out' err err' status
+
+-- An answer to what was read; where only a part was read there is none but the trouble.
+abbrev pub AnswersAsked : Option Question → Result (List ℕ) SourceFault → WhyAnswer → Type 0
+AnswersAsked asked (Ok text) answer = IsWhyAnswer asked text answer
+AnswersAsked asked (Err source_fault.Failed) answer = answer ≡ Err Io
+AnswersAsked asked (Err source_fault.Memory) answer = answer ≡ Err Memory
+
+-- What `why` leaves: it reads a text to its end, and tells an answer to what is asked of it; want of memory may always be
+-- answered.
+pub record WhyTells (asked : Option Question) (input input' out out' err err' : Stream) (status : ℕ) : Type 0 where
+  pub read : Result (List ℕ) SourceFault
+  pub reads : IsRead input input' read
+  pub answer : WhyAnswer
+  pub answers : AnswersAsked asked read answer
+  pub told : TellsWhy answer out out' err err' status
+
+-- ---- what the code answers on the way; want of memory may always be answered
+
+-- a text that may be none
+abbrev pub Told : Type 0
+Told = Option (Vec ℕ Global)
+
+-- the bytes of it
+abbrev pub bytes_of : Told → Option (List ℕ)
+bytes_of told = option_map (λ text. text.items) told
+
+-- what is told of an account, unless there was no memory
+abbrev pub GivesTree : Account → Option Question → Result Told Trouble → Type 0
+GivesTree a asked (Ok told) = bytes_of told ≡ explained a asked
+GivesTree a asked (Err trouble) = trouble ≡ Memory
+
+-- what is told of entries, or that the table refuses one of them
+abbrev pub GivesWhy : Option Question → Plan → List Entry → Result Told Trouble → Type 0
+GivesWhy asked plan entries (Ok told) = Explains asked (bytes_of told) plan entries
+GivesWhy asked plan entries (Err trouble) = IsStopped plan entries trouble
+
+-- what is told of it, seen as an answer
+abbrev pub answer_of : Result Told Trouble → WhyAnswer
+answer_of (Ok told) = Ok (bytes_of told)
+answer_of (Err trouble) = Err trouble

@@ -1,6 +1,0 @@
-use Rattle.commands.proofs.Linted.{GoingFiles}
-use Rattle.commands.proofs.lint.told_each.Given as goal
-
--- what is told of the files so far
-abbrev pub invariant-loop-file : goal.invariant-loop-file
-invariant-loop-file l = GoingFiles l.files l.file-index l.tolds.items

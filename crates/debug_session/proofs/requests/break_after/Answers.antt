@@ -1,6 +1,0 @@
-use Rattle.debug_session.proofs.Asked.{after_front}
-use Rattle.debug_session.specs.Requests.{Names}
-use Rattle.debug_session.proofs.requests.break_after.Goals as goal
-
-pub returns-in-Some : goal.returns-in-Some
-returns-in-Some c = after_front Names c.args.front.now c.args.text.now c.in-Some.name.now c.break_named.result c.in-Some.ensures c.break_named.ensures

@@ -1,8 +1,0 @@
-use Rattle.std.proofs.Common.{◌≡◌, true, rules, slice_get}
-use Rattle.flat_counters.proofs.Followed.{alike_recounted}
-use Rattle.flat_counters.proofs.counts.recount_leg.Goals as goal
-
-pub returns-then-are_alike : goal.returns-then-are_alike
-returns-then-are_alike c =
-    let is : c.are_alike.result ≡ true = search rules in
-    alike_recounted c.args.place c.args.was c.args.is (slice_get c.args.board.now.runs c.args.place.run) c.args.dependents.now c.args.counts.now (λ t. c.are_alike.ensures t is)

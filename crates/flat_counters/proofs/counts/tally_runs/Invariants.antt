@@ -1,6 +1,0 @@
-use Rattle.std.proofs.Common.{◌≡◌, take, map}
-use Rattle.flat_counters.specs.Counters.{tally_of}
-use Rattle.flat_counters.proofs.counts.tally_runs.Given as goal
-
-abbrev pub invariant-loop-run : goal.invariant-loop-run
-invariant-loop-run l = l.tallies.items ≡ map (λ run. map tally_of run.jobs) (take l.run-index l.runs)

@@ -1,7 +1,0 @@
-use Rattle.std.proofs.Common.{◌≡◌, ◌++◌, drop}
-use Rattle.board_places.specs.Places.{run_sizes}
-use Rattle.flat_counters.specs.Dependents.{all_dependents}
-use Rattle.flat_counters.proofs.dependents.all_dependents.Given as goal
-
-abbrev pub invariant-loop-place : goal.invariant-loop-place
-invariant-loop-place l = l.made.items ++ all_dependents (drop l.place l.plans) (run_sizes (drop l.place l.runs)) ≡ all_dependents l.plans (run_sizes l.runs)

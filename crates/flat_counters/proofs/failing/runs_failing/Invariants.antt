@@ -1,6 +1,0 @@
-use Rattle.std.proofs.Common.{◌≡◌, take, map}
-use Rattle.flat_counters.specs.Failing.{run_failing}
-use Rattle.flat_counters.proofs.failing.runs_failing.Given as goal
-
-abbrev pub invariant-loop-run : goal.invariant-loop-run
-invariant-loop-run l = l.made.items ≡ map run_failing (take l.run-index l.runs)

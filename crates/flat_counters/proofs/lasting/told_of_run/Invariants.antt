@@ -1,7 +1,0 @@
-use Rattle.std.proofs.Common.{take}
-use Rattle.std.specs.List.{AllZip}
-use Rattle.flat_counters.specs.Lasting.{TellsSteps}
-use Rattle.flat_counters.proofs.lasting.told_of_run.Given as goal
-
-abbrev pub invariant-loop-job : goal.invariant-loop-job
-invariant-loop-job l = AllZip (TellsSteps l.run) (take l.job-index l.jobs) l.calls.items

@@ -1,6 +1,0 @@
-use Rattle.std.proofs.Common.{take}
-use Rattle.flat_counters.specs.Lasting.{TellsRuns}
-use Rattle.flat_counters.proofs.lasting.told_of_runs.Given as goal
-
-abbrev pub invariant-loop-run : goal.invariant-loop-run
-invariant-loop-run l = TellsRuns (take l.run-index l.runs) l.calls.items

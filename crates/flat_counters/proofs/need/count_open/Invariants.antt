@@ -1,9 +1,0 @@
-use Rattle.std.proofs.Common.{◌≡◌, ◌≤◌, take}
-use Rattle.flat_counters.specs.Counters.{open_among, settled_jobs}
-use Rattle.flat_counters.proofs.need.count_open.Given as goal
-
-abbrev pub invariant-loop-need : goal.invariant-loop-need
-invariant-loop-need l = record {
-  counted : l.count ≡ open_among l.first (settled_jobs l.run) (take l.need-index l.needs);
-  small : l.count ≤ l.need-index;
-}

@@ -1,6 +1,0 @@
-use Rattle.std.proofs.Common.{◌≡◌, take, map}
-use Rattle.flat_counters.specs.Counters.{need_of, settled_jobs}
-use Rattle.flat_counters.proofs.need.needs_of.Given as goal
-
-abbrev pub invariant-loop-plan : goal.invariant-loop-plan
-invariant-loop-plan l = l.needs.items ≡ map (need_of l.first (settled_jobs l.run)) (take l.plan-index l.plans)

@@ -1,6 +1,0 @@
-use Rattle.std.proofs.Common.{◌≡◌, drop}
-use Rattle.flat_counters.specs.Changes.{needs_turned}
-use Rattle.flat_counters.proofs.need.turn_needs.Given as goal
-
-abbrev pub invariant-loop-place : goal.invariant-loop-place
-invariant-loop-place l = needs_turned l.was l.is (drop l.place-index l.places) l.needs ≡ needs_turned l.was l.is l.places l.initial.needs

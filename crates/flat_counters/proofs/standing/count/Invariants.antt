@@ -1,9 +1,0 @@
-use Rattle.std.proofs.Common.{◌≡◌, ◌≤◌, take}
-use Rattle.flat_counters.specs.Standing.{counted_jobs}
-use Rattle.flat_counters.proofs.standing.count.Given as goal
-
-abbrev pub invariant-loop-place : goal.invariant-loop-place
-invariant-loop-place l = record {
-  counted : l.count ≡ counted_jobs l.counter (take l.place l.run.jobs);
-  small : l.count ≤ l.place;
-}

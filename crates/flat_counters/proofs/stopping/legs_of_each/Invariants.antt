@@ -1,6 +1,0 @@
-use Rattle.std.proofs.Common.{◌≡◌, take, map}
-use Rattle.flat_counters.specs.Stopping.{untold_legs}
-use Rattle.flat_counters.proofs.stopping.legs_of_each.Given as goal
-
-abbrev pub invariant-loop-run : goal.invariant-loop-run
-invariant-loop-run l = l.made.items ≡ map untold_legs (take l.run-index l.runs)

@@ -1,9 +1,0 @@
-use Rattle.std.proofs.Common.{◌≡◌, ◌≤◌, take}
-use Rattle.flat_counters.specs.Counters.{counted}
-use Rattle.flat_counters.proofs.tally.count.Given as goal
-
-abbrev pub invariant-loop-leg : goal.invariant-loop-leg
-invariant-loop-leg l = record {
-  counted : l.count ≡ counted l.counter (take l.leg-index l.legs);
-  small : l.count ≤ l.leg-index;
-}

@@ -1,0 +1,13 @@
+-- What was made, before what the rest becomes, is what the text becomes.
+use Rattle.std.proofs.Common.{◌≡◌, ◌++◌, length, string_bytes}
+use denote.Shadow.{shadow}
+use denote.Text.{Utf8}
+use Rattle.flow_commands.specs.Replace.{replaced}
+use Rattle.flow_commands.proofs.replace.replace.Given as goal
+
+abbrev pub invariant-loop-front : goal.invariant-loop-front
+invariant-loop-front g l =
+    (string_bytes l.made ++ replaced (g.R.Rule.rule l.rule) l.rest ≡ replaced (g.R.Rule.rule l.rule) l.text) × shadow (Utf8 l.rest)
+
+abbrev pub decreases-loop-front : goal.decreases-loop-front
+decreases-loop-front g l = length l.rest

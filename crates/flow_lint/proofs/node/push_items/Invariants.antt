@@ -1,0 +1,7 @@
+use Rattle.std.specs.List.{All}
+use Rattle.serde_json.specs.View.{view}
+use Rattle.flow_lint.specs.Nodes.{Fits}
+use Rattle.flow_lint.proofs.node.push_items.Given as goal
+
+abbrev pub invariant-loop-place : goal.invariant-loop-place
+invariant-loop-place l = All (Fits (view l.root)) l.nodes.items

@@ -1,0 +1,51 @@
+//! Which contexts a text sees at its place.
+
+use crate::kind::{Kind, Level};
+use crate::node::Node;
+use expr_reader::Context;
+
+/// Every context.
+pub(crate) const EVERY_CONTEXT: [Context; 12] = [
+    Context::Env,
+    Context::Github,
+    Context::Inputs,
+    Context::Job,
+    Context::Jobs,
+    Context::Matrix,
+    Context::Needs,
+    Context::Runner,
+    Context::Secrets,
+    Context::Steps,
+    Context::Strategy,
+    Context::Vars,
+];
+
+/// Whether a text at a place stands in a step, or is seen as one that does.
+fn is_of_step(node: &Node) -> bool {
+    node.level == Level::Step || node.kind == Kind::SharedDirectory
+}
+
+/// Whether `secrets` is seen: in environments, in outputs, and in steps but for their conditions.
+fn sees_secrets(node: &Node) -> bool {
+    match node.kind {
+        Kind::Variable | Kind::Output => true,
+        Kind::Condition => false,
+        _ => is_of_step(node),
+    }
+}
+
+/// Whether a text at a place sees a context that is not empty there.
+pub(crate) fn sees(node: &Node, context: Context) -> bool {
+    match context {
+        Context::Github | Context::Inputs | Context::Vars => true,
+        Context::Jobs | Context::Runner => false,
+        Context::Secrets => sees_secrets(node),
+        Context::Needs => node.level != Level::Workflow || is_of_step(node),
+        Context::Strategy | Context::Matrix => {
+            is_of_step(node) || node.level == Level::Job && node.kind != Kind::Condition
+        },
+        Context::Env | Context::Job | Context::Steps => {
+            is_of_step(node) || node.kind == Kind::Output
+        },
+    }
+}

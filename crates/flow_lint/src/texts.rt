@@ -1,0 +1,38 @@
+//! The texts of a file that are evaluated.
+
+ghost use Rattle.std.specs.Prelude.{IfErr, IfSome};
+ghost use Rattle.serde_json.specs.View.{view};
+ghost use Rattle.expr_reader.specs.TemplateStands.{ConditionFaultStands};
+ghost use Rattle.flow_lint.specs.Places.{IsUnread};
+
+use crate::kind::Kind;
+use crate::node::Node;
+use expr_reader::{ExprFault, Template, is_blank, read_condition, read_template};
+use std::alloc::Global;
+
+/// The condition of a text, if it is not blank.
+fn condition(alloc: Global, text: &str) -> Option<Result<Template, ExprFault>>
+    ensures { IfSome result (λ read. IfErr read (ConditionFaultStands text.now)) }
+{
+    if is_blank(text) {
+        return None;
+    }
+    Some(read_condition(alloc, text))
+}
+
+/// What is read of a place, where a text that is evaluated stands there.
+pub fn read_text(alloc: Global, node: &Node) -> Option<Result<Template, ExprFault>>
+    ensures { IfSome result (λ read. IfErr read (λ fault.
+        IsUnread fault (view node.now.value.now))) }
+{
+    let Some(text) = node.value.as_str() else {
+        return None;
+    };
+    if node.kind == Kind::Condition {
+        return condition(alloc, text);
+    }
+    if node.kind.is_template() {
+        return Some(read_template(alloc, text));
+    }
+    None
+}

@@ -1,7 +1,0 @@
-use Rattle.std.specs.List.{All}
-use Rattle.serde_json.specs.View.{view}
-use Rattle.flow_places.specs.Nodes.{Fits}
-use Rattle.flow_places.proofs.node.nodes_of.Given as goal
-
-abbrev pub invariant-loop : goal.invariant-loop
-invariant-loop l = All (Fits (view l.root)) l.waiting.items × All (Fits (view l.root)) l.nodes.items

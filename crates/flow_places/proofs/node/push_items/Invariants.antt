@@ -1,7 +1,0 @@
-use Rattle.std.specs.List.{All}
-use Rattle.serde_json.specs.View.{view}
-use Rattle.flow_places.specs.Nodes.{Fits}
-use Rattle.flow_places.proofs.node.push_items.Given as goal
-
-abbrev pub invariant-loop-place : goal.invariant-loop-place
-invariant-loop-place l = All (Fits (view l.root)) l.nodes.items

@@ -1,7 +1,0 @@
-use Rattle.std.specs.List.{All}
-use Rattle.serde_json.specs.View.{view}
-use Rattle.flow_places.specs.Nodes.{Fits}
-use Rattle.flow_places.proofs.node.push_members.Given as goal
-
-abbrev pub invariant-loop-key : goal.invariant-loop-key
-invariant-loop-key l = All (Fits (view l.root)) l.nodes.items

@@ -1,5 +1,0 @@
-use Rattle.host_verbs.proofs.board_calls.play_aside.Given as goal
-
--- the ledger of the board beside it
-abbrev pub ghosts-play_all : goal.ghosts-play_all
-ghosts-play_all g a = record { name = a.blank.name; parts = a.blank.parts }

@@ -1,5 +1,0 @@
-pub mod Graph
-pub mod Labels
-pub mod Quoted
-pub mod Reading
-pub mod Standing

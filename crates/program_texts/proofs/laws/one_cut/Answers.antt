@@ -1,5 +1,0 @@
-use Rattle.program_texts.proofs.FirstPlaces.{split_cuts, cut_splits}
-use Rattle.program_texts.proofs.laws.one_cut.Goals as goal
-
-pub returns : goal.returns
-returns c mark text front rest some = (split_cuts mark text front rest, cut_splits mark text front rest some)

@@ -1,7 +1,0 @@
--- Nothing is replaced at the places that were passed.
-use Rattle.std.proofs.Common.{◌≡◌, ◌++◌, take, drop}
-use Rattle.program_texts.specs.Replace.{replaced}
-use Rattle.program_texts.proofs.replace.first_place.Given as goal
-
-abbrev pub invariant-loop-place : goal.invariant-loop-place
-invariant-loop-place g l = take l.place l.text ++ replaced (g.R.Rule.rule l.rule) (drop l.place l.text) ≡ replaced (g.R.Rule.rule l.rule) l.text

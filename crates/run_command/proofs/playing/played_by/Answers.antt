@@ -1,4 +1,0 @@
-use Rattle.run_command.proofs.playing.played_by.Goals as goal
-
-pub returns-in-Err : goal.returns-in-Err
-returns-in-Err g c = c.stopped.ensures c.args.plan.now c.args.workers c.in-Err.ensures.stopped

@@ -1,4 +1,0 @@
-mod Ascending
-mod Entries
-mod NewRows
-mod Parts

@@ -1,6 +1,0 @@
-use Rattle.std.proofs.Common.{◌≡◌, drop}
-use Rattle.run_timeline.specs.Bars.{taken_at}
-use Rattle.run_timeline.proofs.bars.taken_at.Given as goal
-
-abbrev pub invariant-loop-moment : goal.invariant-loop-moment
-invariant-loop-moment l = taken_at (drop l.moment-index l.moments) ≡ taken_at l.moments

@@ -1,6 +1,0 @@
-use Rattle.std.proofs.Common.{◌≡◌, ◌++◌}
-use Rattle.run_timeline.specs.Rows.{new_rows}
-use Rattle.run_timeline.proofs.row.add_rows.Given as goal
-
-abbrev pub invariant-loop-row : goal.invariant-loop-row
-invariant-loop-row l = l.rows.items ≡ l.initial.rows.items ++ new_rows l._row

@@ -1,7 +1,0 @@
-use Rattle.std.proofs.Common.{◌≡◌, ◌++◌, drop}
-use Rattle.run_timeline.specs.Words.{brief_after}
-use Rattle.run_timeline.proofs.words.add_brief.Given as goal
-
-abbrev pub invariant-loop-place : goal.invariant-loop-place
-invariant-loop-place l =
-    l.text.items ++ brief_after l.limit l.place (drop l.place l.words) ≡ l.initial.text.items ++ brief_after l.limit 0 l.words

@@ -1,4 +1,0 @@
-pub mod Alone
-pub mod Quiet
-pub mod Records
-pub mod Runs

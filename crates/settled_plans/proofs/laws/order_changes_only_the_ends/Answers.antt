@@ -1,5 +1,0 @@
-use Rattle.settled_plans.proofs.Same.{only_ends_differ}
-use Rattle.settled_plans.proofs.laws.order_changes_only_the_ends.Goals as goal
-
-pub returns : goal.returns
-returns c = only_ends_differ c.needs_point_back.ensures (λ p rules. (c.rules_hold.ensures p).0 rules)

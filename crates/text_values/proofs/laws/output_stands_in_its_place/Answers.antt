@@ -1,5 +1,0 @@
-use Rattle.text_values.proofs.Lawful.{output_stands_in_its_place}
-use Rattle.text_values.proofs.laws.output_stands_in_its_place.Goals as goal
-
-pub returns : goal.returns
-returns c = output_stands_in_its_place

@@ -1,5 +1,0 @@
-use Rattle.text_values.proofs.Lawful.{truth_is_itself}
-use Rattle.text_values.proofs.laws.truth_is_itself.Goals as goal
-
-pub returns : goal.returns
-returns c = truth_is_itself

@@ -1,2 +1,0 @@
-mod ReadingLaws
-mod TextLaws

@@ -1,0 +1,8 @@
+mod Agreeing
+pub mod AskedOnce
+mod Becoming
+mod Going
+mod Grouping
+mod Members
+mod Noting
+pub mod Trees

@@ -1,0 +1,76 @@
+-- What is noted of all that a plan has is how it stands on a board.
+use Rattle.std.specs.Prelude.{◌≡◌, ℕ, Bool, map, Option, Some, None, is_some}
+use Rattle.std.specs.List.{AllZip}
+use Rattle.why_facts.specs.declared.fact.MemberFact.{MemberFact}
+use Rattle.why_facts.specs.declared.fact.MemberFact.TheVariants as member_fact
+use Rattle.why_facts.specs.declared.notes.JobNote.{JobNote}
+use Rattle.why_facts.specs.declared.notes.JobNotes.{JobNotes}
+use Rattle.why_facts.specs.declared.notes.LegNotes.{LegNotes}
+use Rattle.why_facts.specs.declared.notes.MemberNote.{MemberNote}
+use Rattle.why_facts.specs.declared.notes.Notes.{Notes}
+use Rattle.why_facts.specs.declared.notes.RunNotes.{RunNotes}
+use Rattle.why_facts.specs.declared.notes.StepNote.{StepNote}
+use Rattle.why_notes.specs.Laws.{judged_to}
+use Rattle.why_causes.specs.Stands.{LegIs, RunIs, outcome_told}
+use Rattle.flow_model.specs.Numbers.{board_jobs, board_legs}
+use Rattle.flow_model.specs.declared.board.Board.{Board}
+use Rattle.flow_model.specs.declared.board.DoneStep.{DoneStep}
+use Rattle.flow_model.specs.declared.board.Job.{Job}
+use Rattle.flow_model.specs.declared.board.JobState.{JobState}
+use Rattle.flow_model.specs.declared.board.JobState.TheVariants as job_state
+use Rattle.flow_model.specs.declared.board.Leg.{Leg}
+use Rattle.flow_model.specs.declared.board.LegState.{LegState}
+use Rattle.flow_model.specs.declared.board.LegState.TheVariants as leg_state
+use Rattle.flow_model.specs.declared.board.Run.{Run}
+use Rattle.flow_model.specs.declared.board.RunState.{RunState}
+use Rattle.flow_model.specs.declared.board.RunState.TheVariants as run_state
+
+-- the state of a run of which that was noted last
+abbrev pub RunNow : Option MemberNote → RunState → Type 0
+RunNow None s = s ≡ run_state.New
+RunNow (Some note) s = RunIs note.fact s
+
+-- the state of a leg of which that became last: one that was taken may be in a call meanwhile
+abbrev pub LegStill : MemberFact → LegState → Type 0
+LegStill member_fact.Taken s = (worker : ℕ) × ((in_call : Bool) × (s ≡ leg_state.Running worker in_call))
+LegStill member_fact.Admitted s = LegIs member_fact.Admitted s
+LegStill (member_fact.Waits holder) s = LegIs (member_fact.Waits holder) s
+LegStill (member_fact.Follows before) s = LegIs (member_fact.Follows before) s
+LegStill (member_fact.Displaced by) s = LegIs (member_fact.Displaced by) s
+LegStill member_fact.OwnRun s = LegIs member_fact.OwnRun s
+LegStill (member_fact.NoGroup f) s = LegIs (member_fact.NoGroup f) s
+LegStill (member_fact.Closed result) s = LegIs (member_fact.Closed result) s
+LegStill (member_fact.Finished result) s = LegIs (member_fact.Finished result) s
+LegStill (member_fact.Stopped cause) s = LegIs (member_fact.Stopped cause) s
+
+-- the same of one of which that was noted last
+abbrev pub LegNow : Option MemberNote → LegState → Type 0
+LegNow None s = s ≡ leg_state.Fresh
+LegNow (Some note) s = LegStill note.fact s
+
+-- the state of a job of which that was noted
+abbrev pub JobNow : Option JobNote → JobState → Type 0
+JobNow None s = s ≡ job_state.Unjudged
+JobNow (Some note) s = s ≡ judged_to note.fact
+
+-- A run is in the state of what was noted last, and was told to stop where somebody is noted who told it.
+pub record RunAgrees (notes : RunNotes) (run : Run) : Type 0 where
+  pub state : RunNow notes.last run.state
+  pub told : is_some notes.stop ≡ run.stop
+
+-- So is a job.
+abbrev pub JobAgrees : JobNotes → Job → Type 0
+JobAgrees notes job = JobNow notes.last job.state
+
+-- So is a leg, which has as many steps that are done, with the outcomes of what was noted of them.
+pub record LegAgrees (notes : LegNotes) (leg : Leg) : Type 0 where
+  pub state : LegNow notes.last leg.state
+  pub told : is_some notes.stop ≡ leg.stop
+  pub steps : map (λ (note : StepNote). outcome_told note.fact) notes.steps
+      ≡ map (λ (done : DoneStep). done.outcome) leg.steps
+
+-- Notes agree with a board.
+pub record Agrees (b : Board) (notes : Notes) : Type 0 where
+  pub runs : AllZip RunAgrees notes.runs b.runs
+  pub jobs : AllZip JobAgrees notes.jobs (board_jobs b)
+  pub legs : AllZip LegAgrees notes.legs (board_legs b)

@@ -1,0 +1,7 @@
+pub mod Agrees
+pub mod Becomes
+pub mod Causes
+pub mod Made
+pub mod Once
+pub mod Stands
+pub mod Tree

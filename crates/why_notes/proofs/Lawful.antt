@@ -1,0 +1,107 @@
+-- The laws of what an entry makes so.
+use Rattle.std.proofs.Common.{◌≡◌, ℕ, suc, ◌-◌, ◌&&◌, ◌||◌, Bool, true, false, List, [], ◌∷◌, Option, Some, None, Result, Ok, Err, refl, sym, ap, ◌∙◌, if◌then◌else◌, cond}
+use Rattle.board_decisions.specs.Decisions.{job_condition, stops_anyway}
+use Rattle.board_decisions.specs.Derived.{job_status, needs_have_ended}
+use Rattle.why_facts.specs.Stops.{failed_of, first_failed, stop_by}
+use Rattle.why_facts.specs.declared.notes.Notes.{Notes}
+use Rattle.why_notes.proofs.Accounts.{board_of}
+use Rattle.why_notes.specs.Account.{Account, account_from, entry_noted, then_account}
+use Rattle.why_notes.specs.Changes.{judged, judged_under}
+use Rattle.why_notes.specs.Conditions.{waits_in_vain}
+use Rattle.why_notes.specs.Laws.{AccountsFollowTheTable, CauseHolds, JobsAreJudgedAsTold, StopsAreCaused, judged_to}
+use Rattle.expr_value.specs.declared.status.Status.{Status}
+use Rattle.flow_model.specs.declared.board.Board.{Board}
+use Rattle.flow_model.specs.declared.board.JobState.{JobState}
+use Rattle.flow_model.specs.declared.board.JobState.TheVariants as job_state
+use Rattle.flow_model.specs.declared.board.Leg.{Leg}
+use Rattle.flow_model.specs.declared.board.RunState.{RunState}
+use Rattle.flow_model.specs.declared.board.RunState.TheVariants as run_state
+use Rattle.flow_model.specs.declared.event.Entry.{Entry}
+use Rattle.flow_model.specs.declared.plan.Plan.{Plan}
+use Rattle.flow_model.specs.declared.reply.ValueFault.{ValueFault}
+use Rattle.status_table.specs.Row.{Row, row, first_of, judged_state, judgement_by}
+use Rattle.status_table.specs.Runs.{after_from, new_board, then_after}
+use Rattle.status_table.specs.declared.fault.EventFault.{EventFault}
+use Rattle.status_table.specs.declared.fault.EventFault.TheVariants as fault
+
+-- ---- the board of an account
+
+follows : (line : ℕ) (p : Plan) (b : Board) (notes : Notes) (es : List Entry) (a : Account)
+    → account_from line p b notes es ≡ Some a → after_from p b es ≡ Some a.board
+unfolding board_of
+follows line p b notes [] a h = ap board_of h
+follows line p b notes (e ∷ es) a h = step (row p b e.worker e.event) (λ next k. follows (suc line) p next (entry_noted line p b notes e) es a k) h
+  where
+    step : (r : Row) → ((next : Board) → account_from (suc line) p next (entry_noted line p b notes e) es ≡ Some a → after_from p next es ≡ Some a.board)
+        → then_account r (λ next. account_from (suc line) p next (entry_noted line p b notes e) es) ≡ Some a
+        → then_after r (λ next. after_from p next es) ≡ Some a.board
+    step (Ok x) later k = later x.0 k
+    step (Err f) later k = cc
+
+pub accounts_follow_the_table : AccountsFollowTheTable
+accounts_follow_the_table p es a h = follows 2 p (new_board p) _ es a h
+
+-- ---- Judge
+
+shut : (stop vain : Bool) (holds : Result Bool ValueFault) → judged_state stop holds ≡ judged_to (judged stop vain holds)
+shut stop vain (Ok true) = refl
+shut true vain (Ok false) = refl
+shut false true (Ok false) = refl
+shut false false (Ok false) = refl
+shut stop vain (Err fault) = refl
+
+same : (s t : JobState) (r : Result JobState EventFault) → r ≡ Ok s → r ≡ Ok t → s ≡ t
+same s t r one other = cc
+
+pub jobs_are_judged_as_told : JobsAreJudgedAsTold
+jobs_are_judged_as_told j at state h = by_states at.run.state at.job.state refl h
+  where
+    status : Status
+    status = job_status (first_of j at) at
+
+    fact : judged_state at.run.stop (job_condition at status) ≡ judged_to (judged_under at status)
+    fact = shut at.run.stop (waits_in_vain at.plan.condition status) (job_condition at status)
+
+    ready : (ended : Bool)
+        → (if ended then Ok (judged_state at.run.stop (job_condition at status)) else Err fault.NeedsOpen) ≡ Ok state
+        → state ≡ judged_to (judged_under at status)
+    ready true k = sym (same (judged_state at.run.stop (job_condition at status)) state (Ok (judged_state at.run.stop (job_condition at status))) refl k) ∙ fact
+    ready false k = cc
+
+    by_states : (run : RunState) (job : JobState) → at.job.state ≡ job → judgement_by j at run job ≡ Ok state
+        → (at.job.state ≡ job_state.Unjudged) × (state ≡ judged_to (judged_under at status))
+    by_states run_state.Going job_state.Unjudged is k = (is, ready (needs_have_ended (first_of j at) at.run at.plan) k)
+    by_states run_state.Going job_state.Open is k = cc
+    by_states run_state.Going (job_state.Shut result) is k = cc
+    by_states run_state.New job is k = cc
+    by_states run_state.Waiting job is k = cc
+    by_states (run_state.Closed result) job is k = cc
+
+-- ---- why a leg is to stop
+
+found : (first : ℕ) (legs : List Leg) (ends : List ℕ) (l : ℕ) → first_failed first legs ends ≡ Some l → failed_of first legs l ≡ true
+found first legs [] l h = cc
+found first legs (k ∷ ends) l h = step (failed_of first legs k) refl h (found first legs ends l)
+  where
+    same : Some k ≡ Some l → k ≡ l
+    same e = cc
+
+    step : (c : Bool) → failed_of first legs k ≡ c → cond c (Some k) (first_failed first legs ends) ≡ Some l
+        → (first_failed first legs ends ≡ Some l → failed_of first legs l ≡ true) → failed_of first legs l ≡ true
+    step true is e later = ap (failed_of first legs) (sym (same e)) ∙ is
+    step false is e later = later e
+
+told_run : (anyway stop lapsed : Bool) → (anyway || (stop && lapsed)) ≡ true → anyway ≡ false → stop ≡ true
+told_run true stop lapsed h none = cc
+told_run false true lapsed h none = refl
+told_run false false lapsed h none = cc
+
+pub stops_are_caused : StopsAreCaused
+stops_are_caused l at h = by_cases at.leg.stop at.job_plan.fail_fast (first_failed (l - at.place.leg) at.job.legs at.board.ends) refl refl refl
+  where
+    by_cases : (stop fast : Bool) (failed : Option ℕ) → at.leg.stop ≡ stop → at.job_plan.fail_fast ≡ fast
+        → first_failed (l - at.place.leg) at.job.legs at.board.ends ≡ failed → CauseHolds l at (stop_by stop fast failed)
+    by_cases true fast failed is-stop is-fast is-failed = is-stop
+    by_cases false true (Some k) is-stop is-fast is-failed = (is-fast, found (l - at.place.leg) at.job.legs at.board.ends k is-failed)
+    by_cases false true None is-stop is-fast is-failed = λ none. told_run (stops_anyway at) at.run.stop _ h none
+    by_cases false false failed is-stop is-fast is-failed = λ none. told_run (stops_anyway at) at.run.stop _ h none

@@ -1,0 +1,26 @@
+//! What holds of what an entry makes so, beside the row of its event.
+
+ghost use Rattle.why_notes.specs.Laws as spec;
+
+/// The board of a record's account is the board after its entries.
+#[tactic(auto, using(crate::proofs::Lawful::accounts_follow_the_table))]
+pub fn accounts_follow_the_table()
+    ensures { spec.AccountsFollowTheTable }
+{}
+
+/// What an accepted entry makes so names whom the reply of its row names.
+pub fn changes_name_whom_the_row_names()
+    ensures { spec.ChangesNameWhomTheRowNames }
+{}
+
+/// A job is judged into the state of what is told to have become of it.
+#[tactic(auto, using(crate::proofs::Lawful::jobs_are_judged_as_told))]
+pub fn jobs_are_judged_as_told()
+    ensures { spec.JobsAreJudgedAsTold }
+{}
+
+/// The cause that is named why a leg is to stop holds on the board.
+#[tactic(auto, using(crate::proofs::Lawful::stops_are_caused))]
+pub fn stops_are_caused()
+    ensures { spec.StopsAreCaused }
+{}

@@ -1,0 +1,217 @@
+//! Which text of a step has no value.
+
+ghost use Rattle.std.specs.Prelude.{◌≡◌, [], IfOk, Ok, OnOk};
+ghost use Rattle.board_decisions.specs.Decisions as spec;
+ghost use Rattle.board_decisions.specs.Scenes.{leg_scene};
+ghost use Rattle.board_decisions.specs.Seen.{leg_seen};
+ghost use Rattle.why_notes.specs.Conditions as causes;
+ghost use Rattle.expr_value.specs.Answer.{Gives};
+ghost use Rattle.plan_values.specs.Known.{IsKnownOf, known_env};
+
+use board_decisions::decisions::leg_result;
+use board_decisions::place::SeenLeg;
+use board_decisions::scene::LegScene;
+use expr_value::Status;
+use flow_model::{Mapping, Outcome, StepPlan, Text, ValueFault};
+use plan_values::{Known, Place, condition_at, env_at};
+use std::alloc::{AllocError, Global};
+use why_facts::fact::StepText;
+
+/// A result as a status.
+fn status_of(how: Outcome) -> Status
+    ensures { result ≡ spec.status_of how }
+{
+    match how {
+        Outcome::Success => Status::Success,
+        Outcome::Failure => Status::Failure,
+        Outcome::Cancelled => Status::Cancelled,
+        Outcome::Skipped => Status::Other,
+    }
+}
+
+/// The status of a leg.
+pub(crate) fn leg_status(alloc: Global, at: &SeenLeg) -> Result<Status, AllocError>
+    ensures { IfOk result (λ status. status ≡ spec.leg_status (leg_seen at.now)) }
+{
+    let how = leg_result(alloc, at)?;
+    Ok(status_of(how))
+}
+
+/// The variables of the workflow.
+#[tactic(auto, unfolding(board_decisions::specs::Decisions::flow_env))]
+fn flow_env(alloc: Global, at: &SeenLeg, known: &mut Known) -> Result<Mapping<Text>, ValueFault>
+    requires known { IsKnownOf (leg_scene at.now) known.old }
+    requires env { known_env known.old ≡ [] }
+    ensures value { Gives (λ env. env) result (spec.flow_env (leg_seen at.now)) }
+    ensures env { known_env known.new ≡ [] }
+    ensures known { IsKnownOf (leg_scene at.now) known.new }
+{
+    env_at(
+        alloc,
+        &LegScene { at },
+        known,
+        Place::WorkflowEnv,
+        &at.run_plan.env,
+    )
+}
+
+/// Lets texts see the variables of the job over others.
+fn know_job_env(
+    alloc: Global,
+    at: &SeenLeg,
+    known: &mut Known,
+    below: Mapping<Text>,
+) -> Result<(), ValueFault>
+    requires known { IsKnownOf (leg_scene at.now) known.old }
+    requires env { known_env known.old ≡ [] }
+    ensures value { Gives (λ _. known_env known.new) result
+        (spec.job_env_over (leg_seen at.now) below) }
+    ensures known { IsKnownOf (leg_scene at.now) known.new }
+{
+    let job = env_at(
+        alloc,
+        &LegScene { at },
+        known,
+        Place::JobEnv,
+        &at.job_plan.env,
+    )?;
+    known.set_env(below);
+    known.lay_own_env(alloc, job)?;
+    Ok(())
+}
+
+/// Lets texts see what the done steps of a leg set over the variables that they see.
+fn know_set(alloc: Global, at: &SeenLeg, known: &mut Known) -> Result<(), AllocError>
+    requires { IsKnownOf (leg_scene at.now) known.old }
+    ensures value { OnOk result
+        (known_env known.new ≡ spec.set_over (leg_seen at.now).leg.steps (known_env known.old)) }
+    ensures known { IsKnownOf (leg_scene at.now) known.new }
+{
+    let steps = at.leg.steps.as_slice();
+    for done in steps {
+        known.lay_env(alloc, &done.env)?;
+    }
+    Ok(())
+}
+
+/// Lets texts see the variables of a step over those that they see.
+fn know_step_env(
+    alloc: Global,
+    at: &SeenLeg,
+    known: &mut Known,
+    step: &StepPlan,
+) -> Result<(), ValueFault>
+    requires { IsKnownOf (leg_scene at.now) known.old }
+    ensures value { Gives (λ _. known_env known.new) result
+        (causes.step_env_over (leg_seen at.now) step.now (known_env known.old)) }
+    ensures known { IsKnownOf (leg_scene at.now) known.new }
+{
+    let own = env_at(alloc, &LegScene { at }, known, Place::StepEnv, &step.env)?;
+    known.lay_own_env(alloc, own)?;
+    Ok(())
+}
+
+/// The text that has no value, where the variables of a step are known.
+fn text_after_step(
+    alloc: Global,
+    at: &SeenLeg,
+    known: &mut Known,
+    step: &StepPlan,
+) -> Result<StepText, AllocError>
+    requires { IsKnownOf (leg_scene at.now) known.old }
+    ensures { IfOk result (λ text. text ≡ causes.text_after_step (leg_seen at.now) step.now
+        (Ok (known_env known.old))) }
+{
+    let status = leg_status(alloc, at)?;
+    match condition_at(
+        alloc,
+        &LegScene { at },
+        known,
+        Place::StepCondition,
+        &step.condition,
+        status,
+    ) {
+        Ok(_) => Ok(StepText::Work),
+        Err(ValueFault::Memory) => Err(AllocError),
+        Err(
+            ValueFault::NotWhole
+            | ValueFault::NoIdentity
+            | ValueFault::BadFormat
+            | ValueFault::BadJson
+            | ValueFault::TooLarge,
+        ) => Ok(StepText::Condition),
+    }
+}
+
+/// The same where the variables of the job are known.
+fn text_after_job(
+    alloc: Global,
+    at: &SeenLeg,
+    known: &mut Known,
+    step: &StepPlan,
+) -> Result<StepText, AllocError>
+    requires { IsKnownOf (leg_scene at.now) known.old }
+    ensures { IfOk result (λ text. text ≡ causes.text_after_job (leg_seen at.now) step.now
+        (Ok (known_env known.old))) }
+{
+    know_set(alloc, at, known)?;
+    match know_step_env(alloc, at, known, step) {
+        Ok(()) => text_after_step(alloc, at, known, step),
+        Err(ValueFault::Memory) => Err(AllocError),
+        Err(
+            ValueFault::NotWhole
+            | ValueFault::NoIdentity
+            | ValueFault::BadFormat
+            | ValueFault::BadJson
+            | ValueFault::TooLarge,
+        ) => Ok(StepText::StepEnv),
+    }
+}
+
+/// The same where those of the workflow have their values.
+fn text_after_flow(
+    alloc: Global,
+    at: &SeenLeg,
+    known: &mut Known,
+    step: &StepPlan,
+    flow: Mapping<Text>,
+) -> Result<StepText, AllocError>
+    requires known { IsKnownOf (leg_scene at.now) known.old }
+    requires env { known_env known.old ≡ [] }
+    ensures { IfOk result
+        (λ text. text ≡ causes.text_after_flow (leg_seen at.now) step.now (Ok flow)) }
+{
+    match know_job_env(alloc, at, known, flow) {
+        Ok(()) => text_after_job(alloc, at, known, step),
+        Err(ValueFault::Memory) => Err(AllocError),
+        Err(
+            ValueFault::NotWhole
+            | ValueFault::NoIdentity
+            | ValueFault::BadFormat
+            | ValueFault::BadJson
+            | ValueFault::TooLarge,
+        ) => Ok(StepText::JobEnv),
+    }
+}
+
+/// The first text of a step that has no value, where one of them has none.
+pub(crate) fn faulted_text(
+    alloc: Global,
+    at: &SeenLeg,
+    step: &StepPlan,
+) -> Result<StepText, AllocError>
+    ensures { IfOk result (λ text. text ≡ causes.faulted_text (leg_seen at.now) step.now) }
+{
+    let mut known = Known::empty(alloc);
+    match flow_env(alloc, at, &mut known) {
+        Ok(flow) => text_after_flow(alloc, at, &mut known, step, flow),
+        Err(ValueFault::Memory) => Err(AllocError),
+        Err(
+            ValueFault::NotWhole
+            | ValueFault::NoIdentity
+            | ValueFault::BadFormat
+            | ValueFault::BadJson
+            | ValueFault::TooLarge,
+        ) => Ok(StepText::FlowEnv),
+    }
+}
