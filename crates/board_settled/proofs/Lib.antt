@@ -25,7 +25,7 @@ pub mod Played
 pub mod Records
 pub mod RunEvents
 pub mod Runs
-pub mod Same
+pub mod SameBoards
 pub mod Seen
 pub mod Set
 pub mod SettledNeeds
