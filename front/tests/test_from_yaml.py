@@ -134,7 +134,8 @@ class Workflows(unittest.TestCase):
             self.assertEqual(sorted(os.listdir(room)), ["bad.yml", "good.json", "good.yml"])
 
     def test_words(self):
-        for words in ([], ["-x"], ["-o"], ["-o", "x"], ["-o", "x", "a.yml", "b.yml"], ["-o", "x", "-o", "y", "a.yml"]):
+        for words in ([], ["-x"], ["-o"], ["-o", "x"], ["-o", "x", "a.yml", "b.yml"], ["-o", "x", "-o", "y", "a.yml"],
+                      ["--any-system", "a.yml"], ["--contexts", "c", "a.yml"], ["--lower", "--matrix", "a.b=[", "a.yml"], ["--lower"]):
             with self.subTest(words):
                 printed, told, status = run(words)
                 self.assertEqual((printed, status, told.count("\n")), ("", 2, 1))
@@ -146,6 +147,47 @@ class Workflows(unittest.TestCase):
                 printed, told, status = run(words, b"a: b")
                 self.assertEqual((printed, status), ("", 3))
                 self.assertTrue(told.splitlines()[-1].startswith("from-yaml: "))
+
+
+class Lower(unittest.TestCase):
+    def setUp(self):
+        room = tempfile.TemporaryDirectory()
+        self.addCleanup(room.cleanup)
+        self.room = room.name
+        os.makedirs(os.path.join(self.room, ".github", "workflows"))
+        self.name = os.path.join(self.room, ".github", "workflows", "ci.yml")
+
+    def write(self, name, text):
+        with open(name, "w", encoding="utf-8") as it:
+            it.write(text)
+        return name
+
+    def test_lower(self):
+        self.write(os.path.join(self.room, "a.lock"), "one\n")
+        self.write(self.name, "on: push\njobs:\n  a:\n    container: x\n    strategy: {matrix: {v: '${{ needs.b.outputs.v }}'}}\n"
+                   "    steps:\n      - {id: s, run: \"${{ hashFiles('a.lock') }} ${{ runner.name }}\"}\n")
+        contexts = self.write(os.path.join(self.room, "contexts.json"), '{"runner": {"name": "mine"}}')
+        printed, told, status = run(["--lower", "-o", "-", "--contexts", contexts, "--matrix", "a.v=[1]", self.name])
+        self.assertEqual(status, 0, told)
+        digest = "9c64071fc196d33fec0036f48898b7ff2cf8398b892ead8afce6e9568f7fb6de"
+        self.assertEqual(json.loads(printed)["jobs"]["a"], {
+            "strategy": {"matrix": {"v": [1]}}, "env": {"GITHUB_JOB": "a"},
+            "steps": [{"id": "s", "run": f"{digest} mine", "env": {"GITHUB_ACTION": "s"}}]})
+        self.assertEqual([line.split(": ")[0] for line in told.splitlines()], [f"{self.name}:{line}" for line in (4, 5, 7, 7)])
+
+    def test_refused(self):
+        self.write(self.name, "on: push\njobs:\n  a:\n    strategy: {matrix: '${{ needs.b.outputs.v }}'}\n    steps: []\n")
+        printed, told, status = run(["--lower", "-o", "-", self.name])
+        self.assertEqual((printed, status), ("", 2))
+        self.assertTrue(told.startswith(f"{self.name}:4: matrix of job a is "), told)
+
+    def test_contexts(self):
+        self.write(self.name, "on: push\njobs: {a: {steps: []}}\n")
+        for text, wanted in (("[", 2), ("[]", 2), ('{"github": 1}', 2), (None, 3)):
+            name = os.path.join(self.room, "none.json") if text is None else self.write(os.path.join(self.room, "c.json"), text)
+            printed, told, status = run(["--lower", "-o", "-", "--contexts", name, self.name])
+            self.assertEqual((printed, status, told.count("\n")), ("", wanted, 1), text)
+            self.assertTrue(told.startswith(f"from-yaml: --contexts {name}: "), told)
 
 
 class Refused(unittest.TestCase):
