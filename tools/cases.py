@@ -24,6 +24,8 @@ SECONDS = 1800
 # that programs of cases before them wrote
 PARTS = 4
 WHOLE = {"programs.cases"}
+# these take longest, and begin first
+SLOW = {"evaluation.cases", "hostile-sweeps.cases", "expressions.cases", "dropped-legs.cases"}
 ASKS, DEFINES, GOES_ON = "$?", "#|/:", "+&*@-\\"
 
 
@@ -85,7 +87,7 @@ def main() -> int:
         print(__doc__, file=sys.stderr)
         return 2
     program, named = Path(sys.argv[1]).resolve(), sys.argv[2:]
-    files = named or (CRATE / "args").read_text(encoding="utf-8").split()
+    files = sorted(named or (CRATE / "args").read_text(encoding="utf-8").split(), key=lambda it: it not in SLOW)
     agree = differ = 0
     with concurrent.futures.ThreadPoolExecutor(os.cpu_count()) as pool:
         started = [pool.submit(execute, program, file, number) for file in files
