@@ -20,39 +20,66 @@ from pathlib import Path
 CRATE = Path(__file__).resolve().parent.parent / "crates/conformance"
 TOLD = re.compile(r"(\d+) cases agree(?:, (\d+) differ)?$")
 SECONDS = 1800
-# a program without proofs takes minutes for some files, so each is executed in parts; not the one whose cases read the files
-# that programs of cases before them wrote
-PARTS = 4
-WHOLE = {"programs.cases"}
-# these take longest, and begin first
-SLOW = {"evaluation.cases", "hostile-sweeps.cases", "expressions.cases", "dropped-legs.cases"}
-ASKS, DEFINES, GOES_ON = "$?", "#|/:", "+&*@-\\"
+# a program without proofs takes minutes for these files, so they begin first, and each is executed in parts
+SLOW = {f"{name}.cases" for name in "dropped-legs eval evaluation expressions hostile-sweeps planning-limits pools settled".split()}
+PARTS = 8
+# the marks of lines that ask or want something, that define something for later cases, and that go on with a line
+ASKS, DEFINES, GOES_ON = "$?>!=", "#|/:", "+&*@-\\"
+MARKS = ASKS + DEFINES + GOES_ON + "<~%"
 
 
 def mark(line: str) -> str:
     """The mark of a line of a case, or nothing for a line that is for the reader."""
-    return line[:1] if line[1:2] in ("", " ") else ""
+    return line[:1] if line[:1] in MARKS and line[1:2] in ("", " ") else ""
 
 
-def definitions(case: list[str]) -> list[str]:
-    """The lines of a case that define texts and files for the cases after it."""
-    kept, defines = [], False
+def definitions(case: list[str]) -> list[tuple[str, list[str]]]:
+    """What a case defines: the name of a file with its lines, or no name with the line of a text or a heading."""
+    found: list[tuple[str, list[str]]] = []
+    file, lines = "contexts.json", None
     for line in case:
-        if mark(line) and mark(line) not in GOES_ON:
-            defines = mark(line) in DEFINES
-        if mark(line) and defines:
-            kept.append(line)
-    return kept
+        sign = mark(line)
+        if sign == "/" or sign == "|" and (not found or found[-1][0] != file):
+            file = line[2:] if sign == "/" else file
+            found.append((file, lines := [line]))
+        elif sign and sign in "#:":
+            found.append(("", lines := [line]))
+        elif sign and (sign == "|" or sign in GOES_ON):
+            if lines is not None:
+                lines.append(line)
+        elif sign:
+            lines = None
+    return found
 
 
 def part_of(text: str, number: int) -> str:
-    """The cases of a file that are in a part, and what the other cases define."""
-    lines, asked = [], 0
+    """The cases of a file that are in a part, and what the cases left out define for them."""
+    lines: list[str] = []
+    files: dict[str, list[str]] = {}  # of cases left out, for as long as no case begins them anew
+    units = 0
     for case in (it.split("\n") for it in re.split(r"\n{2,}", text)):
         asks = any(mark(line) and mark(line) in ASKS for line in case)
-        asked += asks
-        lines += [*(definitions(case) if asks and asked % PARTS != number else case), ""]
+        # (`run` may read the record that a `run` before it wrote, so it stays in the part of the case before it)
+        units += asks and not any(line.startswith("$ run") for line in case)
+        defined = definitions(case)
+        for name, _ in defined:
+            files.pop(name, None)
+        if asks and units % PARTS != number:
+            for name, some in defined:
+                if name:
+                    files[name] = some
+                else:
+                    lines += [*flushed(files), *some, ""]
+        else:
+            lines += [*flushed(files), *case, ""]
     return "\n".join(lines)
+
+
+def flushed(files: dict[str, list[str]]) -> list[str]:
+    """The lines of the files, which are then none."""
+    lines = [line for some in files.values() for line in [*some, ""]]
+    files.clear()
+    return lines
 
 
 def execute(program: Path, file: str, number: int) -> tuple[int, int, str]:
@@ -60,7 +87,7 @@ def execute(program: Path, file: str, number: int) -> tuple[int, int, str]:
     with tempfile.TemporaryDirectory() as folder:
         shutil.copytree(CRATE / "data", folder, dirs_exist_ok=True)
         cases = Path(folder, file)
-        if file not in WHOLE:
+        if file in SLOW:
             with cases.open(encoding="utf-8", newline="") as it:
                 text = it.read()
             with cases.open("w", encoding="utf-8", newline="") as it:
@@ -91,7 +118,7 @@ def main() -> int:
     agree = differ = 0
     with concurrent.futures.ThreadPoolExecutor(os.cpu_count()) as pool:
         started = [pool.submit(execute, program, file, number) for file in files
-                   for number in range(1 if file in WHOLE else PARTS)]
+                   for number in range(PARTS if file in SLOW else 1)]
         for it in started:
             some, others, said = it.result()
             agree, differ = agree + some, differ + others
