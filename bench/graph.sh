@@ -4,37 +4,11 @@
 set -eu
 top=$(cd "$(dirname "${BASH_SOURCE[0]}")/.." && pwd)
 "$top/actrun" graph "$top/examples/p1.record" > /dev/null
-exec python3 - "$top" <<'PY'
-import os
-import subprocess
-import sys
-import tempfile
-
-top = sys.argv[1]
-program = os.path.join(top, "crates/actrun/out/actrun")
-
-# Runs the program and prints its processor time.
-CHILD = """
-import resource, subprocess, sys
-code = subprocess.run(sys.argv[1:], stdout=subprocess.DEVNULL).returncode
-used = resource.getrusage(resource.RUSAGE_CHILDREN)
-print(used.ru_utime + used.ru_stime)
-sys.exit(0 if code in (0, 1, 4) else code)
-"""
-
-
-def seconds(command, path):
-    """The least of three runs."""
-    runs = [subprocess.run([sys.executable, "-c", CHILD, program, command, path],
-                           capture_output=True, text=True, check=True) for _ in range(3)]
-    return min(float(run.stdout) for run in runs)
-
+PYTHONPATH=$top/bench exec python3 - <<'PY'
+from processor_time import big_record, seconds, size
 
 for count in (0, 10_000, 100_000):
-    with tempfile.NamedTemporaryFile() as record:
-        big = os.path.join(top, "bench/big_record.py")
-        subprocess.run([sys.executable, big, str(count), "legs"], stdout=record, check=True)
-        shown = subprocess.run([program, "graph", record.name], capture_output=True, check=False).stdout
-        print(f"{count} entries on 4,096 legs: graph {seconds('graph', record.name):.2f} s, "
-              f"replay {seconds('replay', record.name):.2f} s, {len(shown) / 1e3:.0f} kB printed")
+    with big_record(count, "legs") as record:
+        print(f"{count} entries on 4,096 legs: graph {seconds('graph', record):.2f} s, "
+              f"replay {seconds('replay', record):.2f} s, {size('graph', record) / 1e3:.0f} kB printed")
 PY
