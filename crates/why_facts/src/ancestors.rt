@@ -103,23 +103,23 @@ fn hand_on(first: u64, jobs: &[JobPlan], run: &Run, marks: &mut Sequence<bool>, 
     }
 }
 
-/// Adds of the first so many jobs of a run the numbers of those that are marked and had no success; one that had success hands its mark on.
+/// Adds of the jobs before a job the numbers of those that are marked and had no success; one that had success hands its
+/// mark on.
 fn add_marked(
     out: &mut Vec<u64>,
     first: u64,
-    jobs: &[JobPlan],
-    run: &Run,
-    count: usize,
+    at: &SeenJob,
     marks: &mut Sequence<bool>,
 ) -> Result<(), AllocError>
-    ensures { OnOk result (Adds out.old.items out.new.items
-        (spec.unsuccessful first jobs.now run.now count marks.old)) }
+    ensures { OnOk result (Adds out.old.items out.new.items (spec.unsuccessful first
+        at.now.run_plan.now.jobs at.now.run.now at.now.place.job marks.old)) }
 {
-    let mut left = count;
+    let jobs = at.run_plan.jobs.as_slice();
+    let mut left = at.place.job;
     while left > 0 {
         left -= 1;
-        add_at(out, first, run, marks, left)?;
-        hand_on(first, jobs, run, marks, left);
+        add_at(out, first, at.run, marks, left)?;
+        hand_on(first, jobs, at.run, marks, left);
     }
     Ok(())
 }
@@ -137,5 +137,5 @@ pub fn add_unsuccessful(
     let jobs = at.run_plan.jobs.as_slice();
     let mut marks = unmarked(alloc, jobs)?;
     mark_all(first, &mut marks, at.plan.needs.as_slice());
-    add_marked(out, first, jobs, at.run, at.place.job, &mut marks)
+    add_marked(out, first, at, &mut marks)
 }

@@ -5,8 +5,8 @@ use Rattle.why_facts.specs.Ancestors.{unsuccessful_at, marks_after, unsuccessful
 pub loop-left-preserved : goal.loop-left-preserved
 loop-left-preserved c =
     let first = c.args.first in
-    let jobs = c.args.jobs.now in
-    let run = c.args.run.now in
+    let jobs = c.as_slice-jobs.result.now in
+    let run = c.args.at.now.run.now in
     let out = c.loop-left.out.items in
     let marks = c.loop-left.marks in
     let some = c.loop-left-test.true in
