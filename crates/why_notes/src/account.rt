@@ -7,7 +7,7 @@ ghost use Rattle.why_notes.specs.Changes.{changes};
 
 use crate::changes::add_changes;
 use flat_board::FlatBoard;
-use flow_model::{Board, CheckedPlan, Duplicate, Entry, Event, Plan};
+use flow_model::{Board, CheckedPlan, Duplicate, Entry, Plan};
 use status_table::{EventFault, Table};
 use std::alloc::{AllocError, Global};
 use why_facts::notes::{Notes, note_changes};
@@ -20,40 +20,45 @@ pub struct SeenAccount<'a> {
     pub notes: &'a Notes,
 }
 
-/// Notes at a line what an event makes so, where it is accepted.
-fn note_event(
+/// An entry, and the number of its line.
+#[derive(Clone, Copy)]
+struct Line<'a> {
+    number: u64,
+    entry: &'a Entry,
+}
+
+/// Notes what the entry of a line makes so, where it is accepted.
+fn note_line(
     alloc: Global,
     plan: &Plan,
     table: &FlatBoard,
     notes: &mut Notes,
-    line: u64,
-    event: &Event,
+    line: &Line<'_>,
 ) -> Result<(), AllocError>
     requires { table.now.plan ≡ plan.now }
-    ensures { OnOk result
-        (notes.new ≡ all_noted line notes.old (changes plan.now table.now.board event.now)) }
+    ensures { OnOk result (notes.new ≡ all_noted line.now.number notes.old
+        (changes plan.now table.now.board line.now.entry.now.event)) }
 {
     let mut changes = Vec::new(alloc);
-    add_changes(alloc, &mut changes, plan, table, event)?;
-    note_changes(notes, line, changes.as_slice())
+    add_changes(alloc, &mut changes, plan, table, &line.entry.event)?;
+    note_changes(notes, line.number, changes.as_slice())
 }
 
-/// Notes an entry at a line, and plays it.
+/// Notes the entry of a line, and plays it.
 fn play_noted(
     alloc: Global,
     plan: &CheckedPlan,
     table: &mut FlatBoard,
     notes: &mut Notes,
-    line: u64,
-    entry: &Entry,
+    line: &Line<'_>,
 ) -> Result<(), EventFault>
     requires { table.old.plan ≡ plan.now }
     ensures plan { table.new.plan ≡ plan.now }
-    ensures plays { spec.PlaysNoted line plan.now table.old.board notes.old entry.now
+    ensures plays { spec.PlaysNoted line.now.number plan.now table.old.board notes.old line.now.entry.now
         result table.new.board notes.new }
 {
-    note_event(alloc, plan.plan(), table, notes, line, &entry.event)?;
-    let entry = entry.copy(alloc)?;
+    note_line(alloc, plan.plan(), table, notes, line)?;
+    let entry = line.entry.copy(alloc)?;
     table.advance(entry)
 }
 
@@ -72,7 +77,11 @@ fn play_all(
     ensures within { IfErr result (λ stop. stop.0 < length entries.now) }
 {
     for (place, entry) in entries.iter().enumerate() {
-        if let Err(fault) = play_noted(alloc, plan, table, notes, place as u64 + 2, entry) {
+        let line = Line {
+            number: place as u64 + 2,
+            entry,
+        };
+        if let Err(fault) = play_noted(alloc, plan, table, notes, &line) {
             return Err((place, fault));
         }
     }

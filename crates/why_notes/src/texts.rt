@@ -143,7 +143,7 @@ fn text_after_step(
     }
 }
 
-/// The same where the variables of the job are known.
+/// The first text of a step without a value, where the variables of the job are known.
 fn text_after_job(
     alloc: Global,
     at: &SeenLeg,
@@ -168,7 +168,7 @@ fn text_after_job(
     }
 }
 
-/// The same where those of the workflow have their values.
+/// The first text of a step without a value, where the variables of the workflow have their values.
 fn text_after_flow(
     alloc: Global,
     at: &SeenLeg,
