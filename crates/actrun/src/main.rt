@@ -5,7 +5,7 @@
 use command_io::bounded::{Bounded, MOST_READS};
 use command_io::stream::{Input, Output};
 use command_io::tell::refuse;
-use command_io::trouble::Trouble;
+use command_io::error::CommandError;
 use command_run::machine::Machine;
 use command_words::folder::Folder;
 use command_words::words::run_line;
@@ -61,7 +61,7 @@ fn main(rt: HostRuntime) -> ExitCode {
             let line = env::args(&rt);
             run_line(rt.alloc(), line, &disk, &mut input, &mut out, &mut err)
         },
-        Err(_) => refuse(&mut err, &Trouble::Memory),
+        Err(_) => refuse(&mut err, &CommandError::Memory),
     };
     ExitCode::from(status)
 }

@@ -28,7 +28,7 @@ impl Told {
 
 /// What the text of a line is.
 #[derive(Clone, Copy)]
-enum Kind {
+enum LineKind {
     Prose,
     Name,
     Words,
@@ -43,19 +43,19 @@ enum Kind {
 }
 
 /// What a mark begins, and whether its text is a line.
-fn kind_of(mark: &str) -> (Kind, bool) {
+fn kind_of(mark: &str) -> (LineKind, bool) {
     match mark {
-        "#" => (Kind::Name, false),
-        "$" => (Kind::Words, false),
-        "?" => (Kind::Verb, false),
-        "|" => (Kind::File, true),
-        "/" => (Kind::FileName, false),
-        "<" => (Kind::Input, true),
-        ">" => (Kind::Out, true),
-        "!" => (Kind::Err, true),
-        "=" => (Kind::Status, false),
-        ":" => (Kind::Named, false),
-        _ => (Kind::Prose, false),
+        "#" => (LineKind::Name, false),
+        "$" => (LineKind::Words, false),
+        "?" => (LineKind::Verb, false),
+        "|" => (LineKind::File, true),
+        "/" => (LineKind::FileName, false),
+        "<" => (LineKind::Input, true),
+        ">" => (LineKind::Out, true),
+        "!" => (LineKind::Err, true),
+        "=" => (LineKind::Status, false),
+        ":" => (LineKind::Named, false),
+        _ => (LineKind::Prose, false),
     }
 }
 
@@ -80,7 +80,7 @@ pub struct Case {
     endless: String,
     texts: Files,
     /// The text of the line that is being read, what it is, and what stands behind the place of an edit.
-    kind: Kind,
+    kind: LineKind,
     text: Vec<u8>,
     behind: Vec<u8>,
     /// Whether a newline ends it.
@@ -178,7 +178,7 @@ impl Case {
             limits: Limits::none(),
             endless: String::new(alloc),
             texts: BTreeMap::new(alloc),
-            kind: Kind::Prose,
+            kind: LineKind::Prose,
             text: Vec::new(alloc),
             behind: Vec::new(alloc),
             is_ended: false,
@@ -216,26 +216,26 @@ impl Case {
         let text = self.text.as_slice();
         let line = str::from_utf8(text).unwrap_or("");
         match self.kind {
-            Kind::Prose => Ok(()),
-            Kind::Name => {
+            LineKind::Prose => Ok(()),
+            LineKind::Name => {
                 self.name.clear();
                 self.name.extend_from_slice(text)
             },
-            Kind::Words => add_words(&mut self.words, alloc, line),
-            Kind::Verb => {
+            LineKind::Words => add_words(&mut self.words, alloc, line),
+            LineKind::Verb => {
                 self.is_verb = true;
                 add_words(&mut self.words, alloc, line)
             },
-            Kind::File => self.take_file_line(alloc),
-            Kind::FileName => self.take_file_name(alloc),
-            Kind::Input => self.input.extend_from_slice(text),
-            Kind::Out => self.out.extend_from_slice(text),
-            Kind::Err => self.err.extend_from_slice(text),
-            Kind::Status => {
+            LineKind::File => self.take_file_line(alloc),
+            LineKind::FileName => self.take_file_name(alloc),
+            LineKind::Input => self.input.extend_from_slice(text),
+            LineKind::Out => self.out.extend_from_slice(text),
+            LineKind::Err => self.err.extend_from_slice(text),
+            LineKind::Status => {
                 self.status = line.parse::<u8>().unwrap_or(u8::MAX);
                 Ok(())
             },
-            Kind::Named => {
+            LineKind::Named => {
                 let (name, named) = parted(line);
                 keep(&mut self.texts, alloc, name, named.as_bytes())
             },

@@ -15,7 +15,7 @@ use Rattle.flow_model.specs.declared.plan.Plan.{Plan}
 use Rattle.status_table.specs.Runs.{after, new_board}
 use Rattle.status_table.specs.declared.fault.EventFault.{EventFault}
 use Rattle.command_debug.specs.Answers.{Adds, AddsSome, IsMove, TellsGo, TellsMove, TellsOneLine, TellsRequest, move_line}
-use Rattle.command_debug.specs.Debug.{HasOpenLine, open_trouble}
+use Rattle.command_debug.specs.Debug.{HasOpenLine, open_error}
 use Rattle.command_io.proofs.Stopped.{has_line, refused_there}
 use Rattle.command_io.specs.Records.{HasLine, IsStopped}
 use Rattle.command_debug.specs.Requests.{Asks, FindsOne}
@@ -43,7 +43,7 @@ move_told target s found next h = (ap (move_line (length s.entries)) h.0, h.1)
 -- ---- records that are opened
 
 -- a record that is not opened stops there
-pub stopped : (p : Plan) (es : List Entry) (why : DebugFault) → NotOpened p (new_board p) es why → IsStopped p es (open_trouble why)
+pub stopped : (p : Plan) (es : List Entry) (why : DebugFault) → NotOpened p (new_board p) es why → IsStopped p es (open_error why)
 stopped p es (fault.BadRecord i f) w = refused_there p es i f (λ named. w)
 stopped p es fault.AtStart w = absurd w
 stopped p es fault.AtEnd w = absurd w

@@ -6,13 +6,13 @@ use Rattle.debugger.specs.declared.fault.DebugFault.TheVariants as fault
 use Rattle.flow_model.specs.declared.event.Entry.{Entry}
 use Rattle.flow_model.specs.declared.plan.Plan.{Plan}
 use Rattle.status_table.specs.Runs.{IsLegal, new_board}
-use Rattle.command_io.specs.Records.{HasLine, IsNotPlayed, IsStopped, OfRecord, stop_trouble}
+use Rattle.command_io.specs.Records.{HasLine, IsNotPlayed, IsStopped, OfRecord, stop_error}
 use Rattle.command_io.specs.Stream.{Stream, IsRead}
-use Rattle.command_io.specs.Tell.{TellsTrouble}
-use Rattle.command_io.specs.Trouble.{UnlessMemory}
+use Rattle.command_io.specs.Tell.{TellsError}
+use Rattle.command_io.specs.CommandError.{UnlessMemory}
 use Rattle.command_io.specs.declared.stream.SourceFault.TheVariants as source_fault
-use Rattle.command_io.specs.declared.trouble.Trouble.{Trouble}
-use Rattle.command_io.specs.declared.trouble.Trouble.TheVariants.{Io, Memory}
+use Rattle.command_io.specs.declared.error.CommandError.{CommandError}
+use Rattle.command_io.specs.declared.error.CommandError.TheVariants.{Io, Memory}
 use Rattle.command_debug.specs.Answers.{TellsLines}
 use Rattle.command_debug.specs.Session.{SessionTells}
 
@@ -27,15 +27,15 @@ pub record OfFile (file file' : Stream) (Is : Session → Type 0) : Type 0 where
   pub is : OfRecord text (FromStart Is)
 
 -- Why a record is not under the debugger: it was not read to its end, or it is not played; want of memory may always be why.
-abbrev pub IsUnopened : Stream → Stream → Trouble → Type 0
-IsUnopened file file' trouble =
-    UnlessMemory trouble
-    ((IsRead file file' (Err source_fault.Failed) × (trouble ≡ Io)) ⊎ ((text : List ℕ) × IsRead file file' (Ok text) × IsNotPlayed text trouble))
+abbrev pub IsUnopened : Stream → Stream → CommandError → Type 0
+IsUnopened file file' error =
+    UnlessMemory error
+    ((IsRead file file' (Err source_fault.Failed) × (error ≡ Io)) ⊎ ((text : List ℕ) × IsRead file file' (Ok text) × IsNotPlayed text error))
 
 -- A record is not under the debugger, which is told before anything is read of the input.
 abbrev pub TellsUnopened : Stream → Stream → Stream → Stream → Stream → Stream → Stream → Stream → ℕ → Type 0
 TellsUnopened file file' input input' out out' err err' status =
-    (trouble : Trouble) × IsUnopened file file' trouble × (input' ≡ input) × TellsTrouble trouble out out' err err' status
+    (error : CommandError) × IsUnopened file file' error × (input' ≡ input) × TellsError error out out' err err' status
 
 -- What `debug` leaves: it reads a record to its end, and tells what is told of the lines of the input, or why the record is
 -- not under the debugger.
@@ -56,19 +56,19 @@ abbrev pub IsAtStart : Session → Plan → List Entry → Type 0
 IsAtStart s = FromStart (λ start. s ≡ start)
 
 -- Entries under the debugger, or that the table refuses one of them.
-abbrev pub GivesSession : Plan → List Entry → Result Session Trouble → Type 0
+abbrev pub GivesSession : Plan → List Entry → Result Session CommandError → Type 0
 GivesSession plan entries (Ok s) = IsAtStart s plan entries
-GivesSession plan entries (Err trouble) = IsStopped plan entries trouble
+GivesSession plan entries (Err error) = IsStopped plan entries error
 
 -- What it comes to that entries are not under the debugger: one of them is refused; the debugger opens no record for the
 -- other refusals, which are of moves.
-abbrev pub open_trouble : DebugFault → Trouble
-open_trouble (fault.BadRecord entry refusal) = stop_trouble entry refusal
-open_trouble fault.AtStart = Memory
-open_trouble fault.AtEnd = Memory
-open_trouble fault.NoPlace = Memory
-open_trouble fault.NoBreak = Memory
-open_trouble fault.Memory = Memory
+abbrev pub open_error : DebugFault → CommandError
+open_error (fault.BadRecord entry refusal) = stop_error entry refusal
+open_error fault.AtStart = Memory
+open_error fault.AtEnd = Memory
+open_error fault.NoPlace = Memory
+open_error fault.NoBreak = Memory
+open_error fault.Memory = Memory
 
 -- The entry that is refused has a line with a number.
 abbrev pub HasOpenLine : DebugFault → Type 0
@@ -80,11 +80,11 @@ HasOpenLine fault.NoBreak = Unit {0}
 HasOpenLine fault.Memory = Unit {0}
 
 -- A record under the debugger, or why it is not played.
-abbrev pub OpensRecord : List ℕ → Result Session Trouble → Type 0
+abbrev pub OpensRecord : List ℕ → Result Session CommandError → Type 0
 OpensRecord text (Ok s) = OfRecord text (IsAtStart s)
-OpensRecord text (Err trouble) = UnlessMemory trouble (IsNotPlayed text trouble)
+OpensRecord text (Err error) = UnlessMemory error (IsNotPlayed text error)
 
 -- The same of a record that is read first.
-abbrev pub OpensFile : Stream → Stream → Result Session Trouble → Type 0
+abbrev pub OpensFile : Stream → Stream → Result Session CommandError → Type 0
 OpensFile file file' (Ok s) = OfFile file file' (λ start. s ≡ start)
-OpensFile file file' (Err trouble) = IsUnopened file file' trouble
+OpensFile file file' (Err error) = IsUnopened file file' error

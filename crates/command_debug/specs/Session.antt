@@ -4,10 +4,10 @@ use Rattle.debugger.specs.Session.{Session}
 use Rattle.flow_model.specs.Lines.{lines_of}
 use Rattle.command_io.specs.Stream.{Stream, IsCutOff, IsKept, IsLineRead, IsWritten, LosesPart, TakesLines}
 use Rattle.command_io.specs.Tell.{Says}
-use Rattle.command_io.specs.Trouble.{line, trouble_status}
+use Rattle.command_io.specs.CommandError.{line, error_status}
 use Rattle.command_io.specs.declared.stream.SourceFault.TheVariants as source_fault
-use Rattle.command_io.specs.declared.trouble.Trouble.{Trouble}
-use Rattle.command_io.specs.declared.trouble.Trouble.TheVariants.{Io, Memory}
+use Rattle.command_io.specs.declared.error.CommandError.{CommandError}
+use Rattle.command_io.specs.declared.error.CommandError.TheVariants.{Io, Memory}
 use Rattle.command_debug.specs.Answers.{TellsLines, TellsOneLine}
 use Rattle.command_debug.specs.declared.session.Halt.{Halt}
 use Rattle.command_debug.specs.declared.session.Halt.TheVariants as halt
@@ -70,11 +70,11 @@ Holds s input input' out out' (Err halt.Memory) = StopsForMemory s input out out
 abbrev pub IsDone : Stream → Stream → ℕ → Type 0
 IsDone err err' status = IsKept err err' × (status ≡ 0)
 
--- A trouble's line stands on err, as far as err takes it, with the trouble's status.
-abbrev pub IsRefused : Trouble → Stream → Stream → ℕ → Type 0
-IsRefused trouble err err' status = Says err err' (line trouble) × (status ≡ trouble_status trouble)
+-- An error's line stands on err, as far as err takes it, with the error's status.
+abbrev pub IsRefused : CommandError → Stream → Stream → ℕ → Type 0
+IsRefused error err err' status = Says err err' (line error) × (status ≡ error_status error)
 
--- How the end of a session is told: a read or a write that failed is trouble with files and streams.
+-- How the end of a session is told: a read or a write that failed is error with files and streams.
 abbrev pub Finishes : Result (Unit {0}) Halt → Stream → Stream → ℕ → Type 0
 Finishes (Ok done) err err' status = IsDone err err' status
 Finishes (Err halt.Unread) err err' status = IsRefused Io err err' status

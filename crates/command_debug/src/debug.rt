@@ -8,11 +8,11 @@ ghost use Rattle.command_debug.specs.Debug.{DebugTells};
 
 use crate::kept::text_kept;
 use crate::session::hold;
-use command_io::records::{load_trouble, stop_trouble};
+use command_io::error::CommandError;
+use command_io::records::{load_error, stop_error};
 use command_io::room::show_room;
 use command_io::stream::{LineSource, Sink, Source, SourceFault};
 use command_io::tell::refuse;
-use command_io::trouble::Trouble;
 use debugger::{DebugFault, Debugger, Entries};
 use flat_board::FlatBoard;
 use flow_model::CheckedPlan;
@@ -20,17 +20,17 @@ use status_table::board_laws::legal_lists_are_short;
 use std::alloc::Global;
 
 /// Why entries are not under the debugger, which refuses their record as that.
-fn open_trouble(fault: DebugFault) -> Trouble
+fn open_error(fault: DebugFault) -> CommandError
     requires { spec.HasOpenLine fault }
-    ensures { result ≡ spec.open_trouble fault }
+    ensures { result ≡ spec.open_error fault }
 {
     match fault {
-        DebugFault::BadRecord(place, refusal) => stop_trouble(place, refusal),
+        DebugFault::BadRecord(place, refusal) => stop_error(place, refusal),
         DebugFault::AtStart
         | DebugFault::AtEnd
         | DebugFault::NoPlace
         | DebugFault::NoBreak
-        | DebugFault::Memory => Trouble::Memory,
+        | DebugFault::Memory => CommandError::Memory,
     }
 }
 
@@ -40,38 +40,36 @@ fn entries_opened(
     alloc: Global,
     plan: CheckedPlan,
     entries: Entries,
-) -> Result<Debugger<FlatBoard>, Trouble>
+) -> Result<Debugger<FlatBoard>, CommandError>
     requires { IsPlan plan }
     ensures { spec.GivesSession plan entries result }
 {
     legal_lists_are_short();
-    let Ok(start) = FlatBoard::from_plan(alloc, plan) else {
-        return Err(Trouble::Memory);
-    };
+    let start = FlatBoard::from_plan(alloc, plan)?;
     match Debugger::open_kept(alloc, start, entries) {
         Ok(debugger) => Ok(debugger),
-        Err(fault) => Err(open_trouble(fault)),
+        Err(fault) => Err(open_error(fault)),
     }
 }
 
 /// A record under the debugger. Its text is let go before its entries are played.
-fn record_opened(alloc: Global, text: Vec<u8>) -> Result<Debugger<FlatBoard>, Trouble>
+fn record_opened(alloc: Global, text: Vec<u8>) -> Result<Debugger<FlatBoard>, CommandError>
     ensures { spec.OpensRecord text.items result }
 {
     match text_kept(alloc, text) {
         Ok((plan, entries)) => entries_opened(alloc, plan, entries),
-        Err(fault) => Err(load_trouble(fault)),
+        Err(fault) => Err(load_error(fault)),
     }
 }
 
 /// Reads a record to its end, and puts it under the debugger.
-fn file_opened<R: Source>(alloc: Global, file: &mut R) -> Result<Debugger<FlatBoard>, Trouble>
+fn file_opened<R: Source>(alloc: Global, file: &mut R) -> Result<Debugger<FlatBoard>, CommandError>
     ensures { spec.OpensFile (R.seen file.old) (R.seen file.new) result }
 {
     match file.read_all(alloc) {
         Ok(text) => record_opened(alloc, text),
-        Err(SourceFault::Failed) => Err(Trouble::Io),
-        Err(SourceFault::Memory) => Err(Trouble::Memory),
+        Err(SourceFault::Failed) => Err(CommandError::Io),
+        Err(SourceFault::Memory) => Err(CommandError::Memory),
     }
 }
 
@@ -92,7 +90,7 @@ pub fn debug<R: Source, I: LineSource, O: Sink, E: Sink>(
     show_room(alloc);
     match file_opened(alloc, file) {
         Ok(debugger) => hold(alloc, debugger, input, out, err),
-        Err(trouble) => refuse(err, &trouble),
+        Err(error) => refuse(err, &error),
     }
 }
 

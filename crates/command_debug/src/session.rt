@@ -8,9 +8,9 @@ ghost use Rattle.command_debug.specs.Session as spec;
 
 use crate::answers::add_line;
 use crate::gathered::Gathered;
+use command_io::error::{CommandError, DONE};
 use command_io::stream::{LineSource, Sink, SourceFault, put_now};
 use command_io::tell::refuse;
-use command_io::trouble::{DONE, Trouble};
 use debugger::Debugger;
 use flat_board::FlatBoard;
 use status_table::Reversible;
@@ -128,7 +128,6 @@ fn hand_on<O: Sink>(out: &mut O, gathered: &mut Gathered) -> Result<(), Halt>
 /// Answers the next line, if there is one. Where it has to be waited for, or where many answers are gathered, these are
 /// written first.
 fn answer_next<M: Reversible, I: LineSource, O: Sink>(
-    alloc: Global,
     debugger: &mut Debugger<M>,
     input: &mut I,
     out: &mut O,
@@ -141,6 +140,7 @@ fn answer_next<M: Reversible, I: LineSource, O: Sink>(
     ensures fewer { IfOk result (λ found. found ≡ true
         → I.turns_left input.new < I.turns_left input.old) }
 {
+    let alloc = *line.allocator();
     if answer_ready(alloc, debugger, input, gathered)? {
         return Ok(true);
     }
@@ -161,7 +161,7 @@ fn gather_all<M: Reversible, I: LineSource, O: Sink>(
         (O.seen out.old) (O.seen out.new) gathered.new result }
 {
     let mut line = Vec::new(alloc);
-    while answer_next(alloc, debugger, input, out, &mut line, gathered)? {}
+    while answer_next(debugger, input, out, &mut line, gathered)? {}
     Ok(())
 }
 
@@ -193,9 +193,9 @@ fn finish<E: Sink>(err: &mut E, held: Result<(), Halt>) -> u8
 {
     match held {
         Ok(()) => DONE,
-        Err(Halt::Unread) => refuse(err, &Trouble::Io),
-        Err(Halt::Unwritten) => refuse(err, &Trouble::Io),
-        Err(Halt::Memory) => refuse(err, &Trouble::Memory),
+        Err(Halt::Unread) => refuse(err, &CommandError::Io),
+        Err(Halt::Unwritten) => refuse(err, &CommandError::Io),
+        Err(Halt::Memory) => refuse(err, &CommandError::Memory),
     }
 }
 

@@ -9,8 +9,8 @@ use Rattle.status_table.specs.Runs.{after}
 use Rattle.command_io.specs.Records.{IsStopped, OfRecord, TellsShown}
 use Rattle.command_io.specs.Runs.{runs_status}
 use Rattle.command_io.specs.Stream.{Stream}
-use Rattle.command_io.specs.Tell.{Drawn}
-use Rattle.command_io.specs.declared.trouble.Trouble.{Trouble}
+use Rattle.command_io.specs.Tell.{Printed}
+use Rattle.command_io.specs.declared.error.CommandError.{CommandError}
 
 -- ---- what a text comes to
 
@@ -37,11 +37,11 @@ GraphTells = TellsShown ShowsGraph
 -- ---- what the code answers on the way; want of memory may always be answered
 
 -- The graph of the board after entries.
-abbrev pub GivesBoard : Plan → List Entry → Result Drawn Trouble → Type 0
+abbrev pub GivesBoard : Plan → List Entry → Result Printed CommandError → Type 0
 GivesBoard plan entries (Ok both) = DrawsBoard plan entries both.0.items both.1
-GivesBoard plan entries (Err trouble) = IsStopped plan entries trouble
+GivesBoard plan entries (Err error) = IsStopped plan entries error
 
 -- The graph of a plan and entries.
-abbrev pub GivesDrawn : Plan → List Entry → Result Drawn Trouble → Type 0
+abbrev pub GivesDrawn : Plan → List Entry → Result Printed CommandError → Type 0
 GivesDrawn plan entries (Ok both) = IsDrawn both.0.items both.1 plan entries
-GivesDrawn plan entries (Err trouble) = IsStopped plan entries trouble
+GivesDrawn plan entries (Err error) = IsStopped plan entries error

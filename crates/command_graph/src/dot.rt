@@ -62,7 +62,6 @@ fn add_edges(text: &mut Vec<u8>, number: u64, needs: &[u64]) -> Result<(), Alloc
 
 /// Adds the job at a place of a run, of whose legs the first has this number.
 fn add_job(
-    alloc: Global,
     text: &mut Vec<u8>,
     run: Option<&Run>,
     place: usize,
@@ -73,14 +72,13 @@ fn add_job(
         (spec.job_text (option_copied run.entry) place first job.now)) }
 {
     let stand = stand_at(run, place);
-    let label = job_label(alloc, first, job, stand, legs_at(run, place))?;
+    let label = job_label(*text.allocator(), first, job, stand, legs_at(run, place))?;
     add_node(text, job.number, label.as_slice(), stand)?;
     add_edges(text, job.number, job.needs.as_slice())
 }
 
 /// Adds the jobs of a run, and gives the number of the first leg after theirs.
 fn add_jobs(
-    alloc: Global,
     text: &mut Vec<u8>,
     run: Option<&Run>,
     first: u64,
@@ -92,7 +90,7 @@ fn add_jobs(
 {
     let mut number = first;
     for (place, job) in jobs.iter().enumerate() {
-        add_job(alloc, text, run, place, number, job)?;
+        add_job(text, run, place, number, job)?;
         number = later(number, job.legs.len())?;
     }
     Ok(number)
@@ -109,9 +107,8 @@ fn begin_cluster(text: &mut Vec<u8>, number: u64, label: &[u8]) -> Result<(), Al
     add(text, &[";\n"])
 }
 
-/// The same, with its label.
+/// Begins the cluster of a run with its label.
 fn begin_run(
-    alloc: Global,
     text: &mut Vec<u8>,
     state: Option<&Run>,
     number: u64,
@@ -120,13 +117,12 @@ fn begin_run(
     ensures { OnOk result (Adds text.old.items text.new.items
         (spec.run_begin (option_copied state.entry) number run.now)) }
 {
-    let label = run_label(alloc, number, run, stand_of_run(state))?;
+    let label = run_label(*text.allocator(), number, run, stand_of_run(state))?;
     begin_cluster(text, number, label.as_slice())
 }
 
 /// Adds the cluster of a run, and gives the number of the first leg after its legs.
 fn add_cluster(
-    alloc: Global,
     text: &mut Vec<u8>,
     state: Option<&Run>,
     number: u64,
@@ -137,15 +133,14 @@ fn add_cluster(
         (spec.run_text (option_copied state.entry) number first run.now)) }
     ensures next { IfOk result (λ next. next ≡ first + spec.legs_count run.now.jobs) }
 {
-    begin_run(alloc, text, state, number, run)?;
-    let next = add_jobs(alloc, text, state, first, run.jobs.as_slice())?;
+    begin_run(text, state, number, run)?;
+    let next = add_jobs(text, state, first, run.jobs.as_slice())?;
     add(text, &["\t}\n"])?;
     Ok(next)
 }
 
-/// The same of the run at a place.
+/// Adds the cluster of the run at a place, and gives the number of the first leg after its legs.
 fn add_run(
-    alloc: Global,
     text: &mut Vec<u8>,
     states: &[Run],
     place: usize,
@@ -156,22 +151,17 @@ fn add_run(
         (spec.run_text (slice_get states.now place) place first run.now)) }
     ensures next { IfOk result (λ next. next ≡ first + spec.legs_count run.now.jobs) }
 {
-    add_cluster(alloc, text, states.get(place), place as u64, first, run)
+    add_cluster(text, states.get(place), place as u64, first, run)
 }
 
 /// Adds the clusters of runs.
-fn add_runs(
-    alloc: Global,
-    text: &mut Vec<u8>,
-    states: &[Run],
-    runs: &[RunPlan],
-) -> Result<(), AllocError>
+fn add_runs(text: &mut Vec<u8>, states: &[Run], runs: &[RunPlan]) -> Result<(), AllocError>
     ensures { OnOk result
         (Adds text.old.items text.new.items (spec.runs_text states.now 0 0 runs.now)) }
 {
     let mut next = 0;
     for (place, run) in runs.iter().enumerate() {
-        next = add_run(alloc, text, states, place, next, run)?;
+        next = add_run(text, states, place, next, run)?;
     }
     Ok(())
 }
@@ -188,7 +178,7 @@ fn graph_text(alloc: Global, plan: &Plan, states: &[Run]) -> Result<Vec<u8>, All
             "\tnode [shape=box style=filled fillcolor=white fontname=Helvetica];\n",
         ],
     )?;
-    add_runs(alloc, &mut text, states, plan.runs.as_slice())?;
+    add_runs(&mut text, states, plan.runs.as_slice())?;
     add(&mut text, &["}\n"])?;
     Ok(text)
 }

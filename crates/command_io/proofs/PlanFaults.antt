@@ -6,7 +6,7 @@ use Rattle.plan_assembler.specs.Faults.{plan_fault_name, plan_fault_text}
 use Rattle.plan_assembler.specs.declared.fault.PlanFault.{PlanFault}
 use Rattle.plan_assembler.specs.declared.fault.PlanFault.TheVariants as plan_fault
 use Rattle.plan_assembler.specs.declared.fault.Place.{Place}
-use Rattle.command_io.specs.Trouble.{unplanned_line, unread_line}
+use Rattle.command_io.specs.CommandError.{unplanned_line, unread_line}
 
 -- the line of a text that cannot be read is the line of its fault
 pub unread_is : (place : Place) (fault : ExprFault) → unread_line (fault_name fault) (fault_place fault) ≡ unplanned_line (plan_fault.Expr place fault)

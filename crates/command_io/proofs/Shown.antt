@@ -1,19 +1,19 @@
 -- What is shown of a record is told as its answer.
 use Rattle.std.proofs.Common.{◌≡◌, ℕ, List, Result, Ok, Err, refl}
 use Rattle.command_io.proofs.Told.{IsKept-same}
-use Rattle.command_io.specs.Records.{GivesDrawing, IsShownAnswer, Shown, TellsShown}
+use Rattle.command_io.specs.Records.{GivesPrinted, IsShownAnswer, Shown, TellsShown}
 use Rattle.command_io.specs.Stream.{Stream, IsRead}
-use Rattle.command_io.specs.Tell.{Answer, Drawn, OrMemory, Says, TellsBy, drawn_status, drawn_text}
-use Rattle.command_io.specs.Trouble.{line, source_trouble, trouble_status}
+use Rattle.command_io.specs.Tell.{Answer, Printed, OrMemory, Says, TellsBy, printed_status, printed_text}
+use Rattle.command_io.specs.CommandError.{line, source_error, error_status}
 use Rattle.command_io.specs.declared.stream.SourceFault.{SourceFault}
 use Rattle.command_io.specs.declared.stream.SourceFault.TheVariants as source_fault
-use Rattle.command_io.specs.declared.trouble.Trouble.{Trouble}
+use Rattle.command_io.specs.declared.error.CommandError.{CommandError}
 
 -- what is drawn is an answer
-pub drawing_answers : (shows : Shown) (text : List ℕ) (result : Result Drawn Trouble) → GivesDrawing shows text result
-    → OrMemory (drawn_text result) (IsShownAnswer shows (drawn_status result) text (drawn_text result))
-drawing_answers shows text (Ok both) gives = gives
-drawing_answers shows text (Err trouble) gives = gives
+pub printed_answers : (shows : Shown) (text : List ℕ) (result : Result Printed CommandError) → GivesPrinted shows text result
+    → OrMemory (printed_text result) (IsShownAnswer shows (printed_status result) text (printed_text result))
+printed_answers shows text (Ok both) gives = gives
+printed_answers shows text (Err error) gives = gives
 
 pub shown_told : (shows : Shown) (input input' out out' err err' : Stream) (text : List ℕ) (done : ℕ) (answer : Answer) (status : ℕ)
     → IsRead input input' (Ok text) → OrMemory answer (IsShownAnswer shows done text answer) → TellsBy done answer out out' err err' status
@@ -21,15 +21,15 @@ pub shown_told : (shows : Shown) (input input' out out' err err' : Stream) (text
 shown_told shows input input' out out' err err' text done answer status reads answers told =
     record { done = done; read = Ok text; reads = reads; answer = answer; answers = answers; told = told }
 
--- what was not read is told as its trouble
+-- what was not read is told as its error
 pub unread_shown : (shows : Shown) (input input' out err err' : Stream) (fault : SourceFault) (status : ℕ)
-    → IsRead input input' (Err fault) → Says err err' (line (source_trouble fault)) → status ≡ trouble_status (source_trouble fault)
+    → IsRead input input' (Err fault) → Says err err' (line (source_error fault)) → status ≡ error_status (source_error fault)
     → TellsShown shows input input' out out err err' status
 unread_shown shows input input' out err err' source_fault.Failed status reads said is = record {
   done = 0;
   read = Err source_fault.Failed;
   reads = reads;
-  answer = Err (source_trouble source_fault.Failed);
+  answer = Err (source_error source_fault.Failed);
   answers = refl;
   told = record { kept = IsKept-same out; said = said; is = is };
 }
@@ -37,7 +37,7 @@ unread_shown shows input input' out err err' source_fault.Memory status reads sa
   done = 0;
   read = Err source_fault.Memory;
   reads = reads;
-  answer = Err (source_trouble source_fault.Memory);
+  answer = Err (source_error source_fault.Memory);
   answers = refl;
   told = record { kept = IsKept-same out; said = said; is = is };
 }

@@ -3,11 +3,11 @@ use Rattle.std.proofs.Common.{◌≡◌, ℕ, Bool, true, false, List, Option, S
 use Rattle.std.specs.Io.KnownBytes.{Keeps}
 use Rattle.command_io.specs.Stream.{Stream, IsKept, Puts}
 use Rattle.command_io.specs.Tell.{Answer, OrMemory, Says, Tells, TellsOf, TellsSome}
-use Rattle.command_io.specs.Trouble.{line, source_trouble, trouble_status, UnlessMemory}
+use Rattle.command_io.specs.CommandError.{line, source_error, error_status, UnlessMemory}
 use Rattle.command_io.specs.declared.stream.SourceFault.{SourceFault}
 use Rattle.command_io.specs.declared.stream.SourceFault.TheVariants as source_fault
-use Rattle.command_io.specs.declared.trouble.Trouble.{Trouble}
-use Rattle.command_io.specs.declared.trouble.Trouble.TheVariants.{NoExpression, NoValue, NoContexts, NoFlow, NotPlanned, NoPlan, NoEntry, Refused, Words, Io, Memory}
+use Rattle.command_io.specs.declared.error.CommandError.{CommandError}
+use Rattle.command_io.specs.declared.error.CommandError.TheVariants.{NoExpression, NoValue, NoContexts, NoFlow, NotPlanned, NoPlan, NoEntry, Refused, Words, Io, Memory}
 
 -- the same line under another form
 pub Puts-as : (a b : Stream) (x y : List ℕ) (whole : Bool) → Puts a b x whole → x ≡ y → Puts a b y whole
@@ -30,31 +30,31 @@ pub read_told : {A : Type 0} (Is : A → Answer → Type 0) (Reads : Result A So
 read_told Is Reads out out' err err' read answer status reads answers told =
     record { read = Ok read; reads = reads; answer = answer; answers = answers; told = told }
 
--- what was not read is told as its trouble
+-- what was not read is told as its error
 pub unread_told : {A : Type 0} (Is : A → Answer → Type 0) (Reads : Result A SourceFault → Type 0) (out err err' : Stream) (fault : SourceFault) (status : ℕ)
-    → Reads (Err fault) → Says err err' (line (source_trouble fault)) → status ≡ trouble_status (source_trouble fault)
+    → Reads (Err fault) → Says err err' (line (source_error fault)) → status ≡ error_status (source_error fault)
     → TellsOf Is Reads out out err err' status
 unread_told Is Reads out err err' source_fault.Failed status reads said is = record {
   read = Err source_fault.Failed;
   reads = reads;
-  answer = Err (source_trouble source_fault.Failed);
+  answer = Err (source_error source_fault.Failed);
   answers = refl;
   told = record { kept = IsKept-same out; said = said; is = is };
 }
 unread_told Is Reads out err err' source_fault.Memory status reads said is = record {
   read = Err source_fault.Memory;
   reads = reads;
-  answer = Err (source_trouble source_fault.Memory);
+  answer = Err (source_error source_fault.Memory);
   answers = refl;
   told = record { kept = IsKept-same out; said = said; is = is };
 }
 
--- a trouble that is said is told, and out is as it was
-pub refused : (trouble : Trouble) (out err err' : Stream) (status : ℕ) → Says err err' (line trouble) → status ≡ trouble_status trouble → TellsSome out out err err' status
-refused trouble out err err' status said is = (trouble, record { kept = IsKept-same out; said = said; is = is })
+-- an error that is said is told, and out is as it was
+pub refused : (error : CommandError) (out err err' : Stream) (status : ℕ) → Says err err' (line error) → status ≡ error_status error → TellsSome out out err err' status
+refused error out err err' status said is = (error, record { kept = IsKept-same out; said = said; is = is })
 
 -- what follows from a fact holds too, unless there is no memory
-pub unless : (t : Trouble) (A B : Type 0) → (A → B) → UnlessMemory t A → UnlessMemory t B
+pub unless : (t : CommandError) (A B : Type 0) → (A → B) → UnlessMemory t A → UnlessMemory t B
 unless (NoExpression fault) A B f h = f h
 unless (NoValue fault) A B f h = f h
 unless (NoContexts file fault) A B f h = f h

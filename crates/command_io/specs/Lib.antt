@@ -1,8 +1,8 @@
+pub mod CommandError
 pub mod Contexts
 pub mod Files
+pub mod PlayStop
 pub mod Records
 pub mod Runs
-pub mod Stop
 pub mod Stream
 pub mod Tell
-pub mod Trouble

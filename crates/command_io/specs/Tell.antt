@@ -2,33 +2,33 @@
 use Rattle.std.specs.Prelude.{◌≡◌, ℕ, ◌⊎◌, List, String, string_bytes, Result, Ok, Err, Vec}
 use Rattle.std.specs.declared.alloc.Global.{Global}
 use Rattle.command_io.specs.Stream.{Stream, IsKept, IsWritten, IsCutOff}
-use Rattle.command_io.specs.Trouble.{line, trouble_status, UnlessMemory}
+use Rattle.command_io.specs.CommandError.{line, error_status, UnlessMemory}
 use Rattle.command_io.specs.declared.stream.SourceFault.{SourceFault}
 use Rattle.command_io.specs.declared.stream.SourceFault.TheVariants as source_fault
-use Rattle.command_io.specs.declared.trouble.Trouble.{Trouble}
-use Rattle.command_io.specs.declared.trouble.Trouble.TheVariants.{Io, Memory}
+use Rattle.command_io.specs.declared.error.CommandError.{CommandError}
+use Rattle.command_io.specs.declared.error.CommandError.TheVariants.{Io, Memory}
 
--- What a command comes to: the text that it writes to out, or a trouble.
+-- What a command comes to: the text that it writes to out, or an error.
 abbrev pub Answer : Type 0
-Answer = Result (List ℕ) Trouble
+Answer = Result (List ℕ) CommandError
 
--- The same of what the code answers.
-abbrev pub answer_seen : Result (String Global) Trouble → Answer
+-- What the code answers, seen so.
+abbrev pub answer_seen : Result (String Global) CommandError → Answer
 answer_seen (Ok text) = Ok (string_bytes text)
-answer_seen (Err trouble) = Err trouble
+answer_seen (Err error) = Err error
 
--- What is drawn as a text, with its exit status.
-abbrev pub Drawn : Type 0
-Drawn = Vec ℕ Global × ℕ
+-- A text to print, with its exit status.
+abbrev pub Printed : Type 0
+Printed = Vec ℕ Global × ℕ
 
--- What it comes to, and its status; that of a trouble is its own.
-abbrev pub drawn_text : Result Drawn Trouble → Answer
-drawn_text (Ok both) = Ok both.0.items
-drawn_text (Err trouble) = Err trouble
+-- Its text, and its status; that of an error is its own.
+abbrev pub printed_text : Result Printed CommandError → Answer
+printed_text (Ok both) = Ok both.0.items
+printed_text (Err error) = Err error
 
-abbrev pub drawn_status : Result Drawn Trouble → ℕ
-drawn_status (Ok both) = both.1
-drawn_status (Err trouble) = 0
+abbrev pub printed_status : Result Printed CommandError → ℕ
+printed_status (Ok both) = both.1
+printed_status (Err error) = 0
 
 -- ---- what is written
 
@@ -42,26 +42,26 @@ pub record TellsText (text : List ℕ) (done : ℕ) (out out' err err' : Stream)
   pub silent : IsKept err err'
   pub is : status ≡ done
 
--- Nothing stands on out, and the trouble's line on err, as far as err takes it, with the trouble's status.
-pub record TellsTrouble (trouble : Trouble) (out out' err err' : Stream) (status : ℕ) : Type 0 where
+-- Nothing stands on out, and the error's line on err, as far as err takes it, with the error's status.
+pub record TellsError (error : CommandError) (out out' err err' : Stream) (status : ℕ) : Type 0 where
   pub kept : IsKept out out'
-  pub said : Says err err' (line trouble)
-  pub is : status ≡ trouble_status trouble
+  pub said : Says err err' (line error)
+  pub is : status ≡ error_status error
 
--- Nothing stands on out, and a trouble is told.
+-- Nothing stands on out, and an error is told.
 abbrev pub TellsSome : Stream → Stream → Stream → Stream → ℕ → Type 0
-TellsSome out out' err err' status = (trouble : Trouble) × TellsTrouble trouble out out' err err' status
+TellsSome out out' err err' status = (error : CommandError) × TellsError error out out' err err' status
 
--- A write to out failed after a beginning of the text, which is told as trouble with files and streams.
+-- A write to out failed after a beginning of the text, which is told as error with files and streams.
 pub record BreaksOff (text : List ℕ) (out out' err err' : Stream) (status : ℕ) : Type 0 where
   pub cut_off : IsCutOff out out' text
   pub said : Says err err' (line Io)
-  pub is : status ≡ trouble_status Io
+  pub is : status ≡ error_status Io
 
 -- What is left of an answer, where a text has this status.
 abbrev pub TellsBy : ℕ → Answer → Stream → Stream → Stream → Stream → ℕ → Type 0
 TellsBy done (Ok text) out out' err err' status = TellsText text done out out' err err' status ⊎ BreaksOff text out out' err err' status
-TellsBy done (Err trouble) out out' err err' status = TellsTrouble trouble out out' err err' status
+TellsBy done (Err error) out out' err err' status = TellsError error out out' err err' status
 
 -- What is left of an answer, where a text has the status 0.
 abbrev pub Tells : Answer → Stream → Stream → Stream → Stream → ℕ → Type 0
@@ -72,9 +72,9 @@ Tells answer out out' err err' status = TellsBy 0 answer out out' err err' statu
 -- The fact holds, unless the answer is want of memory.
 abbrev pub OrMemory : Answer → Type 0 → Type 0
 OrMemory (Ok text) fact = fact
-OrMemory (Err trouble) fact = UnlessMemory trouble fact
+OrMemory (Err error) fact = UnlessMemory error fact
 
--- An answer to what was read; where only a part was read there is none but the trouble.
+-- An answer to what was read; where only a part was read there is none but the error.
 abbrev pub AnswersRead : {A : Type 0} → (A → Answer → Type 0) → Result A SourceFault → Answer → Type 0
 AnswersRead Is (Ok read) answer = OrMemory answer (Is read answer)
 AnswersRead Is (Err source_fault.Failed) answer = answer ≡ Err Io

@@ -5,7 +5,7 @@ ghost use Rattle.std.specs.List.{list_all};
 ghost use Rattle.board_decisions.specs.Derived.{is_closed};
 ghost use Rattle.command_io.specs.Runs as spec;
 
-use crate::trouble::{DONE, UNCLOSED, UNSUCCESSFUL};
+use crate::error::{DONE, UNCLOSED, UNSUCCESSFUL};
 use board_decisions::derived::is_closed;
 use flow_model::{Board, Outcome, Run, RunState};
 

@@ -1,14 +1,14 @@
 //! Why a play stopped before its end.
 
-ghost use Rattle.command_io.specs.Stop.{SaysStop};
+ghost use Rattle.command_io.specs.PlayStop.{SaysStop};
 
+use crate::error::{CommandError, FAILED, REFUSED, say_name};
 use crate::stream::Sink;
 use crate::tell::refuse;
-use crate::trouble::{FAILED, REFUSED, Trouble, say_name};
 
 /// Why a play stopped before its end.
 #[derive(Clone, Copy)]
-pub enum Stop {
+pub enum PlayStop {
     /// There are not so many workers.
     Workers,
     /// The host gave no answer.
@@ -20,22 +20,22 @@ pub enum Stop {
 }
 
 /// Says why a play was stopped, and gives its exit status.
-pub fn refuse_stop<E: Sink>(err: &mut E, stop: Stop) -> u8
+pub fn refuse_stop<E: Sink>(err: &mut E, stop: PlayStop) -> u8
     ensures { SaysStop stop (E.seen err.old) (E.seen err.new) result }
 {
     match stop {
-        Stop::Workers => {
+        PlayStop::Workers => {
             say_name(err, "pool", "Workers");
             REFUSED
         },
-        Stop::Host => {
+        PlayStop::Host => {
             say_name(err, "pool", "Host");
             FAILED
         },
-        Stop::Mismatch => {
+        PlayStop::Mismatch => {
             say_name(err, "pool", "Mismatch");
             REFUSED
         },
-        Stop::Memory => refuse(err, &Trouble::Memory),
+        PlayStop::Memory => refuse(err, &CommandError::Memory),
     }
 }

@@ -6,7 +6,7 @@ use Rattle.expr_reader.specs.Reading.{Failure}
 use Rattle.expr_reader.specs.Spells.{Spells}
 use Rattle.expr_reader.specs.declared.fault.ExprFault.{ExprFault}
 use Rattle.expr_reader.specs.declared.fault.ExprFault.TheVariants.{UnclosedText, BadNumber, BadChar, Unexpected, UnknownName, UnknownFunction, ArgumentCount, TooDeep, TooLong, UnclosedTemplate, StatusHere, Memory}
-use Rattle.command_print.specs.Eval.{IsNoExpression, IsTree, expression_trouble}
+use Rattle.command_print.specs.Eval.{IsNoExpression, IsTree, expression_error}
 
 -- a fault that is no want of memory stands in a text that is no expression
 no_expression : (x : List ℕ) (fault : ExprFault) (place : Failure) → fault_at fault ≡ Some place → ((e : Expr) → Spells e x → fault_at fault ≡ None) → StandsIn x place → IsNoExpression x fault
@@ -17,7 +17,7 @@ no_expression x fault place is only stands = record {
   none = λ w. let none : fault_at fault ≡ None = only w.0 w.1 in absurd (cc);
 }
 
-pub tree_fault : (x : List ℕ) (fault : ExprFault) → ((e : Expr) → Spells e x → OnlyMemory fault) → FaultStands x fault → IsTree x (Err (expression_trouble fault))
+pub tree_fault : (x : List ℕ) (fault : ExprFault) → ((e : Expr) → Spells e x → OnlyMemory fault) → FaultStands x fault → IsTree x (Err (expression_error fault))
 tree_fault x (UnclosedText n) only stands = no_expression x (UnclosedText n) _ refl only stands
 tree_fault x (BadNumber n) only stands = no_expression x (BadNumber n) _ refl only stands
 tree_fault x (BadChar n) only stands = no_expression x (BadChar n) _ refl only stands

@@ -6,5 +6,4 @@ pub mod Linted
 pub mod LookedAt
 pub mod OneAnswer
 pub mod Pictures
-pub mod Replayed
 pub mod Unplanned

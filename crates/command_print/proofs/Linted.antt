@@ -1,28 +1,27 @@
 -- Going over the files that are looked at, and telling what comes of them.
-use Rattle.std.proofs.Common.{◌≡◌, ◌<◌, ◌≤◌, ◌+◌, ℕ, List, [], ◌∷◌, ◌++◌, length, drop, get_or, sym, subst, append-nil, append_assoc, true, false, Option, Some, None, Result, Ok, Err, String, Global, refl}
+use Rattle.std.proofs.Common.{◌≡◌, ◌<◌, ◌≤◌, ◌+◌, ℕ, List, [], ◌∷◌, ◌++◌, length, drop, get_or, sym, subst, append-nil, append_assoc, true, false, Option, Some, None, Result, Ok, Err, refl}
 use Rattle.std.proofs.lemmas.Bool.{true≢false}
 use Rattle.std.proofs.lemmas.List.{drop_all}
 use Rattle.command_io.proofs.Told.{IsKept-same}
 use Rattle.command_io.specs.Files.{File, Content, AreRead}
 use Rattle.command_io.specs.Stream.{Stream}
-use Rattle.command_io.specs.Tell.{Answer, OrMemory, Says, TellsBy}
-use Rattle.command_io.specs.Trouble.{line, source_trouble, trouble_status, UnlessMemory}
+use Rattle.command_io.specs.Tell.{Answer, OrMemory, Printed, Says, TellsBy, printed_status, printed_text}
+use Rattle.command_io.specs.CommandError.{line, source_error, error_status, UnlessMemory}
 use Rattle.command_io.specs.declared.stream.SourceFault.{SourceFault}
 use Rattle.command_io.specs.declared.stream.SourceFault.TheVariants as source_fault
-use Rattle.command_io.specs.declared.trouble.Trouble.{Trouble}
+use Rattle.command_io.specs.declared.error.CommandError.{CommandError}
 use Rattle.command_print.proofs.Flows.{left_at}
 use Rattle.command_print.proofs.Pictures.{no_lines, lines_of_one, lines_of_all, lines_of_both}
 use Rattle.command_print.specs.Lint.{Told, IsTold, IsToldOf, IsPassed, IsRefused, AreTold, Judges, GivesLint, IsLintAnswer, LintTells, fault_text, hint_lines, lint_text, note_words, refusing_line, refusing_words}
-use Rattle.command_print.specs.Replay.{status_of, text_of}
 use Rattle.command_print.specs.Shown.{HasPlainLines}
 
 -- what is told of a file by what it comes to is told of it
-pub told_by_judged : (file : Content) (trouble : Option Trouble) (told : Told) → Judges file (Ok trouble) → IsToldOf file trouble told → IsTold file told
+pub told_by_judged : (file : Content) (error : Option CommandError) (told : Told) → Judges file (Ok error) → IsToldOf file error told → IsTold file told
 told_by_judged file None (false, text) judged h = record { plan = judged.0; comes = judged.1; hints = h.1.0; is = h.1.1 }
 told_by_judged file None (true, text) judged h = absurd (true≢false h.0)
 told_by_judged file (Some t) (false, text) judged h = absurd (true≢false (sym h.0))
 told_by_judged file (Some t) (true, text) judged h =
-    record { trouble = t; comes_to_none = judged; note = h.1.0; placed = h.1.1.0; hints = h.1.1.1.0; is = h.1.1.1.1 }
+    record { error = t; comes_to_none = judged; note = h.1.0; placed = h.1.1.0; hints = h.1.1.1.0; is = h.1.1.1.1 }
 
 -- This is told of the first i files: what is told of the others completes what is told of all.
 pub record GoingFiles (files : List Content) (i : ℕ) (tolds : List Told) : Type 0 where
@@ -53,8 +52,8 @@ passed_lines file text h = subst HasPlainLines (sym h.is) (lines_of_all (note_wo
 refused_lines : (file : Content) (text : List ℕ) → IsRefused file text → HasPlainLines text
 refused_lines file text h =
     subst HasPlainLines (sym h.is)
-    (lines_of_both (refusing_line file.name (fault_text h.trouble) h.note) (hint_lines file.name h.hints)
-    (lines_of_one (refusing_words file.name (fault_text h.trouble) h.note)) (lines_of_all (note_words file.name) h.hints))
+    (lines_of_both (refusing_line file.name (fault_text h.error) h.note) (hint_lines file.name h.hints)
+    (lines_of_one (refusing_words file.name (fault_text h.error) h.note)) (lines_of_all (note_words file.name) h.hints))
 
 told_in_lines : (file : Content) (told : Told) → IsTold file told → HasPlainLines told.1
 told_in_lines file (false, text) is = passed_lines file text is
@@ -71,10 +70,10 @@ pub told_lines : (files : List Content) (tolds : List Told) (text : List ℕ) �
 told_lines files tolds text are is = subst HasPlainLines (sym is) (all_in_lines files tolds are)
 
 -- what the code answers is an answer
-pub answered : (files : List Content) (result : Result (String Global × ℕ) Trouble) → GivesLint files result
-    → OrMemory (text_of result) (IsLintAnswer (status_of result) files (text_of result))
+pub answered : (files : List Content) (result : Result Printed CommandError) → GivesLint files result
+    → OrMemory (printed_text result) (IsLintAnswer (printed_status result) files (printed_text result))
 answered files (Ok both) gives = gives
-answered files (Err trouble) gives = subst (λ (t : Trouble). UnlessMemory t ⊥) (sym gives) tt
+answered files (Err error) gives = subst (λ (t : CommandError). UnlessMemory t ⊥) (sym gives) tt
 
 pub lint_told : (files files' : List File) (out out' err err' : Stream) (contents : List Content) (done : ℕ) (answer : Answer) (status : ℕ)
     → AreRead files files' (Ok contents) → OrMemory answer (IsLintAnswer done contents answer) → TellsBy done answer out out' err err' status
@@ -82,15 +81,15 @@ pub lint_told : (files files' : List File) (out out' err err' : Stream) (content
 lint_told files files' out out' err err' contents done answer status reads answers told =
     record { done = done; read = Ok contents; reads = reads; answer = answer; answers = answers; told = told }
 
--- what was not read is told as its trouble
+-- what was not read is told as its error
 pub unread_lint : (files files' : List File) (out err err' : Stream) (fault : SourceFault) (status : ℕ)
-    → AreRead files files' (Err fault) → Says err err' (line (source_trouble fault)) → status ≡ trouble_status (source_trouble fault)
+    → AreRead files files' (Err fault) → Says err err' (line (source_error fault)) → status ≡ error_status (source_error fault)
     → LintTells files files' out out err err' status
 unread_lint files files' out err err' source_fault.Failed status reads said is = record {
   done = 0;
   read = Err source_fault.Failed;
   reads = reads;
-  answer = Err (source_trouble source_fault.Failed);
+  answer = Err (source_error source_fault.Failed);
   answers = refl;
   told = record { kept = IsKept-same out; said = said; is = is };
 }
@@ -98,7 +97,7 @@ unread_lint files files' out err err' source_fault.Memory status reads said is =
   done = 0;
   read = Err source_fault.Memory;
   reads = reads;
-  answer = Err (source_trouble source_fault.Memory);
+  answer = Err (source_error source_fault.Memory);
   answers = refl;
   told = record { kept = IsKept-same out; said = said; is = is };
 }

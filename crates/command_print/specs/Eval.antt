@@ -19,8 +19,8 @@ use Rattle.flow_model.specs.declared.reply.ValueFault.TheVariants as value_fault
 use Rattle.command_io.specs.Contexts.{file_contexts}
 use Rattle.command_io.specs.Stream.{Stream, IsRead}
 use Rattle.command_io.specs.Tell.{Answer, OrMemory, TellsOf, answer_seen}
-use Rattle.command_io.specs.declared.trouble.Trouble.{Trouble}
-use Rattle.command_io.specs.declared.trouble.Trouble.TheVariants.{NoExpression, NoValue, NoContexts, NoFlow, NotPlanned, NoPlan, NoEntry, Refused, Words, Io, Memory}
+use Rattle.command_io.specs.declared.error.CommandError.{CommandError}
+use Rattle.command_io.specs.declared.error.CommandError.TheVariants.{NoExpression, NoValue, NoContexts, NoFlow, NotPlanned, NoPlan, NoEntry, Refused, Words, Io, Memory}
 
 -- The text is an expression, whose evaluation where the status is success answers this.
 pub record Evaluates (contexts : Contexts) (expression : List ℕ) (answer : Result Plain ValueFault) : Type 0 where
@@ -92,66 +92,66 @@ EvalTells file expression input input' out out' err err' status = TellsOf (IsEva
 -- ---- what the code answers on the way; want of memory may always be answered
 
 -- A text is no expression.
-abbrev pub ExpressionTrouble : List ℕ → Trouble → Type 0
-ExpressionTrouble expression (NoExpression fault) = IsNoExpression expression fault
-ExpressionTrouble expression (NoValue fault) = ⊥
-ExpressionTrouble expression (NoContexts name fault) = ⊥
-ExpressionTrouble expression (NoFlow name fault) = ⊥
-ExpressionTrouble expression (NotPlanned fault) = ⊥
-ExpressionTrouble expression (NoPlan fault) = ⊥
-ExpressionTrouble expression (NoEntry n) = ⊥
-ExpressionTrouble expression (Refused n fault) = ⊥
-ExpressionTrouble expression Words = ⊥
-ExpressionTrouble expression Io = ⊥
-ExpressionTrouble expression Memory = Unit {0}
+abbrev pub ExpressionError : List ℕ → CommandError → Type 0
+ExpressionError expression (NoExpression fault) = IsNoExpression expression fault
+ExpressionError expression (NoValue fault) = ⊥
+ExpressionError expression (NoContexts name fault) = ⊥
+ExpressionError expression (NoFlow name fault) = ⊥
+ExpressionError expression (NotPlanned fault) = ⊥
+ExpressionError expression (NoPlan fault) = ⊥
+ExpressionError expression (NoEntry n) = ⊥
+ExpressionError expression (Refused n fault) = ⊥
+ExpressionError expression Words = ⊥
+ExpressionError expression Io = ⊥
+ExpressionError expression Memory = Unit {0}
 
 -- The tree that an expression's text spells, or why there is none.
-abbrev pub IsTree : List ℕ → Result Tree Trouble → Type 0
+abbrev pub IsTree : List ℕ → Result Tree CommandError → Type 0
 IsTree expression (Ok tree) = Spells (view tree) expression
-IsTree expression (Err trouble) = ExpressionTrouble expression trouble
+IsTree expression (Err error) = ExpressionError expression error
 
 -- A tree has no value.
-abbrev pub ValueTrouble : Contexts → Expr → Trouble → Type 0
-ValueTrouble contexts tree (NoExpression fault) = ⊥
-ValueTrouble contexts tree (NoValue fault) = (evaluated contexts Success tree ≡ Err fault) × IsNamed fault
-ValueTrouble contexts tree (NoContexts name fault) = ⊥
-ValueTrouble contexts tree (NoFlow name fault) = ⊥
-ValueTrouble contexts tree (NotPlanned fault) = ⊥
-ValueTrouble contexts tree (NoPlan fault) = ⊥
-ValueTrouble contexts tree (NoEntry n) = ⊥
-ValueTrouble contexts tree (Refused n fault) = ⊥
-ValueTrouble contexts tree Words = ⊥
-ValueTrouble contexts tree Io = ⊥
-ValueTrouble contexts tree Memory = Unit {0}
+abbrev pub ValueError : Contexts → Expr → CommandError → Type 0
+ValueError contexts tree (NoExpression fault) = ⊥
+ValueError contexts tree (NoValue fault) = (evaluated contexts Success tree ≡ Err fault) × IsNamed fault
+ValueError contexts tree (NoContexts name fault) = ⊥
+ValueError contexts tree (NoFlow name fault) = ⊥
+ValueError contexts tree (NotPlanned fault) = ⊥
+ValueError contexts tree (NoPlan fault) = ⊥
+ValueError contexts tree (NoEntry n) = ⊥
+ValueError contexts tree (Refused n fault) = ⊥
+ValueError contexts tree Words = ⊥
+ValueError contexts tree Io = ⊥
+ValueError contexts tree Memory = Unit {0}
 
 -- The value of a tree, or why there is none.
-abbrev pub IsValue : Contexts → Expr → Result Plain Trouble → Type 0
+abbrev pub IsValue : Contexts → Expr → Result Plain CommandError → Type 0
 IsValue contexts tree (Ok v) = evaluated contexts Success tree ≡ Ok v
-IsValue contexts tree (Err trouble) = ValueTrouble contexts tree trouble
+IsValue contexts tree (Err error) = ValueError contexts tree error
 
 -- A file gives no contexts.
-abbrev pub ContextsTrouble : List ℕ → List ℕ → Trouble → Type 0
-ContextsTrouble file bytes (NoContexts name fault) = (name ≡ file) × (file_contexts bytes ≡ Err fault)
-ContextsTrouble file bytes (NoExpression fault) = ⊥
-ContextsTrouble file bytes (NoValue fault) = ⊥
-ContextsTrouble file bytes (NoFlow name fault) = ⊥
-ContextsTrouble file bytes (NotPlanned fault) = ⊥
-ContextsTrouble file bytes (NoPlan fault) = ⊥
-ContextsTrouble file bytes (NoEntry n) = ⊥
-ContextsTrouble file bytes (Refused n fault) = ⊥
-ContextsTrouble file bytes Words = ⊥
-ContextsTrouble file bytes Io = ⊥
-ContextsTrouble file bytes Memory = Unit {0}
+abbrev pub ContextsError : List ℕ → List ℕ → CommandError → Type 0
+ContextsError file bytes (NoContexts name fault) = (name ≡ file) × (file_contexts bytes ≡ Err fault)
+ContextsError file bytes (NoExpression fault) = ⊥
+ContextsError file bytes (NoValue fault) = ⊥
+ContextsError file bytes (NoFlow name fault) = ⊥
+ContextsError file bytes (NotPlanned fault) = ⊥
+ContextsError file bytes (NoPlan fault) = ⊥
+ContextsError file bytes (NoEntry n) = ⊥
+ContextsError file bytes (Refused n fault) = ⊥
+ContextsError file bytes Words = ⊥
+ContextsError file bytes Io = ⊥
+ContextsError file bytes Memory = Unit {0}
 
 -- The contexts of a file, or why there are none.
-abbrev pub HasContexts : List ℕ → List ℕ → Result Contexts Trouble → Type 0
+abbrev pub HasContexts : List ℕ → List ℕ → Result Contexts CommandError → Type 0
 HasContexts file bytes (Ok contexts) = file_contexts bytes ≡ Ok contexts
-HasContexts file bytes (Err trouble) = ContextsTrouble file bytes trouble
+HasContexts file bytes (Err error) = ContextsError file bytes error
 
 -- The line of a value, or why there is none.
-abbrev pub GivesValue : List ℕ → List ℕ → List ℕ → Result (String Global) Trouble → Type 0
+abbrev pub GivesValue : List ℕ → List ℕ → List ℕ → Result (String Global) CommandError → Type 0
 GivesValue file expression bytes result = OrMemory (answer_seen result) (IsEvalAnswer file expression bytes (answer_seen result))
 
 -- A fault of an expression's text, or want of memory.
-abbrev pub expression_trouble : ExprFault → Trouble
-expression_trouble fault = if is_none (fault_at fault) then Memory else NoExpression fault
+abbrev pub expression_error : ExprFault → CommandError
+expression_error fault = if is_none (fault_at fault) then Memory else NoExpression fault

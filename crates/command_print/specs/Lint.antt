@@ -12,10 +12,10 @@ use Rattle.plan_assembler.specs.declared.choice.Choice.TheVariants.{All}
 use Rattle.plan_text.specs.BoardText.{Adds}
 use Rattle.command_io.specs.Files.{File, Content, AreRead, no_contexts}
 use Rattle.command_io.specs.Stream.{Stream}
-use Rattle.command_io.specs.Tell.{Answer, AnswersRead, TellsBy}
+use Rattle.command_io.specs.Tell.{Answer, AnswersRead, Printed, TellsBy}
 use Rattle.command_io.specs.declared.stream.SourceFault.{SourceFault}
-use Rattle.command_io.specs.declared.trouble.Trouble.{Trouble}
-use Rattle.command_io.specs.declared.trouble.Trouble.TheVariants.{NoExpression, NoValue, NoContexts, NoFlow, NotPlanned, NoPlan, NoEntry, Refused, Words, Io, Memory}
+use Rattle.command_io.specs.declared.error.CommandError.{CommandError}
+use Rattle.command_io.specs.declared.error.CommandError.TheVariants.{NoExpression, NoValue, NoContexts, NoFlow, NotPlanned, NoPlan, NoEntry, Refused, Words, Io, Memory}
 use Rattle.command_print.specs.Planning.{ComesTo, ComesToNone}
 use Rattle.command_print.specs.Shown.{HasPlainLines, line_of}
 
@@ -42,7 +42,7 @@ abbrev pub refusing_line : List ℕ → List ℕ → Note → List ℕ
 refusing_line file fault note = line_of (refusing_words file fault note)
 
 -- The name of that, as the other commands print it.
-abbrev pub fault_text : Trouble → List ℕ
+abbrev pub fault_text : CommandError → List ℕ
 fault_text (NoFlow file fault) = flow_fault_name fault
 fault_text (NotPlanned fault) = plan_fault_text fault
 fault_text (NoExpression fault) = []
@@ -56,7 +56,7 @@ fault_text Io = []
 fault_text Memory = []
 
 -- It is told at a place of the file where it is to be seen.
-abbrev pub IsPlace : Content → Trouble → List ℕ → Type 0
+abbrev pub IsPlace : Content → CommandError → List ℕ → Type 0
 IsPlace file (NoFlow name fault) path = IsFlowPlace file.bytes fault path
 IsPlace file (NotPlanned fault) path = IsPlanPlace file.bytes fault path
 IsPlace file (NoExpression fault) path = ⊥
@@ -84,12 +84,12 @@ pub record IsPassed (file : Content) (text : List ℕ) : Type 0 where
 
 -- The file alone comes to none, and the first line says why, at its place.
 pub record IsRefused (file : Content) (text : List ℕ) : Type 0 where
-  pub trouble : Trouble
-  pub comes_to_none : ComesToNone All no_contexts (file ∷ []) trouble
+  pub error : CommandError
+  pub comes_to_none : ComesToNone All no_contexts (file ∷ []) error
   pub note : Note
-  pub placed : IsPlace file trouble note.path
+  pub placed : IsPlace file error note.path
   pub hints : List Note
-  pub is : text ≡ refusing_line file.name (fault_text trouble) note ++ hint_lines file.name hints
+  pub is : text ≡ refusing_line file.name (fault_text error) note ++ hint_lines file.name hints
 
 -- Whether a file is refused, and the lines that are told of it.
 abbrev pub Told : Type 0
@@ -123,10 +123,10 @@ pub record IsLint (files : List Content) (text : List ℕ) (status : ℕ) : Type
   pub lines : HasPlainLines text
   pub is_status : status ≡ lint_status tolds
 
--- No trouble is an answer: only want of memory keeps the command from it.
+-- No error is an answer: only want of memory keeps the command from it.
 abbrev pub IsLintAnswer : ℕ → List Content → Answer → Type 0
 IsLintAnswer status files (Ok text) = IsLint files text status
-IsLintAnswer status files (Err trouble) = ⊥
+IsLintAnswer status files (Err error) = ⊥
 
 -- What `lint` leaves: it reads the files to their ends, and tells an answer to them; want of memory may always be answered.
 pub record LintTells (files files' : List File) (out out' err err' : Stream) (status : ℕ) : Type 0 where
@@ -139,38 +139,38 @@ pub record LintTells (files files' : List File) (out out' err err' : Stream) (st
 
 -- ---- what the code answers on the way
 
--- Whether a file comes to a plan, or the trouble for which it comes to none.
-abbrev pub Judges : Content → Result (Option Trouble) Trouble → Type 0
+-- Whether a file comes to a plan, or the error for which it comes to none.
+abbrev pub Judges : Content → Result (Option CommandError) CommandError → Type 0
 Judges file (Ok None) = (plan : Plan) × ComesTo All no_contexts (file ∷ []) plan
-Judges file (Ok (Some trouble)) = ComesToNone All no_contexts (file ∷ []) trouble
-Judges file (Err trouble) = trouble ≡ Memory
+Judges file (Ok (Some error)) = ComesToNone All no_contexts (file ∷ []) error
+Judges file (Err error) = error ≡ Memory
 
 -- Hints are added to a text.
 abbrev pub AddsHints : List ℕ → String Global → String Global → Type 0
 AddsHints file old new = (notes : List Note) × Adds old new (hint_lines file notes)
 
--- The lines of a file that passes, and of one that is refused for this trouble.
+-- The lines of a file that passes, and of one that is refused for this error.
 abbrev pub Passes : Content → List ℕ → Type 0
 Passes file text = (notes : List Note) × (text ≡ hint_lines file.name notes)
 
-abbrev pub Refuses : Content → Trouble → List ℕ → Type 0
-Refuses file trouble text =
-    (note : Note) × (IsPlace file trouble note.path
-    × ((notes : List Note) × (text ≡ refusing_line file.name (fault_text trouble) note ++ hint_lines file.name notes)))
+abbrev pub Refuses : Content → CommandError → List ℕ → Type 0
+Refuses file error text =
+    (note : Note) × (IsPlace file error note.path
+    × ((notes : List Note) × (text ≡ refusing_line file.name (fault_text error) note ++ hint_lines file.name notes)))
 
-abbrev pub IsToldOf : Content → Option Trouble → Told → Type 0
+abbrev pub IsToldOf : Content → Option CommandError → Told → Type 0
 IsToldOf file None (refused, text) = (refused ≡ false) × Passes file text
-IsToldOf file (Some trouble) (refused, text) = (refused ≡ true) × Refuses file trouble text
+IsToldOf file (Some error) (refused, text) = (refused ≡ true) × Refuses file error text
 
 -- What is found, or want of memory.
-abbrev pub FindsTold : Content → Result Told Trouble → Type 0
+abbrev pub FindsTold : Content → Result Told CommandError → Type 0
 FindsTold file (Ok told) = IsTold file told
-FindsTold file (Err trouble) = trouble ≡ Memory
+FindsTold file (Err error) = error ≡ Memory
 
-abbrev pub FindTold : List Content → Result (List Told) Trouble → Type 0
+abbrev pub FindTold : List Content → Result (List Told) CommandError → Type 0
 FindTold files (Ok tolds) = AreTold files tolds
-FindTold files (Err trouble) = trouble ≡ Memory
+FindTold files (Err error) = error ≡ Memory
 
-abbrev pub GivesLint : List Content → Result (String Global × ℕ) Trouble → Type 0
-GivesLint files (Ok both) = IsLint files (string_bytes both.0) both.1
-GivesLint files (Err trouble) = trouble ≡ Memory
+abbrev pub GivesLint : List Content → Result Printed CommandError → Type 0
+GivesLint files (Ok both) = IsLint files both.0.items both.1
+GivesLint files (Err error) = error ≡ Memory

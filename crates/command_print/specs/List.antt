@@ -10,7 +10,7 @@ use Rattle.command_io.specs.Files.{File, Content, AreRead, no_contexts}
 use Rattle.command_print.specs.Planning.{ComesTo, ComesToNone}
 use Rattle.command_io.specs.Stream.{Stream}
 use Rattle.command_io.specs.Tell.{Answer, OrMemory, TellsOf, answer_seen}
-use Rattle.command_io.specs.declared.trouble.Trouble.{Trouble}
+use Rattle.command_io.specs.declared.error.CommandError.{CommandError}
 
 -- The id of the job with this number.
 abbrev pub id_in : List JobPlan → ℕ → List ℕ
@@ -43,7 +43,7 @@ IsListing plan text = (stages : List (List (ℕ × ℕ))) × AreStageLists plan 
 -- An answer to the workflows' files: their jobs by stages, or why there is no plan of all of them.
 abbrev pub IsListAnswer : List Content → Answer → Type 0
 IsListAnswer flows (Ok text) = (plan : Plan) × ComesTo All no_contexts flows plan × IsListing plan text
-IsListAnswer flows (Err trouble) = ComesToNone All no_contexts flows trouble
+IsListAnswer flows (Err error) = ComesToNone All no_contexts flows error
 
 -- What `list` leaves: it reads the workflows' files to their ends, and tells an answer to them.
 abbrev pub ListTells : List File → List File → Stream → Stream → Stream → Stream → ℕ → Type 0
@@ -56,5 +56,5 @@ OneListing = (flows : List Content) (a b : List ℕ) → IsListAnswer flows (Ok 
 -- ---- what the code answers on the way; want of memory may always be answered
 
 -- The list of the jobs, or why there is none.
-abbrev pub GivesList : List Content → Result (String Global) Trouble → Type 0
+abbrev pub GivesList : List Content → Result (String Global) CommandError → Type 0
 GivesList flows result = OrMemory (answer_seen result) (IsListAnswer flows (answer_seen result))

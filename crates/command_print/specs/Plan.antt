@@ -10,7 +10,7 @@ use Rattle.command_io.specs.Files.{File, Content, AreRead}
 use Rattle.command_print.specs.Planning.{ComesTo, ComesToNone}
 use Rattle.command_io.specs.Stream.{Stream}
 use Rattle.command_io.specs.Tell.{Answer, OrMemory, TellsOf, answer_seen}
-use Rattle.command_io.specs.declared.trouble.Trouble.{Trouble}
+use Rattle.command_io.specs.declared.error.CommandError.{CommandError}
 
 -- The compact text of a plan's document, and a newline.
 abbrev pub plan_line : Plan → List ℕ
@@ -25,7 +25,7 @@ pub record IsPlanLine (plan : Plan) (text : List ℕ) : Type 0 where
 -- none.
 abbrev pub AnswersPlan : Choice → Content → List Content → Answer → Type 0
 AnswersPlan choice contexts flows (Ok text) = (plan : Plan) × ComesTo choice contexts flows plan × IsPlanLine plan text
-AnswersPlan choice contexts flows (Err trouble) = ComesToNone choice contexts flows trouble
+AnswersPlan choice contexts flows (Err error) = ComesToNone choice contexts flows error
 
 -- The same of all files in their order, of which the file of contexts is the first.
 abbrev pub IsPlanAnswer : Choice → List Content → Answer → Type 0
@@ -46,5 +46,5 @@ OnePlanText =
 -- ---- what the code answers on the way; want of memory may always be answered
 
 -- The line of a plan, or why there is none.
-abbrev pub GivesPlan : Choice → Content → List Content → Result (String Global) Trouble → Type 0
+abbrev pub GivesPlan : Choice → Content → List Content → Result (String Global) CommandError → Type 0
 GivesPlan choice contexts flows result = OrMemory (answer_seen result) (AnswersPlan choice contexts flows (answer_seen result))

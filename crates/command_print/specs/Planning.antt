@@ -14,9 +14,9 @@ use Rattle.plan_assembler.specs.declared.choice.Choice.{Choice}
 use Rattle.plan_assembler.specs.declared.fault.PlanFault.{PlanFault}
 use Rattle.plan_assembler.specs.declared.fault.PlanFault.TheVariants as plan_fault
 use Rattle.command_io.specs.Files.{Content}
-use Rattle.command_io.specs.Trouble.{UnlessMemory}
-use Rattle.command_io.specs.declared.trouble.Trouble.{Trouble}
-use Rattle.command_io.specs.declared.trouble.Trouble.TheVariants.{NoFlow, NotPlanned, Memory}
+use Rattle.command_io.specs.CommandError.{UnlessMemory}
+use Rattle.command_io.specs.declared.error.CommandError.{CommandError}
+use Rattle.command_io.specs.declared.error.CommandError.TheVariants.{NoFlow, NotPlanned, Memory}
 
 -- ---- what files stand for
 
@@ -35,32 +35,32 @@ GiveFlows [] (flow ∷ flows) = ⊥
 GiveFlows (file ∷ files) [] = ⊥
 GiveFlows (file ∷ files) (flow ∷ flows) = GivesFlow file flow × GiveFlows files flows
 
--- The trouble is that the file of this name stands for nothing, by a fault that its text has.
-pub record IsFaulty {A : Type 0} (name : List ℕ) (meaning : Option (Checked A)) (trouble : Trouble) : Type 0 where
+-- The error is that the file of this name stands for nothing, by a fault that its text has.
+pub record IsFaulty {A : Type 0} (name : List ℕ) (meaning : Option (Checked A)) (error : CommandError) : Type 0 where
   pub fault : FlowFault
-  pub is : trouble ≡ NoFlow name fault
+  pub is : error ≡ NoFlow name fault
   pub named : fault ≡ flow_fault.Memory → ⊥
   pub stands : Tells {A = A} (Err fault) meaning
 
 -- A file gives no contexts.
-abbrev pub GivesNoRoots : Content → Trouble → Type 0
-GivesNoRoots file trouble = IsFaulty file.name (roots_read file.bytes) trouble
+abbrev pub GivesNoRoots : Content → CommandError → Type 0
+GivesNoRoots file error = IsFaulty file.name (roots_read file.bytes) error
 
 -- A file stands for no workflow.
-abbrev pub GivesNoFlow : Content → Trouble → Type 0
-GivesNoFlow file trouble = IsFaulty file.name (flow_read file.name file.bytes) trouble
+abbrev pub GivesNoFlow : Content → CommandError → Type 0
+GivesNoFlow file error = IsFaulty file.name (flow_read file.name file.bytes) error
 
 -- The first of the files that stands for no workflow.
-abbrev pub GiveNoFlows : List Content → Trouble → Type 0
-GiveNoFlows [] trouble = ⊥
-GiveNoFlows (file ∷ files) trouble = GivesNoFlow file trouble ⊎ ((flow : Workflow) × GivesFlow file flow × GiveNoFlows files trouble)
+abbrev pub GiveNoFlows : List Content → CommandError → Type 0
+GiveNoFlows [] error = ⊥
+GiveNoFlows (file ∷ files) error = GivesNoFlow file error ⊎ ((flow : Workflow) × GivesFlow file flow × GiveNoFlows files error)
 
 -- ---- what they come to
 
 -- The choice of the workflows comes to no plan.
-pub record IsUnplanned (flows : List Workflow) (roots : Roots) (choice : Choice) (trouble : Trouble) : Type 0 where
+pub record IsUnplanned (flows : List Workflow) (roots : Roots) (choice : Choice) (error : CommandError) : Type 0 where
   pub fault : PlanFault
-  pub is : trouble ≡ NotPlanned fault
+  pub is : error ≡ NotPlanned fault
   pub refused : Refuses flows roots choice fault
 
 -- The plan that the workflows' files come to, with the contexts of a file.
@@ -73,37 +73,37 @@ pub record ComesTo (choice : Choice) (contexts : Content) (files : List Content)
   pub sound : IsPlan plan
 
 -- Why there is none, where there are contexts: a workflow's file, and then the planning.
-abbrev pub FlowsFail : Choice → Roots → List Content → Trouble → Type 0
-FlowsFail choice roots files trouble =
-    GiveNoFlows files trouble ⊎ ((flows : List Workflow) × GiveFlows files flows × IsUnplanned flows roots choice trouble)
+abbrev pub FlowsFail : Choice → Roots → List Content → CommandError → Type 0
+FlowsFail choice roots files error =
+    GiveNoFlows files error ⊎ ((flows : List Workflow) × GiveFlows files flows × IsUnplanned flows roots choice error)
 
 -- Why there is none: the file of contexts, then the workflows' files, and then the planning.
-abbrev pub ComesToNone : Choice → Content → List Content → Trouble → Type 0
-ComesToNone choice contexts files trouble =
-    GivesNoRoots contexts trouble ⊎ ((roots : Roots) × GivesRoots contexts roots × FlowsFail choice roots files trouble)
+abbrev pub ComesToNone : Choice → Content → List Content → CommandError → Type 0
+ComesToNone choice contexts files error =
+    GivesNoRoots contexts error ⊎ ((roots : Roots) × GivesRoots contexts roots × FlowsFail choice roots files error)
 
 -- ---- what the code answers
 
--- Something that is so, or the trouble why it is not; want of memory may always be answered.
-abbrev pub Finds : {A : Type 0} → (A → Type 0) → (Trouble → Type 0) → Result A Trouble → Type 0
+-- Something that is so, or the error why it is not; want of memory may always be answered.
+abbrev pub Finds : {A : Type 0} → (A → Type 0) → (CommandError → Type 0) → Result A CommandError → Type 0
 Finds Is Fails (Ok found) = Is found
-Finds Is Fails (Err trouble) = UnlessMemory trouble (Fails trouble)
+Finds Is Fails (Err error) = UnlessMemory error (Fails error)
 
 -- The plan that a choice of workflows comes to, which breaks no rule.
 abbrev pub IsPlanned : List Workflow → Roots → Choice → Plan → Type 0
 IsPlanned flows roots choice plan = Assembles flows roots choice plan × IsPlan plan
 
--- The trouble of a fault of planning.
-abbrev pub plan_trouble : PlanFault → Trouble
-plan_trouble plan_fault.UnknownNeed = NotPlanned plan_fault.UnknownNeed
-plan_trouble plan_fault.Cycle = NotPlanned plan_fault.Cycle
-plan_trouble plan_fault.UnknownJob = NotPlanned plan_fault.UnknownJob
-plan_trouble plan_fault.NoWorkflow = NotPlanned plan_fault.NoWorkflow
-plan_trouble plan_fault.TooMany = NotPlanned plan_fault.TooMany
-plan_trouble (plan_fault.Expr place fault) = NotPlanned (plan_fault.Expr place fault)
-plan_trouble (plan_fault.Matrix number fault) = NotPlanned (plan_fault.Matrix number fault)
-plan_trouble plan_fault.Memory = Memory
+-- The error of a fault of planning.
+abbrev pub plan_error : PlanFault → CommandError
+plan_error plan_fault.UnknownNeed = NotPlanned plan_fault.UnknownNeed
+plan_error plan_fault.Cycle = NotPlanned plan_fault.Cycle
+plan_error plan_fault.UnknownJob = NotPlanned plan_fault.UnknownJob
+plan_error plan_fault.NoWorkflow = NotPlanned plan_fault.NoWorkflow
+plan_error plan_fault.TooMany = NotPlanned plan_fault.TooMany
+plan_error (plan_fault.Expr place fault) = NotPlanned (plan_fault.Expr place fault)
+plan_error (plan_fault.Matrix number fault) = NotPlanned (plan_fault.Matrix number fault)
+plan_error plan_fault.Memory = Memory
 
--- The trouble of a fault in the file of that name.
-abbrev pub TellsFault : List ℕ → FlowFault → Trouble → Type 0
-TellsFault name fault trouble = UnlessMemory trouble ((fault ≡ flow_fault.Memory → ⊥) × (trouble ≡ NoFlow name fault))
+-- The error of a fault in the file of that name.
+abbrev pub TellsFault : List ℕ → FlowFault → CommandError → Type 0
+TellsFault name fault error = UnlessMemory error ((fault ≡ flow_fault.Memory → ⊥) × (error ≡ NoFlow name fault))

@@ -8,42 +8,42 @@ ghost use Rattle.command_print.specs.Eval as spec;
 ghost use Rattle.command_print.specs.Eval.{EvalTells};
 
 use command_io::contexts::{Unread, file_contexts};
+use command_io::error::{CommandError, contexts_error};
 use command_io::stream::{Sink, Source};
 use command_io::tell::{refuse_source, tell};
-use command_io::trouble::{Trouble, contexts_trouble};
 use expr_reader::{ExprFault, Tree, read_expr};
 use expr_value::Status;
 use flow_model::{Mapping, Value, ValueFault, into_json};
 use std::alloc::{AllocError, Global};
 
 /// A fault of an expression's text, or want of memory.
-fn expression_trouble(fault: ExprFault) -> Trouble
-    ensures { result ≡ spec.expression_trouble fault }
+fn expression_error(fault: ExprFault) -> CommandError
+    ensures { result ≡ spec.expression_error fault }
 {
     if fault.is_memory() {
-        return Trouble::Memory;
+        return CommandError::Memory;
     }
-    Trouble::NoExpression(fault)
+    CommandError::NoExpression(fault)
 }
 
 /// The tree of an expression.
-fn tree_of(alloc: Global, expression: &str) -> Result<Tree, Trouble>
+fn tree_of(alloc: Global, expression: &str) -> Result<Tree, CommandError>
     ensures { spec.IsTree expression.now result }
 {
     match read_expr(alloc, expression) {
         Ok(tree) => Ok(tree),
-        Err(fault) => Err(expression_trouble(fault)),
+        Err(fault) => Err(expression_error(fault)),
     }
 }
 
 /// The value of a tree over contexts.
-fn value_of(alloc: Global, contexts: &Mapping<Value>, tree: &Tree) -> Result<Value, Trouble>
+fn value_of(alloc: Global, contexts: &Mapping<Value>, tree: &Tree) -> Result<Value, CommandError>
     ensures { spec.IsValue contexts.now (tree_view tree.now) result }
 {
     match expr_value::eval(alloc, tree, contexts, Status::Success) {
         Ok(value) => Ok(value),
-        Err(ValueFault::Memory) => Err(Trouble::Memory),
-        Err(fault) => Err(Trouble::NoValue(fault)),
+        Err(ValueFault::Memory) => Err(CommandError::Memory),
+        Err(fault) => Err(CommandError::NoValue(fault)),
     }
 }
 
@@ -65,27 +65,24 @@ fn line_of(alloc: Global, value: Value) -> Result<String, AllocError>
 }
 
 /// The contexts that the bytes of the file of that name give.
-fn contexts_of(alloc: Global, file: &str, bytes: &[u8]) -> Result<Mapping<Value>, Trouble>
+fn contexts_of(alloc: Global, file: &str, bytes: &[u8]) -> Result<Mapping<Value>, CommandError>
     ensures { spec.HasContexts file.now bytes.now result }
 {
     match file_contexts(alloc, bytes) {
         Ok(contexts) => Ok(contexts),
-        Err(Unread::Fault(fault)) => Err(contexts_trouble(alloc, file, fault)),
-        Err(Unread::Memory) => Err(Trouble::Memory),
+        Err(Unread::Fault(fault)) => Err(contexts_error(alloc, file, fault)),
+        Err(Unread::Memory) => Err(CommandError::Memory),
     }
 }
 
 /// The line of the value of an expression over the contexts that the bytes of a file give.
-fn answer(alloc: Global, file: &str, bytes: &[u8], expression: &str) -> Result<String, Trouble>
+fn answer(alloc: Global, file: &str, bytes: &[u8], expression: &str) -> Result<String, CommandError>
     ensures { spec.GivesValue file.now expression.now bytes.now result }
 {
     let contexts = contexts_of(alloc, file, bytes)?;
     let tree = tree_of(alloc, expression)?;
     let value = value_of(alloc, &contexts, &tree)?;
-    match line_of(alloc, value) {
-        Ok(line) => Ok(line),
-        Err(_) => Err(Trouble::Memory),
-    }
+    Ok(line_of(alloc, value)?)
 }
 
 /// Reads the file of contexts to its end and writes the value of an expression over them, as compact JSON and a

@@ -10,12 +10,11 @@ ghost use Rattle.command_print.specs.Lint.{LintTells};
 ghost use Rattle.command_print.specs.Planning.{ComesTo, ComesToNone, Finds};
 
 use crate::list::plan_of_all;
-use crate::replay::tell_with;
 use crate::shown::add_line;
+use command_io::error::{CommandError, DONE, REFUSED};
 use command_io::files::{Content, NamedSource, read_files};
 use command_io::stream::{Sink, Source};
-use command_io::tell::refuse_source;
-use command_io::trouble::{DONE, REFUSED, Trouble};
+use command_io::tell::{refuse_source, tell_printed};
 use flow_lint::{Note, flow_note, hints, plan_note};
 use flow_model::Sequence;
 use std::alloc::{AllocError, Global};
@@ -80,40 +79,40 @@ fn add_hints(alloc: Global, text: &mut String, file: &Content, told: &str) -> Re
 }
 
 /// The name of that for which a file comes to no plan.
-fn fault_text(alloc: Global, trouble: &Trouble) -> Result<String, AllocError>
-    ensures { IfOk result (λ text. string_bytes text ≡ spec.fault_text trouble.now) }
+fn fault_text(alloc: Global, error: &CommandError) -> Result<String, AllocError>
+    ensures { IfOk result (λ text. string_bytes text ≡ spec.fault_text error.now) }
 {
-    match trouble {
-        Trouble::NoFlow(_, fault) => String::from_str(alloc, fault.name()),
-        Trouble::NotPlanned(fault) => format!(in alloc; "{fault}"),
-        Trouble::NoExpression(_)
-        | Trouble::NoValue(_)
-        | Trouble::NoContexts(_, _)
-        | Trouble::NoPlan(_)
-        | Trouble::NoEntry(_)
-        | Trouble::Refused(_, _)
-        | Trouble::Words
-        | Trouble::Io
-        | Trouble::Memory => Ok(String::new(alloc)),
+    match error {
+        CommandError::NoFlow(_, fault) => String::from_str(alloc, fault.name()),
+        CommandError::NotPlanned(fault) => format!(in alloc; "{fault}"),
+        CommandError::NoExpression(_)
+        | CommandError::NoValue(_)
+        | CommandError::NoContexts(_, _)
+        | CommandError::NoPlan(_)
+        | CommandError::NoEntry(_)
+        | CommandError::Refused(_, _)
+        | CommandError::Words
+        | CommandError::Io
+        | CommandError::Memory => Ok(String::new(alloc)),
     }
 }
 
 /// What is to be known of that for which a file comes to no plan.
-fn note_of(alloc: Global, file: &Content, trouble: &Trouble) -> Result<Note, AllocError>
-    ensures { IfOk result (λ note. spec.IsPlace file.now trouble.now note.path) }
+fn note_of(alloc: Global, file: &Content, error: &CommandError) -> Result<Note, AllocError>
+    ensures { IfOk result (λ note. spec.IsPlace file.now error.now note.path) }
 {
-    match trouble {
-        Trouble::NoFlow(_, fault) => flow_note(alloc, file.bytes(), fault),
-        Trouble::NotPlanned(fault) => plan_note(alloc, file.name(), file.bytes(), *fault),
-        Trouble::NoExpression(_)
-        | Trouble::NoValue(_)
-        | Trouble::NoContexts(_, _)
-        | Trouble::NoPlan(_)
-        | Trouble::NoEntry(_)
-        | Trouble::Refused(_, _)
-        | Trouble::Words
-        | Trouble::Io
-        | Trouble::Memory => Err(AllocError),
+    match error {
+        CommandError::NoFlow(_, fault) => flow_note(alloc, file.bytes(), fault),
+        CommandError::NotPlanned(fault) => plan_note(alloc, file.name(), file.bytes(), *fault),
+        CommandError::NoExpression(_)
+        | CommandError::NoValue(_)
+        | CommandError::NoContexts(_, _)
+        | CommandError::NoPlan(_)
+        | CommandError::NoEntry(_)
+        | CommandError::Refused(_, _)
+        | CommandError::Words
+        | CommandError::Io
+        | CommandError::Memory => Err(AllocError),
     }
 }
 
@@ -121,13 +120,13 @@ fn note_of(alloc: Global, file: &Content, trouble: &Trouble) -> Result<Note, All
 fn refusing_words(
     alloc: Global,
     file: &str,
-    trouble: &Trouble,
+    error: &CommandError,
     note: &Note,
 ) -> Result<String, AllocError>
     ensures { IfOk result (λ words.
-        string_bytes words ≡ spec.refusing_words file.now (spec.fault_text trouble.now) note.now) }
+        string_bytes words ≡ spec.refusing_words file.now (spec.fault_text error.now) note.now) }
 {
-    let fault = fault_text(alloc, trouble)?;
+    let fault = fault_text(alloc, error)?;
     let path = shown_path(note.path.as_str());
     let sentence = note.sentence.as_str();
     format!(in alloc; "{file}: {path}: refused, {fault}: {sentence}")
@@ -137,24 +136,24 @@ fn refusing_words(
 fn refusing_line(
     alloc: Global,
     file: &str,
-    trouble: &Trouble,
+    error: &CommandError,
     note: &Note,
 ) -> Result<String, AllocError>
     ensures { IfOk result (λ text.
-        string_bytes text ≡ spec.refusing_line file.now (spec.fault_text trouble.now) note.now) }
+        string_bytes text ≡ spec.refusing_line file.now (spec.fault_text error.now) note.now) }
 {
-    let words = refusing_words(alloc, file, trouble, note)?;
+    let words = refusing_words(alloc, file, error, note)?;
     let mut text = String::new(alloc);
     add_line(&mut text, words.as_str())?;
     Ok(text)
 }
 
-/// The lines of a file that comes to no plan, for this trouble.
-fn refused(alloc: Global, file: &Content, trouble: &Trouble) -> Result<String, AllocError>
-    ensures { IfOk result (λ text. spec.Refuses file.now trouble.now (string_bytes text)) }
+/// The lines of a file that comes to no plan, for this error.
+fn refused(alloc: Global, file: &Content, error: &CommandError) -> Result<String, AllocError>
+    ensures { IfOk result (λ text. spec.Refuses file.now error.now (string_bytes text)) }
 {
-    let note = note_of(alloc, file, trouble)?;
-    let mut text = refusing_line(alloc, file.name(), trouble, &note)?;
+    let note = note_of(alloc, file, error)?;
+    let mut text = refusing_line(alloc, file.name(), error, &note)?;
     add_hints(alloc, &mut text, file, note.path.as_str())?;
     Ok(text)
 }
@@ -168,25 +167,25 @@ fn passed(alloc: Global, file: &Content) -> Result<String, AllocError>
     Ok(text)
 }
 
-/// Whether a file alone comes to a plan, or the trouble for which it comes to none.
-fn judged(alloc: Global, file: &Content) -> Result<Option<Trouble>, Trouble>
+/// Whether a file alone comes to a plan, or the error for which it comes to none.
+fn judged(alloc: Global, file: &Content) -> Result<Option<CommandError>, CommandError>
     ensures { spec.Judges file.now result }
 {
     match plan_of_all(alloc, slice::from_ref(file)) {
         Ok(_) => Ok(None),
-        Err(Trouble::NoFlow(name, fault)) => Ok(Some(Trouble::NoFlow(name, fault))),
-        Err(Trouble::NotPlanned(fault)) => Ok(Some(Trouble::NotPlanned(fault))),
-        Err(_) => Err(Trouble::Memory),
+        Err(CommandError::NoFlow(name, fault)) => Ok(Some(CommandError::NoFlow(name, fault))),
+        Err(CommandError::NotPlanned(fault)) => Ok(Some(CommandError::NotPlanned(fault))),
+        Err(_) => Err(CommandError::Memory),
     }
 }
 
 /// What is told of a file that is refused, or is not.
-fn told_by(alloc: Global, file: &Content, trouble: &Option<Trouble>) -> Result<Told, AllocError>
-    ensures { IfOk result (λ told. spec.IsToldOf file.now trouble.now told) }
+fn told_by(alloc: Global, file: &Content, error: &Option<CommandError>) -> Result<Told, AllocError>
+    ensures { IfOk result (λ told. spec.IsToldOf file.now error.now told) }
 {
-    match trouble {
-        Some(trouble) => {
-            let text = refused(alloc, file, trouble)?;
+    match error {
+        Some(error) => {
+            let text = refused(alloc, file, error)?;
             Ok(Told {
                 refused: true,
                 text,
@@ -204,25 +203,22 @@ fn told_by(alloc: Global, file: &Content, trouble: &Option<Trouble>) -> Result<T
 
 /// What is told of a file.
 #[tactic(auto, using(crate::proofs::Linted::told_by_judged))]
-fn told_of(alloc: Global, file: &Content) -> Result<Told, Trouble>
+fn told_of(alloc: Global, file: &Content) -> Result<Told, CommandError>
     ensures { spec.FindsTold file.now result }
 {
-    let trouble = judged(alloc, file)?;
-    match told_by(alloc, file, &trouble) {
-        Ok(told) => Ok(told),
-        Err(_) => Err(Trouble::Memory),
-    }
+    let error = judged(alloc, file)?;
+    Ok(told_by(alloc, file, &error)?)
 }
 
 /// What is told of files, one after the other.
-fn told_each(alloc: Global, files: &[Content]) -> Result<Sequence<Told>, Trouble>
+fn told_each(alloc: Global, files: &[Content]) -> Result<Sequence<Told>, CommandError>
     ensures { spec.FindTold files.now result }
 {
     let mut tolds = Vec::new(alloc);
     for file in files {
         let told = told_of(alloc, file)?;
         if tolds.push(told).is_err() {
-            return Err(Trouble::Memory);
+            return Err(CommandError::Memory);
         }
     }
     Ok(Sequence::new(tolds))
@@ -278,14 +274,12 @@ fn status_of(tolds: &[Told]) -> u8
 }
 
 /// What is told of files, and the exit status.
-fn answer(alloc: Global, files: &[Content]) -> Result<(String, u8), Trouble>
+fn answer(alloc: Global, files: &[Content]) -> Result<(Vec<u8>, u8), CommandError>
     ensures { spec.GivesLint files.now result }
 {
     let tolds = told_each(alloc, files)?;
-    match text_of(alloc, tolds.as_slice()) {
-        Ok(text) => Ok((text, status_of(tolds.as_slice()))),
-        Err(_) => Err(Trouble::Memory),
-    }
+    let text = text_of(alloc, tolds.as_slice())?;
+    Ok((text.into_bytes(), status_of(tolds.as_slice())))
 }
 
 /// Reads the files of workflows to their ends, and writes to `out` what a person should know of each: first the line that
@@ -301,7 +295,7 @@ pub fn lint<S: Source, O: Sink, E: Sink>(
         (O.seen out.old) (O.seen out.new) (E.seen err.old) (E.seen err.new) result }
 {
     match read_files(alloc, files) {
-        Ok(contents) => tell_with(answer(alloc, contents.as_slice()), out, err),
+        Ok(contents) => tell_printed(answer(alloc, contents.as_slice()), out, err),
         Err(fault) => refuse_source(err, fault),
     }
 }

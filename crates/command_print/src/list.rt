@@ -9,10 +9,10 @@ ghost use Rattle.command_print.specs.List.{ListTells, OneListing};
 ghost use Rattle.command_print.specs.Planning.{ComesTo, ComesToNone, Finds};
 
 use crate::planning::plan_of;
+use command_io::error::CommandError;
 use command_io::files::{Content, NamedSource, no_contexts, read_files};
 use command_io::stream::{Sink, Source};
 use command_io::tell::{refuse_source, tell};
-use command_io::trouble::Trouble;
 use flow_model::{CheckedPlan, JobPlan, Plan, Sequence};
 use plan_assembler::Choice;
 use plan_assembler::laws::{one_plan, one_staging};
@@ -98,25 +98,20 @@ fn listed(alloc: Global, plan: &CheckedPlan) -> Result<String, AllocError>
 }
 
 /// The plan of all workflows, which are handed no contexts.
-pub(crate) fn plan_of_all(alloc: Global, flows: &[Content]) -> Result<CheckedPlan, Trouble>
+pub(crate) fn plan_of_all(alloc: Global, flows: &[Content]) -> Result<CheckedPlan, CommandError>
     ensures { Finds (ComesTo All no_contexts_of flows.now)
         (ComesToNone All no_contexts_of flows.now) result }
 {
-    match no_contexts(alloc) {
-        Ok(contexts) => plan_of(alloc, &Choice::All, &contexts, flows),
-        Err(_) => Err(Trouble::Memory),
-    }
+    let contexts = no_contexts(alloc)?;
+    plan_of(alloc, &Choice::All, &contexts, flows)
 }
 
 /// The list of the jobs of the workflows that files stand for.
-fn answer(alloc: Global, flows: &[Content]) -> Result<String, Trouble>
+fn answer(alloc: Global, flows: &[Content]) -> Result<String, CommandError>
     ensures { spec.GivesList flows.now result }
 {
     let plan = plan_of_all(alloc, flows)?;
-    match listed(alloc, &plan) {
-        Ok(text) => Ok(text),
-        Err(_) => Err(Trouble::Memory),
-    }
+    Ok(listed(alloc, &plan)?)
 }
 
 /// Reads the files of workflows to their ends, and writes the jobs of the plan of all of them to `out`: for each stage the
@@ -137,7 +132,7 @@ pub fn list<S: Source, O: Sink, E: Sink>(
     }
 }
 
-/// The same files come to one list at most.
+/// Equal files result in one list at most.
 pub fn one_listing()
     ensures { OneListing }
 {

@@ -6,10 +6,10 @@ ghost use Rattle.command_print.specs.Plan as spec;
 ghost use Rattle.command_print.specs.Plan.{OnePlanText, PlanTells};
 
 use crate::planning::plan_of;
+use command_io::error::CommandError;
 use command_io::files::{Content, NamedSource, read_first};
 use command_io::stream::{Sink, Source};
 use command_io::tell::{refuse_source, tell};
-use command_io::trouble::Trouble;
 use flow_model::CheckedPlan;
 use plan_assembler::Choice;
 use plan_assembler::laws::one_plan;
@@ -31,14 +31,11 @@ fn answer(
     choice: &Choice,
     contexts: &Content,
     flows: &[Content],
-) -> Result<String, Trouble>
+) -> Result<String, CommandError>
     ensures { spec.GivesPlan choice.now contexts.now flows.now result }
 {
     let plan = plan_of(alloc, choice, contexts, flows)?;
-    match line_of(alloc, &plan) {
-        Ok(line) => Ok(line),
-        Err(_) => Err(Trouble::Memory),
-    }
+    Ok(line_of(alloc, &plan)?)
 }
 
 /// Reads the file of contexts and those of the workflows to their ends, and writes the plan that a choice of the workflows
@@ -64,7 +61,7 @@ pub fn plan<R: Source, S: Source, O: Sink, E: Sink>(
     }
 }
 
-/// The same files come to one text at most.
+/// Equal files result in one text at most.
 pub fn one_plan_text()
     ensures { OnePlanText }
 {

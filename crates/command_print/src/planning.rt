@@ -6,56 +6,56 @@ ghost use Rattle.plan_assembler.specs.Refusals.{Plans};
 ghost use Rattle.command_print.specs.Planning as spec;
 ghost use Rattle.command_print.specs.Planning.{Finds};
 
+use command_io::error::CommandError;
 use command_io::files::Content;
-use command_io::trouble::Trouble;
 use flow_model::{CheckedPlan, Flow, Roots, Sequence, Text};
 use flow_reader::{FlowFault, read_flow, read_roots};
 use plan_assembler::{Choice, PlanFault, Planner};
 use std::alloc::Global;
 
-/// The trouble of a fault in the file of that name.
-fn flow_trouble(alloc: Global, file: &str, fault: FlowFault) -> Trouble
+/// The error of a fault in the file of that name.
+fn flow_error(alloc: Global, file: &str, fault: FlowFault) -> CommandError
     ensures { spec.TellsFault file.now fault result }
 {
     if matches!(fault, FlowFault::Memory) {
-        return Trouble::Memory;
+        return CommandError::Memory;
     }
     match Text::from_str(alloc, file) {
-        Ok(name) => Trouble::NoFlow(name, fault),
-        Err(_) => Trouble::Memory,
+        Ok(name) => CommandError::NoFlow(name, fault),
+        Err(_) => CommandError::Memory,
     }
 }
 
 /// The contexts that a file gives.
-fn roots_of(alloc: Global, file: &Content) -> Result<Roots, Trouble>
+fn roots_of(alloc: Global, file: &Content) -> Result<Roots, CommandError>
     ensures gives { Finds (spec.GivesRoots file.now) (spec.GivesNoRoots file.now) result }
     ensures rules { IfOk result (λ roots. roots_rules roots ≡ None) }
 {
     match read_roots(alloc, file.bytes()) {
         Ok(roots) => Ok(roots),
-        Err(fault) => Err(flow_trouble(alloc, file.name(), fault)),
+        Err(fault) => Err(flow_error(alloc, file.name(), fault)),
     }
 }
 
 /// The workflow that a file stands for.
-fn flow_of(alloc: Global, file: &Content) -> Result<Flow, Trouble>
+fn flow_of(alloc: Global, file: &Content) -> Result<Flow, CommandError>
     ensures { Finds (spec.GivesFlow file.now) (spec.GivesNoFlow file.now) result }
 {
     match read_flow(alloc, file.name(), file.bytes()) {
         Ok(flow) => Ok(flow),
-        Err(fault) => Err(flow_trouble(alloc, file.name(), fault)),
+        Err(fault) => Err(flow_error(alloc, file.name(), fault)),
     }
 }
 
 /// The workflows that files stand for.
-fn flows_of(alloc: Global, files: &[Content]) -> Result<Sequence<Flow>, Trouble>
+fn flows_of(alloc: Global, files: &[Content]) -> Result<Sequence<Flow>, CommandError>
     ensures { Finds (spec.GiveFlows files.now) (spec.GiveNoFlows files.now) result }
 {
     let mut flows = Vec::new(alloc);
     for file in files {
         let flow = flow_of(alloc, file)?;
         if flows.push(flow).is_err() {
-            return Err(Trouble::Memory);
+            return Err(CommandError::Memory);
         }
     }
     Ok(Sequence::new(flows))
@@ -72,19 +72,19 @@ fn chosen(planner: &Planner, choice: &Choice) -> Result<CheckedPlan, PlanFault>
     }
 }
 
-/// The trouble of a fault of planning.
-fn plan_trouble(fault: PlanFault) -> Trouble
-    ensures { result ≡ spec.plan_trouble fault }
+/// The error of a fault of planning.
+fn plan_error(fault: PlanFault) -> CommandError
+    ensures { result ≡ spec.plan_error fault }
 {
     match fault {
-        PlanFault::Memory => Trouble::Memory,
+        PlanFault::Memory => CommandError::Memory,
         PlanFault::UnknownNeed
         | PlanFault::Cycle
         | PlanFault::UnknownJob
         | PlanFault::NoWorkflow
         | PlanFault::TooMany
         | PlanFault::Expr(_, _)
-        | PlanFault::Matrix(_, _) => Trouble::NotPlanned(fault),
+        | PlanFault::Matrix(_, _) => CommandError::NotPlanned(fault),
     }
 }
 
@@ -94,7 +94,7 @@ fn planned(
     choice: &Choice,
     roots: Roots,
     flows: Sequence<Flow>,
-) -> Result<CheckedPlan, Trouble>
+) -> Result<CheckedPlan, CommandError>
     requires { roots_rules roots ≡ None }
     ensures { Finds (spec.IsPlanned flows roots choice.now)
         (spec.IsUnplanned flows roots choice.now) result }
@@ -102,7 +102,7 @@ fn planned(
     let planner = Planner::new(alloc, flows, roots);
     match chosen(&planner, choice) {
         Ok(plan) => Ok(plan),
-        Err(fault) => Err(plan_trouble(fault)),
+        Err(fault) => Err(plan_error(fault)),
     }
 }
 
@@ -112,7 +112,7 @@ pub(crate) fn plan_of(
     choice: &Choice,
     contexts: &Content,
     files: &[Content],
-) -> Result<CheckedPlan, Trouble>
+) -> Result<CheckedPlan, CommandError>
     ensures { Finds (spec.ComesTo choice.now contexts.now files.now)
         (spec.ComesToNone choice.now contexts.now files.now) result }
 {

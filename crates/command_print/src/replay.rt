@@ -1,18 +1,16 @@
 //! `actrun replay`: the board after a record, which is played again.
 
 ghost use Rattle.std.specs.Prelude.{◌≡◌, ◌++◌, OnOk, string_bytes};
-ghost use Rattle.command_print.specs.Replay as spec;
-ghost use Rattle.command_io.specs.Records.{GivesPlay};
-ghost use Rattle.command_io.specs.Tell.{TellsBy};
-ghost use Rattle.command_print.specs.Replay.{GivesBoard, GivesBoth, GivesBothOf, GivesSettled, GivesShown, ReplayTells, SettledTells, ShowsReplay, ShowsSettled, settled_line};
+ghost use Rattle.command_io.specs.Records.{GivesPlay, GivesPrinted};
+ghost use Rattle.command_print.specs.Replay.{GivesBoard, GivesBoth, GivesBothOf, GivesSettled, ReplayTells, SettledTells, ShowsReplay, ShowsSettled, settled_line};
 
 use crate::looked::record_looked;
-use command_io::records::{load_trouble, play_record};
+use command_io::error::CommandError;
+use command_io::records::{load_error, play_record};
 use command_io::room::show_room;
 use command_io::runs::runs_status;
 use command_io::stream::{Sink, Source};
-use command_io::tell::{refuse_source, tell_by};
-use command_io::trouble::{DONE, Trouble};
+use command_io::tell::{refuse_source, tell_printed};
 use flat_board::FlatBoard;
 use flow_model::{CheckedPlan, Duplicate, Entry};
 use plan_text::{board_text, load_record};
@@ -20,42 +18,38 @@ use std::alloc::{AllocError, Global};
 use worker_pool::settled_check;
 
 /// The plan in play after entries.
-fn played(alloc: Global, plan: CheckedPlan, entries: &[Entry]) -> Result<FlatBoard, Trouble>
+fn played(alloc: Global, plan: CheckedPlan, entries: &[Entry]) -> Result<FlatBoard, CommandError>
     ensures { GivesPlay plan entries.now result }
 {
-    let Ok(mut board) = FlatBoard::from_plan(alloc, plan) else {
-        return Err(Trouble::Memory);
-    };
+    let mut board = FlatBoard::from_plan(alloc, plan)?;
     play_record(alloc, &mut board, entries)?;
     Ok(board)
 }
 
 /// The plan of a record in play after its entries. Its text is let go.
-fn replayed(alloc: Global, text: Vec<u8>) -> Result<FlatBoard, Trouble>
+fn replayed(alloc: Global, text: Vec<u8>) -> Result<FlatBoard, CommandError>
     ensures { GivesBoard text.items result }
 {
     record_looked(alloc, text.as_slice())
 }
 
 /// The text of the board after a record, and the exit status that tells how its runs ended.
-fn shown_replay(alloc: Global, text: Vec<u8>) -> Result<(String, u8), Trouble>
-    ensures { GivesShown ShowsReplay text.items result }
+fn shown_replay(alloc: Global, text: Vec<u8>) -> Result<(Vec<u8>, u8), CommandError>
+    ensures { GivesPrinted ShowsReplay text.items result }
 {
     let play = replayed(alloc, text)?;
-    match board_text(alloc, play.board()) {
-        Ok(shown) => Ok((shown, runs_status(play.board()))),
-        Err(_) => Err(Trouble::Memory),
-    }
+    let shown = board_text(alloc, play.board())?;
+    Ok((shown.into_bytes(), runs_status(play.board())))
 }
 
 /// Whether the board after entries that were played is all of what is settled.
-fn checked(alloc: Global, plan: &CheckedPlan, entries: &[Entry]) -> Result<bool, Trouble>
+fn checked(alloc: Global, plan: &CheckedPlan, entries: &[Entry]) -> Result<bool, CommandError>
     ensures { GivesSettled plan.now entries.now result }
 {
     match settled_check(alloc, plan, entries) {
         Ok(yes) => Ok(yes),
         // none of them is refused, so there is no memory
-        Err(_) => Err(Trouble::Memory),
+        Err(_) => Err(CommandError::Memory),
     }
 }
 
@@ -64,24 +58,21 @@ fn played_and_checked(
     alloc: Global,
     plan: &CheckedPlan,
     entries: &[Entry],
-) -> Result<(FlatBoard, bool), Trouble>
+) -> Result<(FlatBoard, bool), CommandError>
     ensures { GivesBoth plan.now entries.now result }
 {
-    let Ok(twin) = plan.copy(alloc) else {
-        return Err(Trouble::Memory);
-    };
-    let play = played(alloc, twin, entries)?;
+    let play = played(alloc, plan.copy(alloc)?, entries)?;
     let yes = checked(alloc, plan, entries)?;
     Ok((play, yes))
 }
 
 /// The plan of a record in play after its entries, and whether its board is all of what is settled.
-fn replayed_and_checked(alloc: Global, text: &[u8]) -> Result<(FlatBoard, bool), Trouble>
+fn replayed_and_checked(alloc: Global, text: &[u8]) -> Result<(FlatBoard, bool), CommandError>
     ensures { GivesBothOf text.now result }
 {
     match load_record(alloc, text) {
         Ok((plan, entries)) => played_and_checked(alloc, &plan, entries.as_slice()),
-        Err(fault) => Err(load_trouble(fault)),
+        Err(fault) => Err(load_error(fault)),
     }
 }
 
@@ -93,32 +84,13 @@ fn add_settled(shown: &mut String, yes: bool) -> Result<(), AllocError>
 }
 
 /// The text of the board after a record and whether it is settled, with the exit status that tells how its runs ended.
-fn shown_settled(alloc: Global, text: &[u8]) -> Result<(String, u8), Trouble>
-    ensures { GivesShown ShowsSettled text.now result }
+fn shown_settled(alloc: Global, text: &[u8]) -> Result<(Vec<u8>, u8), CommandError>
+    ensures { GivesPrinted ShowsSettled text.now result }
 {
     let (play, yes) = replayed_and_checked(alloc, text)?;
-    let Ok(mut shown) = board_text(alloc, play.board()) else {
-        return Err(Trouble::Memory);
-    };
-    match add_settled(&mut shown, yes) {
-        Ok(()) => Ok((shown, runs_status(play.board()))),
-        Err(_) => Err(Trouble::Memory),
-    }
-}
-
-/// Writes a text to `out` and answers its status, or the line of a trouble to `err`.
-pub(crate) fn tell_with<O: Sink, E: Sink>(
-    answer: Result<(String, u8), Trouble>,
-    out: &mut O,
-    err: &mut E,
-) -> u8
-    ensures { TellsBy (spec.status_of answer) (spec.text_of answer)
-        (O.seen out.old) (O.seen out.new) (E.seen err.old) (E.seen err.new) result }
-{
-    match answer {
-        Ok((shown, done)) => tell_by(done, Ok(shown), out, err),
-        Err(trouble) => tell_by(DONE, Err(trouble), out, err),
-    }
+    let mut shown = board_text(alloc, play.board())?;
+    add_settled(&mut shown, yes)?;
+    Ok((shown.into_bytes(), runs_status(play.board())))
 }
 
 /// Reads a record to its end, plays its entries again, each call answered as the record answers it, and writes the text of
@@ -135,7 +107,7 @@ pub fn replay<I: Source, O: Sink, E: Sink>(
 {
     show_room(alloc);
     match input.read_all(alloc) {
-        Ok(text) => tell_with(shown_replay(alloc, text), out, err),
+        Ok(text) => tell_printed(shown_replay(alloc, text), out, err),
         Err(fault) => refuse_source(err, fault),
     }
 }
@@ -152,7 +124,7 @@ pub fn replay_settled<I: Source, O: Sink, E: Sink>(
         (O.seen out.old) (O.seen out.new) (E.seen err.old) (E.seen err.new) result }
 {
     match input.read_all(alloc) {
-        Ok(text) => tell_with(shown_settled(alloc, text.as_slice()), out, err),
+        Ok(text) => tell_printed(shown_settled(alloc, text.as_slice()), out, err),
         Err(fault) => refuse_source(err, fault),
     }
 }

@@ -7,32 +7,27 @@ ghost use Rattle.command_print.specs.Play.{HasPlayed, table as board_of};
 ghost use Rattle.command_print.specs.Table.{OneBoardAnswer, SomeBoardAnswer, TableTells};
 
 use crate::play::record_played;
+use command_io::error::CommandError;
 use command_io::room::show_room;
 use command_io::stream::{Sink, Source};
 use command_io::tell::{refuse_source, tell};
-use command_io::trouble::Trouble;
 use flat_board::FlatBoard;
 use plan_text::board_text;
 use std::alloc::Global;
 
 /// The plan of a record in play after its lines. Its text is let go.
-fn text_played(alloc: Global, text: Vec<u8>) -> Result<FlatBoard, Trouble>
+fn text_played(alloc: Global, text: Vec<u8>) -> Result<FlatBoard, CommandError>
     ensures { HasPlayed (board_of (lines_of text.items)) result }
 {
     record_played(alloc, text.as_slice())
 }
 
 /// The text of the board after a record, whose own text is let go before that is made.
-fn shown_board(alloc: Global, text: Vec<u8>) -> Result<String, Trouble>
+fn shown_board(alloc: Global, text: Vec<u8>) -> Result<String, CommandError>
     ensures { spec.Shows (spec.table_text text.items) result }
 {
-    match text_played(alloc, text) {
-        Ok(played) => match board_text(alloc, played.board()) {
-            Ok(shown) => Ok(shown),
-            Err(_) => Err(Trouble::Memory),
-        },
-        Err(trouble) => Err(trouble),
-    }
+    let played = text_played(alloc, text)?;
+    Ok(board_text(alloc, played.board())?)
 }
 
 /// Reads a record to its end and writes the text of the board after it to `out`; or writes why there is none to `err`,

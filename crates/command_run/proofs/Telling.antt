@@ -7,7 +7,7 @@ use Rattle.command_io.proofs.Known.{Appends-kept, Appends-nothing, Appends-then}
 use Rattle.command_io.proofs.Told.{IsKept-same}
 use Rattle.command_io.specs.Stream.{Stream, IsCutOff, IsKept, IsWritten, Puts}
 use Rattle.flow_commands.specs.Logs.{Log, logs_text}
-use Rattle.command_io.specs.declared.stop.Stop.{Stop}
+use Rattle.command_io.specs.declared.stop.PlayStop.{PlayStop}
 use Rattle.flow_model.specs.declared.event.Entry.{Entry}
 use Rattle.flow_model.specs.declared.plan.Plan.{Plan}
 use Rattle.plan_text.specs.Record.{record_text}
@@ -230,7 +230,7 @@ played_begun p es lines a b told e (Err e') shown is failed =
 played_begun p es lines a b told e (Ok whole) shown is failed = let no : false ≡ true = failed in absurd (cc)
 
 -- what was played is told
-pub history_told : (p : Plan) (entries es : List Entry) (stop : Option Stop) (kept : Kept) (lines : List ℕ) (done : ℕ) (a b c d : Stream) (written : Written) (status : ℕ)
+pub history_told : (p : Plan) (entries es : List Entry) (stop : Option PlayStop) (kept : Kept) (lines : List ℕ) (done : ℕ) (a b c d : Stream) (written : Written) (status : ℕ)
     → entries ≡ es → PutsPlayed p entries lines a b written → ShowsRest p es stop lines done → TellsWritten written stop kept done c d status
     → TellsHistory p es stop kept a b c d status
 history_told p entries es stop kept lines done a b c d written status same played rest told =

@@ -1,7 +1,7 @@
 -- What is played of a plan.
 use Rattle.std.specs.Prelude.{◌≡◌, ℕ, ◌⊎◌, true, List, Option, Some, None, Result, Ok, Err}
-use Rattle.command_io.specs.declared.stop.Stop.{Stop}
-use Rattle.command_io.specs.declared.stop.Stop.TheVariants as stop
+use Rattle.command_io.specs.declared.stop.PlayStop.{PlayStop}
+use Rattle.command_io.specs.declared.stop.PlayStop.TheVariants as stop
 use Rattle.flow_model.specs.declared.board.Board.{Board}
 use Rattle.flow_model.specs.declared.event.Entry.{Entry}
 use Rattle.flow_model.specs.declared.plan.Plan.{Plan}
@@ -38,7 +38,7 @@ pub record IsLeftInCall (plan : Plan) (history : List Entry) : Type 0 where
   pub in_call : InCall plan history leg step call
 
 -- What a play that was not stopped leaves, and one that was stopped so.
-abbrev pub Leaves : Plan → List Entry → Option Stop → Type 0
+abbrev pub Leaves : Plan → List Entry → Option PlayStop → Type 0
 Leaves plan history None = HasEnded plan history
 Leaves plan history (Some stop.Host) = IsLeftInCall plan history
 Leaves plan history (Some stop.Mismatch) = Unit {0}
@@ -48,12 +48,12 @@ Leaves plan history (Some stop.Workers) = ⊥
 -- ---- what the code answers on the way
 
 -- why a play was stopped, if it was; else it left a plan in play
-abbrev pub stop_of : Result Play Stop → Option Stop
+abbrev pub stop_of : Result Play PlayStop → Option PlayStop
 stop_of (Ok left) = None
 stop_of (Err stop) = Some stop
 
 -- A play that was not stopped left the board after its history.
-abbrev pub LeavesBoard : Plan → List Entry → Result Play Stop → Type 0
+abbrev pub LeavesBoard : Plan → List Entry → Result Play PlayStop → Type 0
 LeavesBoard plan history (Ok left) = after plan history ≡ Some left.board
 LeavesBoard plan history (Err stop) = Unit {0}
 

@@ -3,15 +3,15 @@ use Rattle.std.specs.Prelude.{◌≡◌, ℕ, true, false, ◌⊎◌, List, [], 
 use Rattle.std.specs.declared.alloc.Global.{Global}
 use Rattle.command_io.specs.Files.{Content, File, IsContent}
 use Rattle.command_io.specs.Runs.{runs_status}
-use Rattle.command_io.specs.Stop.{SaysStop}
+use Rattle.command_io.specs.PlayStop.{SaysStop}
 use Rattle.command_io.specs.Stream.{Stream, IsKept, IsRead}
-use Rattle.command_io.specs.Tell.{Says, TellsTrouble}
-use Rattle.command_io.specs.Trouble.{line, source_trouble, trouble_status}
-use Rattle.command_io.specs.declared.stop.Stop.{Stop}
-use Rattle.command_io.specs.declared.stop.Stop.TheVariants.{Workers}
+use Rattle.command_io.specs.Tell.{Says, TellsError}
+use Rattle.command_io.specs.CommandError.{line, source_error, error_status}
+use Rattle.command_io.specs.declared.stop.PlayStop.{PlayStop}
+use Rattle.command_io.specs.declared.stop.PlayStop.TheVariants.{Workers}
 use Rattle.command_io.specs.declared.stream.SourceFault.{SourceFault}
-use Rattle.command_io.specs.declared.trouble.Trouble.{Trouble}
-use Rattle.command_io.specs.declared.trouble.Trouble.TheVariants.{NoExpression, NoValue, NoContexts, NoFlow, NotPlanned, NoPlan, NoEntry, Refused, Words, Io, Memory}
+use Rattle.command_io.specs.declared.error.CommandError.{CommandError}
+use Rattle.command_io.specs.declared.error.CommandError.TheVariants.{NoExpression, NoValue, NoContexts, NoFlow, NotPlanned, NoPlan, NoEntry, Refused, Words, Io, Memory}
 use Rattle.flow_model.specs.declared.board.Board.{Board}
 use Rattle.flow_model.specs.declared.event.Entry.{Entry}
 use Rattle.flow_model.specs.declared.plan.Plan.{Plan}
@@ -41,12 +41,12 @@ pub record ShowsEnd (plan : Plan) (history : List Entry) (lines : List ℕ) (don
   pub tells : done ≡ runs_status board
 
 -- One that was stopped tells nothing of them.
-abbrev pub ShowsRest : Plan → List Entry → Option Stop → List ℕ → ℕ → Type 0
+abbrev pub ShowsRest : Plan → List Entry → Option PlayStop → List ℕ → ℕ → Type 0
 ShowsRest plan history (Some stop) lines done = lines ≡ []
 ShowsRest plan history None lines done = ShowsEnd plan history lines done
 
 -- The text of a history, what is shown of its logs and then those lines, and the status that goes with it where all goes well.
-pub record IsRunText (plan : Plan) (history : List Entry) (stop : Option Stop) (text : List ℕ) (done : ℕ) : Type 0 where
+pub record IsRunText (plan : Plan) (history : List Entry) (stop : Option PlayStop) (text : List ℕ) (done : ℕ) : Type 0 where
   pub shown : List ℕ
   pub lines : List ℕ
   pub shows : ShowsLogs plan history shown
@@ -59,26 +59,26 @@ pub record IsRunText (plan : Plan) (history : List Entry) (stop : Option Stop) (
 abbrev pub Keeps : Type 1
 Keeps = List ℕ → Stream → Kept → Type 0
 
--- The line of a trouble on err, and its status.
-abbrev pub SaysTrouble : Trouble → Stream → Stream → ℕ → Type 0
-SaysTrouble trouble err err' status = Says err err' (line trouble) × (status ≡ trouble_status trouble)
+-- The line of an error on err, and its status.
+abbrev pub SaysError : CommandError → Stream → Stream → ℕ → Type 0
+SaysError error err err' status = Says err err' (line error) × (status ≡ error_status error)
 
 -- What is told after the text: why the play was stopped; else why the record could not be written, or nothing.
-abbrev pub Finishes : Option Stop → Kept → ℕ → Stream → Stream → ℕ → Type 0
+abbrev pub Finishes : Option PlayStop → Kept → ℕ → Stream → Stream → ℕ → Type 0
 Finishes (Some stop) kept done err err' status = SaysStop stop err err' status
 Finishes None (Ok true) done err err' status = IsKept err err' × (status ≡ done)
-Finishes None (Ok false) done err err' status = SaysTrouble Io err err' status
-Finishes None (Err memory) done err err' status = SaysTrouble Memory err err' status
+Finishes None (Ok false) done err err' status = SaysError Io err err' status
+Finishes None (Err memory) done err err' status = SaysError Memory err err' status
 
 -- What is told of a text that was written so: what follows it where all of it stands on out; that a write failed; or that there was
 -- no memory for what follows a beginning of it.
-abbrev pub TellsWritten : Written → Option Stop → Kept → ℕ → Stream → Stream → ℕ → Type 0
+abbrev pub TellsWritten : Written → Option PlayStop → Kept → ℕ → Stream → Stream → ℕ → Type 0
 TellsWritten (Ok true) stop kept done err err' status = Finishes stop kept done err err' status
-TellsWritten (Ok false) stop kept done err err' status = SaysTrouble Io err err' status
-TellsWritten (Err memory) stop kept done err err' status = SaysTrouble Memory err err' status
+TellsWritten (Ok false) stop kept done err err' status = SaysError Io err err' status
+TellsWritten (Err memory) stop kept done err err' status = SaysError Memory err err' status
 
 -- What is told of a history.
-pub record TellsHistory (plan : Plan) (history : List Entry) (stop : Option Stop) (kept : Kept) (out out' err err' : Stream) (status : ℕ) : Type 0 where
+pub record TellsHistory (plan : Plan) (history : List Entry) (stop : Option PlayStop) (kept : Kept) (out out' err err' : Stream) (status : ℕ) : Type 0 where
   pub text : List ℕ
   pub done : ℕ
   pub is : IsRunText plan history stop text done
@@ -88,11 +88,11 @@ pub record TellsHistory (plan : Plan) (history : List Entry) (stop : Option Stop
 
 -- Nothing stands on out, and want of memory is told.
 abbrev pub TellsMemory : Stream → Stream → Stream → Stream → ℕ → Type 0
-TellsMemory = TellsTrouble Memory
+TellsMemory = TellsError Memory
 
 -- What is told of what was played, and kept of it: the text of the history, or that there is no memory for what ends it; and in both
 -- cases the record is written when `out` already shows what it shows in the end.
-pub record TellsPlaying (keep : Keeps) (plan : Plan) (history : List Entry) (stop : Option Stop) (out out' err err' : Stream) (status : ℕ) : Type 0 where
+pub record TellsPlaying (keep : Keeps) (plan : Plan) (history : List Entry) (stop : Option PlayStop) (out out' err err' : Stream) (status : ℕ) : Type 0 where
   pub kept : Kept
   pub keeping : keep (record_text plan history) out' kept
   pub told : TellsHistory plan history stop kept out out' err err' status ⊎ TellsMemory out out' err err' status
@@ -100,7 +100,7 @@ pub record TellsPlaying (keep : Keeps) (plan : Plan) (history : List Entry) (sto
 -- What is told of some play of a plan by so many workers.
 pub record TellsPlay (keep : Keeps) (plan : Plan) (workers : ℕ) (out out' err err' : Stream) (status : ℕ) : Type 0 where
   pub history : List Entry
-  pub stop : Option Stop
+  pub stop : Option PlayStop
   pub played : IsPlayed plan workers history
   pub leaves : Leaves plan history stop
   pub told : TellsPlaying keep plan history stop out out' err err' status
@@ -128,7 +128,7 @@ pub record IsNoPlan (stubs : Content) (bytes : List ℕ) (fault : LoadFault) : T
 
 -- Why nothing is played of texts: the first is no file of stubs; it is one, and the other is no plan; or they are both, and the
 -- machine has no such folder. Want of memory may be told of all of them. (`load` refuses no text for a line of an entry.)
-abbrev pub AreNotPlayed : Content → List ℕ → Trouble → Type 0
+abbrev pub AreNotPlayed : Content → List ℕ → CommandError → Type 0
 AreNotPlayed stubs bytes (NoContexts file fault) = (file_stubs stubs.bytes ≡ Err fault) × (file ≡ stubs.name)
 AreNotPlayed stubs bytes (NoPlan fault) = IsNoPlan stubs bytes fault
 AreNotPlayed stubs bytes (NoEntry n) = IsNoPlan stubs bytes (load_fault.NotEntry n)
@@ -149,9 +149,9 @@ pub record RunsLoaded (keep : Keeps) (stubs : Content) (bytes : List ℕ) (worke
 
 -- Texts are not played, and why is told.
 pub record RefusesTexts (stubs : Content) (bytes : List ℕ) (out out' err err' : Stream) (status : ℕ) : Type 0 where
-  pub trouble : Trouble
-  pub why : AreNotPlayed stubs bytes trouble
-  pub told : TellsTrouble trouble out out' err err' status
+  pub error : CommandError
+  pub why : AreNotPlayed stubs bytes error
+  pub told : TellsError error out out' err err' status
 
 -- What is told of texts.
 abbrev pub RunsTexts : Keeps → Content → List ℕ → ℕ → Stream → Stream → Stream → Stream → ℕ → Type 0
@@ -174,7 +174,7 @@ pub record TellsRead (keep : Keeps) (workers : ℕ) (stubs stubs' : File) (input
 pub record TellsUnread (stubs stubs' : File) (input input' out out' err err' : Stream) (status : ℕ) : Type 0 where
   pub why : SourceFault
   pub unread : AreBothRead stubs stubs' input input' (Err why)
-  pub told : TellsTrouble (source_trouble why) out out' err err' status
+  pub told : TellsError (source_error why) out out' err err' status
 
 -- What `run` leaves, by so many workers, where keeping a record does this: it reads the file of stubs and the plan to their ends, and tells of them.
 abbrev pub RunTells : Keeps → ℕ → File → File → Stream → Stream → Stream → Stream → Stream → Stream → ℕ → Type 0
@@ -189,8 +189,8 @@ ReadsBoth stubs stubs' input input' (Ok both) = AreBothRead stubs stubs' input i
 ReadsBoth stubs stubs' input input' (Err why) = AreBothRead stubs stubs' input input' (Err why)
 
 -- Why a machine cannot give a folder's whole path: it has no such folder, or no memory.
-abbrev pub IsOfMachine : Trouble → Type 0
-IsOfMachine trouble = (trouble ≡ Io) ⊎ (trouble ≡ Memory)
+abbrev pub IsOfMachine : CommandError → Type 0
+IsOfMachine error = (error ≡ Io) ⊎ (error ≡ Memory)
 
 -- What is shown of the logs of a history, and then these lines, were written so.
 pub record PutsPlayed (plan : Plan) (history : List Entry) (lines : List ℕ) (out out' : Stream) (written : Written) : Type 0 where

@@ -4,11 +4,11 @@ use Rattle.serde_json.specs.Data.{Data, null, boolean, number, string, array, ob
 use Rattle.flow_model.specs.Mapping.{with_pair}
 use Rattle.flow_model.specs.JsonText.{json_read}
 use Rattle.command_io.specs.Files.{Content}
-use Rattle.command_io.specs.Trouble.{IsContextsTrouble}
+use Rattle.command_io.specs.CommandError.{IsContextsError}
 use Rattle.command_io.specs.declared.contexts.ContextsFault.{ContextsFault}
 use Rattle.command_io.specs.declared.contexts.ContextsFault.TheVariants.{NotJson, WrongShape}
-use Rattle.command_io.specs.declared.trouble.Trouble.{Trouble}
-use Rattle.command_io.specs.declared.trouble.Trouble.TheVariants.{Memory}
+use Rattle.command_io.specs.declared.error.CommandError.{CommandError}
+use Rattle.command_io.specs.declared.error.CommandError.TheVariants.{Memory}
 
 -- programs, each after the action that it stands for
 abbrev pub Stubs : Type 0
@@ -52,7 +52,7 @@ abbrev pub file_stubs : List ℕ → Result Stubs ContextsFault
 file_stubs bytes = stubs_read (json_read bytes)
 
 -- The stubs of a file, or why it gives none; want of memory may be answered besides.
-abbrev pub HasStubs : Content → Result Stubs Trouble → Type 0
+abbrev pub HasStubs : Content → Result Stubs CommandError → Type 0
 HasStubs file (Ok stubs) = file_stubs file.bytes ≡ Ok stubs
-HasStubs file (Err trouble) =
-    ((fault : ContextsFault) × (file_stubs file.bytes ≡ Err fault) × IsContextsTrouble file.name fault trouble) ⊎ (trouble ≡ Memory)
+HasStubs file (Err error) =
+    ((fault : ContextsFault) × (file_stubs file.bytes ≡ Err fault) × IsContextsError file.name fault error) ⊎ (error ≡ Memory)

@@ -10,7 +10,6 @@
 
 mod environment;
 pub mod machine;
-mod place;
 mod plan_masks;
 mod playing;
 pub mod progress;
@@ -20,3 +19,4 @@ mod run_lines;
 mod step_logs;
 pub mod step_names;
 mod stubs;
+mod workspace;

@@ -7,14 +7,27 @@ ghost use Rattle.command_run.specs.Run.{IsOfMachine};
 use crate::environment::variables;
 use crate::progress::Progress;
 use crate::step_names::StepNames;
+use command_io::error::CommandError;
 use command_io::stream::{Output, Sink};
-use command_io::trouble::Trouble;
 use flow_model::{Duplicate, Mapping, Sequence, Text};
 use std::alloc::{AllocError, Global};
 use std::fs::{File, Files};
 use std::io::ErrorKind;
 use std::path;
 use step_host::{Masked, ProgramHost, StepHost, Watched};
+
+/// What a host is built from.
+#[derive(Drop)]
+pub struct HostSetup<'w> {
+    /// The folder in which programs start.
+    pub work: &'w str,
+    /// The program of each action.
+    pub stubs: Mapping<Text>,
+    /// The texts that are masked.
+    pub masks: Sequence<Text>,
+    /// The names of the steps, if the start and the end of each are reported on standard error.
+    pub progress: Option<StepNames>,
+}
 
 /// Where programs run.
 pub trait Machine: Files {
@@ -33,25 +46,17 @@ pub trait Machine: Files {
     ///
     /// # Errors
     ///
-    /// `Trouble::Io` where there is none, and `Trouble::Memory`.
-    fn whole_path(&self, folder: &str) -> Result<String, Trouble>
+    /// `CommandError::Io` where there is none, and `CommandError::Memory`.
+    fn whole_path(&self, folder: &str) -> Result<String, CommandError>
         ensures { IfErr result IsOfMachine };
 
-    /// The host that starts programs in a folder, with these stubs and those variables of this program that are texts, and
-    /// masks the values of outputs and of variables that steps set. Where the steps have names it tells on standard error of
-    /// each, when it starts and when it ends.
+    /// The host that starts programs, with those variables of this program that are texts. It also masks the values of
+    /// outputs and of variables that steps set.
     ///
     /// # Errors
     ///
     /// There is no memory.
-    fn host(
-        &self,
-        alloc: Global,
-        work: &str,
-        stubs: Mapping<Text>,
-        masks: Sequence<Text>,
-        progress: Option<StepNames>,
-    ) -> Result<Self::Host, AllocError>;
+    fn host(&self, alloc: Global, setup: HostSetup<'_>) -> Result<Self::Host, AllocError>;
 }
 
 impl Machine for HostRuntime {
@@ -67,14 +72,14 @@ impl Machine for HostRuntime {
         }
     }
 
-    fn whole_path(&self, folder: &str) -> Result<String, Trouble> {
+    fn whole_path(&self, folder: &str) -> Result<String, CommandError> {
         match path::absolute(self, folder) {
             Ok(whole) => Ok(whole.into_string()),
             Err(error) => {
                 if error.kind() == ErrorKind::OutOfMemory {
-                    return Err(Trouble::Memory);
+                    return Err(CommandError::Memory);
                 }
-                Err(Trouble::Io)
+                Err(CommandError::Io)
             },
         }
     }
@@ -82,11 +87,14 @@ impl Machine for HostRuntime {
     fn host(
         &self,
         alloc: Global,
-        work: &str,
-        stubs: Mapping<Text>,
-        masks: Sequence<Text>,
-        progress: Option<StepNames>,
+        setup: HostSetup<'_>,
     ) -> Result<Watched<Masked<ProgramHost<HostRuntime>>, Progress>, AllocError> {
+        let HostSetup {
+            work,
+            stubs,
+            masks,
+            progress,
+        } = setup;
         let base = variables(self, alloc)?;
         let work = Text::from_str(alloc, work)?;
         let programs = ProgramHost::new(alloc, *self, work, base, stubs);

@@ -23,7 +23,7 @@ fn add_secret(alloc: Global, secret: &Node, masks: &mut Sequence<Text>) -> Resul
     }
 }
 
-/// The same of a list's items.
+/// Adds the texts in the items of a list.
 #[cycle(texts)]
 fn add_items(alloc: Global, nodes: &Vec<Node>, masks: &mut Sequence<Text>) -> Result<(), AllocError>
     ensures { OnOk result (masks.new
@@ -35,7 +35,7 @@ fn add_items(alloc: Global, nodes: &Vec<Node>, masks: &mut Sequence<Text>) -> Re
     Ok(())
 }
 
-/// The same of a map's values.
+/// Adds the texts in the values of a map.
 #[cycle(texts)]
 fn add_members(
     alloc: Global,

@@ -4,7 +4,7 @@ ghost use Rattle.std.specs.Prelude.{◌≡◌, ℕ, IfErr, IfOk};
 ghost use Rattle.flow_model.specs.declared.plan.Plan.{Plan};
 ghost use Rattle.command_run.specs.Playing as spec;
 
-use command_io::stop::Stop;
+use command_io::stop::PlayStop;
 use flow_model::{CheckedPlan, Entry, Sequence};
 use std::alloc::Global;
 use std::sync::Wait;
@@ -17,12 +17,12 @@ use worker_pool::{Played, PoolFault, play, play_alone};
 pub(crate) struct Playing {
     pub(crate) history: Sequence<Entry>,
     /// The plan in play after it, or why the play was stopped.
-    pub(crate) end: Result<PlayBoard, Stop>,
+    pub(crate) end: Result<PlayBoard, PlayStop>,
 }
 
 impl Playing {
     /// Why the play was stopped, if it was.
-    pub(crate) fn stop(&self) -> Option<Stop>
+    pub(crate) fn stop(&self) -> Option<PlayStop>
         ensures { result ≡ spec.stop_of self.now.end }
     {
         match &self.end {
@@ -59,15 +59,15 @@ fn stopped(fault: PoolFault) -> Option<Playing>
         PoolFault::Workers => None,
         PoolFault::Host { history, .. } => Some(Playing {
             history,
-            end: Err(Stop::Host),
+            end: Err(PlayStop::Host),
         }),
         PoolFault::Mismatch { history } => Some(Playing {
             history,
-            end: Err(Stop::Mismatch),
+            end: Err(PlayStop::Mismatch),
         }),
         PoolFault::Memory { history } => Some(Playing {
             history,
-            end: Err(Stop::Memory),
+            end: Err(PlayStop::Memory),
         }),
     }
 }

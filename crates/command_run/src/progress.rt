@@ -118,9 +118,8 @@ impl Progress {
     }
 
     /// Adds how many of all steps have been played, with this one.
-    fn add_count(&self, text: &mut String, names: &StepNames) -> Result<(), AllocError> {
+    fn add_count(&self, text: &mut String, total: u64) -> Result<(), AllocError> {
         let done = self.done.fetch_add(1, Ordering::SeqCst).saturating_add(1);
-        let total = names.total();
         write!(text, ", {done} of {total} steps")
     }
 
@@ -136,13 +135,12 @@ impl Progress {
     fn unstarted_text(
         &self,
         call: &StepCall,
-        names: &StepNames,
         step: NamedStep<'_>,
         why: Unstarted,
     ) -> Result<String, AllocError> {
         let mut text = self.placed(call, step)?;
         add_unstarted(&mut text, step.name, why)?;
-        self.add_count(&mut text, names)?;
+        self.add_count(&mut text, step.total)?;
         Ok(text)
     }
 
@@ -173,22 +171,19 @@ impl Progress {
     fn ended_text(
         &self,
         call: &StepCall,
-        names: &StepNames,
         step: NamedStep<'_>,
         answer: &Answer,
         moment: Option<Instant>,
     ) -> Result<String, AllocError> {
         let mut text = self.placed(call, step)?;
         self.add_end(&mut text, answer, moment)?;
-        self.add_count(&mut text, names)?;
+        self.add_count(&mut text, step.total)?;
         Ok(text)
     }
 
-    /// The names of the steps, and the step of a call, where somebody is to be told of it.
-    fn asked(&self, call: &StepCall) -> Option<(&StepNames, NamedStep<'_>)> {
-        let names = self.names.as_ref()?;
-        let step = names.step(call.leg, call.step)?;
-        Some((names, step))
+    /// The step of a call, where somebody is to be told of it.
+    fn asked(&self, call: &StepCall) -> Option<NamedStep<'_>> {
+        self.names.as_ref()?.step(call.leg, call.step)
     }
 }
 
@@ -201,14 +196,14 @@ impl Watch for Progress {
     }
 
     fn started(&self, call: &StepCall) {
-        if let Some((_, step)) = self.asked(call) {
+        if let Some(step) = self.asked(call) {
             self.tell_made(self.started_text(call, step));
         }
     }
 
     fn unstarted(&self, call: &StepCall, why: Unstarted) {
-        if let Some((names, step)) = self.asked(call) {
-            self.tell_made(self.unstarted_text(call, names, step, why));
+        if let Some(step) = self.asked(call) {
+            self.tell_made(self.unstarted_text(call, step, why));
         }
     }
 
@@ -216,8 +211,8 @@ impl Watch for Progress {
         if matches!(answer, Answer::NotStarted) {
             return;
         }
-        if let Some((names, step)) = self.asked(call) {
-            self.tell_made(self.ended_text(call, names, step, answer, moment));
+        if let Some(step) = self.asked(call) {
+            self.tell_made(self.ended_text(call, step, answer, moment));
         }
     }
 }

@@ -6,8 +6,8 @@ ghost use Rattle.status_table.specs.Runs.{IsLegal};
 ghost use Rattle.step_host.specs.Counted.{begun_after, counted};
 ghost use Rattle.command_run.specs.StepLogs as spec;
 
-use crate::place::Place;
 use crate::plan_masks::masks_of;
+use crate::workspace::Workspace;
 use command_io::stream::Sink;
 use flow_commands::{Log, tell_log};
 use flow_model::{Answer, CheckedPlan, Entry, Event, Sequence, Text};
@@ -107,16 +107,12 @@ fn started_steps(alloc: Global, history: &[Entry]) -> Result<Vec<(u64, u64)>, Al
 }
 
 /// The log of a step of a leg, whose bytes are there if it can be read.
-fn read_log<F: Files>(
-    alloc: Global,
-    place: &Place<'_, F>,
-    step: (u64, u64),
-) -> Result<Log, AllocError>
+fn read_log<F: Files>(workspace: &Workspace<'_, F>, step: (u64, u64)) -> Result<Log, AllocError>
     ensures { IfOk result (λ log. log.0 ≡ step.0) }
 {
     let (leg, number) = step;
-    let name = log_file(alloc, place.work, leg, number)?;
-    match file_bytes(alloc, place.files, name.as_str()) {
+    let name = log_file(workspace.alloc, workspace.work, leg, number)?;
+    match file_bytes(workspace.alloc, workspace.files, name.as_str()) {
         Ok(bytes) => Ok((leg, Some(Sequence::new(bytes)))),
         Err(error) => {
             if error.kind() == ErrorKind::OutOfMemory {
@@ -129,8 +125,7 @@ fn read_log<F: Files>(
 
 /// Writes what is shown of the log of a step, and keeps the masks that it adds.
 fn put_log<F: Files, O: Sink>(
-    alloc: Global,
-    place: &Place<'_, F>,
+    workspace: &Workspace<'_, F>,
     masks: &Sequence<Text>,
     step: (u64, u64),
     added: &mut Sequence<(u64, Text)>,
@@ -138,16 +133,15 @@ fn put_log<F: Files, O: Sink>(
 ) -> Result<bool, AllocError>
     ensures { spec.PutsLog masks.now step.0 added.old added.new (O.seen out.old) (O.seen out.new) result }
 {
-    let log = read_log(alloc, place, step)?;
-    let mut text = String::new(alloc);
-    tell_log(alloc, masks, &log, added, &mut text)?;
+    let log = read_log(workspace, step)?;
+    let mut text = String::new(workspace.alloc);
+    tell_log(workspace.alloc, masks, &log, added, &mut text)?;
     Ok(out.put(text.as_bytes()))
 }
 
 /// Writes what is shown of the logs of steps, one log after the other.
 fn put_each<F: Files, O: Sink>(
-    alloc: Global,
-    place: &Place<'_, F>,
+    workspace: &Workspace<'_, F>,
     masks: &Sequence<Text>,
     steps: &[(u64, u64)],
     out: &mut O,
@@ -155,9 +149,9 @@ fn put_each<F: Files, O: Sink>(
     ensures { spec.PutsLogs masks.now (map (λ step. step.0) steps.now)
         (O.seen out.old) (O.seen out.new) result }
 {
-    let mut added = Sequence::empty(alloc);
+    let mut added = Sequence::empty(workspace.alloc);
     for step in steps {
-        if !put_log(alloc, place, masks, *step, &mut added, out)? {
+        if !put_log(workspace, masks, *step, &mut added, out)? {
             return Ok(false);
         }
     }
@@ -171,8 +165,7 @@ fn put_each<F: Files, O: Sink>(
 ///
 /// There is no memory. A beginning may have been written.
 pub(crate) fn put_logs<F: Files, O: Sink>(
-    alloc: Global,
-    place: &Place<'_, F>,
+    workspace: &Workspace<'_, F>,
     plan: &CheckedPlan,
     history: &[Entry],
     out: &mut O,
@@ -181,7 +174,7 @@ pub(crate) fn put_logs<F: Files, O: Sink>(
     ensures { spec.PutsShown plan.now history.now (O.seen out.old) (O.seen out.new) result }
 {
     records_are_counted();
-    let masks = masks_of(alloc, plan.plan())?;
-    let steps = started_steps(alloc, history)?;
-    put_each(alloc, place, &masks, steps.as_slice(), out)
+    let masks = masks_of(workspace.alloc, plan.plan())?;
+    let steps = started_steps(workspace.alloc, history)?;
+    put_each(workspace, &masks, steps.as_slice(), out)
 }

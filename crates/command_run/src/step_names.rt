@@ -20,12 +20,13 @@ pub struct StepNames {
     total: u64,
 }
 
-/// A step of a leg: the id of its job, what it is called, and how many steps the leg has.
+/// A step of a leg: the id of its job, what it is called, how many steps the leg has, and how many all legs have.
 #[derive(Clone, Copy)]
 pub(crate) struct NamedStep<'a> {
     pub(crate) job: &'a str,
     pub(crate) name: &'a str,
     pub(crate) count: usize,
+    pub(crate) total: u64,
 }
 
 /// The first line of a text that has more than white space.
@@ -102,11 +103,7 @@ impl StepNames {
             job: job.id.as_str(),
             name: name.as_str(),
             count: job.steps.len(),
+            total: self.total,
         })
-    }
-
-    /// How many steps all legs have.
-    pub(crate) fn total(&self) -> u64 {
-        self.total
     }
 }

@@ -6,8 +6,8 @@ ghost use Rattle.command_io.specs.Contexts.{Gives};
 ghost use Rattle.command_run.specs.Stubs as spec;
 
 use command_io::contexts::{ContextsFault, Unread};
+use command_io::error::{CommandError, contexts_error};
 use command_io::files::Content;
-use command_io::trouble::{Trouble, contexts_trouble};
 use flow_model::{Mapping, Text, read_json};
 use std::alloc::Global;
 use std::collections::BTreeMap;
@@ -66,12 +66,12 @@ fn file_stubs(alloc: Global, bytes: &[u8]) -> Result<Mapping<Text>, Unread>
 }
 
 /// The stubs that a file gives, or why it gives none.
-pub(crate) fn stubs_of_file(alloc: Global, file: &Content) -> Result<Mapping<Text>, Trouble>
+pub(crate) fn stubs_of_file(alloc: Global, file: &Content) -> Result<Mapping<Text>, CommandError>
     ensures { spec.HasStubs file.now result }
 {
     match file_stubs(alloc, file.bytes()) {
         Ok(stubs) => Ok(stubs),
-        Err(Unread::Fault(fault)) => Err(contexts_trouble(alloc, file.name(), fault)),
-        Err(Unread::Memory) => Err(Trouble::Memory),
+        Err(Unread::Fault(fault)) => Err(contexts_error(alloc, file.name(), fault)),
+        Err(Unread::Memory) => Err(CommandError::Memory),
     }
 }

@@ -7,10 +7,10 @@ use Rattle.status_table.specs.Play.{Play}
 use Rattle.status_table.specs.Runs.{StopsAt, new_board, new_play}
 use Rattle.status_table.specs.declared.fault.EventFault.{EventFault}
 use Rattle.command_io.proofs.Stopped as entries
-use Rattle.command_io.specs.Records.{IsStopped, stop_trouble}
+use Rattle.command_io.specs.Records.{IsStopped, stop_error}
 
 pub stopped : (made : Play) (p : Plan) (es : List Entry) (i : ℕ) (f : EventFault) → made ≡ new_play p
-    → ((b : Board) × StopsAt made.plan made.board es i f b) → IsStopped p es (stop_trouble i f)
+    → ((b : Board) × StopsAt made.plan made.board es i f b) → IsStopped p es (stop_error i f)
 stopped made p es i f new stop =
     let from : StopsAt p (new_board p) es i f stop.0 = subst (λ (play : Play). StopsAt play.plan play.board es i f stop.0) new stop.1 in
     entries.stopped p es i f (λ named. (stop.0, from))

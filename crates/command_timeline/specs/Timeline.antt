@@ -14,8 +14,8 @@ use Rattle.status_table.specs.Runs.{after}
 use Rattle.command_io.specs.Records.{IsStopped, OfRecord, TellsShown}
 use Rattle.command_io.specs.Runs.{runs_status}
 use Rattle.command_io.specs.Stream.{Stream}
-use Rattle.command_io.specs.Tell.{Drawn}
-use Rattle.command_io.specs.declared.trouble.Trouble.{Trouble}
+use Rattle.command_io.specs.Tell.{Printed}
+use Rattle.command_io.specs.declared.error.CommandError.{CommandError}
 
 -- ---- what a text comes to
 
@@ -51,11 +51,11 @@ pub record IsNoted (plan : Plan) (entries : List Entry) (play : Play) (track : T
   pub leads : after plan entries ≡ Some play.board
   pub notes : track_of plan entries ≡ Some track
 
-abbrev pub GivesNoted : Plan → List Entry → Result (Play × Track) Trouble → Type 0
+abbrev pub GivesNoted : Plan → List Entry → Result (Play × Track) CommandError → Type 0
 GivesNoted plan entries (Ok both) = IsNoted plan entries both.0 both.1
-GivesNoted plan entries (Err trouble) = IsStopped plan entries trouble
+GivesNoted plan entries (Err error) = IsStopped plan entries error
 
 -- The picture of a plan and entries.
-abbrev pub GivesDrawn : Plan → List Entry → Result Drawn Trouble → Type 0
+abbrev pub GivesDrawn : Plan → List Entry → Result Printed CommandError → Type 0
 GivesDrawn plan entries (Ok both) = IsDrawn both.0.items both.1 plan entries
-GivesDrawn plan entries (Err trouble) = IsStopped plan entries trouble
+GivesDrawn plan entries (Err error) = IsStopped plan entries error

@@ -1,16 +1,16 @@
 //! `actrun timeline`: a record, as a picture.
 
 ghost use Rattle.std.specs.Prelude.{◌≡◌, ◌+◌, IfOk};
-ghost use Rattle.command_io.specs.Records.{GivesDrawing};
+ghost use Rattle.command_io.specs.Records.{GivesPrinted};
 ghost use Rattle.command_timeline.specs.Timeline as spec;
 ghost use Rattle.command_timeline.specs.Timeline.{GivesDrawn, GivesNoted, ShowsTimeline, TimelineTells};
 
 use board_timeline::{Track, new_track, picture, play_noted, timeline_shapes};
-use command_io::records::{load_trouble, stop_trouble};
+use command_io::error::CommandError;
+use command_io::records::{load_error, stop_error};
 use command_io::runs::runs_status;
 use command_io::stream::{Sink, Source};
-use command_io::tell::{refuse_source, tell_drawn};
-use command_io::trouble::Trouble;
+use command_io::tell::{refuse_source, tell_printed};
 use flat_board::FlatBoard;
 use flow_model::{CheckedPlan, Entry, Plan};
 use plan_text::load_record;
@@ -22,18 +22,14 @@ fn noted(
     alloc: Global,
     plan: &CheckedPlan,
     entries: &[Entry],
-) -> Result<(FlatBoard, Track), Trouble>
+) -> Result<(FlatBoard, Track), CommandError>
     ensures { GivesNoted plan.now entries.now result }
 {
-    let Ok(mut board) = FlatBoard::new(alloc, plan) else {
-        return Err(Trouble::Memory);
-    };
-    let Ok(mut track) = new_track(alloc, plan.plan()) else {
-        return Err(Trouble::Memory);
-    };
+    let mut board = FlatBoard::new(alloc, plan)?;
+    let mut track = new_track(alloc, plan.plan())?;
     match play_noted(alloc, &mut board, plan.plan(), &mut track, entries) {
         Ok(()) => Ok((board, track)),
-        Err((place, fault)) => Err(stop_trouble(place, fault)),
+        Err((place, fault)) => Err(stop_error(place, fault)),
     }
 }
 
@@ -51,24 +47,26 @@ fn timeline_text(
 }
 
 /// The picture of a plan and entries, and the status of the board after them.
-fn drawn(alloc: Global, plan: &CheckedPlan, entries: &[Entry]) -> Result<(Vec<u8>, u8), Trouble>
+fn drawn(
+    alloc: Global,
+    plan: &CheckedPlan,
+    entries: &[Entry],
+) -> Result<(Vec<u8>, u8), CommandError>
     ensures { GivesDrawn plan.now entries.now result }
 {
     let (board, track) = noted(alloc, plan, entries)?;
     let lines = entries.len() as u64 + 1;
-    match timeline_text(alloc, plan.plan(), &track, lines) {
-        Ok(text) => Ok((text, runs_status(board.board()))),
-        Err(_) => Err(Trouble::Memory),
-    }
+    let text = timeline_text(alloc, plan.plan(), &track, lines)?;
+    Ok((text, runs_status(board.board())))
 }
 
 /// The picture of a text, and the status that goes with it.
-fn text_drawn(alloc: Global, text: &[u8]) -> Result<(Vec<u8>, u8), Trouble>
-    ensures { GivesDrawing ShowsTimeline text.now result }
+fn text_drawn(alloc: Global, text: &[u8]) -> Result<(Vec<u8>, u8), CommandError>
+    ensures { GivesPrinted ShowsTimeline text.now result }
 {
     match load_record(alloc, text) {
         Ok((plan, entries)) => drawn(alloc, &plan, entries.as_slice()),
-        Err(fault) => Err(load_trouble(fault)),
+        Err(fault) => Err(load_error(fault)),
     }
 }
 
@@ -85,7 +83,7 @@ pub fn timeline<I: Source, O: Sink, E: Sink>(
         (O.seen out.old) (O.seen out.new) (E.seen err.old) (E.seen err.new) result }
 {
     match input.read_all(alloc) {
-        Ok(text) => tell_drawn(text_drawn(alloc, text.as_slice()), out, err),
+        Ok(text) => tell_printed(text_drawn(alloc, text.as_slice()), out, err),
         Err(fault) => refuse_source(err, fault),
     }
 }

@@ -8,17 +8,17 @@ use Rattle.command_io.proofs.Told.{IsKept-same}
 use Rattle.command_io.specs.Records.{IsStopped}
 use Rattle.command_io.specs.Stream.{Stream, IsRead}
 use Rattle.command_io.specs.Tell.{Says}
-use Rattle.command_io.specs.Trouble.{line, source_trouble, trouble_status}
+use Rattle.command_io.specs.CommandError.{line, source_error, error_status}
 use Rattle.command_io.specs.declared.stream.SourceFault.{SourceFault}
 use Rattle.command_io.specs.declared.stream.SourceFault.TheVariants as source_fault
-use Rattle.command_io.specs.declared.trouble.Trouble.{Trouble}
+use Rattle.command_io.specs.declared.error.CommandError.{CommandError}
 use Rattle.command_why.specs.Why.{GivesTree, GivesWhy, IsWhyAnswer, TellsWhy, Told, WhyAnswer, WhyTells}
 
 -- what is told of the account of entries is told of them
-pub told_of : (asked : Option Question) (p : Plan) (es : List Entry) (a : Account) (result : Result Told Trouble) → account_of p es ≡ Some a
+pub told_of : (asked : Option Question) (p : Plan) (es : List Entry) (a : Account) (result : Result Told CommandError) → account_of p es ≡ Some a
     → GivesTree a asked result → GivesWhy asked p es result
 told_of asked p es a (Ok told) leads gives = record { account = a; leads = leads; tells = gives }
-told_of asked p es a (Err trouble) leads gives = subst (λ (t : Trouble). IsStopped p es t) (sym gives) tt
+told_of asked p es a (Err error) leads gives = subst (λ (t : CommandError). IsStopped p es t) (sym gives) tt
 
 pub why_told : (asked : Option Question) (input input' out out' err err' : Stream) (text : List ℕ) (answer : WhyAnswer) (status : ℕ)
     → IsRead input input' (Ok text) → IsWhyAnswer asked text answer → TellsWhy answer out out' err err' status
@@ -26,21 +26,21 @@ pub why_told : (asked : Option Question) (input input' out out' err err' : Strea
 why_told asked input input' out out' err err' text answer status reads answers told =
     record { read = Ok text; reads = reads; answer = answer; answers = answers; told = told }
 
--- what was not read is told as its trouble
+-- what was not read is told as its error
 pub unread_why : (asked : Option Question) (input input' out err err' : Stream) (fault : SourceFault) (status : ℕ)
-    → IsRead input input' (Err fault) → Says err err' (line (source_trouble fault)) → status ≡ trouble_status (source_trouble fault)
+    → IsRead input input' (Err fault) → Says err err' (line (source_error fault)) → status ≡ error_status (source_error fault)
     → WhyTells asked input input' out out err err' status
 unread_why asked input input' out err err' source_fault.Failed status reads said is = record {
   read = Err source_fault.Failed;
   reads = reads;
-  answer = Err (source_trouble source_fault.Failed);
+  answer = Err (source_error source_fault.Failed);
   answers = refl;
   told = record { kept = IsKept-same out; said = said; is = is };
 }
 unread_why asked input input' out err err' source_fault.Memory status reads said is = record {
   read = Err source_fault.Memory;
   reads = reads;
-  answer = Err (source_trouble source_fault.Memory);
+  answer = Err (source_error source_fault.Memory);
   answers = refl;
   told = record { kept = IsKept-same out; said = said; is = is };
 }

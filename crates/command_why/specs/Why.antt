@@ -11,11 +11,11 @@ use Rattle.flow_model.specs.declared.plan.Plan.{Plan}
 use Rattle.command_io.specs.Records.{IsNotPlayed, IsStopped, OfRecord}
 use Rattle.command_io.specs.Stream.{Stream, IsKept, IsRead}
 use Rattle.command_io.specs.Tell.{Says, TellsBy}
-use Rattle.command_io.specs.Trouble.{UnlessMemory, name_line}
+use Rattle.command_io.specs.CommandError.{UnlessMemory, name_line}
 use Rattle.command_io.specs.declared.stream.SourceFault.{SourceFault}
 use Rattle.command_io.specs.declared.stream.SourceFault.TheVariants as source_fault
-use Rattle.command_io.specs.declared.trouble.Trouble.{Trouble}
-use Rattle.command_io.specs.declared.trouble.Trouble.TheVariants.{Io, Memory}
+use Rattle.command_io.specs.declared.error.CommandError.{CommandError}
+use Rattle.command_io.specs.declared.error.CommandError.TheVariants.{Io, Memory}
 use Rattle.command_why.specs.Roots.{roots}
 use Rattle.command_why.specs.Words.{tree_text}
 
@@ -31,14 +31,14 @@ pub record Explains (asked : Option Question) (told : Option (List ℕ)) (plan :
   pub leads : account_of plan entries ≡ Some account
   pub tells : told ≡ explained account asked
 
--- The text of a tree, or none where what is asked about is not there; or a trouble.
+-- The text of a tree, or none where what is asked about is not there; or an error.
 abbrev pub WhyAnswer : Type 0
-WhyAnswer = Result (Option (List ℕ)) Trouble
+WhyAnswer = Result (Option (List ℕ)) CommandError
 
 -- An answer to what is asked of a text.
 abbrev pub IsWhyAnswer : Option Question → List ℕ → WhyAnswer → Type 0
 IsWhyAnswer asked text (Ok told) = OfRecord text (Explains asked told)
-IsWhyAnswer asked text (Err trouble) = UnlessMemory trouble (IsNotPlayed text trouble)
+IsWhyAnswer asked text (Err error) = UnlessMemory error (IsNotPlayed text error)
 
 -- ---- what is left
 
@@ -52,9 +52,9 @@ pub record TellsNoSuch (out out' err err' : Stream) (status : ℕ) : Type 0 wher
 abbrev pub TellsWhy : WhyAnswer → Stream → Stream → Stream → Stream → ℕ → Type 0
 TellsWhy (Ok (Some text)) out out' err err' status = TellsBy 0 (Ok text) out out' err err' status
 TellsWhy (Ok None) out out' err err' status = TellsNoSuch out out' err err' status
-TellsWhy (Err trouble) out out' err err' status = TellsBy 0 (Err trouble) out out' err err' status
+TellsWhy (Err error) out out' err err' status = TellsBy 0 (Err error) out out' err err' status
 
--- An answer to what was read; where only a part was read there is none but the trouble.
+-- An answer to what was read; where only a part was read there is none but the error.
 abbrev pub AnswersAsked : Option Question → Result (List ℕ) SourceFault → WhyAnswer → Type 0
 AnswersAsked asked (Ok text) answer = IsWhyAnswer asked text answer
 AnswersAsked asked (Err source_fault.Failed) answer = answer ≡ Err Io
@@ -80,16 +80,16 @@ abbrev pub bytes_of : Told → Option (List ℕ)
 bytes_of told = option_map (λ text. text.items) told
 
 -- what is told of an account, unless there was no memory
-abbrev pub GivesTree : Account → Option Question → Result Told Trouble → Type 0
+abbrev pub GivesTree : Account → Option Question → Result Told CommandError → Type 0
 GivesTree a asked (Ok told) = bytes_of told ≡ explained a asked
-GivesTree a asked (Err trouble) = trouble ≡ Memory
+GivesTree a asked (Err error) = error ≡ Memory
 
 -- what is told of entries, or that the table refuses one of them
-abbrev pub GivesWhy : Option Question → Plan → List Entry → Result Told Trouble → Type 0
+abbrev pub GivesWhy : Option Question → Plan → List Entry → Result Told CommandError → Type 0
 GivesWhy asked plan entries (Ok told) = Explains asked (bytes_of told) plan entries
-GivesWhy asked plan entries (Err trouble) = IsStopped plan entries trouble
+GivesWhy asked plan entries (Err error) = IsStopped plan entries error
 
 -- what is told of it, seen as an answer
-abbrev pub answer_of : Result Told Trouble → WhyAnswer
+abbrev pub answer_of : Result Told CommandError → WhyAnswer
 answer_of (Ok told) = Ok (bytes_of told)
-answer_of (Err trouble) = Err trouble
+answer_of (Err error) = Err error

@@ -13,7 +13,7 @@ use crate::words::{add_job_words, add_leg_words, add_run_words};
 use crate::writing::{add, add_number};
 use board_decisions::place::item_at;
 use flow_model::Member;
-use std::alloc::{AllocError, Global};
+use std::alloc::AllocError;
 use why_causes::question::Question;
 use why_causes::tree::Line;
 use why_facts::fact::Teller;
@@ -21,33 +21,23 @@ use why_facts::notes::{LegNotes, RunNotes, StopNote};
 use why_notes::account::SeenAccount;
 
 /// Adds the newer member that told to stop.
-fn add_newer(
-    alloc: Global,
-    out: &mut Vec<u8>,
-    account: &SeenAccount,
-    member: Member,
-) -> Result<(), AllocError>
+fn add_newer(out: &mut Vec<u8>, account: &SeenAccount, member: Member) -> Result<(), AllocError>
     ensures { OnOk result (Adds out.old.items out.new.items
         (spec.teller_words (account_seen account.now) (Teller.Newer member))) }
 {
     add(out, &[" by "])?;
-    add_member_name(alloc, out, account, member)?;
+    add_member_name(out, account, member)?;
     add(out, &[", a newer member of its group"])
 }
 
 /// Adds who told to stop.
-fn add_teller(
-    alloc: Global,
-    out: &mut Vec<u8>,
-    account: &SeenAccount,
-    teller: Teller,
-) -> Result<(), AllocError>
+fn add_teller(out: &mut Vec<u8>, account: &SeenAccount, teller: Teller) -> Result<(), AllocError>
     ensures { OnOk result (Adds out.old.items out.new.items
         (spec.teller_words (account_seen account.now) teller)) }
 {
     match teller {
         Teller::Cancel => add(out, &[" by cancel"]),
-        Teller::Newer(member) => add_newer(alloc, out, account, member),
+        Teller::Newer(member) => add_newer(out, account, member),
     }
 }
 
@@ -83,7 +73,6 @@ fn stop_of(account: &SeenAccount, who: Member) -> Option<StopNote>
 
 /// Adds that a run or a leg was told to stop.
 fn add_stop(
-    alloc: Global,
     out: &mut Vec<u8>,
     account: &SeenAccount,
     stop: Option<StopNote>,
@@ -94,47 +83,37 @@ fn add_stop(
     match stop {
         Some(note) => {
             add_number(out, " was told to stop at line ", note.line)?;
-            add_teller(alloc, out, account, note.teller)
+            add_teller(out, account, note.teller)
         },
         None => add(out, &[" was told to stop"]),
     }
 }
 
 /// Adds the name of what is asked about.
-fn add_name(
-    alloc: Global,
-    out: &mut Vec<u8>,
-    account: &SeenAccount,
-    question: Question,
-) -> Result<(), AllocError>
+fn add_name(out: &mut Vec<u8>, account: &SeenAccount, question: Question) -> Result<(), AllocError>
     ensures { OnOk result (Adds out.old.items out.new.items
         (spec.question_name (account_seen account.now) question)) }
 {
     match question {
         Question::Run(number) => add_run_name(out, account, number),
         Question::Job(number) => add_job_name(out, account, number),
-        Question::Leg(number) => add_leg_name(alloc, out, account, number),
+        Question::Leg(number) => add_leg_name(out, account, number),
         Question::Step { leg, step } => add_step_name(out, account, leg, step),
-        Question::Stop(who) => add_member_name(alloc, out, account, who),
+        Question::Stop(who) => add_member_name(out, account, who),
     }
 }
 
 /// Adds what is said of it.
-fn add_words(
-    alloc: Global,
-    out: &mut Vec<u8>,
-    account: &SeenAccount,
-    question: Question,
-) -> Result<(), AllocError>
+fn add_words(out: &mut Vec<u8>, account: &SeenAccount, question: Question) -> Result<(), AllocError>
     ensures { OnOk result (Adds out.old.items out.new.items
         (spec.question_words (account_seen account.now) question)) }
 {
     match question {
-        Question::Run(number) => add_run_words(alloc, out, account, number),
+        Question::Run(number) => add_run_words(out, account, number),
         Question::Job(number) => add_job_words(out, account, number),
-        Question::Leg(number) => add_leg_words(alloc, out, account, number),
-        Question::Step { leg, step } => add_step_words(alloc, out, account, leg, step),
-        Question::Stop(who) => add_stop(alloc, out, account, stop_of(account, who)),
+        Question::Leg(number) => add_leg_words(out, account, number),
+        Question::Step { leg, step } => add_step_words(out, account, leg, step),
+        Question::Stop(who) => add_stop(out, account, stop_of(account, who)),
     }
 }
 
@@ -153,7 +132,6 @@ fn above_words(question: Question) -> &'static str
 
 /// Adds what is said, unless it was said already.
 fn add_said(
-    alloc: Global,
     out: &mut Vec<u8>,
     account: &SeenAccount,
     question: Question,
@@ -165,7 +143,7 @@ fn add_said(
     if above {
         return add(out, &[above_words(question)]);
     }
-    add_words(alloc, out, account, question)
+    add_words(out, account, question)
 }
 
 /// Adds two blanks for each step deeper.
@@ -181,24 +159,18 @@ fn add_indent(out: &mut Vec<u8>, depth: u64) -> Result<(), AllocError>
 }
 
 /// Adds a line of the tree.
-fn add_line(
-    alloc: Global,
-    out: &mut Vec<u8>,
-    account: &SeenAccount,
-    line: Line,
-) -> Result<(), AllocError>
+fn add_line(out: &mut Vec<u8>, account: &SeenAccount, line: Line) -> Result<(), AllocError>
     ensures { OnOk result (Adds out.old.items out.new.items
         (spec.line_words (account_seen account.now) line)) }
 {
     add_indent(out, line.depth)?;
-    add_name(alloc, out, account, line.question)?;
-    add_said(alloc, out, account, line.question, line.above)?;
+    add_name(out, account, line.question)?;
+    add_said(out, account, line.question, line.above)?;
     add(out, &["\n"])
 }
 
 /// Adds the lines of a tree.
 pub(crate) fn add_lines(
-    alloc: Global,
     out: &mut Vec<u8>,
     account: &SeenAccount,
     lines: &[Line],
@@ -207,7 +179,7 @@ pub(crate) fn add_lines(
         (spec.tree_text (account_seen account.now) lines.now)) }
 {
     for line in lines {
-        add_line(alloc, out, account, *line)?;
+        add_line(out, account, *line)?;
     }
     Ok(())
 }

@@ -14,7 +14,7 @@ use crate::writing::{add, add_first_line, add_number, add_shown};
 use board_decisions::place::{SeenLeg, find_job, find_leg, find_run, item_at};
 use expr_value::to_text;
 use flow_model::{Combo, Member, StepPlan, Text, Value, Work};
-use std::alloc::{AllocError, Global};
+use std::alloc::AllocError;
 use why_notes::account::SeenAccount;
 
 /// Adds a number and a name after it.
@@ -59,11 +59,11 @@ pub(crate) fn add_job_name(
 }
 
 /// Adds a variable of a combination with its value.
-fn add_pair(alloc: Global, out: &mut Vec<u8>, name: &str, value: &Value) -> Result<(), AllocError>
+fn add_pair(out: &mut Vec<u8>, name: &str, value: &Value) -> Result<(), AllocError>
     ensures { OnOk result
         (Adds out.old.items out.new.items (spec.pair_words (name.now, value.now))) }
 {
-    let text = to_text(alloc, value)?;
+    let text = to_text(*out.allocator(), value)?;
     add(out, &[", "])?;
     add_shown(out, name)?;
     add(out, &[" "])?;
@@ -71,55 +71,49 @@ fn add_pair(alloc: Global, out: &mut Vec<u8>, name: &str, value: &Value) -> Resu
 }
 
 /// Adds a combination.
-fn add_combo(alloc: Global, out: &mut Vec<u8>, combo: &Combo) -> Result<(), AllocError>
+fn add_combo(out: &mut Vec<u8>, combo: &Combo) -> Result<(), AllocError>
     ensures { OnOk result
         (Adds out.old.items out.new.items (flat_map spec.pair_words combo.now)) }
 {
     for (name, value) in combo.iter() {
-        add_pair(alloc, out, name.as_str(), value)?;
+        add_pair(out, name.as_str(), value)?;
     }
     Ok(())
 }
 
 /// Adds the combination of a leg, if it has one.
-fn add_combo_at(alloc: Global, out: &mut Vec<u8>, combo: Option<&Combo>) -> Result<(), AllocError>
+fn add_combo_at(out: &mut Vec<u8>, combo: Option<&Combo>) -> Result<(), AllocError>
     ensures { OnOk result (Adds out.old.items out.new.items
         (flat_map spec.pair_words (pairs_in (option_copied combo.entry)))) }
 {
     match combo {
-        Some(combo) => add_combo(alloc, out, combo),
+        Some(combo) => add_combo(out, combo),
         None => Ok(()),
     }
 }
 
 /// Adds the name of a leg's job, and its combination.
-fn add_leg_words(alloc: Global, out: &mut Vec<u8>, at: &SeenLeg) -> Result<(), AllocError>
+fn add_leg_words(out: &mut Vec<u8>, at: &SeenLeg) -> Result<(), AllocError>
     ensures { OnOk result
         (Adds out.old.items out.new.items (spec.leg_words (leg_seen at.now))) }
 {
     add_shown(out, at.job_plan.name.as_str())?;
-    add_combo_at(alloc, out, item_at(&at.job_plan.legs, at.place.leg))
+    add_combo_at(out, item_at(&at.job_plan.legs, at.place.leg))
 }
 
 /// Adds the number of a leg and its name.
-fn add_leg_named(
-    alloc: Global,
-    out: &mut Vec<u8>,
-    number: u64,
-    at: &SeenLeg,
-) -> Result<(), AllocError>
+fn add_leg_named(out: &mut Vec<u8>, number: u64, at: &SeenLeg) -> Result<(), AllocError>
     ensures { OnOk result
         (Adds out.old.items out.new.items (spec.leg_name number (Some (leg_seen at.now)))) }
 {
     add_number(out, "leg ", number)?;
     add(out, &[" ("])?;
-    add_leg_words(alloc, out, at)?;
+    add_leg_words(out, at)?;
     add(out, &[")"])
 }
 
 /// Adds the name of a leg.
 pub(crate) fn add_leg_name(
-    alloc: Global,
     out: &mut Vec<u8>,
     account: &SeenAccount,
     number: u64,
@@ -128,7 +122,7 @@ pub(crate) fn add_leg_name(
         (leg_at account.now.plan.now account.now.board.now number))) }
 {
     match find_leg(account.plan, account.board, number as usize) {
-        Some(at) => add_leg_named(alloc, out, number, &at),
+        Some(at) => add_leg_named(out, number, &at),
         None => add_number(out, "leg ", number),
     }
 }
@@ -194,7 +188,6 @@ pub(crate) fn add_step_name(
 
 /// Adds the name of a run or a leg.
 pub(crate) fn add_member_name(
-    alloc: Global,
     out: &mut Vec<u8>,
     account: &SeenAccount,
     who: Member,
@@ -204,6 +197,6 @@ pub(crate) fn add_member_name(
 {
     match who {
         Member::Run(number) => add_run_name(out, account, number),
-        Member::Leg(number) => add_leg_name(alloc, out, account, number),
+        Member::Leg(number) => add_leg_name(out, account, number),
     }
 }

@@ -13,7 +13,7 @@ use crate::words::{add_at, add_faulted, add_stopped, add_untrue};
 use crate::writing::{add, add_number};
 use board_decisions::place::{SeenLeg, find_leg, item_at};
 use flow_model::{DoneStep, Leg, LegState, Outcome, StepPlan, ValueFault};
-use std::alloc::{AllocError, Global};
+use std::alloc::AllocError;
 use why_causes::causes::step_last;
 use why_facts::fact::{StepFact, StepText};
 use why_facts::notes::{LegNotes, StepNote};
@@ -163,7 +163,7 @@ fn add_failed_text(
     add_faulted(out, line, text_words(text), fault)
 }
 
-/// The same, and whether that is passed over.
+/// Adds that a step failed since a text of it has no value, and whether that is passed over.
 fn add_step_faulted(
     out: &mut Vec<u8>,
     line: u64,
@@ -181,7 +181,6 @@ fn add_step_faulted(
 
 /// Adds what is said of a step that is done.
 fn add_step_fact(
-    alloc: Global,
     out: &mut Vec<u8>,
     account: &SeenAccount,
     at: &SeenLeg,
@@ -197,9 +196,7 @@ fn add_step_fact(
         StepFact::Exited(code) => add_exit(out, line, done, code),
         StepFact::NotStarted => add_unstarted(out, line, done),
         StepFact::BadOutput => add_unread(out, line, done),
-        StepFact::Stopping(cause) => {
-            add_stopped(alloc, out, account, " was skipped", line, cause)
-        },
+        StepFact::Stopping(cause) => { add_stopped(out, account, " was skipped", line, cause) },
         StepFact::AfterFailure(failed) => add_after_failure(out, line, failed),
         StepFact::Untrue => {
             add_step_untrue(out, line, item_at(&at.job_plan.steps, step as usize))
@@ -246,7 +243,6 @@ fn add_undone(
 
 /// Adds what is said of a step.
 pub(crate) fn add_step_words(
-    alloc: Global,
     out: &mut Vec<u8>,
     account: &SeenAccount,
     leg: u64,
@@ -261,7 +257,7 @@ pub(crate) fn add_step_words(
     };
     let notes = item_at(&account.notes.legs, leg as usize);
     match step_last(notes, step as usize) {
-        Some(note) => add_step_fact(alloc, out, account, &at, step, note),
+        Some(note) => add_step_fact(out, account, &at, step, note),
         None => add_undone(out, &at, step, call_line(notes)),
     }
 }

@@ -8,10 +8,10 @@ ghost use Rattle.command_why.specs.Why.{GivesTree, GivesWhy, IsWhyAnswer, TellsW
 
 use crate::lines::add_lines;
 use crate::roots::roots;
-use command_io::records::{load_trouble, stop_trouble};
+use command_io::error::{CommandError, DONE, REFUSED, say_name};
+use command_io::records::{load_error, stop_error};
 use command_io::stream::{Sink, Source};
-use command_io::tell::{refuse, refuse_source};
-use command_io::trouble::{DONE, REFUSED, Trouble, say_name};
+use command_io::tell::{put_text, refuse, refuse_source};
 use flat_board::FlatBoard;
 use flow_model::{CheckedPlan, Entry};
 use plan_text::load_record;
@@ -35,18 +35,18 @@ fn explained(
     };
     let lines = tree(alloc, at, questions.as_slice())?;
     let mut out = Vec::new(alloc);
-    add_lines(alloc, &mut out, at, lines.as_slice())?;
+    add_lines(&mut out, at, lines.as_slice())?;
     Ok(Some(out))
 }
 
-/// The same of a plan in play and what is noted of it.
+/// The text of the tree for a plan in play and what is noted of it.
 fn play_explained(
     alloc: Global,
     plan: &CheckedPlan,
     table: &FlatBoard,
     notes: &Notes,
     asked: Option<Question>,
-) -> Result<Option<Vec<u8>>, Trouble>
+) -> Result<Option<Vec<u8>>, CommandError>
     ensures { GivesTree (record { plan = plan.now; board = table.now.board; notes = notes.now })
         asked result }
 {
@@ -55,20 +55,17 @@ fn play_explained(
         board: table.board(),
         notes,
     };
-    match explained(alloc, &at, asked) {
-        Ok(told) => Ok(told),
-        Err(_) => Err(Trouble::Memory),
-    }
+    Ok(explained(alloc, &at, asked)?)
 }
 
-/// The same of the account of some entries.
+/// The text of the tree for the account of some entries.
 fn play_told(
     alloc: Global,
     plan: &CheckedPlan,
     table: &FlatBoard,
     notes: &Notes,
     asked: Option<Question>,
-) -> Result<Option<Vec<u8>>, Trouble>
+) -> Result<Option<Vec<u8>>, CommandError>
     ensures { (entries : List EntryOf) → account_of plan.now entries
         ≡ Some (record { plan = plan.now; board = table.now.board; notes = notes.now })
         → GivesWhy asked plan.now entries result }
@@ -76,52 +73,51 @@ fn play_told(
     play_explained(alloc, plan, table, notes, asked)
 }
 
-/// The same of entries, which are played.
+/// The text of the tree for entries, which are played.
 fn entries_explained(
     alloc: Global,
     plan: &CheckedPlan,
     entries: &[Entry],
     asked: Option<Question>,
-) -> Result<Option<Vec<u8>>, Trouble>
+) -> Result<Option<Vec<u8>>, CommandError>
     ensures { GivesWhy asked plan.now entries.now result }
 {
     match account(alloc, plan, entries) {
         Ok((table, notes)) => play_told(alloc, plan, &table, &notes, asked),
-        Err((place, fault)) => Err(stop_trouble(place, fault)),
+        Err((place, fault)) => Err(stop_error(place, fault)),
     }
 }
 
-/// The same of a text.
+/// The text of the tree for the text of a record.
 fn text_explained(
     alloc: Global,
     text: &[u8],
     asked: Option<Question>,
-) -> Result<Option<Vec<u8>>, Trouble>
+) -> Result<Option<Vec<u8>>, CommandError>
     ensures { IsWhyAnswer asked text.now (spec.answer_of result) }
 {
     match load_record(alloc, text) {
         Ok((plan, entries)) => entries_explained(alloc, &plan, entries.as_slice(), asked),
-        Err(fault) => Err(load_trouble(fault)),
+        Err(fault) => Err(load_error(fault)),
     }
 }
 
 /// Writes a tree to `out`, or one line to `err`, and answers the status.
-fn tell<O: Sink, E: Sink>(answer: Result<Option<Vec<u8>>, Trouble>, out: &mut O, err: &mut E) -> u8
+fn tell<O: Sink, E: Sink>(
+    answer: Result<Option<Vec<u8>>, CommandError>,
+    out: &mut O,
+    err: &mut E,
+) -> u8
     ensures { TellsWhy (spec.answer_of answer)
         (O.seen out.old) (O.seen out.new) (E.seen err.old) (E.seen err.new) result }
 {
     match answer {
-        Ok(Some(text)) => {
-            if out.put(text.as_slice()) {
-                return DONE;
-            }
-            refuse(err, &Trouble::Io)
-        },
+        Ok(Some(text)) => { put_text(text.as_slice(), DONE, out, err) },
         Ok(None) => {
             say_name(err, "why", "NoSuch");
             REFUSED
         },
-        Err(trouble) => refuse(err, &trouble),
+        Err(error) => refuse(err, &error),
     }
 }
 

@@ -14,7 +14,7 @@ use crate::writing::{add, add_number, add_shown};
 use board_decisions::derived::{job_has_ended, legs_result};
 use board_decisions::place::{SeenJob, SeenLeg, SeenRun, find_job, find_leg, find_run, item_at};
 use flow_model::{JobState, LegState, Member, Outcome, Text, ValueFault};
-use std::alloc::{AllocError, Global};
+use std::alloc::AllocError;
 use why_causes::causes::{job_last, leg_last, run_last};
 use why_facts::fact::{JobFact, MemberFact, StopCause};
 use why_facts::notes::{JobNote, MemberNote};
@@ -67,17 +67,12 @@ fn add_group(out: &mut Vec<u8>, group: &Option<Text>) -> Result<(), AllocError>
 // ---- what becomes of a run or a leg in its group
 
 /// Adds behind whom a run or a leg waits.
-fn add_behind(
-    alloc: Global,
-    out: &mut Vec<u8>,
-    account: &SeenAccount,
-    holds: Member,
-) -> Result<(), AllocError>
+fn add_behind(out: &mut Vec<u8>, account: &SeenAccount, holds: Member) -> Result<(), AllocError>
     ensures { OnOk result (Adds out.old.items out.new.items
         (codes " behind " ++ names.member_name (account_seen account.now) holds)) }
 {
     add(out, &[" behind "])?;
-    add_member_name(alloc, out, account, holds)
+    add_member_name(out, account, holds)
 }
 
 /// Adds for which group it waits.
@@ -91,7 +86,6 @@ fn add_for(out: &mut Vec<u8>, group: &Option<Text>) -> Result<(), AllocError>
 
 /// Adds for which group it waits, and behind whom.
 fn add_queue(
-    alloc: Global,
     out: &mut Vec<u8>,
     account: &SeenAccount,
     group: &Option<Text>,
@@ -102,12 +96,11 @@ fn add_queue(
         ++ (codes " behind " ++ names.member_name (account_seen account.now) holds))) }
 {
     add_for(out, group)?;
-    add_behind(alloc, out, account, holds)
+    add_behind(out, account, holds)
 }
 
 /// Adds that a run or a leg waits.
 fn add_waits(
-    alloc: Global,
     out: &mut Vec<u8>,
     account: &SeenAccount,
     line: u64,
@@ -118,43 +111,32 @@ fn add_waits(
         (spec.waits_words (account_seen account.now) line group.now holds)) }
 {
     add_number(out, " waits since line ", line)?;
-    add_queue(alloc, out, account, group, holds)
+    add_queue(out, account, group, holds)
 }
 
 /// Adds whom it follows.
-fn add_follows(
-    alloc: Global,
-    out: &mut Vec<u8>,
-    account: &SeenAccount,
-    before: Member,
-) -> Result<(), AllocError>
+fn add_follows(out: &mut Vec<u8>, account: &SeenAccount, before: Member) -> Result<(), AllocError>
     ensures { OnOk result (Adds out.old.items out.new.items
         (spec.follows_words (account_seen account.now) before)) }
 {
     add(out, &[", when "])?;
-    add_member_name(alloc, out, account, before)?;
+    add_member_name(out, account, before)?;
     add(out, &[" left its group"])
 }
 
 /// Adds who took its place.
-fn add_taken(
-    alloc: Global,
-    out: &mut Vec<u8>,
-    account: &SeenAccount,
-    by: Member,
-) -> Result<(), AllocError>
+fn add_taken(out: &mut Vec<u8>, account: &SeenAccount, by: Member) -> Result<(), AllocError>
     ensures { OnOk result (Adds out.old.items out.new.items
         (codes ": " ++ (names.member_name (account_seen account.now) by
         ++ codes " took its place in the group"))) }
 {
     add(out, &[": "])?;
-    add_member_name(alloc, out, account, by)?;
+    add_member_name(out, account, by)?;
     add(out, &[" took its place in the group"])
 }
 
 /// Adds that it lost its place, and to whom.
 fn add_displaced(
-    alloc: Global,
     out: &mut Vec<u8>,
     account: &SeenAccount,
     words: &str,
@@ -166,7 +148,7 @@ fn add_displaced(
 {
     add(out, &[words])?;
     add_at(out, line)?;
-    add_taken(alloc, out, account, by)
+    add_taken(out, account, by)
 }
 
 /// Adds words and more words after them.
@@ -221,7 +203,6 @@ fn add_ended(out: &mut Vec<u8>, words: &str, line: u64, after: &str) -> Result<(
 
 /// Adds since when a run is going, and whom it followed.
 fn add_went_after(
-    alloc: Global,
     out: &mut Vec<u8>,
     account: &SeenAccount,
     line: u64,
@@ -231,12 +212,11 @@ fn add_went_after(
         ++ spec.follows_words (account_seen account.now) before)) }
 {
     add_number(out, " is going since line ", line)?;
-    add_follows(alloc, out, account, before)
+    add_follows(out, account, before)
 }
 
 /// Adds what is said of a run, by what became of it last.
 fn add_run_fact(
-    alloc: Global,
     out: &mut Vec<u8>,
     account: &SeenAccount,
     at: &SeenRun,
@@ -248,11 +228,9 @@ fn add_run_fact(
     let line = note.line;
     match note.fact {
         MemberFact::Admitted => add_number(out, " is going since line ", line),
-        MemberFact::Follows(before) => add_went_after(alloc, out, account, line, before),
-        MemberFact::Waits(holds) => add_waits(alloc, out, account, line, &at.run.group, holds),
-        MemberFact::Displaced(by) => {
-            add_displaced(alloc, out, account, " was cancelled", line, by)
-        },
+        MemberFact::Follows(before) => add_went_after(out, account, line, before),
+        MemberFact::Waits(holds) => add_waits(out, account, line, &at.run.group, holds),
+        MemberFact::Displaced(by) => { add_displaced(out, account, " was cancelled", line, by) },
         MemberFact::NoGroup(fault) => {
             add(out, &[" failed"])?;
             add_faulted(out, line, "the name of its group", fault)
@@ -274,7 +252,6 @@ fn add_number_after(out: &mut Vec<u8>, words: &str, line: u64) -> Result<(), All
 
 /// Adds what is said of a run.
 pub(crate) fn add_run_words(
-    alloc: Global,
     out: &mut Vec<u8>,
     account: &SeenAccount,
     number: u64,
@@ -287,7 +264,7 @@ pub(crate) fn add_run_words(
         return Ok(());
     };
     match run_last(item_at(&account.notes.runs, number as usize)) {
-        Some(note) => add_run_fact(alloc, out, account, &at, note),
+        Some(note) => add_run_fact(out, account, &at, note),
         None => add(out, &[" is new"]),
     }
 }
@@ -410,7 +387,6 @@ pub(crate) fn add_job_words(
 
 /// Adds why a leg is to stop.
 pub(crate) fn add_cause(
-    alloc: Global,
     out: &mut Vec<u8>,
     account: &SeenAccount,
     cause: StopCause,
@@ -421,7 +397,7 @@ pub(crate) fn add_cause(
     match cause {
         StopCause::Told => add(out, &["it was told to stop"]),
         StopCause::FailFast(leg) => {
-            add_leg_name(alloc, out, account, leg)?;
+            add_leg_name(out, account, leg)?;
             add(out, &[" failed, and the job fails fast"])
         },
         StopCause::RunTold => add(out, &["its run was told to stop"]),
@@ -457,7 +433,6 @@ fn add_worker(out: &mut Vec<u8>, state: LegState) -> Result<(), AllocError>
 
 /// Adds that a leg, or a step, was stopped.
 pub(crate) fn add_stopped(
-    alloc: Global,
     out: &mut Vec<u8>,
     account: &SeenAccount,
     words: &str,
@@ -468,7 +443,7 @@ pub(crate) fn add_stopped(
         ++ (spec.at_line line ++ (codes ": " ++ spec.cause_words (account_seen account.now) cause)))) }
 {
     add_ended(out, words, line, ": ")?;
-    add_cause(alloc, out, account, cause)
+    add_cause(out, account, cause)
 }
 
 /// Adds since when a leg runs.
@@ -490,7 +465,6 @@ fn add_runs(out: &mut Vec<u8>, line: u64, state: LegState) -> Result<(), AllocEr
 
 /// Adds what is said of a leg, by what became of it last.
 fn add_leg_fact(
-    alloc: Global,
     out: &mut Vec<u8>,
     account: &SeenAccount,
     at: &SeenLeg,
@@ -504,12 +478,10 @@ fn add_leg_fact(
         MemberFact::Admitted => add_number_after(out, " was admitted", line),
         MemberFact::Follows(before) => {
             add_number_after(out, " was admitted", line)?;
-            add_follows(alloc, out, account, before)
+            add_follows(out, account, before)
         },
-        MemberFact::Waits(holds) => add_waits(alloc, out, account, line, &at.leg.group, holds),
-        MemberFact::Displaced(by) => {
-            add_displaced(alloc, out, account, " ended cancelled", line, by)
-        },
+        MemberFact::Waits(holds) => add_waits(out, account, line, &at.leg.group, holds),
+        MemberFact::Displaced(by) => { add_displaced(out, account, " ended cancelled", line, by) },
         MemberFact::OwnRun => {
             add_ended(
                 out,
@@ -528,7 +500,7 @@ fn add_leg_fact(
             add(out, &[tolerated_words(at.leg.state)])
         },
         MemberFact::Stopped(cause) => {
-            add_stopped(alloc, out, account, " ended cancelled", line, cause)
+            add_stopped(out, account, " ended cancelled", line, cause)
         },
         MemberFact::Closed(_) => Ok(()),
     }
@@ -536,7 +508,6 @@ fn add_leg_fact(
 
 /// Adds what is said of a leg.
 pub(crate) fn add_leg_words(
-    alloc: Global,
     out: &mut Vec<u8>,
     account: &SeenAccount,
     number: u64,
@@ -549,7 +520,7 @@ pub(crate) fn add_leg_words(
         return Ok(());
     };
     match leg_last(item_at(&account.notes.legs, number as usize)) {
-        Some(note) => add_leg_fact(alloc, out, account, &at, note),
+        Some(note) => add_leg_fact(out, account, &at, note),
         None => add(out, &[" has not asked"]),
     }
 }

@@ -8,7 +8,7 @@ use Rattle.command_words.specs.Words.{SaysLine, TellsLine}
 -- the line on err is all that is told
 pub line_told : (kind : ErrorKind) (out err err' : Stream) (status : ℕ) → SaysLine kind err err' status → TellsLine kind out out err err' status
 line_told kind out err err' status w = record {
-  trouble = w.trouble;
+  error = w.error;
   told = record { kept = IsKept-same out; said = w.said; is = w.is };
   no_text = w.no_text;
   memory = w.memory;

@@ -18,69 +18,69 @@ use Rattle.command_run.specs.RecordFile.{Keeping, Writes}
 use Rattle.command_run.specs.Run as run
 use Rattle.command_io.specs.Stream.{Stream}
 use Rattle.command_print.specs.Table.{TableTells}
-use Rattle.command_io.specs.Tell.{Says, TellsSome, TellsTrouble}
-use Rattle.command_io.specs.Trouble.{line, trouble_status}
-use Rattle.command_io.specs.declared.trouble.Trouble.{Trouble}
-use Rattle.command_io.specs.declared.trouble.Trouble.TheVariants.{Words, Memory}
+use Rattle.command_io.specs.Tell.{Says, TellsSome, TellsError}
+use Rattle.command_io.specs.CommandError.{line, error_status}
+use Rattle.command_io.specs.declared.error.CommandError.{CommandError}
+use Rattle.command_io.specs.declared.error.CommandError.TheVariants.{Words, Memory}
 
--- What `eval` tells of some file of contexts and some expression; or a trouble is told.
+-- What `eval` tells of some file of contexts and some expression; or an error is told.
 abbrev pub RunsEval : Stream → Stream → Stream → Stream → ℕ → Type 0
 RunsEval out out' err err' status =
     ((file expression : List ℕ) × (contexts contexts' : Stream) × EvalTells file expression contexts contexts' out out' err err' status)
     ⊎ TellsSome out out' err err' status
 
--- What `plan` tells of some choice, some file of contexts and some files of workflows; or a trouble is told.
+-- What `plan` tells of some choice, some file of contexts and some files of workflows; or an error is told.
 abbrev pub RunsPlan : Stream → Stream → Stream → Stream → ℕ → Type 0
 RunsPlan out out' err err' status =
     ((choice : Choice) × (contexts contexts' : File) × (flows flows' : List File) × PlanTells choice contexts contexts' flows flows' out out' err err' status)
     ⊎ TellsSome out out' err err' status
 
--- What `list` tells of some files of workflows; or a trouble is told.
+-- What `list` tells of some files of workflows; or an error is told.
 abbrev pub RunsList : Stream → Stream → Stream → Stream → ℕ → Type 0
 RunsList out out' err err' status =
     ((flows flows' : List File) × ListTells flows flows' out out' err err' status) ⊎ TellsSome out out' err err' status
 
--- What `lint` tells of some files of workflows; or a trouble is told.
+-- What `lint` tells of some files of workflows; or an error is told.
 abbrev pub RunsLint : Stream → Stream → Stream → Stream → ℕ → Type 0
 RunsLint out out' err err' status =
     ((flows flows' : List File) × LintTells flows flows' out out' err err' status) ⊎ TellsSome out out' err err' status
 
--- What `replay` tells of some record, or what `replay --settled` does; or a trouble is told.
+-- What `replay` tells of some record, or what `replay --settled` does; or an error is told.
 abbrev pub RunsReplay : Stream → Stream → Stream → Stream → ℕ → Type 0
 RunsReplay out out' err err' status =
     ((input input' : Stream) × (ReplayTells input input' out out' err err' status ⊎ SettledTells input input' out out' err err' status))
     ⊎ TellsSome out out' err err' status
 
--- What `graph` tells of some plan or record; or a trouble is told.
+-- What `graph` tells of some plan or record; or an error is told.
 abbrev pub RunsGraph : Stream → Stream → Stream → Stream → ℕ → Type 0
 RunsGraph out out' err err' status =
     ((input input' : Stream) × GraphTells input input' out out' err err' status) ⊎ TellsSome out out' err err' status
 
--- What `timeline` tells of some record; or a trouble is told.
+-- What `timeline` tells of some record; or an error is told.
 abbrev pub RunsTimeline : Stream → Stream → Stream → Stream → ℕ → Type 0
 RunsTimeline out out' err err' status =
     ((input input' : Stream) × TimelineTells input input' out out' err err' status) ⊎ TellsSome out out' err err' status
 
--- What `why` tells of some record and of what is asked about; or a trouble is told.
+-- What `why` tells of some record and of what is asked about; or an error is told.
 abbrev pub RunsWhy : Stream → Stream → Stream → Stream → ℕ → Type 0
 RunsWhy out out' err err' status =
     ((asked : Option Question) × (input input' : Stream) × WhyTells asked input input' out out' err err' status)
     ⊎ TellsSome out out' err err' status
 
--- What `run` tells of some plan, and keeps of it in some file, where a machine writes files so; or a trouble is told.
+-- What `run` tells of some plan, and keeps of it in some file, where a machine writes files so; or an error is told.
 abbrev pub RunsRun : Writes → Stream → Stream → Stream → Stream → ℕ → Type 0
 RunsRun writes out out' err err' status =
     ((named : Option (List ℕ)) × (workers : ℕ) × (stubs stubs' : File) × (input input' : Stream)
     × run.RunTells (Keeping writes named) workers stubs stubs' input input' out out' err err' status)
     ⊎ TellsSome out out' err err' status
 
--- What `debug` tells of some record and of the input; or a trouble is told.
+-- What `debug` tells of some record and of the input; or an error is told.
 abbrev pub RunsDebug : Stream → Stream → Stream → Stream → Stream → Stream → ℕ → Type 0
 RunsDebug input input' out out' err err' status =
     ((file file' : Stream) × DebugTells file file' input input' out out' err err' status) ⊎ TellsSome out out' err err' status
 
 -- What `table` or `debug` tells of the input, or what `eval`, `plan`, `list`, `lint`, `replay`, `graph`, `timeline`, `why` or
--- `run` tells, or a trouble.
+-- `run` tells, or an error.
 abbrev pub RunTells : Writes → Stream → Stream → Stream → Stream → Stream → Stream → ℕ → Type 0
 RunTells writes input input' out out' err err' status =
     TableTells input input' out out' err err' status
@@ -96,15 +96,15 @@ RunTells writes input input' out out' err err' status =
 
 -- A command line that cannot be had is told by its kind: one that is no UTF-8 asks for no command.
 pub record TellsLine (kind : ErrorKind) (out out' err err' : Stream) (status : ℕ) : Type 0 where
-  pub trouble : Trouble
-  pub told : TellsTrouble trouble out out' err err' status
-  pub no_text : kind ≡ InvalidData → trouble ≡ Words
-  pub memory : kind ≡ OutOfMemory → trouble ≡ Memory
+  pub error : CommandError
+  pub told : TellsError error out out' err err' status
+  pub no_text : kind ≡ InvalidData → error ≡ Words
+  pub memory : kind ≡ OutOfMemory → error ≡ Memory
 
 -- The same of the line on err alone.
 pub record SaysLine (kind : ErrorKind) (err err' : Stream) (status : ℕ) : Type 0 where
-  pub trouble : Trouble
-  pub said : Says err err' (line trouble)
-  pub is : status ≡ trouble_status trouble
-  pub no_text : kind ≡ InvalidData → trouble ≡ Words
-  pub memory : kind ≡ OutOfMemory → trouble ≡ Memory
+  pub error : CommandError
+  pub said : Says err err' (line error)
+  pub is : status ≡ error_status error
+  pub no_text : kind ≡ InvalidData → error ≡ Words
+  pub memory : kind ≡ OutOfMemory → error ≡ Memory

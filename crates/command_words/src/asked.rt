@@ -6,8 +6,8 @@ use crate::choice::{choice_of, text_of};
 use crate::folder::Folder;
 use crate::question::question_of;
 use clap::ArgMatches;
+use command_io::error::CommandError;
 use command_io::files::{NamedSource, OptionalFile};
-use command_io::trouble::Trouble;
 use command_run::run::RunWords;
 use flow_model::Text;
 use plan_assembler::Choice;
@@ -79,15 +79,15 @@ struct Asking<'m, 'w, F> {
 
 impl<'m, 'w, F: Folder> Asking<'m, 'w, F> {
     /// Opens the file of that name.
-    fn open(&self, name: &str) -> Result<F::File, Trouble> {
+    fn open(&self, name: &str) -> Result<F::File, CommandError> {
         match self.folder.open(name) {
             Some(file) => Ok(file),
-            None => Err(Trouble::Io),
+            None => Err(CommandError::Io),
         }
     }
 
-    /// The same, with its name.
-    fn open_named(&self, name: &str) -> Result<NamedSource<F::File>, Trouble>
+    /// Opens a file, and gives it with its name.
+    fn open_named(&self, name: &str) -> Result<NamedSource<F::File>, CommandError>
         ensures { IfOk result (λ file. file.name ≡ name.now) }
     {
         let text = text_of(self.alloc, name)?;
@@ -95,8 +95,8 @@ impl<'m, 'w, F: Folder> Asking<'m, 'w, F> {
         Ok(NamedSource { name: text, source })
     }
 
-    /// The same of files, one after the other.
-    fn open_all(&self, names: &[&str]) -> Result<Vec<NamedSource<F::File>>, Trouble>
+    /// Opens files one after the other, and gives each with its name.
+    fn open_all(&self, names: &[&str]) -> Result<Vec<NamedSource<F::File>>, CommandError>
         ensures { IfOk result
             (λ files. map (λ file. file.name) files.items ≡ map (λ name. name.now) names.now) }
     {
@@ -104,19 +104,19 @@ impl<'m, 'w, F: Folder> Asking<'m, 'w, F> {
         for name in names {
             let file = self.open_named(*name)?;
             if files.push(file).is_err() {
-                return Err(Trouble::Memory);
+                return Err(CommandError::Memory);
             }
         }
         Ok(files)
     }
 
     /// Opens the file that a word names which is always there.
-    fn open_required(&self, id: &str) -> Result<F::File, Trouble> {
+    fn open_required(&self, id: &str) -> Result<F::File, CommandError> {
         self.open(self.words.get_str(id).unwrap_or(""))
     }
 
     /// Opens the file that an option names, if it is there.
-    fn open_optional(&self, id: &str) -> Result<NamedSource<OptionalFile<F::File>>, Trouble> {
+    fn open_optional(&self, id: &str) -> Result<NamedSource<OptionalFile<F::File>>, CommandError> {
         let Some(name) = self.words.get_str(id) else {
             return Ok(NamedSource {
                 name: Text::new(String::new(self.alloc)),
@@ -131,15 +131,15 @@ impl<'m, 'w, F: Folder> Asking<'m, 'w, F> {
     }
 
     /// Opens the files of workflows.
-    fn open_flows(&self) -> Result<Vec<NamedSource<F::File>>, Trouble> {
+    fn open_flows(&self) -> Result<Vec<NamedSource<F::File>>, CommandError> {
         match self.words.get_strs("flow") {
             Some(names) => self.open_all(names),
-            None => Err(Trouble::Words),
+            None => Err(CommandError::Words),
         }
     }
 
     /// What `eval` is asked for.
-    fn asked_eval(&self) -> Result<AskedEval<'w, F::File>, Trouble> {
+    fn asked_eval(&self) -> Result<AskedEval<'w, F::File>, CommandError> {
         let contexts = self.open_optional("contexts")?;
         let expression = self.words.get_str("expression").unwrap_or("");
         Ok(AskedEval {
@@ -149,7 +149,7 @@ impl<'m, 'w, F: Folder> Asking<'m, 'w, F> {
     }
 
     /// What `plan` is asked for.
-    fn asked_plan(&self) -> Result<AskedPlan<F::File>, Trouble> {
+    fn asked_plan(&self) -> Result<AskedPlan<F::File>, CommandError> {
         let words = self.words;
         let choice = choice_of(self.alloc, words.get_str("event"), words.get_str("job"))?;
         let contexts = self.open_optional("contexts")?;
@@ -162,7 +162,7 @@ impl<'m, 'w, F: Folder> Asking<'m, 'w, F> {
     }
 
     /// What `run` is asked for: one worker where the words say nothing of them.
-    fn asked_run(&self) -> Result<AskedRun<'w, F::File>, Trouble> {
+    fn asked_run(&self) -> Result<AskedRun<'w, F::File>, CommandError> {
         let words = RunWords {
             workers: self.words.get_one::<u64>("workers").unwrap_or(1),
             record: self.words.get_str("record"),
@@ -175,14 +175,14 @@ impl<'m, 'w, F: Folder> Asking<'m, 'w, F> {
     }
 
     /// What `replay` is asked for.
-    fn asked_replay(&self) -> Result<AskedReplay<F::File>, Trouble> {
+    fn asked_replay(&self) -> Result<AskedReplay<F::File>, CommandError> {
         let settled = self.words.get_flag("settled");
         let record = self.open_required("record")?;
         Ok(AskedReplay { record, settled })
     }
 
     /// What `why` is asked for.
-    fn asked_why(&self) -> Result<AskedWhy<F::File>, Trouble> {
+    fn asked_why(&self) -> Result<AskedWhy<F::File>, CommandError> {
         let question = match self.words.get_strs("what") {
             Some(words) => question_of(words)?,
             None => None,
@@ -192,7 +192,7 @@ impl<'m, 'w, F: Folder> Asking<'m, 'w, F> {
     }
 
     /// What the words ask for after the name of their command.
-    fn asked(&self, name: &str) -> Result<Asked<'w, F::File>, Trouble> {
+    fn asked(&self, name: &str) -> Result<Asked<'w, F::File>, CommandError> {
         match name {
             "table" => Ok(Asked::Table),
             "eval" => Ok(Asked::Eval(self.asked_eval()?)),
@@ -205,7 +205,7 @@ impl<'m, 'w, F: Folder> Asking<'m, 'w, F> {
             "why" => Ok(Asked::Why(self.asked_why()?)),
             "run" => Ok(Asked::Run(self.asked_run()?)),
             "debug" => Ok(Asked::Debug(self.open_required("record")?)),
-            _ => Err(Trouble::Words),
+            _ => Err(CommandError::Words),
         }
     }
 }
@@ -214,12 +214,12 @@ impl<'m, 'w, F: Folder> Asking<'m, 'w, F> {
 ///
 /// # Errors
 ///
-/// `Trouble::Words` where they ask for no command, `Trouble::Io` where a file cannot be opened, and `Trouble::Memory`.
+/// `CommandError::Words` where they ask for no command, `CommandError::Io` where a file cannot be opened, and `CommandError::Memory`.
 pub(crate) fn asked_by<'w, F: Folder>(
     alloc: Global,
     words: &ArgMatches<'w>,
     folder: &F,
-) -> Result<Asked<'w, F::File>, Trouble> {
+) -> Result<Asked<'w, F::File>, CommandError> {
     match words.subcommand() {
         Some((name, words)) => {
             let asking = Asking {
@@ -229,6 +229,6 @@ pub(crate) fn asked_by<'w, F: Folder>(
             };
             asking.asked(name)
         },
-        None => Err(Trouble::Words),
+        None => Err(CommandError::Words),
     }
 }

@@ -11,10 +11,10 @@ use crate::known::known_commands;
 use clap::{ArgMatches, Error};
 use command_debug::debug::debug;
 use command_graph::graph::graph;
+use command_io::error::CommandError;
 use command_io::files::NamedSource;
 use command_io::stream::{LineSource, Sink, Source};
 use command_io::tell::refuse;
-use command_io::trouble::Trouble;
 use command_print::eval::eval;
 use command_print::lint::lint;
 use command_print::list::list;
@@ -226,21 +226,21 @@ fn perform<M: Machine + Threads + Wait + Sync, S: Source + Drop, I: LineSource, 
 }
 
 /// Why words are none that the program knows: there is no memory, or they ask for no command.
-fn words_trouble(error: &Error) -> Trouble {
+fn words_error(error: &Error) -> CommandError {
     if matches!(error.kind(), clap::error::ErrorKind::OutOfMemory) {
-        return Trouble::Memory;
+        return CommandError::Memory;
     }
-    Trouble::Words
+    CommandError::Words
 }
 
 /// The words, as far as the program knows them.
-fn known_words<'w>(alloc: Global, words: &'w [String]) -> Result<ArgMatches<'w>, Trouble> {
+fn known_words<'w>(alloc: Global, words: &'w [String]) -> Result<ArgMatches<'w>, CommandError> {
     let Ok(known) = known_commands(alloc) else {
-        return Err(Trouble::Memory);
+        return Err(CommandError::Memory);
     };
     match known.try_get_matches_from(words) {
         Ok(known) => Ok(known),
-        Err(error) => Err(words_trouble(&error)),
+        Err(error) => Err(words_error(&error)),
     }
 }
 
@@ -258,7 +258,7 @@ fn run_known<F: Folder, I: LineSource, O: Sink, E: Sink>(
 {
     match asked_by(alloc, words, folder) {
         Ok(asked) => perform(alloc, folder.machine(), asked, input, out, err),
-        Err(trouble) => refuse(err, &trouble),
+        Err(error) => refuse(err, &error),
     }
 }
 
@@ -277,7 +277,7 @@ pub fn run<F: Folder, I: LineSource, O: Sink, E: Sink>(
 {
     match known_words(alloc, words) {
         Ok(known) => run_known(alloc, &known, folder, input, out, err),
-        Err(trouble) => refuse(err, &trouble),
+        Err(error) => refuse(err, &error),
     }
 }
 
@@ -286,9 +286,9 @@ fn refuse_line<E: Sink>(err: &mut E, error: io::Error) -> u8
     ensures { spec.SaysLine (error_kind error) (E.seen err.old) (E.seen err.new) result }
 {
     match error.kind() {
-        ErrorKind::InvalidData => refuse(err, &Trouble::Words),
-        ErrorKind::OutOfMemory => refuse(err, &Trouble::Memory),
-        _ => refuse(err, &Trouble::Io),
+        ErrorKind::InvalidData => refuse(err, &CommandError::Words),
+        ErrorKind::OutOfMemory => refuse(err, &CommandError::Memory),
+        _ => refuse(err, &CommandError::Io),
     }
 }
 
@@ -311,7 +311,7 @@ pub fn run_line<F: Folder, I: LineSource, O: Sink, E: Sink>(
         Ok(words) => {
             let words: Vec<String> = match words.collect(alloc) {
                 Ok(words) => words,
-                Err(_) => return refuse(err, &Trouble::Memory),
+                Err(_) => return refuse(err, &CommandError::Memory),
             };
             run(alloc, words.as_slice(), folder, input, out, err)
         },

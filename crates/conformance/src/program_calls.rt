@@ -6,16 +6,20 @@
 use case_hosts::text_calls::put_played;
 use case_reader::Page;
 use case_reader::samples::pair;
-use command_run::machine::Machine;
+use command_run::machine::{HostSetup, Machine};
 use flow_model::Sequence;
 
 /// A host of programs in this folder, with the stub of the one action that has one.
 fn host<R: Machine>(rt: &R, page: &mut Page<'_>) -> Option<R::Host> {
     let stubs = page.have(pair(page.alloc, "stubbed", "./stub"))?;
     let folder = rt.whole_path(".").ok()?;
-    let masks = Sequence::empty(page.alloc);
-    rt.host(page.alloc, folder.as_str(), stubs, masks, None)
-        .ok()
+    let setup = HostSetup {
+        work: folder.as_str(),
+        stubs,
+        masks: Sequence::empty(page.alloc),
+        progress: None,
+    };
+    rt.host(page.alloc, setup).ok()
 }
 
 /// What a host of programs answers, in this folder.

@@ -5,8 +5,8 @@ use case_boards::compare;
 use case_reader::streams::{Feed, Sheet};
 use case_reader::{Asked, Found, Page};
 use command_io::bounded::{Bounded, MOST_READS};
+use command_io::error::FAILED;
 use command_io::stream::{Input, Output};
-use command_io::trouble::FAILED;
 use command_run::machine::Machine;
 use command_words::folder::Folder;
 use command_words::words;
@@ -117,7 +117,7 @@ pub fn run<R: Machine + Threads + Wait + Sync>(rt: &R, alloc: Global, asked: &As
     run_within::<R, MOST_READS>(rt, alloc, asked)
 }
 
-/// The same, where a reader is given up after so many reads.
+/// Runs a command by its words, where a reader is given up after so many reads.
 fn run_within<R: Machine + Threads + Wait + Sync, const MOST: u64>(
     rt: &R,
     alloc: Global,

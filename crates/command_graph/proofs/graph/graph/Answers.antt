@@ -1,18 +1,18 @@
 use Rattle.std.proofs.Common.{ℕ, List, subst}
-use Rattle.command_io.proofs.Shown.{drawing_answers, shown_told, unread_shown}
+use Rattle.command_io.proofs.Shown.{printed_answers, shown_told, unread_shown}
 use Rattle.command_io.specs.Records.{IsShownAnswer}
-use Rattle.command_io.specs.Tell.{OrMemory, drawn_status, drawn_text}
+use Rattle.command_io.specs.Tell.{OrMemory, printed_status, printed_text}
 use Rattle.command_graph.specs.Graph.{ShowsGraph}
 use Rattle.command_graph.proofs.graph.graph.Goals as goal
 
 pub returns-in-Ok : goal.returns-in-Ok
 returns-in-Ok g c =
-    let found = drawn_text c.text_drawn.result in
-    let done = drawn_status c.text_drawn.result in
+    let found = printed_text c.text_drawn.result in
+    let done = printed_status c.text_drawn.result in
     shown_told ShowsGraph _ _ _ _ _ _ c.in-Ok.text.items done found _ c.in-Ok.ensures
     (subst (λ (text : List ℕ). OrMemory found (IsShownAnswer ShowsGraph done text found)) c.as_slice.ensures.value
-    (drawing_answers ShowsGraph c.as_slice.result.now c.text_drawn.result c.text_drawn.ensures))
-    c.tell_drawn.ensures
+    (printed_answers ShowsGraph c.as_slice.result.now c.text_drawn.result c.text_drawn.ensures))
+    c.tell_printed.ensures
 
 pub returns-in-Err : goal.returns-in-Err
 returns-in-Err g c = unread_shown ShowsGraph _ _ _ _ _ c.in-Err.fault _ c.in-Err.ensures c.refuse_source.ensures.line c.refuse_source.ensures.status

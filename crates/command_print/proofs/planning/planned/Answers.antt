@@ -3,8 +3,8 @@ use Rattle.flow_model.specs.declared.flow.Workflow.{Workflow}
 use Rattle.flow_model.specs.declared.plan.Roots.{Roots}
 use Rattle.plan_assembler.specs.Refusals.{Answered, Refuses}
 use Rattle.command_print.specs.Planning.{IsUnplanned}
-use Rattle.command_io.specs.Trouble.{UnlessMemory}
-use Rattle.command_io.specs.declared.trouble.Trouble.{Trouble}
+use Rattle.command_io.specs.CommandError.{UnlessMemory}
+use Rattle.command_io.specs.declared.error.CommandError.{CommandError}
 use Rattle.command_print.proofs.Unplanned.{unplanned}
 use Rattle.command_print.proofs.planning.planned.Goals as goal
 
@@ -12,7 +12,7 @@ pub returns : goal.returns
 returns c =
     let choice = c.args.choice.now in
     let made = c.new-planner.ensures in
-    subst (λ (t : Trouble). UnlessMemory t (IsUnplanned c.args.flows c.args.roots choice t)) (sym c.plan_trouble.ensures)
+    subst (λ (t : CommandError). UnlessMemory t (IsUnplanned c.args.flows c.args.roots choice t)) (sym c.plan_error.ensures)
     (unplanned c.args.flows c.args.roots choice c.in-Err.fault
     (subst (λ (ws : List Workflow). Answered (Refuses ws c.args.roots choice) c.in-Err.fault) made.flows
     (subst (λ (roots : Roots). Answered (Refuses c.new-planner.result.flows roots choice) c.in-Err.fault) made.roots c.in-Err.ensures)))

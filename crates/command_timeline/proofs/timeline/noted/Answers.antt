@@ -1,10 +1,10 @@
 use Rattle.std.proofs.Common.{subst, sym}
 use Rattle.command_io.specs.Records.{IsStopped}
-use Rattle.command_io.specs.declared.trouble.Trouble.{Trouble}
+use Rattle.command_io.specs.declared.error.CommandError.{CommandError}
 use Rattle.command_timeline.proofs.Noted.{stopped}
 use Rattle.command_timeline.proofs.timeline.noted.Goals as goal
 
 pub returns-in-Err : goal.returns-in-Err
 returns-in-Err c =
-    subst (λ (trouble : Trouble). IsStopped c.args.plan.now c.args.entries.now trouble) (sym c.stop_trouble.ensures)
-    (stopped c.in-Ok.board c.args.plan.now c.args.entries.now c.in-Err.place c.in-Err.fault c.in-Ok.ensures c.in-Err.ensures.plays)
+    subst (λ (error : CommandError). IsStopped c.args.plan.now c.args.entries.now error) (sym c.stop_error.ensures)
+    (stopped c.in_ok-board.field-0 c.args.plan.now c.args.entries.now c.in-Err.place c.in-Err.fault c.in_ok-board.ensures c.in-Err.ensures.plays)

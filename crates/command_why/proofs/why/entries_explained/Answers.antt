@@ -1,7 +1,7 @@
 use Rattle.std.proofs.Common.{subst, sym}
 use Rattle.command_io.proofs.Stopped.{stopped}
 use Rattle.command_io.specs.Records.{IsStopped}
-use Rattle.command_io.specs.declared.trouble.Trouble.{Trouble}
+use Rattle.command_io.specs.declared.error.CommandError.{CommandError}
 use Rattle.command_why.proofs.why.entries_explained.Goals as goal
 
 pub returns-in-Ok : goal.returns-in-Ok
@@ -10,5 +10,5 @@ returns-in-Ok c =
 
 pub returns-in-Err : goal.returns-in-Err
 returns-in-Err c =
-    subst (λ (trouble : Trouble). IsStopped c.args.plan.now c.args.entries.now trouble) (sym c.stop_trouble.ensures)
+    subst (λ (error : CommandError). IsStopped c.args.plan.now c.args.entries.now error) (sym c.stop_error.ensures)
     (stopped c.args.plan.now c.args.entries.now c.in-Err.place c.in-Err.fault c.in-Err.ensures.accounts)

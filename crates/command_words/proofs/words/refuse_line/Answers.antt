@@ -1,12 +1,12 @@
 use Rattle.std.proofs.Common.{◌≡◌, refl, ◌∙◌}
 use Rattle.std.specs.IoError.{error_kind}
 use Rattle.std.specs.declared.io.ErrorKind.TheVariants.{InvalidData, OutOfMemory}
-use Rattle.command_io.specs.declared.trouble.Trouble.TheVariants.{Words, Io, Memory}
+use Rattle.command_io.specs.declared.error.CommandError.TheVariants.{Words, Io, Memory}
 use Rattle.command_words.proofs.words.refuse_line.Goals as goal
 
 pub returns-in-InvalidData : goal.returns-in-InvalidData
 returns-in-InvalidData g c = record {
-  trouble = Words;
+  error = Words;
   said = c.refuse.ensures.line;
   is = c.refuse.ensures.status;
   no_text = λ (kind : error_kind c.args.error ≡ InvalidData). refl;
@@ -15,7 +15,7 @@ returns-in-InvalidData g c = record {
 
 pub returns-in-OutOfMemory : goal.returns-in-OutOfMemory
 returns-in-OutOfMemory g c = record {
-  trouble = Memory;
+  error = Memory;
   said = c.refuse-in-OutOfMemory.ensures.line;
   is = c.refuse-in-OutOfMemory.ensures.status;
   no_text = λ (kind : error_kind c.args.error ≡ InvalidData). absurd (cc (c.in-OutOfMemory.is, c.kind.ensures));
@@ -24,7 +24,7 @@ returns-in-OutOfMemory g c = record {
 
 pub returns-in_default : goal.returns-in_default
 returns-in_default g c = record {
-  trouble = Io;
+  error = Io;
   said = c.refuse-in_default.ensures.line;
   is = c.refuse-in_default.ensures.status;
   no_text = λ (kind : error_kind c.args.error ≡ InvalidData). absurd (c.in_default.not-InvalidData (c.kind.ensures ∙ kind));

@@ -1,6 +1,6 @@
 use Rattle.std.proofs.Common.{inl, inr}
 use Rattle.command_io.proofs.Told.{refused}
-use Rattle.command_io.specs.declared.trouble.Trouble.TheVariants.{Memory}
+use Rattle.command_io.specs.declared.error.CommandError.TheVariants.{Memory}
 use Rattle.command_words.proofs.words.run_line.Goals as goal
 
 pub returns-in-Err-collect-clause-tells : goal.returns-in-Err-collect-clause-tells

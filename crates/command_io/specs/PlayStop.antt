@@ -2,24 +2,24 @@
 use Rattle.std.specs.Prelude.{◌≡◌, ℕ, codes, List}
 use Rattle.command_io.specs.Stream.{Stream}
 use Rattle.command_io.specs.Tell.{Says}
-use Rattle.command_io.specs.Trouble.{line, name_line}
-use Rattle.command_io.specs.declared.stop.Stop.{Stop}
-use Rattle.command_io.specs.declared.stop.Stop.TheVariants.{Workers, Host, Mismatch, Memory}
-use Rattle.command_io.specs.declared.trouble.Trouble.TheVariants as trouble
+use Rattle.command_io.specs.CommandError.{line, name_line}
+use Rattle.command_io.specs.declared.stop.PlayStop.{PlayStop}
+use Rattle.command_io.specs.declared.stop.PlayStop.TheVariants.{Workers, Host, Mismatch, Memory}
+use Rattle.command_io.specs.declared.error.CommandError.TheVariants as error
 
 -- The line that tells why a play stopped, and its exit status.
-abbrev pub stop_line : Stop → List ℕ
+abbrev pub stop_line : PlayStop → List ℕ
 stop_line Workers = name_line (codes "pool") (codes "Workers")
 stop_line Host = name_line (codes "pool") (codes "Host")
 stop_line Mismatch = name_line (codes "pool") (codes "Mismatch")
-stop_line Memory = line trouble.Memory
+stop_line Memory = line error.Memory
 
-abbrev pub stop_status : Stop → ℕ
+abbrev pub stop_status : PlayStop → ℕ
 stop_status Workers = 2
 stop_status Host = 3
 stop_status Mismatch = 2
 stop_status Memory = 3
 
 -- That line on err, and that status.
-abbrev pub SaysStop : Stop → Stream → Stream → ℕ → Type 0
+abbrev pub SaysStop : PlayStop → Stream → Stream → ℕ → Type 0
 SaysStop stop err err' status = Says err err' (stop_line stop) × (status ≡ stop_status stop)

@@ -1,8 +1,8 @@
 use Rattle.std.proofs.Common.{ap, sym, ◌∙◌, codes}
 use Rattle.command_io.proofs.Told.{Puts-as}
 use Rattle.command_io.proofs.PlanFaults.{plain_text, unread_is}
-use Rattle.command_io.specs.Trouble.{name_line, unplanned_line, unread_line}
-use Rattle.command_io.proofs.trouble.say_unplanned.Goals as goal
+use Rattle.command_io.specs.CommandError.{name_line, unplanned_line, unread_line}
+use Rattle.command_io.proofs.error.say_unplanned.Goals as goal
 
 pub returns-in-Expr : goal.returns-in-Expr
 returns-in-Expr g c =

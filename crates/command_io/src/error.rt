@@ -1,8 +1,8 @@
-//! Why a command has nothing to tell: the troubles of all commands, the line of each and its exit status.
+//! Why a command has nothing to tell: the errors of all commands, the line of each and its exit status.
 
 ghost use Rattle.std.specs.Prelude.{◌≡◌};
 ghost use Rattle.command_io.specs.Stream.{Puts};
-ghost use Rattle.command_io.specs.Trouble as spec;
+ghost use Rattle.command_io.specs.CommandError as spec;
 
 use crate::contexts::ContextsFault;
 use crate::stream::{Sink, put_parts};
@@ -13,7 +13,7 @@ use itoa::Buffer;
 use plan_assembler::PlanFault;
 use plan_text::LoadFault;
 use status_table::EventFault;
-use std::alloc::Global;
+use std::alloc::{AllocError, Global};
 
 /// The exit status of a command that did its work.
 pub const DONE: u8 = 0;
@@ -32,7 +32,7 @@ pub const UNCLOSED: u8 = 4;
 
 /// Why a command has nothing to tell.
 #[derive(Drop)]
-pub enum Trouble {
+pub enum CommandError {
     /// A text is no expression.
     NoExpression(ExprFault),
     /// An evaluation has a fault.
@@ -57,34 +57,44 @@ pub enum Trouble {
     Memory,
 }
 
-impl Trouble {
+impl From<AllocError> for CommandError {
+    ghost use Rattle.command_io.specs.declared.error.CommandError.TheVariants.{Memory};
+
+    ghost from_gives = { λ _ e. e ≡ Memory };
+
+    fn from(_: AllocError) -> CommandError {
+        CommandError::Memory
+    }
+}
+
+impl CommandError {
     /// The exit status.
     pub fn status(&self) -> u8
-        ensures { result ≡ spec.trouble_status self.now }
+        ensures { result ≡ spec.error_status self.now }
     {
         match self {
-            Trouble::NoExpression(_) => REFUSED,
-            Trouble::NoValue(_) => REFUSED,
-            Trouble::NoContexts(_, _) => REFUSED,
-            Trouble::NoFlow(_, _) => REFUSED,
-            Trouble::NotPlanned(_) => REFUSED,
-            Trouble::NoPlan(_) => REFUSED,
-            Trouble::NoEntry(_) => REFUSED,
-            Trouble::Refused(_, _) => REFUSED,
-            Trouble::Words => REFUSED,
-            Trouble::Io => FAILED,
-            Trouble::Memory => FAILED,
+            CommandError::NoExpression(_) => REFUSED,
+            CommandError::NoValue(_) => REFUSED,
+            CommandError::NoContexts(_, _) => REFUSED,
+            CommandError::NoFlow(_, _) => REFUSED,
+            CommandError::NotPlanned(_) => REFUSED,
+            CommandError::NoPlan(_) => REFUSED,
+            CommandError::NoEntry(_) => REFUSED,
+            CommandError::Refused(_, _) => REFUSED,
+            CommandError::Words => REFUSED,
+            CommandError::Io => FAILED,
+            CommandError::Memory => FAILED,
         }
     }
 }
 
 /// That the file of that name gives no contexts.
-pub fn contexts_trouble(alloc: Global, file: &str, fault: ContextsFault) -> Trouble
-    ensures { spec.IsContextsTrouble file.now fault result }
+pub fn contexts_error(alloc: Global, file: &str, fault: ContextsFault) -> CommandError
+    ensures { spec.IsContextsError file.now fault result }
 {
     match Text::from_str(alloc, file) {
-        Ok(name) => Trouble::NoContexts(name, fault),
-        Err(_) => Trouble::Memory,
+        Ok(name) => CommandError::NoContexts(name, fault),
+        Err(_) => CommandError::Memory,
     }
 }
 
@@ -159,21 +169,21 @@ fn say_numbered<S: Sink>(err: &mut S, number: u64, name: &str) -> bool
     put_parts(err, &parts)
 }
 
-/// Says a trouble in one line, and answers whether it was written whole.
-pub fn say<S: Sink>(err: &mut S, trouble: &Trouble) -> bool
-    ensures { Puts (S.seen err.old) (S.seen err.new) (spec.line trouble.now) result }
+/// Says an error in one line, and answers whether it was written whole.
+pub fn say<S: Sink>(err: &mut S, error: &CommandError) -> bool
+    ensures { Puts (S.seen err.old) (S.seen err.new) (spec.line error.now) result }
 {
-    match trouble {
-        Trouble::NoExpression(fault) => say_placed(err, fault.name(), fault.place()),
-        Trouble::NoValue(fault) => say_name(err, "value", fault.name()),
-        Trouble::NoContexts(file, fault) => say_file(err, file.as_str(), fault.name()),
-        Trouble::NoFlow(file, fault) => say_file(err, file.as_str(), fault.name()),
-        Trouble::NotPlanned(fault) => say_unplanned(err, *fault),
-        Trouble::NoPlan(fault) => say_name(err, "load", fault.name()),
-        Trouble::NoEntry(number) => say_numbered(err, *number, "NotEntry"),
-        Trouble::Refused(number, fault) => say_numbered(err, *number, fault.name()),
-        Trouble::Words => err.put(b"actrun: words\n"),
-        Trouble::Io => err.put(b"actrun: io\n"),
-        Trouble::Memory => err.put(b"actrun: memory\n"),
+    match error {
+        CommandError::NoExpression(fault) => say_placed(err, fault.name(), fault.place()),
+        CommandError::NoValue(fault) => say_name(err, "value", fault.name()),
+        CommandError::NoContexts(file, fault) => say_file(err, file.as_str(), fault.name()),
+        CommandError::NoFlow(file, fault) => say_file(err, file.as_str(), fault.name()),
+        CommandError::NotPlanned(fault) => say_unplanned(err, *fault),
+        CommandError::NoPlan(fault) => say_name(err, "load", fault.name()),
+        CommandError::NoEntry(number) => say_numbered(err, *number, "NotEntry"),
+        CommandError::Refused(number, fault) => say_numbered(err, *number, fault.name()),
+        CommandError::Words => err.put(b"actrun: words\n"),
+        CommandError::Io => err.put(b"actrun: io\n"),
+        CommandError::Memory => err.put(b"actrun: memory\n"),
     }
 }

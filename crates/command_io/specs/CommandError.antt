@@ -1,4 +1,4 @@
--- The troubles of all commands: the line of each, and its exit status.
+-- The errors of all commands: the line of each, and its exit status.
 use Rattle.std.specs.Prelude.{◌≡◌, ℕ, ◌++◌, codes, decimal, List}
 use Rattle.expr_reader.specs.Faults.{fault_name, fault_place}
 use Rattle.flow_model.specs.Faults.{value_fault_name}
@@ -11,8 +11,8 @@ use Rattle.command_io.specs.Contexts.{contexts_fault_name}
 use Rattle.command_io.specs.declared.contexts.ContextsFault.{ContextsFault}
 use Rattle.command_io.specs.declared.stream.SourceFault.{SourceFault}
 use Rattle.command_io.specs.declared.stream.SourceFault.TheVariants as source_fault
-use Rattle.command_io.specs.declared.trouble.Trouble.{Trouble}
-use Rattle.command_io.specs.declared.trouble.Trouble.TheVariants.{NoExpression, NoValue, NoContexts, NoFlow, NotPlanned, NoPlan, NoEntry, Refused, Words, Io, Memory}
+use Rattle.command_io.specs.declared.error.CommandError.{CommandError}
+use Rattle.command_io.specs.declared.error.CommandError.TheVariants.{NoExpression, NoValue, NoContexts, NoFlow, NotPlanned, NoPlan, NoEntry, Refused, Words, Io, Memory}
 
 -- The lines that tell of a name: of that kind, at that place of an expression, of that file, and of the line of that
 -- number.
@@ -36,8 +36,8 @@ unplanned_line fault = name_line (codes "plan") (plan_fault_text fault)
 abbrev pub unread_line : List ℕ → ℕ → List ℕ
 unread_line name place = codes "actrun: plan Expr " ++ (name ++ (codes " at " ++ (decimal place ++ codes "\n")))
 
--- The one line that tells of a trouble.
-abbrev pub line : Trouble → List ℕ
+-- The one line that tells of an error.
+abbrev pub line : CommandError → List ℕ
 line (NoExpression fault) = placed_line (fault_name fault) (fault_place fault)
 line (NoValue fault) = name_line (codes "value") (value_fault_name fault)
 line (NoContexts file fault) = file_line file (contexts_fault_name fault)
@@ -50,27 +50,27 @@ line Words = codes "actrun: words\n"
 line Io = codes "actrun: io\n"
 line Memory = codes "actrun: memory\n"
 
--- The exit status of a trouble: 2 where words or texts are refused, 3 where memory, files or streams fail.
-abbrev pub trouble_status : Trouble → ℕ
-trouble_status (NoExpression fault) = 2
-trouble_status (NoValue fault) = 2
-trouble_status (NoContexts file fault) = 2
-trouble_status (NoFlow file fault) = 2
-trouble_status (NotPlanned fault) = 2
-trouble_status (NoPlan fault) = 2
-trouble_status (NoEntry n) = 2
-trouble_status (Refused n fault) = 2
-trouble_status Words = 2
-trouble_status Io = 3
-trouble_status Memory = 3
+-- The exit status of an error: 2 where words or texts are refused, 3 where memory, files or streams fail.
+abbrev pub error_status : CommandError → ℕ
+error_status (NoExpression fault) = 2
+error_status (NoValue fault) = 2
+error_status (NoContexts file fault) = 2
+error_status (NoFlow file fault) = 2
+error_status (NotPlanned fault) = 2
+error_status (NoPlan fault) = 2
+error_status (NoEntry n) = 2
+error_status (Refused n fault) = 2
+error_status Words = 2
+error_status Io = 3
+error_status Memory = 3
 
--- The trouble of a source that was not read to its end.
-abbrev pub source_trouble : SourceFault → Trouble
-source_trouble source_fault.Failed = Io
-source_trouble source_fault.Memory = Memory
+-- The error of a source that was not read to its end.
+abbrev pub source_error : SourceFault → CommandError
+source_error source_fault.Failed = Io
+source_error source_fault.Memory = Memory
 
--- The fact holds, unless the trouble is want of memory.
-abbrev pub UnlessMemory : Trouble → Type 0 → Type 0
+-- The fact holds, unless the error is want of memory.
+abbrev pub UnlessMemory : CommandError → Type 0 → Type 0
 UnlessMemory (NoExpression fault) fact = fact
 UnlessMemory (NoValue fault) fact = fact
 UnlessMemory (NoContexts file fault) fact = fact
@@ -83,16 +83,16 @@ UnlessMemory Words fact = fact
 UnlessMemory Io fact = fact
 UnlessMemory Memory fact = Unit {0}
 
--- That trouble with a file of that name, unless memory runs out.
-abbrev pub IsContextsTrouble : List ℕ → ContextsFault → Trouble → Type 0
-IsContextsTrouble file fault (NoContexts name named) = (name ≡ file) × (named ≡ fault)
-IsContextsTrouble file fault (NoExpression other) = ⊥
-IsContextsTrouble file fault (NoValue other) = ⊥
-IsContextsTrouble file fault (NoFlow name other) = ⊥
-IsContextsTrouble file fault (NotPlanned other) = ⊥
-IsContextsTrouble file fault (NoPlan other) = ⊥
-IsContextsTrouble file fault (NoEntry n) = ⊥
-IsContextsTrouble file fault (Refused n other) = ⊥
-IsContextsTrouble file fault Words = ⊥
-IsContextsTrouble file fault Io = ⊥
-IsContextsTrouble file fault Memory = Unit {0}
+-- That error with a file of that name, unless memory runs out.
+abbrev pub IsContextsError : List ℕ → ContextsFault → CommandError → Type 0
+IsContextsError file fault (NoContexts name named) = (name ≡ file) × (named ≡ fault)
+IsContextsError file fault (NoExpression other) = ⊥
+IsContextsError file fault (NoValue other) = ⊥
+IsContextsError file fault (NoFlow name other) = ⊥
+IsContextsError file fault (NotPlanned other) = ⊥
+IsContextsError file fault (NoPlan other) = ⊥
+IsContextsError file fault (NoEntry n) = ⊥
+IsContextsError file fault (Refused n other) = ⊥
+IsContextsError file fault Words = ⊥
+IsContextsError file fault Io = ⊥
+IsContextsError file fault Memory = Unit {0}

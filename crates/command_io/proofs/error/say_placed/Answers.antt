@@ -1,6 +1,6 @@
 use Rattle.std.proofs.Common.{ℕ, List, ◌++◌, ap, codes}
 use Rattle.command_io.proofs.Told.{Puts-as}
-use Rattle.command_io.proofs.trouble.say_placed.Goals as goal
+use Rattle.command_io.proofs.error.say_placed.Goals as goal
 
 pub returns : goal.returns
 returns g c =

@@ -1,7 +1,7 @@
 use Rattle.std.proofs.Common.{ap, sym, ◌∙◌, codes}
 use Rattle.command_io.proofs.Told.{Puts-as}
-use Rattle.command_io.specs.Trouble.{line, name_line, file_line, numbered_line}
-use Rattle.command_io.proofs.trouble.say.Goals as goal
+use Rattle.command_io.specs.CommandError.{line, name_line, file_line, numbered_line}
+use Rattle.command_io.proofs.error.say.Goals as goal
 
 pub returns-in-NoValue : goal.returns-in-NoValue
 returns-in-NoValue g c = Puts-as _ _ _ _ _ c.say_name.ensures (ap (name_line (codes "value")) c.name-in-NoValue.ensures ∙ sym (ap line c.in-NoValue.is))

@@ -1,0 +1,12 @@
+//! Where a plan is executed.
+
+use std::alloc::Global;
+
+/// The files, the folder in which programs start, and the name of the file for the record, if one is named.
+#[derive(Drop)]
+pub(crate) struct Workspace<'p, F> {
+    pub(crate) alloc: Global,
+    pub(crate) files: &'p F,
+    pub(crate) work: &'p str,
+    pub(crate) record: Option<&'p str>,
+}
