@@ -30,9 +30,9 @@ lane_at lines top height = record { lines = lines; top = top; height = height }
 abbrev pub are_labelled : ℕ → Bool
 are_labelled count = nat_le count 16
 
--- How high the row of a leg is, of a job that has so many.
-abbrev pub leg_height : ℕ → ℕ
-leg_height count = if are_labelled count then 16 else 6
+-- How far below the top of a leg's row the next row begins, of a job that has so many.
+abbrev pub leg_step : ℕ → ℕ
+leg_step count = if are_labelled count then 16 else 6
 
 abbrev pub leg_row_by : Bool → StripAt → Row → List Shape
 leg_row_by true strip row = labelled strip row font.Leg 28
@@ -44,23 +44,20 @@ leg_row strip row count = leg_row_by (are_labelled count) strip row
 -- The strip of the leg with this number, from this height on.
 abbrev pub leg_strip : ℕ → JobPlan → ℕ → ℕ → StripAt
 leg_strip lines job l top = record {
-  lane = lane_at lines top (leg_height (length job.legs) - 1);
+  lane = lane_at lines top (leg_step (length job.legs) - 1);
   name = row_name (codes "leg ") l job.name;
   steps = job.steps;
 }
 
-abbrev pub leg_with : ℕ → Row → JobPlan → Cursor → List Shape
-leg_with lines row job at = leg_row (leg_strip lines job at.leg at.top) row (length job.legs)
-
 abbrev pub leg_there : ℕ → JobPlan → Cursor → Option Row → List Shape
 leg_there lines job at None = []
-leg_there lines job at (Some row) = leg_with lines row job at
+leg_there lines job at (Some row) = leg_row (leg_strip lines job at.leg at.top) row (length job.legs)
 
 abbrev pub leg_shapes : ℕ → List Row → JobPlan → Cursor → List Shape
 leg_shapes lines rows job at = leg_there lines job at (slice_get rows at.leg)
 
 abbrev pub after_leg : Cursor → ℕ → Cursor
-after_leg at count = record { leg = at.leg + 1; top = at.top + leg_height count }
+after_leg at count = record { leg = at.leg + 1; top = at.top + leg_step count }
 
 -- The legs from one on.
 abbrev pub legs_shapes : ℕ → List Row → JobPlan → Cursor → List (List (List ℕ × Plain)) → List Shape
@@ -78,12 +75,9 @@ abbrev pub job_strip : ℕ → JobPlan → ℕ → StripAt
 job_strip lines job top =
     record { lane = lane_at lines top 14; name = row_name (codes "job ") job.number job.name; steps = [] }
 
-abbrev pub job_with : ℕ → Row → JobPlan → ℕ → List Shape
-job_with lines row job top = labelled (job_strip lines job top) row font.Job 16
-
 abbrev pub job_there : ℕ → JobPlan → ℕ → Option Row → List Shape
 job_there lines job top None = []
-job_there lines job top (Some row) = job_with lines row job top
+job_there lines job top (Some row) = labelled (job_strip lines job top) row font.Job 16
 
 abbrev pub job_row : ℕ → List Row → JobPlan → ℕ → List Shape
 job_row lines rows job top = job_there lines job top (slice_get rows job.number)
@@ -114,12 +108,9 @@ abbrev pub run_strip : ℕ → ℕ → RunPlan → ℕ → StripAt
 run_strip lines r run top =
     record { lane = lane_at lines top 16; name = row_name (codes "run ") r run.flow; steps = [] }
 
-abbrev pub run_with : ℕ → Row → ℕ → RunPlan → ℕ → List Shape
-run_with lines row r run top = labelled (run_strip lines r run top) row font.Run 8
-
 abbrev pub run_there : ℕ → ℕ → RunPlan → ℕ → Option Row → List Shape
 run_there lines r run top None = []
-run_there lines r run top (Some row) = run_with lines row r run top
+run_there lines r run top (Some row) = labelled (run_strip lines r run top) row font.Run 8
 
 abbrev pub run_row : ℕ → List Row → ℕ → RunPlan → ℕ → List Shape
 run_row lines rows r run top = run_there lines r run top (slice_get rows r)

@@ -3,13 +3,14 @@
 ghost use Rattle.std.specs.Prelude.{◌≡◌, ◌++◌, OnOk};
 ghost use Rattle.board_timeline.specs.Bars as spec;
 
+use crate::canvas::Canvas;
 use crate::frames::{Lane, bar_frame, lane_frame, mark_frame, sum};
 use crate::phase::{Moment, Phase, is_over};
 use crate::row::Row;
-use crate::shape::{Frame, Kind, Look, Shape};
+use crate::shape::{Kind, Look};
 use crate::words::{bar_text, last_phase, mark_text, note_text, row_text};
-use flow_model::{Outcome, Sequence, StepPlan};
-use std::alloc::{AllocError, Global};
+use flow_model::{Outcome, StepPlan};
+use std::alloc::AllocError;
 
 /// A row: where it stands, what it is for, and the steps of its job.
 #[derive(Clone, Copy)]
@@ -19,19 +20,12 @@ pub(crate) struct Strip<'a> {
     pub(crate) steps: &'a [StepPlan],
 }
 
-/// Adds a shape.
-pub(crate) fn add_shape(
-    shapes: &mut Vec<Shape>,
-    kind: Kind,
-    frame: Frame,
-    text: Vec<u8>,
-) -> Result<(), AllocError>
-    ensures { OnOk result
-        (shapes.new.items ≡ shapes.old.items ++ spec.shape kind frame text.items) }
-{
-    let text = Sequence::new(text);
-    shapes.push(Shape { kind, frame, text })?;
-    Ok(())
+/// How something stood from a moment up to a line, and what came after, unless that line ends the record.
+#[derive(Clone, Copy)]
+pub(crate) struct Span {
+    pub(crate) from: Moment,
+    pub(crate) to: u64,
+    pub(crate) after: Option<Phase>,
 }
 
 /// The look of a result.
@@ -132,82 +126,70 @@ fn mark_look(before: Phase, phase: Phase) -> Option<Look>
 
 /// Adds a bar from a moment to a line, with this look.
 fn add_span(
-    alloc: Global,
-    shapes: &mut Vec<Shape>,
+    canvas: &mut Canvas,
     strip: &Strip<'_>,
     look: Look,
-    from: Moment,
-    to: u64,
-    after: Option<Phase>,
+    span: Span,
 ) -> Result<(), AllocError>
-    ensures { OnOk result (shapes.new.items ≡ shapes.old.items
-        ++ spec.span (spec.strip_seen strip.now) look from to after) }
+    ensures { OnOk result (canvas.new ≡ canvas.old
+        ++ spec.span (spec.strip_seen strip.now) look span.from span.to span.after) }
 {
-    let frame = bar_frame(strip.lane, from.line, to)?;
-    let text = bar_text(alloc, strip.name, strip.steps, from, to, after)?;
-    add_shape(shapes, Kind::Bar(look), frame, text)
+    let frame = bar_frame(strip.lane, span.from.line, span.to)?;
+    let text = bar_text(canvas.alloc(), strip.name, strip.steps, span)?;
+    canvas.add(Kind::Bar(look), frame, text)
 }
 
 /// Adds the bar of how something stood from a moment to a line.
-fn add_bar(
-    alloc: Global,
-    shapes: &mut Vec<Shape>,
-    strip: &Strip<'_>,
-    from: Moment,
-    to: u64,
-    after: Option<Phase>,
-) -> Result<(), AllocError>
-    ensures { OnOk result (shapes.new.items ≡ shapes.old.items
-        ++ spec.bar (spec.strip_seen strip.now) from to after) }
+fn add_bar(canvas: &mut Canvas, strip: &Strip<'_>, span: Span) -> Result<(), AllocError>
+    ensures { OnOk result (canvas.new ≡ canvas.old
+        ++ spec.bar (spec.strip_seen strip.now) span.from span.to span.after) }
 {
-    match bar_look(from.phase, after) {
-        Some(look) => add_span(alloc, shapes, strip, look, from, to, after),
+    match bar_look(span.from.phase, span.after) {
+        Some(look) => add_span(canvas, strip, look, span),
         None => Ok(()),
     }
 }
 
 /// Adds the mark of a moment.
 fn add_mark(
-    alloc: Global,
-    shapes: &mut Vec<Shape>,
+    canvas: &mut Canvas,
     strip: &Strip<'_>,
     before: Phase,
     moment: Moment,
 ) -> Result<(), AllocError>
-    ensures { OnOk result (shapes.new.items ≡ shapes.old.items
+    ensures { OnOk result (canvas.new ≡ canvas.old
         ++ spec.mark (spec.strip_seen strip.now) before moment) }
 {
     let Some(look) = mark_look(before, moment.phase) else {
         return Ok(());
     };
     let frame = mark_frame(strip.lane, moment.line, 4)?;
-    let text = mark_text(alloc, strip.name, strip.steps, moment)?;
-    add_shape(shapes, Kind::Bar(look), frame, text)
+    let text = mark_text(canvas.alloc(), strip.name, strip.steps, moment)?;
+    canvas.add(Kind::Bar(look), frame, text)
 }
 
 /// Adds the bar up to a moment, and the mark of that.
 fn add_moment(
-    alloc: Global,
-    shapes: &mut Vec<Shape>,
+    canvas: &mut Canvas,
     strip: &Strip<'_>,
     from: Moment,
     moment: Moment,
 ) -> Result<(), AllocError>
-    ensures { OnOk result (shapes.new.items ≡ shapes.old.items
+    ensures { OnOk result (canvas.new ≡ canvas.old
         ++ spec.bar_and_mark (spec.strip_seen strip.now) from moment) }
 {
-    add_bar(alloc, shapes, strip, from, moment.line, Some(moment.phase))?;
-    add_mark(alloc, shapes, strip, from.phase, moment)
+    let span = Span {
+        from,
+        to: moment.line,
+        after: Some(moment.phase),
+    };
+    add_bar(canvas, strip, span)?;
+    add_mark(canvas, strip, from.phase, moment)
 }
 
 /// Adds the bars and marks of moments, of which the first comes after that of the plan's line.
-fn add_moments(
-    alloc: Global,
-    shapes: &mut Vec<Shape>,
-    strip: &Strip<'_>,
-    moments: &[Moment],
-) -> Result<(), AllocError>
-    ensures { OnOk result (shapes.new.items ≡ shapes.old.items
+fn add_moments(canvas: &mut Canvas, strip: &Strip<'_>, moments: &[Moment]) -> Result<(), AllocError>
+    ensures { OnOk result (canvas.new ≡ canvas.old
         ++ spec.bars (spec.strip_seen strip.now) spec.first moments.now) }
 {
     let mut from = Moment {
@@ -215,44 +197,43 @@ fn add_moments(
         phase: Phase::Fresh,
     };
     for moment in moments {
-        add_moment(alloc, shapes, strip, from, *moment)?;
+        add_moment(canvas, strip, from, *moment)?;
         from = *moment;
     }
-    add_bar(alloc, shapes, strip, from, sum(strip.lane.lines, 1)?, None)
+    let last = Span {
+        from,
+        to: sum(strip.lane.lines, 1)?,
+        after: None,
+    };
+    add_bar(canvas, strip, last)
 }
 
 /// Adds the mark of what was done to a member at a line, if it was.
 fn add_note(
-    alloc: Global,
-    shapes: &mut Vec<Shape>,
+    canvas: &mut Canvas,
     strip: &Strip<'_>,
     look: Look,
     words: &str,
     line: Option<u64>,
 ) -> Result<(), AllocError>
-    ensures { OnOk result (shapes.new.items ≡ shapes.old.items
+    ensures { OnOk result (canvas.new ≡ canvas.old
         ++ spec.note (spec.strip_seen strip.now) look words.now line) }
 {
     let Some(line) = line else {
         return Ok(());
     };
     let frame = mark_frame(strip.lane, line, 4)?;
-    let text = note_text(alloc, strip.name, words, line)?;
-    add_shape(shapes, Kind::Bar(look), frame, text)
+    let text = note_text(canvas.alloc(), strip.name, words, line)?;
+    canvas.add(Kind::Bar(look), frame, text)
 }
 
 /// Adds the bar on which those of a row stand.
-fn add_lane(
-    alloc: Global,
-    shapes: &mut Vec<Shape>,
-    strip: &Strip<'_>,
-    row: &Row,
-) -> Result<(), AllocError>
-    ensures { OnOk result (shapes.new.items ≡ shapes.old.items
+fn add_lane(canvas: &mut Canvas, strip: &Strip<'_>, row: &Row) -> Result<(), AllocError>
+    ensures { OnOk result (canvas.new ≡ canvas.old
         ++ spec.lane (spec.strip_seen strip.now) row.now) }
 {
-    let text = row_text(alloc, strip.name, row)?;
-    add_shape(shapes, Kind::Bar(Look::Lane), lane_frame(strip.lane), text)
+    let text = row_text(canvas.alloc(), strip.name, row)?;
+    canvas.add(Kind::Bar(Look::Lane), lane_frame(strip.lane), text)
 }
 
 /// Whether a leg was taken by its worker and has begun no step.
@@ -276,13 +257,12 @@ fn taken_at(moments: &[Moment]) -> Option<u64>
 
 /// Adds the bar of a leg's worker, from a line on.
 fn add_worker(
-    alloc: Global,
-    shapes: &mut Vec<Shape>,
+    canvas: &mut Canvas,
     strip: &Strip<'_>,
     row: &Row,
     line: u64,
 ) -> Result<(), AllocError>
-    ensures { OnOk result (shapes.new.items ≡ shapes.old.items
+    ensures { OnOk result (canvas.new ≡ canvas.old
         ++ spec.worker (spec.strip_seen strip.now) row.now line) }
 {
     let from = Moment {
@@ -290,57 +270,41 @@ fn add_worker(
         phase: Phase::Taken,
     };
     let last = last_phase(row);
-    if is_over(last) {
-        return add_span(
-            alloc,
-            shapes,
-            strip,
-            Look::Going,
+    let span = if is_over(last) {
+        Span {
             from,
-            row.since,
-            Some(last),
-        );
-    }
-    let end = sum(strip.lane.lines, 1)?;
-    add_span(alloc, shapes, strip, Look::Going, from, end, None)
+            to: row.since,
+            after: Some(last),
+        }
+    } else {
+        Span {
+            from,
+            to: sum(strip.lane.lines, 1)?,
+            after: None,
+        }
+    };
+    add_span(canvas, strip, Look::Going, span)
 }
 
 /// Adds what lies below the bars of a row: that on which they stand, and the bar of a leg's worker.
-fn add_bottom(
-    alloc: Global,
-    shapes: &mut Vec<Shape>,
-    strip: &Strip<'_>,
-    row: &Row,
-) -> Result<(), AllocError>
-    ensures { OnOk result (shapes.new.items ≡ shapes.old.items
+fn add_bottom(canvas: &mut Canvas, strip: &Strip<'_>, row: &Row) -> Result<(), AllocError>
+    ensures { OnOk result (canvas.new ≡ canvas.old
         ++ spec.bottom (spec.strip_seen strip.now) row.now) }
 {
-    add_lane(alloc, shapes, strip, row)?;
+    add_lane(canvas, strip, row)?;
     match taken_at(row.moments.as_slice()) {
-        Some(line) => add_worker(alloc, shapes, strip, row, line),
+        Some(line) => add_worker(canvas, strip, row, line),
         None => Ok(()),
     }
 }
 
 /// Adds all bars and marks of a row.
-pub(crate) fn add_row(
-    alloc: Global,
-    shapes: &mut Vec<Shape>,
-    strip: &Strip<'_>,
-    row: &Row,
-) -> Result<(), AllocError>
-    ensures { OnOk result (shapes.new.items ≡ shapes.old.items
+pub(crate) fn add_row(canvas: &mut Canvas, strip: &Strip<'_>, row: &Row) -> Result<(), AllocError>
+    ensures { OnOk result (canvas.new ≡ canvas.old
         ++ spec.row_shapes (spec.strip_seen strip.now) row.now) }
 {
-    add_bottom(alloc, shapes, strip, row)?;
-    add_moments(alloc, shapes, strip, row.moments.as_slice())?;
-    add_note(alloc, shapes, strip, Look::Told, "told to stop", row.told)?;
-    add_note(
-        alloc,
-        shapes,
-        strip,
-        Look::Displaced,
-        "displaced",
-        row.displaced,
-    )
+    add_bottom(canvas, strip, row)?;
+    add_moments(canvas, strip, row.moments.as_slice())?;
+    add_note(canvas, strip, Look::Told, "told to stop", row.told)?;
+    add_note(canvas, strip, Look::Displaced, "displaced", row.displaced)
 }

@@ -9,6 +9,9 @@ use std::alloc::AllocError;
 /// Where the bars begin.
 pub(crate) const LEFT: u64 = 430;
 
+/// Where the rows begin, below the legend.
+pub(crate) const ROWS_TOP: u64 = 62;
+
 /// How wide the whole record is.
 pub(crate) const CHART: u64 = 900;
 

@@ -3,22 +3,22 @@
 ghost use Rattle.std.specs.Prelude.{◌≡◌, ◌+◌, ◌-◌, ◌/◌, ◌<◌, ◌++◌, OnOk};
 ghost use Rattle.board_timeline.specs.Legend as spec;
 
-use crate::bars::add_shape;
-use crate::frames::place_of;
-use crate::shape::{Font, Frame, Kind, Look, Shape};
+use crate::canvas::Canvas;
+use crate::frames::{ROWS_TOP, place_of};
+use crate::shape::{Font, Frame, Kind, Look};
 use crate::words::{numbered, worded};
-use std::alloc::{AllocError, Global};
+use std::alloc::AllocError;
 
 /// Adds a label.
 pub(crate) fn add_label(
-    shapes: &mut Vec<Shape>,
+    canvas: &mut Canvas,
     font: Font,
     left: u64,
     top: u64,
     text: Vec<u8>,
 ) -> Result<(), AllocError>
     ensures { OnOk result
-        (shapes.new.items ≡ shapes.old.items ++ spec.label font left top text.items) }
+        (canvas.new ≡ canvas.old ++ spec.label font left top text.items) }
 {
     let frame = Frame {
         left,
@@ -26,13 +26,12 @@ pub(crate) fn add_label(
         width: 0,
         height: 0,
     };
-    add_shape(shapes, Kind::Label(font), frame, text)
+    canvas.add(Kind::Label(font), frame, text)
 }
 
 /// Adds the bar of a key.
 fn add_key_bar(
-    alloc: Global,
-    shapes: &mut Vec<Shape>,
+    canvas: &mut Canvas,
     left: u64,
     top: u64,
     look: Look,
@@ -40,7 +39,7 @@ fn add_key_bar(
 ) -> Result<(), AllocError>
     requires { left < 2000 × top < 2000 }
     ensures { OnOk result
-        (shapes.new.items ≡ shapes.old.items ++ spec.key_bar left top look words.now) }
+        (canvas.new ≡ canvas.old ++ spec.key_bar left top look words.now) }
 {
     let frame = Frame {
         left,
@@ -48,14 +47,14 @@ fn add_key_bar(
         width: 12,
         height: 10,
     };
-    add_shape(shapes, Kind::Bar(look), frame, worded(alloc, words)?)
+    let text = worded(canvas.alloc(), words)?;
+    canvas.add(Kind::Bar(look), frame, text)
 }
 
 /// Adds a key: a bar, and what it stands for.
 #[tactic(auto, unfolding(crate::specs::Legend::key))]
 fn add_key(
-    alloc: Global,
-    shapes: &mut Vec<Shape>,
+    canvas: &mut Canvas,
     left: u64,
     top: u64,
     look: Look,
@@ -63,102 +62,75 @@ fn add_key(
 ) -> Result<(), AllocError>
     requires { left < 2000 × top < 2000 }
     ensures { OnOk result
-        (shapes.new.items ≡ shapes.old.items ++ spec.key left top look words.now) }
+        (canvas.new ≡ canvas.old ++ spec.key left top look words.now) }
 {
-    add_key_bar(alloc, shapes, left, top, look, words)?;
-    add_label(
-        shapes,
-        Font::Note,
-        left + 18,
-        top + 9,
-        worded(alloc, words)?,
-    )
+    add_key_bar(canvas, left, top, look, words)?;
+    let text = worded(canvas.alloc(), words)?;
+    add_label(canvas, Font::Note, left + 18, top + 9, text)
 }
 
 /// Adds the keys of what goes on.
-fn add_phase_keys(alloc: Global, shapes: &mut Vec<Shape>) -> Result<(), AllocError>
-    ensures { OnOk result (shapes.new.items ≡ shapes.old.items ++ spec.phase_keys) }
+fn add_phase_keys(canvas: &mut Canvas) -> Result<(), AllocError>
+    ensures { OnOk result (canvas.new ≡ canvas.old ++ spec.phase_keys) }
 {
-    add_key(alloc, shapes, 12, 8, Look::Waiting, "waiting for its group")?;
-    add_key(alloc, shapes, 230, 8, Look::Admitted, "admitted")?;
-    add_key(alloc, shapes, 360, 8, Look::Going, "going, with a worker")
+    add_key(canvas, 12, 8, Look::Waiting, "waiting for its group")?;
+    add_key(canvas, 230, 8, Look::Admitted, "admitted")?;
+    add_key(canvas, 360, 8, Look::Going, "going, with a worker")
 }
 
 /// Adds the keys of how steps and all else end.
-fn add_end_keys(alloc: Global, shapes: &mut Vec<Shape>) -> Result<(), AllocError>
-    ensures { OnOk result (shapes.new.items ≡ shapes.old.items ++ spec.end_keys) }
+fn add_end_keys(canvas: &mut Canvas) -> Result<(), AllocError>
+    ensures { OnOk result (canvas.new ≡ canvas.old ++ spec.end_keys) }
 {
-    add_key(alloc, shapes, 12, 26, Look::Success, "success")?;
-    add_key(alloc, shapes, 110, 26, Look::Failure, "failure")?;
-    add_key(
-        alloc,
-        shapes,
-        208,
-        26,
-        Look::Passed,
-        "failure that counts as none",
-    )?;
-    add_key(alloc, shapes, 440, 26, Look::Cancelled, "cancelled")
+    add_key(canvas, 12, 26, Look::Success, "success")?;
+    add_key(canvas, 110, 26, Look::Failure, "failure")?;
+    add_key(canvas, 208, 26, Look::Passed, "failure that counts as none")?;
+    add_key(canvas, 440, 26, Look::Cancelled, "cancelled")
 }
 
 /// Adds the keys of what has no such end.
-fn add_step_keys(alloc: Global, shapes: &mut Vec<Shape>) -> Result<(), AllocError>
-    ensures { OnOk result (shapes.new.items ≡ shapes.old.items ++ spec.step_keys) }
+fn add_step_keys(canvas: &mut Canvas) -> Result<(), AllocError>
+    ensures { OnOk result (canvas.new ≡ canvas.old ++ spec.step_keys) }
 {
-    add_key(alloc, shapes, 560, 8, Look::Calling, "a call not answered")?;
-    add_key(alloc, shapes, 560, 26, Look::Skipped, "skipped")
+    add_key(canvas, 560, 8, Look::Calling, "a call not answered")?;
+    add_key(canvas, 560, 26, Look::Skipped, "skipped")
 }
 
 /// Adds the keys of marks.
-fn add_mark_keys(alloc: Global, shapes: &mut Vec<Shape>) -> Result<(), AllocError>
-    ensures { OnOk result (shapes.new.items ≡ shapes.old.items ++ spec.mark_keys) }
+fn add_mark_keys(canvas: &mut Canvas) -> Result<(), AllocError>
+    ensures { OnOk result (canvas.new ≡ canvas.old ++ spec.mark_keys) }
 {
-    add_key(alloc, shapes, 740, 8, Look::Told, "told to stop")?;
-    add_key(alloc, shapes, 740, 26, Look::Displaced, "displaced")
+    add_key(canvas, 740, 8, Look::Told, "told to stop")?;
+    add_key(canvas, 740, 26, Look::Displaced, "displaced")
 }
 
 /// Adds the legend.
-pub(crate) fn add_legend(alloc: Global, shapes: &mut Vec<Shape>) -> Result<(), AllocError>
-    ensures { OnOk result (shapes.new.items ≡ shapes.old.items ++ spec.legend) }
+pub(crate) fn add_legend(canvas: &mut Canvas) -> Result<(), AllocError>
+    ensures { OnOk result (canvas.new ≡ canvas.old ++ spec.legend) }
 {
-    add_phase_keys(alloc, shapes)?;
-    add_end_keys(alloc, shapes)?;
-    add_step_keys(alloc, shapes)?;
-    add_mark_keys(alloc, shapes)
+    add_phase_keys(canvas)?;
+    add_end_keys(canvas)?;
+    add_step_keys(canvas)?;
+    add_mark_keys(canvas)
 }
 
 /// Adds a line of the record, from above the rows down to their end.
 #[tactic(auto, unfolding(crate::specs::Legend::line_shapes))]
-fn add_line(
-    alloc: Global,
-    shapes: &mut Vec<Shape>,
-    lines: u64,
-    line: u64,
-    bottom: u64,
-) -> Result<(), AllocError>
+fn add_line(canvas: &mut Canvas, lines: u64, line: u64, bottom: u64) -> Result<(), AllocError>
     ensures { OnOk result
-        (shapes.new.items ≡ shapes.old.items ++ spec.line_shapes lines line bottom) }
+        (canvas.new ≡ canvas.old ++ spec.line_shapes lines line bottom) }
 {
     let left = place_of(lines, line)?;
     let frame = Frame {
         left,
-        top: 62,
+        top: ROWS_TOP,
         width: 1,
-        height: bottom.saturating_sub(62),
+        height: bottom.saturating_sub(ROWS_TOP),
     };
-    add_shape(
-        shapes,
-        Kind::Bar(Look::Line),
-        frame,
-        numbered(alloc, "line ", line)?,
-    )?;
-    add_label(
-        shapes,
-        Font::Note,
-        left,
-        58,
-        numbered(alloc, "line ", line)?,
-    )
+    let title = numbered(canvas.alloc(), "line ", line)?;
+    canvas.add(Kind::Bar(Look::Line), frame, title)?;
+    let text = numbered(canvas.alloc(), "line ", line)?;
+    add_label(canvas, Font::Note, left, 58, text)
 }
 
 /// The line in the middle of a record.
@@ -169,16 +141,11 @@ fn middle(lines: u64) -> u64
 }
 
 /// Adds the first line of the record, that in the middle, and the last.
-pub(crate) fn add_lines(
-    alloc: Global,
-    shapes: &mut Vec<Shape>,
-    lines: u64,
-    bottom: u64,
-) -> Result<(), AllocError>
+pub(crate) fn add_lines(canvas: &mut Canvas, lines: u64, bottom: u64) -> Result<(), AllocError>
     ensures { OnOk result
-        (shapes.new.items ≡ shapes.old.items ++ spec.lines_shapes lines bottom) }
+        (canvas.new ≡ canvas.old ++ spec.lines_shapes lines bottom) }
 {
-    add_line(alloc, shapes, lines, 1, bottom)?;
-    add_line(alloc, shapes, lines, middle(lines), bottom)?;
-    add_line(alloc, shapes, lines, lines, bottom)
+    add_line(canvas, lines, 1, bottom)?;
+    add_line(canvas, lines, middle(lines), bottom)?;
+    add_line(canvas, lines, lines, bottom)
 }

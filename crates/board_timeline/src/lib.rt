@@ -14,6 +14,7 @@
 #![tactic(auto)]
 
 mod bars;
+mod canvas;
 mod escaped;
 mod frames;
 mod layout;

@@ -4,7 +4,7 @@ use Rattle.board_timeline.proofs.layout.add_jobs.Given as goal
 
 abbrev pub invariant-loop-job : goal.invariant-loop-job
 invariant-loop-job l = record {
-  left : l.shapes.items ++ jobs_shapes l.lines l.track l.at (drop l.job-index l.jobs)
-      ≡ l.initial.shapes.items ++ jobs_shapes l.lines l.track l.fn.first l.jobs;
+  left : l.canvas ++ jobs_shapes l.chart.lines l.chart.track.now l.at (drop l.job-index l.jobs)
+      ≡ l.initial.canvas ++ jobs_shapes l.chart.lines l.chart.track.now l.fn.first l.jobs;
   end : after_jobs l.at (drop l.job-index l.jobs) ≡ after_jobs l.fn.first l.jobs;
 }
