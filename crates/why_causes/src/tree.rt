@@ -155,7 +155,6 @@ fn push_causes(
 
 /// Answers a question that was not answered already, or was, but for its line.
 fn descend(
-    alloc: Global,
     account: &SeenAccount,
     stack: &mut Vec<Asked>,
     told: &mut Told,
@@ -170,7 +169,7 @@ fn descend(
         return Ok(());
     }
     tell(told, asked.question);
-    push_causes(alloc, account, stack, asked)
+    push_causes(*stack.allocator(), account, stack, asked)
 }
 
 /// Takes the last of the questions that are left.
@@ -199,7 +198,7 @@ fn answer_all(
         };
         let above = is_told(told, asked.question);
         add_line(&mut out, asked, above)?;
-        descend(alloc, account, stack, told, asked, above)?;
+        descend(account, stack, told, asked, above)?;
     }
     Ok(out)
 }
