@@ -1,6 +1,7 @@
 //! The rows of a plan, one under the other.
 
 ghost use Rattle.std.specs.Prelude.{◌≡◌, ◌++◌, IfOk, OnOk};
+ghost use Rattle.std.specs.Option.{option_copied};
 ghost use Rattle.board_timeline.specs.Bars.{strip_seen};
 ghost use Rattle.board_timeline.specs.Layout as spec;
 
@@ -127,23 +128,24 @@ fn add_leg_row(
     }
 }
 
-/// Adds the row of the next leg of a job, if one was noted.
-fn add_leg(
+/// Adds the row of the next leg of a job, if it was noted.
+fn add_noted_leg(
     canvas: &mut Canvas,
-    chart: &Chart<'_>,
+    lines: u64,
+    row: Option<&Row>,
     job: &JobPlan,
     at: Cursor,
 ) -> Result<(), AllocError>
     ensures { OnOk result (canvas.new ≡ canvas.old
-        ++ spec.leg_shapes chart.now.lines chart.now.track.now.legs job.now at) }
+        ++ spec.leg_there lines job.now at (option_copied row.entry)) }
 {
-    let Some(row) = chart.track.legs.as_slice().get(at.leg as usize) else {
+    let Some(row) = row else {
         return Ok(());
     };
     let count = job.legs.len();
     let name = row_name(canvas.alloc(), "leg ", at.leg, job.name.as_str())?;
     let lane = Lane {
-        lines: chart.lines,
+        lines,
         top: at.top,
         height: leg_step(count) - 1,
     };
@@ -153,6 +155,20 @@ fn add_leg(
         steps: job.steps.as_slice(),
     };
     add_leg_row(canvas, &strip, row, count)
+}
+
+/// Adds the row of the next leg of a job, whose number finds it among the rows.
+fn add_leg(
+    canvas: &mut Canvas,
+    chart: &Chart<'_>,
+    job: &JobPlan,
+    at: Cursor,
+) -> Result<(), AllocError>
+    ensures { OnOk result (canvas.new ≡ canvas.old
+        ++ spec.leg_shapes chart.now.lines chart.now.track.now.legs job.now at) }
+{
+    let rows = chart.track.legs.as_slice();
+    add_noted_leg(canvas, chart.lines, rows.get(at.leg as usize), job, at)
 }
 
 /// The place after the row of a leg.
@@ -185,21 +201,22 @@ fn add_legs(
 }
 
 /// Adds the row of a job from this height on, if it was noted.
-fn add_job_row(
+fn add_noted_job(
     canvas: &mut Canvas,
-    chart: &Chart<'_>,
+    lines: u64,
+    row: Option<&Row>,
     job: &JobPlan,
     top: u64,
 ) -> Result<(), AllocError>
     ensures { OnOk result (canvas.new ≡ canvas.old
-        ++ spec.job_row chart.now.lines chart.now.track.now.jobs job.now top) }
+        ++ spec.job_there lines job.now top (option_copied row.entry)) }
 {
-    let Some(row) = chart.track.jobs.as_slice().get(job.number as usize) else {
+    let Some(row) = row else {
         return Ok(());
     };
     let name = row_name(canvas.alloc(), "job ", job.number, job.name.as_str())?;
     let lane = Lane {
-        lines: chart.lines,
+        lines,
         top,
         height: JOB_HEIGHT,
     };
@@ -209,6 +226,20 @@ fn add_job_row(
         steps: &[],
     };
     add_labelled(canvas, &strip, row, Font::Job, JOB_LEFT)
+}
+
+/// Adds the row of a job from this height on, whose number finds it among the rows.
+fn add_job_row(
+    canvas: &mut Canvas,
+    chart: &Chart<'_>,
+    job: &JobPlan,
+    top: u64,
+) -> Result<(), AllocError>
+    ensures { OnOk result (canvas.new ≡ canvas.old
+        ++ spec.job_row chart.now.lines chart.now.track.now.jobs job.now top) }
+{
+    let rows = chart.track.jobs.as_slice();
+    add_noted_job(canvas, chart.lines, rows.get(job.number as usize), job, top)
 }
 
 /// Adds the row of a job and those of its legs, and gives the place after them.
@@ -246,7 +277,36 @@ fn add_jobs(
     Ok(at)
 }
 
-/// Adds the row of the run at a place from this height on, if it was noted.
+/// Adds the row of the run with this number from this height on, if it was noted.
+fn add_noted_run(
+    canvas: &mut Canvas,
+    lines: u64,
+    row: Option<&Row>,
+    number: u64,
+    run: &RunPlan,
+    top: u64,
+) -> Result<(), AllocError>
+    ensures { OnOk result (canvas.new ≡ canvas.old
+        ++ spec.run_there lines number run.now top (option_copied row.entry)) }
+{
+    let Some(row) = row else {
+        return Ok(());
+    };
+    let name = row_name(canvas.alloc(), "run ", number, run.flow.as_str())?;
+    let lane = Lane {
+        lines,
+        top,
+        height: RUN_HEIGHT,
+    };
+    let strip = Strip {
+        lane,
+        name: name.as_slice(),
+        steps: &[],
+    };
+    add_labelled(canvas, &strip, row, Font::Run, RUN_LEFT)
+}
+
+/// Adds the row of the run at a place from this height on.
 fn add_run_row(
     canvas: &mut Canvas,
     chart: &Chart<'_>,
@@ -257,21 +317,8 @@ fn add_run_row(
     ensures { OnOk result (canvas.new ≡ canvas.old
         ++ spec.run_row chart.now.lines chart.now.track.now.runs place run.now top) }
 {
-    let Some(row) = chart.track.runs.as_slice().get(place) else {
-        return Ok(());
-    };
-    let name = row_name(canvas.alloc(), "run ", place as u64, run.flow.as_str())?;
-    let lane = Lane {
-        lines: chart.lines,
-        top,
-        height: RUN_HEIGHT,
-    };
-    let strip = Strip {
-        lane,
-        name: name.as_slice(),
-        steps: &[],
-    };
-    add_labelled(canvas, &strip, row, Font::Run, RUN_LEFT)
+    let rows = chart.track.runs.as_slice();
+    add_noted_run(canvas, chart.lines, rows.get(place), place as u64, run, top)
 }
 
 /// Adds the row of a run and those of its jobs, and gives the place after them.
