@@ -3,9 +3,9 @@
 #![tactic(auto)]
 
 use command_io::bounded::{Bounded, MOST_READS};
+use command_io::error::CommandError;
 use command_io::stream::{Input, Output};
 use command_io::tell::refuse;
-use command_io::error::CommandError;
 use command_run::machine::Machine;
 use command_words::folder::Folder;
 use command_words::words::run_line;

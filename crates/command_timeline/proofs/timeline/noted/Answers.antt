@@ -7,4 +7,4 @@ use Rattle.command_timeline.proofs.timeline.noted.Goals as goal
 pub returns-in-Err : goal.returns-in-Err
 returns-in-Err c =
     subst (λ (error : CommandError). IsStopped c.args.plan.now c.args.entries.now error) (sym c.stop_error.ensures)
-    (stopped c.in_ok-board.field-0 c.args.plan.now c.args.entries.now c.in-Err.place c.in-Err.fault c.in_ok-board.ensures c.in-Err.ensures.plays)
+    (stopped c.in_ok-board.board c.args.plan.now c.args.entries.now c.in-Err.place c.in-Err.fault c.in_ok-board.ensures c.in-Err.ensures.plays)
