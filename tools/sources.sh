@@ -30,7 +30,7 @@ crates() {
 }
 
 # the files that say how a program is built and proved
-builders=(crates.txt tools/prove.sh tools/sources.sh tools/unproved.sh tools/verdicts.py)
+builders=(crates.txt tools/prove.sh tools/sources.sh tools/verdicts.py)
 
 # the folders of sources of a program, below the top
 folders() {

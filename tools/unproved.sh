@@ -70,14 +70,19 @@ build_locked() {
 try_copy() {
   local words
   read -ra words < <(self_copy "$1" "$2")
+  # (in a process group of its own, so that a terminal's Ctrl-C does not reach it beside the signal of stop_build: `rt` ends what
+  # it started at its first signal, and a second one breaks that off)
+  set -m
   (cd "$top/crates/$1" && TMPDIR=$2 exec rt try --data "${words[0]}=$2/${words[0]}" -- "${words[@]:1}") \
     </dev/null >"$2/out" 2>"$2/err" &
   building=$!
+  set +m
   wait "$building"
 }
 
 # ends a build that a signal interrupts
 stop_build() {
+  trap '' INT TERM HUP
   kill "$building" 2>/dev/null
   wait "$building"
   rm -rf "$1"
