@@ -31,7 +31,7 @@ def section(title: str) -> str:
 
 def names_of_rows(text: str) -> list[str]:
     """The names in the first cells of rows that have nothing else there."""
-    rows = re.findall(r"^((?:`\w+`(?:, )?)+) \|", text, re.MULTILINE)
+    rows = re.findall(r"^\|?((?:`\w+`(?:, )?)+) \|", text, re.MULTILINE)
     return [name for row in rows for name in re.findall(r"`(\w+)`", row)]
 
 
@@ -69,7 +69,7 @@ class Explain(unittest.TestCase):
 
     def test_every_line_of_the_table_has_an_explanation(self) -> None:
         text = section("## Error lines and exit statuses")
-        self.assertEqual(set(re.findall(r"^\d \|`actrun: (\w+)", text, re.MULTILINE)) | {"value"},
+        self.assertEqual(set(re.findall(r"^\|?\d \|`actrun: (\w+)", text, re.MULTILINE)) | {"value"},
                          {"load", "line", "flow", "plan", "expr", "value", "why", "pool", "words", "io", "memory"})
         lines = ["load NotJson", "load Version", "load NotPlan", "line 3 NotEntry", "why NoSuch", "pool Workers", "words", "io", "memory"]
         rejections = set(re.findall(r"\(`(\w+)`\)", section("## Events").partition("###")[0]))
