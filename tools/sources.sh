@@ -32,20 +32,21 @@ crates() {
 # the files that say how a program is built and proved
 builders=(crates.txt tools/prove.sh tools/sources.sh tools/verdicts.py)
 
-# the folders of sources of a program, below the top
+# the folders of sources of a program, below the top: of the program of a crate with proofs, or `unproved`
 folders() {
   local name folder
   while read -r name _; do
     for folder in "crates/$name/src" "crates/$name/specs" "crates/$name/proofs"; do
+      case $2/$folder in unproved/*/proofs) continue ;; esac
       [ ! -d "$top/$folder" ] || echo "$folder"
     done
   done < <(crates "$1")
 }
 
-# a sum over all that the program of a crate is built from: the names of the files, and their contents
+# a sum over all that the program of a crate is built from (proved if not said otherwise): the names of files, and their contents
 sources() {
   local folders
-  mapfile -t folders < <(folders "${1:-actrun}")
+  mapfile -t folders < <(folders "${1:-actrun}" "${2:-proved}")
   (
     cd "$top" || exit
     { find "${folders[@]}" -type f -print0; printf '%s\0' "${builders[@]}"; } | LC_ALL=C sort -z | xargs -0 sha256sum
@@ -63,10 +64,12 @@ is_made_of() {
   [ -x "$1" ] && [ -e "$stamp" ] && [ "$(made_of "$1" "$2")" = "$(cat "$stamp")" ]
 }
 
-# the program that was chosen, and the files and folders that the choice rests on (a folder changes where a file comes or goes)
+# the program that was chosen, and the files and folders that the choice rests on (a folder changes where a file comes or goes);
+# proofs are among them where a program was proved
 watched() {
-  local folders
-  mapfile -t folders < <(folders "$1")
+  local folders how=unproved
+  [ ! -e "$top/crates/$1/out/made_of" ] || how=proved
+  mapfile -t folders < <(folders "$1" "$how")
   printf '%s\0' "$2" "${2%/*}/made_of" "${builders[@]}"
   (cd "$top" && find "${folders[@]}" -print0)
   printf '%s\n' "${folders[@]%/*}" | sort -u | tr '\n' '\0'
@@ -83,7 +86,7 @@ holds() {
 # Sets `program` to the program of a crate that is built from the sources as they are: the proved one, else the unproved one.
 # Fails where there is neither. The choice is kept in out/chosen with what it rests on, and sums are taken only after a change.
 choose() {
-  local out=crates/$1/out chosen=$top/crates/$1/out/chosen name sum
+  local out=crates/$1/out chosen=$top/crates/$1/out/chosen name how
   if [ -e "$chosen" ] && IFS= read -r -d '' name <"$chosen" && [ -x "$top/$name" ] && holds "$chosen"; then
     program=$top/$name
     return
@@ -91,9 +94,9 @@ choose() {
   [ -e "$top/$out/made_of" ] || [ -e "$top/$out/unproved/made_of" ] || return 1
   # (its time is before the sum, so that whatever changes meanwhile is newer)
   { : >"$chosen.$$"; } 2>/dev/null
-  sum=$(sources "$1")
   for name in "$out/$1" "$out/unproved/$1"; do
-    if is_made_of "$top/$name" "$sum"; then
+    case $name in */unproved/*) how=unproved ;; *) how=proved ;; esac
+    if [ -x "$top/$name" ] && is_made_of "$top/$name" "$(sources "$1" "$how")"; then
       program=$top/$name
       [ ! -e "$chosen.$$" ] || keep_choice "$1" "$name" "$chosen"
       return
