@@ -79,7 +79,7 @@ watched() {
 holds() {
   local changed
   # shellcheck disable=SC2185 # the choice has the paths
-  [ ! "${1%/*}/made_of" -nt "$1" ] && changed=$(cd "$top" && find -files0-from "$1" -prune -cnewer "$1" -print -quit 2>/dev/null) &&
+  [ ! "${1%/*}/made_of" -nt "$1" ] && changed=$(cd "$top" && exec find -files0-from "$1" -prune -cnewer "$1" -print -quit 2>/dev/null) &&
     [ -z "$changed" ]
 }
 
