@@ -329,9 +329,9 @@ class InSandbox(TryCase):
         self.assertIn("\nlo\n\n", done.stdout)
 
     def test_a_server_ends_with_the_play(self) -> None:
-        self.workflow("- run: |\n    setsid sleep 4321 > /dev/null 2>&1 &\n    sleep 0.2")
+        self.workflow(f"- run: |\n    setsid sleep 4321.{os.getpid()} > /dev/null 2>&1 &\n    sleep 0.2")
         self.assert_status(self.attempt(), 0)
-        found = subprocess.run(["pgrep", "-f", "sleep 4321"], capture_output=True, check=False)
+        found = subprocess.run(["pgrep", "-f", rf"^sleep 4321\.{os.getpid()}$"], capture_output=True, check=False)
         self.assertEqual(found.stdout, b"")
 
     def test_sudo_says_what_to_do(self) -> None:
@@ -364,7 +364,9 @@ class Interrupted(TryCase):
 
     def interrupt(self, *words: str) -> tuple[int, str, str]:
         """Status and outputs of a play that is interrupted in its second step."""
-        self.workflow("- run: echo first\n- name: long\n  run: touch here; sleep 60 & sleep 61\n- if: always()\n  run: echo after")
+        seconds = f"6{{}}.{os.getpid()}"  # (that no other program of this machine sleeps)
+        self.workflow(f"- run: echo first\n- name: long\n  run: touch here; sleep {seconds.format(0)} & sleep {seconds.format(1)}\n"
+                      "- if: always()\n  run: echo after")
         child = subprocess.Popen(self.command(*words), cwd=self.project, env=self.environment, text=True,
                                  stdout=subprocess.PIPE, stderr=subprocess.PIPE, start_new_session=True)
         end = time.time() + 20
@@ -383,7 +385,7 @@ class Interrupted(TryCase):
         self.assertNotIn("\nafter\n", out)
         self.assertRegex(out, r"step 1 \(long\) failed at line \d+: the program ended with")
         self.assertIn("timeline", out)
-        found = subprocess.run(["pgrep", "-f", "^sleep 6[01]$"], capture_output=True, check=False)
+        found = subprocess.run(["pgrep", "-f", rf"^sleep 6[01]\.{os.getpid()}$"], capture_output=True, check=False)
         self.assertEqual(found.stdout, b"")
 
     @unittest.skipUnless(sandbox_works(), "bwrap is not installed or does not work here")
