@@ -86,6 +86,13 @@ enum Test {
     Equality(Equality),
 }
 
+// A test, with the value on its left.
+#[derive(Drop)]
+struct LeftSide<'a> {
+    test: Test,
+    left: Item<'a>,
+}
+
 // Whether two values pass a test.
 fn compared(test: Test, left: Kind<'_>, right: Kind<'_>) -> Result<bool, ValueFault>
     ensures { truth_answer result ≡ test_kinds test (kind_seen left.entry) (kind_seen right.entry) }
@@ -175,18 +182,13 @@ fn chain<'a, C: Context>(
         Tree::Not(inner) => operand(alloc, inner, Last::Opposite, contexts, status),
         Tree::Relation(relation, left, right) => {
             let left = evaluate(alloc, left, contexts, status)?;
-            tested(
-                alloc,
-                Test::Relation(*relation),
-                left,
-                right,
-                contexts,
-                status,
-            )
+            let test = Test::Relation(*relation);
+            tested(alloc, LeftSide { test, left }, right, contexts, status)
         },
         Tree::Equality(test, left, right) => {
             let left = evaluate(alloc, left, contexts, status)?;
-            tested(alloc, Test::Equality(*test), left, right, contexts, status)
+            let test = Test::Equality(*test);
+            tested(alloc, LeftSide { test, left }, right, contexts, status)
         },
         Tree::Both(parts) => decided(alloc, false, parts.as_slice(), contexts, status),
         Tree::Either(parts) => decided(alloc, true, parts.as_slice(), contexts, status),
@@ -246,18 +248,17 @@ fn indexed_by<'a, C: Context>(
 #[cycle(evaluate)]
 fn tested<'a, C: Context>(
     alloc: Global,
-    test: Test,
-    left: Item<'a>,
+    side: LeftSide<'a>,
     right: &Tree,
     contexts: &'a C,
     status: Status,
 ) -> Result<Found<'a>, ValueFault>
     ensures { Gives found_seen result (begun_of (then_value
         (value (C.contexts contexts.now) status (tree_view right.now))
-        (test_value test (item_seen left.entry)))) }
+        (test_value side.entry.test (item_seen side.entry.left)))) }
 {
     let right = evaluate(alloc, right, contexts, status)?;
-    test_found(test, &left, &right)
+    test_found(side.test, &side.left, &right)
 }
 
 /// The value of an expression.

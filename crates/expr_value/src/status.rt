@@ -19,7 +19,7 @@ impl Status {
     ghost use Rattle.expr_value.specs.Functions.{is_success, is_failure, is_cancelled};
 
     /// Whether it is success.
-    pub(crate) fn is_success(self) -> bool
+    pub fn is_success(self) -> bool
         ensures { result ≡ is_success self }
     {
         matches!(self, Status::Success)
