@@ -13,7 +13,7 @@ use Rattle.plan_values.specs.Laws.{PlaceGivesWhatItSees}
 use Rattle.plan_values.specs.Places.{seen_at}
 use Rattle.plan_values.specs.Values.{Values, contexts_at}
 use Rattle.plan_values.specs.declared.known.Known.{Known}
-use Rattle.plan_values.specs.declared.place.Place.{Place}
+use Rattle.plan_values.specs.declared.place.TextPlace.{TextPlace}
 use Rattle.plan_values.proofs.Names.{same_is}
 use Rattle.plan_values.proofs.Making.{Agrees, all_holds}
 
@@ -36,11 +36,11 @@ mapped : (values : Values) (xs : List Context) → map (λ x. (context_name x, v
 mapped values [] = refl
 mapped values (x ∷ xs) = ap (λ (rest : Contexts). (context_name x, values x) ∷ rest) (mapped values xs)
 
-there_at : (values : Values) (place : Place) (x : Context) → value_at (context_name x) (contexts_at place values) ≡ cond (list_any (is_same_context x) (seen_at place)) (Some (values x)) None
+there_at : (values : Values) (place : TextPlace) (x : Context) → value_at (context_name x) (contexts_at place values) ≡ cond (list_any (is_same_context x) (seen_at place)) (Some (values x)) None
 unfolding contexts_at
 there_at values place x = ap (value_at (context_name x)) (mapped values (seen_at place)) ∙ there (λ y. Some (values y)) x (seen_at place)
 
-there_made : (place : Place) (k : Known) (x : Context) → value_at (context_name x) (contexts_made place k) ≡ cond (list_any (is_same_context x) (seen_at place)) (value_made k x) None
+there_made : (place : TextPlace) (k : Known) (x : Context) → value_at (context_name x) (contexts_made place k) ≡ cond (list_any (is_same_context x) (seen_at place)) (value_made k x) None
 unfolding contexts_made
 there_made place k x = there (value_made k) x (seen_at place)
 
@@ -57,7 +57,7 @@ alike_by a b true h = ap or_empty (h refl)
 alike_by a b false h = refl
 
 -- What was made of the contexts that pass a test agrees on them with all that the place sees.
-pub made_agree : (named : Context → Bool) (values : Values) (place : Place) (k : Known) → Agrees values k → AgreeOn named (contexts_made place (made_all named values (seen_at place) k)) (contexts_at place values)
+pub made_agree : (named : Context → Bool) (values : Values) (place : TextPlace) (k : Known) → Agrees values k → AgreeOn named (contexts_made place (made_all named values (seen_at place) k)) (contexts_at place values)
 made_agree named values place k h =
     λ x is. ap or_empty (there_made place (made_all named values (seen_at place) k) x)
     ∙ alike_by (value_made (made_all named values (seen_at place) k) x) (Some (values x)) (list_any (is_same_context x) (seen_at place)) (λ among. all_holds named values x (seen_at place) k h among is)

@@ -17,12 +17,12 @@ use Rattle.plan_values.specs.Outputs.{outputs_value}
 use Rattle.plan_values.specs.Texts.{text_text, text_value, condition_value, flag_value}
 use Rattle.plan_values.specs.Places.{sees}
 use Rattle.plan_values.specs.Values.{Values, Env, contexts_at}
-use Rattle.plan_values.specs.declared.place.Place.{Place}
+use Rattle.plan_values.specs.declared.place.TextPlace.{TextPlace}
 
 -- A place gives a context its value where it sees it, and an empty map where it does not.
 abbrev pub PlaceGivesWhatItSees : Type 0
 PlaceGivesWhatItSees =
-    (place : Place) (values : Values) (x : Context)
+    (place : TextPlace) (values : Values) (x : Context)
     → context_value (contexts_at place values) x ≡ (if sees place x then values x else map no_members)
 
 -- Of three levels the most specific one that has a name gives its value.

@@ -4,8 +4,8 @@ use Rattle.std.specs.List.{list_any}
 use Rattle.expr_reader.specs.declared.tree.Context.{Context}
 use Rattle.expr_reader.specs.declared.tree.Context.TheVariants.{Github, Env, Vars, Job, Steps, Secrets, Strategy, Matrix, Needs, Inputs}
 use Rattle.expr_value.specs.Named.{is_same_context}
-use Rattle.plan_values.specs.declared.place.Place.{Place}
-use Rattle.plan_values.specs.declared.place.Place.TheVariants as place
+use Rattle.plan_values.specs.declared.place.TextPlace.{TextPlace}
+use Rattle.plan_values.specs.declared.place.TextPlace.TheVariants as place
 
 -- A workflow's group and its cancel flag see what the run was handed but for the secrets.
 abbrev pub workflow_group : List Context
@@ -41,7 +41,7 @@ abbrev pub step_text : List Context
 step_text = step_env
 
 -- The contexts that a place sees; the others are empty maps there.
-abbrev pub seen_at : Place → List Context
+abbrev pub seen_at : TextPlace → List Context
 seen_at place.WorkflowGroup = workflow_group
 seen_at place.JobCondition = job_condition
 seen_at place.JobGroup = job_group
@@ -52,5 +52,5 @@ seen_at place.StepCondition = step_condition
 seen_at place.StepText = step_text
 
 -- The place sees the context.
-abbrev pub sees : Place → Context → Bool
+abbrev pub sees : TextPlace → Context → Bool
 sees place context = list_any (is_same_context context) (seen_at place)

@@ -9,7 +9,7 @@ use Rattle.flow_model.specs.Mapping.{map_values}
 use Rattle.flow_model.specs.Plain.{Plain, text, members_of}
 use Rattle.flow_model.specs.Plain as plain
 use Rattle.plan_values.specs.Places.{seen_at}
-use Rattle.plan_values.specs.declared.place.Place.{Place}
+use Rattle.plan_values.specs.declared.place.TextPlace.{TextPlace}
 
 -- The value of each context.
 abbrev pub Values : Type 0
@@ -32,5 +32,5 @@ abbrev pub with_env : Env → Values → Values
 with_env env values x = if is_env x then env_context env else values x
 
 -- The finite map of the contexts that the place sees.
-unfoldable pub contexts_at : Place → Values → Contexts
+unfoldable pub contexts_at : TextPlace → Values → Contexts
 contexts_at place values = map (λ x. (context_name x, values x)) (seen_at place)

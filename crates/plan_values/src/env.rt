@@ -7,7 +7,7 @@ ghost use Rattle.plan_values.specs.Known.{IsKnownOf, known_env};
 ghost use Rattle.plan_values.specs.Values.{contexts_at, with_env};
 
 use crate::known::Known;
-use crate::place::Place;
+use crate::place::TextPlace;
 use crate::scene::Scene;
 use crate::texts::text_at;
 use expr_value::to_text;
@@ -20,7 +20,7 @@ fn env_text_at<S: Scene>(
     alloc: Global,
     scene: &S,
     known: &mut Known,
-    place: Place,
+    place: TextPlace,
     value: &Value,
 ) -> Result<Text, ValueFault>
     requires { IsKnownOf (S.values scene.now) known.old }
@@ -48,7 +48,7 @@ pub fn env_over_at<S: Scene>(
     alloc: Global,
     scene: &S,
     known: &mut Known,
-    place: Place,
+    place: TextPlace,
     env: &Mapping<Value>,
     below: Mapping<Text>,
 ) -> Result<Mapping<Text>, ValueFault>
@@ -78,7 +78,7 @@ pub fn env_at<S: Scene>(
     alloc: Global,
     scene: &S,
     known: &mut Known,
-    place: Place,
+    place: TextPlace,
     env: &Mapping<Value>,
 ) -> Result<Mapping<Text>, ValueFault>
     requires { IsKnownOf (S.values scene.now) known.old }

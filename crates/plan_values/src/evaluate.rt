@@ -5,7 +5,6 @@ ghost use Rattle.expr_reader.specs.Template.{names_status as names_status_of};
 ghost use Rattle.expr_reader.specs.TemplateView.{template_of};
 ghost use Rattle.expr_value.specs.Answer.{Gives};
 ghost use Rattle.expr_value.specs.Condition.{condition_holds};
-ghost use Rattle.expr_value.specs.Functions.{is_success as is_success_of};
 ghost use Rattle.expr_value.specs.Template.{template_value};
 ghost use Rattle.expr_value.specs.declared.status.Status.TheVariants.{Success};
 ghost use Rattle.plan_values.specs.Known.{IsKnownOf, known_env};
@@ -13,7 +12,7 @@ ghost use Rattle.plan_values.specs.Values.{contexts_at, with_env};
 
 use crate::known::Known;
 use crate::make::make_named;
-use crate::place::Place;
+use crate::place::TextPlace;
 use crate::scene::Scene;
 use crate::sight::Sight;
 use expr_reader::{Template, names_status};
@@ -28,7 +27,7 @@ pub(crate) fn template_at<S: Scene>(
     alloc: Global,
     scene: &S,
     known: &mut Known,
-    place: Place,
+    place: TextPlace,
     template: &Template,
 ) -> Result<Value, ValueFault>
     requires status { names_status_of (template_of template.now) ≡ false }
@@ -48,22 +47,12 @@ pub(crate) fn template_at<S: Scene>(
     eval_text(alloc, template, &sight)
 }
 
-/// Whether a status is success.
-pub(crate) fn is_success(status: Status) -> bool
-    ensures { result ≡ is_success_of status }
-{
-    match status {
-        Status::Success => true,
-        Status::Failure | Status::Cancelled | Status::Other => false,
-    }
-}
-
 /// Whether a condition that was read holds at a place. For one that is not evaluated nothing is made.
 pub(crate) fn condition_read_at<S: Scene>(
     alloc: Global,
     scene: &S,
     known: &mut Known,
-    place: Place,
+    place: TextPlace,
     template: &Template,
     status: Status,
 ) -> Result<bool, ValueFault>
@@ -74,7 +63,7 @@ pub(crate) fn condition_read_at<S: Scene>(
     ensures env { known_env known.new ≡ known_env known.old }
     ensures known { IsKnownOf (S.values scene.now) known.new }
 {
-    if !names_status(template) && !is_success(status) {
+    if !names_status(template) && !status.is_success() {
         return Ok(false);
     }
     make_named(alloc, scene, known, place, template)?;

@@ -7,7 +7,7 @@ ghost use Rattle.plan_values.specs.Texts.{text_value};
 ghost use Rattle.plan_values.specs.Values.{contexts_at, with_env};
 
 use crate::known::Known;
-use crate::place::Place;
+use crate::place::TextPlace;
 use crate::scene::Scene;
 use crate::texts::value_at;
 use expr_reader::same_text;
@@ -30,7 +30,7 @@ fn text_says_true<S: Scene>(
     alloc: Global,
     scene: &S,
     known: &mut Known,
-    place: Place,
+    place: TextPlace,
     text: &str,
 ) -> Result<bool, AllocError>
     requires { IsKnownOf (S.values scene.now) known.old }
@@ -64,7 +64,7 @@ pub fn flag_at<S: Scene>(
     alloc: Global,
     scene: &S,
     known: &mut Known,
-    place: Place,
+    place: TextPlace,
     flag: &Flag,
 ) -> Result<bool, AllocError>
     requires { IsKnownOf (S.values scene.now) known.old }

@@ -72,7 +72,8 @@ impl Known {
         Ok(())
     }
 
-    /// The same with a level that is not needed any more, and is not copied.
+    /// A level laid over the variables from now on, which is not needed any more and is not copied; where memory runs out,
+    /// there are none.
     #[tactic(auto, using(crate::proofs::Making::other_known))]
     pub fn lay_own_env(&mut self, alloc: Global, above: Mapping<Text>) -> Result<(), AllocError>
         ensures ok { OnOk result (known_env self.new ≡ laid_over above (known_env self.old)) }

@@ -1,6 +1,6 @@
 //! plan_values: the values of a plan's texts where they stand.
 //!
-//! A text stands at a place (`Place`), which sees some of the contexts. A `Scene` makes the value of a
+//! A text stands at a place (`TextPlace`), which sees some of the contexts. A `Scene` makes the value of a
 //! context when it is asked, and `Known` keeps what was made and the variables that are seen as `env`: a
 //! context's value is made only where a text at hand names it and its place sees it, and none is made twice.
 //! `text_at`, `condition_at`, `flag_at`, `env_at` and `outputs_at` give the values of texts, conditions,
@@ -37,6 +37,6 @@ pub use levels::lay_over;
 pub use make::env_value;
 pub use outputs::outputs_at;
 pub use own::{is_own_env, is_own_text};
-pub use place::Place;
+pub use place::TextPlace;
 pub use scene::Scene;
 pub use texts::{condition_at, text_at};

@@ -10,7 +10,7 @@ ghost use Rattle.plan_values.specs.Places.{seen_at};
 ghost use Rattle.plan_values.specs.Values.{with_env, env_context};
 
 use crate::known::{Known, is_env};
-use crate::place::Place;
+use crate::place::TextPlace;
 use crate::scene::Scene;
 use expr_reader::{Context, Template};
 use expr_value::template_names_context;
@@ -97,7 +97,7 @@ pub(crate) fn make_named<S: Scene>(
     alloc: Global,
     scene: &S,
     known: &mut Known,
-    place: Place,
+    place: TextPlace,
     template: &Template,
 ) -> Result<(), AllocError>
     requires { IsKnownOf (S.values scene.now) known.old }

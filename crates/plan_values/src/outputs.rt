@@ -7,7 +7,7 @@ ghost use Rattle.plan_values.specs.Texts.{text_text};
 ghost use Rattle.plan_values.specs.Values.{contexts_at, with_env};
 
 use crate::known::Known;
-use crate::place::Place;
+use crate::place::TextPlace;
 use crate::scene::Scene;
 use crate::texts::text_at;
 use flow_model::{Mapping, Text, ValueFault};
@@ -18,7 +18,7 @@ fn set_output<S: Scene>(
     alloc: Global,
     scene: &S,
     known: &mut Known,
-    place: Place,
+    place: TextPlace,
     name: &str,
     text: &Text,
     made: &mut Mapping<Text>,
@@ -54,7 +54,7 @@ pub fn outputs_at<S: Scene>(
     alloc: Global,
     scene: &S,
     known: &mut Known,
-    place: Place,
+    place: TextPlace,
     outputs: &Mapping<Text>,
 ) -> Result<Mapping<Text>, AllocError>
     requires { IsKnownOf (S.values scene.now) known.old }

@@ -8,7 +8,7 @@ use expr_reader::Context;
 /// Where in a plan a text stands, which decides what contexts it
 /// sees (GitHub Docs, "Contexts reference": context availability).
 #[derive(Clone, Copy)]
-pub enum Place {
+pub enum TextPlace {
     /// The name and the cancel flag of a workflow's group.
     WorkflowGroup,
     /// A job's condition.
@@ -28,22 +28,22 @@ pub enum Place {
     StepText,
 }
 
-impl Place {
+impl TextPlace {
     /// The contexts that the place sees; the others are empty maps there.
     pub fn contexts(self) -> &'static [Context]
         ensures { result.now ≡ seen_at self }
     {
         use Context::{Env, Github, Inputs, Job, Matrix, Needs, Secrets, Steps, Strategy, Vars};
         match self {
-            Place::WorkflowGroup => &[Github, Inputs, Vars],
-            Place::JobCondition => &[Github, Inputs, Vars, Needs],
-            Place::JobGroup => &[Github, Inputs, Vars, Needs, Strategy, Matrix],
-            Place::WorkflowEnv => &[Github, Inputs, Vars, Secrets],
-            Place::JobEnv => &[Github, Inputs, Vars, Secrets, Needs, Strategy, Matrix],
-            Place::StepEnv | Place::StepText => &[
+            TextPlace::WorkflowGroup => &[Github, Inputs, Vars],
+            TextPlace::JobCondition => &[Github, Inputs, Vars, Needs],
+            TextPlace::JobGroup => &[Github, Inputs, Vars, Needs, Strategy, Matrix],
+            TextPlace::WorkflowEnv => &[Github, Inputs, Vars, Secrets],
+            TextPlace::JobEnv => &[Github, Inputs, Vars, Secrets, Needs, Strategy, Matrix],
+            TextPlace::StepEnv | TextPlace::StepText => &[
                 Github, Inputs, Vars, Secrets, Needs, Strategy, Matrix, Job, Steps, Env,
             ],
-            Place::StepCondition => &[
+            TextPlace::StepCondition => &[
                 Github, Inputs, Vars, Needs, Strategy, Matrix, Job, Steps, Env,
             ],
         }

@@ -9,7 +9,7 @@ ghost use Rattle.flow_model.specs.Mapping.{value_at};
 ghost use Rattle.plan_values.specs.Known.{contexts_by, value_made};
 
 use crate::known::Known;
-use crate::place::Place;
+use crate::place::TextPlace;
 use expr_reader::Context;
 use expr_value::Context as Contexts;
 use flow_model::Value;
@@ -17,7 +17,7 @@ use flow_model::Value;
 /// What a place sees of what was made.
 #[derive(Drop)]
 pub(crate) struct Sight<'a> {
-    pub(crate) place: Place,
+    pub(crate) place: TextPlace,
     pub(crate) known: &'a Known,
 }
 

@@ -12,9 +12,9 @@ ghost use Rattle.plan_values.specs.Known.{IsKnownOf, known_env};
 ghost use Rattle.plan_values.specs.Texts.{condition_value, read_holds, read_value, text_text, text_value};
 ghost use Rattle.plan_values.specs.Values.{contexts_at, with_env};
 
-use crate::evaluate::{condition_read_at, is_success, template_at};
+use crate::evaluate::{condition_read_at, template_at};
 use crate::known::Known;
-use crate::place::Place;
+use crate::place::TextPlace;
 use crate::scene::Scene;
 use expr_reader::{ExprFault, itself_reading, read_condition, read_template, stands_for_itself};
 use expr_value::{Status, to_text};
@@ -78,7 +78,7 @@ fn evaluated_at<S: Scene>(
     alloc: Global,
     scene: &S,
     known: &mut Known,
-    place: Place,
+    place: TextPlace,
     text: &str,
 ) -> Result<Value, ValueFault>
     requires { IsKnownOf (S.values scene.now) known.old }
@@ -99,7 +99,7 @@ pub(crate) fn value_at<S: Scene>(
     alloc: Global,
     scene: &S,
     known: &mut Known,
-    place: Place,
+    place: TextPlace,
     text: &str,
 ) -> Result<Value, ValueFault>
     requires { IsKnownOf (S.values scene.now) known.old }
@@ -125,7 +125,7 @@ pub fn text_at<S: Scene>(
     alloc: Global,
     scene: &S,
     known: &mut Known,
-    place: Place,
+    place: TextPlace,
     text: &str,
 ) -> Result<Text, ValueFault>
     requires { IsKnownOf (S.values scene.now) known.old }
@@ -153,7 +153,7 @@ pub fn condition_at<S: Scene>(
     alloc: Global,
     scene: &S,
     known: &mut Known,
-    place: Place,
+    place: TextPlace,
     condition: &Option<Text>,
     status: Status,
 ) -> Result<bool, ValueFault>
@@ -169,6 +169,6 @@ pub fn condition_at<S: Scene>(
             Ok(template) => condition_read_at(alloc, scene, known, place, &template, status),
             Err(fault) => unread_holds(fault),
         },
-        None => Ok(is_success(status)),
+        None => Ok(status.is_success()),
     }
 }
