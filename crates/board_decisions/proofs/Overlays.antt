@@ -52,7 +52,7 @@ steps_after [] i done steps made = none i
 steps_after (plan ∷ plans) zero done steps made = one_laid (planned_pair (Some plan) done) (filter_map step_pair (zip plans steps)) made
 steps_after (plan ∷ plans) (suc i) done steps made = steps_after plans i done steps made
 
--- the same for steps that are done, beside their plans
+-- what done steps set, beside their plans from a place on, is what the next sets and then the others
 pub steps_next : (plans : List StepPlan) (i : ℕ) (done : DoneStep) (steps : List DoneStep) (made : List (List ℕ × Plain))
     → laid_over (filter_map step_pair (zip (drop i plans) (done ∷ steps))) made
     ≡ laid_over (filter_map step_pair (zip (drop (i + 1) plans) steps)) (laid_over (cons_option (planned_pair (slice_get plans i) done) []) made)

@@ -27,7 +27,7 @@ use Rattle.plan_values.specs.Env.{env_value}
 use Rattle.plan_values.specs.Own.{HasNoFault}
 use Rattle.plan_values.specs.Texts.{text_text, condition_value}
 use Rattle.plan_values.specs.Values.{Env}
-use Rattle.plan_values.specs.declared.place.Place.TheVariants as place
+use Rattle.plan_values.specs.declared.place.TextPlace.TheVariants as place
 
 then_none : {A B : Type 0} (r : Result A ValueFault) (next : A → Result B ValueFault) → HasNoFault r → ((x : A) → HasNoFault (next x)) → HasNoFault (then_value r next)
 then_none (Ok x) next h k = k x

@@ -90,7 +90,7 @@ need_value need =
     object ((codes "outputs", env_context (job_outputs need.board need.place))
     ∷ (codes "result", text (result_name (job_result need.run need.job))) ∷ [])
 
--- The same at the job's id.
+-- What is seen of a job that is needed, at the job's id.
 abbrev pub need_pair : JobAt → List ℕ × Plain
 need_pair need = (need.plan.id, need_value need)
 
@@ -192,16 +192,16 @@ done_value done =
     ∷ []
     )
 
--- The same at the step's id, where it has one.
+-- What is seen of a done step, at the step's id, where it has one.
 abbrev pub id_pair : Option (List ℕ) → DoneStep → Option (List ℕ × Plain)
 id_pair None done = None
 id_pair (Some id) done = Some (id, done_value done)
 
--- The same for a step that is done beside its plan.
+-- What is seen of a done step beside its plan, at its id, where it has one.
 abbrev pub step_pair : StepPlan × DoneStep → Option (List ℕ × Plain)
 step_pair step = id_pair step.0.id step.1
 
--- The same for a step that may have no plan.
+-- What is seen of a done step that may have no plan, at its id, where it has one.
 abbrev pub planned_pair : Option StepPlan → DoneStep → Option (List ℕ × Plain)
 planned_pair None done = None
 planned_pair (Some plan) done = id_pair plan.id done

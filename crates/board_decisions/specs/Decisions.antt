@@ -25,8 +25,8 @@ use Rattle.plan_values.specs.Env.{env_value, laid_over}
 use Rattle.plan_values.specs.Outputs.{outputs_value}
 use Rattle.plan_values.specs.Texts.{text_text, condition_value, flag_value}
 use Rattle.plan_values.specs.Values.{Values, Env, contexts_at, with_env}
-use Rattle.plan_values.specs.declared.place.Place.{Place}
-use Rattle.plan_values.specs.declared.place.Place.TheVariants as place
+use Rattle.plan_values.specs.declared.place.TextPlace.{TextPlace}
+use Rattle.plan_values.specs.declared.place.TextPlace.TheVariants as place
 
 -- What follows from a value, unless there was a fault.
 abbrev pub then_value : {A B : Type 0} → Result A ValueFault → (A → Result B ValueFault) → Result B ValueFault
@@ -79,7 +79,7 @@ unfoldable pub leg_values : LegAt → Values
 leg_values at = leg_values_by (leg_result at) at
 
 -- The contexts that a place sees, seen from a leg, where `env` is these variables.
-abbrev pub seen_from : LegAt → Place → Env → Contexts
+abbrev pub seen_from : LegAt → TextPlace → Env → Contexts
 seen_from at spot env = contexts_at spot (with_env env (leg_values at))
 
 -- ---- environments
@@ -107,7 +107,7 @@ set_over done below = overlaid (map (λ step. step.env) done) below
 unfoldable pub leg_env : LegAt → Result Env ValueFault
 leg_env at = then_value (job_env at) (λ below. Ok (set_over at.leg.steps below))
 
--- The same, and those of a step over them.
+-- The variables of a leg, and those of a step over them.
 unfoldable pub step_env : LegAt → StepPlan → Result Env ValueFault
 step_env at step =
     then_value (leg_env at) (λ below.

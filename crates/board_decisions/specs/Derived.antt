@@ -200,7 +200,7 @@ some_ancestor first jobs tests zero k = false
 some_ancestor first jobs tests (suc n) k =
     list_any (λ need. holds_at tests need || some_ancestor first jobs tests n need) (needs_at first jobs k)
 
--- the same over a chain of any length: none is longer than the run has jobs
+-- whether a test holds of an ancestor, over a chain of any length: none is longer than the run has jobs
 abbrev pub any_ancestor : ℕ → List JobPlan → List Bool → ℕ → Bool
 any_ancestor first jobs tests k = some_ancestor first jobs tests (length jobs) k
 

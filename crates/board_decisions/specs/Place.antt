@@ -41,7 +41,7 @@ abbrev pub else_from : Result LegPlace ℕ → (ℕ → Option LegPlace) → Opt
 else_from (Ok place) later = Some place
 else_from (Err left) later = later left
 
--- the same, counted through the runs from place k on
+-- the place of the leg with a number, counted through the runs from place k on
 abbrev pub leg_place_from : ℕ → List Run → ℕ → Option LegPlace
 leg_place_from k [] n = None
 leg_place_from k (run ∷ runs) n =

@@ -16,7 +16,7 @@ numbers (suc n) = numbers n ++ n ∷ []
 abbrev pub sizes : List Job → List ℕ
 sizes jobs = map (λ job. length job.legs) jobs
 
--- the same for each run
+-- how many legs each job of each run has
 abbrev pub run_sizes : List Run → List (List ℕ)
 run_sizes runs = map (λ run. sizes run.jobs) runs
 

@@ -136,7 +136,8 @@ pub fn job_status(alloc: Global, first: u64, at: &SeenJob) -> Result<Status, All
     }
 }
 
-/// The same, where it may be known that each job of the run succeeded so far, so that nobody is looked for.
+/// The status of a job, whose run's first job has the number `first`. Where it is known that each job of the run succeeded
+/// so far, no ancestor is looked for.
 pub fn job_status_kept(
     alloc: Global,
     first: u64,

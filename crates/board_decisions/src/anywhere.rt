@@ -7,7 +7,6 @@ ghost use Rattle.expr_reader.specs.View.{view, views};
 ghost use Rattle.expr_reader.specs.declared.tree.Context.{Context};
 ghost use Rattle.expr_value.specs.Condition.{condition_holds};
 ghost use Rattle.expr_value.specs.Context.{Contexts};
-ghost use Rattle.expr_value.specs.Functions.{is_success as is_success_of};
 ghost use Rattle.expr_value.specs.Named.{any_names_context, expr_names_context, piece_names_context, pieces_name_context};
 ghost use Rattle.plan_values.specs.Texts.{condition_value};
 
@@ -103,16 +102,6 @@ fn text_holds_anywhere(alloc: Global, text: &str, status: Status) -> Option<bool
     }
 }
 
-/// Whether a status is success.
-fn is_success(status: Status) -> bool
-    ensures { result ≡ is_success_of status }
-{
-    match status {
-        Status::Success => true,
-        Status::Failure | Status::Cancelled | Status::Other => false,
-    }
-}
-
 /// Whether a condition holds whatever the contexts are: none does where the status is success. Nothing is told of one for
 /// which they may count.
 #[tactic(auto, unfolding(plan_values::specs::Texts::condition_value))]
@@ -126,6 +115,6 @@ pub(crate) fn holds_anywhere(
 {
     match condition {
         Some(text) => text_holds_anywhere(alloc, text.as_str(), status),
-        None => Some(is_success(status)),
+        None => Some(status.is_success()),
     }
 }

@@ -12,12 +12,12 @@ ghost use Rattle.flow_model.specs.declared.reply.ValueFault.{ValueFault as Value
 ghost use Rattle.plan_values.specs.Known.{IsKnownOf, known_env};
 ghost use Rattle.plan_values.specs.Texts.{condition_value};
 ghost use Rattle.plan_values.specs.Values.{Env, Values, contexts_at, with_env};
-ghost use Rattle.plan_values.specs.declared.place.Place.TheVariants as place;
+ghost use Rattle.plan_values.specs.declared.place.TextPlace.TheVariants as place;
 
 use crate::contexts::job_of;
 use crate::derived::{is_any_failed, is_any_step_failed};
 use crate::entrance::Entrance;
-use crate::kept::Kept;
+use crate::kept::LegKept;
 use crate::place::{SeenJob, SeenLeg, SeenRun};
 use crate::scene::{JobScene, LegScene, RunScene};
 use expr_reader::fold;
@@ -26,7 +26,7 @@ use flow_model::{
     CallWork, Duplicate, Flag, Group, Mapping, Outcome, StepCall, StepPlan, Text, ValueFault, Work,
 };
 use plan_values::{
-    Known, Place, Scene, condition_at, env_at, env_over_at, flag_at, outputs_at, text_at,
+    Known, Scene, TextPlace, condition_at, env_at, env_over_at, flag_at, outputs_at, text_at,
 };
 use std::alloc::{AllocError, Global};
 
@@ -41,7 +41,7 @@ pub fn job_condition(alloc: Global, at: &SeenJob, status: Status) -> Result<bool
         alloc,
         &JobScene { at },
         &mut known,
-        Place::JobCondition,
+        TextPlace::JobCondition,
         condition,
         status,
     )
@@ -108,7 +108,7 @@ fn counted(stops: bool, failed: bool) -> Outcome
 }
 
 /// How a leg counts so far, by what is kept of it.
-pub fn leg_result_kept(alloc: Global, at: &SeenLeg, kept: Kept) -> Result<Outcome, AllocError>
+pub fn leg_result_kept(alloc: Global, at: &SeenLeg, kept: LegKept) -> Result<Outcome, AllocError>
     requires { IsKeptOf kept (leg_seen at.now) }
     ensures { IfOk result (λ how. how ≡ spec.leg_result (leg_seen at.now)) }
 {
@@ -118,7 +118,7 @@ pub fn leg_result_kept(alloc: Global, at: &SeenLeg, kept: Kept) -> Result<Outcom
 
 /// How a leg counts so far, by what is kept of it, where nothing has to be evaluated.
 #[inline(always)]
-pub(crate) fn result_at_once(at: &SeenLeg, kept: Kept) -> Option<Outcome>
+pub(crate) fn result_at_once(at: &SeenLeg, kept: LegKept) -> Option<Outcome>
     requires { IsKeptOf kept (leg_seen at.now) }
     ensures { IfSome result (λ how. spec.leg_result (leg_seen at.now) ≡ how) }
 {
@@ -165,7 +165,14 @@ fn know_job_over(
     ensures known { IsKnownOf (leg_scene at.now) known.new }
 {
     let env = &at.job_plan.env;
-    let made = env_over_at(alloc, &LegScene { at }, known, Place::JobEnv, env, below)?;
+    let made = env_over_at(
+        alloc,
+        &LegScene { at },
+        known,
+        TextPlace::JobEnv,
+        env,
+        below,
+    )?;
     known.set_env(made);
     Ok(())
 }
@@ -182,7 +189,7 @@ fn know_job_env(alloc: Global, at: &SeenLeg, known: &mut Known) -> Result<(), Va
         alloc,
         &LegScene { at },
         known,
-        Place::WorkflowEnv,
+        TextPlace::WorkflowEnv,
         &at.run_plan.env,
     )?;
     know_job_over(alloc, at, known, flow)
@@ -231,7 +238,13 @@ fn know_step_env(
     ensures known { IsKnownOf (leg_scene at.now) known.new }
 {
     know_leg_env(alloc, at, known)?;
-    let own = env_at(alloc, &LegScene { at }, known, Place::StepEnv, &step.env)?;
+    let own = env_at(
+        alloc,
+        &LegScene { at },
+        known,
+        TextPlace::StepEnv,
+        &step.env,
+    )?;
     known.lay_own_env(alloc, own)?;
     Ok(())
 }
@@ -281,7 +294,7 @@ fn directory_value(
             alloc,
             &LegScene { at },
             known,
-            Place::StepText,
+            TextPlace::StepText,
             dir.as_str(),
         )?)),
         None => Ok(None),
@@ -309,7 +322,7 @@ fn work_value(
                 alloc,
                 &LegScene { at },
                 known,
-                Place::StepText,
+                TextPlace::StepText,
                 run.as_str(),
             )?;
             let dir = directory_value(alloc, at, known, dir)?;
@@ -320,7 +333,7 @@ fn work_value(
             })
         },
         Work::Uses { uses, given } => {
-            let given = env_at(alloc, &LegScene { at }, known, Place::StepText, given)?;
+            let given = env_at(alloc, &LegScene { at }, known, TextPlace::StepText, given)?;
             let uses = uses.copy(alloc)?;
             Ok(CallWork::Uses { uses, given })
         },
@@ -369,7 +382,7 @@ fn step_condition(
         alloc,
         &LegScene { at },
         known,
-        Place::StepCondition,
+        TextPlace::StepCondition,
         &step.condition,
         status,
     )
@@ -426,7 +439,7 @@ pub fn step_tolerates(alloc: Global, at: &SeenLeg, step: &StepPlan) -> Result<bo
         alloc,
         &LegScene { at },
         &mut known,
-        Place::StepText,
+        TextPlace::StepText,
         &step.tolerate,
     )
 }
@@ -441,7 +454,7 @@ pub fn job_tolerates(alloc: Global, at: &SeenLeg) -> Result<bool, AllocError>
         alloc,
         &LegScene { at },
         &mut Known::empty(alloc),
-        Place::JobGroup,
+        TextPlace::JobGroup,
         tolerate,
     )
 }
@@ -461,7 +474,7 @@ pub fn leg_outputs(alloc: Global, at: &SeenLeg) -> Result<Mapping<Text>, AllocEr
         alloc,
         &LegScene { at },
         &mut known,
-        Place::StepEnv,
+        TextPlace::StepEnv,
         &at.job_plan.outputs,
     )
 }
@@ -484,7 +497,7 @@ fn entrance_known<S: Scene>(
     alloc: Global,
     scene: &S,
     known: &mut Known,
-    place: Place,
+    place: TextPlace,
     group: &Group,
 ) -> Result<Option<Entrance>, ValueFault>
     requires { IsKnownOf (S.values scene.now) known.old }
@@ -502,7 +515,7 @@ fn entrance_known<S: Scene>(
 fn entrance_at<S: Scene>(
     alloc: Global,
     scene: &S,
-    place: Place,
+    place: TextPlace,
     group: &Option<Group>,
 ) -> Result<Option<Entrance>, ValueFault>
     ensures { Gives (λ group. group) result
@@ -522,7 +535,7 @@ pub fn run_entrance(alloc: Global, at: &SeenRun) -> Result<Option<Entrance>, Val
     entrance_at(
         alloc,
         &RunScene { at },
-        Place::WorkflowGroup,
+        TextPlace::WorkflowGroup,
         &at.plan.group,
     )
 }
@@ -532,5 +545,10 @@ pub fn run_entrance(alloc: Global, at: &SeenRun) -> Result<Option<Entrance>, Val
 pub fn leg_entrance(alloc: Global, at: &SeenLeg) -> Result<Option<Entrance>, ValueFault>
     ensures { Gives (λ group. group) result (spec.leg_entrance (leg_seen at.now)) }
 {
-    entrance_at(alloc, &LegScene { at }, Place::JobGroup, &at.job_plan.group)
+    entrance_at(
+        alloc,
+        &LegScene { at },
+        TextPlace::JobGroup,
+        &at.job_plan.group,
+    )
 }

@@ -11,7 +11,7 @@ pub enum Called {
     Unknown,
 }
 
-/// The same, by how the leg counts so far.
+/// Whether a step is called, by how its leg counts so far.
 #[derive(Clone, Copy)]
 pub struct Calls {
     pub success: Called,
@@ -21,7 +21,7 @@ pub struct Calls {
 
 /// What whoever keeps counts beside a board knows of a leg at once.
 #[derive(Clone, Copy)]
-pub struct Kept {
+pub struct LegKept {
     /// Whether it is to stop whatever its job's condition.
     pub stops_anyway: bool,
     /// Whether a done step counts as a failure.

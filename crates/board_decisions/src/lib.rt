@@ -16,7 +16,7 @@
 //!
 //! All are defined in `specs/`: `Place` (what is found at a number), `Numbered` (that places are in the order of the numbers),
 //! `Places`, `Derived`, `Ancestors`, `Contexts` (what the contexts of a place hold), `Decisions`, `Own` (steps of whose texts
-//! none is evaluated) and `Kept`. The crate stands on `flow_model` (plans and boards), on `plan_values` (a text's value where
+//! none is evaluated) and `LegKept`. The crate stands on `flow_model` (plans and boards), on `plan_values` (a text's value where
 //! it stands), and on `expr_reader` and `expr_value` for what these speak of.
 
 #![tactic(auto)]

@@ -17,7 +17,7 @@ ghost use Rattle.plan_values.specs.Texts.{condition_value};
 
 use crate::anywhere::holds_anywhere;
 use crate::decisions::{leg_result_kept, result_at_once, step_decision};
-use crate::kept::{Called, Calls, Kept};
+use crate::kept::{Called, Calls, LegKept};
 use crate::place::SeenLeg;
 use expr_value::Status;
 use flow_model::{JobPlan, Outcome, RunPlan, StepCall, StepPlan, Text, ValueFault, Work};
@@ -106,7 +106,7 @@ fn called_as(calls: Calls, how: Outcome) -> Called
 
 /// Whether the next step of a leg is called, where that is known by what is kept of the leg, and nothing has to be evaluated.
 #[inline(always)]
-pub fn is_called_at_once(at: &SeenLeg, kept: Kept) -> bool
+pub fn is_called_at_once(at: &SeenLeg, kept: LegKept) -> bool
     requires { IsKeptOf kept (leg_seen at.now) }
     ensures { (l : ℕ) (step : StepPlanOf) → result ≡ true
         → slice_get (leg_seen at.now).job_plan.steps (length (leg_seen at.now).leg.steps) ≡ Some step
@@ -135,7 +135,7 @@ pub fn is_step_called(
     number: u64,
     at: &SeenLeg,
     step: &StepPlan,
-    kept: Kept,
+    kept: LegKept,
 ) -> Result<bool, ValueFault>
     requires kept { IsKeptOf kept (leg_seen at.now) }
     requires next { slice_get (leg_seen at.now).job_plan.steps (length (leg_seen at.now).leg.steps)
