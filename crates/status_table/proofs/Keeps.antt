@@ -360,6 +360,6 @@ event_keeps p b worker (event.Finish l) = finish_keeps p b worker l (leg_at p b 
 event_keeps p b worker (event.Close r) = close_keeps p b r (run_at p b r)
 event_keeps p b worker (event.Cancel r) = cancel_keeps p b r (run_at p b r)
 
--- the same for each row
+-- each row keeps what a board in play keeps
 pub row_keeps : (p : Plan) (b : Board) (worker : ℕ) (e : Event) → Keeps p b (row p b worker e)
 row_keeps p b worker e = keeps_if p b (nat_le worker 15) (event_row p b worker e) (Err fault.NoSuch) (λ _. event_keeps p b worker e) (λ _. tt)

@@ -26,7 +26,7 @@ abbrev pub Decides : {T : Type 0} → Result T EventFault → Result T EventFaul
 Decides r (Ok x) = r ≡ Ok x
 Decides r (Err f) = Refuses r f
 
--- the same for what stands for a decision
+-- what stands for a decision is made as that is defined, or refused as it is; memory may run out besides
 abbrev pub DecidesAs : {X T : Type 0} → (X → T) → Result T EventFault → Result X EventFault → Type 0
 DecidesAs seen r (Ok x) = r ≡ Ok (seen x)
 DecidesAs seen r (Err f) = Refuses r f

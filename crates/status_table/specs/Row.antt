@@ -74,7 +74,7 @@ open_run b r at run_state.Waiting stop = Err fault.WrongState
 open_run b r at run_state.Going stop = Err fault.WrongState
 open_run b r at (run_state.Closed result) stop = Err fault.WrongState
 
--- the same, where there is such a run
+-- what comes of opening a run, where there is one
 abbrev pub open_found : Board → ℕ → Option RunAt → Row
 open_found b r None = Err fault.NoSuch
 open_found b r (Some at) = open_run b r at at.run.state at.run.stop
@@ -107,7 +107,7 @@ judgement_ready j at =
     then Ok (judged_state at.run.stop (job_condition at (job_status (first_of j at) at)))
     else Err fault.NeedsOpen
 
--- the same, where the run is Going and the job is Unjudged
+-- the state into which a job is judged, where the run is Going and the job is Unjudged
 abbrev pub judgement_by : ℕ → JobAt → RunState → JobState → Result JobState EventFault
 judgement_by j at run_state.Going job_state.Unjudged = judgement_ready j at
 judgement_by j at run_state.Going job_state.Open = Err fault.WrongState
@@ -125,7 +125,7 @@ abbrev pub judge_job : Board → JobPlace → Result JobState EventFault → Row
 judge_job b place (Ok state) = Ok (job_state_set b place state, moved)
 judge_job b place (Err f) = Err f
 
--- the same, where there is such a job
+-- what comes of judging a job, where there is one
 abbrev pub judge_found : Board → ℕ → Option JobAt → Row
 judge_found b j None = Err fault.NoSuch
 judge_found b j (Some at) = judge_job b at.place (judgement j at)
@@ -152,7 +152,7 @@ ask_leg b l at =
     else (if is_full at.job_plan at.job then Err fault.SlotsFull
     else (if is_stopping at then Err fault.Stopping else leg_enters b l at (leg_entrance at)))
 
--- the same, where there is such a leg
+-- what comes of a leg that asks, where there is one
 abbrev pub ask_found : Board → ℕ → Option LegAt → Row
 ask_found b l None = Err fault.NoSuch
 ask_found b l (Some at) = ask_leg b l at
@@ -174,7 +174,7 @@ drop_leg b l at =
     else (if is_stopping at then Ok (leaves b (leg_standing at.leg) (dropped b l outcome.Cancelled))
     else Err fault.NotStopping)
 
--- the same, where there is such a leg
+-- what comes of dropping a leg, where there is one
 abbrev pub drop_found : Board → ℕ → Option LegAt → Row
 drop_found b l None = Err fault.NoSuch
 drop_found b l (Some at) = drop_leg b l at
@@ -195,7 +195,7 @@ take_leg b worker at leg_state.Admitted =
 take_leg b worker at (leg_state.Running other in_call) = Err fault.WrongState
 take_leg b worker at (leg_state.Ended result tolerated) = Err fault.WrongState
 
--- the same, where there is such a leg
+-- what comes of taking a leg, where there is one
 abbrev pub take_found : Board → ℕ → Option LegAt → Row
 take_found b worker None = Err fault.NoSuch
 take_found b worker (Some at) = take_leg b worker at at.leg.state
@@ -239,7 +239,7 @@ beginning_by worker l at (Some owner) None = Err fault.WrongState
 beginning_by worker l at (Some owner) (Some step) =
     if worker == owner then Ok (decided (step_decision l at step)) else Err fault.OtherWorker
 
--- the same for the next step of a leg
+-- what beginning the next step of a leg comes to, or why it is not begun
 abbrev pub beginning : ℕ → ℕ → LegAt → Result Beginning EventFault
 beginning worker l at = beginning_by worker l at (idle_owner at.leg.state) (next_step at)
 
@@ -266,7 +266,7 @@ begin_leg b worker at (Ok (faults f)) =
     Ok (step_done b at.place worker (failed_step at), reply (what.Faulted f))
 begin_leg b worker at (Err f) = Err f
 
--- the same, where there is such a leg
+-- what comes of beginning a step of a leg, where there is one
 abbrev pub begin_found : Board → ℕ → ℕ → Option LegAt → Row
 begin_found b worker l None = Err fault.NoSuch
 begin_found b worker l (Some at) = begin_leg b worker at (beginning worker l at)
@@ -339,7 +339,7 @@ abbrev pub end_leg : Board → ℕ → LegAt → Result DoneStep EventFault → 
 end_leg b worker at (Ok done) = Ok (step_done b at.place worker done, moved)
 end_leg b worker at (Err f) = Err f
 
--- the same, where there is such a leg
+-- what comes of ending a step of a leg, where there is one
 abbrev pub end_found : Board → ℕ → Answer → Option LegAt → Row
 end_found b worker a None = Err fault.NoSuch
 end_found b worker a (Some at) = end_leg b worker at (ending worker at a)
@@ -380,7 +380,7 @@ finish_leg b l at (Ok state) =
     Ok (leaves b (leg_standing at.leg) (leg_ended b at.place l state (leg_outputs at)))
 finish_leg b l at (Err f) = Err f
 
--- the same, where there is such a leg
+-- what comes of finishing a leg, where there is one
 abbrev pub finish_found : Board → ℕ → ℕ → Option LegAt → Row
 finish_found b worker l None = Err fault.NoSuch
 finish_found b worker l (Some at) = finish_leg b l at (finishing worker at)
@@ -408,7 +408,7 @@ close_run b r run run_state.Going =
     if jobs_have_ended run then run_closes b r run (run_result run) else Err fault.NeedsOpen
 close_run b r run (run_state.Closed result) = Err fault.WrongState
 
--- the same, where there is such a run
+-- what comes of closing a run, where there is one
 abbrev pub close_found : Board → ℕ → Option RunAt → Row
 close_found b r None = Err fault.NoSuch
 close_found b r (Some at) = close_run b r at.run at.run.state
@@ -425,7 +425,7 @@ cancel_run b r run =
     if is_closed run.state || run.stop then Err fault.WrongState
     else Ok (stopped b true (member.Run r), moved)
 
--- the same, where there is such a run
+-- what comes of cancelling a run, where there is one
 abbrev pub cancel_found : Board → ℕ → Option RunAt → Row
 cancel_found b r None = Err fault.NoSuch
 cancel_found b r (Some at) = cancel_run b r at.run

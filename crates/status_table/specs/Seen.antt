@@ -65,4 +65,4 @@ abbrev pub leg_after : LegChange → Leg → Leg
 leg_after (leg_change.State state) leg = record leg { state = state }
 leg_after (leg_change.Group state group) leg = record leg { state = state; group = group }
 leg_after (leg_change.Outputs state outputs) leg = record leg { state = state; outputs = outputs }
-leg_after leg_change.Stop leg = record leg { stop = true }
+leg_after (leg_change.Stop stop) leg = record leg { stop = stop }

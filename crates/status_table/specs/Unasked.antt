@@ -18,12 +18,12 @@ begins_of (calls call) = Calls
 begins_of skips = Skips
 begins_of (faults f) = Faults
 
--- the same, or why it is not begun
+-- what beginning a step comes to, without its call or its fault; or why it is not begun
 abbrev pub begins_by : Result Beginning EventFault → Result Begins EventFault
 begins_by (Ok x) = Ok (begins_of x)
 begins_by (Err f) = Err f
 
--- the same by whether the step is called
+-- what beginning a step comes to, by whether the step is called
 abbrev pub begins_called : Result Bool ValueFault → Begins
 begins_called (Ok true) = Calls
 begins_called (Ok false) = Skips

@@ -36,10 +36,10 @@ pub enum LegChange {
     State(LegState),
     /// It comes into a state, and into a group or none.
     Group(LegState, Option<Text>),
-    /// It comes into a state, and has its outputs.
+    /// It comes into a state, and has these outputs.
     Outputs(LegState, Mapping<Text>),
-    /// It is told to stop.
-    Stop,
+    /// Whether it is told to stop.
+    Stop(bool),
 }
 
 /// Changes a leg.
@@ -56,7 +56,7 @@ fn change(leg: &mut Leg, change: LegChange)
             leg.state = state;
             leg.outputs = outputs;
         },
-        LegChange::Stop => leg.stop = true,
+        LegChange::Stop(stop) => leg.stop = stop,
     }
 }
 

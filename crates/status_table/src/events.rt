@@ -30,7 +30,7 @@ use board_decisions::decisions::{
 use board_decisions::derived::{
     is_closed, is_failure, is_full, is_untaken, jobs_have_ended, needs_have_ended, run_result,
 };
-use board_decisions::kept::Kept;
+use board_decisions::kept::LegKept;
 use board_decisions::place::{SeenJob, SeenLeg, find_job, find_leg, find_run};
 use flow_model::{
     Answer, Board, DoneStep, JobState, LegState, Mapping, Outcome, Plan, Reply, RunState, StepCall,
@@ -551,24 +551,30 @@ pub fn ending(
     Ok((outcome, conclusion))
 }
 
+/// The end of the call of a leg, which is answered so.
+#[derive(Drop)]
+pub(crate) struct CallEnd {
+    pub(crate) leg: u64,
+    pub(crate) answer: Answer,
+}
+
 /// Ends the step of a leg that is in a call.
 pub(crate) fn end(
     alloc: Global,
     plan: &Plan,
     board: &mut Board,
     worker: u8,
-    number: u64,
-    answer: Answer,
+    call: CallEnd,
 ) -> Result<Reply, EventFault>
-    ensures { Answers (spec.end_row plan.now board.old worker number answer)
+    ensures { Answers (spec.end_row plan.now board.old worker call.leg call.answer)
         board.old result board.new }
 {
-    let Some(at) = find_leg(plan, board, number as usize) else {
+    let Some(at) = find_leg(plan, board, call.leg as usize) else {
         return Err(EventFault::NoSuch);
     };
     let place = at.place;
-    let (outcome, conclusion) = ending(alloc, worker, &at, &answer)?;
-    let done = ended_step(alloc, outcome, conclusion, answer);
+    let (outcome, conclusion) = ending(alloc, worker, &at, &call.answer)?;
+    let done = ended_step(alloc, outcome, conclusion, call.answer);
     add_step(board, place, worker, done)?;
     Ok(moved())
 }
@@ -611,12 +617,12 @@ pub fn finishing(alloc: Global, worker: u8, at: &SeenLeg) -> Result<LegState, Ev
     Ok(ended_state(alloc, at, how)?)
 }
 
-/// The same by what is kept of the leg.
+/// The state in which a worker ends a leg, or why it may not, by what is kept of the leg.
 pub fn finishing_kept(
     alloc: Global,
     worker: u8,
     at: &SeenLeg,
-    kept: Kept,
+    kept: LegKept,
 ) -> Result<LegState, EventFault>
     requires { IsKeptOf kept (leg_seen at.now) }
     ensures { Decides (spec.finishing worker (leg_seen at.now)) result }

@@ -16,7 +16,7 @@ use crate::fault::EventFault;
 use crate::members::{
     Role, admit, close_run, delay, drop_leg, find_member, note_end, put_out, stop,
 };
-use board_decisions::entrance::Entrance;
+use board_decisions::entrance::{Entrance, Entrant};
 use flow_model::{
     Board, Leg, LegState, Member, Outcome, Reply, Run, RunState, Text, ValueFault, What,
 };
@@ -92,42 +92,42 @@ fn queue(
 /// What comes of a member that enters a group, by who holds its name and who waits for it.
 fn enter_held(
     board: &mut Board,
-    who: Member,
-    own: Option<u64>,
+    entrant: Entrant,
     group: Entrance,
     held: Option<Member>,
     waited: Option<Member>,
 ) -> Result<Reply, EventFault>
-    ensures { Answers (Ok (spec.enters_held board.old who own group held waited))
+    ensures { Answers
+        (Ok (spec.enters_held board.old entrant.who entrant.own group held waited))
         board.old result board.new }
 {
     let Some(holder) = held else {
-        admit(board, Some(group.name), who);
-        return Ok(told(Some(who), None, None));
+        admit(board, Some(group.name), entrant.who);
+        return Ok(told(Some(entrant.who), None, None));
     };
-    if is_own(own, holder) {
-        return cancel(board, who);
+    if is_own(entrant.own, holder) {
+        return cancel(board, entrant.who);
     }
-    queue(board, who, group, holder, waited)
+    queue(board, entrant.who, group, holder, waited)
 }
 
-/// A member, with the run that it is a leg of, if it is one, enters its group, or none.
+/// A member enters its group, or none.
 pub(crate) fn enter(
     board: &mut Board,
-    who: Member,
-    own: Option<u64>,
+    entrant: Entrant,
     group: Option<Entrance>,
 ) -> Result<Reply, EventFault>
     requires { HasFewLegs board.old }
-    ensures { Answers (Ok (spec.enters board.old who own group)) board.old result board.new }
+    ensures { Answers (Ok (spec.enters board.old entrant.who entrant.own group))
+        board.old result board.new }
 {
     let Some(group) = group else {
-        admit(board, None, who);
-        return Ok(told(Some(who), None, None));
+        admit(board, None, entrant.who);
+        return Ok(told(Some(entrant.who), None, None));
     };
     let held = find_member(board, Role::Holder, group.name.as_str());
     let waited = find_member(board, Role::Waiter, group.name.as_str());
-    enter_held(board, who, own, group, held, waited)
+    enter_held(board, entrant, group, held, waited)
 }
 
 /// A run enters its group; a fault of the group's text ends it.
@@ -141,7 +141,13 @@ pub(crate) fn enter_run(
         → Answers (run_enters board.old number value) board.old result board.new }
 {
     match group {
-        Ok(group) => enter(board, Member::Run(number), None, group),
+        Ok(group) => {
+            let entrant = Entrant {
+                who: Member::Run(number),
+                own: None,
+            };
+            enter(board, entrant, group)
+        },
         Err(ValueFault::Memory) => Err(EventFault::Memory),
         Err(
             ValueFault::NotWhole
@@ -169,7 +175,13 @@ pub(crate) fn enter_leg(
         → Answers (leg_enters board.old number at value) board.old result board.new }
 {
     match group {
-        Ok(group) => enter(board, Member::Leg(number), Some(own), group),
+        Ok(group) => {
+            let entrant = Entrant {
+                who: Member::Leg(number),
+                own: Some(own),
+            };
+            enter(board, entrant, group)
+        },
         Err(ValueFault::Memory) => Err(EventFault::Memory),
         Err(
             ValueFault::NotWhole

@@ -180,7 +180,7 @@ pub(crate) fn stop(board: &mut Board, wanted: bool, who: Member)
     }
     match who {
         Member::Run(number) => stop_run(board, number),
-        Member::Leg(number) => change_leg(board, number, LegChange::Stop),
+        Member::Leg(number) => change_leg(board, number, LegChange::Stop(true)),
     }
 }
 

@@ -16,7 +16,7 @@ use std::alloc::{AllocError, Global};
 
 /// The kinds of a clerk's events.
 #[derive(Clone, Copy)]
-pub enum Kind {
+pub enum MoveKind {
     Close,
     Open,
     Judge,
@@ -25,15 +25,15 @@ pub enum Kind {
 }
 
 /// The event of a kind with a number.
-pub fn event_of(kind: Kind, number: u64) -> Event
+pub fn event_of(kind: MoveKind, number: u64) -> Event
     ensures { result ≡ spec.event_of kind number }
 {
     match kind {
-        Kind::Close => Event::Close { run: number },
-        Kind::Open => Event::Open { run: number },
-        Kind::Judge => Event::Judge { job: number },
-        Kind::Drop => Event::Drop { leg: number },
-        Kind::Ask => Event::Ask { leg: number },
+        MoveKind::Close => Event::Close { run: number },
+        MoveKind::Open => Event::Open { run: number },
+        MoveKind::Judge => Event::Judge { job: number },
+        MoveKind::Drop => Event::Drop { leg: number },
+        MoveKind::Ask => Event::Ask { leg: number },
     }
 }
 
@@ -121,38 +121,44 @@ fn accepts(
     alloc: Global,
     plan: &Plan,
     board: &Board,
-    kind: Kind,
+    kind: MoveKind,
     number: u64,
 ) -> Result<bool, AllocError>
     ensures { IfOk result
         (λ yes. yes ≡ rule.accepts plan.now board.now (spec.event_of kind number)) }
 {
     match kind {
-        Kind::Close => Ok(closes(plan, board, number)),
-        Kind::Open => Ok(opens(plan, board, number)),
-        Kind::Judge => Ok(judges(plan, board, number)),
-        Kind::Drop => drops(alloc, plan, board, number),
-        Kind::Ask => asks(alloc, plan, board, number),
+        MoveKind::Close => Ok(closes(plan, board, number)),
+        MoveKind::Open => Ok(opens(plan, board, number)),
+        MoveKind::Judge => Ok(judges(plan, board, number)),
+        MoveKind::Drop => drops(alloc, plan, board, number),
+        MoveKind::Ask => asks(alloc, plan, board, number),
     }
 }
 
-/// The events of a kind that the table accepts, by ascending number, after others.
+/// The events of a kind with the numbers below a count.
+#[derive(Clone, Copy)]
+struct Candidates {
+    kind: MoveKind,
+    count: usize,
+}
+
+/// Those of some events that the table accepts, by ascending number, after others.
 #[tactic(auto, using(crate::proofs::Accepting::one_more, crate::proofs::Accepting::none_more))]
 fn add_moves(
     alloc: Global,
     plan: &Plan,
     board: &Board,
-    kind: Kind,
-    count: usize,
+    candidates: Candidates,
     events: Vec<Event>,
 ) -> Result<Vec<Event>, AllocError>
-    ensures { IfOk result (λ all. all.items
-        ≡ events.items ++ filter (rule.accepts plan.now board.now) (spec.events_of kind count)) }
+    ensures { IfOk result (λ all. all.items ≡ events.items ++ filter
+        (rule.accepts plan.now board.now) (spec.events_of candidates.kind candidates.count)) }
 {
     let mut all = events;
-    for number in 0..count {
-        if accepts(alloc, plan, board, kind, number as u64)? {
-            all.push(event_of(kind, number as u64))?;
+    for number in 0..candidates.count {
+        if accepts(alloc, plan, board, candidates.kind, number as u64)? {
+            all.push(event_of(candidates.kind, number as u64))?;
         }
     }
     Ok(all)
@@ -173,7 +179,7 @@ pub fn count_jobs(runs: &[Run]) -> usize
 
 /// How many legs some jobs have.
 #[tactic(auto, using(crate::proofs::Accepting::first_within))]
-fn count_legs_of(jobs: &[Job]) -> usize
+pub fn count_legs_of(jobs: &[Job]) -> usize
     requires { sum_by (λ job. length job.legs) jobs.now ≤ 4096 }
     ensures { result ≡ sum_by (λ job. length job.legs) jobs.now }
 {
@@ -210,9 +216,29 @@ pub(crate) fn find_moves(
     let runs = board.runs.as_slice();
     let jobs = count_jobs(runs);
     let legs = count_legs(runs);
-    let closed = add_moves(alloc, plan, board, Kind::Close, runs.len(), Vec::new(alloc))?;
-    let opened = add_moves(alloc, plan, board, Kind::Open, runs.len(), closed)?;
-    let judged = add_moves(alloc, plan, board, Kind::Judge, jobs, opened)?;
-    let dropped = add_moves(alloc, plan, board, Kind::Drop, legs, judged)?;
-    add_moves(alloc, plan, board, Kind::Ask, legs, dropped)
+    let close = Candidates {
+        kind: MoveKind::Close,
+        count: runs.len(),
+    };
+    let open = Candidates {
+        kind: MoveKind::Open,
+        count: runs.len(),
+    };
+    let judge = Candidates {
+        kind: MoveKind::Judge,
+        count: jobs,
+    };
+    let discard = Candidates {
+        kind: MoveKind::Drop,
+        count: legs,
+    };
+    let ask = Candidates {
+        kind: MoveKind::Ask,
+        count: legs,
+    };
+    let closed = add_moves(alloc, plan, board, close, Vec::new(alloc))?;
+    let opened = add_moves(alloc, plan, board, open, closed)?;
+    let judged = add_moves(alloc, plan, board, judge, opened)?;
+    let dropped = add_moves(alloc, plan, board, discard, judged)?;
+    add_moves(alloc, plan, board, ask, dropped)
 }

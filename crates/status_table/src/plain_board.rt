@@ -9,7 +9,7 @@ ghost use Rattle.status_table.specs.Row.{event_row};
 ghost use Rattle.status_table.specs.Runs.{new_play};
 ghost use Rattle.status_table.specs.Shape.{HasFewLegs};
 
-use crate::events::{ask, begin, cancel, close, discard, end, finish, judge, open, take};
+use crate::events::{CallEnd, ask, begin, cancel, close, discard, end, finish, judge, open, take};
 use crate::fault::EventFault;
 use crate::moves::find_moves;
 use crate::new_board::make_board;
@@ -94,7 +94,7 @@ fn apply_event(
         Event::Drop { leg } => discard(alloc, plan, board, leg),
         Event::Take { leg } => take(alloc, plan, board, worker, leg),
         Event::Begin { leg } => begin(alloc, plan, board, worker, leg),
-        Event::End { leg, answer } => end(alloc, plan, board, worker, leg, answer),
+        Event::End { leg, answer } => end(alloc, plan, board, worker, CallEnd { leg, answer }),
         Event::Finish { leg } => finish(alloc, plan, board, worker, leg),
         Event::Close { run } => close(plan, board, run),
         Event::Cancel { run } => cancel(plan, board, run),

@@ -14,7 +14,7 @@ use crate::table::Table;
 use flow_model::{Entry, Reply};
 
 /// A plan in play whose entries can be taken back, the last one first.
-pub trait Reversible: Table {
+pub trait Reversible: Table + Drop {
     /// What takes one entry back. It stands for two boards: the one
     /// that it fits, which the entry led to, and the one before it.
     type Undo: Drop + Send;

@@ -13,7 +13,7 @@ ghost use Rattle.status_table.specs.Unasked.{begins_by, begins_called};
 
 use crate::events::{calling_owner, step_to_begin};
 use crate::fault::EventFault;
-use board_decisions::kept::Kept;
+use board_decisions::kept::LegKept;
 use board_decisions::place::SeenLeg;
 use board_decisions::unasked::{is_called_at_once, is_step_called};
 use flow_model::{Answer, Outcome, ValueFault};
@@ -53,7 +53,7 @@ pub fn beginning_unasked(
     worker: u8,
     number: u64,
     at: &SeenLeg,
-    kept: Kept,
+    kept: LegKept,
 ) -> Result<Begins, EventFault>
     requires { IsKeptOf kept (leg_seen at.now) }
     ensures { Decides (begins_by (beginning worker number (leg_seen at.now))) result }
@@ -66,7 +66,7 @@ pub fn beginning_unasked(
 /// evaluated.
 #[inline(always)]
 #[tactic(auto, using(crate::proofs::WithoutReply::begins_calling))]
-pub fn is_begun_at_once(worker: u8, at: &SeenLeg, kept: Kept) -> bool
+pub fn is_begun_at_once(worker: u8, at: &SeenLeg, kept: LegKept) -> bool
     requires { IsKeptOf kept (leg_seen at.now) }
     ensures { (l : ℕ) → result ≡ true
         → begins_by (beginning worker l (leg_seen at.now)) ≡ Ok Begins.Calls }

@@ -5,7 +5,7 @@ use Rattle.flow_model.specs.declared.board.Run.{Run}
 use Rattle.flow_model.specs.declared.event.Event.{Event}
 use Rattle.status_table.specs.Kinds.{events_of}
 use Rattle.status_table.specs.Moves.{accepts}
-use Rattle.status_table.specs.declared.moves.Kind.TheVariants as kind
+use Rattle.status_table.specs.declared.moves.MoveKind.TheVariants as kind
 use Rattle.status_table.proofs.Accepting.{in_order, jobs_counted, legs_counted}
 use Rattle.status_table.proofs.moves.find_moves.Goals as goal
 
