@@ -14,10 +14,11 @@ use Rattle.flow_model.specs.declared.board.JobState.{JobState}
 use Rattle.flow_model.specs.declared.board.Leg.{Leg}
 use Rattle.flow_model.specs.declared.board.LegState.{LegState}
 use Rattle.flow_model.specs.declared.board.Run.{Run}
-use Rattle.board_counters.specs.Changes.{leg_after, step_taken}
+use Rattle.board_counters.specs.Changes.{step_taken}
+use Rattle.status_table.specs.Seen.{leg_after}
 use Rattle.board_counters.specs.Failing.{any_failed, failing_at, failing_noted, failing_of, failing_set, failing_taken, job_failing, leg_failed, leg_failing, or_false, run_failing}
-use Rattle.board_counters.specs.declared.change.LegChange.{LegChange}
-use Rattle.board_counters.specs.declared.change.LegChange.TheVariants as leg_change
+use Rattle.status_table.specs.declared.change.LegChange.{LegChange}
+use Rattle.status_table.specs.declared.change.LegChange.TheVariants as leg_change
 use Rattle.board_counters.proofs.Lists.{map-changed, map-same}
 use Rattle.board_decisions.proofs.Lists.{map-get, map-past}
 use Rattle.board_counters.proofs.Tallies.{leg_there_changed, there}

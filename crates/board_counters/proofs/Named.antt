@@ -11,10 +11,11 @@ use Rattle.flow_model.specs.declared.board.Job.{Job}
 use Rattle.flow_model.specs.declared.board.JobState.{JobState}
 use Rattle.flow_model.specs.declared.board.Leg.{Leg}
 use Rattle.flow_model.specs.declared.plan.Plan.{Plan}
-use Rattle.board_counters.specs.Changes.{leg_after, leg_before, leg_was, run_after, run_before, run_was}
+use Rattle.board_counters.specs.Changes.{leg_before, leg_was, run_after, run_before, run_was}
+use Rattle.status_table.specs.Seen.{leg_after}
 use Rattle.board_counters.specs.Names.{IsGroup, IsName, JobIsNamed, RunIsNamed, IsNamed, LegComesNamed, RunComesNamed, Names, leg_group, run_group}
-use Rattle.board_counters.specs.declared.change.LegChange.{LegChange}
-use Rattle.board_counters.specs.declared.change.LegChange.TheVariants as leg_change
+use Rattle.status_table.specs.declared.change.LegChange.{LegChange}
+use Rattle.status_table.specs.declared.change.LegChange.TheVariants as leg_change
 use Rattle.board_counters.specs.declared.change.RunChange.{RunChange}
 use Rattle.board_counters.specs.declared.change.RunChange.TheVariants as run_change
 use Rattle.board_counters.proofs.Lists.{each-changed}

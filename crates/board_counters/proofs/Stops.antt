@@ -1,16 +1,17 @@
 -- How many legs of a run are told to stop, after a change.
-use Rattle.std.proofs.Common.{◌≡◌, ℕ, suc, ◌+◌, ◌<◌, ◌≤◌, Bool, true, false, List, Option, Some, None, length, map, option_map, slice_get, get_or, take, nat_lt, count_by, sum_by, if◌then◌else◌, ap, sym, refl, ◌∙◌, arith}
+use Rattle.std.proofs.Common.{◌≡◌, ℕ, suc, ◌+◌, ◌<◌, ◌≤◌, Bool, true, false, List, Option, Some, None, length, map, option_map, slice_get, get_or, nat_lt, count_by, sum_by, if◌then◌else◌, ap, sym, refl, ◌∙◌, arith}
 use Rattle.std.proofs.lemmas.Bool.Decides.{nat_tests}
-use Rattle.std.proofs.lemmas.List.Sums.{get_or-le-sum_by, sum_by-le-sum_by, sum_by-take-le}
+use Rattle.std.proofs.lemmas.List.Sums.{get_or-le-sum_by, sum_by-le-sum_by}
 use Rattle.board_decisions.proofs.Lists.{map-get}
 use Rattle.board_decisions.specs.Numbered.{leg_there}
 use Rattle.board_decisions.specs.Place.{◌>>=◌}
 use Rattle.board_decisions.specs.declared.place.LegPlace.{LegPlace}
-use Rattle.board_counters.specs.Changes.{leg_after, leg_was, stop_in}
+use Rattle.board_counters.specs.Changes.{leg_was, stop_in}
+use Rattle.status_table.specs.Seen.{leg_after}
 use Rattle.board_counters.specs.Counters.{turned}
 use Rattle.board_counters.specs.Stopping.{is_told, legs_of_jobs, run_legs, run_legs_there, told_of, told_turned, untold_legs}
-use Rattle.board_counters.specs.declared.change.LegChange.{LegChange}
-use Rattle.board_counters.specs.declared.change.LegChange.TheVariants as leg_change
+use Rattle.status_table.specs.declared.change.LegChange.{LegChange}
+use Rattle.status_table.specs.declared.change.LegChange.TheVariants as leg_change
 use Rattle.board_counters.specs.declared.stopping.RunLegs.{RunLegs}
 use Rattle.board_counters.proofs.Lists.{changed-none, map-changed, map-same, map-twice, not-counted}
 use Rattle.board_counters.proofs.Tallies.{there, turned_same}
@@ -30,9 +31,6 @@ use Rattle.status_table.proofs.InPlay.{few_in_play, new_in_play}
 use Rattle.status_table.proofs.Lists.{length-changed}
 
 -- ---- sums as they are counted
-
-pub first_within : {A : Type 0} (f : A → ℕ) (xs : List A) (i : ℕ) → sum_by f (take i xs) ≤ sum_by f xs
-first_within f xs i = sum_by-take-le f xs i
 
 pub one_within : {A : Type 0} (f : A → ℕ) (xs : List A) (i : ℕ) (d : A) → i < length xs → f (get_or xs i d) ≤ sum_by f xs
 one_within f xs i d within = get_or-le-sum_by f xs i d within

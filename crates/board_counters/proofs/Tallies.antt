@@ -11,10 +11,11 @@ use Rattle.flow_model.specs.declared.board.JobState.{JobState}
 use Rattle.flow_model.specs.declared.board.Leg.{Leg}
 use Rattle.flow_model.specs.declared.board.LegState.{LegState}
 use Rattle.flow_model.specs.declared.board.LegState.TheVariants as leg_state
-use Rattle.board_counters.specs.Changes.{CameTo, leg_after, leg_was, retallied, state_in, state_of, state_there}
+use Rattle.board_counters.specs.Changes.{CameTo, leg_was, retallied, state_in, state_of, state_there}
+use Rattle.status_table.specs.Seen.{leg_after}
 use Rattle.board_counters.specs.Counters.{counts, counted, tally_of, tallies_of, turned, moved}
-use Rattle.board_counters.specs.declared.change.LegChange.{LegChange}
-use Rattle.board_counters.specs.declared.change.LegChange.TheVariants as leg_change
+use Rattle.status_table.specs.declared.change.LegChange.{LegChange}
+use Rattle.status_table.specs.declared.change.LegChange.TheVariants as leg_change
 use Rattle.board_counters.specs.declared.tally.Tally.{Tally}
 use Rattle.board_counters.specs.declared.tally.Counter.{Counter}
 use Rattle.board_counters.specs.declared.tally.Counter.TheVariants as counter

@@ -15,8 +15,8 @@ use Rattle.status_table.specs.Change.{changed}
 use Rattle.board_counters.specs.Counters.{moved, need_turned}
 use Rattle.board_counters.specs.Dependents.{dependents_at}
 use Rattle.board_counters.specs.Standing.{run_moved, standing_read}
-use Rattle.board_counters.specs.declared.change.LegChange.{LegChange}
-use Rattle.board_counters.specs.declared.change.LegChange.TheVariants as leg_change
+use Rattle.status_table.specs.declared.change.LegChange.{LegChange}
+use Rattle.status_table.specs.declared.change.LegChange.TheVariants as leg_change
 use Rattle.board_counters.specs.declared.change.RunChange.{RunChange}
 use Rattle.board_counters.specs.declared.change.RunChange.TheVariants as run_change
 use Rattle.board_counters.specs.declared.counts.Counts.{Counts}
@@ -38,17 +38,10 @@ run_before (run_change.State state) run = run_change.State run.state
 run_before (run_change.Group state group) run = run_change.Group run.state run.group
 run_before (run_change.Stop stop) run = run_change.Stop run.stop
 
--- the same of a run that may be there
+-- what a run had of what is changed, if it is there
 abbrev pub run_was : RunChange → Option Run → RunChange
 run_was how None = how
 run_was how (Some run) = run_before how run
-
--- a leg after a change
-abbrev pub leg_after : LegChange → Leg → Leg
-leg_after (leg_change.State state) leg = record leg { state = state }
-leg_after (leg_change.Group state group) leg = record leg { state = state; group = group }
-leg_after (leg_change.Outputs state outputs) leg = record leg { state = state; outputs = outputs }
-leg_after (leg_change.Stop stop) leg = record leg { stop = stop }
 
 -- the state into which a leg comes; one whose stop flag is set stays in its own, for which one stands that counts like itself
 abbrev pub state_in : LegChange → LegState
@@ -71,7 +64,7 @@ leg_before (leg_change.Group state group) leg = leg_change.Group leg.state leg.g
 leg_before (leg_change.Outputs state outputs) leg = leg_change.Outputs leg.state leg.outputs
 leg_before (leg_change.Stop stop) leg = leg_change.Stop leg.stop
 
--- the same of a leg that may be there
+-- what a leg had of what is changed, if it is there
 abbrev pub leg_was : LegChange → Option Leg → LegChange
 leg_was how None = how
 leg_was how (Some leg) = leg_before how leg

@@ -40,7 +40,7 @@ tally_of job =
       cancelled = counted counter.Cancelled job.legs;
     }
 
--- the same for each job of each run
+-- how the legs of each job of each run stand
 abbrev pub tallies_of : Board → List (List Tally)
 tallies_of b = map (λ run. map tally_of run.jobs) b.runs
 
@@ -90,11 +90,11 @@ open_among first settled needs = count_by (λ need. not (holds_at settled (need 
 abbrev pub need_of : ℕ → List Bool → JobPlan → Need
 need_of first settled plan = record { all = length plan.needs; pending = open_among first settled plan.needs }
 
--- the same for each job of a run
+-- what each job of a run needs
 abbrev pub run_needs : RunPlan → Run → List Need
 run_needs plan run = map (need_of (first_number plan.jobs) (settled_jobs run)) plan.jobs
 
--- the same for each run
+-- what each job of each run needs
 abbrev pub needs_of : List RunPlan → List Run → List (List Need)
 needs_of [] runs = []
 needs_of (plan ∷ plans) [] = []

@@ -21,12 +21,12 @@ dependents_from first j k (plan ∷ plans) =
 abbrev pub dependents_of : List JobPlan → ℕ → List ℕ
 dependents_of plans j = dependents_from (first_number plans) j 0 plans
 
--- the same for each of a run's jobs, from one on, of which there are as many as counts of legs
+-- the places of those that need each of a run's jobs, from one on, of which there are as many as counts of legs
 abbrev pub dependents_each : List JobPlan → ℕ → List ℕ → List (List ℕ)
 dependents_each plans j [] = []
 dependents_each plans j (count ∷ counts) = dependents_of plans j ∷ dependents_each plans (suc j) counts
 
--- the same for each run
+-- the places of those that need each job, for each run
 abbrev pub all_dependents : List RunPlan → List (List ℕ) → List (List (List ℕ))
 all_dependents [] sizes = []
 all_dependents (plan ∷ plans) [] = []
@@ -48,7 +48,7 @@ abbrev pub noted : ℕ → ℕ → List ℕ → List (List ℕ) → List (List �
 noted first k [] lists = lists
 noted first k (need ∷ needs) lists = noted first k needs (changed lists (need - first) (λ list. list ++ k ∷ []))
 
--- the same after all jobs, from place k on
+-- the places after those of all jobs' needs, from place k on, have got theirs
 abbrev pub all_noted : ℕ → ℕ → List JobPlan → List (List ℕ) → List (List ℕ)
 all_noted first k [] lists = lists
 all_noted first k (plan ∷ plans) lists = all_noted first (suc k) plans (noted first k plan.needs lists)

@@ -19,7 +19,7 @@ any_failed steps = list_any (λ step. is_failure step.conclusion) steps
 abbrev pub leg_failing : Leg → Bool
 leg_failing leg = any_failed leg.steps
 
--- the same of each leg of a job
+-- whether a done step of each leg of a job does
 abbrev pub job_failing : Job → List Bool
 job_failing job = map leg_failing job.legs
 

@@ -18,7 +18,7 @@ use Rattle.flow_model.specs.declared.plan.RunPlan.{RunPlan}
 abbrev pub TellsSteps : RunPlan → JobPlan → List Calls → Type 0
 TellsSteps run job calls = AllZip (AreCallsOf run job) job.steps calls
 
--- the same of all its jobs
+-- What is told of each step of all jobs of a workflow is so.
 abbrev pub TellsJobs : RunPlan → List (List Calls) → Type 0
 TellsJobs run calls = AllZip (TellsSteps run) run.jobs calls
 

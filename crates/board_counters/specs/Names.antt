@@ -1,8 +1,8 @@
 -- The names of groups as they stand on a board.
 use Rattle.std.specs.Prelude.{◌≡◌, ◌≢◌, ℕ, List, [], Option, Some, None}
 use Rattle.expr_reader.specs.Fold.{fold}
-use Rattle.board_counters.specs.declared.change.LegChange.{LegChange}
-use Rattle.board_counters.specs.declared.change.LegChange.TheVariants as leg_change
+use Rattle.status_table.specs.declared.change.LegChange.{LegChange}
+use Rattle.status_table.specs.declared.change.LegChange.TheVariants as leg_change
 use Rattle.board_counters.specs.declared.change.RunChange.{RunChange}
 use Rattle.board_counters.specs.declared.change.RunChange.TheVariants as run_change
 use Rattle.flow_model.specs.Sound.{Each}
@@ -56,7 +56,7 @@ leg_group (leg_change.Group state group) = group
 leg_group (leg_change.Outputs state outputs) = None
 leg_group (leg_change.Stop stop) = None
 
--- the same of a run
+-- the group into which a run comes by a change, if it comes into one
 abbrev pub run_group : RunChange → Option (List ℕ)
 run_group (run_change.State state) = None
 run_group (run_change.Group state group) = group

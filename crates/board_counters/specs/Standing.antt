@@ -98,13 +98,13 @@ standing_by job_state.Unjudged t =
       may_drop = false;
     }
 
--- the same of a job and a tally that may be there
+-- how a job stands by its tally, where both are there
 abbrev pub standing_given : Option Job → Option Tally → JobStanding
 standing_given None tally = no_standing
 standing_given (Some job) None = no_standing
 standing_given (Some job) (Some t) = standing_by job.state t
 
--- the same at a place of a run with a row of tallies
+-- how the job at a place of a run stands, by a row of tallies
 abbrev pub standing_read : Option Run → Option (List Tally) → ℕ → JobStanding
 standing_read None row j = no_standing
 standing_read (Some run) None j = no_standing

@@ -18,7 +18,7 @@ told_of job = count_by (λ leg. leg.stop) job.legs
 abbrev pub run_legs : Run → RunLegs
 run_legs run = record { all = legs_of_jobs run.jobs; told = sum_by told_of run.jobs }
 
--- the same where none of them is
+-- how many legs the jobs of a run have, of which none is told to
 abbrev pub untold_legs : Run → RunLegs
 untold_legs run = record { all = legs_of_jobs run.jobs; told = 0 }
 

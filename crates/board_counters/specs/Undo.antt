@@ -1,6 +1,7 @@
 -- To which board changes lead back.
 use Rattle.std.specs.Prelude.{List, [], ◌∷◌}
-use Rattle.board_counters.specs.Changes.{leg_after, run_after, step_taken, unnoted}
+use Rattle.board_counters.specs.Changes.{run_after, step_taken, unnoted}
+use Rattle.status_table.specs.Seen.{leg_after}
 use Rattle.board_counters.specs.declared.undo.Change.{Change}
 use Rattle.board_counters.specs.declared.undo.Change.TheVariants as change
 use Rattle.board_counters.specs.declared.undo.OnlyChange.{OnlyChange}

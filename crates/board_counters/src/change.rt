@@ -6,26 +6,13 @@ ghost use Rattle.board_decisions.specs.Numbered.{job_there, leg_there};
 ghost use Rattle.board_counters.specs.Changes as spec;
 ghost use Rattle.status_table.specs.Change.{with_leg, with_run};
 ghost use Rattle.status_table.specs.Row.{leg_state_set, step_done};
+ghost use Rattle.status_table.specs.Seen.{leg_after};
 
 use board_decisions::place::{JobPlace, LegPlace, item_at};
-use flow_model::{
-    Board, DoneStep, Job, JobState, Leg, LegState, Mapping, Run, RunState, Sequence, Text,
-};
+use flow_model::{Board, DoneStep, Job, JobState, Leg, LegState, Run, RunState, Sequence, Text};
+use status_table::change::LegChange;
 use std::alloc::{AllocError, Global};
 use std::mem;
-
-/// What happens to a leg at once.
-#[derive(Drop)]
-pub enum LegChange {
-    /// It comes into a state.
-    State(LegState),
-    /// It comes into a state, and into a group or none.
-    Group(LegState, Option<Text>),
-    /// It comes into a state, and has these outputs.
-    Outputs(LegState, Mapping<Text>),
-    /// Whether it is told to stop.
-    Stop(bool),
-}
 
 /// What happens to a run at once.
 #[derive(Drop)]
@@ -62,7 +49,7 @@ pub(crate) fn stop_in(how: &LegChange) -> bool
 
 /// Changes a leg, and gives what was there.
 fn exchange_leg(leg: &mut Leg, how: LegChange) -> LegChange
-    ensures leg { leg.new ≡ spec.leg_after how leg.old }
+    ensures leg { leg.new ≡ leg_after how leg.old }
     ensures was { result ≡ spec.leg_before how leg.old }
 {
     match how {
@@ -81,7 +68,7 @@ fn exchange_leg(leg: &mut Leg, how: LegChange) -> LegChange
 
 /// Changes the leg at a place, where there is one, and gives what was there.
 pub(crate) fn exchange_leg_at(board: &mut Board, place: LegPlace, how: LegChange) -> LegChange
-    ensures board { board.new ≡ with_leg board.old place (spec.leg_after how) }
+    ensures board { board.new ≡ with_leg board.old place (leg_after how) }
     ensures was { result ≡ spec.leg_was how (leg_there board.old place) }
 {
     if let Some(run) = board.runs.get_mut(place.run) {
@@ -196,7 +183,7 @@ fn take_step(alloc: Global, leg: &mut Leg, state: LegState)
     without_last(alloc, &mut leg.steps);
 }
 
-/// The same for the leg at a place, where there is one. It takes no memory.
+/// Takes the last step off the leg at a place, where there is one, and puts it into a state. It takes no memory.
 pub(crate) fn take_step_at(alloc: Global, board: &mut Board, place: LegPlace, state: LegState)
     ensures { board.new ≡ with_leg board.old place (spec.step_taken state) }
 {
@@ -219,7 +206,7 @@ fn make_leg_room(alloc: Global, leg: &mut Leg, steps: usize) -> Result<(), Alloc
     Ok(())
 }
 
-/// The same in the leg at a place, where there is one.
+/// Makes room for so many steps in the leg at a place, where there is one.
 pub(crate) fn make_room(
     alloc: Global,
     board: &mut Board,

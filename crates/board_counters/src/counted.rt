@@ -7,12 +7,13 @@ ghost use Rattle.board_counters.specs.Counters.{needs_none, needs_there, tally_o
 ghost use Rattle.board_counters.specs.Standing.{run_tally as run_tally_of, run_tally_there};
 ghost use Rattle.board_counters.specs.Stopping.{run_legs as run_legs_of};
 ghost use Rattle.status_table.specs.Change.{with_leg, with_run};
+ghost use Rattle.status_table.specs.Seen.{leg_after};
 
 use crate::change::{
-    LegChange, RunChange, exchange_leg_at, exchange_run_at, exchange_state_at, job_state_there,
-    make_room, push_step_at, state_in, stop_in, take_step_at, without_last,
+    RunChange, exchange_leg_at, exchange_run_at, exchange_state_at, job_state_there, make_room,
+    push_step_at, state_in, stop_in, take_step_at, without_last,
 };
-use crate::counts::{Counts, count_all, recount_job, recount_leg, standing_at};
+use crate::counts::{Counts, LegTurn, count_all, recount_job, recount_leg, standing_at};
 use crate::dependents::Dependents;
 use crate::failing::{Failing, failing_at, note_done, note_taken, runs_failing};
 use crate::lasting::{Lasting, calls_at, lasting_of, place_at};
@@ -26,7 +27,7 @@ use board_decisions::kept::Calls;
 use board_decisions::place::{JobPlace, LegPlace, leg_there};
 use flow_model::laws::needs_point_back;
 use flow_model::{Board, CheckedPlan, DoneStep, JobState, LegState, Outcome, Plan, Sequence};
-use status_table::change::set_job_state;
+use status_table::change::{LegChange, set_job_state};
 use status_table::new_board::make_board;
 use std::alloc::{AllocError, Global};
 use std::marker::Model;
@@ -101,23 +102,20 @@ fn needs_none_at(needs: &[Sequence<Need>], place: JobPlace) -> bool
 
 /// Counts again after the leg at a place, where there is one, came from a state to another.
 #[inline(always)]
-fn recount_to(
-    counts: &mut Counts,
-    board: &Board,
-    dependents: &Sequence<Dependents>,
-    place: LegPlace,
-    was: LegState,
-    to: LegState,
-)
-    requires { spec.CameTo was to (spec.state_there board.now place) }
-    ensures { spec.LegRecounted place was (spec.state_there board.now place)
-        (slice_get board.now.runs place.run) dependents.now counts.old counts.new }
+fn recount_to(counts: &mut Counts, board: &Board, dependents: &Sequence<Dependents>, turn: LegTurn)
+    requires { spec.CameTo turn.was turn.is (spec.state_there board.now turn.place) }
+    ensures { spec.LegRecounted turn.place turn.was (spec.state_there board.now turn.place)
+        (slice_get board.now.runs turn.place.run) dependents.now counts.old counts.new }
 {
-    if are_alike(was, to) {
+    if are_alike(turn.was, turn.is) {
         return;
     }
-    let is = state_there(board, place);
-    recount_leg(counts, board, dependents, place, was, is);
+    let there = LegTurn {
+        place: turn.place,
+        was: turn.was,
+        is: state_there(board, turn.place),
+    };
+    recount_leg(counts, board, dependents, there);
 }
 
 /// A plan, how far it is, and what is counted of that.
@@ -278,19 +276,19 @@ impl Counted {
     pub fn change_leg(&mut self, place: LegPlace, how: LegChange) -> Change
         requires { LegComesNamed how }
         ensures plan { self.new.plan ≡ self.old.plan }
-        ensures board { self.new.board ≡ with_leg self.old.board place (spec.leg_after how) }
+        ensures board { self.new.board ≡ with_leg self.old.board place (leg_after how) }
         ensures back { board_before result self.new.board ≡ self.old.board }
     {
         let is = state_in(&how);
         let is_told = stop_in(&how);
         let how = exchange_leg_at(&mut self.board, place, how);
+        let was = state_in(&how);
+        let turn = LegTurn { place, was, is };
         recount_leg(
             &mut self.counts,
             &self.board,
             &self.lasting.dependents,
-            place,
-            state_in(&how),
-            is,
+            turn,
         );
         retell(&mut self.counts.legs, place.run, stop_in(&how), is_told);
         Change::Leg(LegBack { place, how })
@@ -304,13 +302,12 @@ impl Counted {
         ensures back { row.leg_state_set self.new.board place result ≡ self.old.board }
     {
         let was = exchange_state_at(&mut self.board, place, to);
+        let turn = LegTurn { place, was, is: to };
         recount_to(
             &mut self.counts,
             &self.board,
             &self.lasting.dependents,
-            place,
-            was,
-            to,
+            turn,
         );
         was
     }
@@ -368,13 +365,13 @@ impl Counted {
         let was = push_step_at(&mut self.board, place, worker, done)?;
         note_done(&mut self.failing, place, failed);
         let in_call = false;
+        let is = LegState::Running { worker, in_call };
+        let turn = LegTurn { place, was, is };
         recount_to(
             &mut self.counts,
             &self.board,
             &self.lasting.dependents,
-            place,
-            was,
-            LegState::Running { worker, in_call },
+            turn,
         );
         Ok(was)
     }
@@ -387,13 +384,16 @@ impl Counted {
         let was = state_there(&self.board, place);
         take_step_at(alloc, &mut self.board, place, state);
         note_taken(&mut self.failing, &self.board, place);
+        let turn = LegTurn {
+            place,
+            was,
+            is: state,
+        };
         recount_to(
             &mut self.counts,
             &self.board,
             &self.lasting.dependents,
-            place,
-            was,
-            state,
+            turn,
         );
     }
 

@@ -42,7 +42,7 @@ fn tally_jobs(alloc: Global, jobs: &[Job]) -> Result<Sequence<Tally>, AllocError
     Ok(Sequence::new(tallies))
 }
 
-/// The same for each of some runs.
+/// How the legs of each job stand, of each of some runs.
 fn tally_runs(alloc: Global, runs: &[Run]) -> Result<Sequence<Sequence<Tally>>, AllocError>
     ensures { IfOk result
         (λ tallies. tallies ≡ map (λ run. map tally_of_job run.jobs) runs.now) }
@@ -173,7 +173,7 @@ fn turn_run(
     }
 }
 
-/// The same where that job was settled or not, and now is or is not.
+/// Turns the needs of the jobs that need the one at a place where that was settled and is not now, or the other way about.
 fn turn_if(
     was: bool,
     is: bool,
@@ -225,24 +225,30 @@ pub(crate) fn recount_job(
     );
 }
 
+/// The leg at a place that came from a state to another.
+#[derive(Clone, Copy)]
+pub(crate) struct LegTurn {
+    pub(crate) place: LegPlace,
+    pub(crate) was: LegState,
+    pub(crate) is: LegState,
+}
+
 /// Counts again after a leg came from a state to another; the states of jobs are as they were.
 pub(crate) fn recount_leg(
     counts: &mut Counts,
     board: &Board,
     dependents: &Sequence<Dependents>,
-    place: LegPlace,
-    was: LegState,
-    is: LegState,
+    turn: LegTurn,
 )
-    ensures { spec.LegRecounted place was is (slice_get board.now.runs place.run)
-        dependents.now counts.old counts.new }
+    ensures { spec.LegRecounted turn.place turn.was turn.is
+        (slice_get board.now.runs turn.place.run) dependents.now counts.old counts.new }
 {
-    if are_alike(was, is) {
+    if are_alike(turn.was, turn.is) {
         return;
     }
-    let job = job_of(place);
+    let job = job_of(turn.place);
     let before = standing_at(board, counts.tallies.as_slice(), job);
-    retally(&mut counts.tallies, place, was, is);
+    retally(&mut counts.tallies, turn.place, turn.was, turn.is);
     let after = standing_at(board, counts.tallies.as_slice(), job);
     recount_job(counts, dependents, job, before, after);
 }

@@ -62,7 +62,7 @@ fn run_dependents(alloc: Global, plans: &[JobPlan], jobs: &[Job]) -> Result<Depe
     Ok(lists)
 }
 
-/// The same for each of some runs.
+/// The jobs that need each job, of each of some runs.
 pub(crate) fn all_dependents(
     alloc: Global,
     plans: &[RunPlan],

@@ -20,7 +20,7 @@ fn legs_failing(alloc: Global, legs: &[Leg]) -> Result<Sequence<bool>, AllocErro
     Ok(Sequence::new(made))
 }
 
-/// The same of each leg of some jobs.
+/// Whether a done step counts as a failure, of each leg of some jobs.
 fn jobs_failing(alloc: Global, jobs: &[Job]) -> Result<Sequence<Sequence<bool>>, AllocError>
     ensures { IfOk result (λ made. made ≡ map spec.job_failing jobs.now) }
 {
@@ -34,7 +34,7 @@ fn jobs_failing(alloc: Global, jobs: &[Job]) -> Result<Sequence<Sequence<bool>>,
 /// Which legs of some runs have a failed step.
 pub(crate) type Failing = Sequence<Sequence<Sequence<bool>>>;
 
-/// The same of each leg of some runs.
+/// Whether a done step counts as a failure, of each leg of some runs.
 pub(crate) fn runs_failing(alloc: Global, runs: &[Run]) -> Result<Failing, AllocError>
     ensures { IfOk result (λ made. made ≡ map spec.run_failing runs.now) }
 {

@@ -38,7 +38,7 @@ fn told_of_job(alloc: Global, run: &RunPlan, job: &JobPlan) -> Result<Sequence<C
     Ok(Sequence::new(calls))
 }
 
-/// The same of each job of a workflow.
+/// What is told of the steps of each job of a workflow.
 fn told_of_run(alloc: Global, run: &RunPlan) -> Result<Sequence<Sequence<Calls>>, AllocError>
     ensures { IfOk result (λ calls. spec.TellsJobs run.now calls) }
 {
@@ -53,7 +53,7 @@ fn told_of_run(alloc: Global, run: &RunPlan) -> Result<Sequence<Sequence<Calls>>
 /// What is told of the steps of some workflows.
 pub(crate) type Told = Sequence<Sequence<Sequence<Calls>>>;
 
-/// The same of each of some workflows.
+/// What is told of the steps of each job of some workflows.
 fn told_of_runs(alloc: Global, runs: &[RunPlan]) -> Result<Told, AllocError>
     ensures { IfOk result (λ calls. spec.TellsRuns runs.now calls) }
 {

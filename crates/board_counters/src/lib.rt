@@ -26,7 +26,7 @@ pub mod tally;
 pub mod tracked;
 pub mod undo;
 
-pub use change::{LegChange, RunChange};
+pub use change::RunChange;
 pub use counted::Counted;
 pub use standing::RunTally;
 pub use stopping::RunLegs;

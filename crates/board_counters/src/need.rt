@@ -104,7 +104,7 @@ fn turn_need(needs: &mut Sequence<Need>, place: usize, was: bool, is: bool)
     }
 }
 
-/// The same of those at some places, one after the other.
+/// Turns the needs of the jobs at some places, one after the other.
 pub(crate) fn turn_needs(needs: &mut Sequence<Need>, places: &[usize], was: bool, is: bool)
     ensures { needs.new ≡ needs_turned was is places.now needs.old }
 {

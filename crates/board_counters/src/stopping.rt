@@ -6,7 +6,8 @@ ghost use Rattle.board_counters.specs.Stopping as spec;
 ghost use Rattle.status_table.specs.Change.{changed};
 
 use crate::tally::turned;
-use flow_model::{Job, Run, Sequence};
+use flow_model::{Run, Sequence};
+use status_table::moves::count_legs_of;
 use std::alloc::{AllocError, Global};
 
 /// How many legs the jobs of a run have, and how many of them are told to stop.
@@ -18,19 +19,6 @@ pub struct RunLegs {
     pub told: usize,
 }
 
-/// How many legs some jobs have.
-#[tactic(auto, using(crate::proofs::Stops::first_within))]
-fn count_legs(jobs: &[Job]) -> usize
-    requires { spec.legs_of_jobs jobs.now ≤ 4096 }
-    ensures { result ≡ spec.legs_of_jobs jobs.now }
-{
-    let mut count = 0;
-    for job in jobs {
-        count += job.legs.len();
-    }
-    count
-}
-
 /// How many legs the jobs of each of some runs have, none of which is told to stop.
 #[tactic(auto, using(crate::proofs::Stops::one_within))]
 pub(crate) fn legs_of_each(alloc: Global, runs: &[Run]) -> Result<Sequence<RunLegs>, AllocError>
@@ -39,7 +27,7 @@ pub(crate) fn legs_of_each(alloc: Global, runs: &[Run]) -> Result<Sequence<RunLe
 {
     let mut made = Vec::with_capacity(alloc, runs.len())?;
     for run in runs {
-        let all = count_legs(run.jobs.as_slice());
+        let all = count_legs_of(run.jobs.as_slice());
         made.push(RunLegs { all, told: 0 })?;
     }
     Ok(Sequence::new(made))

@@ -86,7 +86,7 @@ pub(crate) fn turned(all: usize, count: usize, was: bool, is: bool) -> usize
     }
 }
 
-/// The same for one counter, where a leg came from a state to another.
+/// A count of legs, where one came from a state to another.
 fn turned_by(counter: Counter, all: usize, count: usize, was: LegState, is: LegState) -> usize
     ensures { result ≡ spec.turned all count (spec.counts counter was) (spec.counts counter is) }
 {

@@ -6,12 +6,14 @@ ghost use Rattle.board_counters.specs.Undo.{only_before, undone};
 ghost use Rattle.flow_model.specs.declared.board.Board.{Board as BoardOf};
 ghost use Rattle.status_table.specs.Change.{with_leg, with_run};
 ghost use Rattle.status_table.specs.Row as row;
+ghost use Rattle.status_table.specs.Seen.{leg_after};
 
-use crate::change::{LegChange, RunChange};
+use crate::change::RunChange;
 use crate::counted::Counted;
 use crate::undo::{Change, LegBack, OnlyChange};
 use board_decisions::place::{JobPlace, LegPlace};
 use flow_model::{CheckedPlan, DoneStep, JobState, LegState};
+use status_table::change::LegChange;
 use std::alloc::{AllocError, Global};
 use std::marker::Model;
 use std::mem;
@@ -40,7 +42,7 @@ fn take_all_back(counted: &mut Counted, alloc: Global, changes: Vec<Change>)
 /// What puts a leg back, where that is its state alone.
 fn state_back(back: &LegBack) -> Option<OnlyChange>
     ensures { IfSome result (λ only. (b : BoardOf)
-        → with_leg b back.now.place (spec.leg_after back.now.how) ≡ only_before only b) }
+        → with_leg b back.now.place (leg_after back.now.how) ≡ only_before only b) }
 {
     match &back.how {
         LegChange::State(state) => Some(OnlyChange::State(back.place, *state)),
@@ -172,7 +174,7 @@ impl Tracked {
         requires named { LegComesNamed how }
         requires room { 1 ≤ self.old.room }
         ensures plan { self.new.plan ≡ self.old.plan }
-        ensures board { self.new.board ≡ with_leg self.old.board place (spec.leg_after how) }
+        ensures board { self.new.board ≡ with_leg self.old.board place (leg_after how) }
         ensures back { self.new.back ≡ self.old.back }
         ensures room { self.old.room ≤ self.new.room + 1 }
     {

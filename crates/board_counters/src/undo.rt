@@ -2,9 +2,10 @@
 
 ghost use Rattle.board_counters.specs.Names.{Names, leg_group, run_group};
 
-use crate::change::{LegChange, RunChange};
+use crate::change::RunChange;
 use board_decisions::place::{JobPlace, LegPlace};
 use flow_model::{JobState, LegState};
+use status_table::change::LegChange;
 
 /// What puts the leg at a place back.
 #[derive(Drop)]

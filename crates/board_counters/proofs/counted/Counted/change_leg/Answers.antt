@@ -1,5 +1,5 @@
 use Rattle.std.proofs.Common.{ap, sym, ◌∙◌}
-use Rattle.board_counters.specs.Changes.{leg_after}
+use Rattle.status_table.specs.Seen.{leg_after}
 use Rattle.board_counters.specs.Failing.{any_failed, failing_of}
 use Rattle.board_counters.proofs.Failings.{leg_failing_kept, steps_stay}
 use Rattle.board_counters.proofs.Followed.{leg_counted}
@@ -14,10 +14,10 @@ use Rattle.status_table.specs.Play.{Play}
 
 pub invariant_of-self : goal.invariant_of-self
 invariant_of-self c =
-    leg_counted c.self.inside.plan c.self.inside.board c.exchange_leg_at-how.new.board c.args.place (leg_after c.args.how) c.state_in.result c.state_in-is.result c.self.inside.counts c.recount_leg.new.counts
+    leg_counted c.self.inside.plan c.self.inside.board c.exchange_leg_at-how.new.board c.args.place (leg_after c.args.how) c.state_in-was.result c.state_in-is.result c.self.inside.counts c.recount_leg.new.counts
     c.retell.new.legs c.self.inside.failing c.self.inside.failing c.self.inside.lasting c.self.invariant (comes_named c.args.how c.requires) c.exchange_leg_at-how.ensures.board
-    (exchanged_told c.self.inside.board c.exchange_leg_at-how.new.board c.args.place c.args.how c.exchange_leg_at-how.result c.state_in.result c.state_in-is.result
-    c.exchange_leg_at-how.ensures.board c.exchange_leg_at-how.ensures.was c.state_in.ensures c.state_in-is.ensures)
+    (exchanged_told c.self.inside.board c.exchange_leg_at-how.new.board c.args.place c.args.how c.exchange_leg_at-how.result c.state_in-was.result c.state_in-is.result
+    c.exchange_leg_at-how.ensures.board c.exchange_leg_at-how.ensures.was c.state_in-was.ensures c.state_in-is.ensures)
     c.recount_leg.ensures
     (told_exchanged c.self.inside.board c.exchange_leg_at-how.new.board c.args.place c.args.how c.exchange_leg_at-how.result c.stop_in.result c.stop_in-is_told.result c.self.inside.counts.legs c.retell.new.legs
     c.self.invariant.counted.told c.exchange_leg_at-how.ensures.board c.exchange_leg_at-how.ensures.was c.stop_in.ensures c.stop_in-is_told.ensures
