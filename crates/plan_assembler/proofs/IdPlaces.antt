@@ -70,7 +70,7 @@ next_noted had has id ids place e other =
     ap (λ o. option_or o (first_place (suc place) ids other)) (e other)
     ∙ next_case (had other) (first_place (suc place) ids other) place (bytes_eq other id)
 
--- the same for the next of some jobs
+-- what is looked up first in the index and then in the jobs that are left stays the same
 pub next_job : (had has : List ℕ → Option ℕ) (jobs : List FlowJob) (job : FlowJob) (place after : ℕ) → after ≡ suc place → place < length jobs → job ≡ get_or jobs place job
     → ((other : List ℕ) → has other ≡ option_or (had other) (first_place place (job.id ∷ []) other))
     → ((other : List ℕ) → option_or (had other) (first_place place (ids_of (drop place jobs)) other) ≡ first_place 0 (ids_of jobs) other)

@@ -22,8 +22,8 @@ use Rattle.plan_assembler.specs.Refusals.{HasNoLegs, MatrixFails, TextFails, Job
 use Rattle.plan_assembler.specs.Texts.{Evaluated, StandsInFound, if_there as of_there, of_env, of_group, of_job, of_workflow}
 use Rattle.plan_assembler.specs.declared.choice.Choice.{Choice}
 use Rattle.plan_assembler.specs.declared.fault.PlanFault.{PlanFault}
-use Rattle.plan_assembler.specs.declared.fault.Place.{Place}
-use Rattle.plan_assembler.specs.declared.fault.Place.TheVariants as place
+use Rattle.plan_assembler.specs.declared.fault.FaultPlace.{FaultPlace}
+use Rattle.plan_assembler.specs.declared.fault.FaultPlace.TheVariants as place
 use Rattle.plan_assembler.proofs.OnePlan.{one_order, one_plan}
 use Rattle.plan_assembler.proofs.PlannedTexts.{neither, env_read, in_group_read, job_read}
 use Rattle.plan_assembler.proofs.RunSteps.{length-job_plans}
@@ -93,7 +93,7 @@ runs_pass roots choice (w ∷ ws) first k (r ∷ rs) a e =
 clash : {b : Bool} → b ≡ true → b ≡ false → ⊥
 clash e f = absurd (cc)
 
-no_text : (at : Place) (found : Option Evaluated) (f : PlanFault) → found ≡ None → TextFails at found f → ⊥
+no_text : (at : FaultPlace) (found : Option Evaluated) (f : PlanFault) → found ≡ None → TextFails at found f → ⊥
 no_text at found f e t = subst (λ (o : Option Evaluated). StandsInFound o t.0) e t.1.1
 
 -- a matrix that has combinations is at no fault

@@ -22,8 +22,8 @@ use Rattle.plan_assembler.specs.declared.choice.Choice.{Choice}
 use Rattle.plan_assembler.specs.declared.choice.Choice.TheVariants.{Event, Job, All}
 use Rattle.plan_assembler.specs.declared.fault.PlanFault.{PlanFault}
 use Rattle.plan_assembler.specs.declared.fault.PlanFault.TheVariants as fault
-use Rattle.plan_assembler.specs.declared.fault.Place.{Place}
-use Rattle.plan_assembler.specs.declared.fault.Place.TheVariants as place
+use Rattle.plan_assembler.specs.declared.fault.FaultPlace.{FaultPlace}
+use Rattle.plan_assembler.specs.declared.fault.FaultPlace.TheVariants as place
 
 -- the first of two tests that fails: this one, or it passes and a later one fails
 abbrev pub FirstOf : Type 0 → Type 0 → Type 0 → Type 0
@@ -44,7 +44,7 @@ MatrixFails number None f = ⊥
 MatrixFails number (Some m) f = (e : MatrixFault) × ((f ≡ fault.Matrix number e) × HasNoLegs m e)
 
 -- a text that was found at a place cannot be read, and the fault stands in it
-abbrev pub TextFails : Place → Option Evaluated → PlanFault → Type 0
+abbrev pub TextFails : FaultPlace → Option Evaluated → PlanFault → Type 0
 TextFails at found f = (e : ExprFault) × ((f ≡ fault.Expr at e) × StandsInFound found e)
 
 -- a job passes its tests
@@ -141,7 +141,7 @@ abbrev pub IsMatrixFault : ℕ → MatrixFault → PlanFault → Type 0
 IsMatrixFault number e f = (m : Option Matrix) → FindsLegs m (Err e) → Answered (MatrixFails number m) f
 
 -- what becomes of the fault of a text at a place
-abbrev pub IsTextFault : Place → ExprFault → PlanFault → Type 0
+abbrev pub IsTextFault : FaultPlace → ExprFault → PlanFault → Type 0
 IsTextFault at e f = (found : Option Evaluated) → Reads found (Err e) → Answered (TextFails at found) f
 
 -- the legs of a job that passes its tests
@@ -166,7 +166,7 @@ MakesJobs jobs order first (Ok plans) =
     AllByRecursion JobPasses (at_places jobs order) × (plans ≡ job_plans (ids_of jobs) order first first (at_places jobs order))
 MakesJobs jobs order first (Err f) = Answered (JobsFail first (at_places jobs order)) f
 
--- the same, with the tests of the workflow itself
+-- the jobs of a run, of which all pass their tests, as does the workflow itself
 abbrev pub MakesTaken : Workflow → List ℕ → ℕ → ℕ → Result (List JobPlan) PlanFault → Type 0
 MakesTaken w order run first (Ok plans) =
     TakenPass w (at_places w.jobs order) × (plans ≡ job_plans (ids_of w.jobs) order first first (at_places w.jobs order))

@@ -13,7 +13,7 @@ use thiserror::Error;
 
 /// Where a text stands that is evaluated, by the numbers that runs and jobs have in the plan.
 #[derive(Clone, Copy, Debug)]
-pub enum Place {
+pub enum FaultPlace {
     /// In the workflow of a run, outside of its jobs.
     Run(u64),
     /// In a job or one of its steps.
@@ -34,7 +34,7 @@ pub enum PlanFault {
     /// There are more runs, jobs, steps or legs than the limits allow.
     TooMany,
     /// A text at this place cannot be read.
-    Expr(Place, ExprFault),
+    Expr(FaultPlace, ExprFault),
     /// The matrix of the job with this number has no combinations.
     Matrix(u64, MatrixFault),
     /// There is no memory.
@@ -97,7 +97,7 @@ impl<T: Drop> From<AllocFailed<T>> for PlanFault {
 
 /// The fault of a text at a place.
 #[tactic(auto, unfolding(crate::specs::Refusals::Answered))]
-pub(crate) fn at_place(place: Place, fault: ExprFault) -> PlanFault
+pub(crate) fn at_place(place: FaultPlace, fault: ExprFault) -> PlanFault
     ensures { IsTextFault place fault result }
 {
     if fault.is_memory() {

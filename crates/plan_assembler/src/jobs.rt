@@ -8,7 +8,7 @@ ghost use Rattle.plan_assembler.specs.Plans as spec;
 ghost use Rattle.plan_assembler.specs.Refusals.{FindsLegs, IsMatrixFault, TestsJob};
 ghost use Rattle.plan_assembler.specs.Refusals.{MakesJob, MakesJobs, PushesJob};
 
-use crate::fault::{Place, PlanFault, at_place};
+use crate::fault::{FaultPlace, PlanFault, at_place};
 use crate::layout::{job_at, places_of};
 use crate::order::numbers_of;
 use crate::texts::job_texts;
@@ -56,29 +56,39 @@ fn tested_legs(alloc: Global, number: u64, job: &FlowJob) -> Result<Sequence<Com
     match legs_of(alloc, &job.matrix) {
         Ok(legs) => match job_texts(alloc, job) {
             Ok(()) => Ok(legs),
-            Err(fault) => Err(at_place(Place::Job(number), fault)),
+            Err(fault) => Err(at_place(FaultPlace::Job(number), fault)),
         },
         Err(fault) => Err(no_legs(number, fault)),
     }
 }
 
+/// How the jobs of a run are numbered: by their places in its order, of which the first has the number `first`.
+#[derive(Clone, Copy)]
+pub(crate) struct Numbering<'a> {
+    /// The places of the workflow's jobs, by their ids.
+    pub(crate) index: &'a IndexMap<String, usize>,
+    /// The places of the run's jobs, in the order of the plan.
+    pub(crate) order: &'a Sequence<usize>,
+    /// The number of the first of them.
+    pub(crate) first: u64,
+}
+
 /// The numbers of what a job needs.
 fn needs_of(
     alloc: Global,
-    index: &IndexMap<String, usize>,
+    numbering: &Numbering<'_>,
     jobs: &Sequence<FlowJob>,
-    order: &Sequence<usize>,
-    first: u64,
     needs: &Sequence<Text>,
 ) -> Result<Sequence<u64>, AllocError>
-    requires indexed { Indexes (layout.ids_of jobs.now) index.now }
-    requires fits { first + length order.now < 2 ^ 64 }
+    requires indexed { Indexes (layout.ids_of jobs.now) numbering.now.index.now }
+    requires fits { numbering.now.first + length numbering.now.order.now < 2 ^ 64 }
     ensures { let places = layout.need_places jobs.now needs.now in
-        IfOk result (λ numbers. numbers ≡ order_spec.numbers_of first order.now places) }
+        IfOk result
+        (λ numbers. numbers ≡ order_spec.numbers_of numbering.now.first numbering.now.order.now places) }
 {
-    let places = places_of(alloc, index, jobs, needs)?;
+    let places = places_of(alloc, numbering.index, jobs, needs)?;
     let count = jobs.as_slice().len() + 1;
-    numbers_of(alloc, first, order, &places, count)
+    numbers_of(alloc, numbering.first, numbering.order, &places, count)
 }
 
 /// A job's name, or its id where it has none.
@@ -136,19 +146,17 @@ fn job_with(
 #[tactic(auto, using(crate::proofs::Answering::memory_answered))]
 fn tested_job(
     alloc: Global,
-    index: &IndexMap<String, usize>,
+    numbering: &Numbering<'_>,
     jobs: &Sequence<FlowJob>,
-    order: &Sequence<usize>,
-    first: u64,
     number: u64,
     job: &FlowJob,
 ) -> Result<JobPlan, PlanFault>
-    requires indexed { Indexes (layout.ids_of jobs.now) index.now }
-    requires fits { first + length order.now < 2 ^ 64 }
-    ensures { MakesJob jobs.now order.now first number job.now result }
+    requires indexed { Indexes (layout.ids_of jobs.now) numbering.now.index.now }
+    requires fits { numbering.now.first + length numbering.now.order.now < 2 ^ 64 }
+    ensures { MakesJob jobs.now numbering.now.order.now numbering.now.first number job.now result }
 {
     let legs = tested_legs(alloc, number, job)?;
-    let needs = needs_of(alloc, index, jobs, order, first, &job.needs)?;
+    let needs = needs_of(alloc, numbering, jobs, &job.needs)?;
     Ok(job_with(alloc, job, legs, needs, number)?)
 }
 
@@ -156,22 +164,21 @@ fn tested_job(
 #[tactic(auto, using(crate::proofs::Answering::memory_answered))]
 fn push_job(
     alloc: Global,
-    index: &IndexMap<String, usize>,
+    numbering: &Numbering<'_>,
     jobs: &Sequence<FlowJob>,
-    order: &Sequence<usize>,
-    first: u64,
     place: usize,
     plans: &mut Vec<JobPlan>,
 ) -> Result<(), PlanFault>
-    requires indexed { Indexes (layout.ids_of jobs.now) index.now }
-    requires fits { first + length order.now < 2 ^ 64 }
-    requires room { first + length plans.old.items < 2 ^ 64 }
-    ensures { PushesJob jobs.now order.now first place plans.old.items plans.new.items result }
+    requires indexed { Indexes (layout.ids_of jobs.now) numbering.now.index.now }
+    requires fits { numbering.now.first + length numbering.now.order.now < 2 ^ 64 }
+    requires room { numbering.now.first + length plans.old.items < 2 ^ 64 }
+    ensures { PushesJob jobs.now numbering.now.order.now numbering.now.first place
+        plans.old.items plans.new.items result }
 {
     match job_at(jobs, place) {
         Some(job) => {
-            let number = first + plans.len() as u64;
-            match tested_job(alloc, index, jobs, order, first, number, job) {
+            let number = numbering.first + plans.len() as u64;
+            match tested_job(alloc, numbering, jobs, number, job) {
                 Ok(plan) => {
                     plans.push(plan)?;
                     Ok(())
@@ -183,22 +190,20 @@ fn push_job(
     }
 }
 
-/// The jobs of a run that stand at these places, of which the first has the number `first`.
+/// The jobs of a run, as they are numbered.
 pub(crate) fn jobs_of(
     alloc: Global,
-    index: &IndexMap<String, usize>,
+    numbering: &Numbering<'_>,
     jobs: &Sequence<FlowJob>,
-    order: &Sequence<usize>,
-    first: u64,
 ) -> Result<Sequence<JobPlan>, PlanFault>
-    requires indexed { Indexes (layout.ids_of jobs.now) index.now }
-    requires fits { first + length order.now < 2 ^ 64 }
-    ensures { MakesJobs jobs.now order.now first result }
+    requires indexed { Indexes (layout.ids_of jobs.now) numbering.now.index.now }
+    requires fits { numbering.now.first + length numbering.now.order.now < 2 ^ 64 }
+    ensures { MakesJobs jobs.now numbering.now.order.now numbering.now.first result }
 {
-    let places = order.as_slice();
+    let places = numbering.order.as_slice();
     let mut plans = Vec::new(alloc);
     for place in places {
-        if let Err(fault) = push_job(alloc, index, jobs, order, first, *place, &mut plans) {
+        if let Err(fault) = push_job(alloc, numbering, jobs, *place, &mut plans) {
             return Err(fault);
         }
     }

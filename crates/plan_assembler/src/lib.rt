@@ -30,5 +30,5 @@ pub mod staging;
 mod texts;
 
 pub use choice::Choice;
-pub use fault::{Place, PlanFault};
+pub use fault::{FaultPlace, PlanFault};
 pub use planner::Planner;

@@ -8,9 +8,9 @@ ghost use Rattle.plan_assembler.specs.Plans as spec;
 ghost use Rattle.plan_assembler.specs.Refusals.{FindsOrder, MakesRun, MakesRuns, MakesTaken, NeedsPass, PushesRun};
 
 use crate::choice::Choice;
-use crate::fault::{Place, PlanFault, at_place};
+use crate::fault::{FaultPlace, PlanFault, at_place};
 use crate::index::index_of;
-use crate::jobs::jobs_of;
+use crate::jobs::{Numbering, jobs_of};
 use crate::layout::{are_needs_known, find_order, graph_of, is_job, is_one_of, job_at};
 use crate::texts::workflow_texts;
 use flow_model::{Duplicate, Flow, FlowJob, JobPlan, Roots, RunPlan, Sequence, Text, Workflow};
@@ -93,25 +93,31 @@ fn tested_order(
     }
 }
 
+/// What runs are made of: what is chosen of a workflow, and the contexts that its run is handed.
+#[derive(Clone, Copy)]
+struct Source<'a> {
+    choice: &'a Choice,
+    workflow: &'a Workflow,
+    roots: &'a Roots,
+}
+
 /// The jobs of a run, after the tests of how many they are and of the workflow's own texts.
 fn tested_jobs(
     alloc: Global,
     workflow: &Workflow,
-    index: &IndexMap<String, usize>,
-    order: &Sequence<usize>,
     run: u64,
-    first: u64,
+    numbering: &Numbering<'_>,
 ) -> Result<Sequence<JobPlan>, PlanFault>
-    requires indexed { Indexes (layout.ids_of workflow.now.jobs) index.now }
-    requires fits { first + length order.now < 2 ^ 64 }
-    ensures { MakesTaken workflow.now order.now run first result }
+    requires indexed { Indexes (layout.ids_of workflow.now.jobs) numbering.now.index.now }
+    requires fits { numbering.now.first + length numbering.now.order.now < 2 ^ 64 }
+    ensures { MakesTaken workflow.now numbering.now.order.now run numbering.now.first result }
 {
-    if !are_few(&workflow.jobs, order) {
+    if !are_few(&workflow.jobs, numbering.order) {
         return Err(PlanFault::TooMany);
     }
     match workflow_texts(alloc, workflow) {
-        Ok(()) => jobs_of(alloc, index, &workflow.jobs, order, first),
-        Err(fault) => Err(at_place(Place::Run(run), fault)),
+        Ok(()) => jobs_of(alloc, numbering, &workflow.jobs),
+        Err(fault) => Err(at_place(FaultPlace::Run(run), fault)),
     }
 }
 
@@ -129,18 +135,17 @@ fn event_of(alloc: Global, choice: &Choice) -> Result<Option<Text>, AllocError>
 /// A run of a workflow.
 fn run_with(
     alloc: Global,
-    choice: &Choice,
-    workflow: &Workflow,
-    roots: &Roots,
+    source: &Source<'_>,
     jobs: Sequence<JobPlan>,
 ) -> Result<RunPlan, AllocError>
-    ensures { IfOk result (λ plan. plan ≡ spec.run_with roots.now choice.now workflow.now jobs) }
+    ensures { IfOk result (λ plan. plan
+        ≡ spec.run_with source.now.roots.now source.now.choice.now source.now.workflow.now jobs) }
 {
-    let event = event_of(alloc, choice)?;
-    let env = workflow.env.copy(alloc)?;
-    let flow = workflow.name.copy(alloc)?;
-    let group = workflow.group.copy(alloc)?;
-    let roots = roots.copy(alloc)?;
+    let event = event_of(alloc, source.choice)?;
+    let env = source.workflow.env.copy(alloc)?;
+    let flow = source.workflow.name.copy(alloc)?;
+    let group = source.workflow.group.copy(alloc)?;
+    let roots = source.roots.copy(alloc)?;
     Ok(RunPlan {
         env,
         event,
@@ -151,46 +156,43 @@ fn run_with(
     })
 }
 
-/// The run of a workflow, whose jobs stand in this order.
+/// The run of a workflow, whose jobs are numbered so.
 #[tactic(auto, using(crate::proofs::Answering::memory_answered))]
 fn run_in_order(
     alloc: Global,
-    choice: &Choice,
-    workflow: &Workflow,
-    roots: &Roots,
-    index: &IndexMap<String, usize>,
-    order: &Sequence<usize>,
+    source: &Source<'_>,
     run: u64,
-    first: u64,
+    numbering: &Numbering<'_>,
 ) -> Result<RunPlan, PlanFault>
-    requires indexed { Indexes (layout.ids_of workflow.now.jobs) index.now }
-    requires needs { NeedsPass choice.now workflow.now.jobs order.now }
-    requires fits { first + length order.now < 2 ^ 64 }
-    ensures { MakesRun roots.now choice.now workflow.now run first result }
+    requires indexed { Indexes (layout.ids_of source.now.workflow.now.jobs) numbering.now.index.now }
+    requires needs { NeedsPass source.now.choice.now source.now.workflow.now.jobs numbering.now.order.now }
+    requires fits { numbering.now.first + length numbering.now.order.now < 2 ^ 64 }
+    ensures { MakesRun source.now.roots.now source.now.choice.now source.now.workflow.now
+        run numbering.now.first result }
 {
-    match tested_jobs(alloc, workflow, index, order, run, first) {
-        Ok(jobs) => Ok(run_with(alloc, choice, workflow, roots, jobs)?),
+    match tested_jobs(alloc, source.workflow, run, numbering) {
+        Ok(jobs) => Ok(run_with(alloc, source, jobs)?),
         Err(fault) => Err(fault),
     }
 }
 
 /// The run of a workflow, whose jobs are numbered from `first` on.
 #[tactic(auto, using(crate::proofs::Answering::memory_answered))]
-fn run_of(
-    alloc: Global,
-    choice: &Choice,
-    workflow: &Workflow,
-    roots: &Roots,
-    run: u64,
-    first: u64,
-) -> Result<RunPlan, PlanFault>
-    requires taken { layout.has_target choice.now workflow.now.jobs ≡ true }
+fn run_of(alloc: Global, source: &Source<'_>, run: u64, first: u64) -> Result<RunPlan, PlanFault>
+    requires taken { layout.has_target source.now.choice.now source.now.workflow.now.jobs ≡ true }
     requires room { first ≤ 16384 }
-    ensures { MakesRun roots.now choice.now workflow.now run first result }
+    ensures { MakesRun source.now.roots.now source.now.choice.now source.now.workflow.now run first result }
 {
-    let index = index_of(alloc, &workflow.jobs)?;
-    match tested_order(alloc, choice, &index, &workflow.jobs) {
-        Ok(order) => run_in_order(alloc, choice, workflow, roots, &index, &order, run, first),
+    let index = index_of(alloc, &source.workflow.jobs)?;
+    match tested_order(alloc, source.choice, &index, &source.workflow.jobs) {
+        Ok(order) => {
+            let numbering = Numbering {
+                index: &index,
+                order: &order,
+                first,
+            };
+            run_in_order(alloc, source, run, &numbering)
+        },
         Err(fault) => Err(fault),
     }
 }
@@ -212,20 +214,18 @@ pub(crate) fn is_taken(choice: &Choice, workflow: &Workflow) -> bool
 #[tactic(auto, using(crate::proofs::Answering::memory_answered))]
 fn push_run(
     alloc: Global,
-    choice: &Choice,
-    workflow: &Workflow,
-    roots: &Roots,
+    source: &Source<'_>,
     first: u64,
     runs: &mut Vec<RunPlan>,
 ) -> Result<u64, PlanFault>
     requires { first ≤ 16384 }
-    ensures { PushesRun roots.now choice.now workflow.now first
+    ensures { PushesRun source.now.roots.now source.now.choice.now source.now.workflow.now first
         runs.old.items runs.new.items result }
 {
-    if !is_taken(choice, workflow) {
+    if !is_taken(source.choice, source.workflow) {
         return Ok(first);
     }
-    match run_of(alloc, choice, workflow, roots, runs.len() as u64, first) {
+    match run_of(alloc, source, runs.len() as u64, first) {
         Ok(run) => {
             let next = first + run.jobs.len() as u64;
             runs.push(run)?;
@@ -249,7 +249,12 @@ pub(crate) fn runs_of(
     let mut runs = Vec::new(alloc);
     let mut first = 0;
     for flow in from {
-        match push_run(alloc, choice, flow.workflow(), roots, first, &mut runs) {
+        let source = Source {
+            choice,
+            workflow: flow.workflow(),
+            roots,
+        };
+        match push_run(alloc, &source, first, &mut runs) {
             Ok(next) => first = next,
             Err(fault) => return Err(fault),
         }

@@ -1,7 +1,7 @@
 use Rattle.std.proofs.Common.{inl, inr}
 use Rattle.plan_assembler.specs.Refusals.{JobFails, MatrixFails, TextFails}
 use Rattle.plan_assembler.specs.Texts.{of_job}
-use Rattle.plan_assembler.specs.declared.fault.Place.TheVariants as place
+use Rattle.plan_assembler.specs.declared.fault.FaultPlace.TheVariants as place
 use Rattle.plan_assembler.proofs.Answering.{answered_weaker}
 use Rattle.plan_assembler.proofs.jobs.tested_legs.Goals as goal
 
