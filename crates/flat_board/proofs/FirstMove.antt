@@ -3,7 +3,7 @@ use Rattle.std.proofs.Common.{◌≡◌, ℕ, zero, suc, ◌+◌, ◌-◌, ◌<�
 use Rattle.flow_model.specs.Numbers.{board_jobs, board_legs}
 use Rattle.flow_model.specs.declared.board.Board.{Board}
 use Rattle.status_table.specs.Kinds.{events_of}
-use Rattle.status_table.specs.declared.moves.Kind.TheVariants as kind
+use Rattle.status_table.specs.declared.moves.MoveKind.TheVariants as kind
 use Rattle.status_table.specs.Moves.{clerk_events}
 use Rattle.board_decisions.specs.Places.{numbers}
 use Rattle.status_table.proofs.Accepting.{step}

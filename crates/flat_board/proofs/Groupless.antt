@@ -20,7 +20,7 @@ use Rattle.flat_board.proofs.Leaving.{none_left}
 use Rattle.status_table.specs.Admissions.{asked, left, opened}
 use Rattle.status_table.specs.Groups.{leg_stands, run_stands}
 use Rattle.plan_values.specs.Values.{contexts_at, with_env}
-use Rattle.plan_values.specs.declared.place.Place.TheVariants as place
+use Rattle.plan_values.specs.declared.place.TextPlace.TheVariants as place
 
 -- ---- entering
 

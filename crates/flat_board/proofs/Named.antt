@@ -13,7 +13,7 @@ use Rattle.flow_model.specs.declared.plan.Group.{Group}
 use Rattle.flow_model.specs.declared.reply.ValueFault.{ValueFault}
 use Rattle.plan_values.specs.Texts.{text_text, flag_value}
 use Rattle.plan_values.specs.Values.{contexts_at, with_env}
-use Rattle.plan_values.specs.declared.place.Place.TheVariants as place
+use Rattle.plan_values.specs.declared.place.TextPlace.TheVariants as place
 use Rattle.flat_board.specs.Index.{EntersNamed, AsksNamed}
 use Rattle.board_counters.proofs.Lists.{map-twice}
 

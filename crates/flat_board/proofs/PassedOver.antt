@@ -16,8 +16,8 @@ use Rattle.flow_model.specs.declared.plan.Plan.{Plan}
 use Rattle.status_table.specs.Kinds.{event_of}
 use Rattle.status_table.specs.Moves.{accepts, is_accepted}
 use Rattle.status_table.specs.Row.{ask_found, drop_found, may_ask, may_drop}
-use Rattle.status_table.specs.declared.moves.Kind.{Kind}
-use Rattle.status_table.specs.declared.moves.Kind.TheVariants as kind
+use Rattle.status_table.specs.declared.moves.MoveKind.{MoveKind}
+use Rattle.status_table.specs.declared.moves.MoveKind.TheVariants as kind
 use Rattle.board_decisions.specs.Places.{numbers}
 use Rattle.flat_board.proofs.FirstMove.{none_yet}
 use Rattle.status_table.proofs.Counts.{one}
@@ -127,7 +127,7 @@ module _ (p : Plan) (b : Board) (n i : ℕ) (at : LegAt) (found : leg_at p b n �
   placed = place_further b n i at.place at.run at.job stands.place stands.in_board stands.job within
 
   -- a leg so many further on is of the same job
-  same-job : (other : LegAt) → leg_at p b (n + i) ≡ Some other → (k : Kind) → is_idle k other ≡ is_idle k at
+  same-job : (other : LegAt) → leg_at p b (n + i) ≡ Some other → (k : MoveKind) → is_idle k other ≡ is_idle k at
   same-job other is k =
       let so = leg_stands p b (n + i) other is in
       let place : further at.place i ≡ other.place = same_some (further at.place i) other.place (sym placed ∙ so.place) in
@@ -137,14 +137,14 @@ module _ (p : Plan) (b : Board) (n i : ℕ) (at : LegAt) (found : leg_at p b n �
       let job_plan : at.job_plan ≡ other.job_plan = same_some at.job_plan other.job_plan (sym stands.job_plan ∙ (λ i. slice_get (run_plan i).jobs (place i).job) ∙ so.job_plan) in
       by k run job job_plan
     where
-      by : (k : Kind) → at.run ≡ other.run → at.job ≡ other.job → at.job_plan ≡ other.job_plan → is_idle k other ≡ is_idle k at
+      by : (k : MoveKind) → at.run ≡ other.run → at.job ≡ other.job → at.job_plan ≡ other.job_plan → is_idle k other ≡ is_idle k at
       by kind.Close run job plan = refl
       by kind.Open run job plan = refl
       by kind.Judge run job plan = refl
       by kind.Drop run job plan = rw (run, job) refl
       by kind.Ask run job plan = rw (run, job, plan) refl
 
-  refused : (k : Kind) → is_idle k at ≡ true → accepts p b (event_of k (n + i)) ≡ false
+  refused : (k : MoveKind) → is_idle k at ≡ true → accepts p b (event_of k (n + i)) ≡ false
   refused kind.Close idle = absurd (true≢false (sym idle))
   refused kind.Open idle = absurd (true≢false (sym idle))
   refused kind.Judge idle = absurd (true≢false (sym idle))
@@ -160,7 +160,7 @@ module _ (p : Plan) (b : Board) (n i : ℕ) (at : LegAt) (found : leg_at p b n �
       by (Some other) is = ask-refused b (n + i) other (leg_stands p b (n + i) other is).leg (same-job other is kind.Ask ∙ idle)
 
 -- the events of a kind of all legs of a job, from its first on
-pub idle_legs : (p : Plan) (b : Board) (k : Kind) (n : ℕ) (at : LegAt) → leg_at p b n ≡ Some at → at.place.leg ≡ 0 → is_idle k at ≡ true
+pub idle_legs : (p : Plan) (b : Board) (k : MoveKind) (n : ℕ) (at : LegAt) → leg_at p b n ≡ Some at → at.place.leg ≡ 0 → is_idle k at ≡ true
     → (i : ℕ) → i < length at.job.legs → accepts p b (event_of k (n + i)) ≡ false
 idle_legs p b k n at found start idle i within = refused p b n i at found (omega (arith, start, within)) k idle
 

@@ -30,8 +30,8 @@ use Rattle.flow_model.specs.declared.plan.Plan.{Plan}
 use Rattle.status_table.specs.Kinds.{event_of}
 use Rattle.status_table.specs.Moves.{accepts, is_accepted}
 use Rattle.status_table.specs.Row.{ask_found, drop_found, judge_found, judge_job, judgement_by, may_ask, may_drop}
-use Rattle.status_table.specs.declared.moves.Kind.{Kind}
-use Rattle.status_table.specs.declared.moves.Kind.TheVariants as kind
+use Rattle.status_table.specs.declared.moves.MoveKind.{MoveKind}
+use Rattle.status_table.specs.declared.moves.MoveKind.TheVariants as kind
 use Rattle.status_table.proofs.Counts.{counted}
 use Rattle.status_table.proofs.Found.{job_stands, leg_stands}
 
@@ -177,7 +177,7 @@ module _ (p : Plan) (b : Board) (n i : ℕ) (at : LegPlace) (run : Run) (is : le
       let place = leg_further b n i at other.place run is job leg there within stands.place in
       same_some run other.run (sym there ∙ ap (slice_get b.runs) place ∙ stands.in_board)
 
-  refused : (k : Kind) → is_run_idle k run ≡ true → accepts p b (event_of k (n + i)) ≡ false
+  refused : (k : MoveKind) → is_run_idle k run ≡ true → accepts p b (event_of k (n + i)) ≡ false
   refused kind.Close idle = absurd (true≢false (sym idle))
   refused kind.Open idle = absurd (true≢false (sym idle))
   refused kind.Judge idle = absurd (true≢false (sym idle))
@@ -197,6 +197,6 @@ module _ (p : Plan) (b : Board) (n i : ℕ) (at : LegPlace) (run : Run) (is : le
           ask-refused b (n + i) other stands.job stands.leg (ap (is_run_idle kind.Ask) (sym (same-run other found)) ∙ idle)
 
 -- the events of a kind of all legs of a run, from its first on
-pub idle_run : (p : Plan) (b : Board) (k : Kind) (n : ℕ) (at : LegPlace) (run : Run) → leg_place b n ≡ Some at → slice_get b.runs at.run ≡ Some run → at.job ≡ 0 → at.leg ≡ 0
+pub idle_run : (p : Plan) (b : Board) (k : MoveKind) (n : ℕ) (at : LegPlace) (run : Run) → leg_place b n ≡ Some at → slice_get b.runs at.run ≡ Some run → at.job ≡ 0 → at.leg ≡ 0
     → is_run_idle k run ≡ true → (i : ℕ) → i < legs_of_jobs run.jobs → accepts p b (event_of k (n + i)) ≡ false
 idle_run p b k n at run is there job leg idle i within = refused p b n i at run is there job leg within k idle

@@ -6,8 +6,8 @@ use Rattle.board_counters.specs.Counters.{tally_of}
 use Rattle.board_counters.specs.Standing.{run_tally}
 use Rattle.board_counters.specs.Stopping.{run_legs}
 use Rattle.flow_model.specs.declared.board.Run.{Run}
-use Rattle.status_table.specs.declared.moves.Kind.{Kind}
-use Rattle.status_table.specs.declared.moves.Kind.TheVariants as kind
+use Rattle.status_table.specs.declared.moves.MoveKind.{MoveKind}
+use Rattle.status_table.specs.declared.moves.MoveKind.TheVariants as kind
 
 -- ---- a run
 
@@ -22,7 +22,7 @@ is_none_stopping run = not run.stop && ((run_legs run).told == 0 && ((run_tally 
 
 -- Whether an event of a kind is refused to each leg of a run: it is not Going; or, to be dropped, none is to stop; or, to ask, none
 -- is Fresh of a job that is Open.
-abbrev pub is_run_idle : Kind → Run → Bool
+abbrev pub is_run_idle : MoveKind → Run → Bool
 is_run_idle kind.Close run = false
 is_run_idle kind.Open run = false
 is_run_idle kind.Judge run = false
@@ -37,7 +37,7 @@ is_under_way at = is_going at.run.state && is_open at.job.state
 
 -- Whether an event of a kind is refused to each leg of a leg's job: it is not Open in a run that is Going; or, to be dropped, all
 -- its legs are Ended; or, to ask, it is full, or none of its legs is Fresh.
-abbrev pub is_idle : Kind → LegAt → Bool
+abbrev pub is_idle : MoveKind → LegAt → Bool
 is_idle kind.Close at = false
 is_idle kind.Open at = false
 is_idle kind.Judge at = false

@@ -27,7 +27,7 @@ abbrev pub EntersNamed : Option Entrance → Type 0
 EntersNamed None = Unit {0}
 EntersNamed (Some group) = IsName group.name
 
--- the same where there may be a fault
+-- the name of a group that is asked for is such as stands on a board, if one is named and there is no fault
 abbrev pub AsksNamed : Result (Option Entrance) ValueFault → Type 0
 AsksNamed (Ok group) = EntersNamed group
 AsksNamed (Err f) = Unit {0}
@@ -75,7 +75,7 @@ pub record Follows (old new : Play) (before after : Known) (worker : ℕ) (e : E
   pub answers : Answers (event_row old.plan old.board worker e) old.board result new.board
   pub groups : Goes result before (after_event old.plan old.board (content before) e) after
 
--- The same where nobody asks for the reply: some answer goes with it.
+-- An event follows its row, the plan and the groups, where nobody asks for the reply: some answer goes with it.
 pub record FollowsUnasked (old new : Play) (before after : Known) (worker : ℕ) (e : Event)
     (result : Result (Unit {0}) EventFault) : Type 0 where
   pub answer : Result Reply EventFault

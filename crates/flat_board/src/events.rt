@@ -13,10 +13,12 @@ ghost use Rattle.status_table.specs.InPlay.{InPlay};
 ghost use Rattle.status_table.specs.Row as spec;
 
 use crate::found::{find_job, find_leg, is_full, is_stopping, keep};
-use crate::groups::{enter_leg, enter_run, leave, leave_leg, leg_stand, next_after, run_stand};
+use crate::groups::{
+    Asker, enter_leg, enter_run, leave, leave_leg, leg_stand, next_after, run_stand,
+};
 use crate::laws::who_enters_is_outside;
 use crate::members::{close_run, drop_leg, pass_on, set_ended, stop_run};
-use board_counters::{Counted, LegChange, Tracked};
+use board_counters::{Counted, Tracked};
 use board_decisions::ancestors::job_status_kept;
 use board_decisions::decisions::{job_condition, leg_entrance, leg_outputs, run_entrance};
 use board_decisions::derived::is_closed;
@@ -24,6 +26,7 @@ use board_decisions::place::{SeenJob, find_run};
 use flow_model::{Answer, JobState, LegState, Member, Outcome, Reply, RunState, What};
 use group_admission::Groups;
 use status_table::EventFault;
+use status_table::change::LegChange;
 use status_table::events::{
     Begun, beginning, ended_step, ending, failed_step, finishing_kept, judged_state, may_ask,
     may_drop, reply, skipped_step,
@@ -139,9 +142,9 @@ pub(crate) fn ask(
     if is_stopping(alloc, &leg)? {
         return Err(EventFault::Stopping);
     }
-    let own = leg.at.place.run as u64;
+    let run = leg.at.place.run as u64;
     let group = leg_entrance(alloc, &leg.at);
-    enter_leg(alloc, state, groups, number, own, group)
+    enter_leg(alloc, state, groups, Asker { leg: number, run }, group)
 }
 
 /// Drops a leg that is to stop before a worker took it.

@@ -253,20 +253,26 @@ fn play_leaving(
     alloc: Global,
     state: &mut Tracked,
     groups: &mut Groups,
-    worker: u8,
-    event: Event,
+    entry: Entry,
     cell: CellBack,
 ) -> Result<(Reply, Undo), EventFault>
     requires in_play { InPlay state.old.plan state.old.board }
     requires kept { KeptAsShown (content groups.old) state.old.board }
     ensures follows { Follows (play_of state.old) (play_of state.new)
-        groups.old groups.new worker event (answer_of result) }
+        groups.old groups.new entry.worker entry.event (answer_of result) }
     ensures back { IfOk result (λ both. board_before both.1 state.new.board ≡ state.old.board) }
     ensures cell { IfOk result (λ both. cell_of both.1 ≡ Some cell) }
 {
     let cell = Box::new(alloc, cell)?;
-    let reply = play_event(alloc, state, groups, worker, event)?;
+    let reply = play_event(alloc, state, groups, entry.worker, entry.event)?;
     Ok((reply, undo_with(alloc, state, cell)))
+}
+
+/// A member that enters its group, and where it stands on the board.
+#[derive(Clone, Copy)]
+struct Entering {
+    stood: Stood,
+    member: Member,
 }
 
 /// Plays an event by which a member enters its group, and gives what takes it back.
@@ -274,23 +280,27 @@ fn play_entering(
     alloc: Global,
     state: &mut Tracked,
     groups: &mut Groups,
-    worker: u8,
-    event: Event,
-    who: Stood,
-    member: Member,
+    entry: Entry,
+    entering: Entering,
 ) -> Result<(Reply, Undo), EventFault>
     requires in_play { InPlay state.old.plan state.old.board }
     requires kept { KeptAsShown (content groups.old) state.old.board }
     ensures follows { Follows (play_of state.old) (play_of state.new)
-        groups.old groups.new worker event (answer_of result) }
+        groups.old groups.new entry.worker entry.event (answer_of result) }
     ensures back { IfOk result (λ both. board_before both.1 state.new.board ≡ state.old.board) }
     ensures cell { IfOk result (λ both. cell_of both.1
-        ≡ cell_before (Touch.Enters who member) state.new.board (content groups.new) both.0.displaced) }
+        ≡ cell_before (Touch.Enters entering.stood entering.member)
+        state.new.board (content groups.new) both.0.displaced) }
 {
-    let mut cell = Box::new(alloc, CellBack { who, held: None })?;
-    let reply = play_event(alloc, state, groups, worker, event)?;
+    let Entering { stood, member } = entering;
+    let nothing = CellBack {
+        who: stood,
+        held: None,
+    };
+    let mut cell = Box::new(alloc, nothing)?;
+    let reply = play_event(alloc, state, groups, entry.worker, entry.event)?;
     let board = state.counted().board();
-    cell.held = held_before(groups, board, who, member, reply.displaced);
+    cell.held = held_before(groups, board, stood, member, reply.displaced);
     Ok((reply, undo_with(alloc, state, cell)))
 }
 
@@ -313,9 +323,10 @@ fn play_with_undo(
 {
     match touched(state.counted(), groups, &event) {
         Touch::Nothing => play_apart(alloc, state, groups, worker, event),
-        Touch::Leaves(cell) => play_leaving(alloc, state, groups, worker, event, cell),
-        Touch::Enters(who, member) => {
-            play_entering(alloc, state, groups, worker, event, who, member)
+        Touch::Leaves(cell) => play_leaving(alloc, state, groups, Entry { worker, event }, cell),
+        Touch::Enters(stood, member) => {
+            let entering = Entering { stood, member };
+            play_entering(alloc, state, groups, Entry { worker, event }, entering)
         },
     }
 }

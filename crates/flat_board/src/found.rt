@@ -13,7 +13,7 @@ ghost use Rattle.board_counters.specs.Names.{IsNamed};
 use board_counters::counted::job_of;
 use board_counters::{Counted, Tally};
 use board_decisions::decisions::is_stopping_given;
-use board_decisions::kept::Kept;
+use board_decisions::kept::LegKept;
 use board_decisions::place::{SeenJob, SeenLeg, find_placed_leg, find_run, job_in_run};
 use std::alloc::{AllocError, Global};
 
@@ -92,7 +92,7 @@ fn stops_anyway(leg: &TalliedLeg) -> bool
 
 /// What is kept of a leg, so that nothing is walked over to know how it counts, and whether its next step is called.
 #[inline(always)]
-pub(crate) fn keep(state: &Counted, leg: &TalliedLeg) -> Kept
+pub(crate) fn keep(state: &Counted, leg: &TalliedLeg) -> LegKept
     requires there { leg_there state.now.board leg.now.at.place ≡ Some (leg_seen leg.now.at).leg }
     requires run_plan { slice_get state.now.plan.runs leg.now.at.place.run
         ≡ Some (leg_seen leg.now.at).run_plan }
@@ -100,7 +100,7 @@ pub(crate) fn keep(state: &Counted, leg: &TalliedLeg) -> Kept
         ≡ Some (leg_seen leg.now.at).job_plan }
     ensures { IsKeptOf result (leg_seen leg.now.at) }
 {
-    Kept {
+    LegKept {
         stops_anyway: stops_anyway(leg),
         has_failed_step: state.has_failed_step(leg.at.place),
         calls: state.calls(job_of(leg.at.place), leg.at.leg.steps.len()),

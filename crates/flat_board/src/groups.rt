@@ -2,7 +2,7 @@
 //!
 //! Memory is asked for first; what comes after it changes the board in place.
 
-ghost use Rattle.std.specs.Prelude.{◌≡◌, ◌≤◌, ℕ, List, Ok, OnOk, Option, Result, Some, false};
+ghost use Rattle.std.specs.Prelude.{◌≡◌, ◌≤◌, ℕ, List, None, Ok, OnOk, Option, Result, Some, false};
 ghost use Rattle.board_decisions.specs.Numbered.{leg_there as leg_there_of};
 ghost use Rattle.board_decisions.specs.Place.{LegAt};
 ghost use Rattle.board_decisions.specs.declared.entrance.Entrance.{Entrance as EntranceOf};
@@ -13,6 +13,7 @@ ghost use Rattle.flat_board.specs.declared.groups.Stand.{Stand as StandOf};
 ghost use Rattle.board_counters.specs.Names.{IsGroup, IsName, IsNamed};
 ghost use Rattle.flow_model.specs.declared.board.Board.{Board as BoardOf};
 ghost use Rattle.flow_model.specs.declared.board.Leg.{Leg as LegOf};
+ghost use Rattle.flow_model.specs.declared.event.Member.{Member as MemberOf};
 ghost use Rattle.flow_model.specs.declared.event.Member.TheVariants as member;
 ghost use Rattle.flow_model.specs.declared.reply.ValueFault.{ValueFault as ValueFaultOf};
 ghost use Rattle.group_admission.specs.Content.{after_enter, holder_of, is_in_group};
@@ -25,10 +26,10 @@ ghost use Rattle.status_table.specs.Row.{leg_enters, run_enters};
 
 use crate::members::{admit, close_run, delay, drop_leg, forget_end, note_end, put_out, stop};
 use board_counters::Tracked;
-use board_decisions::entrance::Entrance;
+use board_decisions::entrance::{Entrance, Entrant};
 use board_decisions::place::{LegPlace, leg_there};
 use flow_model::{Board, LegState, Member, Outcome, Reply, RunState, Text, ValueFault};
-use group_admission::Groups;
+use group_admission::{Groups, Held};
 use status_table::EventFault;
 use status_table::groups::{is_own, moved, stop_told, told};
 use std::alloc::Global;
@@ -48,100 +49,121 @@ fn cancel(state: &mut Tracked, who: Member) -> Result<Reply, EventFault>
     Ok(moved())
 }
 
+/// Who asks for a name, and for which.
+#[derive(Drop)]
+struct Asked {
+    entrant: Entrant,
+    group: Entrance,
+}
+
 /// Lets a member wait for a name that is held, in the place of one that waited.
 #[tactic(auto, using(crate::proofs::Kept::put_out_noted))]
 fn queue(
     alloc: Global,
     state: &mut Tracked,
     groups: &mut Groups,
-    who: Member,
-    own: Option<u64>,
-    group: Entrance,
-    holder: Member,
-    waited: Option<Member>,
+    asked: Asked,
+    held: Held,
 ) -> Result<Reply, EventFault>
-    requires named { IsName group.name }
-    requires outside { is_in_group who (content groups.old) ≡ false }
+    requires named { IsName asked.group.name }
+    requires outside { is_in_group asked.entrant.who (content groups.old) ≡ false }
     requires room { 4 ≤ state.old.room }
     ensures plan { state.new.plan ≡ state.old.plan }
-    ensures answers { Answers (Ok (spec.queued state.old.board who group holder waited))
+    ensures answers { Answers
+        (Ok (spec.queued state.old.board asked.entrant.who asked.group held.holder held.waiter))
         state.old.board result state.new.board }
-    ensures groups { Goes result groups.old (after_enter group.name who own (content groups.old)) groups.new }
+    ensures groups { Goes result groups.old
+        (after_enter asked.group.name asked.entrant.who asked.entrant.own (content groups.old)) groups.new }
     ensures back { OnOk result (state.new.back ≡ state.old.back) }
 {
-    note_end(state, waited)?;
+    let Asked { entrant, group } = asked;
+    note_end(state, held.waiter)?;
     if groups
-        .enter(group.name.as_str(), who, own, group.cancel)
+        .enter(group.name.as_str(), entrant.who, entrant.own, group.cancel)
         .is_err()
     {
-        forget_end(alloc, state, waited);
+        forget_end(alloc, state, held.waiter);
         return Err(EventFault::Memory);
     }
     let cancel = group.cancel;
-    delay(state, group.name, who);
-    put_out(state, waited);
-    stop(state, cancel, holder);
-    Ok(told(None, waited, stop_told(cancel, holder)))
+    delay(state, group.name, entrant.who);
+    put_out(state, held.waiter);
+    stop(state, cancel, held.holder);
+    Ok(told(None, held.waiter, stop_told(cancel, held.holder)))
 }
 
-/// What comes of a member that enters a group, by who holds its name and who waits for it.
+/// What comes of a member that enters a group, whose name is held so.
 fn enter_held(
     alloc: Global,
     state: &mut Tracked,
     groups: &mut Groups,
-    who: Member,
-    own: Option<u64>,
-    group: Entrance,
-    held: Option<Member>,
-    waited: Option<Member>,
+    asked: Asked,
+    held: Held,
 ) -> Result<Reply, EventFault>
-    requires named { IsName group.name }
-    requires outside { is_in_group who (content groups.old) ≡ false }
-    requires held { held ≡ holder_of group.name (content groups.old) }
+    requires named { IsName asked.group.name }
+    requires outside { is_in_group asked.entrant.who (content groups.old) ≡ false }
+    requires held { Some held.holder ≡ holder_of asked.group.name (content groups.old) }
     requires room { 4 ≤ state.old.room }
     ensures plan { state.new.plan ≡ state.old.plan }
-    ensures answers { Answers (Ok (spec.enters_held state.old.board who own group held waited))
+    ensures answers { Answers (Ok (spec.enters_held state.old.board asked.entrant.who
+        asked.entrant.own asked.group (Some held.holder) held.waiter))
         state.old.board result state.new.board }
-    ensures groups { Goes result groups.old (after_enter group.name who own (content groups.old)) groups.new }
+    ensures groups { Goes result groups.old
+        (after_enter asked.group.name asked.entrant.who asked.entrant.own (content groups.old)) groups.new }
     ensures back { OnOk result (state.new.back ≡ state.old.back) }
 {
-    let Some(holder) = held else {
-        groups.enter(group.name.as_str(), who, own, group.cancel)?;
-        admit(state, Some(group.name), who);
-        return Ok(told(Some(who), None, None));
-    };
-    if is_own(own, holder) {
-        return cancel(state, who);
+    if is_own(asked.entrant.own, held.holder) {
+        return cancel(state, asked.entrant.who);
     }
-    queue(alloc, state, groups, who, own, group, holder, waited)
+    queue(alloc, state, groups, asked, held)
 }
 
-/// A member, with the run that it is a leg of, if it is one, enters its group, or none.
+/// A member enters a group whose name nobody holds.
+fn enter_free(state: &mut Tracked, groups: &mut Groups, asked: Asked) -> Result<Reply, EventFault>
+    requires named { IsName asked.group.name }
+    requires outside { is_in_group asked.entrant.who (content groups.old) ≡ false }
+    requires room { 4 ≤ state.old.room }
+    ensures plan { state.new.plan ≡ state.old.plan }
+    ensures answers { (waited : Option MemberOf) → Answers (Ok (spec.enters_held state.old.board
+        asked.entrant.who asked.entrant.own asked.group None waited))
+        state.old.board result state.new.board }
+    ensures groups { Goes result groups.old
+        (after_enter asked.group.name asked.entrant.who asked.entrant.own (content groups.old)) groups.new }
+    ensures back { OnOk result (state.new.back ≡ state.old.back) }
+{
+    let Asked { entrant, group } = asked;
+    groups.enter(group.name.as_str(), entrant.who, entrant.own, group.cancel)?;
+    admit(state, Some(group.name), entrant.who);
+    Ok(told(Some(entrant.who), None, None))
+}
+
+/// A member enters its group, or none.
 pub(crate) fn enter(
     alloc: Global,
     state: &mut Tracked,
     groups: &mut Groups,
-    who: Member,
-    own: Option<u64>,
+    entrant: Entrant,
     group: Option<Entrance>,
 ) -> Result<Reply, EventFault>
     requires named { EntersNamed group }
-    requires outside { is_in_group who (content groups.old) ≡ false }
+    requires outside { is_in_group entrant.who (content groups.old) ≡ false }
     requires kept { KeptAsShown (content groups.old) state.old.board }
     requires room { 4 ≤ state.old.room }
     ensures plan { state.new.plan ≡ state.old.plan }
-    ensures answers { Answers (Ok (spec.enters state.old.board who own group))
+    ensures answers { Answers (Ok (spec.enters state.old.board entrant.who entrant.own group))
         state.old.board result state.new.board }
-    ensures groups { Goes result groups.old (entered who own group (content groups.old)) groups.new }
+    ensures groups { Goes result groups.old
+        (entered entrant.who entrant.own group (content groups.old)) groups.new }
     ensures back { OnOk result (state.new.back ≡ state.old.back) }
 {
     let Some(group) = group else {
-        admit(state, None, who);
-        return Ok(told(Some(who), None, None));
+        admit(state, None, entrant.who);
+        return Ok(told(Some(entrant.who), None, None));
     };
-    let held = groups.holder(group.name.as_str());
-    let waited = groups.waiting(group.name.as_str());
-    enter_held(alloc, state, groups, who, own, group, held, waited)
+    match groups.held(group.name.as_str()) {
+        Some(held) => enter_held(alloc, state, groups, Asked { entrant, group }, held),
+        None => enter_free(state, groups, Asked { entrant, group }),
+    }
 }
 
 /// A run enters its group; a fault of the group's text ends it.
@@ -166,7 +188,13 @@ pub(crate) fn enter_run(
     ensures back { OnOk result (state.new.back ≡ state.old.back) }
 {
     match group {
-        Ok(group) => enter(alloc, state, groups, Member::Run(number), None, group),
+        Ok(group) => {
+            let entrant = Entrant {
+                who: Member::Run(number),
+                own: None,
+            };
+            enter(alloc, state, groups, entrant, group)
+        },
         Err(ValueFault::Memory) => Err(EventFault::Memory),
         Err(
             ValueFault::NotWhole
@@ -181,31 +209,43 @@ pub(crate) fn enter_run(
     }
 }
 
+/// A leg that asks, and the run that it is one of, by their numbers.
+#[derive(Clone, Copy)]
+pub(crate) struct Asker {
+    pub(crate) leg: u64,
+    pub(crate) run: u64,
+}
+
 /// A leg enters its group; a fault of the group's text ends it with a failure that is not tolerated.
 pub(crate) fn enter_leg(
     alloc: Global,
     state: &mut Tracked,
     groups: &mut Groups,
-    number: u64,
-    own: u64,
+    asker: Asker,
     group: Result<Option<Entrance>, ValueFault>,
 ) -> Result<Reply, EventFault>
     requires named { AsksNamed group }
-    requires outside { is_in_group (member.Leg number) (content groups.old) ≡ false }
+    requires outside { is_in_group (member.Leg asker.leg) (content groups.old) ≡ false }
     requires kept { KeptAsShown (content groups.old) state.old.board }
     requires room { 4 ≤ state.old.room }
     ensures plan { state.new.plan ≡ state.old.plan }
     ensures answers { (at : LegAt) (value : Result (Option EntranceOf) ValueFaultOf)
-        → at.place.run ≡ own → Gives (λ group. group) group value
-        → Answers (leg_enters state.old.board number at value)
+        → at.place.run ≡ asker.run → Gives (λ group. group) group value
+        → Answers (leg_enters state.old.board asker.leg at value)
         state.old.board result state.new.board }
     ensures groups { (value : Result (Option EntranceOf) ValueFaultOf)
         → Gives (λ group. group) group value
-        → Goes result groups.old (asked (content groups.old) number own value) groups.new }
+        → Goes result groups.old (asked (content groups.old) asker.leg asker.run value) groups.new }
     ensures back { OnOk result (state.new.back ≡ state.old.back) }
 {
     match group {
-        Ok(group) => enter(alloc, state, groups, Member::Leg(number), Some(own), group),
+        Ok(group) => {
+            let entrant = Entrant {
+                who: Member::Leg(asker.leg),
+                own: Some(asker.run),
+            };
+            enter(alloc, state, groups, entrant, group)
+        },
         Err(ValueFault::Memory) => Err(EventFault::Memory),
         Err(
             ValueFault::NotWhole
@@ -214,7 +254,7 @@ pub(crate) fn enter_leg(
             | ValueFault::BadJson
             | ValueFault::TooLarge,
         ) => {
-            drop_leg(state, number, Outcome::Failure)?;
+            drop_leg(state, asker.leg, Outcome::Failure)?;
             Ok(moved())
         },
     }

@@ -12,7 +12,7 @@ use crate::found::{TalliedLeg, find_leg, have_all_ended, is_full, is_none_fresh}
 use board_counters::Counted;
 use board_counters::counted::job_of;
 use flow_model::{JobState, Run, RunState};
-use status_table::moves::Kind;
+use status_table::moves::MoveKind;
 
 /// Whether no job of the run at a place may be judged.
 fn is_all_judged(state: &Counted, place: usize, run: &Run) -> bool
@@ -31,15 +31,15 @@ fn is_none_stopping(state: &Counted, place: usize, run: &Run) -> bool
 }
 
 /// Whether a clerk's event of a kind is refused to each leg of the run at a place.
-fn is_run_idle(state: &Counted, kind: Kind, place: usize, run: &Run) -> bool
+fn is_run_idle(state: &Counted, kind: MoveKind, place: usize, run: &Run) -> bool
     requires { slice_get state.now.board.runs place ≡ Some run.now }
     ensures { result ≡ spec.is_run_idle kind run.now }
 {
     let is_going = matches!(run.state, RunState::Going);
     match kind {
-        Kind::Close | Kind::Open | Kind::Judge => false,
-        Kind::Drop => !is_going || is_none_stopping(state, place, run),
-        Kind::Ask => !is_going || state.run_tally(place).asking == 0,
+        MoveKind::Close | MoveKind::Open | MoveKind::Judge => false,
+        MoveKind::Drop => !is_going || is_none_stopping(state, place, run),
+        MoveKind::Ask => !is_going || state.run_tally(place).asking == 0,
     }
 }
 
@@ -60,7 +60,7 @@ fn count_idle_jobs(state: &Counted, number: u64) -> usize
 
 /// How many events of a kind, from a number on, are refused for sure: where that number is the first of a run's legs, those of
 /// all of them, if nothing may happen to any.
-fn count_idle_legs(state: &Counted, kind: Kind, number: u64) -> usize
+fn count_idle_legs(state: &Counted, kind: MoveKind, number: u64) -> usize
     ensures { (i : ℕ) → i < result
         → accepts state.now.plan state.now.board (event_of kind (number + i)) ≡ false }
 {
@@ -84,13 +84,13 @@ fn is_under_way(leg: &TalliedLeg) -> bool
 }
 
 /// Whether a clerk's event of a kind is refused to each leg of a leg's job.
-fn is_idle(kind: Kind, leg: &TalliedLeg) -> bool
+fn is_idle(kind: MoveKind, leg: &TalliedLeg) -> bool
     ensures { result ≡ spec.is_idle kind (leg_seen leg.now.at) }
 {
     match kind {
-        Kind::Close | Kind::Open | Kind::Judge => false,
-        Kind::Drop => !is_under_way(leg) || have_all_ended(leg),
-        Kind::Ask => !is_under_way(leg) || is_full(leg) || is_none_fresh(leg),
+        MoveKind::Close | MoveKind::Open | MoveKind::Judge => false,
+        MoveKind::Drop => !is_under_way(leg) || have_all_ended(leg),
+        MoveKind::Ask => !is_under_way(leg) || is_full(leg) || is_none_fresh(leg),
     }
 }
 
@@ -105,7 +105,7 @@ fn is_first_of_several(state: &Counted, number: u64) -> bool {
 /// How many events of a kind, from a number on, are refused for sure: where that number is the first of a job's legs, those of
 /// all of them, if nothing may happen to any.
 #[tactic(auto, using(crate::proofs::PassedOver::idle_legs))]
-fn count_idle_siblings(state: &Counted, kind: Kind, number: u64) -> usize
+fn count_idle_siblings(state: &Counted, kind: MoveKind, number: u64) -> usize
     ensures { (i : ℕ) → i < result
         → accepts state.now.plan state.now.board (event_of kind (number + i)) ≡ false }
 {
@@ -118,8 +118,8 @@ fn count_idle_siblings(state: &Counted, kind: Kind, number: u64) -> usize
     }
 }
 
-/// The same of the legs of a run, or else of those of a job.
-fn count_idle_from(state: &Counted, kind: Kind, number: u64) -> usize
+/// How many legs of a run, or else of a job, nothing of a kind may become of, from the one with a number on.
+fn count_idle_from(state: &Counted, kind: MoveKind, number: u64) -> usize
     ensures { (i : ℕ) → i < result
         → accepts state.now.plan state.now.board (event_of kind (number + i)) ≡ false }
 {
@@ -132,13 +132,13 @@ fn count_idle_from(state: &Counted, kind: Kind, number: u64) -> usize
 
 /// How many events of a kind, from a number on, are refused for sure: where that number is the first of a run's jobs or legs, or of
 /// a job's legs, those of all of them, if nothing may happen to any.
-pub(crate) fn count_idle(state: &Counted, kind: Kind, number: u64) -> usize
+pub(crate) fn count_idle(state: &Counted, kind: MoveKind, number: u64) -> usize
     ensures { (i : ℕ) → i < result
         → accepts state.now.plan state.now.board (event_of kind (number + i)) ≡ false }
 {
     match kind {
-        Kind::Close | Kind::Open => 0,
-        Kind::Judge => count_idle_jobs(state, number),
-        Kind::Drop | Kind::Ask => count_idle_from(state, kind, number),
+        MoveKind::Close | MoveKind::Open => 0,
+        MoveKind::Judge => count_idle_jobs(state, number),
+        MoveKind::Drop | MoveKind::Ask => count_idle_from(state, kind, number),
     }
 }

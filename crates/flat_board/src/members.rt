@@ -1,18 +1,18 @@
 //! Changes of one member of a concurrency group, and of the legs that ended, with the counters.
 
 ghost use Rattle.std.specs.Prelude.{◌≡◌, ◌≤◌, ◌+◌, true, Some, OnOk, OnErr};
-ghost use Rattle.board_counters.specs.Changes.{leg_after};
 ghost use Rattle.board_counters.specs.Names.{IsGroup, IsName, LegComesNamed};
 ghost use Rattle.flow_model.specs.declared.board.Board.{Board as BoardOf};
 ghost use Rattle.flow_model.specs.declared.event.Member.TheVariants as member;
 ghost use Rattle.status_table.specs.Groups as spec;
 ghost use Rattle.status_table.specs.Change.{with_numbered_leg};
 ghost use Rattle.status_table.specs.Row.{leg_ended};
-ghost use Rattle.status_table.specs.Seen.{noted, put_out as put_out_of};
+ghost use Rattle.status_table.specs.Seen.{leg_after, noted, put_out as put_out_of};
 
-use board_counters::{LegChange, RunChange, Tracked};
+use board_counters::{RunChange, Tracked};
 use board_decisions::place::LegPlace;
 use flow_model::{LegState, Mapping, Member, Outcome, RunState, Text};
+use status_table::change::LegChange;
 use std::alloc::{AllocError, Global};
 
 /// Changes the leg with a number, where there is one.

@@ -14,7 +14,7 @@ use board_counters::Counted;
 use board_decisions::place::find_run;
 use flow_model::{Event, JobState, RunState};
 use status_table::events::{may_ask, may_drop};
-use status_table::moves::{Kind, count_jobs, count_legs, event_of, opens};
+use status_table::moves::{MoveKind, count_jobs, count_legs, event_of, opens};
 use std::alloc::{AllocError, Global};
 
 /// Whether a run may be closed.
@@ -81,17 +81,17 @@ fn asks(alloc: Global, state: &Counted, number: u64) -> Result<bool, AllocError>
 }
 
 /// Whether the table accepts a clerk's event.
-fn accepts(alloc: Global, state: &Counted, kind: Kind, number: u64) -> Result<bool, AllocError>
+fn accepts(alloc: Global, state: &Counted, kind: MoveKind, number: u64) -> Result<bool, AllocError>
     requires { InPlay state.now.plan state.now.board }
     ensures { IfOk result
         (λ yes. yes ≡ rule.accepts state.now.plan state.now.board (spec.event_of kind number)) }
 {
     match kind {
-        Kind::Close => Ok(closes(state, number)),
-        Kind::Open => Ok(opens(state.plan(), state.board(), number)),
-        Kind::Judge => Ok(judges(state, number)),
-        Kind::Drop => drops(alloc, state, number),
-        Kind::Ask => asks(alloc, state, number),
+        MoveKind::Close => Ok(closes(state, number)),
+        MoveKind::Open => Ok(opens(state.plan(), state.board(), number)),
+        MoveKind::Judge => Ok(judges(state, number)),
+        MoveKind::Drop => drops(alloc, state, number),
+        MoveKind::Ask => asks(alloc, state, number),
     }
 }
 
@@ -100,7 +100,7 @@ fn accepts(alloc: Global, state: &Counted, kind: Kind, number: u64) -> Result<bo
 fn add_moves(
     alloc: Global,
     state: &Counted,
-    kind: Kind,
+    kind: MoveKind,
     count: usize,
     events: Vec<Event>,
 ) -> Result<Vec<Event>, AllocError>
@@ -147,11 +147,11 @@ pub(crate) fn find_moves(alloc: Global, state: &Counted) -> Result<Vec<Event>, A
     ensures { IfOk result (λ all. all.items ≡ rule.moves state.now.plan state.now.board) }
 {
     let counts = count_all(state);
-    let closed = add_moves(alloc, state, Kind::Close, counts.runs, Vec::new(alloc))?;
-    let opened = add_moves(alloc, state, Kind::Open, counts.runs, closed)?;
-    let judged = add_moves(alloc, state, Kind::Judge, counts.jobs, opened)?;
-    let dropped = add_moves(alloc, state, Kind::Drop, counts.legs, judged)?;
-    add_moves(alloc, state, Kind::Ask, counts.legs, dropped)
+    let closed = add_moves(alloc, state, MoveKind::Close, counts.runs, Vec::new(alloc))?;
+    let opened = add_moves(alloc, state, MoveKind::Open, counts.runs, closed)?;
+    let judged = add_moves(alloc, state, MoveKind::Judge, counts.jobs, opened)?;
+    let dropped = add_moves(alloc, state, MoveKind::Drop, counts.legs, judged)?;
+    add_moves(alloc, state, MoveKind::Ask, counts.legs, dropped)
 }
 
 /// The first event of a kind that the table accepts, by ascending number. Jobs to whose legs nothing may happen are passed over.
@@ -159,7 +159,7 @@ pub(crate) fn find_moves(alloc: Global, state: &Counted) -> Result<Vec<Event>, A
 fn first_of(
     alloc: Global,
     state: &Counted,
-    kind: Kind,
+    kind: MoveKind,
     count: usize,
 ) -> Result<Option<Event>, AllocError>
     requires { InPlay state.now.plan state.now.board }
@@ -187,7 +187,7 @@ fn first_or(
     alloc: Global,
     state: &Counted,
     first: Option<Event>,
-    kind: Kind,
+    kind: MoveKind,
     count: usize,
 ) -> Result<Option<Event>, AllocError>
     requires { InPlay state.now.plan state.now.board }
@@ -207,9 +207,9 @@ pub(crate) fn find_first(alloc: Global, state: &Counted) -> Result<Option<Event>
     ensures { IfOk result (λ first. first ≡ rule.first_move state.now.plan state.now.board) }
 {
     let counts = count_all(state);
-    let closes = first_of(alloc, state, Kind::Close, counts.runs)?;
-    let opens = first_or(alloc, state, closes, Kind::Open, counts.runs)?;
-    let judges = first_or(alloc, state, opens, Kind::Judge, counts.jobs)?;
-    let drops = first_or(alloc, state, judges, Kind::Drop, counts.legs)?;
-    first_or(alloc, state, drops, Kind::Ask, counts.legs)
+    let closes = first_of(alloc, state, MoveKind::Close, counts.runs)?;
+    let opens = first_or(alloc, state, closes, MoveKind::Open, counts.runs)?;
+    let judges = first_or(alloc, state, opens, MoveKind::Judge, counts.jobs)?;
+    let drops = first_or(alloc, state, judges, MoveKind::Drop, counts.legs)?;
+    first_or(alloc, state, drops, MoveKind::Ask, counts.legs)
 }

@@ -12,9 +12,10 @@ ghost use Rattle.status_table.specs.Unasked.{Leads};
 use crate::events::end;
 use crate::found::{find_leg, keep};
 use crate::undo::Undo;
-use board_counters::{LegChange, OnlyChange, Tracked};
+use board_counters::{OnlyChange, Tracked};
 use flow_model::{Answer, LegState, Outcome};
 use status_table::EventFault;
+use status_table::change::LegChange;
 use status_table::events::{ended_step, failed_step, skipped_step};
 use status_table::unasked::{Begins, beginning_unasked, is_begun_at_once, is_ended_at_once};
 use std::alloc::Global;
@@ -69,7 +70,7 @@ fn begin_by_texts(
     Ok(())
 }
 
-/// The same, with what takes it back.
+/// Begins the next step of a leg, and gives what takes that back.
 fn begin_slowly(
     alloc: Global,
     state: &mut Tracked,

@@ -1,24 +1,48 @@
-use Rattle.std.proofs.Common.{◌≡◌, Ok, ap, sym, subst, ◌∙◌}
+use Rattle.std.proofs.Common.{◌≡◌, Ok, Some, None, Option, ap, sym, subst, ◌∙◌}
+use Rattle.std.specs.Option.{option_map, option_and_then}
 use Rattle.expr_reader.specs.Fold.{fold}
+use Rattle.flow_model.specs.Mapping.{value_at}
+use Rattle.flow_model.specs.declared.event.Member.{Member}
 use Rattle.group_admission.specs.Content.{holder_of, waiter_of}
+use Rattle.group_admission.specs.declared.held.Held.{Held}
 use Rattle.flat_board.specs.Index.{EntersNamed}
 use Rattle.status_table.specs.Answers.{Answers}
 use Rattle.status_table.specs.Groups.{Done, holder, waiter, enters_held, enters}
 use Rattle.group_admission.specs.Known.{content}
 use Rattle.flat_board.proofs.groups.enter.Goals as goal
 
-pub returns-clause-answers : goal.returns-clause-answers
-returns-clause-answers c =
+pub enter_held-requires-clause-held : goal.enter_held-requires-clause-held
+enter_held-requires-clause-held c =
+    let groups = content c.args.groups.now in
+    let named = subst EntersNamed c.in-Some.is c.requires.named in
+    ap (option_map (λ (h : Held). h.holder)) (sym c.in-Some-held.is ∙ c.held.ensures ∙ ap (λ n. value_at (fold n) groups) c.as_str.ensures ∙ ap (λ n. value_at n groups) named.folded)
+
+pub returns-in-Some-held-clause-answers : goal.returns-in-Some-held-clause-answers
+returns-in-Some-held-clause-answers c =
     let b = c.args.state.now.board in
     let groups = content c.args.groups.now in
     let group = c.in-Some.group in
     let named = subst EntersNamed c.in-Some.is c.requires.named in
-    let held : c.holder-held.result ≡ holder b group.name =
-    c.holder-held.ensures.member ∙ ap (λ n. holder_of (fold n) groups) c.as_str.ensures ∙ ap (λ n. holder_of n groups) named.folded
-    ∙ c.requires.kept.shown.holder group.name named.some in
-    let waited : c.waiting-waited.result ≡ waiter b group.name =
-    c.waiting-waited.ensures ∙ ap (λ n. waiter_of (fold n) groups) c.as_str-2.ensures ∙ ap (λ n. waiter_of n groups) named.folded
-    ∙ c.requires.kept.shown.waiter group.name named.some in
-    let same : ◌≡◌ {A = Done} (enters_held b c.args.who c.args.own group c.holder-held.result c.waiting-waited.result) (enters b c.args.who c.args.own c.args.group) =
-    (λ i. enters_held b c.args.who c.args.own group (held i) (waited i)) ∙ ap (enters b c.args.who c.args.own) (sym c.in-Some.is) in
+    let there : Some c.in-Some-held.held ≡ value_at group.name groups =
+    sym c.in-Some-held.is ∙ c.held.ensures ∙ ap (λ n. value_at (fold n) groups) c.as_str.ensures ∙ ap (λ n. value_at n groups) named.folded in
+    let held : Some c.in-Some-held.held.holder ≡ holder b group.name =
+    ap (option_map (λ (h : Held). h.holder)) there ∙ c.requires.kept.shown.holder group.name named.some in
+    let waited : c.in-Some-held.held.waiter ≡ waiter b group.name =
+    ap (option_and_then (λ (h : Held). h.waiter)) there ∙ c.requires.kept.shown.waiter group.name named.some in
+    let same : ◌≡◌ {A = Done} (enters_held b c.args.entrant.who c.args.entrant.own group (Some c.in-Some-held.held.holder) c.in-Some-held.held.waiter) (enters b c.args.entrant.who c.args.entrant.own c.args.group) =
+    (λ i. enters_held b c.args.entrant.who c.args.entrant.own group (held i) (waited i)) ∙ ap (enters b c.args.entrant.who c.args.entrant.own) (sym c.in-Some.is) in
     subst (λ (d : Done). Answers (Ok d) b c.enter_held.result c.enter_held.new.state.board) same c.enter_held.ensures.answers
+
+pub returns-in-None-clause-answers : goal.returns-in-None-clause-answers
+returns-in-None-clause-answers c =
+    let b = c.args.state.now.board in
+    let groups = content c.args.groups.now in
+    let group = c.in-Some.group in
+    let named = subst EntersNamed c.in-Some.is c.requires.named in
+    let there : ◌≡◌ {A = Option Held} None (value_at group.name groups) =
+    sym c.in-None.is ∙ c.held.ensures ∙ ap (λ n. value_at (fold n) groups) c.as_str.ensures ∙ ap (λ n. value_at n groups) named.folded in
+    let held : ◌≡◌ {A = Option Member} None (holder b group.name) =
+    ap (option_map (λ (h : Held). h.holder)) there ∙ c.requires.kept.shown.holder group.name named.some in
+    let same : ◌≡◌ {A = Done} (enters_held b c.args.entrant.who c.args.entrant.own group None (waiter b group.name)) (enters b c.args.entrant.who c.args.entrant.own c.args.group) =
+    (λ i. enters_held b c.args.entrant.who c.args.entrant.own group (held i) (waiter b group.name)) ∙ ap (enters b c.args.entrant.who c.args.entrant.own) (sym c.in-Some.is) in
+    subst (λ (d : Done). Answers (Ok d) b c.enter_free.result c.enter_free.new.state.board) same (c.enter_free.ensures.answers (waiter b group.name))

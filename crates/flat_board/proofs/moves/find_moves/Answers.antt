@@ -3,7 +3,7 @@ use Rattle.std.proofs.lemmas.Result.{IfOk-weaker}
 use Rattle.flow_model.specs.declared.event.Event.{Event}
 use Rattle.status_table.specs.Kinds.{events_of}
 use Rattle.status_table.specs.Moves.{accepts}
-use Rattle.status_table.specs.declared.moves.Kind.TheVariants as kind
+use Rattle.status_table.specs.declared.moves.MoveKind.TheVariants as kind
 use Rattle.status_table.proofs.Accepting.{in_order}
 use Rattle.flat_board.proofs.FirstMove.{as_counted}
 use Rattle.flat_board.proofs.moves.find_moves.Goals as goal
