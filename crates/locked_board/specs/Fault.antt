@@ -31,7 +31,7 @@ post_fault fault.StepsLeft = post.Event fault.StepsLeft
 post_fault fault.BadAnswer = post.Event fault.BadAnswer
 post_fault fault.Memory = post.Memory
 
--- the same for an End whose call is not the open one of its leg
+-- the fault of an End whose call is not the open one of its leg
 abbrev pub fault_of_other : EventFault → PostFault
 fault_of_other fault.NoSuch = post.Event fault.NoSuch
 fault_of_other fault.WrongState = post.Event fault.WrongState

@@ -31,7 +31,7 @@ abbrev pub Counts : {A B : Type 0} → Hand → Result A B → Hand → Type 0
 Counts old (Ok x) new = new ≡ with_entry old
 Counts old (Err f) new = new ≡ old
 
--- the same for a clerk, which posts nothing where it has no move
+-- an entry of a clerk that is accepted is counted, and nothing else: a clerk posts nothing where it has no move
 abbrev pub CountsMove : Hand → Result Clerk PostFault → Hand → Type 0
 CountsMove old (Ok (clerk.Moved e reply)) new = new ≡ with_entry old
 CountsMove old (Ok clerk.Done) new = new ≡ old

@@ -1,6 +1,6 @@
 //! locked_board: a board and its history under one lock, lent to several workers.
 //!
-//! A `SharedBoard` lends what is `Kept` under its lock: a board in play, over any `Reversible` table, and the list of the
+//! A `SharedBoard` lends what is `KeptBoard` under its lock: a board in play, over any `Reversible` table, and the list of the
 //! entries that it accepted. Whenever the lock is free that history is legal for the board's plan, and the board is the one
 //! after it (`specs/Course.antt`). What is posted adds one entry, of the worker whose `Share` is used, or is refused as its
 //! row says and changes nothing. A worker that begins a step holds its call (`Held`), and ends it with an answer only while
@@ -27,6 +27,6 @@ pub mod shared_board;
 pub use clerk::Clerk;
 pub use fault::PostFault;
 pub use held::{Begun, Held};
-pub use kept::Kept;
+pub use kept::KeptBoard;
 pub use share::{Names, Share};
 pub use shared_board::SharedBoard;
