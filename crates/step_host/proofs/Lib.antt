@@ -1,6 +1,7 @@
 pub mod Counted
 pub mod Kept
 pub mod LastCalls
+pub mod Launches
 pub mod Lawfulness
 pub mod Quiet
 pub mod Recorded

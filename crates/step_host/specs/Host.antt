@@ -1,6 +1,7 @@
 -- What a host gives to a call.
 use Rattle.std.specs.Prelude.{Result, Ok, Err}
 use Rattle.flow_model.specs.declared.event.Answer.{Answer}
+use Rattle.flow_model.specs.declared.reply.StepCall.{StepCall}
 use Rattle.step_host.specs.declared.fault.HostFault.{HostFault}
 use Rattle.step_host.specs.declared.fault.HostFault.TheVariants.{NoAnswer, Memory}
 
@@ -9,3 +10,7 @@ abbrev pub Responds : (Answer → Type 0) → Type 0 → Result Answer HostFault
 Responds admitted declined (Ok answer) = admitted answer
 Responds admitted declined (Err NoAnswer) = declined
 Responds admitted declined (Err Memory) = Unit {0}
+
+-- No call is declined for which an answer is admitted.
+abbrev pub DeclinesUnanswered : (StepCall → Answer → Type 0) → (StepCall → Type 0) → Type 0
+DeclinesUnanswered admits declines = (call : StepCall) → declines call → (answer : Answer) → admits call answer → ⊥

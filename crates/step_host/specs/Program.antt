@@ -1,5 +1,5 @@
 -- How the program of a step is started, and what its end answers.
-use Rattle.std.specs.Prelude.{◌≡◌, ◌≢◌, ℕ, ℤ, pos, ◌-◌, ◌==◌, true, nat_eq, if◌then◌else◌, List, [], ◌∷◌, ◌++◌, length, map, codes, decimal, slice_get, drop, Option, Some, None, Result, Ok, Err}
+use Rattle.std.specs.Prelude.{◌≡◌, ◌≢◌, ◌⊎◌, ℕ, ℤ, pos, ◌-◌, ◌==◌, true, nat_eq, if◌then◌else◌, List, [], ◌∷◌, ◌++◌, length, map, codes, decimal, slice_get, drop, Option, Some, None, Result, Ok, Err}
 use Rattle.std.specs.Char.{to_ascii_uppercase}
 use Rattle.std.specs.List.{starts_with}
 use Rattle.std.specs.Str.{bytes_eq}
@@ -14,6 +14,9 @@ use Rattle.flow_model.specs.declared.event.Answer.{Answer}
 use Rattle.flow_model.specs.declared.event.Answer.TheVariants.{Exit, BadOutput}
 use Rattle.flow_model.specs.declared.plan.Shell.{Shell}
 use Rattle.flow_model.specs.declared.plan.Shell.TheVariants.{Default, Sh, Bash}
+use Rattle.flow_model.specs.Mapping.{value_at}
+use Rattle.flow_model.specs.declared.reply.CallWork.{CallWork}
+use Rattle.flow_model.specs.declared.reply.CallWork.TheVariants.{Script, Uses}
 use Rattle.flow_model.specs.declared.reply.StepCall.{StepCall}
 use Rattle.flow_commands.specs.PairFiles.{Pair, Reading, outputs, env, with_pairs}
 use Rattle.flow_commands.specs.Replace.{replaced}
@@ -119,6 +122,32 @@ pub record IsCommandOf (base : List Pair) (launch : Launch) (command : Command G
   pub alone : clears_env command ≡ true
   pub variables : (name : List ℕ) → command_var command name ≡ said_after (said_after None name base) name launch.variables
   pub folder : command_dir command ≡ Some launch.folder
+
+-- A call asks for a script, by this shell and in this folder, if one is named.
+abbrev pub AsksScript : CallWork → Shell → Option (List ℕ) → Type 0
+AsksScript (Script text shell dir) named folder = (named ≡ shell) × (folder ≡ dir)
+AsksScript (Uses uses given) named folder = ⊥
+
+-- It does, and the script is started by that shell, or by the one that stands in for it.
+abbrev pub IsStartedBy : CallWork → Shell → Option (List ℕ) → Type 0
+IsStartedBy (Script text shell dir) by folder = ((by ≡ shell) ⊎ (other_shell shell ≡ Some by)) × (folder ≡ dir)
+IsStartedBy (Uses uses given) by folder = ⊥
+
+-- It asks for an action, for which this program is named, and gives it these inputs.
+abbrev pub AsksStub : List Pair → CallWork → List ℕ → List Pair → Type 0
+AsksStub stubs (Script text shell dir) program inputs = ⊥
+AsksStub stubs (Uses uses given) program inputs = (value_at uses stubs ≡ Some program) × (inputs ≡ given)
+
+-- How the program of what a call asks for is started: a script by its shell, or by the one that stands in for it; an action by the
+-- program that is named for it.
+abbrev pub Launches : List ℕ → List Pair → StepCall → CallWork → Launch → Type 0
+Launches work stubs call (Script text shell dir) launch =
+    (by : Shell) × ((by ≡ shell) ⊎ (other_shell shell ≡ Some by)) × (launch ≡ script_launch work call by dir)
+Launches work stubs call (Uses uses given) launch =
+    (program : List ℕ) × (value_at uses stubs ≡ Some program) × (launch ≡ stub_launch work call program given)
+
+abbrev pub IsLaunchOf : List ℕ → List Pair → StepCall → Launch → Type 0
+IsLaunchOf work stubs call launch = Launches work stubs call call.work launch
 
 -- ---- how it ended
 

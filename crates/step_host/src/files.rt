@@ -1,5 +1,8 @@
 //! Files that a host of programs makes, writes and reads. None of these calls waits for another program.
 
+ghost use Rattle.std.specs.Prelude.{◌≡◌, IfOk};
+
+use flow_model::Text;
 use std::alloc::Global;
 use std::fs::{File, Files, OpenFile, OpenOptions};
 use std::io::{ErrorKind, Read, Write};
@@ -70,4 +73,39 @@ pub fn file_bytes<F: Files>(alloc: Global, files: &F, name: &str) -> io::Result<
         return Ok(Vec::new(alloc));
     }
     bytes_now(alloc, File::open(files, name)?)
+}
+
+/// The bytes of a file, with the name by which they were read: `read_named` alone makes one.
+#[derive(Drop)]
+pub struct FileBytes {
+    name: Text,
+    bytes: Vec<u8>,
+}
+
+impl FileBytes {
+    /// The bytes.
+    pub fn bytes(&self) -> &[u8]
+        ensures { result.now ≡ self.now.bytes.items }
+    {
+        self.bytes.as_slice()
+    }
+
+    /// The bytes, without the name.
+    pub fn into_bytes(self) -> Vec<u8>
+        ensures { result ≡ self.bytes }
+    {
+        self.bytes
+    }
+}
+
+/// The bytes of the file of that name, with the name. An empty one is not opened.
+///
+/// # Errors
+///
+/// Those of `file_bytes`.
+pub fn read_named<F: Files>(alloc: Global, files: &F, name: Text) -> io::Result<FileBytes>
+    ensures { IfOk result (λ file. file.name ≡ name) }
+{
+    let bytes = file_bytes(alloc, files, name.as_str())?;
+    Ok(FileBytes { name, bytes })
 }

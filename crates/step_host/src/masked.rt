@@ -32,6 +32,8 @@ impl<H: StepHost> Masked<H> {
             ↔ IsMasked masks (H.admits host call) answer }
         ensures declines { (call : StepCall)
             → ⟦<Masked<H> as StepHost>⟧.declines result call ↔ H.declines host call }
+        ensures host { result.host ≡ host }
+        ensures masks { result.masks ≡ masks }
     {
         Masked { host, masks, alloc }
     }

@@ -1,6 +1,7 @@
 //! The host that starts programs.
 
-ghost use Rattle.std.specs.Prelude.{◌≡◌, ◌↔◌, IfOk, true};
+ghost use Rattle.std.specs.Prelude.{◌≡◌, ◌↔◌, IfOk, IfSome, true};
+ghost use Rattle.std.specs.Process.{exit_code};
 ghost use Rattle.flow_model.specs.Answer.{is_well_formed};
 ghost use Rattle.flow_model.specs.declared.event.Answer.{Answer};
 ghost use Rattle.flow_model.specs.declared.reply.StepCall.{StepCall};
@@ -9,7 +10,9 @@ ghost use Rattle.step_host.specs.Program as spec;
 use crate::command::command_of;
 use crate::ending::{ended, logged};
 use crate::fault::HostFault;
-use crate::files::{Printed, bytes_now, file_bytes, is_empty_file, printed_file, write_file};
+use crate::files::{
+    FileBytes, Printed, bytes_now, is_empty_file, printed_file, read_named, write_file,
+};
 use crate::host::{StepHost, WatchedHost};
 use crate::launch::{
     Launch, env_file, err_file, log_file, other_shell, out_file, print_file, script_file,
@@ -20,7 +23,7 @@ use flow_model::{Answer, CallWork, Mapping, Shell, StepCall, Text};
 use std::alloc::{AllocError, Global};
 use std::fs::{File, Files};
 use std::io::ErrorKind;
-use std::process::{Child, ExitStatus, OpenProcess, Processes, Stdio};
+use std::process::{Child, Command, ExitStatus, OpenProcess, Processes, Stdio};
 use std::{fs, io};
 
 /// The host that starts a program for each step: a script by its shell, an action by the stub that is named for it.
@@ -66,24 +69,6 @@ struct Started<P: OpenProcess + Drop> {
 /// A program that was started, or why none was.
 type Start<P> = Result<Started<P>, Unstarted>;
 
-/// Starts a program over the variables of the base, with no input; what it prints goes into files.
-fn start<R: Processes>(
-    alloc: Global,
-    runtime: &R,
-    base: &Mapping<Text>,
-    launch: &Launch,
-    out: Printed<File>,
-    err: Printed<File>,
-) -> io::Result<Started<R::Started>> {
-    let mut command = command_of(alloc, base, launch)?;
-    command.stdin(Stdio::null()).stdout(out.0).stderr(err.0);
-    Ok(Started {
-        child: command.spawn(runtime)?,
-        out: out.1,
-        err: err.1,
-    })
-}
-
 impl<R: Processes + Files<File = File> + Sync> ProgramHost<R> {
     /// The host that starts programs by this runtime, writes its files in the folder `work` and starts programs there or
     /// below. The folder is named by its whole path, since programs are told where their files are. Programs have the
@@ -102,6 +87,9 @@ impl<R: Processes + Files<File = File> + Sync> ProgramHost<R> {
             ↔ (is_well_formed answer ≡ true) }
         ensures answers { (call : StepCall)
             → ⟦<ProgramHost<R> as StepHost>⟧.declines result call → ⊥ }
+        ensures work { result.work ≡ work }
+        ensures base { result.base ≡ base }
+        ensures stubs { result.stubs ≡ stubs }
     {
         ProgramHost {
             runtime,
@@ -149,8 +137,10 @@ impl<R: Processes + Files<File = File>> ProgramHost<R> {
         }
     }
 
-    /// Starts a program, or tells why it cannot be started.
-    fn start(&self, call: &StepCall, launch: &Launch) -> Result<Start<R::Started>, AllocError> {
+    /// Starts the program of a call, or tells why it cannot be started.
+    fn start(&self, call: &StepCall, launch: &Launch) -> Result<Start<R::Started>, AllocError>
+        requires { spec.IsLaunchOf self.now.work self.now.stubs call.now launch.now }
+    {
         let out = print_file(self.alloc, self.work.as_str(), call)?;
         let err = err_file(self.alloc, self.work.as_str(), call)?;
         match self.start_into(launch, out.as_str(), err.as_str()) {
@@ -163,7 +153,26 @@ impl<R: Processes + Files<File = File>> ProgramHost<R> {
     fn start_into(&self, launch: &Launch, out: &str, err: &str) -> io::Result<Started<R::Started>> {
         let out = printed_file(&self.runtime, out)?;
         let err = printed_file(&self.runtime, err)?;
-        start(self.alloc, &self.runtime, &self.base, launch, out, err)
+        let command = command_of(self.alloc, &self.base, launch)?;
+        self.spawn(launch, command, out, err)
+    }
+
+    /// Starts a program over the variables of the base, with no input; what it prints goes into files.
+    fn spawn(
+        &self,
+        _launch: &Launch,
+        mut command: Command,
+        out: Printed<File>,
+        err: Printed<File>,
+    ) -> io::Result<Started<R::Started>>
+        requires { spec.IsCommandOf self.now.base _launch.now command }
+    {
+        command.stdin(Stdio::null()).stdout(out.0).stderr(err.0);
+        Ok(Started {
+            child: command.spawn(&self.runtime)?,
+            out: out.1,
+            err: err.1,
+        })
     }
 
     /// Why a program cannot be started, by the kind of the error. Want of memory is told apart.
@@ -178,23 +187,29 @@ impl<R: Processes + Files<File = File>> ProgramHost<R> {
     }
 
     /// Starts a script by this shell.
+    #[tactic(auto, using(crate::proofs::Launches::script_by))]
     fn start_by(
         &self,
         call: &StepCall,
         shell: Shell,
         dir: &Option<Text>,
-    ) -> Result<Start<R::Started>, AllocError> {
+    ) -> Result<Start<R::Started>, AllocError>
+        requires { spec.IsStartedBy call.now.work shell dir.now }
+    {
         let launch = script_launch(self.alloc, self.work.as_str(), call, shell, dir)?;
         self.start(call, &launch)
     }
 
     /// Starts a script by its shell, or by the one that stands in for it.
+    #[tactic(auto, using(crate::proofs::Launches::first_by, crate::proofs::Launches::other_by))]
     fn start_somehow(
         &self,
         call: &StepCall,
         shell: Shell,
         dir: &Option<Text>,
-    ) -> Result<Start<R::Started>, AllocError> {
+    ) -> Result<Start<R::Started>, AllocError>
+        requires { spec.AsksScript call.now.work shell dir.now }
+    {
         match self.start_by(call, shell, dir)? {
             Ok(started) => Ok(Ok(started)),
             Err(why) => match other_shell(shell) {
@@ -211,7 +226,9 @@ impl<R: Processes + Files<File = File>> ProgramHost<R> {
         text: &Text,
         shell: Shell,
         dir: &Option<Text>,
-    ) -> Result<Start<R::Started>, AllocError> {
+    ) -> Result<Start<R::Started>, AllocError>
+        requires { spec.AsksScript call.now.work shell dir.now }
+    {
         let file = script_file(self.alloc, self.work.as_str(), call)?;
         if !self.clears(call)? || !self.writes(&file, text.as_str().as_bytes())? {
             return Ok(Err(self.unwritten()));
@@ -220,12 +237,15 @@ impl<R: Processes + Files<File = File>> ProgramHost<R> {
     }
 
     /// Starts the stub of an action.
+    #[tactic(auto, using(crate::proofs::Launches::stub_by))]
     fn start_stub(
         &self,
         call: &StepCall,
         program: &Text,
         given: &Mapping<Text>,
-    ) -> Result<Start<R::Started>, AllocError> {
+    ) -> Result<Start<R::Started>, AllocError>
+        requires { spec.AsksStub self.now.stubs call.now.work program.now given.now }
+    {
         if !self.clears(call)? {
             return Ok(Err(self.unwritten()));
         }
@@ -267,16 +287,22 @@ impl<R: Processes + Files<File = File>> ProgramHost<R> {
         self.writes(&name, log)
     }
 
-    /// The bytes in the file of a call's outputs, if it can be read.
-    fn outputs(&self, call: &StepCall) -> Result<Option<Vec<u8>>, AllocError> {
+    /// The file of a call's outputs, if it can be read.
+    fn outputs(&self, call: &StepCall) -> Result<Option<FileBytes>, AllocError>
+        ensures { IfOk result (λ found.
+            IfSome found (λ file. file.name ≡ spec.out_file self.now.work call.now)) }
+    {
         let name = out_file(self.alloc, self.work.as_str(), call)?;
-        unless_memory(file_bytes(self.alloc, &self.runtime, name.as_str()))
+        unless_memory(read_named(self.alloc, &self.runtime, name))
     }
 
-    /// The bytes in the file of a call's variables, if it can be read.
-    fn env(&self, call: &StepCall) -> Result<Option<Vec<u8>>, AllocError> {
+    /// The file of a call's variables, if it can be read.
+    fn env(&self, call: &StepCall) -> Result<Option<FileBytes>, AllocError>
+        ensures { IfOk result (λ found.
+            IfSome found (λ file. file.name ≡ spec.env_file self.now.work call.now)) }
+    {
         let name = env_file(self.alloc, self.work.as_str(), call)?;
-        unless_memory(file_bytes(self.alloc, &self.runtime, name.as_str()))
+        unless_memory(read_named(self.alloc, &self.runtime, name))
     }
 
     /// Waits until a program has ended, whatever it leaves behind, and answers for it.
@@ -303,7 +329,7 @@ impl<R: Processes + Files<File = File>> ProgramHost<R> {
             return Ok(Answer::BadOutput);
         };
         match self.outputs(call)? {
-            Some(outputs) => self.answer_with(call, status, outputs.as_slice()),
+            Some(outputs) => self.answer_with(call, status, &outputs),
             None => Ok(Answer::BadOutput),
         }
     }
@@ -313,14 +339,32 @@ impl<R: Processes + Files<File = File>> ProgramHost<R> {
         &self,
         call: &StepCall,
         status: ExitStatus,
-        outputs: &[u8],
+        outputs: &FileBytes,
     ) -> Result<Answer, AllocError>
+        requires { outputs.now.name ≡ spec.out_file self.now.work call.now }
         ensures { IfOk result (λ a. is_well_formed a ≡ true) }
     {
         match self.env(call)? {
-            Some(env) => ended(self.alloc, status, outputs, env.as_slice()),
+            Some(env) => self.answer_of(call, status, outputs, &env),
             None => Ok(Answer::BadOutput),
         }
+    }
+
+    /// The answer of a program with this exit status, which wrote these files of its outputs and of its variables.
+    fn answer_of(
+        &self,
+        _call: &StepCall,
+        status: ExitStatus,
+        outputs: &FileBytes,
+        env: &FileBytes,
+    ) -> Result<Answer, AllocError>
+        requires outputs { outputs.now.name ≡ spec.out_file self.now.work _call.now }
+        requires env { env.now.name ≡ spec.env_file self.now.work _call.now }
+        ensures answer { IfOk result (λ a.
+            a ≡ spec.ended (exit_code status) outputs.now.bytes.items env.now.bytes.items) }
+        ensures well_formed { IfOk result (λ a. is_well_formed a ≡ true) }
+    {
+        ended(self.alloc, status, outputs.bytes(), env.bytes())
     }
 
     /// Plays a call, and tells whether a program was started for it.

@@ -1,6 +1,8 @@
 //! Hosts that answer from a list.
 
+ghost use Rattle.std.specs.Prelude.{IfOk};
 ghost use Rattle.flow_model.specs.declared.event.Answer.{Answer};
+ghost use Rattle.step_host.specs.Host.{DeclinesUnanswered};
 ghost use Rattle.step_host.specs.Entries.{AreWellFormed, IsKept, Keeps, kept_one};
 ghost use Rattle.step_host.specs.Script.{MakesScript};
 
@@ -20,15 +22,17 @@ pub struct ScriptHost {
 }
 
 impl ScriptHost {
-    /// The host that admits the listed answers, each after the numbers of its leg and its step, and no others. It keeps
-    /// the allocator.
+    /// The host that admits the listed answers, each after the numbers of its leg and its step, and no others. It declines
+    /// only calls for which it admits none. It keeps the allocator.
     ///
     /// # Errors
     ///
     /// `ScriptFault::BadScript` where an answer is not well-formed or a step of a leg has two, and
     /// `ScriptFault::Memory`.
     pub fn new(alloc: Global, lines: Vec<(u64, u64, Answer)>) -> Result<ScriptHost, ScriptFault>
-        ensures { MakesScript ⟦<ScriptHost as StepHost>⟧.admits lines.items result }
+        ensures makes { MakesScript ⟦<ScriptHost as StepHost>⟧.admits lines.items result }
+        ensures declines { IfOk result (λ host. DeclinesUnanswered
+            (⟦<ScriptHost as StepHost>⟧.admits host) (⟦<ScriptHost as StepHost>⟧.declines host)) }
     {
         let mut answers = BTreeMap::new(alloc);
         for line in lines {

@@ -1,6 +1,6 @@
 //! A host that somebody watches.
 
-ghost use Rattle.std.specs.Prelude.{◌↔◌};
+ghost use Rattle.std.specs.Prelude.{◌≡◌, ◌↔◌};
 ghost use Rattle.flow_model.specs.declared.event.Answer.{Answer};
 ghost use Rattle.flow_model.specs.declared.reply.StepCall.{StepCall};
 
@@ -24,6 +24,7 @@ impl<H: WatchedHost, W: Watch + Sync> Watched<H, W> {
             ↔ H.admits host call answer }
         ensures declines { (call : StepCall)
             → ⟦<Watched<H, W> as StepHost>⟧.declines result call ↔ H.declines host call }
+        ensures host { result.host ≡ host }
     {
         Watched { host, watch }
     }

@@ -3,8 +3,8 @@ use Rattle.std.specs.Vec.Iter.{into_iter_items, into_iter_len}
 use Rattle.step_host.proofs.Kept.{keeping-next, faults, all_kept, one_more, kept_well_formed}
 use Rattle.step_host.proofs.script.ScriptHost.new.Goals as goal
 
-pub returns-in-Err : goal.returns-in-Err
-returns-in-Err c =
+pub returns-in-Err-clause-makes : goal.returns-in-Err-clause-makes
+returns-in-Err-clause-makes c =
     let before = c.loop-line.invariant in
     let step = c.in-Some.ensures.steps in
     faults c.loop-line.yielded c.loop-line.answers.entries c.in-Some.line (into_iter_items c.next.new.self) c.keep.new.answers.entries c.args.lines.items c.in-Err.fault before.0
@@ -24,8 +24,8 @@ loop-line-preserved c =
 pub invariant_of-result : goal.invariant_of-result
 invariant_of-result c = record { sound = kept_well_formed c.loop-line.yielded c.loop-line.answers.entries c.loop-line.invariant.0 }
 
-pub returns : goal.returns
-returns c =
+pub returns-clause-makes : goal.returns-clause-makes
+returns-clause-makes c =
     let before = c.loop-line.invariant in
     let kept = all_kept c.loop-line.yielded (into_iter_items c.loop-line.line-iterator) c.args.lines.items c.loop-line.answers.entries before.0 before.1 (sym before.2 ∙ c.in-None.ensures.steps.0) in
     (kept.script, λ call a. kept.listed call.leg call.step a)
