@@ -11,11 +11,11 @@ ghost use Rattle.worker_pool.specs.Worker.{IsFit, IsReady, StaysFit, crew_keeper
 ghost use Rattle.worker_pool.specs.declared.played.Ending.TheVariants as ending;
 
 use crate::bell::Bell;
-use crate::crew::{gather, hire};
+use crate::crew::{Gathered, gather, hire};
 use crate::fault::PoolFault;
 use crate::logs::Logs;
 use crate::played::Played;
-use crate::review::settle;
+use crate::review::{Handed, settle};
 use crate::settles::plays_leave_what_is_settled;
 use crate::stalls::stalled_only_by_groups;
 use crate::stop::Stop;
@@ -129,25 +129,32 @@ fn play_start<
         mut shares,
         pass,
         mut crew,
-        mut logs,
+        logs,
     } = start;
     let alloc = pool.alloc;
-    let rest = hire(alloc, host, &pool.queue, pass, &mut shares, &mut crew);
+    let rest = hire(host, &pool, pass, &mut shares, &mut crew);
     play_each(rt, &pool, host, crew.as_mut_slice());
-    let (pass, halt) = gather(host, &pool.queue, rest, crew, &mut shares, &mut logs);
+    let mut back = Gathered { shares, logs };
+    let (pass, halt) = gather(host, &pool.queue, rest, crew, &mut back);
     let Pool { board, queue, .. } = pool;
-    let tickets = queue.close(pass);
+    let Gathered { shares, logs } = back;
+    let tickets = queue.close(pass).put;
     let (_, history) = board.close(shares);
-    settle(
-        alloc,
-        again,
-        host,
+    let handed = Handed {
         workers,
-        history,
-        &logs,
-        &halt,
-        tickets.put,
-    )
+        logs,
+        halt,
+        tickets,
+    };
+    settle(alloc, again, host, &handed, history)
+}
+
+/// The boards of a play, on which all is new: one that the workers share, with the ledger of their shares, and one that plays
+/// their history again.
+struct Boards<T> {
+    table: T,
+    blank: Blank,
+    again: PlayBoard,
 }
 
 /// Plays by so many workers, whose shares are of the ledger that the type names, on a table that they share. The other table plays
@@ -160,22 +167,25 @@ fn play_named<
 >(
     rt: &R,
     alloc: Global,
-    tables: (T, PlayBoard),
+    boards: Boards<T>,
     host: &H,
-    blank: Blank,
     workers: u8,
 ) -> Result<Result<Played, PoolFault>, AllocError>
-    requires fresh { T.board tables.0 ≡ new_board (T.plan tables.0) }
-    requires again { tables.1.board ≡ new_board tables.1.plan }
-    requires name { blank.name ≡ N.name }
-    requires parts { (blank.parts ≡ N.parts) × (blank.parts ≡ workers) }
+    requires fresh { T.board boards.table ≡ new_board (T.plan boards.table) }
+    requires again { boards.again.board ≡ new_board boards.again.plan }
+    requires name { boards.blank.name ≡ N.name }
+    requires parts { (boards.blank.parts ≡ N.parts) × (boards.blank.parts ≡ workers) }
     requires number { (1 ≤ workers) × (workers ≤ 16) }
     ensures played { IfOk result (λ come. IfOk come
-        (EndsByMany (H.admits host.now) tables.1.plan workers)) }
+        (EndsByMany (H.admits host.now) boards.again.plan workers)) }
     ensures stopped { IfOk result (λ come. IfErr come
-        (StopsByMany (H.admits host.now) (H.declines host.now) tables.1.plan workers)) }
+        (StopsByMany (H.admits host.now) (H.declines host.now) boards.again.plan workers)) }
 {
-    let (table, again) = tables;
+    let Boards {
+        table,
+        blank,
+        again,
+    } = boards;
     let start = prepare::<N, T>(alloc, table, blank, workers)?;
     Ok(play_start(rt, start, again, host, workers))
 }
@@ -193,9 +203,13 @@ fn play_counted<R: Threads + Wait + Sync, H: StepHost + Sync>(
     ensures stopped { IfOk result (λ come. IfErr come
         (StopsByMany (H.admits host.now) (H.declines host.now) plan.now workers)) }
 {
-    let tables = (PlayBoard::new(alloc, plan)?, PlayBoard::new(alloc, plan)?);
-    let blank = Blank::new(u64::from(workers));
-    play_named::<Brand, PlayBoard, R, H>(rt, alloc, tables, host, blank, workers)
+    let (table, again) = (PlayBoard::new(alloc, plan)?, PlayBoard::new(alloc, plan)?);
+    let boards = Boards {
+        table,
+        blank: Blank::new(u64::from(workers)),
+        again,
+    };
+    play_named::<Brand, PlayBoard, R, H>(rt, alloc, boards, host, workers)
 }
 
 /// Plays a plan by 1 to 16 workers, each in a thread of its own where one can be made. Each posts what a clerk may, and else takes a

@@ -13,15 +13,15 @@ abbrev pub invariant-loop-worker : goal.invariant-loop-worker
 invariant-loop-worker g l = record {
   pass : IsPassOf l.queue l.joined;
   whole : (name : Name) → keepers name (records_of l.joined) + crew_keepers name l.crew.items ≡ 1;
-  shares : vec_len l.shares + vec_len l.crew ≡ vec_len l.fn.crew;
-  entries : vec_len l.logs.entries + vec_len l.crew ≡ vec_len l.fn.crew;
-  calls : vec_len l.logs.calls + vec_len l.crew ≡ vec_len l.fn.crew;
-  share_room : vec_len l.fn.crew ≤ vec_capacity l.shares;
-  entry_room : vec_len l.fn.crew ≤ vec_capacity l.logs.entries;
-  call_room : vec_len l.fn.crew ≤ vec_capacity l.logs.calls;
+  shares : vec_len l.back.shares + vec_len l.crew ≡ vec_len l.fn.crew;
+  entries : vec_len l.back.logs.entries + vec_len l.crew ≡ vec_len l.fn.crew;
+  calls : vec_len l.back.logs.calls + vec_len l.crew ≡ vec_len l.fn.crew;
+  share_room : vec_len l.fn.crew ≤ vec_capacity l.back.shares;
+  entry_room : vec_len l.fn.crew ≤ vec_capacity l.back.logs.entries;
+  call_room : vec_len l.fn.crew ≤ vec_capacity l.back.logs.calls;
   fit : All (IsFit (g.H.StepHost.admits l._host) l.queue) l.crew.items;
   halts : All (λ w. IfSome w.halt (HaltsFor (g.H.StepHost.declines l._host))) l.crew.items;
-  answered : AreAnswered (g.H.StepHost.admits l._host) (map (λ log. log.items) l.logs.entries.items) (map (λ log. log.items) l.logs.calls.items);
+  answered : AreAnswered (g.H.StepHost.admits l._host) (map (λ log. log.items) l.back.logs.entries.items) (map (λ log. log.items) l.back.logs.calls.items);
   first : IfSome l.first (HaltsFor (g.H.StepHost.declines l._host));
 }
 

@@ -14,6 +14,6 @@ loop-share-preserved g c =
       counted = search rules;
       room = search rules;
       kept = search rules;
-      fit = fit_hired (g.H.StepHost.admits c.args._host.now) c.args.queue.now crew all w c.push_reserved.ensures.items c.loop-share.invariant.fit
+      fit = fit_hired (g.H.StepHost.admits c.args._host.now) c.args.pool.now.queue crew all w c.push_reserved.ensures.items c.loop-share.invariant.fit
           c.split-left.ensures.passes.1 c.new.ensures.entries c.new.ensures.calls;
     }

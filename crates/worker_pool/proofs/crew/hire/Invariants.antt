@@ -9,12 +9,12 @@ use Rattle.worker_pool.proofs.crew.hire.Given as goal
 -- each share so far has its worker, and the passes of all keep each name once
 abbrev pub invariant-loop-share : goal.invariant-loop-share
 invariant-loop-share g l = record {
-  pass : IsPassOf l.queue l.rest;
+  pass : IsPassOf l.pool.queue l.rest;
   whole : (name : Name) → keepers name (records_of l.rest) + crew_keepers name l.crew.items ≡ 1;
   counted : vec_len l.crew + vec_len l.shares ≡ vec_len l.fn.shares;
   room : vec_len l.fn.shares ≤ vec_capacity l.crew;
   kept : vec_capacity l.shares ≡ vec_capacity l.fn.shares;
-  fit : All (IsFit (g.H.StepHost.admits l._host) l.queue) l.crew.items;
+  fit : All (IsFit (g.H.StepHost.admits l._host) l.pool.queue) l.crew.items;
 }
 
 abbrev pub decreases-loop-share : goal.decreases-loop-share
