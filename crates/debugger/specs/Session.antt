@@ -25,11 +25,11 @@ opened p b es = record { plan = p; start = b; entries = es; place = 0; breaks = 
 abbrev pub shown : Session → Option Board
 shown s = board_at s.plan s.start s.entries s.place
 
--- the same at another place
+-- a session at another place
 abbrev pub at_place : Session → ℕ → Session
 at_place s k = record s { place = k }
 
--- the same with other breaks
+-- a session with other breaks
 abbrev pub with_breaks : Session → List Break → Session
 with_breaks s breaks = record s { breaks = breaks }
 
@@ -56,7 +56,7 @@ moved s (Err refusal) = s
 abbrev pub Moves : Result ℕ DebugFault → Session → Result ℕ DebugFault → Session → Type 0
 Moves target old result new = (result ≡ target) × (new ≡ moved old target)
 
--- The same for a move that may find no memory: it is looked for last, where the move leads somewhere, and nothing is changed
+-- A move that may find no memory: it is looked for last, where the move leads somewhere, and nothing is changed
 -- without it.
 abbrev pub MovesInMemory : Result ℕ DebugFault → Session → Result ℕ DebugFault → Session → Type 0
 MovesInMemory target old (Ok k) new = (target ≡ Ok k) × (new ≡ at_place old k)
