@@ -24,7 +24,7 @@ use Rattle.plan_values.specs.Env.{env_value, laid_over, or_below}
 use Rattle.plan_values.specs.Laws.{EnvHasItsNames, LevelsStayInOrder, MostSpecificWins}
 use Rattle.plan_values.specs.Texts.{text_text, condition_value}
 use Rattle.plan_values.specs.Values.{Env}
-use Rattle.plan_values.specs.declared.place.Place.TheVariants as place
+use Rattle.plan_values.specs.declared.place.TextPlace.TheVariants as place
 use Rattle.status_table.proofs.Decided.{by_test}
 use Rattle.status_table.proofs.Found.{leg_stands}
 use Rattle.board_decisions.proofs.Lists.{same_some}

@@ -20,7 +20,7 @@ use Rattle.status_table.specs.Row.{Beginning, calls, skips, faults, decided, nex
 use Rattle.plan_values.specs.Laws.{WaitsForSuccess}
 use Rattle.plan_values.specs.Texts.{condition_value}
 use Rattle.plan_values.specs.Values.{Env}
-use Rattle.plan_values.specs.declared.place.Place.TheVariants as place
+use Rattle.plan_values.specs.declared.place.TextPlace.TheVariants as place
 use Rattle.status_table.proofs.Decided.{by_test}
 
 -- ---- no call after a failure

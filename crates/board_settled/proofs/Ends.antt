@@ -32,7 +32,7 @@ use Rattle.status_table.specs.Shape.{HasShape}
 use Rattle.plan_values.specs.Env.{laid_over}
 use Rattle.plan_values.specs.Outputs.{outputs_value}
 use Rattle.plan_values.specs.Values.{Env}
-use Rattle.plan_values.specs.declared.place.Place.TheVariants as place_name
+use Rattle.plan_values.specs.declared.place.TextPlace.TheVariants as place_name
 use Rattle.status_table.proofs.Lists.{all-get}
 use Rattle.board_settled.proofs.Outputs.{no_outputs, one_outputs}
 use Rattle.board_settled.proofs.Played.{LegPlayed, StateStands, JobPlayed, JobOver, judged-or}

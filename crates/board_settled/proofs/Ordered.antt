@@ -60,7 +60,7 @@ module _ {B : Type 0} (f : ℕ → Option B) where
       let less = (each (suc k) y is).1 in
       (ap f later ∙ (each (suc k) y is).0, omega (arith, less))) (λ l le. past l (omega (arith, le))))
 
-  -- the same after some numbers that give nothing
+  -- items that are given at their numbers, after some numbers that give nothing
   pub given-later : (xs : List B) (first before n : ℕ) → ((k : ℕ) (x : B) → slice_get xs k ≡ Some x → (f (first + before + k) ≡ Some x) × (first + before + k < first + n))
       → ((l : ℕ) → l < first + before → f l ≡ None) → ((l : ℕ) → first + before + length xs ≤ l → f l ≡ None) → filter_map f (numbers first n) ≡ xs
   given-later xs first zero n each early past =

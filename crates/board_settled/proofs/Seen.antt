@@ -16,7 +16,7 @@ use Rattle.board_settled.specs.Settled.{counts, seen_after, next_call}
 use Rattle.status_table.specs.Row.{failure_of}
 use Rattle.plan_values.specs.Texts.{condition_value}
 use Rattle.plan_values.specs.Values.{Values, contexts_at, with_env}
-use Rattle.plan_values.specs.declared.place.Place.TheVariants as place
+use Rattle.plan_values.specs.declared.place.TextPlace.TheVariants as place
 
 -- ---- jobs
 

@@ -20,7 +20,7 @@ use Rattle.status_table.specs.Calls.{IfCalled}
 use Rattle.status_table.specs.Row.{row, next_step}
 use Rattle.plan_values.specs.Env.{env_value, laid_over, or_below}
 use Rattle.plan_values.specs.Values.{Env}
-use Rattle.plan_values.specs.declared.place.Place.TheVariants as place
+use Rattle.plan_values.specs.declared.place.TextPlace.TheVariants as place
 
 -- ---- plans whose maps name each key once, in the byte order of the keys; a `Mapping` never does otherwise
 

@@ -16,7 +16,7 @@ use Rattle.plan_values.specs.Env.{env_value, laid_over}
 use Rattle.plan_values.specs.Outputs.{outputs_value}
 use Rattle.plan_values.specs.Texts.{condition_value, flag_value}
 use Rattle.plan_values.specs.Values.{Env}
-use Rattle.plan_values.specs.declared.place.Place.TheVariants as place
+use Rattle.plan_values.specs.declared.place.TextPlace.TheVariants as place
 
 -- ---- environments
 
@@ -24,7 +24,7 @@ use Rattle.plan_values.specs.declared.place.Place.TheVariants as place
 abbrev pub flow_variables : Sight → RunPlan → Result Env ValueFault
 flow_variables sees run = env_value (sees place.WorkflowEnv []) run.env
 
--- The same, and those of the job over them.
+-- The variables of the workflow, and those of the job over them.
 abbrev pub job_variables : Sight → RunPlan → JobPlan → Result Env ValueFault
 job_variables sees run job =
     then_value (flow_variables sees run) (λ below.
@@ -34,7 +34,7 @@ job_variables sees run job =
 abbrev pub leg_variables : Sight → RunPlan → JobPlan → List DoneStep → Result Env ValueFault
 leg_variables sees run job done = then_value (job_variables sees run job) (λ below. Ok (set_over done below))
 
--- The same, and those of a step over them.
+-- The variables of a leg, and those of a step over them.
 abbrev pub step_variables : Sight → RunPlan → JobPlan → List DoneStep → StepPlan → Result Env ValueFault
 step_variables sees run job done step =
     then_value (leg_variables sees run job done) (λ below.

@@ -59,14 +59,14 @@ EndsStep b worker at new =
     (done : DoneStep) × (new ≡ step_done b at.place worker done)
     × ((done.conclusion ≡ done.outcome → ⊥) → IsPassedOver at done)
 
--- The same, but where a call is carried: then no step is done.
+-- A step ends so, but where a call is carried: then no step is done.
 abbrev pub EndsUncalled : What → Board → ℕ → LegAt → Board → Type 0
 EndsUncalled what.Moved b worker at new = EndsStep b worker at new
 EndsUncalled (what.Call call) b worker at new = Unit {0}
 EndsUncalled what.Skipped b worker at new = EndsStep b worker at new
 EndsUncalled (what.Faulted fault) b worker at new = EndsStep b worker at new
 
--- The same for a row, if it is accepted.
+-- A row, if it is accepted, ends a step so, or carries its call.
 abbrev pub Concludes : Board → ℕ → LegAt → Row → Type 0
 Concludes b worker at (Ok x) = EndsUncalled x.1.what b worker at x.0
 Concludes b worker at (Err refusal) = Unit {0}

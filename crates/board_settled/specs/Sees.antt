@@ -15,7 +15,7 @@ use Rattle.flow_model.specs.declared.plan.RunPlan.{RunPlan}
 use Rattle.flow_model.specs.declared.plan.StepPlan.{StepPlan}
 use Rattle.plan_values.specs.Env.{laid_over}
 use Rattle.plan_values.specs.Values.{Values, Env, contexts_at, env_context, with_env}
-use Rattle.plan_values.specs.declared.place.Place.{Place}
+use Rattle.plan_values.specs.declared.place.TextPlace.{TextPlace}
 
 -- ---- what a job sees
 
@@ -77,7 +77,7 @@ leg_sees spot result done context.Runner = object []
 
 -- What each place sees from somewhere, where `env` is these variables.
 abbrev pub Sight : Type 0
-Sight = Place → Env → Contexts
+Sight = TextPlace → Env → Contexts
 
 -- What is seen of values at each place.
 abbrev pub sight : Values → Sight

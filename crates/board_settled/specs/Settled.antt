@@ -26,7 +26,7 @@ use Rattle.status_table.specs.Row.{skipped_step, outcome_of, outputs_of, set_by}
 use Rattle.plan_values.specs.Env.{laid_over}
 use Rattle.plan_values.specs.Texts.{condition_value}
 use Rattle.plan_values.specs.Values.{Env, contexts_at, with_env}
-use Rattle.plan_values.specs.declared.place.Place.TheVariants as place
+use Rattle.plan_values.specs.declared.place.TextPlace.TheVariants as place
 
 -- What answers a call, if there is an answer.
 abbrev pub Answers : Type 0
@@ -199,7 +199,7 @@ first_in_run job before = job.number - length before
 abbrev pub need_pair_of : JobPlan → SettledJob → Option (List ℕ × Plain)
 need_pair_of plan job = option_map (λ result. (plan.id, need_shown (outputs_of_job job) result)) (result_of job)
 
--- The same for the job at a place of the run, among those that are settled.
+-- What is seen of the job at a place of the run, at its id, where it is among those that are settled and has a result.
 abbrev pub need_at : RunPlan → List SettledJob → ℕ → Option (List ℕ × Plain)
 need_at run before k =
     slice_get run.jobs k >>= λ plan. slice_get before k >>= λ job. need_pair_of plan job

@@ -13,7 +13,7 @@ ghost use Rattle.board_settled.specs.Agrees.{JobIsSettled, LegIsSettled};
 ghost use Rattle.board_settled.specs.Settled.{SettledJob, job_settled, legs_settled};
 ghost use Rattle.status_table.specs.Row.{judged_state as judged_of};
 
-use crate::leg::is_leg_settled;
+use crate::leg::{LegSpot, is_leg_settled};
 use crate::same::is_same_outcome;
 use board_decisions::ancestors::job_status;
 use board_decisions::decisions::job_condition;
@@ -41,7 +41,8 @@ fn are_legs_settled<H: StepHost>(
         let Some(number) = first.checked_add(place as u64) else {
             return Err(AllocError);
         };
-        if !is_leg_settled(alloc, host, number, at, place, leg)? {
+        let spot = LegSpot { number, at, place };
+        if !is_leg_settled(alloc, host, &spot, leg)? {
             return Ok(false);
         }
     }

@@ -82,31 +82,38 @@ fn next_done<H: StepHost>(
     }
 }
 
-/// The next step of a leg at a place of a job, or none where there is no answer to its call.
+/// Where a leg is played by itself: a place of a job, with the leg's number.
+#[derive(Clone, Copy)]
+pub(crate) struct LegSpot<'a> {
+    pub(crate) number: u64,
+    pub(crate) at: &'a SeenJob<'a>,
+    pub(crate) place: usize,
+}
+
+/// The next step of a leg at a spot, or none where there is no answer to its call.
 fn next_of<H: StepHost>(
     alloc: Global,
     host: &H,
-    number: u64,
-    at: &SeenJob,
-    place: usize,
+    spot: &LegSpot<'_>,
     leg: &Leg,
 ) -> Result<Option<DoneStep>, AllocError>
     requires { IsIdle leg.now }
-    ensures { IfOk result (λ next. (step : StepPlanOf)
-        → next_step (spec.leg_on (job_seen at.now) place leg.now) ≡ Some step
-        → ByAnswers (H.admits host.now) (H.declines host.now) (λ answers. next
-        ≡ spec.next_comes answers number (spec.leg_on (job_seen at.now) place leg.now) step)) }
+    ensures { let on = spec.leg_on (job_seen spot.now.at.now) spot.now.place leg.now in
+        IfOk result (λ next. (step : StepPlanOf) → next_step on ≡ Some step
+        → ByAnswers (H.admits host.now) (H.declines host.now)
+        (λ answers. next ≡ spec.next_comes answers spot.now.number on step)) }
 {
+    let at = spot.at;
     let seen = SeenLeg {
         board: at.board,
-        place: place_of(at, place),
+        place: place_of(at, spot.place),
         run_plan: at.run_plan,
         job_plan: at.plan,
         run: at.run,
         job: at.job,
         leg,
     };
-    next_done(alloc, host, number, &seen)
+    next_done(alloc, host, spot.number, &seen)
 }
 
 /// The place of a leg, by its place in its job.
@@ -137,21 +144,20 @@ fn idle_leg(alloc: Global) -> Leg
     }
 }
 
-/// A leg of a job with all its steps done, each by what was settled before; or none where there is no answer to a call.
+/// The leg of a spot with all its steps done, each by what was settled before; or none where there is no answer to a call.
 fn play_steps<H: StepHost>(
     alloc: Global,
     host: &H,
-    number: u64,
-    at: &SeenJob,
-    place: usize,
+    spot: &LegSpot<'_>,
 ) -> Result<Option<Leg>, AllocError>
-    requires { IsAlone (job_seen at.now) }
-    ensures { IfOk result (λ made. ByAnswers (H.admits host.now) (H.declines host.now)
-        (λ answers. spec.StepsCome answers (spec.planned number (job_seen at.now) place) made)) }
+    requires { IsAlone (job_seen spot.now.at.now) }
+    ensures { let planned = spec.planned spot.now.number (job_seen spot.now.at.now) spot.now.place in
+        IfOk result (λ made. ByAnswers (H.admits host.now) (H.declines host.now)
+        (λ answers. spec.StepsCome answers planned made)) }
 {
     let mut leg = idle_leg(alloc);
-    for _done in 0..at.plan.steps.len() {
-        match next_of(alloc, host, number, at, place, &leg)? {
+    for _done in 0..spot.at.plan.steps.len() {
+        match next_of(alloc, host, spot, &leg)? {
             Some(done) => leg.steps.push(done)?,
             None => return Ok(None),
         }
@@ -159,20 +165,15 @@ fn play_steps<H: StepHost>(
     Ok(Some(leg))
 }
 
-/// Whether a leg is Ended as one at a place of a job does all of whose steps are done, with the same steps.
-fn ends_as(
-    alloc: Global,
-    at: &SeenJob,
-    place: usize,
-    played: &Leg,
-    leg: &Leg,
-) -> Result<bool, AllocError>
+/// Whether a leg is Ended as one at a spot does all of whose steps are done, with the same steps.
+fn ends_as(alloc: Global, spot: &LegSpot<'_>, played: &Leg, leg: &Leg) -> Result<bool, AllocError>
     ensures { IfOk result (λ yes. IsTrue yes
-        ↔ spec.EndsAs (spec.leg_on (job_seen at.now) place played.now) leg.now) }
+        ↔ spec.EndsAs (spec.leg_on (job_seen spot.now.at.now) spot.now.place played.now) leg.now) }
 {
+    let at = spot.at;
     let seen = SeenLeg {
         board: at.board,
-        place: place_of(at, place),
+        place: place_of(at, spot.place),
         run_plan: at.run_plan,
         job_plan: at.plan,
         run: at.run,
@@ -189,22 +190,20 @@ fn ends_as(
     )
 }
 
-/// Whether the leg of a job at a place is Ended as settled.
+/// Whether the leg of a spot is Ended as settled.
 pub(crate) fn is_leg_settled<H: StepHost>(
     alloc: Global,
     host: &H,
-    number: u64,
-    at: &SeenJob,
-    place: usize,
+    spot: &LegSpot<'_>,
     leg: &Leg,
 ) -> Result<bool, AllocError>
-    requires { IsAlone (job_seen at.now) }
-    ensures { IfOk result (λ yes. ByAnswers (H.admits host.now) (H.declines host.now)
-        (λ answers. IsTrue yes
-        ↔ LegIsSettled (leg_settled answers (spec.planned number (job_seen at.now) place)) leg.now)) }
+    requires { IsAlone (job_seen spot.now.at.now) }
+    ensures { let planned = spec.planned spot.now.number (job_seen spot.now.at.now) spot.now.place in
+        IfOk result (λ yes. ByAnswers (H.admits host.now) (H.declines host.now)
+        (λ answers. IsTrue yes ↔ LegIsSettled (leg_settled answers planned) leg.now)) }
 {
-    let Some(played) = play_steps(alloc, host, number, at, place)? else {
+    let Some(played) = play_steps(alloc, host, spot)? else {
         return Ok(false);
     };
-    ends_as(alloc, at, place, &played, leg)
+    ends_as(alloc, spot, &played, leg)
 }

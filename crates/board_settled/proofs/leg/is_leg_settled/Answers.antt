@@ -9,7 +9,7 @@ use Rattle.board_settled.proofs.leg.is_leg_settled.Goals as goal
 
 pub returns-in_default : goal.returns-in_default
 returns-in_default g c = λ answers are.
-    let spot = planned c.args.number (job_seen c.args.at.now) c.args.place in (
+    let spot = planned c.args.spot.now.number (job_seen c.args.spot.now.at.now) c.args.spot.now.place in (
       (λ h. absurd (true≢false (sym h))),
       (λ settled. absurd (unended answers spot c.args.leg.now (subst (λ (o : Option Leg). StepsCome answers spot o) c.in_default.is (c.in_ok-played.ensures answers are)) settled)),
     )
@@ -17,7 +17,7 @@ returns-in_default g c = λ answers are.
 pub returns : goal.returns
 returns g c =
     IfOk-weaker c.ends_as.result _ _ (λ yes h answers are.
-    let spot = planned c.args.number (job_seen c.args.at.now) c.args.place in
+    let spot = planned c.args.spot.now.number (job_seen c.args.spot.now.at.now) c.args.spot.now.place in
     let come = subst (λ (o : Option Leg). StepsCome answers spot o) c.in-Some.is (c.in_ok-played.ensures answers are) in
-    let same = ends_settled answers c.args.number (job_seen c.args.at.now) c.args.place c.in-Some.played c.requires come c.args.leg.now in
+    let same = ends_settled answers c.args.spot.now.number (job_seen c.args.spot.now.at.now) c.args.spot.now.place c.in-Some.played c.requires come c.args.leg.now in
     ((λ t. same.0 (h.0 t)), (λ s. h.1 (same.1 s)))) c.ends_as.ensures

@@ -10,6 +10,6 @@ invariant-loop-done g l = record {
   idle : IsIdle l.leg;
   many : length l.leg.steps ≡ l._done;
   goes_on : ByAnswers (g.H.StepHost.admits l.host) (g.H.StepHost.declines l.host) (λ answers.
-      steps_from answers (planned l.number (job_seen l.at) l.place) l.leg.steps (drop l._done l.at.plan.now.steps)
-      ≡ steps_from answers (planned l.number (job_seen l.at) l.place) [] l.at.plan.now.steps);
+      steps_from answers (planned l.spot.number (job_seen l.spot.at.now) l.spot.place) l.leg.steps (drop l._done l.spot.at.now.plan.now.steps)
+      ≡ steps_from answers (planned l.spot.number (job_seen l.spot.at.now) l.spot.place) [] l.spot.at.now.plan.now.steps);
 }
