@@ -45,12 +45,12 @@ enters_held m own group None waited = change.Member m member_fact.Admitted ∷ [
 enters_held m own group (Some holds) waited =
     if is_own own holds then change.Member m member_fact.OwnRun ∷ [] else queues m group holds waited
 
--- the same of one that enters a group, or none
+-- what a member makes so that enters a group, or none
 abbrev pub enters : Board → Member → Option ℕ → Option Entrance → List Change
 enters b m own None = change.Member m member_fact.Admitted ∷ []
 enters b m own (Some group) = enters_held m own group (holder b group.name) (waiter b group.name)
 
--- the same where the text of the group may have no value
+-- what a member makes so that enters a group whose text may have no value
 abbrev pub enters_by : Board → Member → Option ℕ → Result (Option Entrance) ValueFault → List Change
 enters_by b m own (Ok group) = enters b m own group
 enters_by b m own (Err fault) = change.Member m (member_fact.NoGroup fault) ∷ []

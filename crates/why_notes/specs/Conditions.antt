@@ -13,7 +13,7 @@ use Rattle.flow_model.specs.declared.reply.ValueFault.{ValueFault}
 use Rattle.plan_values.specs.Env.{env_value, laid_over}
 use Rattle.plan_values.specs.Texts.{condition_value}
 use Rattle.plan_values.specs.Values.{Env}
-use Rattle.plan_values.specs.declared.place.Place.TheVariants as place
+use Rattle.plan_values.specs.declared.place.TextPlace.TheVariants as place
 
 -- a condition that was read names no status function; what is no condition does not wait
 abbrev pub read_waits : Option (List Piece) → Bool
@@ -26,7 +26,7 @@ abbrev pub waits_for_success : Option (List ℕ) → Bool
 waits_for_success None = true
 waits_for_success (Some text) = read_waits (condition_read text)
 
--- the same, and the status is not success: then it is not evaluated
+-- it waits for success, and the status is none: then it is not evaluated
 abbrev pub waits_in_vain : Option (List ℕ) → Status → Bool
 waits_in_vain condition status = waits_for_success condition && not (is_success status)
 

@@ -28,7 +28,7 @@ use board_decisions::decisions::{
     is_stopping, job_condition, leg_entrance, leg_result, run_entrance, step_decision,
 };
 use board_decisions::derived::run_result;
-use board_decisions::entrance::Entrance;
+use board_decisions::entrance::{Entrance, Entrant};
 use board_decisions::place::{SeenJob, SeenLeg, find_job, find_leg, find_run, item_at};
 use expr_value::Status;
 use flat_board::FlatBoard;
@@ -48,37 +48,36 @@ use why_facts::stopping::cause_of_stop;
 fn add_held(
     out: &mut Vec<Change>,
     table: &FlatBoard,
-    who: Member,
-    own: Option<u64>,
+    entrant: Entrant,
     group: &Entrance,
     holds: Member,
 ) -> Result<(), AllocError>
     requires { IsName group.now.name }
     ensures { OnOk result (Adds out.old.items out.new.items
-        (spec.enters_held who own group.now (Some holds) (groups.waiter table.now.board group.now.name))) }
+        (spec.enters_held entrant.who entrant.own group.now (Some holds)
+        (groups.waiter table.now.board group.now.name))) }
 {
-    if is_own(own, holds) {
-        return add_fact(out, who, MemberFact::OwnRun);
+    if is_own(entrant.own, holds) {
+        return add_fact(out, entrant.who, MemberFact::OwnRun);
     }
     let waited = table.waiter(group.name.as_str());
-    add_queued(out, who, group, holds, waited)
+    add_queued(out, entrant.who, group, holds, waited)
 }
 
 /// Adds what a member makes so that enters a group.
 fn add_grouped(
     out: &mut Vec<Change>,
     table: &FlatBoard,
-    who: Member,
-    own: Option<u64>,
+    entrant: Entrant,
     group: &Entrance,
 ) -> Result<(), AllocError>
     requires { IsName group.now.name }
     ensures { OnOk result (Adds out.old.items out.new.items
-        (spec.enters table.now.board who own (Some group.now))) }
+        (spec.enters table.now.board entrant.who entrant.own (Some group.now))) }
 {
     match table.holder(group.name.as_str()) {
-        Some(holds) => add_held(out, table, who, own, group, holds),
-        None => add_fact(out, who, MemberFact::Admitted),
+        Some(holds) => add_held(out, table, entrant, group, holds),
+        None => add_fact(out, entrant.who, MemberFact::Admitted),
     }
 }
 
@@ -86,16 +85,17 @@ fn add_grouped(
 fn add_entered(
     out: &mut Vec<Change>,
     table: &FlatBoard,
-    who: Member,
-    own: Option<u64>,
+    entrant: Entrant,
     group: Result<Option<Entrance>, ValueFault>,
 ) -> Result<(), AllocError>
     requires { AsksNamed group }
     ensures { (meant : Result (Option EntranceOf) ValueFaultOf) → Gives (λ group. group) group meant
-        → OnOk result (Adds out.old.items out.new.items (spec.enters_by table.now.board who own meant)) }
+        → OnOk result (Adds out.old.items out.new.items
+        (spec.enters_by table.now.board entrant.who entrant.own meant)) }
 {
+    let who = entrant.who;
     match group {
-        Ok(Some(group)) => add_grouped(out, table, who, own, &group),
+        Ok(Some(group)) => add_grouped(out, table, entrant, &group),
         Ok(None) => add_fact(out, who, MemberFact::Admitted),
         Err(ValueFault::Memory) => Err(AllocError),
         Err(ValueFault::NotWhole) => add_fact(out, who, MemberFact::NoGroup(ValueFault::NotWhole)),
@@ -123,7 +123,11 @@ fn add_open(
     match find_run(plan, table.board(), number as usize) {
         Some(at) => {
             let group = run_entrance(alloc, &at);
-            add_entered(out, table, Member::Run(number), None, group)
+            let entrant = Entrant {
+                who: Member::Run(number),
+                own: None,
+            };
+            add_entered(out, table, entrant, group)
         },
         None => Ok(()),
     }
@@ -141,9 +145,12 @@ fn add_ask(
 {
     match find_leg(plan, table.board(), number as usize) {
         Some(at) => {
-            let own = at.place.run as u64;
+            let entrant = Entrant {
+                who: Member::Leg(number),
+                own: Some(at.place.run as u64),
+            };
             let group = leg_entrance(alloc, &at);
-            add_entered(out, table, Member::Leg(number), Some(own), group)
+            add_entered(out, table, entrant, group)
         },
         None => Ok(()),
     }

@@ -4,19 +4,11 @@ ghost use Rattle.std.specs.Prelude.{◌≡◌, IfOk, IfSome, List, None, Option}
 ghost use Rattle.why_notes.specs.Conditions as spec;
 ghost use Rattle.expr_reader.specs.Faults.{fault_at};
 ghost use Rattle.expr_reader.specs.Template.{Piece};
-ghost use Rattle.expr_value.specs.Functions.{is_success as is_success_of};
 
 use expr_reader::{ExprFault, names_status, read_condition};
 use expr_value::Status;
 use flow_model::Text;
 use std::alloc::{AllocError, Global};
-
-/// Whether a status is success.
-fn is_success(status: Status) -> bool
-    ensures { result ≡ is_success_of status }
-{
-    matches!(status, Status::Success)
-}
 
 /// What is no condition does not wait.
 fn unread_waits(fault: ExprFault) -> Result<bool, AllocError>
@@ -51,5 +43,5 @@ pub(crate) fn waits_in_vain(
     ensures { IfOk result (λ vain. vain ≡ spec.waits_in_vain condition.now status) }
 {
     let waits = waits_for_success(alloc, condition)?;
-    Ok(waits && !is_success(status))
+    Ok(waits && !status.is_success())
 }

@@ -13,7 +13,7 @@ use board_decisions::place::SeenLeg;
 use board_decisions::scene::LegScene;
 use expr_value::Status;
 use flow_model::{Mapping, Outcome, StepPlan, Text, ValueFault};
-use plan_values::{Known, Place, condition_at, env_at};
+use plan_values::{Known, TextPlace, condition_at, env_at};
 use std::alloc::{AllocError, Global};
 use why_facts::fact::StepText;
 
@@ -50,7 +50,7 @@ fn flow_env(alloc: Global, at: &SeenLeg, known: &mut Known) -> Result<Mapping<Te
         alloc,
         &LegScene { at },
         known,
-        Place::WorkflowEnv,
+        TextPlace::WorkflowEnv,
         &at.run_plan.env,
     )
 }
@@ -72,7 +72,7 @@ fn know_job_env(
         alloc,
         &LegScene { at },
         known,
-        Place::JobEnv,
+        TextPlace::JobEnv,
         &at.job_plan.env,
     )?;
     known.set_env(below);
@@ -106,7 +106,13 @@ fn know_step_env(
         (causes.step_env_over (leg_seen at.now) step.now (known_env known.old)) }
     ensures known { IsKnownOf (leg_scene at.now) known.new }
 {
-    let own = env_at(alloc, &LegScene { at }, known, Place::StepEnv, &step.env)?;
+    let own = env_at(
+        alloc,
+        &LegScene { at },
+        known,
+        TextPlace::StepEnv,
+        &step.env,
+    )?;
     known.lay_own_env(alloc, own)?;
     Ok(())
 }
@@ -127,7 +133,7 @@ fn text_after_step(
         alloc,
         &LegScene { at },
         known,
-        Place::StepCondition,
+        TextPlace::StepCondition,
         &step.condition,
         status,
     ) {

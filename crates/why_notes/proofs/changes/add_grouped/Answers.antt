@@ -10,5 +10,5 @@ returns-in-Some c =
     let board = c.args.table.now.board in
     let group = c.args.group.now in
     subst (λ (held : Option Member). OnOk c.add_held.result
-    (Adds c.args.out.now.items c.add_held.new.out.items (enters_held c.args.who c.args.own group held (waiter board group.name))))
+    (Adds c.args.out.now.items c.add_held.new.out.items (enters_held c.args.entrant.who c.args.entrant.own group held (waiter board group.name))))
     (sym c.in-Some.is ∙ c.holder.ensures ∙ ap (holder board) c.as_str.ensures) c.add_held.ensures
