@@ -47,7 +47,7 @@ fn put_lines(page: &mut Page<'_>, plain: &str, flat: &str) {
 }
 
 /// All that a board tells of entries.
-fn told_by<'a, M: Reversible + Drop>(
+fn told_by<'a, M: Reversible>(
     page: &Page<'a>,
     made: Result<M, AllocError>,
     entries: &[Entry],

@@ -72,11 +72,7 @@ fn insist(page: &mut Page<'_>) {
 }
 
 /// The same on a board.
-fn insist_on<M: Reversible + Drop>(
-    page: &mut Page<'_>,
-    made: Result<M, AllocError>,
-    entries: &[Entry],
-) {
+fn insist_on<M: Reversible>(page: &mut Page<'_>, made: Result<M, AllocError>, entries: &[Entry]) {
     if let Some(mut table) = page.have(made) {
         for entry in entries {
             if !play(page, &mut table, entry) {

@@ -16,7 +16,7 @@ use case_reader::loads::loaded;
 use flow_model::{CheckedPlan, Duplicate, Flow, Mapping, Roots, RunPlan, Sequence, Text};
 use flow_reader::read_flow;
 use plan_assembler::staging::stages;
-use plan_assembler::{Place, PlanFault, Planner};
+use plan_assembler::{FaultPlace, PlanFault, Planner};
 use plan_text::load_plan;
 use std::alloc::AllocError;
 
@@ -104,8 +104,8 @@ fn plan_job(page: &mut Page<'_>) -> Option<CheckedPlan> {
 fn have(page: &mut Page<'_>, plan: Result<CheckedPlan, PlanFault>) -> Option<CheckedPlan> {
     match plan {
         Ok(plan) => return Some(plan),
-        Err(PlanFault::Expr(Place::Run(run), fault)) => write!(page, "Expr run {run} {fault}"),
-        Err(PlanFault::Expr(Place::Job(job), fault)) => write!(page, "Expr job {job} {fault}"),
+        Err(PlanFault::Expr(FaultPlace::Run(run), fault)) => write!(page, "Expr run {run} {fault}"),
+        Err(PlanFault::Expr(FaultPlace::Job(job), fault)) => write!(page, "Expr job {job} {fault}"),
         Err(PlanFault::Matrix(job, fault)) => write!(page, "Matrix job {job} {fault}"),
         Err(fault) => page.put(fault.name()),
     }

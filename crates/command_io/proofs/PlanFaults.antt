@@ -5,11 +5,11 @@ use Rattle.expr_reader.specs.declared.fault.ExprFault.{ExprFault}
 use Rattle.plan_assembler.specs.Faults.{plan_fault_name, plan_fault_text}
 use Rattle.plan_assembler.specs.declared.fault.PlanFault.{PlanFault}
 use Rattle.plan_assembler.specs.declared.fault.PlanFault.TheVariants as plan_fault
-use Rattle.plan_assembler.specs.declared.fault.Place.{Place}
+use Rattle.plan_assembler.specs.declared.fault.FaultPlace.{FaultPlace}
 use Rattle.command_io.specs.CommandError.{unplanned_line, unread_line}
 
 -- the line of a text that cannot be read is the line of its fault
-pub unread_is : (place : Place) (fault : ExprFault) → unread_line (fault_name fault) (fault_place fault) ≡ unplanned_line (plan_fault.Expr place fault)
+pub unread_is : (place : FaultPlace) (fault : ExprFault) → unread_line (fault_name fault) (fault_place fault) ≡ unplanned_line (plan_fault.Expr place fault)
 unread_is place fault = ap (λ l. codes "actrun: plan Expr " ++ l) (sym (append_assoc (fault_name fault) (codes " at " ++ decimal (fault_place fault)) (codes "\n")))
 
 -- a fault with nothing inside

@@ -29,7 +29,7 @@ pub fn places(page: &mut Page<'_>) {
 }
 
 /// The places to which a debugger over a board comes.
-fn swept<'a, M: Reversible + Drop>(
+fn swept<'a, M: Reversible>(
     page: &Page<'a>,
     made: Result<M, AllocError>,
     entries: Result<Sequence<Entry>, AllocError>,
@@ -45,7 +45,7 @@ fn swept<'a, M: Reversible + Drop>(
 }
 
 /// Writes the places that a debugger comes to, or why there is none.
-fn put_places<M: Reversible + Drop>(page: &mut Page<'_>, opened: Result<Debugger<M>, DebugFault>) {
+fn put_places<M: Reversible>(page: &mut Page<'_>, opened: Result<Debugger<M>, DebugFault>) {
     match opened {
         Ok(mut debugger) => {
             put_row(page, &debugger, "on");

@@ -33,7 +33,7 @@ use Rattle.board_decisions.proofs.Lists.{same_some}
 use Rattle.status_table.proofs.Numbers.{board_legs-changed}
 use Rattle.plan_values.specs.Texts.{condition_value}
 use Rattle.plan_values.specs.Values.{Env}
-use Rattle.plan_values.specs.declared.place.Place.TheVariants as place
+use Rattle.plan_values.specs.declared.place.TextPlace.TheVariants as place
 use Rattle.worker_pool.specs.Alone.{is_running, NobodyRuns}
 use Rattle.worker_pool.specs.Hand.{Holds}
 use Rattle.worker_pool.proofs.Legs.{EachLegThen, of_leaves, clerk_legs}
