@@ -47,7 +47,7 @@ other_byte : (seen b : ℕ) (more : List ℕ) → (b == 60) ≡ false → (b == 
     → read_text (plain seen) (b ∷ more) ≡ onto (b ∷ []) (read_text (plain (seen_after seen b)) more)
 other_byte seen b more less greater ampersand high allowed = rw (less, greater, ampersand, high, allowed) refl
 
--- the same of one after which nothing of a forbidden character was seen
+-- what is read of a byte after which nothing of a forbidden character was seen
 lone_byte : (seen b : ℕ) (more : List ℕ) → (b == 60) ≡ false → (b == 62) ≡ false → (b == 38) ≡ false → nat_lt b 32 ≡ false
     → (b == 190) ≡ false → (b == 191) ≡ false → (b == 239) ≡ false
     → read_text (plain seen) (b ∷ more) ≡ onto (b ∷ []) (read_text (plain 0) more)

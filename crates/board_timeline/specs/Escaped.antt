@@ -22,7 +22,8 @@ is_forbidden seen b = seen == 2 && (b == 190 || b == 191)
 abbrev pub shown : ℕ → List ℕ
 shown b = if nat_lt b 32 then picture b else (if b == 127 then delete_picture else b ∷ [])
 
--- The same after others: a character that XML forbids is shown as U+FFFD, which stands for those that cannot be shown.
+-- A byte as a picture shows it after others: a character that XML forbids is shown as U+FFFD, which stands for those that
+-- cannot be shown.
 abbrev pub shown_next : ℕ → ℕ → List ℕ
 shown_next seen b = if is_forbidden seen b then 189 ∷ [] else shown b
 
@@ -46,7 +47,7 @@ spell b =
     else (if nat_lt b 32 then picture b
     else (if b == 127 then delete_picture else b ∷ []))))))
 
--- The same after others.
+-- A byte between tags after others: what XML forbids is spelled as U+FFFD.
 abbrev pub spell_next : ℕ → ℕ → List ℕ
 spell_next seen b = if is_forbidden seen b then 189 ∷ [] else spell b
 

@@ -19,7 +19,7 @@ abbrev pub moment_added : ℕ → Phase → Row → Row
 moment_added line phase row =
     record row { moments = row.moments ++ record { line = line; phase = phase } ∷ []; since = line }
 
--- The same, unless something was noted of that line before.
+-- With the entry of a line it came to stand so, unless something was noted of that line before.
 abbrev pub row_seen : ℕ → Phase → Row → Row
 row_seen line phase row = if row.since == line then row else moment_added line phase row
 

@@ -277,22 +277,28 @@ fn add_jobs(
     Ok(at)
 }
 
-/// Adds the row of the run with this number from this height on, if it was noted.
+/// A run, with its number.
+#[derive(Clone, Copy)]
+struct NumberedRun<'a> {
+    number: u64,
+    plan: &'a RunPlan,
+}
+
+/// Adds the row of a run from this height on, if it was noted.
 fn add_noted_run(
     canvas: &mut Canvas,
     lines: u64,
     row: Option<&Row>,
-    number: u64,
-    run: &RunPlan,
+    run: &NumberedRun<'_>,
     top: u64,
 ) -> Result<(), AllocError>
     ensures { OnOk result (canvas.new ≡ canvas.old
-        ++ spec.run_there lines number run.now top (option_copied row.entry)) }
+        ++ spec.run_there lines run.now.number run.now.plan.now top (option_copied row.entry)) }
 {
     let Some(row) = row else {
         return Ok(());
     };
-    let name = row_name(canvas.alloc(), "run ", number, run.flow.as_str())?;
+    let name = row_name(canvas.alloc(), "run ", run.number, run.plan.flow.as_str())?;
     let lane = Lane {
         lines,
         top,
@@ -318,7 +324,11 @@ fn add_run_row(
         ++ spec.run_row chart.now.lines chart.now.track.now.runs place run.now top) }
 {
     let rows = chart.track.runs.as_slice();
-    add_noted_run(canvas, chart.lines, rows.get(place), place as u64, run, top)
+    let run = NumberedRun {
+        number: place as u64,
+        plan: run,
+    };
+    add_noted_run(canvas, chart.lines, rows.get(place), &run, top)
 }
 
 /// Adds the row of a run and those of its jobs, and gives the place after them.

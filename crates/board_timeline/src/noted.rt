@@ -69,7 +69,7 @@ fn add_legs_of(alloc: Global, rows: &mut Vec<Row>, jobs: &[JobPlan]) -> Result<(
     Ok(())
 }
 
-/// The same of runs.
+/// Adds new rows for the legs of runs.
 fn add_leg_rows(alloc: Global, rows: &mut Vec<Row>, runs: &[RunPlan]) -> Result<(), AllocError>
     ensures { OnOk result (rows.new.items ≡ rows.old.items ++ flat_map spec.leg_rows runs.now) }
 {
@@ -216,19 +216,26 @@ fn displace_member(track: &mut Track, line: u64, member: Option<Member>)
     }
 }
 
-/// Notes what the entry of a line did, by the board after it and the reply to it.
+/// What an entry did: what its event is about, and the reply to it.
+#[derive(Drop)]
+pub(crate) struct Deed {
+    pub(crate) about: About,
+    pub(crate) reply: Reply,
+}
+
+/// Notes what the entry of a line did, by the board after it.
 pub(crate) fn note(
     track: &mut Track,
     plan: &Plan,
     board: &Board,
     line: u64,
-    about: About,
-    reply: &Reply,
+    deed: &Deed,
 ) -> Result<(), AllocError>
     ensures { OnOk result
-        (track.new ≡ spec.noted plan.now board.now line about reply.now track.old) }
+        (track.new ≡ spec.noted plan.now board.now line deed.now.about deed.now.reply track.old) }
 {
-    look(track, plan, board, line, about)?;
+    let reply = &deed.reply;
+    look(track, plan, board, line, deed.about)?;
     look_at_member(track, plan, board, line, reply.admitted)?;
     look_at_member(track, plan, board, line, reply.displaced)?;
     displace_member(track, line, reply.displaced);

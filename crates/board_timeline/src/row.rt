@@ -55,7 +55,7 @@ fn see_row(row: &mut Row, line: u64, phase: Phase) -> Result<(), AllocError>
     Ok(())
 }
 
-/// The same of the row with this number.
+/// Notes with the entry of a line that what the row with this number is about stands so.
 pub(crate) fn see(
     rows: &mut Sequence<Row>,
     number: u64,
