@@ -17,7 +17,7 @@ ghost use Rattle.std.specs.Prelude.{◌≡◌, ◌≤◌, IsTrue, IfOk};
 ghost use Rattle.locked_board.specs.Course.{IsPosted};
 ghost use Rattle.status_table.specs.Runs.{new_board};
 
-use crate::held_calls::{abandon, begin, end, give_up, play_leg};
+use crate::held_calls::{abandon, begin, end, give_up, hold, play_leg, take_held};
 use crate::host_calls::{put_entry, put_history};
 use case_boards::run_again;
 use case_reader::boards::shown;
@@ -37,6 +37,34 @@ use std::thread::Threads;
 use std::{str, thread};
 use step_host::PlayBoard;
 
+/// What is played on boards of a plan: lines, by so many workers.
+#[derive(Clone, Copy)]
+struct Script<'a> {
+    plan: &'a CheckedPlan,
+    lines: &'a [u8],
+    workers: u8,
+}
+
+/// Lines, of which so many are played at most.
+#[derive(Clone, Copy)]
+struct Lines<'a> {
+    text: &'a [u8],
+    count: usize,
+}
+
+/// A board on which all is new, and the ledger of those who will share it.
+struct Fresh<T> {
+    table: T,
+    blank: Blank,
+}
+
+/// A board under its lock, and by what it is waited for.
+#[derive(Drop)]
+pub struct Locked<'b, N: Names, T: Reversible + Send, R> {
+    pub rt: &'b R,
+    pub board: &'b SharedBoard<N, T>,
+}
+
 /// Does what a verb of these asks.
 pub fn perform<R: Threads + Wait + Sync>(rt: &R, page: &mut Page<'_>) {
     if let Some((plan, lines)) = plan_in(page) {
@@ -44,7 +72,12 @@ pub fn perform<R: Threads + Wait + Sync>(rt: &R, page: &mut Page<'_>) {
         if workers == 0 || workers > 16 {
             return page.put("Workers");
         }
-        play(rt, page, &plan, lines, workers as u8);
+        let script = Script {
+            plan: &plan,
+            lines,
+            workers: workers as u8,
+        };
+        play(rt, page, script);
     }
 }
 
@@ -57,19 +90,13 @@ fn boards(alloc: Global, plan: &CheckedPlan) -> Result<(PlayBoard, PlayBoard), A
 }
 
 /// Plays lines on boards of a plan, which so many workers share.
-fn play<R: Threads + Wait + Sync>(
-    rt: &R,
-    page: &mut Page<'_>,
-    plan: &CheckedPlan,
-    lines: &[u8],
-    workers: u8,
-)
-    requires { (1 ≤ workers) × (workers ≤ 16) }
+fn play<R: Threads + Wait + Sync>(rt: &R, page: &mut Page<'_>, script: Script<'_>)
+    requires { (1 ≤ script.workers) × (script.workers ≤ 16) }
 {
-    match boards(page.alloc, plan) {
+    match boards(page.alloc, script.plan) {
         Ok(tables) => {
-            let blank = Blank::new(u64::from(workers));
-            play_aside::<Brand, PlayBoard, R>(rt, page, plan, lines, tables, blank, workers);
+            let blank = Blank::new(u64::from(script.workers));
+            play_aside::<Brand, PlayBoard, R>(rt, page, script, tables, blank);
         },
         Err(fault) => write!(page, "{fault}"),
     }
@@ -79,35 +106,32 @@ fn play<R: Threads + Wait + Sync>(
 fn play_aside<N: Names + Send + Sync, T: Reversible + Send + Drop, R: Threads + Wait + Sync>(
     rt: &R,
     page: &mut Page<'_>,
-    plan: &CheckedPlan,
-    lines: &[u8],
+    script: Script<'_>,
     tables: (T, T),
     blank: Blank,
-    workers: u8,
 )
     requires fresh { T.board tables.0 ≡ new_board (T.plan tables.0) }
     requires other { T.board tables.1 ≡ new_board (T.plan tables.1) }
     requires name { blank.name ≡ N.name }
-    requires parts { (blank.parts ≡ N.parts) × (blank.parts ≡ workers) }
-    requires number { (1 ≤ workers) × (workers ≤ 16) }
+    requires parts { (blank.parts ≡ N.parts) × (blank.parts ≡ script.workers) }
+    requires number { (1 ≤ script.workers) × (script.workers ≤ 16) }
 {
     let (table, other) = tables;
     let mut held = Vec::new(page.alloc);
-    match SharedBoard::<N, T>::new(page.alloc, table, blank, workers) {
+    match SharedBoard::<N, T>::new(page.alloc, table, blank, script.workers) {
         Ok((board, mut shares)) => {
-            let count = page.number(2) as usize;
+            let first = Lines {
+                text: script.lines,
+                count: page.number(2) as usize,
+            };
             let mut aside = page.scratch();
-            act_all(
-                rt,
-                &mut aside,
-                &board,
-                shares.as_mut_slice(),
-                &mut held,
-                lines,
-                count,
-            );
-            let blank = Blank::new(u64::from(workers));
-            play_all::<Brand, T, R>(rt, page, plan, lines, other, &mut held, blank, workers);
+            let locked = Locked { rt, board: &board };
+            act_all(&locked, &mut aside, shares.as_mut_slice(), &mut held, first);
+            let fresh = Fresh {
+                table: other,
+                blank: Blank::new(u64::from(script.workers)),
+            };
+            play_all::<Brand, T, R>(rt, page, script, fresh, &mut held);
             give_up(rt, &board, held);
             drop(board.close(shares));
         },
@@ -122,31 +146,26 @@ fn play_aside<N: Names + Send + Sync, T: Reversible + Send + Drop, R: Threads + 
 fn play_all<N: Names + Send + Sync, T: Reversible + Send + Drop, R: Threads + Wait + Sync>(
     rt: &R,
     page: &mut Page<'_>,
-    plan: &CheckedPlan,
-    lines: &[u8],
-    table: T,
+    script: Script<'_>,
+    fresh: Fresh<T>,
     held: &mut Vec<Held>,
-    blank: Blank,
-    workers: u8,
 )
-    requires fresh { T.board table ≡ new_board (T.plan table) }
-    requires name { blank.name ≡ N.name }
-    requires parts { (blank.parts ≡ N.parts) × (blank.parts ≡ workers) }
-    requires number { (1 ≤ workers) × (workers ≤ 16) }
+    requires fresh { T.board fresh.table ≡ new_board (T.plan fresh.table) }
+    requires name { fresh.blank.name ≡ N.name }
+    requires parts { (fresh.blank.parts ≡ N.parts) × (fresh.blank.parts ≡ script.workers) }
+    requires number { (1 ≤ script.workers) × (script.workers ≤ 16) }
 {
-    match SharedBoard::<N, T>::new(page.alloc, table, blank, workers) {
+    let Fresh { table, blank } = fresh;
+    match SharedBoard::<N, T>::new(page.alloc, table, blank, script.workers) {
         Ok((board, mut shares)) => {
-            act_all(
-                rt,
-                page,
-                &board,
-                shares.as_mut_slice(),
-                held,
-                lines,
-                usize::MAX,
-            );
+            let all = Lines {
+                text: script.lines,
+                count: usize::MAX,
+            };
+            let locked = Locked { rt, board: &board };
+            act_all(&locked, page, shares.as_mut_slice(), held, all);
             let (table, history) = board.close(shares);
-            put_end(page, plan, &table, history.as_slice());
+            put_end(page, script.plan, &table, history.as_slice());
         },
         Err(fault) => write!(page, "{fault}"),
     }
@@ -154,25 +173,23 @@ fn play_all<N: Names + Send + Sync, T: Reversible + Send + Drop, R: Threads + Wa
 
 /// Does what lines say, so many at most.
 fn act_all<N: Names + Send + Sync, T: Reversible + Send + Drop, R: Threads + Wait + Sync>(
-    rt: &R,
+    locked: &Locked<'_, N, T, R>,
     page: &mut Page<'_>,
-    board: &SharedBoard<N, T>,
     shares: &mut [Share<N>],
     held: &mut Vec<Held>,
-    lines: &[u8],
-    count: usize,
+    lines: Lines<'_>,
 ) {
-    for line in str::from_utf8(lines).unwrap_or("").lines().take(count) {
-        act(rt, page, board, shares, held, line);
+    let text = str::from_utf8(lines.text).unwrap_or("");
+    for line in text.lines().take(lines.count) {
+        act(locked, page, shares, held, line);
         page.put("\n");
     }
 }
 
 /// Does what a line says.
 fn act<N: Names + Send + Sync, T: Reversible + Send + Drop, R: Threads + Wait + Sync>(
-    rt: &R,
+    locked: &Locked<'_, N, T, R>,
     page: &mut Page<'_>,
-    board: &SharedBoard<N, T>,
     shares: &mut [Share<N>],
     held: &mut Vec<Held>,
     line: &str,
@@ -181,30 +198,29 @@ fn act<N: Names + Send + Sync, T: Reversible + Send + Drop, R: Threads + Wait + 
     let number = number.parse::<usize>().unwrap_or(usize::MAX);
     match verb {
         "clerk" => match shares.get_mut(number) {
-            Some(share) => put_clerk(rt, page, board, share),
+            Some(share) => put_clerk(locked, page, share),
             None => page.put("no such share"),
         },
-        "abandon" => abandon(rt, page, board, held, number as u64),
+        "abandon" => abandon(locked, page, held, number as u64),
         "legs" => {
-            play_legs(rt, page.alloc, board, shares);
+            play_legs(locked, page.alloc, shares);
             page.put("legs");
         },
-        _ => report(rt, page, board, shares, held, line),
+        _ => report(locked, page, shares, held, line),
     }
 }
 
 /// Has the share of its worker report the entry that a line is.
 fn report<N: Names, T: Reversible + Send + Drop, R: Wait>(
-    rt: &R,
+    locked: &Locked<'_, N, T, R>,
     page: &mut Page<'_>,
-    board: &SharedBoard<N, T>,
     shares: &mut [Share<N>],
     held: &mut Vec<Held>,
     line: &str,
 ) {
     if let Some(Entry { worker, event }) = loaded(page, read_entry(page.alloc, line.as_bytes())) {
         match shares.get_mut(usize::from(worker)) {
-            Some(share) => put_event(rt, page, board, share, held, event),
+            Some(share) => put_event(locked, page, share, held, event),
             None => page.put("no such share"),
         }
     }
@@ -227,22 +243,28 @@ fn is_posted(event: &Event) -> bool
     }
 }
 
-/// Has a share report an event, and writes what comes of it.
+/// Has a share report an event, and writes what comes of it. A call that it begins is held, and one that it ends no more.
 fn put_event<N: Names, T: Reversible + Send + Drop, R: Wait>(
-    rt: &R,
+    locked: &Locked<'_, N, T, R>,
     page: &mut Page<'_>,
-    board: &SharedBoard<N, T>,
     share: &mut Share<N>,
     held: &mut Vec<Held>,
     event: Event,
 ) {
     if is_posted(&event) {
-        let done = board.lock(rt).post(share, event);
+        let done = locked.board.lock(locked.rt).post(share, event);
         return put_done(page, done);
     }
     match event {
-        Event::Begin { leg } => begin(rt, page, board, share, held, leg),
-        Event::End { leg, answer } => end(rt, page, board, share, held, leg, answer),
+        Event::Begin { leg } => begin(locked, page, share, held, leg),
+        Event::End { leg, answer } => match take_held(held, leg) {
+            Some(call) => {
+                if let Some(back) = end(locked, page, share, call, answer) {
+                    hold(locked, held, back);
+                }
+            },
+            None => page.put("no call is held"),
+        },
         _ => {},
     }
 }
@@ -265,12 +287,11 @@ pub fn put_post_fault(page: &mut Page<'_>, fault: PostFault) {
 
 /// Has a share post the first of the clerk's moves, and writes it with its reply, or why there is none.
 fn put_clerk<N: Names, T: Reversible + Send + Drop, R: Wait>(
-    rt: &R,
+    locked: &Locked<'_, N, T, R>,
     page: &mut Page<'_>,
-    board: &SharedBoard<N, T>,
     share: &mut Share<N>,
 ) {
-    let done = board.lock(rt).clerk(share);
+    let done = locked.board.lock(locked.rt).clerk(share);
     match done {
         Ok(Clerk::Moved(event, reply)) => {
             put_move(page, &event);
@@ -286,11 +307,11 @@ fn put_clerk<N: Names, T: Reversible + Send + Drop, R: Wait>(
 
 /// Has each worker play the leg with its number, in a thread of its own where one can be made.
 fn play_legs<N: Names + Send + Sync, T: Reversible + Send + Drop, R: Threads + Wait + Sync>(
-    rt: &R,
+    locked: &Locked<'_, N, T, R>,
     alloc: Global,
-    board: &SharedBoard<N, T>,
     shares: &mut [Share<N>],
 ) {
+    let (rt, board) = (locked.rt, locked.board);
     let threads = shares.len().max(1);
     let each = |_: usize, share: &mut Share<N>| play_leg(rt, alloc, board, share);
     thread::for_each_mut(rt, shares, threads, &each);

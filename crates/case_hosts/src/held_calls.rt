@@ -1,6 +1,6 @@
 //! Calls that are begun under the lock of a board, held, and ended or given up.
 
-use crate::board_calls::{put_done, put_post_fault};
+use crate::board_calls::{Locked, put_done, put_post_fault};
 use crate::pool_calls::exit;
 use case_reader::Page;
 use case_reader::replies::put_call;
@@ -12,18 +12,17 @@ use std::sync::Wait;
 
 /// Begins a step of a leg, and holds the call.
 pub fn begin<N: Names, T: Reversible + Send + Drop, R: Wait>(
-    rt: &R,
+    locked: &Locked<'_, N, T, R>,
     page: &mut Page<'_>,
-    board: &SharedBoard<N, T>,
     share: &mut Share<N>,
     held: &mut Vec<Held>,
     leg: u64,
 ) {
-    let begun = board.lock(rt).begin(share, leg);
+    let begun = locked.board.lock(locked.rt).begin(share, leg);
     match begun {
         Ok(Begun::Call(call)) => {
             put_call(page, &call.call);
-            hold(rt, board, held, call);
+            hold(locked, held, call);
         },
         Ok(Begun::Skipped) => page.put("skipped"),
         Ok(Begun::Faulted(fault)) => write!(page, "faulted {fault}"),
@@ -32,20 +31,19 @@ pub fn begin<N: Names, T: Reversible + Send + Drop, R: Wait>(
 }
 
 /// Holds a call, or gives it up where there is no memory.
-fn hold<N: Names, T: Reversible + Send + Drop, R: Wait>(
-    rt: &R,
-    board: &SharedBoard<N, T>,
+pub fn hold<N: Names, T: Reversible + Send + Drop, R: Wait>(
+    locked: &Locked<'_, N, T, R>,
     held: &mut Vec<Held>,
     call: Held,
 ) {
     if held.reserve(1).is_err() {
-        return board.lock(rt).abandon(call);
+        return locked.board.lock(locked.rt).abandon(call);
     }
     held.push_reserved(call);
 }
 
 /// The last call of a leg that is held, which is held no more.
-fn take_held(held: &mut Vec<Held>, leg: u64) -> Option<Held> {
+pub fn take_held(held: &mut Vec<Held>, leg: u64) -> Option<Held> {
     let place = held
         .as_slice()
         .iter()
@@ -53,22 +51,20 @@ fn take_held(held: &mut Vec<Held>, leg: u64) -> Option<Held> {
     Some(held.remove(place))
 }
 
-/// Ends the last call of a leg that is held, and writes the reply, or the fault with the call and the answer that came back.
+/// Ends a call, and writes the reply, or the fault with the call and the answer that came back. The answer is that call.
 pub fn end<N: Names, T: Reversible + Send + Drop, R: Wait>(
-    rt: &R,
+    locked: &Locked<'_, N, T, R>,
     page: &mut Page<'_>,
-    board: &SharedBoard<N, T>,
     share: &mut Share<N>,
-    held: &mut Vec<Held>,
-    leg: u64,
+    call: Held,
     answer: Answer,
-) {
-    let Some(call) = take_held(held, leg) else {
-        return page.put("no call is held");
-    };
-    let ended = board.lock(rt).end(share, call, answer);
+) -> Option<Held> {
+    let ended = locked.board.lock(locked.rt).end(share, call, answer);
     match ended {
-        Ok(reply) => put_done(page, Ok(reply)),
+        Ok(reply) => {
+            put_done(page, Ok(reply));
+            None
+        },
         Err((fault, call, answer)) => {
             put_post_fault(page, fault);
             write!(
@@ -77,7 +73,7 @@ pub fn end<N: Names, T: Reversible + Send + Drop, R: Wait>(
                 call.call.leg, call.call.step
             );
             put_answer(page, &answer);
-            hold(rt, board, held, call);
+            Some(call)
         },
     }
 }
@@ -93,15 +89,14 @@ fn put_answer(page: &mut Page<'_>, answer: &Answer) {
 
 /// Gives up the last call of a leg that is held.
 pub fn abandon<N: Names, T: Reversible + Send + Drop, R: Wait>(
-    rt: &R,
+    locked: &Locked<'_, N, T, R>,
     page: &mut Page<'_>,
-    board: &SharedBoard<N, T>,
     held: &mut Vec<Held>,
     leg: u64,
 ) {
     match take_held(held, leg) {
         Some(call) => {
-            board.lock(rt).abandon(call);
+            locked.board.lock(locked.rt).abandon(call);
             page.put("abandoned");
         },
         None => page.put("no call is held"),
