@@ -1,9 +1,9 @@
 -- Texts that are appended to known bytes one after the other.
-use Rattle.std.proofs.Common.{◌≡◌, ℕ, suc, ◌-◌, ◌<◌, List, [], ◌++◌, take, drop, length, get_or, flat_map, Option, Some, None, sym, ap, ◌∙◌, append_assoc, append-nil, take-append-drop}
+use Rattle.std.proofs.Common.{◌≡◌, ℕ, Bool, true, false, refl, suc, ◌-◌, ◌<◌, List, [], ◌++◌, take, drop, length, get_or, flat_map, Option, Some, None, sym, ap, ◌∙◌, append_assoc, append-nil, take-append-drop}
 use Rattle.std.proofs.Math.Seq.{drop-cons}
 use Rattle.std.proofs.lemmas.Grind.{flat_map-append}
 use Rattle.std.proofs.lemmas.List.{take_rest}
-use Rattle.command_io.specs.Stream.{Stream, IsWritten, IsCutOff}
+use Rattle.command_io.specs.Stream.{Stream, IsWritten, IsCutOff, Puts}
 use Rattle.std.specs.Io.KnownBytes.{Appends, Keeps}
 
 pub Appends-nothing : (known : Option (List ℕ)) → Appends known known []
@@ -61,3 +61,29 @@ part_cut_off f xs i d a b c piece within written is cut =
     flat_map-at f xs i d within ∙ ap (λ (l : List ℕ). before ++ (l ++ after)) (sym is ∙ whole)
     ∙ ap (λ (l : List ℕ). before ++ l) (append_assoc kept.part kept.rest after) ∙ sym (append_assoc before kept.part (kept.rest ++ after)) in
     (record { part = before ++ kept.part; rest = kept.rest ++ after; whole = all; appended = Appends-then _ _ _ before kept.part written.0 kept.appended }, failed)
+
+-- a piece that is cut off after what was written cuts off a text of which more would follow
+pub cut_within : (a b c : Stream) (done piece after whole : List ℕ) → IsWritten a b done → whole ≡ done ++ (piece ++ after) → IsCutOff b c piece → IsCutOff a c whole
+cut_within a b c done piece after whole written is cut =
+    let (kept, failed) = cut_off_after a b c done piece written cut in (
+      record {
+        part = kept.part;
+        rest = kept.rest ++ after;
+        whole = is ∙ sym (append_assoc done piece after) ∙ ap (λ (l : List ℕ). l ++ after) kept.whole ∙ append_assoc kept.part kept.rest after;
+        appended = kept.appended;
+      },
+      failed,
+    )
+
+-- a piece that is written after others
+pub written_more : (a b c : Stream) (done piece : List ℕ) → IsWritten a b done → IsWritten b c piece → IsWritten a c (done ++ piece)
+written_more a b c done piece first next = (Appends-then _ _ _ done piece first.0 next.0, next.1 ∙ first.1)
+
+-- a text whose beginning could not be written whole
+pub cut_at_first : (a b : Stream) (piece after : List ℕ) → IsCutOff a b piece → IsCutOff a b (piece ++ after)
+cut_at_first a b piece after cut = cut_within a a b [] piece after (piece ++ after) (Appends-nothing a.bytes, refl) refl cut
+
+-- a piece, and what is put after it
+pub puts_more : (a b c : Stream) (piece after : List ℕ) (whole : Bool) → IsWritten a b piece → Puts b c after whole → Puts a c (piece ++ after) whole
+puts_more a b c piece after true written put = written_more a b c piece after written put
+puts_more a b c piece after false written put = cut_off_after a b c piece after written put

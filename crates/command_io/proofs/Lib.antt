@@ -1,6 +1,7 @@
 pub mod InRange
 pub mod Known
 pub mod LineReading
+pub mod Pictures
 pub mod PlanFaults
 pub mod Reading
 pub mod Shown

@@ -5,7 +5,7 @@ use Rattle.std.proofs.lemmas.Grind.{flat_map-append}
 use Rattle.std.specs.List.{flat_map}
 use Rattle.std.proofs.lemmas.List.Folds.{list_all-append}
 use Rattle.std.proofs.lemmas.Str.{chars_past_char, chars-nil}
-use Rattle.command_print.specs.Shown.{picture, shown, ended, line_of, is_plain, HasPlainLines}
+use Rattle.command_io.specs.Pictures.{picture, shown, ended, line_of, is_plain, HasPlainLines}
 
 -- a character and what follows it
 pub shown_step : (bs rest : List ℕ) (c : ℕ) → IsUtf8 bs → bs ≡ encode_utf8 c ++ rest → shown bs ≡ encode_utf8 (picture c) ++ shown rest

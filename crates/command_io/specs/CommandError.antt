@@ -8,22 +8,26 @@ use Rattle.plan_assembler.specs.declared.fault.PlanFault.{PlanFault}
 use Rattle.plan_text.specs.Fault.{load_fault_name}
 use Rattle.status_table.specs.Fault.{event_fault_name}
 use Rattle.command_io.specs.Contexts.{contexts_fault_name}
+use Rattle.command_io.specs.Pictures.{shown}
 use Rattle.command_io.specs.declared.contexts.ContextsFault.{ContextsFault}
 use Rattle.command_io.specs.declared.stream.SourceFault.{SourceFault}
 use Rattle.command_io.specs.declared.stream.SourceFault.TheVariants as source_fault
 use Rattle.command_io.specs.declared.error.CommandError.{CommandError}
 use Rattle.command_io.specs.declared.error.CommandError.TheVariants.{NoExpression, NoValue, NoContexts, NoFlow, NotPlanned, NoPlan, NoEntry, Refused, Words, Io, Memory}
 
--- The lines that tell of a name: of that kind, at that place of an expression, of that file, and of the line of that
--- number.
+-- The lines that tell of a name: of that kind, at that place of an expression, of that file, whose name is shown so that it stands
+-- in one line, and of the line of that number.
 abbrev pub name_line : List ℕ → List ℕ → List ℕ
 name_line kind name = codes "actrun: " ++ (kind ++ (codes " " ++ (name ++ codes "\n")))
 
 abbrev pub placed_line : List ℕ → ℕ → List ℕ
 placed_line name place = codes "actrun: expr " ++ (name ++ (codes " at " ++ (decimal place ++ codes "\n")))
 
+abbrev pub named_rest : List ℕ → List ℕ → List ℕ
+named_rest file name = shown file ++ (codes " " ++ (name ++ codes "\n"))
+
 abbrev pub file_line : List ℕ → List ℕ → List ℕ
-file_line file name = codes "actrun: flow " ++ (file ++ (codes " " ++ (name ++ codes "\n")))
+file_line file name = codes "actrun: flow " ++ named_rest file name
 
 abbrev pub numbered_line : ℕ → List ℕ → List ℕ
 numbered_line n name = codes "actrun: line " ++ (decimal n ++ (codes " " ++ (name ++ codes "\n")))

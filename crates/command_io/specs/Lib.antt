@@ -1,6 +1,7 @@
 pub mod CommandError
 pub mod Contexts
 pub mod Files
+pub mod Pictures
 pub mod PlayStop
 pub mod Records
 pub mod Runs

@@ -1,12 +1,16 @@
 -- Lines as they are told, in which names from files stand: each control character is told by its picture, so that what is
 -- told as a line is one line, whatever its names are.
 use Rattle.std.specs.Prelude.{◌≡◌, ◌==◌, ◌+◌, ◌&&◌, ◌++◌, ℕ, Bool, true, not, nat_lt, if◌then◌else◌, List, map, codes, chars, encode_utf8_all}
+use Rattle.std.specs.Char.{encode_utf8}
 use Rattle.std.specs.List.{list_all, flat_map}
 
 -- A character as it is shown. The control characters of ASCII have pictures of their own in Unicode: 0 to 31 from U+2400 on,
 -- and 127 has U+2421.
 abbrev pub picture : ℕ → ℕ
 picture c = if nat_lt c 32 then 0x2400 + c else (if c == 127 then 0x2421 else c)
+
+abbrev pub shown_character : ℕ → List ℕ
+shown_character c = encode_utf8 (picture c)
 
 -- A text as it is shown, character by character.
 abbrev pub shown : List ℕ → List ℕ

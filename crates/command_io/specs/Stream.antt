@@ -3,6 +3,8 @@ use Rattle.std.specs.Prelude.{◌≡◌, ◌≢◌, ℕ, ◌-◌, Bool, true, fa
 use Rattle.std.specs.Io.{StartsWith}
 use Rattle.std.specs.Io.KnownBytes.{Appends, Consumes, IsAtEnd, Keeps}
 use Rattle.std.specs.declared.alloc.Global.{Global}
+use Rattle.std.specs.declared.io.ErrorKind.{ErrorKind}
+use Rattle.std.specs.declared.io.ErrorKind.TheVariants.{OutOfMemory}
 use Rattle.flow_model.specs.Lines.{is_line, lines_of, newline}
 use Rattle.command_io.specs.declared.stream.SourceFault.{SourceFault}
 use Rattle.command_io.specs.declared.stream.SourceFault.TheVariants.{Failed, Memory}
@@ -41,11 +43,12 @@ abbrev pub Flushes : Stream → Stream → Bool → Type 0
 Flushes old new true = IsKept old new
 Flushes old new false = Keeps old.bytes new.bytes × (new.failed ≡ true)
 
--- What reading a source to its end comes to: all bytes, where they are known; or a read failed, or there was no memory.
+-- What reading a source to its end comes to: all bytes, where they are known; or a read failed; or there was no memory, and no
+-- read failed.
 abbrev pub IsRead : Stream → Stream → Result (List ℕ) SourceFault → Type 0
 IsRead old new (Ok bytes) = IfSome old.bytes (λ known. bytes ≡ known) × (new.failed ≡ old.failed)
 IsRead old new (Err Failed) = new.failed ≡ true
-IsRead old new (Err Memory) = Unit {0}
+IsRead old new (Err Memory) = new.failed ≡ old.failed
 
 -- The same of what the code answers.
 abbrev pub ReadsAll : Stream → Stream → Result (Vec ℕ Global) SourceFault → Type 0
@@ -72,12 +75,13 @@ pub record LosesPart (old new : Option (List ℕ)) : Type 0 where
   pub within : IsTrue (is_line part)
   pub lost : Consumes old new part
 
--- What reading a line comes to: a line, or none at the end; or a read failed within a line, or there was no memory.
+-- What reading a line comes to: a line, or none at the end; or a read failed within a line; or there was no memory, and no read
+-- failed.
 abbrev pub IsLineRead : Stream → Stream → Result (Option (List ℕ)) SourceFault → Type 0
 IsLineRead old new (Ok None) = IsAtEnd old.bytes × (new.failed ≡ old.failed)
 IsLineRead old new (Ok (Some line)) = TakesLine old.bytes new.bytes line × (new.failed ≡ old.failed)
 IsLineRead old new (Err Failed) = LosesPart old.bytes new.bytes × (new.failed ≡ true)
-IsLineRead old new (Err Memory) = LosesPart old.bytes new.bytes
+IsLineRead old new (Err Memory) = LosesPart old.bytes new.bytes × (new.failed ≡ old.failed)
 
 -- The same of what the code answers: whether there was a line, and which.
 abbrev pub ReadsLine : Stream → Stream → List ℕ → Result Bool SourceFault → Type 0
@@ -115,3 +119,8 @@ Writes old new text false = AppendsPart old new text
 abbrev pub WritesSome : Option (List ℕ) → Option (List ℕ) → List ℕ → Option ℕ → Type 0
 WritesSome old new text (Some count) = Appends old new (take count text) × (count ≤ length text)
 WritesSome old new text None = Keeps old new
+
+-- Why a call on a reader failed, by the kind of its error: want of memory is told of no other kind, and of this kind nothing else.
+abbrev pub TellsKind : ErrorKind → SourceFault → Type 0
+TellsKind kind Failed = kind ≢ OutOfMemory
+TellsKind kind Memory = kind ≡ OutOfMemory

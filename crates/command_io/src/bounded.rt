@@ -8,6 +8,32 @@ ghost use Rattle.std.specs.Io.{ReadsAtMost};
 use std::io;
 use std::io::{BufReader, ErrorKind, Read};
 
+/// A reader of whose answers something may be known.
+pub trait Answering: Read {
+    ghost use Rattle.std.specs.Prelude.{ℕ, List, Result};
+    ghost use Rattle.std.specs.Io.{ReadsAtMost};
+    ghost use Rattle.std.specs.Io.KnownBytes.{ReadConsumes};
+    ghost use Rattle.std.specs.declared.io.Error.{Error};
+
+    /// What is known of one answer: the reader before and after it, the answer, and what stands in the buffer then.
+    ghost answers: { Self → Self → Result ℕ Error → List ℕ → Type 0 };
+
+    /// Asks once for bytes.
+    fn ask(&mut self, buf: &mut [u8]) -> io::Result<usize>
+        ensures bound { ReadsAtMost result buf.new }
+        ensures bytes { ReadConsumes (Self.remaining self.old) (Self.remaining self.new) result buf.new }
+        ensures answers { answers self.old self.new result buf.new };
+}
+
+impl<R: Read> Answering for R {
+    // of a reader as such nothing more is known
+    ghost answers = { λ _ _ _ _. Unit {0} };
+
+    fn ask(&mut self, buf: &mut [u8]) -> io::Result<usize> {
+        self.read(buf)
+    }
+}
+
 /// How often the program asks a reader for bytes before it gives it up.
 pub const MOST_READS: u64 = 1_073_741_824;
 
@@ -41,14 +67,17 @@ impl<R, const MOST: u64> Bounded<R, MOST> {
     }
 }
 
-impl<R: Read, const MOST: u64> Read for Bounded<R, MOST> {
+impl<R: Answering, const MOST: u64> Read for Bounded<R, MOST> {
     ghost remaining = { λ b. R.remaining b.reader };
 
     fn read(&mut self, buf: &mut [u8]) -> io::Result<usize>
         ensures bound { ReadsAtMost result buf.new }
         ensures bytes { ReadConsumes (R.remaining self.old.reader) (R.remaining self.new.reader)
             result buf.new }
-        // one that may be asked is counted, whatever it answers
+        // one that may be asked is asked once, and its answer handed on
+        ensures own { self.old.reads < MOST
+            → R.answers self.old.reader self.new.reader result buf.new }
+        // it is counted, whatever it answers
         ensures reads { self.old.reads < MOST → self.new.reads ≡ self.old.reads + 1 }
         // one that may not is not asked
         ensures kept { self.old.reads ≡ MOST → self.new ≡ self.old }
@@ -58,11 +87,11 @@ impl<R: Read, const MOST: u64> Read for Bounded<R, MOST> {
             return Err(io::Error::from(ErrorKind::Other));
         }
         self.reads += 1;
-        self.reader.read(buf)
+        self.reader.ask(buf)
     }
 }
 
-impl<R: Read, const MOST: u64> Counted for Bounded<R, MOST> {
+impl<R: Answering, const MOST: u64> Counted for Bounded<R, MOST> {
     ghost reads = { λ b. b.reads };
 
     ghost most = { MOST };

@@ -5,6 +5,7 @@ ghost use Rattle.command_io.specs.Stream.{Puts};
 ghost use Rattle.command_io.specs.CommandError as spec;
 
 use crate::contexts::ContextsFault;
+use crate::pictured::put_shown;
 use crate::stream::{Sink, put_parts};
 use expr_reader::ExprFault;
 use flow_model::{Text, ValueFault};
@@ -128,12 +129,24 @@ fn say_unread<S: Sink>(err: &mut S, name: &str, place: usize) -> bool
     put_parts(err, &parts)
 }
 
-/// Says that a file gives no contexts, or stands for no workflow.
+/// Says the name of a file, and what is wrong with it.
+fn say_named<S: Sink>(err: &mut S, file: &str, name: &str) -> bool
+    ensures { Puts (S.seen err.old) (S.seen err.new) (spec.named_rest file.now name.now) result }
+{
+    if !put_shown(err, file) {
+        return false;
+    }
+    put_parts(err, &[" ", name, "\n"])
+}
+
+/// Says that a file gives no contexts, or stands for no workflow. Its name is shown in one line, whatever it is.
 fn say_file<S: Sink>(err: &mut S, file: &str, name: &str) -> bool
     ensures { Puts (S.seen err.old) (S.seen err.new) (spec.file_line file.now name.now) result }
 {
-    let parts = ["actrun: flow ", file, " ", name, "\n"];
-    put_parts(err, &parts)
+    if !err.put(b"actrun: flow ") {
+        return false;
+    }
+    say_named(err, file, name)
 }
 
 /// Says a name of a kind.

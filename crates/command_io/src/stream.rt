@@ -2,6 +2,7 @@
 
 ghost use Rattle.std.specs.Prelude.{◌≡◌, ◌<◌, ◌≤◌, ℕ, List, Option, Ok, Some, OnOk, IfSome, length, map, take, flat_map};
 ghost use Rattle.std.specs.Io.{StartsWith};
+ghost use Rattle.std.specs.IoError.{error_kind};
 ghost use Rattle.std.specs.Io.KnownBytes.{Consumes};
 ghost use Rattle.command_io.specs.Stream.{EndsAt, Flushes, IsLineRead, LiesReady, Stream, Puts, ReadsAll, ReadsLine};
 ghost use Rattle.command_io.specs.Stream as spec;
@@ -144,8 +145,10 @@ impl<R: Counted> Input<R> {
     }
 }
 
-/// Why a call on a reader failed.
-fn source_fault(error: &io::Error) -> SourceFault {
+/// Why a call on a reader failed: want of memory is told by its kind, and every other error is a read that failed.
+fn source_fault(error: &io::Error) -> SourceFault
+    ensures { spec.TellsKind (error_kind error.now) result }
+{
     if error.kind() == ErrorKind::OutOfMemory {
         return SourceFault::Memory;
     }

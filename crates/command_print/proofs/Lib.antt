@@ -5,5 +5,4 @@ pub mod Lines
 pub mod Linted
 pub mod LookedAt
 pub mod OneAnswer
-pub mod Pictures
 pub mod Unplanned

@@ -11,9 +11,9 @@ use Rattle.command_io.specs.declared.stream.SourceFault.{SourceFault}
 use Rattle.command_io.specs.declared.stream.SourceFault.TheVariants as source_fault
 use Rattle.command_io.specs.declared.error.CommandError.{CommandError}
 use Rattle.command_print.proofs.Flows.{left_at}
-use Rattle.command_print.proofs.Pictures.{no_lines, lines_of_one, lines_of_all, lines_of_both}
+use Rattle.command_io.proofs.Pictures.{no_lines, lines_of_one, lines_of_all, lines_of_both}
 use Rattle.command_print.specs.Lint.{Told, IsTold, IsToldOf, IsPassed, IsRefused, AreTold, Judges, GivesLint, IsLintAnswer, LintTells, fault_text, hint_lines, lint_text, note_words, refusing_line, refusing_words}
-use Rattle.command_print.specs.Shown.{HasPlainLines}
+use Rattle.command_io.specs.Pictures.{HasPlainLines}
 
 -- what is told of a file by what it comes to is told of it
 pub told_by_judged : (file : Content) (error : Option CommandError) (told : Told) → Judges file (Ok error) → IsToldOf file error told → IsTold file told

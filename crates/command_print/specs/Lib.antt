@@ -6,5 +6,4 @@ pub mod Plan
 pub mod Planning
 pub mod Play
 pub mod Replay
-pub mod Shown
 pub mod Table

@@ -17,7 +17,7 @@ use Rattle.command_io.specs.declared.stream.SourceFault.{SourceFault}
 use Rattle.command_io.specs.declared.error.CommandError.{CommandError}
 use Rattle.command_io.specs.declared.error.CommandError.TheVariants.{NoExpression, NoValue, NoContexts, NoFlow, NotPlanned, NoPlan, NoEntry, Refused, Words, Io, Memory}
 use Rattle.command_print.specs.Planning.{ComesTo, ComesToNone}
-use Rattle.command_print.specs.Shown.{HasPlainLines, line_of}
+use Rattle.command_io.specs.Pictures.{HasPlainLines, line_of}
 
 -- ---- lines
 

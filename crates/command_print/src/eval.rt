@@ -9,6 +9,7 @@ ghost use Rattle.command_print.specs.Eval.{EvalTells};
 
 use command_io::contexts::{Unread, file_contexts};
 use command_io::error::{CommandError, contexts_error};
+use command_io::files::NamedSource;
 use command_io::stream::{Sink, Source};
 use command_io::tell::{refuse_source, tell};
 use expr_reader::{ExprFault, Tree, read_expr};
@@ -85,22 +86,35 @@ fn answer(alloc: Global, file: &str, bytes: &[u8], expression: &str) -> Result<S
     Ok(line_of(alloc, value)?)
 }
 
+/// What `eval` is asked for: the file of contexts, and an expression.
+#[derive(Drop)]
+pub struct AskedEval<'w, I> {
+    pub contexts: NamedSource<I>,
+    pub expression: &'w str,
+}
+
 /// Reads the file of contexts to its end and writes the value of an expression over them, as compact JSON and a
-/// newline, to `out`; or writes why there is none to `err`, in one line that may name `file`. Status functions see
+/// newline, to `out`; or writes why there is none to `err`, in one line that may name the file. Status functions see
 /// success. The answer is the exit status.
 pub fn eval<I: Source, O: Sink, E: Sink>(
     alloc: Global,
-    file: &str,
-    input: &mut I,
-    expression: &str,
+    asked: &mut AskedEval<'_, I>,
     out: &mut O,
     err: &mut E,
 ) -> u8
-    ensures { EvalTells file.now expression.now (I.seen input.old) (I.seen input.new)
+    ensures { EvalTells asked.old.contexts.name asked.old.expression.now
+        (I.seen asked.old.contexts.source) (I.seen asked.new.contexts.source)
         (O.seen out.old) (O.seen out.new) (E.seen err.old) (E.seen err.new) result }
 {
-    match input.read_all(alloc) {
-        Ok(bytes) => tell(answer(alloc, file, bytes.as_slice(), expression), out, err),
+    match asked.contexts.source.read_all(alloc) {
+        Ok(bytes) => {
+            let file = asked.contexts.name.as_str();
+            tell(
+                answer(alloc, file, bytes.as_slice(), asked.expression),
+                out,
+                err,
+            )
+        },
         Err(fault) => refuse_source(err, fault),
     }
 }

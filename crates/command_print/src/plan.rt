@@ -38,24 +38,35 @@ fn answer(
     Ok(line_of(alloc, &plan)?)
 }
 
+/// What `plan` is asked for beside the files of the workflows: a choice of these, and the file of contexts.
+#[derive(Drop)]
+pub struct AskedPlan<R> {
+    pub choice: Choice,
+    pub contexts: NamedSource<R>,
+}
+
 /// Reads the file of contexts and those of the workflows to their ends, and writes the plan that a choice of the workflows
 /// comes to, as the compact text of its document and a newline, to `out`; or writes why there is none to `err`, in one
 /// line. The path of a workflow is the name of its file. The answer is the exit status.
 pub fn plan<R: Source, S: Source, O: Sink, E: Sink>(
     alloc: Global,
-    choice: &Choice,
-    contexts: &mut NamedSource<R>,
+    asked: &mut AskedPlan<R>,
     flows: &mut [NamedSource<S>],
     out: &mut O,
     err: &mut E,
 ) -> u8
-    ensures { PlanTells choice.now (file_seen R.seen contexts.old) (file_seen R.seen contexts.new)
+    ensures { PlanTells asked.old.choice
+        (file_seen R.seen asked.old.contexts) (file_seen R.seen asked.new.contexts)
         (map (file_seen S.seen) flows.old) (map (file_seen S.seen) flows.new)
         (O.seen out.old) (O.seen out.new) (E.seen err.old) (E.seen err.new) result }
 {
-    match read_first(alloc, contexts, flows) {
+    match read_first(alloc, &mut asked.contexts, flows) {
         Ok((contexts, flows)) => {
-            tell(answer(alloc, choice, &contexts, flows.as_slice()), out, err)
+            tell(
+                answer(alloc, &asked.choice, &contexts, flows.as_slice()),
+                out,
+                err,
+            )
         },
         Err(fault) => refuse_source(err, fault),
     }

@@ -1,7 +1,7 @@
 use Rattle.std.proofs.Common.{sym, ◌∙◌, append_assoc, append-nil}
 use Rattle.std.proofs.lemmas.Str.{IsUtf8-past_char}
 use Rattle.std.specs.Str.Iter.{chars_rest}
-use Rattle.command_print.proofs.Pictures.{shown_step, shown_nothing}
+use Rattle.command_io.proofs.Pictures.{shown_step, shown_nothing}
 use Rattle.command_print.proofs.shown.add_shown.Goals as goal
 
 pub loop-c-preserved : goal.loop-c-preserved

@@ -1,6 +1,6 @@
 use Rattle.std.proofs.Common.{◌≡◌, ◌++◌, IsUtf8, string_bytes}
 use Rattle.std.specs.Str.Iter.{chars_rest}
-use Rattle.command_print.specs.Shown.{shown}
+use Rattle.command_io.specs.Pictures.{shown}
 use Rattle.command_print.proofs.shown.add_shown.Given as goal
 
 -- what was added, and what is left to be shown
