@@ -8,7 +8,7 @@ use command_io::stream::{Input, Output};
 use command_io::tell::refuse;
 use command_run::machine::Machine;
 use command_words::folder::Folder;
-use command_words::words::run_line;
+use command_words::words::{Streams, run_line};
 use std::fs::{File, Files};
 use std::io::BufReader;
 use std::process::ExitCode;
@@ -52,14 +52,14 @@ fn main(rt: HostRuntime) -> ExitCode {
     // in the place of each standard stream that is closed, so that no other file is taken for it
     let _closed = (nothing(&rt), nothing(&rt), nothing(&rt));
     let disk = Disk { files: &rt };
-    let mut out = Output::new(io::writer(&rt));
+    let out = Output::new(io::writer(&rt));
     let mut err = Output::new(rt.stderr());
     let reader: Bounded<_, MOST_READS> = Bounded::new(rt.reader());
     let status = match BufReader::new(rt.alloc(), reader) {
         Ok(reader) => {
-            let mut input = Input::new(reader);
-            let line = env::args(&rt);
-            run_line(rt.alloc(), line, &disk, &mut input, &mut out, &mut err)
+            let input = Input::new(reader);
+            let mut streams = Streams { input, out, err };
+            run_line(rt.alloc(), env::args(&rt), &disk, &mut streams)
         },
         Err(_) => refuse(&mut err, &CommandError::Memory),
     };

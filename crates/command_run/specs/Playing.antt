@@ -2,14 +2,21 @@
 use Rattle.std.specs.Prelude.{◌≡◌, ℕ, ◌⊎◌, true, List, Option, Some, None, Result, Ok, Err}
 use Rattle.command_io.specs.declared.stop.PlayStop.{PlayStop}
 use Rattle.command_io.specs.declared.stop.PlayStop.TheVariants as stop
+use Rattle.flow_model.specs.Answer.{is_well_formed}
+use Rattle.flow_model.specs.Sound.{Each}
 use Rattle.flow_model.specs.declared.board.Board.{Board}
+use Rattle.flow_model.specs.declared.event.Answer.{Answer}
 use Rattle.flow_model.specs.declared.event.Entry.{Entry}
+use Rattle.flow_model.specs.declared.event.Event.{Event}
+use Rattle.flow_model.specs.declared.event.Event.TheVariants as event
 use Rattle.flow_model.specs.declared.plan.Plan.{Plan}
 use Rattle.flow_model.specs.declared.reply.StepCall.{StepCall}
+use Rattle.command_run.specs.PlanMasks.{plan_masks}
 use Rattle.command_run.specs.declared.playing.Playing.{Playing}
 use Rattle.status_table.specs.Moves.{finished, stalled}
 use Rattle.status_table.specs.Play.{Play}
 use Rattle.status_table.specs.Runs.{after}
+use Rattle.step_host.specs.Masked.{IsMasked}
 use Rattle.worker_pool.specs.Fault.{InCall}
 use Rattle.worker_pool.specs.History.{NoCancel}
 use Rattle.worker_pool.specs.Many.{AreBelow, AreNoWorkers}
@@ -17,12 +24,32 @@ use Rattle.worker_pool.specs.declared.fault.PoolFault.{PoolFault}
 use Rattle.worker_pool.specs.declared.fault.PoolFault.TheVariants as pool
 use Rattle.worker_pool.specs.declared.played.Played.{Played}
 
--- A history that the table accepts, of workers below their number, in which no run is told to stop.
+-- A host gives no answer but the masked form of one that is well-formed.
+abbrev pub MasksAnswers : List (List ℕ) → (StepCall → Answer → Type 0) → Type 0
+MasksAnswers masks admits = (call : StepCall) (answer : Answer) → admits call answer → IsMasked masks (λ plain. is_well_formed plain ≡ true) answer
+
+-- The answer of an event, if it is an End, is masked so.
+abbrev pub GivesMasked : List (List ℕ) → Event → Type 0
+GivesMasked masks (event.Open r) = Unit {0}
+GivesMasked masks (event.Judge j) = Unit {0}
+GivesMasked masks (event.Ask l) = Unit {0}
+GivesMasked masks (event.Drop l) = Unit {0}
+GivesMasked masks (event.Take l) = Unit {0}
+GivesMasked masks (event.Begin l) = Unit {0}
+GivesMasked masks (event.End l answer) = IsMasked masks (λ plain. is_well_formed plain ≡ true) answer
+GivesMasked masks (event.Finish l) = Unit {0}
+GivesMasked masks (event.Close r) = Unit {0}
+GivesMasked masks (event.Cancel r) = Unit {0}
+
+-- A history that the table accepts, of workers below their number, of whom there may be so many, in which no run is told to stop. The
+-- answers of its calls are masked by the secrets of the plan.
 pub record IsPlayed (plan : Plan) (workers : ℕ) (history : List Entry) : Type 0 where
+  pub number : AreNoWorkers workers → ⊥
   pub board : Board
   pub leads : after plan history ≡ Some board
   pub of_them : AreBelow workers history
   pub uncancelled : NoCancel history
+  pub masked : Each (λ e. GivesMasked (plan_masks plan) e.event) history
 
 -- A play came to its end: every run is closed on the board after its history, or nothing goes on.
 pub record HasEnded (plan : Plan) (history : List Entry) : Type 0 where

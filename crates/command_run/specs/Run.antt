@@ -1,5 +1,5 @@
 -- What `actrun run` tells: what was shown of the steps that it played, how the runs ended, and why it stopped.
-use Rattle.std.specs.Prelude.{◌≡◌, ℕ, true, false, ◌⊎◌, List, [], ◌++◌, Option, Some, None, Result, Ok, Err, Vec}
+use Rattle.std.specs.Prelude.{◌≡◌, ℕ, true, false, ◌⊎◌, codes, List, [], ◌++◌, Option, Some, None, Result, Ok, Err, Vec}
 use Rattle.std.specs.declared.alloc.Global.{Global}
 use Rattle.command_io.specs.Files.{Content, File, IsContent}
 use Rattle.command_io.specs.Runs.{runs_status}
@@ -127,19 +127,19 @@ pub record IsNoPlan (stubs : Content) (bytes : List ℕ) (fault : LoadFault) : T
   pub fails : load bytes ≡ Err fault
 
 -- Why nothing is played of texts: the first is no file of stubs; it is one, and the other is no plan; or they are both, and the
--- machine has no such folder. Want of memory may be told of all of them. (`load` refuses no text for a line of an entry.)
-abbrev pub AreNotPlayed : Content → List ℕ → CommandError → Type 0
-AreNotPlayed stubs bytes (NoContexts file fault) = (file_stubs stubs.bytes ≡ Err fault) × (file ≡ stubs.name)
-AreNotPlayed stubs bytes (NoPlan fault) = IsNoPlan stubs bytes fault
-AreNotPlayed stubs bytes (NoEntry n) = IsNoPlan stubs bytes (load_fault.NotEntry n)
-AreNotPlayed stubs bytes Io = (plan : Plan) × AreTexts stubs bytes plan
-AreNotPlayed stubs bytes Memory = Unit {0}
-AreNotPlayed stubs bytes (NoExpression fault) = ⊥
-AreNotPlayed stubs bytes (NoValue fault) = ⊥
-AreNotPlayed stubs bytes (NoFlow file fault) = ⊥
-AreNotPlayed stubs bytes (NotPlanned fault) = ⊥
-AreNotPlayed stubs bytes (Refused n fault) = ⊥
-AreNotPlayed stubs bytes Words = ⊥
+-- machine has no whole path of the folder. Want of memory may be told of all of them. (`load` refuses no text for a line of an entry.)
+abbrev pub AreNotPlayed : Type 0 → Content → List ℕ → CommandError → Type 0
+AreNotPlayed lacks stubs bytes (NoContexts file fault) = (file_stubs stubs.bytes ≡ Err fault) × (file ≡ stubs.name)
+AreNotPlayed lacks stubs bytes (NoPlan fault) = IsNoPlan stubs bytes fault
+AreNotPlayed lacks stubs bytes (NoEntry n) = IsNoPlan stubs bytes (load_fault.NotEntry n)
+AreNotPlayed lacks stubs bytes Io = ((plan : Plan) × AreTexts stubs bytes plan) × lacks
+AreNotPlayed lacks stubs bytes Memory = Unit {0}
+AreNotPlayed lacks stubs bytes (NoExpression fault) = ⊥
+AreNotPlayed lacks stubs bytes (NoValue fault) = ⊥
+AreNotPlayed lacks stubs bytes (NoFlow file fault) = ⊥
+AreNotPlayed lacks stubs bytes (NotPlanned fault) = ⊥
+AreNotPlayed lacks stubs bytes (Refused n fault) = ⊥
+AreNotPlayed lacks stubs bytes Words = ⊥
 
 -- What is told of a plan and stubs that texts are.
 pub record RunsLoaded (keep : Keeps) (stubs : Content) (bytes : List ℕ) (workers : ℕ) (out out' err err' : Stream) (status : ℕ) : Type 0 where
@@ -148,15 +148,15 @@ pub record RunsLoaded (keep : Keeps) (stubs : Content) (bytes : List ℕ) (worke
   pub runs : RunsPlan keep plan workers out out' err err' status
 
 -- Texts are not played, and why is told.
-pub record RefusesTexts (stubs : Content) (bytes : List ℕ) (out out' err err' : Stream) (status : ℕ) : Type 0 where
+pub record RefusesTexts (lacks : Type 0) (stubs : Content) (bytes : List ℕ) (out out' err err' : Stream) (status : ℕ) : Type 0 where
   pub error : CommandError
-  pub why : AreNotPlayed stubs bytes error
+  pub why : AreNotPlayed lacks stubs bytes error
   pub told : TellsError error out out' err err' status
 
 -- What is told of texts.
-abbrev pub RunsTexts : Keeps → Content → List ℕ → ℕ → Stream → Stream → Stream → Stream → ℕ → Type 0
-RunsTexts keep stubs bytes workers out out' err err' status =
-    RunsLoaded keep stubs bytes workers out out' err err' status ⊎ RefusesTexts stubs bytes out out' err err' status
+abbrev pub RunsTexts : Keeps → Type 0 → Content → List ℕ → ℕ → Stream → Stream → Stream → Stream → ℕ → Type 0
+RunsTexts keep lacks stubs bytes workers out out' err err' status =
+    RunsLoaded keep stubs bytes workers out out' err err' status ⊎ RefusesTexts lacks stubs bytes out out' err err' status
 
 -- The file of stubs is read to its end, and then the plan; or one of them is not.
 abbrev pub AreBothRead : File → File → Stream → Stream → Result (Content × List ℕ) SourceFault → Type 0
@@ -165,10 +165,10 @@ AreBothRead stubs stubs' input input' (Err why) =
     IsRead stubs.source stubs'.source (Err why) ⊎ ((content : Content) × IsContent stubs stubs' content × IsRead input input' (Err why))
 
 -- Both were read, and this is told of them.
-pub record TellsRead (keep : Keeps) (workers : ℕ) (stubs stubs' : File) (input input' out out' err err' : Stream) (status : ℕ) : Type 0 where
+pub record TellsRead (keep : Keeps) (lacks : Type 0) (workers : ℕ) (stubs stubs' : File) (input input' out out' err err' : Stream) (status : ℕ) : Type 0 where
   pub both : Content × List ℕ
   pub read : AreBothRead stubs stubs' input input' (Ok both)
-  pub told : RunsTexts keep both.0 both.1 workers out out' err err' status
+  pub told : RunsTexts keep lacks both.0 both.1 workers out out' err err' status
 
 -- One of them was not, and why is told.
 pub record TellsUnread (stubs stubs' : File) (input input' out out' err err' : Stream) (status : ℕ) : Type 0 where
@@ -176,10 +176,11 @@ pub record TellsUnread (stubs stubs' : File) (input input' out out' err err' : S
   pub unread : AreBothRead stubs stubs' input input' (Err why)
   pub told : TellsError (source_error why) out out' err err' status
 
--- What `run` leaves, by so many workers, where keeping a record does this: it reads the file of stubs and the plan to their ends, and tells of them.
-abbrev pub RunTells : Keeps → ℕ → File → File → Stream → Stream → Stream → Stream → Stream → Stream → ℕ → Type 0
-RunTells keep workers stubs stubs' input input' out out' err err' status =
-    TellsRead keep workers stubs stubs' input input' out out' err err' status ⊎ TellsUnread stubs stubs' input input' out out' err err' status
+-- What `run` leaves, by so many workers, where keeping a record does this, and where it stands for this that the machine has no whole
+-- path of the folder for programs: it reads the file of stubs and the plan to their ends, and tells of them.
+abbrev pub RunTells : Keeps → Type 0 → ℕ → File → File → Stream → Stream → Stream → Stream → Stream → Stream → ℕ → Type 0
+RunTells keep lacks workers stubs stubs' input input' out out' err err' status =
+    TellsRead keep lacks workers stubs stubs' input input' out out' err err' status ⊎ TellsUnread stubs stubs' input input' out out' err err' status
 
 -- ---- what the code answers on the way
 
@@ -188,9 +189,14 @@ abbrev pub ReadsBoth : File → File → Stream → Stream → Result (Content �
 ReadsBoth stubs stubs' input input' (Ok both) = AreBothRead stubs stubs' input input' (Ok (both.0, both.1.items))
 ReadsBoth stubs stubs' input input' (Err why) = AreBothRead stubs stubs' input input' (Err why)
 
--- Why a machine cannot give a folder's whole path: it has no such folder, or no memory.
-abbrev pub IsOfMachine : CommandError → Type 0
-IsOfMachine error = (error ≡ Io) ⊎ (error ≡ Memory)
+-- Why a machine cannot give a folder's whole path: it has none of it, or no memory.
+abbrev pub IsOfMachine : Type 0 → CommandError → Type 0
+IsOfMachine lacks error = ((error ≡ Io) × lacks) ⊎ (error ≡ Memory)
+
+-- the folder in which programs start: the one that is named, or the one in which this program is
+abbrev pub work_folder : Option (List ℕ) → List ℕ
+work_folder None = codes "."
+work_folder (Some folder) = folder
 
 -- What is shown of the logs of a history, and then these lines, were written so.
 pub record PutsPlayed (plan : Plan) (history : List Entry) (lines : List ℕ) (out out' : Stream) (written : Written) : Type 0 where

@@ -1,7 +1,8 @@
 //! What starts programs.
 
-ghost use Rattle.std.specs.Prelude.{Bool, IfErr, List, ℕ};
+ghost use Rattle.std.specs.Prelude.{Bool, IfErr, IfOk, List, ℕ};
 ghost use Rattle.command_io.specs.Stream.{Stream};
+ghost use Rattle.command_run.specs.Playing.{MasksAnswers};
 ghost use Rattle.command_run.specs.Run.{IsOfMachine};
 
 use crate::environment::variables;
@@ -42,21 +43,25 @@ pub trait Machine: Files {
     fn write_file<O: Sink>(&self, name: &str, text: &[u8], out: &O) -> bool
         ensures { writes name.now text.now (O.seen out.now) result };
 
+    /// That it has no whole path of the folder of this name.
+    ghost lacks: { List ℕ → Type 0 };
+
     /// The whole path of a folder.
     ///
     /// # Errors
     ///
     /// `CommandError::Io` where there is none, and `CommandError::Memory`.
     fn whole_path(&self, folder: &str) -> Result<String, CommandError>
-        ensures { IfErr result IsOfMachine };
+        ensures { IfErr result (IsOfMachine (lacks folder.now)) };
 
-    /// The host that starts programs, with those variables of this program that are texts. It also masks the values of
+    /// The host that starts programs, with those variables of this program that are texts. It masks the values of
     /// outputs and of variables that steps set.
     ///
     /// # Errors
     ///
     /// There is no memory.
-    fn host(&self, alloc: Global, setup: HostSetup<'_>) -> Result<Self::Host, AllocError>;
+    fn host(&self, alloc: Global, setup: HostSetup<'_>) -> Result<Self::Host, AllocError>
+        ensures masks { IfOk result (λ host. MasksAnswers setup.entry.masks (Self.Host.admits host)) };
 }
 
 impl Machine for HostRuntime {
@@ -64,6 +69,8 @@ impl Machine for HostRuntime {
 
     // nothing is known of a disk
     ghost writes = { λ _ _ _ _. Unit {0} };
+
+    ghost lacks = { λ _. Unit {0} };
 
     fn write_file<O: Sink>(&self, name: &str, text: &[u8], _out: &O) -> bool {
         match File::create(self, name) {

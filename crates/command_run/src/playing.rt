@@ -2,6 +2,7 @@
 
 ghost use Rattle.std.specs.Prelude.{◌≡◌, ℕ, IfErr, IfOk};
 ghost use Rattle.flow_model.specs.declared.plan.Plan.{Plan};
+ghost use Rattle.command_run.specs.PlanMasks.{plan_masks};
 ghost use Rattle.command_run.specs.Playing as spec;
 
 use command_io::stop::PlayStop;
@@ -33,7 +34,6 @@ impl Playing {
 }
 
 /// Plays a plan by so many workers. One plays in the thread of the program, so that the same answers make the same history.
-#[tactic(auto, using(crate::proofs::Played::stopped_is_played, crate::proofs::Played::many_stopped))]
 fn play_by<R: Threads + Wait + Sync, H: StepHost>(
     rt: &R,
     alloc: Global,
@@ -41,6 +41,7 @@ fn play_by<R: Threads + Wait + Sync, H: StepHost>(
     host: &H,
     workers: u64,
 ) -> Result<Played, PoolFault>
+    requires { spec.MasksAnswers (plan_masks plan.now) (H.admits host.now) }
     ensures played { IfOk result (spec.EndsPlayed plan.now workers) }
     ensures stopped { IfErr result (spec.StopsPlayed plan.now workers) }
 {
@@ -80,6 +81,7 @@ pub(crate) fn played_by<R: Threads + Wait + Sync, H: StepHost>(
     host: &H,
     workers: u64,
 ) -> Option<Playing>
+    requires { spec.MasksAnswers (plan_masks plan.now) (H.admits host.now) }
     ensures { spec.ComesTo plan.now workers result }
 {
     match play_by(rt, alloc, plan, host, workers) {

@@ -1,9 +1,10 @@
 //! The logs of the steps that were started, and what is shown of them.
 
-ghost use Rattle.std.specs.Prelude.{◌≡◌, ◌++◌, ℕ, IfOk, OnOk, flat_map, map, nat_eq};
+ghost use Rattle.std.specs.Prelude.{◌≡◌, ◌++◌, ℕ, IfOk, IfSome, OnOk, Some, flat_map, map, nat_eq};
 ghost use Rattle.std.specs.HashMap.{get};
 ghost use Rattle.status_table.specs.Runs.{IsLegal};
 ghost use Rattle.step_host.specs.Counted.{begun_after, counted};
+ghost use Rattle.step_host.specs.Program.{log_file as log_name};
 ghost use Rattle.command_run.specs.StepLogs as spec;
 
 use crate::plan_masks::masks_of;
@@ -16,7 +17,7 @@ use std::collections::HashMap;
 use std::fs::Files;
 use std::io::ErrorKind;
 use step_host::laws::records_are_counted;
-use step_host::{file_bytes, log_file};
+use step_host::{FileBytes, log_file, read_named};
 
 /// Whether a program was started.
 fn was_started(answer: &Answer) -> bool
@@ -106,20 +107,42 @@ fn started_steps(alloc: Global, history: &[Entry]) -> Result<Vec<(u64, u64)>, Al
     Ok(steps)
 }
 
-/// The log of a step of a leg, whose bytes are there if it can be read.
-fn read_log<F: Files>(workspace: &Workspace<'_, F>, step: (u64, u64)) -> Result<Log, AllocError>
-    ensures { IfOk result (λ log. log.0 ≡ step.0) }
+/// The file of the log of a step of a leg, if it can be read.
+fn open_log<F: Files>(
+    workspace: &Workspace<'_, F>,
+    step: (u64, u64),
+) -> Result<Option<FileBytes>, AllocError>
+    ensures { IfOk result (λ found. IfSome found
+        (λ file. file.name ≡ log_name workspace.now.work.now step.0 step.1)) }
 {
-    let (leg, number) = step;
-    let name = log_file(workspace.alloc, workspace.work, leg, number)?;
-    match file_bytes(workspace.alloc, workspace.files, name.as_str()) {
-        Ok(bytes) => Ok((leg, Some(Sequence::new(bytes)))),
+    let name = log_file(workspace.alloc, workspace.work, step.0, step.1)?;
+    match read_named(workspace.alloc, workspace.files, name) {
+        Ok(file) => Ok(Some(file)),
         Err(error) => {
             if error.kind() == ErrorKind::OutOfMemory {
                 return Err(AllocError);
             }
-            Ok((leg, None))
+            Ok(None)
         },
+    }
+}
+
+/// The log that the file of a step holds, in this folder.
+fn log_in(_work: &str, step: (u64, u64), file: FileBytes) -> Log
+    requires { file.name ≡ log_name _work.now step.0 step.1 }
+    ensures leg { result.0 ≡ step.0 }
+    ensures bytes { result.1 ≡ Some file.bytes.items }
+{
+    (step.0, Some(Sequence::new(file.into_bytes())))
+}
+
+/// The log of a step of a leg, whose bytes are there if its file can be read.
+fn read_log<F: Files>(workspace: &Workspace<'_, F>, step: (u64, u64)) -> Result<Log, AllocError>
+    ensures { IfOk result (λ log. log.0 ≡ step.0) }
+{
+    match open_log(workspace, step)? {
+        Some(file) => Ok(log_in(workspace.work, step, file)),
+        None => Ok((step.0, None)),
     }
 }
 

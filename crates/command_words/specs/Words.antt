@@ -67,11 +67,12 @@ RunsWhy out out' err err' status =
     ((asked : Option Question) × (input input' : Stream) × WhyTells asked input input' out out' err err' status)
     ⊎ TellsSome out out' err err' status
 
--- What `run` tells of some plan, and keeps of it in some file, where a machine writes files so; or an error is told.
-abbrev pub RunsRun : Writes → Stream → Stream → Stream → Stream → ℕ → Type 0
-RunsRun writes out out' err err' status =
-    ((named : Option (List ℕ)) × (workers : ℕ) × (stubs stubs' : File) × (input input' : Stream)
-    × run.RunTells (Keeping writes named) workers stubs stubs' input input' out out' err err' status)
+-- What `run` tells of some plan, and keeps of it in some file, where a machine writes files so and lacks whole paths so; or an error
+-- is told.
+abbrev pub RunsRun : Writes → (List ℕ → Type 0) → Stream → Stream → Stream → Stream → ℕ → Type 0
+RunsRun writes lacks out out' err err' status =
+    ((named work : Option (List ℕ)) × (workers : ℕ) × (stubs stubs' : File) × (input input' : Stream)
+    × run.RunTells (Keeping writes named) (lacks (run.work_folder work)) workers stubs stubs' input input' out out' err err' status)
     ⊎ TellsSome out out' err err' status
 
 -- What `debug` tells of some record and of the input; or an error is told.
@@ -81,8 +82,8 @@ RunsDebug input input' out out' err err' status =
 
 -- What `table` or `debug` tells of the input, or what `eval`, `plan`, `list`, `lint`, `replay`, `graph`, `timeline`, `why` or
 -- `run` tells, or an error.
-abbrev pub RunTells : Writes → Stream → Stream → Stream → Stream → Stream → Stream → ℕ → Type 0
-RunTells writes input input' out out' err err' status =
+abbrev pub RunTells : Writes → (List ℕ → Type 0) → Stream → Stream → Stream → Stream → Stream → Stream → ℕ → Type 0
+RunTells writes lacks input input' out out' err err' status =
     TableTells input input' out out' err err' status
     ⊎ (RunsEval out out' err err' status
     ⊎ (RunsPlan out out' err err' status
@@ -92,7 +93,7 @@ RunTells writes input input' out out' err err' status =
     ⊎ (RunsGraph out out' err err' status
     ⊎ (RunsTimeline out out' err err' status
     ⊎ (RunsWhy out out' err err' status
-    ⊎ (RunsRun writes out out' err err' status ⊎ RunsDebug input input' out out' err err' status)))))))))
+    ⊎ (RunsRun writes lacks out out' err err' status ⊎ RunsDebug input input' out out' err err' status)))))))))
 
 -- A command line that cannot be had is told by its kind: one that is no UTF-8 asks for no command.
 pub record TellsLine (kind : ErrorKind) (out out' err err' : Stream) (status : ℕ) : Type 0 where

@@ -8,34 +8,12 @@ use crate::question::question_of;
 use clap::ArgMatches;
 use command_io::error::CommandError;
 use command_io::files::{NamedSource, OptionalFile};
-use command_run::run::RunWords;
+use command_print::eval::AskedEval;
+use command_print::plan::AskedPlan;
+use command_run::run::{AskedRun, RunWords};
 use flow_model::Text;
-use plan_assembler::Choice;
 use std::alloc::Global;
 use why_causes::question::Question;
-
-/// What `eval` is asked for.
-#[derive(Drop)]
-pub(crate) struct AskedEval<'w, S> {
-    pub(crate) contexts: NamedSource<OptionalFile<S>>,
-    pub(crate) expression: &'w str,
-}
-
-/// What `plan` is asked for.
-#[derive(Drop)]
-pub(crate) struct AskedPlan<S> {
-    pub(crate) choice: Choice,
-    pub(crate) contexts: NamedSource<OptionalFile<S>>,
-    pub(crate) flows: Vec<NamedSource<S>>,
-}
-
-/// What `run` is asked for.
-#[derive(Drop)]
-pub(crate) struct AskedRun<'w, S> {
-    pub(crate) words: RunWords<'w>,
-    pub(crate) stubs: NamedSource<OptionalFile<S>>,
-    pub(crate) plan: S,
-}
 
 /// What `replay` is asked for.
 #[derive(Drop)]
@@ -57,15 +35,15 @@ pub(crate) struct AskedWhy<S> {
 #[derive(Drop)]
 pub(crate) enum Asked<'w, S> {
     Table,
-    Eval(AskedEval<'w, S>),
-    Plan(AskedPlan<S>),
+    Eval(AskedEval<'w, OptionalFile<S>>),
+    Plan(AskedPlan<OptionalFile<S>>, Vec<NamedSource<S>>),
     List(Vec<NamedSource<S>>),
     Lint(Vec<NamedSource<S>>),
     Replay(AskedReplay<S>),
     Graph(S),
     Timeline(S),
     Why(AskedWhy<S>),
-    Run(AskedRun<'w, S>),
+    Run(AskedRun<'w, OptionalFile<S>, S>),
     Debug(S),
 }
 
@@ -139,7 +117,7 @@ impl<'m, 'w, F: Folder> Asking<'m, 'w, F> {
     }
 
     /// What `eval` is asked for.
-    fn asked_eval(&self) -> Result<AskedEval<'w, F::File>, CommandError> {
+    fn asked_eval(&self) -> Result<AskedEval<'w, OptionalFile<F::File>>, CommandError> {
         let contexts = self.open_optional("contexts")?;
         let expression = self.words.get_str("expression").unwrap_or("");
         Ok(AskedEval {
@@ -148,21 +126,16 @@ impl<'m, 'w, F: Folder> Asking<'m, 'w, F> {
         })
     }
 
-    /// What `plan` is asked for.
-    fn asked_plan(&self) -> Result<AskedPlan<F::File>, CommandError> {
+    /// What `plan` is asked for beside the files of the workflows.
+    fn asked_plan(&self) -> Result<AskedPlan<OptionalFile<F::File>>, CommandError> {
         let words = self.words;
         let choice = choice_of(self.alloc, words.get_str("event"), words.get_str("job"))?;
         let contexts = self.open_optional("contexts")?;
-        let flows = self.open_flows()?;
-        Ok(AskedPlan {
-            choice,
-            contexts,
-            flows,
-        })
+        Ok(AskedPlan { choice, contexts })
     }
 
     /// What `run` is asked for: one worker where the words say nothing of them.
-    fn asked_run(&self) -> Result<AskedRun<'w, F::File>, CommandError> {
+    fn asked_run(&self) -> Result<AskedRun<'w, OptionalFile<F::File>, F::File>, CommandError> {
         let words = RunWords {
             workers: self.words.get_one::<u64>("workers").unwrap_or(1),
             record: self.words.get_str("record"),
@@ -196,7 +169,7 @@ impl<'m, 'w, F: Folder> Asking<'m, 'w, F> {
         match name {
             "table" => Ok(Asked::Table),
             "eval" => Ok(Asked::Eval(self.asked_eval()?)),
-            "plan" => Ok(Asked::Plan(self.asked_plan()?)),
+            "plan" => Ok(Asked::Plan(self.asked_plan()?, self.open_flows()?)),
             "list" => Ok(Asked::List(self.open_flows()?)),
             "lint" => Ok(Asked::Lint(self.open_flows()?)),
             "replay" => Ok(Asked::Replay(self.asked_replay()?)),

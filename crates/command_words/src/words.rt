@@ -5,7 +5,7 @@ ghost use Rattle.std.specs.IoError.{error_kind};
 ghost use Rattle.command_words.specs.Words as spec;
 ghost use Rattle.command_words.specs.Words.{RunTells};
 
-use crate::asked::{Asked, AskedEval, AskedPlan, AskedReplay, AskedRun, AskedWhy, asked_by};
+use crate::asked::{Asked, AskedReplay, AskedWhy, asked_by};
 use crate::folder::Folder;
 use crate::known::known_commands;
 use clap::{ArgMatches, Error};
@@ -15,14 +15,14 @@ use command_io::error::CommandError;
 use command_io::files::NamedSource;
 use command_io::stream::{LineSource, Sink, Source};
 use command_io::tell::refuse;
-use command_print::eval::eval;
+use command_print::eval::{AskedEval, eval};
 use command_print::lint::lint;
 use command_print::list::list;
-use command_print::plan::plan;
+use command_print::plan::{AskedPlan, plan};
 use command_print::replay::{replay, replay_settled};
 use command_print::table::table;
 use command_run::machine::Machine;
-use command_run::run::run as run_plan;
+use command_run::run::{AskedRun, run as run_plan};
 use command_timeline::timeline::timeline;
 use command_why::why::why;
 use std::alloc::Global;
@@ -32,47 +32,39 @@ use std::io::ErrorKind;
 use std::sync::Wait;
 use std::thread::Threads;
 
+/// What a command is told of, and what it tells: the lines of its input, its output, and its errors.
+#[derive(Drop)]
+pub struct Streams<I, O, E> {
+    pub input: I,
+    pub out: O,
+    pub err: E,
+}
+
 /// Runs `eval`.
 fn perform_eval<S: Source + Drop, O: Sink, E: Sink>(
     alloc: Global,
-    asked: AskedEval<'_, S>,
+    mut asked: AskedEval<'_, S>,
     out: &mut O,
     err: &mut E,
 ) -> u8
     ensures { spec.RunsEval (O.seen out.old) (O.seen out.new)
         (E.seen err.old) (E.seen err.new) result }
 {
-    let AskedEval {
-        contexts,
-        expression,
-    } = asked;
-    let NamedSource { name, mut source } = contexts;
-    eval(alloc, name.as_str(), &mut source, expression, out, err)
+    eval(alloc, &mut asked, out, err)
 }
 
 /// Runs `plan`.
-fn perform_plan<S: Source + Drop, O: Sink, E: Sink>(
+fn perform_plan<R: Source + Drop, S: Source + Drop, O: Sink, E: Sink>(
     alloc: Global,
-    asked: AskedPlan<S>,
+    mut asked: AskedPlan<R>,
+    mut flows: Vec<NamedSource<S>>,
     out: &mut O,
     err: &mut E,
 ) -> u8
     ensures { spec.RunsPlan (O.seen out.old) (O.seen out.new)
         (E.seen err.old) (E.seen err.new) result }
 {
-    let AskedPlan {
-        choice,
-        mut contexts,
-        mut flows,
-    } = asked;
-    plan(
-        alloc,
-        &choice,
-        &mut contexts,
-        flows.as_mut_slice(),
-        out,
-        err,
-    )
+    plan(alloc, &mut asked, flows.as_mut_slice(), out, err)
 }
 
 /// Runs `list`.
@@ -166,22 +158,17 @@ fn perform_why<S: Source + Drop, O: Sink, E: Sink>(
 }
 
 /// Runs `run`.
-fn perform_run<M: Machine + Threads + Wait + Sync, S: Source + Drop, O: Sink, E: Sink>(
-    alloc: Global,
-    machine: &M,
-    asked: AskedRun<'_, S>,
-    out: &mut O,
-    err: &mut E,
-) -> u8
-    ensures { spec.RunsRun M.writes (O.seen out.old) (O.seen out.new)
+fn perform_run<
+    M: Machine + Threads + Wait + Sync,
+    T: Source + Drop,
+    S: Source + Drop,
+    O: Sink,
+    E: Sink,
+>(alloc: Global, machine: &M, mut asked: AskedRun<'_, T, S>, out: &mut O, err: &mut E) -> u8
+    ensures { spec.RunsRun M.writes M.lacks (O.seen out.old) (O.seen out.new)
         (E.seen err.old) (E.seen err.new) result }
 {
-    let AskedRun {
-        words,
-        mut stubs,
-        mut plan,
-    } = asked;
-    run_plan(alloc, machine, &words, &mut stubs, &mut plan, out, err)
+    run_plan(alloc, machine, &mut asked, out, err)
 }
 
 /// Runs `debug` over the lines of the input.
@@ -203,17 +190,17 @@ fn perform<M: Machine + Threads + Wait + Sync, S: Source + Drop, I: LineSource, 
     alloc: Global,
     machine: &M,
     asked: Asked<'_, S>,
-    input: &mut I,
-    out: &mut O,
-    err: &mut E,
+    streams: &mut Streams<I, O, E>,
 ) -> u8
-    ensures { RunTells M.writes (I.seen input.old) (I.seen input.new)
-        (O.seen out.old) (O.seen out.new) (E.seen err.old) (E.seen err.new) result }
+    ensures { RunTells M.writes M.lacks (I.seen streams.old.input) (I.seen streams.new.input)
+        (O.seen streams.old.out) (O.seen streams.new.out)
+        (E.seen streams.old.err) (E.seen streams.new.err) result }
 {
+    let (out, err) = (&mut streams.out, &mut streams.err);
     match asked {
-        Asked::Table => table(alloc, input, out, err),
+        Asked::Table => table(alloc, &mut streams.input, out, err),
         Asked::Eval(asked) => perform_eval(alloc, asked, out, err),
-        Asked::Plan(asked) => perform_plan(alloc, asked, out, err),
+        Asked::Plan(asked, flows) => perform_plan(alloc, asked, flows, out, err),
         Asked::List(flows) => perform_list(alloc, flows, out, err),
         Asked::Lint(flows) => perform_lint(alloc, flows, out, err),
         Asked::Replay(asked) => perform_replay(alloc, asked, out, err),
@@ -221,7 +208,7 @@ fn perform<M: Machine + Threads + Wait + Sync, S: Source + Drop, I: LineSource, 
         Asked::Timeline(record) => perform_timeline(alloc, record, out, err),
         Asked::Why(asked) => perform_why(alloc, asked, out, err),
         Asked::Run(asked) => perform_run(alloc, machine, asked, out, err),
-        Asked::Debug(record) => perform_debug(alloc, record, input, out, err),
+        Asked::Debug(record) => perform_debug(alloc, record, &mut streams.input, out, err),
     }
 }
 
@@ -249,16 +236,16 @@ fn run_known<F: Folder, I: LineSource, O: Sink, E: Sink>(
     alloc: Global,
     words: &ArgMatches,
     folder: &F,
-    input: &mut I,
-    out: &mut O,
-    err: &mut E,
+    streams: &mut Streams<I, O, E>,
 ) -> u8
-    ensures { RunTells F.Machine.writes (I.seen input.old) (I.seen input.new)
-        (O.seen out.old) (O.seen out.new) (E.seen err.old) (E.seen err.new) result }
+    ensures { RunTells F.Machine.writes F.Machine.lacks
+        (I.seen streams.old.input) (I.seen streams.new.input)
+        (O.seen streams.old.out) (O.seen streams.new.out)
+        (E.seen streams.old.err) (E.seen streams.new.err) result }
 {
     match asked_by(alloc, words, folder) {
-        Ok(asked) => perform(alloc, folder.machine(), asked, input, out, err),
-        Err(error) => refuse(err, &error),
+        Ok(asked) => perform(alloc, folder.machine(), asked, streams),
+        Err(error) => refuse(&mut streams.err, &error),
     }
 }
 
@@ -268,16 +255,16 @@ pub fn run<F: Folder, I: LineSource, O: Sink, E: Sink>(
     alloc: Global,
     words: &[String],
     folder: &F,
-    input: &mut I,
-    out: &mut O,
-    err: &mut E,
+    streams: &mut Streams<I, O, E>,
 ) -> u8
-    ensures { RunTells F.Machine.writes (I.seen input.old) (I.seen input.new)
-        (O.seen out.old) (O.seen out.new) (E.seen err.old) (E.seen err.new) result }
+    ensures { RunTells F.Machine.writes F.Machine.lacks
+        (I.seen streams.old.input) (I.seen streams.new.input)
+        (O.seen streams.old.out) (O.seen streams.new.out)
+        (E.seen streams.old.err) (E.seen streams.new.err) result }
 {
     match known_words(alloc, words) {
-        Ok(known) => run_known(alloc, &known, folder, input, out, err),
-        Err(error) => refuse(err, &error),
+        Ok(known) => run_known(alloc, &known, folder, streams),
+        Err(error) => refuse(&mut streams.err, &error),
     }
 }
 
@@ -298,23 +285,24 @@ pub fn run_line<F: Folder, I: LineSource, O: Sink, E: Sink>(
     alloc: Global,
     line: io::Result<Args>,
     folder: &F,
-    input: &mut I,
-    out: &mut O,
-    err: &mut E,
+    streams: &mut Streams<I, O, E>,
 ) -> u8
-    ensures tells { RunTells F.Machine.writes (I.seen input.old) (I.seen input.new)
-        (O.seen out.old) (O.seen out.new) (E.seen err.old) (E.seen err.new) result }
+    ensures tells { RunTells F.Machine.writes F.Machine.lacks
+        (I.seen streams.old.input) (I.seen streams.new.input)
+        (O.seen streams.old.out) (O.seen streams.new.out)
+        (E.seen streams.old.err) (E.seen streams.new.err) result }
     ensures unread { IfErr line (λ e. spec.TellsLine (error_kind e)
-        (O.seen out.old) (O.seen out.new) (E.seen err.old) (E.seen err.new) result) }
+        (O.seen streams.old.out) (O.seen streams.new.out)
+        (E.seen streams.old.err) (E.seen streams.new.err) result) }
 {
     match line {
         Ok(words) => {
             let words: Vec<String> = match words.collect(alloc) {
                 Ok(words) => words,
-                Err(_) => return refuse(err, &CommandError::Memory),
+                Err(_) => return refuse(&mut streams.err, &CommandError::Memory),
             };
-            run(alloc, words.as_slice(), folder, input, out, err)
+            run(alloc, words.as_slice(), folder, streams)
         },
-        Err(error) => refuse_line(err, error),
+        Err(error) => refuse_line(&mut streams.err, error),
     }
 }

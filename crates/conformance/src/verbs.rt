@@ -10,6 +10,7 @@ use command_io::stream::{Input, Output};
 use command_run::machine::Machine;
 use command_words::folder::Folder;
 use command_words::words;
+use command_words::words::Streams;
 use std::alloc::Global;
 use std::io;
 use std::io::{BufReader, ErrorKind};
@@ -133,15 +134,18 @@ fn run_within<R: Machine + Threads + Wait + Sync, const MOST: u64>(
             status: FAILED,
         };
     };
-    let mut input = Input::new(reader);
-    let mut out = Output::new(Sheet::new(alloc, limits.step, limits.out));
-    let mut err = Output::new(Sheet::new(alloc, limits.step, limits.err));
+    let mut streams = Streams {
+        input: Input::new(reader),
+        out: Output::new(Sheet::new(alloc, limits.step, limits.out)),
+        err: Output::new(Sheet::new(alloc, limits.step, limits.err)),
+    };
     let status = if limits.words_fail {
         let line = Err(io::Error::from(ErrorKind::InvalidData));
-        words::run_line(alloc, line, &folder, &mut input, &mut out, &mut err)
+        words::run_line(alloc, line, &folder, &mut streams)
     } else {
-        words::run(alloc, asked.words, &folder, &mut input, &mut out, &mut err)
+        words::run(alloc, asked.words, &folder, &mut streams)
     };
+    let Streams { out, err, .. } = streams;
     Found {
         out: out.into_writer().into_bytes(),
         err: err.into_writer().into_bytes(),

@@ -7,5 +7,5 @@ returns-in-Ok g c =
     (record {
       both = (c.in-Ok.stubs, c.in-Ok.plan.items);
       read = c.in-Ok.ensures;
-      told = rw (← c.as_slice.ensures.value) c.run_texts.ensures;
+      told = c.run_texts.ensures;
     })
