@@ -1,77 +1,106 @@
-"""Paths as the inputs of actions name them: `*`, `**`, `?`, `[..]`, `~`, and `!` before what is left out."""
+"""Paths as actions and hashFiles name them: `*`, `?`, `[..]`, `\\`, `**`, and `!` before what is left out.
+
+A pattern matches hidden files too, and all that is below a folder that it matches. The last pattern that matches decides.
+"""
 
 from __future__ import annotations
 
+import functools
+import itertools
 import os
 import pathlib
 import re
-import sys
+from dataclasses import dataclass
+from typing import Iterator
 
-import step
-
-sys.path.append(str(pathlib.Path(__file__).resolve().parent.parent))
-from actrun_front.hash_files import Pattern, is_chosen, search_paths  # noqa: E402
+TOKEN = re.compile(r"\\(?P<plain>.)|\[(?P<no>[!^]?)(?P<set>.[^\]]*)\]|.", re.DOTALL)
 
 
-def whole_path(text: str) -> list[str]:
+@dataclass(frozen=True)
+class Pattern:
+    """One line of patterns, as segments from the folder where paths begin."""
+
+    segments: tuple[str, ...]
+    negative: bool
+    folders_only: bool = False
+
+    def start(self) -> tuple[str, ...]:
+        """The literal segments before the first with a wildcard."""
+        literal = itertools.takewhile(lambda segment: not re.search(r"[*?\[]", re.sub(r"\\.", "", segment)), self.segments)
+        return tuple(re.sub(r"\\(.)", r"\1", segment) for segment in literal)
+
+    def matches(self, path: tuple[str, ...]) -> bool:
+        """Whether a file matches, or a folder that it is in."""
+        return expression(self.segments, self.folders_only).match("/".join(path) + "/") is not None
+
+
+@functools.lru_cache(maxsize=None)
+def expression(segments: tuple[str, ...], folders_only: bool) -> re.Pattern[str]:
+    """The regular expression for the beginning of a path with a `/` at its end; of a bad set as `[z-a]` one that never matches."""
+    parts = ["(?:[^/]+/)*" if segment == "**" else TOKEN.sub(expression_of, segment) + "/" for segment in segments]
+    try:
+        return re.compile("".join(parts) + "(?=.)" * folders_only, re.DOTALL)
+    except re.error:
+        return re.compile("(?!)")
+
+
+def expression_of(token: re.Match[str]) -> str:
+    """The regular expression of a character, a wildcard or a set."""
+    if token["set"]:
+        return f"(?!/)[{'^' * bool(token['no'])}" + re.sub(r"([\[\]\\&~|])", r"\\\1", token["set"]) + "]"
+    return {"*": "[^/]*", "?": "[^/]"}.get(token[0]) or re.escape(token["plain"] or token[0])
+
+
+def starts(patterns: list[Pattern]) -> list[tuple[str, ...]]:
+    """Where a search begins: the literal beginnings of the patterns in their order, without those that are below others."""
+    found = [pattern.start() for pattern in patterns if not pattern.negative]
+    return [path for path in dict.fromkeys(found) if not any(path[:end] in found for end in range(len(path)))]
+
+
+def is_chosen(patterns: list[Pattern], path: tuple[str, ...]) -> bool:
+    """Whether the last pattern that matches a file is none with `!`."""
+    return next((not pattern.negative for pattern in reversed(patterns) if pattern.matches(path)), False)
+
+
+def segments_of(text: str, tree: pathlib.Path) -> tuple[str, ...]:
     """The segments of a path from the root: `~` is the home folder, another one that is not absolute starts at the tree."""
-    tree = step.workspace()
-    if text == str(tree) or text.startswith(f"{tree}/"):
-        text = "." + text[len(str(tree)):]
-    base = pathlib.Path.home().resolve() if text == "~" or text.startswith("~/") else pathlib.Path("/") if text.startswith("/") else tree
-    segments = [re.sub(r"([\\*?\[])", r"\\\1", part) for part in base.parts[1:]]
-    for part in text.split("/"):
-        if part == "..":
-            segments = segments[:-1]
-        elif part not in ("", ".", "~"):
-            segments.append(part)
-    return segments
+    bases = {f"{tree}/": str(tree), "~/": str(pathlib.Path.home().resolve()), "/": "", "": str(tree)}
+    start = next(start for start in bases if f"{text}/".startswith(start))
+    base = re.sub(r"([\\*?\[])", r"\\\1", bases[start])
+    return tuple(filter(None, os.path.normpath(f"{base}/{text[len(start):]}").split("/"))) or ("**",)
 
 
-def absolute(text: str) -> pathlib.Path:
-    """The place of a path without wildcards."""
-    return pathlib.Path(os.path.normpath(step.workspace() / os.path.expanduser(text)))
-
-
-def read_patterns(lines: list[str]) -> list[Pattern]:
-    """The patterns of the lines that are not blank and no comments."""
-    texts = [line.strip() for line in lines if line.strip() and not line.startswith("#")]
-    return [Pattern(tuple(whole_path(text.lstrip("!").strip())) or ("**",), text.startswith("!"), False) for text in texts]
+def read_patterns(lines: list[str], tree: pathlib.Path) -> list[Pattern]:
+    """The patterns of lines that are no comments, over whole paths."""
+    return [Pattern(segments_of(line.lstrip("!").strip(), tree), line.startswith("!")) for line in lines if line[0] != "#"]
 
 
 def roots(patterns: list[Pattern]) -> list[pathlib.Path]:
-    """The places at which a search begins, without those that are below others, in the order of the patterns."""
-    return [pathlib.Path("/", *path) for path in search_paths(patterns)]
+    """The places at which a search begins."""
+    return [pathlib.Path("/", *path) for path in starts(patterns)]
 
 
-def leads_up(place: pathlib.Path) -> bool:
-    """Whether a place is a link to a folder that it is in."""
-    return place.is_symlink() and place.resolve() in (place.parent.resolve() / "x").parents
+def below(place: pathlib.Path, hidden: bool, above: tuple[pathlib.Path, ...] = ()) -> Iterator[pathlib.Path]:
+    """The files at or below a place, by links too that lead to no folder above; without `hidden` none by a name with a dot before it."""
+    if place.is_file():
+        yield place
+    elif place.is_dir() and (real := place.resolve()) not in above:
+        for inner in place.iterdir():
+            if hidden or not inner.name.startswith("."):
+                yield from below(inner, hidden, (*above, real))
 
 
 def files(patterns: list[Pattern], hidden: bool) -> list[pathlib.Path]:
-    """All files that are matched, sorted; without `hidden` none with a part below its root that begins with a dot."""
-    found = set()
-    for root in roots(patterns):
-        if root.is_file():
-            found.add(root)
-        for folder, folders, names in os.walk(root, followlinks=True):
-            folders[:] = [name for name in folders if not leads_up(pathlib.Path(folder, name))]
-            if not hidden:
-                folders[:] = [name for name in folders if not name.startswith(".")]
-                names = [name for name in names if not name.startswith(".")]
-            found.update(pathlib.Path(folder, name) for name in names)
-    return sorted(place for place in found if is_chosen(patterns, place.parts[1:]))
+    """All files that are matched, sorted."""
+    return sorted(file for root in roots(patterns) for file in below(root, hidden) if is_chosen(patterns, file.parts[1:]))
 
 
 def tops(patterns: list[Pattern]) -> list[pathlib.Path]:
     """The files and folders that are matched themselves, without what is below another of them, sorted."""
-    found: list[pathlib.Path] = []
-    waiting = roots(patterns)
-    while waiting:
-        place = waiting.pop()
+    found, waiting = [], roots(patterns)
+    for place in waiting:
         if os.path.lexists(place) and is_chosen(patterns, place.parts[1:]):
             found.append(place)
         elif place.is_dir() and not place.is_symlink():
-            waiting += list(place.iterdir())
+            waiting += place.iterdir()
     return sorted(found)

@@ -1,11 +1,13 @@
-"""What every stub needs: its inputs, its outputs, the files of GitHub that it writes, and lines that are shown."""
+"""What every stub needs: its inputs, its outputs, folders, and lines that are shown."""
 
 from __future__ import annotations
 
+import json
 import os
 import pathlib
+import re
 import sys
-from typing import NoReturn
+from typing import Callable, NoReturn
 
 
 def given(name: str, default: str = "") -> str:
@@ -23,73 +25,53 @@ def given_lines(name: str) -> list[str]:
     return [line.strip() for line in given(name).splitlines() if line.strip()]
 
 
-def encoded(message: str) -> str:
-    """The message as a workflow command carries it, on one line."""
-    return message.replace("%", "%25").replace("\r", "%0D").replace("\n", "%0A")
-
-
-def warn(message: str) -> None:
+def warn(message: str, kind: str = "warning") -> None:
     """Shows a warning; the step goes on."""
-    print("::warning::" + encoded(message), flush=True)
+    print(f"::{kind}::" + message.replace("%", "%25").replace("\r", "%0D").replace("\n", "%0A"), flush=True)
 
 
 def fail(message: str) -> NoReturn:
     """Shows an error and ends the step as failed."""
-    print("::error::" + encoded(message), flush=True)
+    warn(message, "error")
     sys.exit(1)
 
 
-def append(variable: str, text: str) -> None:
-    """Appends the text to the file that the variable names, if it names one."""
-    place = os.environ.get(variable)
-    if place:
-        with open(place, "a", encoding="utf-8") as file:
-            file.write(text)
+def set_output(name: str, value: str, variable: str = "GITHUB_OUTPUT") -> None:
+    """Hands on a value of any number of lines by the file that a variable names."""
+    delimiter = f"end_{os.urandom(8).hex()}"
+    with open(os.environ[variable], "a", encoding="utf-8") as file:
+        file.write(f"{name}<<{delimiter}\n{value}\n{delimiter}\n")
 
 
-def pair(name: str, value: str) -> str:
-    """The lines that hand on a value of any number of lines."""
-    delimiter = "end_of_value"
-    while delimiter in value.splitlines():
-        delimiter += "_"
-    return f"{name}<<{delimiter}\n{value}\n{delimiter}\n"
-
-
-def set_output(name: str, value: str) -> None:
-    """Sets an output of the step."""
-    append("GITHUB_OUTPUT", pair(name, value))
-
-
-def set_variable(name: str, value: str) -> None:
-    """Sets a variable for the steps that follow in the leg."""
-    append("GITHUB_ENV", pair(name, value))
-
-
-def add_path(folder: pathlib.Path) -> None:
-    """Puts a folder in front of PATH for the steps that follow in the leg."""
-    if os.environ.get("GITHUB_PATH"):
-        append("GITHUB_PATH", f"{folder}\n")
-    else:
-        set_variable("PATH", f"{folder}:{os.environ.get('PATH', os.defpath)}")
-
-
-def workspace() -> pathlib.Path:
-    """The folder of the repository: where steps start."""
-    return pathlib.Path(os.environ.get("GITHUB_WORKSPACE") or os.getcwd()).resolve()
-
-
-def temporary() -> pathlib.Path:
-    """The folder for files of this play alone."""
-    place = pathlib.Path(os.environ.get("RUNNER_TEMP") or os.environ.get("TMPDIR") or "/tmp")
+def folder(variable: str = "GITHUB_WORKSPACE") -> pathlib.Path:
+    """The folder that a variable names, made where it is missing: if none is named, that of the repository, where steps start."""
+    place = pathlib.Path(os.environ[variable])
     place.mkdir(parents=True, exist_ok=True)
     return place.resolve()
 
 
-def action_name(text: str) -> str:
-    """The action's name without its ref, in small letters."""
-    return text.partition("@")[0].strip("/").lower()
+def numbers() -> list[str]:
+    """The numbers of the leg and of the step."""
+    return re.findall(r"\d+", os.path.basename(os.environ["GITHUB_OUTPUT"]))
 
 
-def action_ref(text: str) -> str:
-    """The action's ref: what stands behind `@`."""
-    return text.partition("@")[2]
+def split_action(text: str) -> tuple[str, str]:
+    """The action's name in small letters and its ref, of the text of `uses`."""
+    name, _, ref = text.partition("@")
+    return name.strip("/").lower(), ref
+
+
+def entry(text: str) -> dict:
+    """What `actions.json` has of an action; nothing of an unknown one."""
+    table = json.loads((pathlib.Path(__file__).parent / "actions.json").read_text(encoding="utf-8"))
+    return next((value for name, value in table.items() if name.lower() == split_action(text)[0]), {})
+
+
+def start(main: Callable[..., None]) -> None:
+    """Starts a stub with its arguments; an error of a file, or a variable that `actrun try` did not set, ends the step by its name."""
+    try:
+        main(*sys.argv[1:])
+    except OSError as error:
+        fail(f"{error.filename}: {error.strerror}")
+    except KeyError as error:
+        fail(f"the variable {error} is not set: `actrun try` starts this program")

@@ -5,36 +5,30 @@ The step fails with a sentence that says how to name a program for it; with `--l
 
 from __future__ import annotations
 
-import json
-import pathlib
-import sys
-
 import step
 
 
 def reason(text: str) -> str:
     """Why nothing stands for the action."""
-    if text.startswith(("./", "../")) or text in (".", ".."):
+    if text.startswith("."):
         return f"the local action {text} is not only made of `run` steps, so it is not inlined"
     if text.startswith("docker://"):
         return f"{text} is a container, and steps run on this machine"
-    name = step.action_name(text)
-    if "/.github/workflows/" in name:
+    if "/.github/workflows/" in text:
         return f"{text} is a workflow of another repository, which is not fetched"
-    table = json.loads((pathlib.Path(__file__).parent / "actions.json").read_text(encoding="utf-8"))
-    entry = {key.lower(): value for key, value in table.items()}.get(name)
-    return f"{name} {entry['why']}" if entry else f"no program stands for the action {text}"
+    why = step.entry(text).get("why")
+    return f"{step.split_action(text)[0]} {why}" if why else f"no program stands for the action {text}"
 
 
-def main(text: str, lenient: bool) -> None:
+def main(text: str, lenient: str = "") -> None:
     """Skips or fails the step of the action."""
     if lenient:
         step.warn(f"skipped: {reason(text)}")
         return
-    key = text if text.startswith(("./", "../", "docker://")) else text.partition("@")[0]
+    key = text if text.startswith((".", "docker://")) else text.partition("@")[0]
     step.fail(f"{reason(text)}. Name a program for it with --stub {key}=PROGRAM (/bin/true does nothing), "
               "or skip all such steps with --lenient")
 
 
 if __name__ == "__main__":
-    main(sys.argv[1], "--lenient" in sys.argv[2:])
+    step.start(main)

@@ -147,10 +147,15 @@ class Cache(StubCase):
         self.assertIn("the input `key` is missing", self.restore(path="c").shown)
         self.assertIn("is not valid", self.restore(key="a,b", path="c").shown)
         self.assertIn("::warning::the cache k is not saved: nothing matches", self.save("k", "none").shown)
-        del self.environment["ACTRUN_CACHE"]
-        ended = self.restore(key="k", path="c")
-        self.assertEqual((ended.code, ended.outputs), (0, {"cache-primary-key": "k"}))
-        self.assertIn("::warning::nothing is cached", ended.shown)
+
+    def test_a_variable_that_try_did_not_set_is_named(self) -> None:
+        self.write("tree/a", "1")
+        for variable, uses, inputs in (("ACTRUN_CACHE", "actions/cache/restore@v4", {"key": "k", "path": "c"}),
+                                       ("ACTRUN_ARTIFACTS", "actions/upload-artifact@v4", {"path": "a"})):
+            del self.environment[variable]
+            ended = self.start(uses, inputs)
+            self.assertEqual((ended.code, ended.outputs), (1, {}))
+            self.assertIn(f"::error::the variable '{variable}' is not set: `actrun try` starts this program", ended.shown)
 
     def after(self, ends: str) -> str:
         """Executes what `try` executes after the play of a record whose leg 0 ended so."""
@@ -300,12 +305,6 @@ class Artifacts(StubCase):
         ended = self.download(name="x", run_id="12")
         self.assertEqual(ended.code, 1)
         self.assertIn("`run-id` asks for artifacts of another run", ended.shown)
-
-    def test_without_a_folder_they_are_among_the_temporary_files(self) -> None:
-        del self.environment["ACTRUN_ARTIFACTS"]
-        self.write("tree/a", "1")
-        self.upload("a", name="n")
-        self.assertEqual(self.files_below("temporary"), ["artifacts/n/a"])
 
 
 if __name__ == "__main__":
