@@ -3,8 +3,8 @@
 `actions.json` has an entry for each action with its `tools`. Of a tool: `programs`, the names of the program; `asked`, the inputs
 with the version (NAME-version or version if none is named; `@` is the action's ref); `files`, version files or inputs that name one;
 `names`, more programs to look for by the version that is asked for; `version`, the arguments that print its version; `links`, names
-under which later steps shall find a Python that makes a virtual environment, and arguments; `outputs` (NAME-version and NAME-path if
-none is named) and `variables`, by {version}, {path} and the like; `optional`, true where it is looked for only if a version is asked for.
+under which later steps shall find a Python that makes a virtual environment, and arguments; `outputs` (NAME-version if none is
+named) and `variables`, by {version}, {path} and the like; `optional`, true where it is looked for only if a version is asked for.
 """
 
 from __future__ import annotations
@@ -116,7 +116,7 @@ def set_up(tool: dict, text: str) -> None:
     path = put_in_front(tool, name, path, version)
     folder = os.path.dirname(path if "links" in tool else os.path.realpath(path))
     values = {"version": version, "path": path, "folder": folder, "home": os.path.dirname(folder), "distribution": step.given("distribution")}
-    for variable, forms in (("GITHUB_OUTPUT", tool.get("outputs", f"{name}-version={{version}} {name}-path={{path}}")),
+    for variable, forms in (("GITHUB_OUTPUT", tool.get("outputs", f"{name}-version={{version}}")),
                             ("GITHUB_ENV", tool.get("variables", ""))):
         for it in forms.split():
             step.set_output(it.partition("=")[0], it.partition("=")[2].format(**values), variable)
