@@ -23,63 +23,29 @@ SECONDS = 1800
 # a program without proofs takes minutes for these files, so they begin first, and each is executed in parts
 SLOW = {f"{name}.cases" for name in "dropped-legs eval evaluation expressions hostile-sweeps planning-limits pools settled".split()}
 PARTS = 8
-# the marks of lines that ask or want something, that define something for later cases, and that go on with a line
-ASKS, DEFINES, GOES_ON = "$?>!=", "#|/:", "+&*@-\\"
-MARKS = ASKS + DEFINES + GOES_ON + "<~%"
+# the marks of lines that ask or want something, and of lines that define something for later cases
+ASKS, DEFINES = "$?>!=<~%", "#|/:"
 
 
-def mark(line: str) -> str:
-    """The mark of a line of a case, or nothing for a line that is for the reader."""
-    return line[:1] if line[:1] in MARKS and line[1:2] in ("", " ") else ""
-
-
-def definitions(case: list[str]) -> list[tuple[str, list[str]]]:
-    """What a case defines: the name of a file with its lines, or no name with the line of a text or a heading."""
-    found: list[tuple[str, list[str]]] = []
-    file, lines = "contexts.json", None
-    for line in case:
-        sign = mark(line)
-        if sign == "/" or sign == "|" and (not found or found[-1][0] != file):
-            file = line[2:] if sign == "/" else file
-            found.append((file, lines := [line]))
-        elif sign and sign in "#:":
-            found.append(("", lines := [line]))
-        elif sign and (sign == "|" or sign in GOES_ON):
-            if lines is not None:
-                lines.append(line)
-        elif sign:
-            lines = None
-    return found
+def definitions(case: str) -> str:
+    """The lines of a case that define something, with those that go on with them."""
+    lines, defines = [], False
+    for line in case.split("\n"):
+        mark = line[:1] if line[1:2] in ("", " ") else ""
+        defines = bool(mark) and (mark in DEFINES or defines and mark not in ASKS)
+        lines += [line] * defines
+    return "\n".join(lines)
 
 
 def part_of(text: str, number: int) -> str:
     """The cases of a file that are in a part, and what the cases left out define for them."""
-    lines: list[str] = []
-    files: dict[str, list[str]] = {}  # of cases left out, for as long as no case begins them anew
-    units = 0
-    for case in (it.split("\n") for it in re.split(r"\n{2,}", text)):
-        asks = any(mark(line) and mark(line) in ASKS for line in case)
+    cases, units = [], 0
+    for case in re.split(r"\n{2,}", text):
+        asks = re.search(r"^[$?>!=]( |$)", case, re.MULTILINE) is not None
         # (`run` may read the record that a `run` before it wrote, so it stays in the part of the case before it)
-        units += asks and not any(line.startswith("$ run") for line in case)
-        defined = definitions(case)
-        for name, _ in defined:
-            files.pop(name, None)
-        if asks and units % PARTS != number:
-            for name, some in defined:
-                if name:
-                    files[name] = some
-                else:
-                    lines += [*flushed(files), *some, ""]
-        else:
-            lines += [*flushed(files), *case, ""]
-    return "\n".join(lines)
-
-
-def flushed(files: dict[str, list[str]]) -> list[str]:
-    """The lines of the files, which are then none."""
-    lines = [line for some in files.values() for line in [*some, ""]]
-    files.clear()
-    return lines
+        units += asks and not re.search(r"^\$ run", case, re.MULTILINE)
+        cases.append(definitions(case) if asks and units % PARTS != number else case)
+    return "\n\n".join(filter(None, cases))
 
 
 def execute(program: Path, file: str, number: int) -> tuple[int, int, str]:

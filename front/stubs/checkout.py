@@ -40,9 +40,11 @@ def fill(folder: pathlib.Path) -> None:
 def check_folder(path: str, repository: str, fillable: bool) -> None:
     """Makes sure that the folder of the tree where the files belong has some."""
     tree, folder = step.folder(), (step.folder() / path).resolve()
-    if folder == tree:
+    if folder == tree and repository:
         own = os.environ.get("GITHUB_REPOSITORY") or "this repository"
-        return repository and step.fail(f"checkout brings no files of the repository {repository}: the tree is that of {own}; {PROGRAM}")
+        step.fail(f"checkout brings no files of the repository {repository}: the tree is that of {own}; {PROGRAM}")
+    if folder == tree:
+        return
     if tree not in folder.parents:
         step.fail(f"the path {path} is not below the tree")
     if fillable and not is_present(folder):
