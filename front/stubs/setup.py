@@ -10,6 +10,7 @@ named) and `variables`, by {version}, {path} and the like; `optional`, true wher
 from __future__ import annotations
 
 import glob
+import json
 import operator
 import os
 import pathlib
@@ -124,9 +125,10 @@ def set_up(tool: dict, text: str) -> None:
 
 def main(text: str) -> None:
     """Sets up all tools of the action."""
-    entry = step.entry(text)
+    table, action = json.loads((pathlib.Path(__file__).parent / "actions.json").read_text(encoding="utf-8")), step.split_action(text)[0]
+    entry = next(value for name, value in table.items() if name.lower() == action)
     if "says" in entry:
-        print(f"{step.split_action(text)[0]} {entry['says']}")
+        print(f"{action} {entry['says']}")
     for tool in entry["tools"]:
         set_up(tool, text)
     if step.given_flag("bundler-cache"):

@@ -2,7 +2,6 @@
 
 from __future__ import annotations
 
-import json
 import os
 import pathlib
 import re
@@ -59,12 +58,6 @@ def split_action(text: str) -> tuple[str, str]:
     """The action's name in small letters and its ref, of the text of `uses`."""
     name, _, ref = text.partition("@")
     return name.strip("/").lower(), ref
-
-
-def entry(text: str) -> dict:
-    """What `actions.json` has of an action; nothing of an unknown one."""
-    table = json.loads((pathlib.Path(__file__).parent / "actions.json").read_text(encoding="utf-8"))
-    return next((value for name, value in table.items() if name.lower() == split_action(text)[0]), {})
 
 
 def start(main: Callable[..., None]) -> None:

@@ -1,9 +1,13 @@
 """Stands for an action that does nothing here: it calls GitHub, or this program ships no stub for it.
 
-The step fails with a sentence that says how to name a program for it; with `--lenient` it is skipped with a warning.
+The step fails with a sentence that says how to name a program for it; with `--lenient` it is skipped with a warning. The reason is
+what README.md, the page of the actions, has in its last column.
 """
 
 from __future__ import annotations
+
+import pathlib
+import re
 
 import step
 
@@ -16,8 +20,9 @@ def reason(text: str) -> str:
         return f"{text} is a container, and steps run on this machine"
     if "/.github/workflows/" in text:
         return f"{text} is a workflow of another repository, which is not fetched"
-    why = step.entry(text).get("why")
-    return f"{step.split_action(text)[0]} {why}" if why else f"no program stands for the action {text}"
+    name, page = step.split_action(text)[0], (pathlib.Path(__file__).parent / "README.md").read_text(encoding="utf-8")
+    why = re.search(rf"^\| `{re.escape(name)}` \|.*\| (.+) \|$", page, re.MULTILINE | re.IGNORECASE)
+    return f"{name} {why[1]}" if why else f"no program stands for the action {text}"
 
 
 def main(text: str, lenient: str = "") -> None:

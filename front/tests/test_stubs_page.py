@@ -1,4 +1,4 @@
-"""The page of the stubs has a row for each action of `actions.json`.
+"""The page of the stubs has a row for each action of `actions.json`, and then the actions for which nothing stands.
 
 After a change of `actions.json`, `python3 -m tests.test_stubs_page` in this folder's parent prints the rows that the page needs.
 """
@@ -25,31 +25,31 @@ def finds(tool: dict) -> str:
 
 
 def row(name: str, entry: dict) -> str:
-    """The row of an action that sets up tools, or that nothing stands for."""
-    if "why" in entry:
-        here, cannot = "fails, or is skipped with `--lenient`", entry["why"]
-    elif "says" in entry:
-        here, cannot = "does nothing", entry["says"]
-    else:
-        here, cannot = "; ".join(finds(tool) for tool in entry["tools"]), "installs nothing; warns of another version"
-    return f"| `{name}` | {here} | {cannot} |"
+    """The row of an action; the beginning of the row of one with a program of its own."""
+    if "tools" not in entry:
+        return f"| `{name}` | "
+    if "says" in entry:
+        return f"| `{name}` | does nothing | {entry['says']} |"
+    return f"| `{name}` | {'; '.join(finds(tool) for tool in entry['tools'])} | installs nothing; warns of another version |"
 
 
-def rows() -> dict[str, str]:
-    """The row of each action, by its name; of those with a program of their own its beginning."""
+def rows() -> list[str]:
+    """The rows of all actions of the table."""
     table = json.loads((STUBS / "actions.json").read_text(encoding="utf-8"))
-    return {name: row(name, entry) if "tools" in entry or "why" in entry else f"| `{name}` | " for name, entry in table.items()}
+    return [row(name, entry) for name, entry in table.items()]
 
 
 class Page(unittest.TestCase):
     def test_each_action_has_a_row(self) -> None:
         page = (STUBS / "README.md").read_text(encoding="utf-8").splitlines()
         written = [line for line in page if line.startswith("| `")]
-        self.assertEqual(len(written), len(rows()))
-        for line, (name, wanted) in zip(written, rows().items()):
-            self.assertEqual(line[:len(wanted)], wanted)
-            self.assertEqual(len(line.split(" | ")), 3, name)
+        self.assertEqual([line[:len(wanted)] for line, wanted in zip(written, rows())], rows())
+        for line in written:
+            self.assertRegex(line, r"\A\| `[^`]+` \| [^|]+ \| [^|]+ \|\Z")
+        for line in written[len(rows()):]:
+            self.assertRegex(line, r"\A\| `[^`]+` \| fails, or is skipped with `--lenient` \| ")
+        self.assertEqual(len({line.split("`")[1].lower() for line in written}), len(written))
 
 
 if __name__ == "__main__":
-    print("\n".join(rows().values()))
+    print("\n".join(rows()))
