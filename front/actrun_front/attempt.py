@@ -4,18 +4,27 @@ from __future__ import annotations
 import errno
 import json
 import os
+import re
+import shlex
 import sys
+import time
 from pathlib import Path
-from typing import Any
+from typing import Any, Iterable
 
 from . import Problem, options as words, tree as rooms
-from .actions import StubError
-from .contexts import Play
-from .execute import ask
-from .facts import find_project, find_top, read_facts
-from .planning import Flow, job_rows, lower_flow, make_plan, new_play, of_event, read_flows, workflow_files, write_private
-from .present import Screen, table, tree
-from .trial import INTERRUPTED, Trial, stubs_of
+from .actions import StubError, Stubs, after_play, stubs_for
+from .contexts import Play, read_payload
+from .environment import HOME, marker, sandbox_words, settle, variables, why_no_sandbox, write_prelude, write_sudo
+from .execute import Execution, ask, program
+from .explain import explain
+from .planning import Flow, job_rows, make_plan, of_event, read_flows, workflow_files, write_private
+from .present import Board, Screen, legs_of, mask, one_line, placed, summaries, table, tree
+from .tree import find_project, find_top, git, read_facts
+
+FRONT = Path(__file__).resolve().parent.parent
+INTERRUPTED = 130
+PYTHON = "/usr/bin/python3" if os.access("/usr/bin/python3", os.X_OK) else sys.executable  # (the sandbox shows the system's)
+NO_ROOM = (errno.ENOSPC, errno.EACCES, errno.EROFS, errno.ENOTDIR)
 
 
 def main(arguments: list[str]) -> int:
@@ -24,18 +33,18 @@ def main(arguments: list[str]) -> int:
     try:
         return attempt(arguments, screen)
     except (Problem, StubError) as problem:
-        text, status = str(problem), problem.status if isinstance(problem, Problem) else 2
+        text, status = str(problem), getattr(problem, "status", 2)
     except KeyboardInterrupt:
         text, status = "stopped by Ctrl-C", INTERRUPTED
     except BrokenPipeError:
         text, status = "standard output was closed before the end", 3
     except OSError as error:
-        more = ": make room there, or name another place by the variable XDG_CACHE_HOME" if error.errno == errno.ENOSPC else ""
+        more = ": make room there, or name another place by the variable XDG_CACHE_HOME" if error.errno in NO_ROOM else ""
         text, status = f"{os.fsdecode(error.filename) + ': ' if error.filename else ''}{error.strerror}{more}", 3
-    for stream in (sys.stderr, sys.stdout):
+    for stream, show in ((sys.stderr, screen.tell), (sys.stdout, None)):
         try:
-            if stream is sys.stderr:
-                screen.tell(f"actrun: {text}", "failure")
+            if show:
+                show(f"actrun: {text}", "failure")
             stream.flush()
         except OSError:
             os.dup2(os.open(os.devnull, os.O_WRONLY), stream.fileno())
@@ -51,72 +60,194 @@ def attempt(arguments: list[str], screen: Screen) -> int:
         raise Problem(f"--directory {start}: there is no such folder")
     whole = find_top(start)
     top = find_project(start, whole) if whole and not line.workflows else whole or start.resolve()
-    chosen = words.complete(line, top)
-    flows = read_flows(workflow_files(chosen.workflows, [here, start, top], top), top, screen)
+    options = words.complete(arguments, here, top)
+    event, looks = options.event or "push", bool(options.list or options.dryrun or options.graph)
+    flows = read_flows(workflow_files(options.workflows, [here, start, top], top), top, screen)
+    if options.list:
+        for text in table(job_rows(of_event(flows, event, None, screen) if options.event else flows)):
+            screen.say(text)
+        return 0
     facts = read_facts(top, whole is not None, whole is not None and whole.resolve() != top.resolve())
-    if chosen.in_place and not os.fsencode(top).decode("utf-8", "replace") == str(top):
-        raise Problem(f"--in-place {top}: the program takes names in UTF-8 alone: leave --in-place out")
-    event = chosen.event or "push"
-    look = bool(chosen.list or chosen.dryrun or chosen.graph)
-    work = rooms.work_folder()
-    room = rooms.make_room(work, facts.remote.name or top.name, here / chosen.keep if chosen.keep and not look else None)
+    payload = read_payload(options.eventpath) if options.eventpath else None
+    picked = of_event(flows, event, options.job, screen)
+    work = rooms.cache_root() / "work"
+    room = rooms.make_room(work, facts.name or top.name, here / options.keep if options.keep and not looks else None)
     try:
-        play = new_play(event, facts, chosen, room, not look)
-        if chosen.list:
-            return show_list(of_event(flows, event, None, screen) if chosen.event else flows, play, room, screen)
-        picked = of_event(flows, event, chosen.job, screen)
-        if not look:
-            fill_tree(play, room, screen)
-        plan = make_plan(picked, play, room, screen)
-        if chosen.graph:
-            return show_graph(plan, room, screen)
-        return show_tree(plan, picked, play, room, screen) if look else Trial(picked, play, room, plan, screen).execute()
+        play = Play(event, facts, options, payload, room, 1 if looks else next_number(top), int(time.time() * 1000))
+        if not looks:
+            fill_tree(play, screen)
+        plan = make_plan(picked, play, screen)
+        if not looks:
+            return Trial(picked, play, plan, screen).execute()
+        for text in look(plan, picked, play):
+            screen.say(text)
+        if options.graph and sys.stdout.isatty():
+            screen.tell("note: this is for Graphviz: actrun try -g | dot -Tsvg > graph.svg", "note")
+        return 0
     finally:
         room.lock.close()
-        if look or not (room.private / "record").exists():
+        if looks or not (room.private / "record").exists():
             rooms.remove(room.folder)
         rooms.clean(work)
 
 
-def fill_tree(play: Play, room: rooms.Room, screen: Screen) -> None:
+def next_number(top: Path) -> int:
+    """The number of this execution in the repository, from 1: the length of a file that each execution makes one byte longer."""
+    with open(rooms.kept_for(top, "counts"), "ab", buffering=0) as file:
+        file.write(b".")
+        return file.tell()
+
+
+def fill_tree(play: Play, screen: Screen) -> None:
     """Makes the tree in which steps start: a copy, or with --in-place a link."""
     top = play.facts.top
+    if play.options.in_place and os.fsencode(top).decode("utf-8", "replace") != str(top):
+        raise Problem(f"--in-place {top}: the program takes names in UTF-8 alone: leave --in-place out")
     if play.options.in_place:
-        room.tree.symlink_to(top)
+        play.room.tree.symlink_to(top)
         return
     if not play.facts.repository and top in (Path.home(), Path("/")):
         raise Problem(f"{top} is no repository, and too much to copy: name a folder by --directory DIR")
-    for text in rooms.copy_tree(play.facts, room):
+    for text in rooms.copy_tree(play.facts, play.room):
         screen.tell(f"note: not copied: {text}", "note")
 
 
-def show_list(flows: list[Flow], play: Play, room: rooms.Room, screen: Screen) -> int:
-    """The table of all jobs by their stages."""
-    for number, flow in enumerate(flows):
-        lower_flow(flow, number, play, room, None)
-    for text in table(job_rows(flows)):
-        screen.say(text)
-    return 0
-
-
-def show_graph(plan: dict[str, Any], room: rooms.Room, screen: Screen) -> int:
-    """The program's graph of the plan."""
-    write_private(room.private / "plan", json.dumps(plan, ensure_ascii=False))
-    answer = ask("graph", room.private / "plan")
-    if answer.status != 0:
-        raise Problem(answer.err.strip().removeprefix("actrun: "), answer.status)
-    screen.say(answer.out.rstrip("\n"))
-    return 0
-
-
-def show_tree(plan: dict[str, Any], flows: list[Flow], play: Play, room: rooms.Room, screen: Screen) -> int:
-    """The tree of the plan, with the stubs of its actions."""
-    stubs = stubs_of(plan, play, room)
+def look(plan: dict[str, Any], flows: list[Flow], play: Play) -> Iterable[str]:
+    """The graph of the plan, or its tree with the stubs of its actions and the jobs that execute nothing here."""
+    if play.options.graph:
+        write_private(play.room.private / "plan", json.dumps(plan, ensure_ascii=False))
+        yield ask("graph", play.room.private / "plan").stdout.rstrip("\n")
+        return
+    stubs = stubs_of(plan, play)
     stands = {**dict.fromkeys(stubs.programs, "stub"), **dict.fromkeys(stubs.named, "named program"),
               **dict.fromkeys(stubs.missing, "no stub, its step fails"), **dict.fromkeys(stubs.lenient, "no stub, its step is skipped")}
-    for text in tree(plan, [flow.name for flow in flows], stands):
-        screen.say(text)
-    for flow in flows:
-        for job, system in flow.lowered.foreign:
-            screen.say(f"{flow.name}: {job} is for {system}: it executes nothing here (--any-system executes it)")
-    return 0
+    yield from tree(plan, [flow.name for flow in flows], stands)
+    yield from (f"{flow.name}: {job} is for {system}: it executes nothing here (--any-system executes it)"
+                for flow in flows for job, system in flow.lowered.foreign)
+
+
+def stubs_of(plan: dict[str, Any], play: Play) -> Stubs:
+    """The programs that stand for the actions of a plan."""
+    works = [step["work"] for run in plan["runs"] for job in run["jobs"] for step in job["steps"]]
+    return stubs_for({work["uses"] for work in works if work["kind"] == "uses"}, play.options.named_stubs, bool(play.options.lenient),
+                     play.room.play / "stubs", PYTHON)
+
+
+def texts_of(value: Any) -> Iterable[str]:
+    """All texts inside a value."""
+    for part in value.values() if isinstance(value, dict) else value if isinstance(value, list) else ():
+        yield from texts_of(part)
+    if isinstance(value, str) and value:
+        yield value
+
+
+class Trial:
+    """The execution of a plan and what is shown of it."""
+
+    def __init__(self, flows: list[Flow], play: Play, plan: dict[str, Any], screen: Screen) -> None:
+        self.flows, self.play, self.plan, self.screen = flows, play, plan, screen
+        self.room, self.options, self.record = play.room, play.options, play.room.private / "record"
+        self.legs = legs_of(plan)
+        # several legs in one tree would disturb one another
+        self.own_trees = len(self.legs) > 1 and not self.options.in_place
+        self.secrets = list(texts_of([run["roots"]["secrets"] for run in plan["runs"]]))
+        self.board = Board(screen, self.legs, marker(self.secrets))
+        self.cache = rooms.kept_for(play.facts.top, "caches")
+        # of the caller, unless this is a step of another `try`, whose prelude it is
+        bash_env = os.environ.get("BASH_ENV", "")
+        self.bash_env = os.path.abspath(bash_env) if os.path.isfile(bash_env) and bash_env != os.environ.get("ACTRUN_PRELUDE") else ""
+
+    def execute(self) -> int:
+        """Executes the plan and shows all that came of it; gives the exit status."""
+        room = self.room
+        for github in (flow.contexts["github"] for flow in self.flows):
+            Path(github["event_path"]).write_text(json.dumps(github["event"], ensure_ascii=False, indent=2), encoding="utf-8", errors="replace")
+        settle(self.plan, room, self.own_trees)
+        stubs = stubs_of(self.plan, self.play)
+        for text in stubs.missing:
+            self.screen.tell(f"note: no stub stands for {text}: its steps will fail; name a program by --stub "
+                             f"{text.partition('@')[0]}=PROGRAM, or skip such actions by --lenient", "note")
+        for name, text in (("plan", json.dumps(self.plan, ensure_ascii=False)), ("stubs.json", json.dumps(stubs.programs)), ("record", "")):
+            write_private(room.private / name, text)
+        self.cache.mkdir(exist_ok=True)
+        environment = {**variables(room, self.flows[0].contexts, write_prelude(room, self.board.mark), self.cache),
+                       "ACTRUN_PROGRAM": program(), "ACTRUN_BASH_ENV": self.bash_env, **self.options.variables}
+        execution = Execution(room.play / "files" / "stopped", self.board)
+        status = execution.run(self.words(stubs, environment), environment, room.private / "plan")
+        self.screen.status("")
+        self.show_result(dict(self.board.results))
+        return INTERRUPTED if execution.interrupts else status
+
+    def words(self, stubs: Stubs, environment: dict[str, str]) -> list[str]:
+        """The words that execute the plan: in the sandbox, or with a line that says why not."""
+        room, options = self.room, self.options
+        result = [program(), "run", "--progress", "--workers", str(options.workers), "--work", str(room.play),
+                  "--stubs", str(room.private / "stubs.json"), "--record", str(self.record), "/dev/stdin"]
+        if any(re.match(r"actions/cache(/save)?(@|$)", text) for text in stubs.programs):
+            after = shlex.join(after_play(PYTHON, self.record))
+            result = ["/bin/sh", "-c", f"{shlex.join(result)}\nstatus=$?\n{after} >&2\nexit $status"]
+        problem = "" if options.no_sandbox else why_no_sandbox(self.sandbox(stubs))
+        if problem is None:
+            write_sudo(room.play / "bin")
+            environment["PATH"] = f"{room.play / 'bin'}:{environment.get('PATH', os.defpath)}"
+            environment.pop("TMPDIR", None)
+            if HOME.parent.is_dir() and "HOME" not in options.variables:
+                environment["HOME"] = str(HOME)
+            return [*self.sandbox(stubs), *result]
+        if options.offline:
+            raise Problem("--offline needs the sandbox: install bubblewrap, and leave --no-sandbox out")
+        if problem:
+            self.screen.tell(f"note: steps execute with all your rights: {problem}", "warning")
+        return result
+
+    def sandbox(self, stubs: Stubs) -> list[str]:
+        """The words before a command that executes in the sandbox."""
+        top, private = self.play.facts.top, self.room.private
+        readable = [Path(program()), FRONT, *stubs.binds, private / "stubs.json", *([Path(self.bash_env)] if self.bash_env else [])]
+        common = git(top, "rev-parse", "--path-format=absolute", "--git-common-dir") if self.options.in_place else None
+        in_place = [top, *([Path(common)] if common else [])] if self.options.in_place else []
+        return sandbox_words(self.room, readable, [*in_place, self.cache, self.record], bool(self.options.offline))
+
+    def show_result(self, results: dict[int, str]) -> None:
+        """Shows summaries, results, reasons and places."""
+        screen, known = self.screen, self.record.stat().st_size > 0
+        for title, text in summaries(self.room.play / "files", self.secrets, self.board):
+            screen.section(title)
+            screen.say(text)
+        screen.say("")
+        for number, flow in enumerate(self.flows):
+            result, name = results.get(number, "stalled"), one_line(self.plan["runs"][number]["flow"])
+            title = name if name == flow.name else f"{name} ({flow.name})"
+            screen.result(result, f"{title}: {screen.paint(result, result, sys.stdout)}", sys.stdout)
+            for job, system in flow.lowered.foreign:
+                screen.say(f"  {job} is for {system}: nothing of it was executed (--any-system executes it here)", "skipped")
+        for line in placed(mask(ask("why", self.record).stdout, self.secrets).splitlines(), self.legs, self.place) if known else \
+                self.board.without_record():
+            screen.say(f"  {line}")
+        for line in self.board.errors:
+            screen.tell(explain(line, "run", ["--work", str(self.room.folder)]) or line)
+        done = {leg.job["number"] for leg in self.legs if results.get(leg.run) == "success"}
+        if self.own_trees and self.options.keep is None:
+            for folder in (folder for job in done for folder in (self.room.play / "legs").glob(f"{job}-*")):
+                rooms.remove(folder)
+        screen.say("")
+        for line in self.places(known):
+            screen.say(line, "note")
+
+    def place(self, run: int, job: str, step: int | None) -> str:
+        """File and line of a job or a step."""
+        line = self.flows[run].lowered.lines.get(("jobs", job) if step is None else ("jobs", job, "steps", step))
+        return f"{self.flows[run].name}:{line}" if line else ""
+
+    def places(self, known: bool) -> Iterable[str]:
+        """Where the record, the logs, the trees and the diagrams are."""
+        private, play = self.room.private, self.room.play
+        yield f"logs      {play}/step-LEG-STEP.log"
+        trees = sorted((play / "legs").glob("*")) if self.own_trees else [self.play.workspace]
+        if trees:
+            yield f"tree      {trees[0] if len(trees) == 1 else play / 'legs' / 'JOB-INDEX' / self.room.name}"
+        if known:
+            yield f"record    {self.record}"
+            for name, command in (("timeline.svg", "timeline"), ("graph.dot", "graph")):
+                write_private(private / name, ask(command, self.record).stdout)
+                yield f"{command:<9} {private / name}"

@@ -1,4 +1,4 @@
-"""The contexts that are known before execution: `github`, `inputs`, `vars`, `secrets` and `runner`."""
+"""The contexts that are known before execution: `github` with the payload of its event, `inputs`, `vars`, `secrets` and `runner`."""
 from __future__ import annotations
 
 import argparse
@@ -8,16 +8,21 @@ import re
 from dataclasses import dataclass
 from pathlib import Path
 from typing import Any
+from urllib.parse import urlsplit
 
 from . import Problem
-from .facts import Facts, git
-from .payloads import payload
+from .options import read_text
+from .tree import GITHUB, Facts, Room, git
 
 GREATEST = 9007199254740991
-DEEPEST = 100
+NO_COMMIT = "0" * 40
+MOST_COMMITS = 20
 SYSTEMS = {"Linux": "Linux", "Darwin": "macOS", "Windows": "Windows"}
 MACHINES = {"x86_64": "X64", "AMD64": "X64", "aarch64": "ARM64", "arm64": "ARM64", "i386": "X86", "i686": "X86"}
-EMPTY = {"boolean": False, "number": 0}
+# of `github.ref`: events of the current branch or tag, and those of the payload; all others are of the default branch
+OF_CURRENT = ("workflow_call", "create", "merge_group", "repository_dispatch", "release")
+OF_PAYLOAD = ("push", "workflow_dispatch")
+WILD = {"**": ".*", "*": "[^/]*", "?": "?", "+": "+"}
 
 
 @dataclass(frozen=True)
@@ -27,57 +32,64 @@ class Play:
     event: str
     facts: Facts
     options: argparse.Namespace
-    event_file: dict[str, Any] | None      # the payload of --eventpath
-    workspace: Path
-    temporary: Path
-    tools: Path
+    payload: dict[str, Any] | None         # of --eventpath
+    room: Room
     number: int                            # of the run, from 1
     identity: int                          # of the run
+
+    @property
+    def workspace(self) -> Path:
+        """The tree that `github.workspace` names."""
+        return self.facts.top if self.options.in_place else self.room.tree
 
 
 def triggers(value: Any) -> dict[str, Any]:
     """The events of a workflow's value, each with what is below it."""
     events = value.get("on", value.get("true")) if isinstance(value, dict) else None
-    if isinstance(events, str):
-        return {events: None}
-    if isinstance(events, list):
-        return {name: None for name in events if isinstance(name, str)}
-    return dict(events) if isinstance(events, dict) else {}
+    if isinstance(events, dict):
+        return dict(events)
+    return {name: None for name in ([events] if isinstance(events, str) else events or []) if isinstance(name, str)}
 
 
 def contexts(play: Play, workflow: str, value: dict[str, Any]) -> dict[str, Any]:
     """The contexts of one workflow: `workflow` is its file from the top of the repository."""
     options, trigger = play.options, triggers(value).get(play.event)
-    of_file = (play.event_file or {}).get("inputs")
-    pairs = of_file.items() if isinstance(of_file, dict) else ()
-    given = {name: value if isinstance(value, str) else json.dumps(value) for name, value in pairs}
+    of_file = (play.payload or {}).get("inputs")
+    given = {name: text_of(value) for name, value in of_file.items()} if isinstance(of_file, dict) else {}
     inputs = read_inputs(trigger, {**given, **options.inputs}, workflow)
-    event = play.event_file
-    if event is None:
-        event = payload(play.event, play.facts, trigger, workflow, inputs)
+    event = payload(play.event, play.facts, trigger, workflow, inputs) if play.payload is None else play.payload
     secrets = {"GITHUB_TOKEN": "", **options.secrets}
     name = value.get("name")
     github = github_context(play, event, workflow, name if isinstance(name, str) else workflow)
-    github["token"] = secrets["GITHUB_TOKEN"]
-    return {"github": github, "inputs": inputs, "vars": dict(options.vars), "secrets": secrets, "runner": runner(play)}
+    runner = {"os": SYSTEMS.get(platform.system(), platform.system()), "arch": MACHINES.get(platform.machine(), "X64"), "name": "actrun",
+              "environment": "self-hosted", "temp": str(play.room.play / "temp"), "tool_cache": str(play.room.play / "tools"),
+              "debug": "1" if {**options.vars, **secrets}.get("ACTIONS_STEP_DEBUG") == "true" else ""}
+    return {"github": {**github, "token": secrets["GITHUB_TOKEN"]}, "inputs": inputs, "vars": dict(options.vars), "secrets": secrets,
+            "runner": runner}
 
 
 def github_context(play: Play, event: dict[str, Any], workflow: str, name: str) -> dict[str, Any]:
     """`github` without what differs by job."""
-    facts, remote = play.facts, play.facts.remote
+    facts, sha = play.facts, play.facts.sha
     ref, head, base = refs(play.event, event, facts)
-    kind, short = kind_of(ref)
-    sha = commit_of(play.event, event, facts, base)
-    where = f"{remote.full_name}/{workflow}@{ref}" if remote.full_name else f"{workflow}@{ref}"
+    if play.event == "push" and text_at(event, "after").strip("0"):
+        sha = text_at(event, "after")
+    elif play.event == "pull_request_target" and sha:
+        sha = text_at(event, "pull_request", "base", "sha") or facts.heads.get(base, sha)
+    # github.com and the tenants of ghe.com have a host for their interfaces, a server of one's own has paths
+    host = urlsplit(facts.server).netloc
+    api = f"https://api.{host}" if host == GITHUB or host.endswith(".ghe.com") else f"{facts.server}/api"
     return {
-        "actor": facts.actor, "actor_id": "", "api_url": remote.api, "base_ref": base, "event": event, "event_name": play.event,
-        "graphql_url": remote.graphql, "head_ref": head, "ref": ref, "ref_name": short, "ref_protected": False, "ref_type": kind,
-        "repository": remote.full_name, "repository_id": "", "repository_owner": remote.owner, "repository_owner_id": "",
-        "repositoryUrl": f"git://{remote.server.removeprefix('https://')}/{remote.full_name}.git" if remote.full_name else "",
+        "actor": facts.actor, "actor_id": "", "api_url": f"{api}/v3" if api.endswith("/api") else api, "base_ref": base,
+        "event": event, "event_name": play.event, "graphql_url": f"{api}/graphql", "head_ref": head, "ref": ref,
+        "ref_name": re.sub(r"^refs/(heads/|tags/|pull/)?", "", ref), "ref_protected": False,
+        "ref_type": "tag" if ref.startswith("refs/tags/") else "branch" if ref else "",
+        "repository": facts.full_name, "repository_id": "", "repository_owner": facts.owner, "repository_owner_id": "",
+        "repositoryUrl": f"git://{facts.web.partition('://')[2]}.git" if facts.web else "",
         "retention_days": "90", "run_attempt": "1", "run_id": str(play.identity), "run_number": str(play.number),
-        "secret_source": "Actions" if play.options.secrets else "None", "server_url": remote.server, "sha": sha,
-        "triggering_actor": facts.actor, "workflow": name, "workflow_ref": where, "workflow_sha": facts.sha,
-        "workspace": str(play.workspace)}
+        "secret_source": "Actions" if play.options.secrets else "None", "server_url": facts.server, "sha": sha,
+        "triggering_actor": facts.actor, "workflow": name, "workflow_ref": f"{facts.full_name}/{workflow}@{ref}".lstrip("/"),
+        "workflow_sha": facts.sha, "workspace": str(play.workspace)}
 
 
 def text_at(value: Any, *path: str) -> str:
@@ -87,126 +99,149 @@ def text_at(value: Any, *path: str) -> str:
     return str(value) if isinstance(value, (str, int)) and not isinstance(value, bool) else ""
 
 
+def text_of(value: Any) -> str:
+    """A value as a variable has it."""
+    return value if isinstance(value, str) else json.dumps(value)
+
+
 def refs(event: str, data: dict[str, Any], facts: Facts) -> tuple[str, str, str]:
     """`ref`, `head_ref` and `base_ref` of the event, as GitHub's table of events has them."""
     if event.startswith("pull_request"):
         head, base = text_at(data, "pull_request", "head", "ref"), text_at(data, "pull_request", "base", "ref")
         number = text_at(data, "number") or text_at(data, "pull_request", "number")
         return (f"refs/heads/{base}" if event == "pull_request_target" else f"refs/pull/{number}/merge"), head, base
-    if event in ("push", "workflow_dispatch"):
-        ref = text_at(data, "ref")
+    ref, tag = text_at(data, "ref"), text_at(data, "release", "tag_name")
+    if event in OF_PAYLOAD:
         return (f"refs/heads/{ref}" if ref and not ref.startswith("refs/") else ref), "", ""
-    tag = text_at(data, "release", "tag_name")
-    if event == "release":
-        return (f"refs/tags/{tag}" if tag else facts.ref), "", ""
-    if event in ("workflow_call", "create", "merge_group", "repository_dispatch"):
-        return facts.ref, "", ""
-    return f"refs/heads/{facts.default_branch}", "", ""
-
-
-def kind_of(ref: str) -> tuple[str, str]:
-    """`ref_type` and `ref_name`."""
-    if ref.startswith("refs/tags/"):
-        return "tag", ref.removeprefix("refs/tags/")
-    short = re.sub(r"^refs/(heads/|pull/)?", "", ref)
-    return ("branch" if ref else ""), short
-
-
-def commit_of(event: str, data: dict[str, Any], facts: Facts, base: str) -> str:
-    """`sha`: that of the tree; of a target's request that of its base, of a push what the payload says."""
-    if event == "push" and text_at(data, "after").strip("0"):
-        return text_at(data, "after")
-    if event == "pull_request_target" and facts.sha:
-        found = (git(facts.top, "rev-parse", "--verify", "--quiet", f"refs/{kind}/{base}") for kind in ("remotes/origin", "heads"))
-        return text_at(data, "pull_request", "base", "sha") or next(filter(None, found), facts.sha)
-    return facts.sha
-
-
-def runner(play: Play) -> dict[str, Any]:
-    """`runner`: this machine."""
-    wanted = {**play.options.vars, **play.options.secrets}.get("ACTIONS_STEP_DEBUG") == "true"
-    return {"os": SYSTEMS.get(platform.system(), platform.system()), "arch": MACHINES.get(platform.machine(), "X64"),
-            "name": "actrun", "environment": "self-hosted", "temp": str(play.temporary), "tool_cache": str(play.tools),
-            "debug": "1" if wanted else ""}
+    if event == "release" and tag:
+        return f"refs/tags/{tag}", "", ""
+    return (facts.ref if event in OF_CURRENT else f"refs/heads/{facts.default_branch}"), "", ""
 
 
 def read_inputs(trigger: Any, values: dict[str, str], workflow: str) -> dict[str, Any]:
-    """`inputs`: what the event of the workflow declares, with the given values over the defaults."""
+    """`inputs`: what the event of the workflow declares, with the given values over the defaults, in the declared types."""
     declared = trigger.get("inputs") if isinstance(trigger, dict) else None
-    result = {}
+    result: dict[str, Any] = {}
     for name, entry in (declared if isinstance(declared, dict) else {}).items():
         entry = entry if isinstance(entry, dict) else {}
+        kind, choices = entry.get("type"), entry.get("options")
+        choices = list(map(text_of, choices)) if kind == "choice" and isinstance(choices, list) else []
         value = next((text for key, text in values.items() if key.lower() == name.lower()), entry.get("default"))
-        choices = entry.get("options") if entry.get("type") == "choice" else None
+        text = text_of(value)
         if value is None and entry.get("required") is True:
             raise Problem(f"{workflow}: the input {name} is required: --input {name}=VALUE")
-        if value is None and isinstance(choices, list) and choices:
-            value = choices[0]
-        if isinstance(choices, list) and value is not None and str(value) not in map(str, choices):
-            raise Problem(f"{workflow}: the input {name} is {value}, which is none of {', '.join(map(str, choices))}: "
-                          f"--input {name}=ONE_OF_THEM")
-        result[name] = typed(name, entry.get("type"), value, workflow)
+        if value is None:
+            result[name] = choices[0] if choices else {"boolean": False, "number": 0}.get(kind, "")
+        elif choices and text not in choices:
+            raise Problem(f"{workflow}: the input {name} is {text}, which is none of {', '.join(choices)}: --input {name}=ONE_OF_THEM")
+        elif kind in ("boolean", "number"):
+            if not re.fullmatch("(?i)true|false" if kind == "boolean" else "0|-?[1-9][0-9]{0,14}", text):
+                what = "truth value: --input {0}=true, or false" if kind == "boolean" else "whole number: --input {0}=1"
+                raise Problem(f"{workflow}: the input {name} is {text}, no {what.format(name)}")
+            result[name] = json.loads(text.lower())
+        else:
+            result[name] = text
     return result
 
 
-def typed(name: str, kind: Any, value: Any, workflow: str) -> Any:
-    """An input's value in its declared type."""
-    if value is None:
-        return EMPTY.get(kind, "")
-    if kind == "boolean":
-        if str(value).lower() in ("true", "false"):
-            return str(value).lower() == "true"
-        raise Problem(f"{workflow}: the input {name} is {value}, no truth value: --input {name}=true, or false")
-    if kind == "number":
-        if re.fullmatch(r"-?(0|[1-9][0-9]*)", str(value)) and str(value) != "-0" and abs(int(value)) <= GREATEST:
-            return int(value)
-        raise Problem(f"{workflow}: the input {name} is {value}, no whole number: --input {name}=1")
-    return str(value).lower() if isinstance(value, bool) else str(value)
+def read_payload(file: Path) -> dict[str, Any]:
+    """The payload of --eventpath as a plan can hold it: fractions and numbers that are too great become texts."""
+    try:
+        data = json.loads(read_text(file, "--eventpath"), parse_float=str, parse_constant=str,
+                          parse_int=lambda text: int(text) if abs(int(text)) <= GREATEST else text)
+    except (ValueError, RecursionError) as error:
+        raise Problem(f"--eventpath {file}: this is no JSON ({error})") from None
+    if not isinstance(data, dict):
+        raise Problem(f"--eventpath {file}: an object was expected, the payload of the event")
+    return data
 
 
-def plain(value: Any, place: str, depth: int = DEEPEST) -> Any:
-    """A payload as a plan can hold it: fractions and numbers that are too great become texts."""
-    if depth < 0:
-        raise Problem(f"--eventpath: the value at {place} nests too deep: 100 levels are the most")
-    if isinstance(value, dict):
-        return {key: plain(part, f"{place}.{key}", depth - 1) for key, part in value.items()}
-    if isinstance(value, list):
-        return [plain(part, f"{place}.{number}", depth - 1) for number, part in enumerate(value)]
-    if isinstance(value, float) or (isinstance(value, int) and abs(value) > GREATEST):
-        return str(value)
-    return value
+def payload(event: str, facts: Facts, trigger: Any, workflow: str, inputs: dict[str, Any]) -> dict[str, Any]:
+    """The payload of `event` for one workflow in the shape that GitHub documents for webhooks, with what git knows;
+    `trigger` is what the workflow has at the event's name under `on`."""
+    user = {"login": facts.actor, "type": "User"}
+    repository = {
+        "name": facts.name or facts.top.name, "full_name": facts.full_name, "html_url": facts.web, "url": facts.web,
+        "clone_url": f"{facts.web}.git" if facts.web else "", "default_branch": facts.default_branch,
+        "master_branch": facts.default_branch, "fork": False, "private": False, "visibility": "public",
+        "owner": {"login": facts.owner, "name": facts.owner, "html_url": f"{facts.server}/{facts.owner}"}}
+    common = {"repository": repository, "sender": user}
+    if event == "push":
+        return {**common, **push(facts)}
+    if event.startswith("pull_request"):
+        return {**common, **pull_request(facts, repository, user)}
+    if event == "workflow_dispatch":
+        texts = {name: text_of(value) for name, value in inputs.items()}
+        return {**common, "inputs": texts or None, "ref": facts.ref, "workflow": workflow}
+    if event == "schedule":
+        entry = trigger[0] if isinstance(trigger, list) and trigger else {}
+        return {**common, "schedule": text_at(entry, "cron"), "workflow": workflow}
+    return common
 
 
-def pattern(glob: str) -> re.Pattern[str]:
-    """A filter pattern of GitHub for branches and tags: `*`, `**`, `?` and `+` after a character, and `[..]`."""
-    parts = re.findall(r"\*\*|\\.|\[[^\]]*\]|.", glob, re.DOTALL)
-    words = {"**": ".*", "*": "[^/]*", "?": "?", "+": "+"}
-    return re.compile("".join(words.get(part) or (part if part[0] in "[\\" and len(part) > 1 else re.escape(part)) for part in parts))
+def push(facts: Facts) -> dict[str, Any]:
+    """A push of the current branch or tag: of what its upstream lacks, else of the last commit."""
+    first = git(facts.top, "rev-parse", "--verify", "--quiet", "@{upstream}")
+    if first in (None, facts.sha):
+        first = git(facts.top, "rev-parse", "--verify", "--quiet", "HEAD^")
+    of_tag, web = facts.ref.startswith("refs/tags/"), facts.web
+    pushed = [] if of_tag else commits(facts, first)
+    before = NO_COMMIT if of_tag or not first else first
+    return {"ref": facts.ref, "before": before, "after": facts.sha or NO_COMMIT, "base_ref": None, "created": before == NO_COMMIT,
+            "deleted": False, "forced": False, "commits": pushed, "head_commit": next(iter(pushed[-1:] or commits(facts, None, 1)), None),
+            "compare": f"{web}/compare/{before[:12]}...{facts.sha[:12]}" if web else "",
+            "pusher": {"name": facts.actor, "email": facts.mail}}
+
+
+def commits(facts: Facts, after: str | None, most: int = MOST_COMMITS) -> list[dict[str, Any]]:
+    """The commits of HEAD behind `after`, the newest last."""
+    words = ["log", "-z", "--encoding=UTF-8", f"--max-count={most}", "--no-show-signature", "--no-renames", "--name-status",
+             "--format=%x01%H%x00%T%x00%cI%x00%an%x00%ae%x00%cn%x00%ce%x00%B%x00", "HEAD", *([f"^{after}"] if after else []), "--"]
+    found = []
+    for part in reversed((git(facts.top, *words) or "").split("\1")[1:]):
+        sha, tree, time, author, author_mail, committer, committer_mail, message, *rest = part.split("\0") + [""]
+        changes = [field.lstrip("\n") for field in rest if field.strip("\n")]
+        files: dict[str, list[str]] = {"added": [], "removed": [], "modified": []}
+        for kind, name in zip(changes[::2], changes[1::2]):
+            files[{"A": "added", "D": "removed"}.get(kind, "modified")].append(name)
+        found.append({
+            "id": sha, "tree_id": tree, "distinct": True, "message": message.rstrip("\n"), "timestamp": time,
+            "url": f"{facts.web}/commit/{sha}" if facts.web else "", "author": {"name": author, "email": author_mail},
+            "committer": {"name": committer, "email": committer_mail}, **files})
+    return found
+
+
+def pull_request(facts: Facts, repository: dict[str, Any], user: dict[str, Any]) -> dict[str, Any]:
+    """A request, number 1, to merge the current branch into the default branch."""
+    title, _, body = next((commit["message"] for commit in commits(facts, None, 1)), "").partition("\n")
+    head, base = ({"ref": ref, "sha": sha, "label": f"{facts.owner}:{ref}", "repo": repository, "user": user} for ref, sha in (
+        (facts.branch, facts.sha), (facts.default_branch, facts.heads.get(facts.default_branch, ""))))
+    request = {"number": 1, "state": "open", "title": title, "body": body.strip("\n") or None, "draft": False, "merged": False,
+               "labels": [], "assignees": [], "requested_reviewers": [], "milestone": None, "author_association": "OWNER", "user": user,
+               "html_url": f"{facts.web}/pull/1" if facts.web else "", "head": head, "base": base}
+    return {"action": "opened", "number": 1, "pull_request": request}
 
 
 def excluded(event: str, trigger: Any, github: dict[str, Any]) -> str | None:
     """The filter by which GitHub would not start the workflow; the program passes over filters."""
     if not isinstance(trigger, dict) or not (event == "push" or event.startswith("pull_request")):
         return None
-    kind = "tags" if event == "push" and github["ref_type"] == "tag" else "branches"
+    kind, other = ("tags", "branches") if event == "push" and github["ref_type"] == "tag" else ("branches", "tags")
     name = github["ref_name"] if event == "push" else github["base_ref"]
-    other = "branches" if kind == "tags" else "tags"
-    if event == "push" and not any(key in trigger for key in (kind, f"{kind}-ignore")):
-        return f"{other}: {trigger[other]}" if other in trigger else None
-    for key, stays in ((kind, True), (f"{kind}-ignore", False)):
-        if key in trigger and name and matches(trigger[key], name) is not stays:
-            return f"{key}: {trigger[key]}"
-    return None
+    if event == "push" and other in trigger and not {kind, f"{kind}-ignore"} & set(trigger):
+        return f"{other}: {trigger[other]}"
+    return next((f"{key}: {trigger[key]}" for key, starts in ((kind, True), (f"{kind}-ignore", False))
+                 if key in trigger and name and matches(trigger[key], name) is not starts), None)
 
 
 def matches(globs: Any, name: str) -> bool:
-    """Whether the last pattern that fits the name is one without `!`."""
+    """Whether the last pattern that fits the name is one without `!`. A pattern has `*`, `**`, `?` and `+` after a character, and `[..]`."""
     result = False
-    for glob in globs if isinstance(globs, list) else [globs]:
-        negated = str(glob).startswith("!")
+    for glob in map(str, globs if isinstance(globs, list) else [globs]):
+        parts = re.findall(r"\*\*|\\.|\[[^\]]*\]|.", glob[glob.startswith("!"):], re.DOTALL)
         try:
-            if pattern(str(glob)[negated:]).fullmatch(name):
-                result = not negated
+            if re.fullmatch("".join(WILD.get(part) or (part if len(part) > 1 else re.escape(part)) for part in parts), name):
+                result = not glob.startswith("!")
         except re.error:
             continue
     return result

@@ -6,13 +6,16 @@ import re
 import signal
 import subprocess
 import threading
-from dataclasses import dataclass, field
+import time
+from dataclasses import dataclass
 from pathlib import Path
-from typing import Any, Callable, Iterator
+from typing import IO, Any, Callable, Iterable, NamedTuple
 
 from . import Problem
 
 PATIENCE = 3.0
+PROGRESS = re.compile(r"leg (\d+) \(.*?\) step (\d+) of \d+ (?:started: .*|(?P<end>exit (?P<code>\d+)|bad output|not started: .* \((?P<why>.*)\))"
+                      r"(?: in (?P<seconds>[\d.]+) s)?, \d+ of \d+ steps)")
 
 
 def program() -> str:
@@ -23,153 +26,12 @@ def program() -> str:
     return os.path.abspath(path)
 
 
-@dataclass
-class Answer:
-    """What a command of the program printed, and its status."""
-
-    status: int
-    out: str
-    err: str
-
-
-def ask(*words: str | os.PathLike[str]) -> Answer:
+def ask(*words: str | os.PathLike[str]) -> subprocess.CompletedProcess[str]:
     """The answer of a command that executes no steps."""
-    done = subprocess.run([program(), *map(os.fspath, words)], stdin=subprocess.DEVNULL, capture_output=True, check=False)
-    return Answer(done.returncode, done.stdout.decode("utf-8", "replace"), done.stderr.decode("utf-8", "replace"))
+    return subprocess.run([program(), *words], stdin=subprocess.DEVNULL, capture_output=True, encoding="utf-8", errors="replace", check=False)
 
 
-@dataclass
-class Process:
-    """A process of the machine: its parent, session and start, as /proc has them."""
-
-    number: int
-    parent: int
-    session: int
-    start: int
-
-
-def processes() -> Iterator[Process]:
-    """All processes that can be seen."""
-    for name in filter(str.isdigit, os.listdir("/proc")):
-        try:
-            fields = Path("/proc", name, "stat").read_text(encoding="utf-8", errors="replace").rpartition(")")[2].split()
-            yield Process(int(name), int(fields[1]), int(fields[3]), int(fields[19]))
-        except (OSError, IndexError, ValueError):
-            continue
-
-
-def steps_of(root: int, executable: str) -> list[int]:
-    """The processes of the steps: those of the session of `root`, without those that lead from it to the program."""
-    found = {process.number: process for process in processes() if process.session == root or process.number == root}
-    spared, at = {root}, root
-    while not is_program(at, executable):
-        children = sorted((process.start, process.number) for process in found.values() if process.parent == at)
-        if not children:
-            break
-        at = children[0][1]
-        spared.add(at)
-    return [number for number in found if number not in spared]
-
-
-def is_program(number: int, executable: str) -> bool:
-    """Whether the process was started as the program."""
-    try:
-        return Path(f"/proc/{number}/cmdline").read_bytes().split(b"\0")[0] == os.fsencode(executable)
-    except OSError:
-        return False
-
-
-@dataclass
-class Execution:
-    """One `actrun run`. The first Ctrl-C ends its steps, so that the program still writes what it knows; the second ends it."""
-
-    words: list[str]
-    environment: dict[str, str]
-    plan: Path
-    stopped: Path                               # a file that keeps further steps from starting
-    progress: Callable[[str], None]
-    output: Callable[[str], None]
-    on_stop: Callable[[], None]
-    interrupts: int = 0
-    child: Any = field(default=None, init=False)
-
-    def run(self) -> int:
-        """Executes the plan to its end; gives the status of `run`, or 3 where a signal ended it."""
-        kept = {number: signal.signal(number, self.interrupt) for number in (signal.SIGINT, signal.SIGTERM, signal.SIGHUP)}
-        try:
-            with open(self.plan, "rb") as plan:
-                self.child = subprocess.Popen(self.words, stdin=plan, stdout=subprocess.PIPE, stderr=subprocess.PIPE,
-                                              env=self.environment, start_new_session=True)
-            reader = threading.Thread(target=self.read_progress, daemon=True)
-            reader.start()
-            for line in self.child.stdout:
-                self.output(line.decode("utf-8", "replace").removesuffix("\n"))
-            status = self.child.wait()
-            reader.join(PATIENCE)
-            return status if status >= 0 else 3
-        finally:
-            self.end()
-            for number, handler in kept.items():
-                signal.signal(number, handler)
-
-    def read_progress(self) -> None:
-        """Hands on each line of standard error, and reads on where it cannot be shown: the program must not wait."""
-        for line in self.child.stderr:
-            try:
-                self.progress(line.decode("utf-8", "replace").removesuffix("\n"))
-            except OSError:
-                continue
-
-    def interrupt(self, *_: Any) -> None:
-        """What Ctrl-C does."""
-        self.interrupts += 1
-        if self.child is None:
-            raise KeyboardInterrupt
-        if self.interrupts > 1:
-            self.end()
-            return
-        self.stopped.touch()
-        self.signal_steps(signal.SIGTERM)
-        for seconds in (PATIENCE, PATIENCE + 1):
-            self.later(seconds, lambda: self.signal_steps(signal.SIGKILL))
-        self.later(3 * PATIENCE, self.end)
-        try:
-            self.on_stop()
-        except (OSError, RuntimeError):  # the line was being written to, or nobody reads it
-            pass
-
-    def later(self, seconds: float, what: Callable[[], None]) -> None:
-        """Does something after a while, unless the front has ended."""
-        timer = threading.Timer(seconds, lambda: self.child.poll() is None and what())
-        timer.daemon = True
-        timer.start()
-
-    def signal_steps(self, number: int) -> None:
-        """Sends a signal to all processes of the steps."""
-        for process in steps_of(self.child.pid, program()):
-            try:
-                os.kill(process, number)
-            except OSError:
-                continue
-
-    def end(self) -> None:
-        """Ends the program and all that is left of its session."""
-        if self.child is None:
-            return
-        for number in [*steps_of(self.child.pid, program()), self.child.pid]:
-            if number != self.child.pid or self.child.poll() is None:
-                try:
-                    os.kill(number, signal.SIGKILL)
-                except OSError:
-                    continue
-
-
-PROGRESS = re.compile(r"leg (\d+) \((.*?)\) step (\d+) of (\d+) (?:(started): (.*)|(exit) (\d+)(?: in ([\d.]+) s)?, (\d+) of (\d+) steps"
-                      r"|(bad output)(?: in ([\d.]+) s)?, (\d+) of (\d+) steps|(not started): (.*) \((.*)\), (\d+) of (\d+) steps)")
-
-
-@dataclass(frozen=True)
-class Progress:
+class Progress(NamedTuple):
     """One line of `--progress`."""
 
     leg: int
@@ -184,12 +46,106 @@ def read_progress(line: str) -> Progress | None:
     found = PROGRESS.fullmatch(line)
     if not found:
         return None
-    leg, step = int(found[1]), int(found[3])
-    if found[5]:
-        return Progress(leg, step, "started", "", "")
-    if found[7]:
-        good = found[8] == "0"
-        return Progress(leg, step, "success" if good else "failure", "" if good else f"exit {found[8]}", found[9] or "")
-    if found[12]:
-        return Progress(leg, step, "failure", "its outputs or variables cannot be read", found[13] or "")
-    return Progress(leg, step, "failure", f"not started: {found[18]}", "")
+    state = "started" if not found["end"] else "success" if found["code"] == "0" else "failure"
+    detail = f"not started: {found['why']}" if found["why"] else f"exit {found['code']}" if found["code"] else \
+        "its outputs or variables cannot be read"
+    return Progress(int(found[1]), int(found[2]), state, detail if state == "failure" else "", found["seconds"] or "")
+
+
+def session(leader: int) -> dict[int, int]:
+    """The processes of a session, each with its parent, as /proc has them."""
+    found = {}
+    for path in Path("/proc").glob("[0-9]*/stat"):
+        try:
+            fields = path.read_text(encoding="utf-8", errors="replace").rpartition(")")[2].split()
+        except OSError:
+            continue
+        if int(fields[3]) == leader:
+            found[int(path.parent.name)] = int(fields[1])
+    return found
+
+
+def steps_of(leader: int) -> list[int]:
+    """The processes of the steps: those of the session, without those that lead from its leader to the program."""
+    parents, chains = session(leader), []
+    for number in parents:
+        try:
+            is_program = Path(f"/proc/{number}/cmdline").read_bytes().split(b"\0")[0] == os.fsencode(program())
+        except OSError:
+            continue
+        chain = [number] if is_program else []
+        while chain and chain[-1] in parents:
+            chain.append(parents[chain[-1]])
+        chains += [chain] if chain else []
+    spared = min(chains, key=len, default=list(parents))  # (a step may start the program, too)
+    return [number for number in parents if number not in spared]
+
+
+def send(number: int, processes: Iterable[int]) -> None:
+    """Sends a signal to processes that may have ended."""
+    for process in processes:
+        try:
+            os.kill(process, number)
+        except OSError:
+            continue
+
+
+def each_line(stream: IO[bytes], take: Callable[[str], None]) -> None:
+    """Hands on each line of a stream."""
+    for line in stream:
+        take(line.decode("utf-8", "replace").removesuffix("\n"))
+
+
+@dataclass
+class Execution:
+    """One `actrun run`. The first Ctrl-C ends its steps, so that the program still writes what it knows; the second ends it."""
+
+    stopped: Path                               # a file that keeps further steps from starting
+    board: Any                                  # takes lines of output and of progress, and says that Ctrl-C was seen
+    interrupts: int = 0
+    child: Any = None
+
+    def run(self, words: list[str], environment: dict[str, str], plan: Path) -> int:
+        """Executes the plan to its end; gives the status of `run`, or 3 where a signal ended it."""
+        kept = {number: signal.signal(number, self.interrupt) for number in (signal.SIGINT, signal.SIGTERM, signal.SIGHUP)}
+        try:
+            with open(plan, "rb") as text:
+                self.child = subprocess.Popen(words, stdin=text, stdout=subprocess.PIPE, stderr=subprocess.PIPE, env=environment,
+                                              start_new_session=True)
+            reader = threading.Thread(target=each_line, args=(self.child.stderr, self.board.progress), daemon=True)
+            reader.start()
+            each_line(self.child.stdout, self.board.output)
+            status = self.child.wait()
+            reader.join(PATIENCE)
+            return status if status >= 0 else 3
+        finally:
+            self.end()
+            for number, handler in kept.items():
+                signal.signal(number, handler)
+
+    def interrupt(self, *_: Any) -> None:
+        """What Ctrl-C does."""
+        self.interrupts += 1
+        if self.child is None:
+            raise KeyboardInterrupt
+        if self.interrupts > 1:
+            self.end()
+            return
+        self.stopped.touch()
+        for work in (self.board.stop, self.wind_down):  # (not here: this thread may be writing a line)
+            threading.Thread(target=work, daemon=True).start()
+
+    def wind_down(self) -> None:
+        """Ends the steps, then what is left of them, and where the program still waits, the program."""
+        for number in (signal.SIGTERM, signal.SIGKILL, signal.SIGKILL):
+            if self.child.poll() is None:
+                send(number, steps_of(self.child.pid))
+                time.sleep(PATIENCE)
+        if self.child.poll() is None:
+            self.end()
+
+    def end(self) -> None:
+        """Ends the program and all that is left of its session."""
+        if self.child is not None:
+            self.child.kill()
+            send(signal.SIGKILL, session(self.child.pid))

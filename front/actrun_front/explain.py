@@ -1,9 +1,8 @@
 """A person's words after the program's error line: the place, the sentence, the remedy.
 
-The program's line has a fault's name alone (`actrun: plan Cycle`). What `actrun lint` knows of the workflow comes first, with the
-line of the YAML file where the JSON was made of one; then the usage, the file that can't be opened, or a sentence of the tables.
+The program's line has an error's name alone (`actrun: plan Cycle`). Of a workflow `actrun lint` has place and sentence, and the line of
+the YAML file stands before it where that is known. What lint does not see is here: arguments, files, records, and choices.
 """
-
 from __future__ import annotations
 
 import difflib
@@ -13,102 +12,46 @@ import pathlib
 import re
 import subprocess
 import sys
-from dataclasses import dataclass, field
 from typing import Iterable
 
-Path = tuple  # place in a workflow's value: ("jobs", "test", "steps", 0, "run")
+from .yaml_reader import read_document, text_of
 
-# options of each command, and whether a value follows
-OPTIONS = {"plan": {"--event": True, "--job": True, "--contexts": True}, "list": {}, "lint": {}, "table": {},
-           "run": {"--workers": True, "--record": True, "--work": True, "--stubs": True, "--progress": False},
-           "replay": {"--settled": False}, "why": {}, "graph": {}, "timeline": {}, "debug": {}, "eval": {"--contexts": True}}
-READ_OPTIONS = ("--contexts", "--stubs")
-COMMANDS = [*OPTIONS, "try", "from-yaml"]
+LEAST_SPACE = 1 << 20
+Origins = dict  # JSON file -> (YAML file, {place in the JSON: line there})
 
-LOAD = {
-    "NotJson": "its first line is no JSON: `actrun plan FLOW.. > FILE` makes a plan, `actrun run --record FILE PLAN` a record",
-    "Version": "its first line is an object whose `version` is missing or neither 1 nor 2: is it a workflow? `actrun plan` makes a plan of it",
-    "NotPlan": "its first line has a version but breaks a rule of plans: make it anew with `actrun plan`",
+SENTENCES = {
+    "memory": "the memory of this machine or of its limits (ulimit -v) is used up; nothing was changed",
+    "load NotJson": "its first line is no JSON: `actrun plan FLOW.. > FILE` makes a plan, `actrun run --record FILE PLAN` a record",
+    "load Version": "its first line is an object whose `version` is missing or neither 1 nor 2: is it a workflow? `actrun plan` makes a plan of it",
+    "load NotPlan": "its first line has a version but breaks a rule of plans: make it anew with `actrun plan`",
+    "line NotEntry": "the line is no entry: it was cut short or edited; the lines before it are whole",
+    "line NoSuch": "the entry names a run, job or leg that the plan does not have: plan and entries belong to different runs",
+    "line WrongState": "the entry cannot follow the lines before it: a line is missing, doubled or out of order",
+    "line OtherWorker": "the leg runs with another worker than the entry names",
+    "line NeedsOpen": "what the entry ends or judges still waits for a job that has not ended",
+    "line SlotsFull": "the job has as many legs under way as its `max-parallel` lets",
+    "line Stopping": "the run or leg was told to stop, so it cannot go on",
+    "line NotStopping": "the run or leg was not told to stop, so it cannot be dropped or closed",
+    "line StepsLeft": "the leg has steps left, so it cannot finish",
+    "line BadAnswer": "the answer's code, outputs or variables are out of bounds: a code of 0 to 255, at most 256 pairs, values to 65,536 bytes",
+    "plan NoWorkflow": "no workflow is started by that event",
+    "plan UnknownJob": "no workflow has that job: case counts, and ids are not names",
+    "plan TooMany": "more than 64 workflows, 256 jobs, 256 steps of a job or 4,096 legs: plan fewer files at once, or choose with --job",
+    "expr UnclosedText": "a single quote is not closed",
+    "expr BadNumber": "numbers are whole: write another one as a text, in single quotes",
+    "expr BadChar": "nothing begins so: texts stand in single quotes, and `==` compares",
+    "expr Unexpected": "another word or sign should stand there, or the expression ends too early",
+    "expr UnknownName": "this is no context, function or literal: texts stand in single quotes",
+    "expr UnknownFunction": "there is no such function; `hashFiles` is known to `actrun try` and `from-yaml --lower`",
+    "expr ArgumentCount": "the function takes another number of arguments",
+    "expr TooDeep": "the expression nests deeper than 50",
+    "expr TooLong": "the expression has more than 20,000 bytes",
+    "value NotWhole": "a number has a fraction or an exponent, or is out of range: compare it as a text",
+    "value NoIdentity": "lists and maps cannot be compared by `==`: compare their parts, or toJSON of them",
+    "value BadFormat": "a brace of `format` fits no argument: write {0}, {1} .., and {{ or }} for a brace itself",
+    "value BadJson": "the text of `fromJSON` is no JSON",
+    "value TooLarge": "a text has more than 1,048,576 bytes",
 }
-LINE = {
-    "NotEntry": "the line is no entry: it was cut short or edited; the lines before it are whole",
-    "NoSuch": "the entry names a run, job or leg that the plan does not have: plan and entries belong to different runs",
-    "WrongState": "the entry cannot follow the lines before it: a line is missing, doubled or out of order",
-    "OtherWorker": "the leg runs with another worker than the entry names",
-    "NeedsOpen": "what the entry ends or judges still waits for a job that has not ended",
-    "SlotsFull": "the job has as many legs under way as its `max-parallel` lets",
-    "Stopping": "the run or leg was told to stop, so it cannot go on",
-    "NotStopping": "the run or leg was not told to stop, so it cannot be dropped or closed",
-    "StepsLeft": "the leg has steps left, so it cannot finish",
-    "BadAnswer": "the answer's code, outputs or variables are out of bounds: a code of 0 to 255, at most 256 pairs, values to 65,536 bytes",
-}
-FLOW = {
-    "NotJson": "the file is no JSON: `actrun from-yaml FILE > FILE.json` makes JSON of YAML",
-    "NotWhole": "a number has a fraction or an exponent, or is out of range: write it as a text, in quotes",
-    "Missing": "`on`, `jobs`, `steps` or `group` is missing, or a step has neither `run` nor `uses`",
-    "WrongShape": "a value is of another kind than its key takes",
-    "BadId": "an id has more than letters, digits, `-` and `_`, or stands twice; or a variable's name is empty or has `=`",
-    "LeftOut": "a key or an expression stands where none is taken: `actrun try` and `from-yaml --lower` rewrite most of them",
-    "UnknownShell": "a shell is neither `sh` nor `bash`: `actrun try` and `from-yaml --lower` rewrite others",
-}
-PLAN = {
-    "NoWorkflow": "no workflow is started by that event",
-    "UnknownJob": "no workflow has that job: case counts, and ids are not names",
-    "TooMany": "more than 64 workflows, 256 jobs, 256 steps of a job or 4,096 legs: plan fewer files at once, or choose with --job",
-    "UnknownNeed": "`needs` names what is no job of its workflow: it takes ids, and case counts",
-    "Cycle": "jobs need each other: take one of the needs out",
-    "Matrix EmptyVariable": "a variable of a matrix has an empty list: give it a value, or take the matrix out",
-    "Matrix NoCombination": "`exclude` leaves no combination of the matrix: leave one, or add one with `include`",
-    "Matrix TooMany": "a matrix has more than 256 combinations, or more than 65,536 before `exclude`: split the job",
-}
-EXPRESSION = {
-    "UnclosedText": "a single quote is not closed",
-    "BadNumber": "numbers are whole: write another one as a text, in single quotes",
-    "BadChar": "nothing begins so: texts stand in single quotes, and `==` compares",
-    "Unexpected": "another word or sign should stand there, or the expression ends too early",
-    "UnknownName": "this is no context, function or literal: texts stand in single quotes",
-    "UnknownFunction": "there is no such function; `hashFiles` is known to `actrun try` and `from-yaml --lower`",
-    "ArgumentCount": "the function takes another number of arguments",
-    "TooDeep": "the expression nests deeper than 50",
-    "TooLong": "the expression has more than 20,000 bytes",
-    "UnclosedTemplate": "the `${{` there has no `}}`: close it",
-    "StatusHere": "success, failure, cancelled and always have a meaning in `if` alone",
-}
-VALUE = {
-    "NotWhole": "a number has a fraction or an exponent, or is out of range: compare it as a text",
-    "NoIdentity": "lists and maps cannot be compared by `==`: compare their parts, or toJSON of them",
-    "BadFormat": "a brace of `format` fits no argument: write {0}, {1} .., and {{ or }} for a brace itself",
-    "BadJson": "the text of `fromJSON` is no JSON",
-    "TooLarge": "a text has more than 1,048,576 bytes",
-}
-
-
-@dataclass
-class Origin:
-    """Where JSON workflows come from: for each file the YAML file, and the line there of each place in the JSON."""
-
-    files: dict = field(default_factory=dict)  # JSON file -> (YAML file, {Path: line})
-
-    def place(self, file: str, place: str) -> str:
-        """The place of `lint` as FILE:LINE of the YAML where it is known, else as FILE: PLACE."""
-        wanted = os.path.abspath(file)
-        yaml = next((found for name, found in self.files.items() if os.path.abspath(name) == wanted), None)
-        if yaml is None:
-            return f"{file}: {place}"
-        lines = {".".join(map(str, path)): line for path, line in yaml[1].items()}
-        part = place
-        while part not in lines and "." in part:
-            part = part.rpartition(".")[0]
-        return f"{yaml[0]}:{lines[part]}: {place}" if part in lines else f"{yaml[0]}: {place}"
-
-
-@dataclass
-class Words:
-    """The arguments of a command, taken apart."""
-
-    options: dict[str, str]
-    operands: list[str]
-    wrong: str | None = None  # the first thing that is wrong with them
 
 
 def near(word: str, known: Iterable[str]) -> str:
@@ -117,47 +60,36 @@ def near(word: str, known: Iterable[str]) -> str:
     return f"; did you mean {match[0]}?" if match else ""
 
 
-def take_apart(command: str, arguments: list[str]) -> Words:
-    """The options and operands of a command, and the first thing that is wrong with them."""
-    known, words, rest = OPTIONS.get(command, {}), Words({}, []), list(arguments)
+def usages() -> dict[str, str]:
+    """The usage of each command, as docs/commands.txt has it."""
+    top = pathlib.Path(os.environ.get("ACTRUN_TOP") or pathlib.Path(__file__).resolve().parents[2])
+    file = top / "docs" / "commands.txt"
+    texts = file.read_text(encoding="utf-8").strip().split("\n\n") if file.is_file() else []
+    return {text.split()[2]: text for text in texts}
+
+
+def take_apart(command: str, arguments: list[str]) -> tuple[dict[str, str], list[str], list[str]]:
+    """The options and operands of a command by its usage, and what is wrong with them."""
+    known = dict(re.findall(r"(--\w+)( [A-Z]+)?", usages().get(command, "").partition("\n")[0]))
+    options: dict[str, str] = {}
+    operands, wrong, rest = [], [], list(arguments)
     while rest:
         word = rest.pop(0)
         if word == "--":
-            words.operands += rest
-            break
-        if not word.startswith("-") or command == "eval" and not rest:
-            words.operands.append(word)
+            operands, rest = operands + rest, []
+        elif not word.startswith("-") or command == "eval" and not rest:
+            operands.append(word)
         elif word not in known:
-            words.wrong = words.wrong or f"{command} has no option {word}{near(word, known)}"
-        elif known[word] and not rest:
-            words.wrong = words.wrong or f"a value is missing after {word}"
+            wrong.append(f"{command} has no option {word}{near(word, known)}")
+        elif word in options or known[word] and not rest:
+            wrong.append(f"{word} stands twice" if word in options else f"a value is missing after {word}")
         else:
-            if word in words.options:
-                words.wrong = words.wrong or f"{word} stands twice"
-            words.options[word] = rest.pop(0) if known[word] else ""
-    if command != "table" and not words.operands:
-        words.wrong = words.wrong or f"{command} needs {'an expression' if command == 'eval' else 'a file'}"
-    return words
-
-
-def usage(command: str) -> str | None:
-    """The usage of a command, as docs/commands.txt has it."""
-    top = pathlib.Path(os.environ.get("ACTRUN_TOP") or pathlib.Path(__file__).resolve().parents[2])
-    try:
-        text = (top / "docs" / "commands.txt").read_text(encoding="utf-8")
-    except OSError:
-        return None
-    return next((part.strip("\n") for part in text.split("\n\n") if part.split()[:3] == ["usage:", "actrun", command]), None)
-
-
-def explain_words(command: str, words: Words) -> str:
-    """What is wrong with the arguments, and the usage of the command."""
-    if command not in COMMANDS:
-        return f"there is no command {command}{near(command, COMMANDS)}\nactrun --help shows all commands"
-    if "--event" in words.options and "--job" in words.options:
-        words.wrong = words.wrong or "--event and --job are not taken together"
-    lines = [words.wrong, usage(command) or f"actrun {command} --help shows its arguments"]
-    return "\n".join(line for line in lines if line)
+            options[word] = rest.pop(0) if known[word] else ""
+    if command != "table" and not operands:
+        wrong.append(f"{command} needs {'an expression' if command == 'eval' else 'a file'}")
+    if "--event" in options and "--job" in options:
+        wrong.append("--event and --job are not taken together")
+    return options, operands, wrong
 
 
 def unreadable(file: str) -> str | None:
@@ -165,143 +97,106 @@ def unreadable(file: str) -> str | None:
     place = pathlib.Path(file)
     if place.is_dir():
         return f"{file} is a folder: name a file in it"
-    if os.path.exists(file):
+    if place.exists():
         return None if os.access(file, os.R_OK) else f"{file} may not be read: chmod +r it"
     if not place.parent.is_dir():
         return f"the folder {place.parent} of {place.name} is not there"
-    names = [name if str(place.parent) == "." else str(place.parent / name) for name in os.listdir(place.parent)]
-    return f"{file} is not there{near(file, names)}"
+    return f"{file} is not there{near(file, map(str, place.parent.iterdir()))}"
 
 
-def files_read(command: str, words: Words) -> list[str]:
-    """The files that a command reads, in the order in which it does."""
-    named = [words.options[name] for name in READ_OPTIONS if name in words.options]
-    if command in ("eval", "table"):
-        return named
-    return named + (words.operands if command in ("plan", "list", "lint") else words.operands[:1])
-
-
-def explain_io(command: str, words: Words) -> str:
-    """Which file or folder cannot be opened; else that a stream failed."""
-    for file in files_read(command, words):
-        reason = unreadable(file)
-        if reason:
-            return reason
-    work, record = words.options.get("--work", "."), words.options.get("--record")
-    if command == "run" and not os.path.isdir(work):
-        return f"the folder {work} of --work is not there: mkdir -p it"
-    if record:
-        folder = os.path.dirname(record) or "."
-        if not os.path.isdir(folder) or os.path.isdir(record) or not os.access(folder, os.W_OK):
-            return f"the record {record} cannot be written: its folder is not there or not writable, or it is a folder itself"
+def explain_io(files: list[str], work: str, record: str) -> str:
+    """Which file or folder cannot be opened, in the order in which a command opens them; else that a stream failed."""
+    reason = next(filter(None, map(unreadable, files)), None)
+    if reason or not os.path.isdir(work):
+        return reason or f"the folder {work} of --work is not there: mkdir -p it"
+    space = os.statvfs(work)
+    if space.f_bavail * space.f_frsize < LEAST_SPACE:
+        return f"{work}: No space left on device: make room there, or name another place"
+    if record and (os.path.isdir(record) or not os.access(os.path.dirname(record) or ".", os.W_OK)):
+        return f"the record {record} cannot be written: its folder is not there or not writable, or it is a folder itself"
     return "all files that are named can be opened, so a read or a write failed: is the disk full, or standard output closed?"
 
 
-def lint(file: str, fault: str, origin: Origin) -> list[str]:
-    """What `actrun lint` says of the fault in a file, each line with its place."""
-    program = os.environ.get("ACTRUN_PROGRAM")
-    if not program or not os.path.isfile(file):
-        return []
-    done = subprocess.run([program, "lint", "--", file], capture_output=True, text=True, errors="replace", check=False)
+def origin_of(file: str) -> tuple[str, dict]:
+    """The YAML file beside a JSON file that `from-yaml` made of it, and the line of each place; else the file itself."""
+    for yaml in (pathlib.Path(file).with_suffix(end) for end in (".yml", ".yaml")):
+        if yaml.is_file() and file.endswith(".json"):
+            document = read_document(yaml.read_bytes())
+            if text_of(document.value).encode() == pathlib.Path(file).read_bytes().strip():
+                return str(yaml), document.lines
+    return file, {}
+
+
+def lint(files: list[str], error: str, origins: Origins) -> str:
+    """What `actrun lint` says of an error in files, each line with its place in YAML where that is known."""
     found = []
-    for line in done.stdout.splitlines():
-        place, refused, sentence = line[len(file) + 2:].partition(f": refused, {fault}: ")
-        if refused:
-            found.append(f"{origin.place(file, place)}: {sentence}")
-    return found
+    for file in filter(os.path.isfile, files):
+        done = subprocess.run([os.environ.get("ACTRUN_PROGRAM") or "false", "lint", "--", file], capture_output=True, text=True,
+                              errors="replace", check=False)
+        name, lines = origins.get(file) or origin_of(file)
+        numbers = {".".join(map(str, path)): f":{line}" for path, line in lines.items()}
+        for line in done.stdout.splitlines():
+            place, refused, sentence = line[len(file) + 2:].partition(f": refused, {error}: ")
+            outer = [place[:end] for end in range(len(place), 0, -1) if place[end:end + 1] in ("", ".")]
+            if refused:
+                found.append(f"{name}{next((numbers[part] for part in outer if part in numbers), '')}: {place}: {sentence}")
+    return "\n".join(found)
 
 
-def workflow_keys(file: str, *names: str) -> list[str]:
-    """The keys of an object in a workflow's file, or the texts of a list there; none where it cannot be read."""
-    try:
-        value = json.loads(pathlib.Path(file).read_text(encoding="utf-8")) if os.path.isfile(file) else None
-    except (OSError, ValueError, RecursionError):
-        return []
-    found = next((value[name] for name in names if isinstance(value, dict) and name in value), [])
-    return [found] if isinstance(found, str) else [str(key) for key in found] if isinstance(found, (dict, list)) else []
+def explain_choice(error: str, asked: str, files: list[str]) -> str:
+    """That no workflow in JSON has the event or the job that is asked for, and which there are."""
+    there: list[str] = []
+    for file in filter(os.path.isfile, files):
+        try:
+            found = json.loads(pathlib.Path(file).read_text(encoding="utf-8"))["on" if error == "NoWorkflow" else "jobs"]
+            there += [found] if isinstance(found, str) else found
+        except (OSError, ValueError, RecursionError, LookupError, TypeError):
+            continue
+    names = ", ".join(dict.fromkeys(map(str, there)))
+    return SENTENCES[f"plan {error}"] + (f": {asked}{near(asked, map(str, there))}\nthere are: {names}" if there else "")
 
 
-def explain_flow(rest: str, words: Words, origin: Origin) -> str | None:
-    """What lint knows of a file that is no workflow; of contexts and stubs the sentence alone."""
-    file, _, name = rest.rpartition(" ")
-    if file in (words.options.get("--contexts"), words.options.get("--stubs")):
-        return f"{file}: {FLOW[name] if name == 'NotWhole' else 'this is no JSON object of the kind that the option takes'}"
-    if name == "NotJson" and file.endswith((".yml", ".yaml")):
-        return f"{file} is YAML: actrun from-yaml {file} > FILE.json makes JSON of it, and actrun try needs none"
-    return "\n".join(lint(file, name, origin)) or (f"{file}: {FLOW[name]}" if name in FLOW else None)
-
-
-def explain_plan(name: str, words: Words, origin: Origin) -> str | None:
-    """What lint knows of the workflows that come to no plan, else the sentence, with what there is to choose from."""
-    found = [line for file in words.operands for line in lint(file, name, origin)]
-    if found:
-        return "\n".join(found)
-    fault = name.split(" at ")[0]
-    sentence = EXPRESSION.get(fault[5:]) if fault.startswith("Expr ") else PLAN.get(fault)
-    if fault in ("NoWorkflow", "UnknownJob"):
-        keys = ("on", "true") if fault == "NoWorkflow" else ("jobs",)
-        there = list(dict.fromkeys(key for file in words.operands for key in workflow_keys(file, *keys)))
-        asked = words.options.get("--event" if fault == "NoWorkflow" else "--job", "")
-        sentence = f"{sentence}: {asked}{near(asked, there)}\nthere are: {', '.join(there)}" if there else sentence
-    return sentence
-
-
-def explain_expression(rest: str, words: Words) -> str | None:
-    """The sentence of a fault, with the expression and a mark at its place where it is one line."""
-    fault, _, place = rest.partition(" at ")
-    text = words.operands[0] if words.operands else ""
-    if fault not in EXPRESSION or not text.isprintable():
-        return EXPRESSION.get(fault)
-    column = len(text.encode()[:int(place or 0)].decode(errors="ignore"))
-    return f"{EXPRESSION[fault]}\n  {text}\n  {' ' * column}^"
-
-
-def explain_record(kind: str, rest: str, words: Words) -> str | None:
-    """The sentence of a plan or record that is refused."""
-    file = words.operands[0] if words.operands else "standard input"
-    if kind == "load":
-        return f"{file}: {LOAD[rest]}" if rest in LOAD else None
-    number, _, name = rest.partition(" ")
-    return f"{file}:{number}: {LINE[name]}" if name in LINE else None
-
-
-def explain(line: str, command: str, arguments: list[str], origin: Origin | None = None) -> str | None:
+def explain(line: str, command: str, arguments: list[str], origins: Origins | None = None) -> str | None:
     """What a person gets after the program's error line, or None where the line says it all."""
     match = re.fullmatch(r"actrun: (\w+)(?: (.*))?", line.rstrip("\n"), re.DOTALL)
     if match is None:
         return None
-    kind, rest, words, known = match[1], match[2] or "", take_apart(command, arguments), origin or Origin()
+    kind, rest = match[1], match[2] or ""
+    options, operands, wrong = take_apart(command, arguments)
+    operand, named = "".join(operands[:1]), [options[name] for name in ("--contexts", "--stubs") if name in options]
     if kind == "words":
-        return explain_words(command, words)
+        known = [*(name for name in usages() if name[0] != "-"), "try", "from-yaml", "dap"]
+        more = [*wrong[:1], usages().get(command) or f"actrun {command} --help shows its arguments"]
+        return "\n".join(more if command in known else [f"there is no command {command}{near(command, known)}", "actrun --help shows all commands"])
     if kind == "io":
-        return explain_io(command, words)
-    if kind == "memory":
-        return "the memory of this machine or of its limits (ulimit -v) is used up; nothing was changed"
-    if kind == "pool":
-        return f"--workers takes 1 to 16, not {words.options.get('--workers', '')}"
-    if kind == "why":
-        return f"the record has no {' '.join(words.operands[1:])}: actrun table < {words.operands[0]} shows what it has"
-    if kind == "flow":
-        return explain_flow(rest, words, known)
-    if kind == "plan":
-        return explain_plan(rest, words, known)
-    if kind == "value":
-        return VALUE.get(rest)
-    return explain_expression(rest, words) if kind == "expr" else explain_record(kind, rest, words)
+        read = operands[:{"eval": 0, "table": 0, "plan": None, "list": None, "lint": None}.get(command, 1)]
+        return explain_io([*named, *read], options.get("--work", "."), options.get("--record", ""))
+    if kind in ("pool", "why"):
+        return f"--workers takes 1 to 16, not {options.get('--workers', '')}" if kind == "pool" else \
+            f"the record has no {' '.join(operands[1:])}: actrun table < {operand} shows what it has"
+    if rest in ("NoWorkflow", "UnknownJob"):
+        return explain_choice(rest, options.get("--event", "") or options.get("--job", ""), operands)
+    file, _, error = rest.rpartition(" ") if kind == "flow" else ("", "", rest)
+    if file in named:
+        return f"{file}: this is no JSON object of the kind that the option takes: texts, whole numbers, lists and objects"
+    if error == "NotJson" and file.endswith((".yml", ".yaml")):
+        return f"{file} is YAML: actrun from-yaml {file} > FILE.json makes JSON of it, and actrun try needs none"
+    if kind == "flow" or kind == "plan" and rest != "TooMany":
+        return lint([file] if file else operands, error, origins or {}) or f"actrun lint {file or 'FILE'} names the place, and what to write there"
+    number, name, at = re.fullmatch(r"(\d*) ?(\w*)(?: at (\d+))?.*", rest).groups()  # type: ignore[union-attr]
+    sentence = SENTENCES.get(f"{kind} {name}".strip())
+    if sentence and kind in ("load", "line"):
+        return f"{operand or 'standard input'}{':' * bool(number)}{number}: {sentence}"
+    marked = at and operand.isprintable() and f"\n  {operand}\n  {' ' * len(operand.encode()[:int(at)].decode(errors='ignore'))}^"
+    return f"{sentence}{marked or ''}" if sentence else None
 
 
 def main(arguments: list[str]) -> int:
     """`explain STATUS STDERR_FILE COMMAND ARG..`: explains the last error line in a file, on standard error."""
-    if len(arguments) < 3:
-        print("usage: python3 front explain STATUS STDERR_FILE COMMAND ARG..", file=sys.stderr)
-        return 2
-    try:
-        text = pathlib.Path(arguments[1]).read_text(encoding="utf-8", errors="surrogateescape")
-    except OSError:
-        return 0
+    text = pathlib.Path(arguments[1]).read_text(encoding="utf-8", errors="surrogateescape")
     start = max(text.rfind("\nactrun: ") + 1, 0)
     words = explain(text[start:], arguments[2], arguments[3:]) if text.startswith("actrun: ", start) else None
     if words:
-        sys.stderr.reconfigure(errors="backslashreplace")
+        sys.stderr.reconfigure(errors="backslashreplace")  # type: ignore[union-attr]
         print("  " + words.replace("\n", "\n  "), file=sys.stderr)
     return 0

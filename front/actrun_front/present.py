@@ -6,12 +6,11 @@ import re
 import shutil
 import sys
 import threading
-from collections import deque
 from dataclasses import dataclass, field
 from pathlib import Path
-from typing import Any, Iterable, TextIO
+from typing import Any, Callable, Iterable, TextIO
 
-from .execute import Progress
+from .execute import read_progress
 
 CONTROL = re.compile(r"[\x00-\x1f\x7f]")
 COLOURS = {"success": "32", "failure": "31", "cancelled": "33", "skipped": "90", "stalled": "31", "note": "90", "head": "1",
@@ -71,180 +70,168 @@ def mask(text: str, secrets: Iterable[str]) -> str:
 class Screen:
     """Where lines go: results to standard output, all else to standard error. Colours and the line of running steps need a terminal."""
 
-    def __init__(self, out: TextIO | None = None, err: TextIO | None = None) -> None:
-        self.out, self.err = out or sys.stdout, err or sys.stderr
-        plain = bool(os.environ.get("NO_COLOR")) or os.environ.get("TERM") == "dumb"
-        self.live = self.err.isatty() and os.environ.get("TERM") != "dumb"
-        self.colours = {id(stream): stream.isatty() and not plain for stream in (self.out, self.err)}
+    def __init__(self) -> None:
+        self.live = sys.stderr.isatty() and os.environ.get("TERM") != "dumb"
+        self.plain = bool(os.environ.get("NO_COLOR")) or os.environ.get("TERM") == "dumb"
         self.shown = False
         self.lock = threading.RLock()
-        for stream in (self.out, self.err):
-            if hasattr(stream, "reconfigure"):
-                stream.reconfigure(errors="replace")
+        for stream in (sys.stdout, sys.stderr):
+            stream.reconfigure(errors="replace")  # type: ignore[union-attr]
 
     def paint(self, text: str, kind: str, stream: TextIO) -> str:
         """The text in the colour of its kind, where the stream has colours."""
-        return f"\x1b[{COLOURS[kind]}m{text}\x1b[0m" if self.colours[id(stream)] and kind in COLOURS else text
+        return f"\x1b[{COLOURS[kind]}m{text}\x1b[0m" if kind in COLOURS and stream.isatty() and not self.plain else text
 
-    def sign(self, kind: str, stream: TextIO) -> str:
-        """The sign of a result."""
-        fancy, plain = SIGNS[kind]
-        return self.paint(fancy if "utf" in (stream.encoding or "").lower() else plain, kind, stream)
+    def result(self, kind: str, text: str, stream: TextIO) -> None:
+        """A line behind the sign of a result."""
+        sign = SIGNS[kind]["utf" not in (stream.encoding or "").lower()]
+        self.say(f"{self.paint(sign, kind, stream)} {text}", stream=stream)
 
-    def say(self, text: str, kind: str = "") -> None:
-        """A line of standard output."""
+    def say(self, text: str, kind: str = "", stream: TextIO | None = None) -> None:
+        """A line of standard output, or of another stream."""
+        stream = stream or sys.stdout
         with self.lock:
-            self.wipe()
-            print(self.paint(text, kind, self.out), file=self.out, flush=True)
+            self.status("")
+            print(self.paint(text, kind, stream), file=stream, flush=True)
 
     def tell(self, text: str, kind: str = "") -> None:
         """A line of standard error."""
-        with self.lock:
-            self.wipe()
-            print(self.paint(text, kind, self.err), file=self.err, flush=True)
+        self.say(text, kind, sys.stderr)
+
+    def section(self, title: str) -> None:
+        """A title on standard output."""
+        self.say("")
+        self.say(f"--- {title}", "head")
 
     def status(self, text: str) -> None:
         """The line of what is running, which the next line replaces."""
         with self.lock:
-            if self.live:
-                width = shutil.get_terminal_size().columns - 1
-                self.err.write("\r\x1b[K" + self.paint(text[:width], "note", self.err))
-                self.err.flush()
+            if self.live and (text or self.shown):
+                text = self.paint(text[:shutil.get_terminal_size().columns - 1], "note", sys.stderr) if text else ""
+                print(f"\r\x1b[K{text}", end="", file=sys.stderr, flush=True)
                 self.shown = bool(text)
-
-    def wipe(self) -> None:
-        """Takes the line of what is running away."""
-        if self.shown:
-            self.err.write("\r\x1b[K")
-            self.err.flush()
-            self.shown = False
 
 
 @dataclass
 class Board:
-    """What the lines of `--progress` say of the steps."""
+    """What the lines of `run --progress` say of the steps, and how they are shown."""
 
     screen: Screen
     legs: list[Leg]
-    stopped: bool = False                                                # by Ctrl-C
-    running: dict[int, int] = field(default_factory=dict)                # leg -> step
-    ended: dict[tuple[int, int], Progress] = field(default_factory=dict)
+    mark: str                                                     # of the lines that begin a step's output
+    stopped: bool = False                                         # by Ctrl-C
+    running: dict[int, int] = field(default_factory=dict)         # leg -> step
+    ended: int = 0                                                # steps
+    errors: list[str] = field(default_factory=list)               # lines of the program
+    results: list[tuple[int, str]] = field(default_factory=list)  # runs and their results, when all lines came
+    head: str = ""                                                # of the next line of output
 
     def title(self, leg: int, step: int) -> str:
         """Leg and step in words."""
         part = self.legs[leg]
         return f"{part.name}: {part.filled(step_name(part.job['steps'][step]))}"
 
-    def take(self, progress: Progress) -> None:
-        """Shows one line."""
-        if progress.state == "started":
-            self.running[progress.leg] = progress.step
-        else:
-            self.running.pop(progress.leg, None)
-            self.ended[progress.leg, progress.step] = progress
-            reason = "stopped by Ctrl-C" if self.stopped and progress.state == "failure" else progress.detail
-            detail = "".join(f", {text}" for text in (reason, f"{progress.seconds} s" if progress.seconds else "") if text)
-            sign = self.screen.sign(progress.state, self.screen.err)
-            self.screen.tell(f"{sign} {self.title(progress.leg, progress.step)}{detail}")
-        self.screen.status("; ".join(f"{self.title(leg, step)} .." for leg, step in sorted(self.running.items())))
+    def stop(self) -> None:
+        """Says that Ctrl-C was seen."""
+        self.stopped = True
+        self.screen.tell("Ctrl-C: the steps are being ended; again ends the program at once")
 
-
-@dataclass
-class Groups:
-    """The standard output of `run`: the output of each step below its title, and at the end a result for each run."""
-
-    board: Board
-    mark: str
-    runs: int
-    results: dict[int, str] = field(default_factory=dict)
-    held: deque[str] = field(default_factory=deque)
-    title: str = ""
-
-    def take(self, line: str) -> None:
-        """Takes one line; the last ones are held back, since they may be results."""
-        self.held.append(line)
-        if len(self.held) > self.runs:
-            self.show(self.held.popleft())
-
-    def finish(self) -> None:
-        """Shows what was held back, and keeps the results."""
-        for line in self.held:
-            found = RUN_LINE.fullmatch(line)
-            if found:
-                self.results[int(found[1])] = found[2]
+    def progress(self, line: str) -> None:
+        """Shows a line of standard error: a step started or ended, or an error. Where it cannot be shown, the program need not wait."""
+        found = read_progress(line)
+        try:
+            if not found:
+                self.errors += [line] if line.startswith("actrun: ") else []
+                self.screen.tell(re.sub("^::(notice|warning|error)::", r"\1: ", line))
+                return
+            self.running.pop(found.leg, None)
+            if found.state == "started":
+                self.running[found.leg] = found.step
             else:
-                self.show(line)
-        self.held.clear()
+                self.ended += 1
+                reason = "stopped by Ctrl-C" if self.stopped and found.state == "failure" else found.detail
+                words = [self.title(found.leg, found.step), reason, f"{found.seconds} s" if found.seconds else ""]
+                self.screen.result(found.state, ", ".join(filter(None, words)), sys.stderr)
+            self.screen.status("; ".join(f"{self.title(leg, step)} .." for leg, step in sorted(self.running.items())))
+        except OSError:
+            pass
+
+    def without_record(self) -> list[str]:
+        """What is known where the program was ended before it wrote a record."""
+        executed = [f"{self.title(leg, step)}: was being executed" for leg, step in sorted(self.running.items())]
+        return [*executed, f"steps that ended: {self.ended}"]
+
+    def output(self, line: str) -> None:
+        """Shows a line of standard output below the title of its step; the last lines are the results of the runs."""
+        result = RUN_LINE.fullmatch(line)
+        if result:
+            self.results.append((int(result[1]), result[2]))
+            return
+        for run, text in self.results:  # (a step wrote these)
+            self.show(f"run {run} {text}")
+        self.results.clear()
+        self.show(line)
 
     def show(self, line: str) -> None:
-        """Shows a line of a step, below the title of that step."""
+        """Shows a line of a step, or keeps the title of the step whose lines follow."""
         place = re.fullmatch(re.escape(self.mark) + r":(\d+)-(\d+)", line) if self.mark else None
-        screen = self.board.screen
         if place:
-            self.title = self.board.title(int(place[1]), int(place[2]))
+            self.head = self.title(int(place[1]), int(place[2]))
             return
-        if self.title:
-            screen.say("")
-            screen.say(f"--- {self.title}", "head")
-            self.title = ""
-        kind = {"error:": "failure", "warning:": "warning"}.get(line.split(" ", 1)[0], "")
-        screen.say(line, kind)
+        if self.head:
+            self.screen.section(self.head)
+            self.head = ""
+        self.screen.say(line, {"error:": "failure", "warning:": "warning"}.get(line.split(" ", 1)[0], ""))
 
 
 def tree(plan: dict[str, Any], files: list[str], stands: dict[str, str]) -> Iterable[str]:
     """Runs, jobs, legs and steps of a plan; `stands` has the stub of each action."""
+    def condition(part: dict[str, Any]) -> str:
+        return f", if {one_line(part['condition'])}" if part["condition"] else ""
     legs = legs_of(plan)
-    for number, run in enumerate(plan["runs"]):
-        yield f"{one_line(run['flow'])} ({files[number]})"
+    ids = {job["number"]: job["id"] for run in plan["runs"] for job in run["jobs"]}
+    for run, file in zip(plan["runs"], files):
+        yield f"{one_line(run['flow'])} ({file})"
         for job in run["jobs"]:
-            ids = {other["number"]: other["id"] for other in run["jobs"]}
             needs = f", needs {', '.join(ids[need] for need in job['needs'])}" if job["needs"] else ""
-            condition = f", if {one_line(job['condition'])}" if job["condition"] else ""
-            yield f"  job {job['id']}{needs}{condition}"
-            own = [leg for leg in legs if leg.job is job]
-            if len(own) > 1 or own[0].values:
-                yield from (f"    leg {leg.number}: {leg.name}" for leg in own)
+            yield f"  job {job['id']}{needs}{condition(job)}"
+            if job["legs"] != [{}]:
+                yield from (f"    leg {leg.number}: {leg.name}" for leg in legs if leg.job is job)
             for place, step in enumerate(job["steps"]):
-                work = step["work"]
-                uses = f" [{work['uses'] + ': ' if step['name'] else ''}{stands[work['uses']]}]" if work["kind"] == "uses" else ""
-                when = f", if {one_line(step['condition'])}" if step["condition"] else ""
-                yield f"    {place} {step_name(step)}{uses}{when}"
+                uses = step["work"].get("uses", "")
+                stub = f" [{uses + ': ' if step['name'] else ''}{stands[uses]}]" if uses else ""
+                yield f"    {place} {step_name(step)}{stub}{condition(step)}"
 
 
 def table(rows: list[tuple[str, ...]]) -> Iterable[str]:
     """Rows in columns, the first of them the heads."""
-    widths = [max(len(row[column]) for row in rows) for column in range(len(rows[0]))]
-    for row in rows:
-        yield "  ".join(text.ljust(width) for text, width in zip(row, widths)).rstrip()
+    widths = [max(map(len, column)) for column in zip(*rows)]
+    return ("  ".join(text.ljust(width) for text, width in zip(row, widths)).rstrip() for row in rows)
 
 
-def placed(lines: Iterable[str], jobs: dict[int, dict[str, Any]], legs: list[Leg], place: Any) -> Iterable[str]:
+def placed(lines: Iterable[str], legs: list[Leg], place: Callable[[int, str, int | None], str]) -> Iterable[str]:
     """The lines of `why`, each job and step with its place in YAML; `place(run, job, step)` has that."""
-    runs = {leg.job["number"]: leg.run for leg in legs}
-    above: list[tuple[int, int]] = []
+    jobs = {leg.job["number"]: leg for leg in legs}
+    above: dict[int, Leg] = {}  # the legs of the lines above, by their depth
     for line in lines:
-        found = WHY_LINE.match(line)
-        where = ""
+        found, where = WHY_LINE.match(line), ""
         if found:
             depth, kind, number = len(found[1]), found[2], int(found[3])
-            above = [entry for entry in above if entry[0] < depth]
+            above = {other: leg for other, leg in above.items() if other < depth}
             if kind == "leg":
-                above.append((depth, number))
+                above[depth] = legs[number]
             elif kind == "job":
-                where = place(runs[number], jobs[number]["id"], None)
+                where = place(jobs[number].run, jobs[number].job["id"], None)
             elif above:
-                leg = legs[above[-1][1]]
+                leg = above[max(above)]
                 where = place(leg.run, leg.job["id"], number)
         yield f"{line}  [{where}]" if where else line
 
 
 def summaries(folder: Path, secrets: Iterable[str], board: Board) -> Iterable[tuple[str, str]]:
     """Title and text of each summary that a step wrote, in the order of legs and steps."""
-    found = []
-    for path in folder.glob("summary*"):
-        place = re.fullmatch(r"summary-(\d+)-(\d+)", path.name)
-        if path.is_file() and not path.is_symlink() and path.stat().st_size:
-            found.append(((int(place[1]), int(place[2])) if place else (-1, -1), path))
-    for (leg, step), path in sorted(found):
+    found = {tuple(map(int, re.findall(r"\d+", path.name))): path for path in folder.glob("summary*")
+             if path.is_file() and not path.is_symlink() and path.stat().st_size}
+    for place, path in sorted(found.items()):
         text = mask(path.read_text(encoding="utf-8", errors="replace").rstrip("\n"), secrets)
-        yield ("summary" if leg < 0 else f"summary of {board.title(leg, step)}"), text
+        yield (f"summary of {board.title(*place)}" if place else "summary"), text

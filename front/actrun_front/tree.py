@@ -1,23 +1,119 @@
-"""Work folders of executions, and the copy of the working tree in them."""
+"""The repository: what git knows of it, the work folders of executions, and the copy of the working tree in them."""
 from __future__ import annotations
 
+import errno
 import fcntl
+import functools
+import hashlib
 import os
 import re
 import secrets
 import shutil
-import stat
 import subprocess
 import time
-from dataclasses import dataclass
+from dataclasses import dataclass, field
 from pathlib import Path
-from typing import IO, Callable, Iterable, Iterator
+from typing import IO, Iterator
 
 from . import Problem
-from .facts import Facts, ask, git
 
+GITHUB = "github.com"
+OF_HOOKS = ("GIT_DIR", "GIT_WORK_TREE", "GIT_INDEX_FILE", "GIT_COMMON_DIR", "GIT_PREFIX", "GIT_OBJECT_DIRECTORY")
+URLS = [re.compile(start + r"/*(?:[^/]+/)*(?P<owner>[^/]+)/(?P<name>[^/]+?)(?:\.git)?/*") for start in (
+    r"(?P<scheme>https?|ssh|git|git\+ssh)://(?:[^/]*@)?(?P<host>\[[^]]+\]|[^/:@\[\]]+)(?P<port>:\d+)?/",
+    r"(?P<scheme>)(?:[^@/\[\]]+@)?(?P<host>\[[^]]+\]|[^@/:\[\]]{2,})(?P<port>):(?!//)")]
 KEPT = 5
-GITLINK = b"160000"
+# folders of the steps, and in `private` contexts, workflows, plan, record and diagrams, which may hold secrets
+FOLDERS = ("private", "play", *(f"play/{name}" for name in ("tree", "files", "temp", "tools", "tmp", "bin", "stubs", "artifacts")))
+
+
+def git(folder: Path, *words: str) -> str | None:
+    """What git prints, without the last newline; None where it fails or is not installed. It writes nothing and runs no hook."""
+    answer = ask(folder, *words)
+    return answer.stdout.decode("utf-8", "replace").removesuffix("\n") if answer.returncode == 0 else None
+
+
+def ask(folder: Path, *words: str) -> subprocess.CompletedProcess[bytes]:
+    """The whole answer of git; status 127 where it is not installed."""
+    # within a hook of git, variables name the repository of the hook
+    environment = {name: value for name, value in os.environ.items() if name not in OF_HOOKS}
+    environment.update(GIT_OPTIONAL_LOCKS="0", LC_ALL="C")
+    try:
+        return subprocess.run(["git", "-c", "core.fsmonitor=false", "-C", os.fspath(folder), *words], env=environment,
+                              stdin=subprocess.DEVNULL, capture_output=True, check=False)
+    except FileNotFoundError:
+        return subprocess.CompletedProcess(words, 127, b"", b"git is not installed")
+
+
+@dataclass(frozen=True)
+class Facts:
+    """The state of a working tree and where it is hosted. What is not known is empty."""
+
+    top: Path
+    actor: str = ""
+    mail: str = ""
+    repository: bool = False
+    nested: bool = False     # `top` is a folder below that of the repository, with workflows of its own
+    sha: str = ""
+    branch: str = ""         # empty on a detached head
+    ref: str = ""            # the full name of the branch, or of the tag of a detached head
+    default_branch: str = "main"
+    heads: dict[str, str] = field(default_factory=dict)  # branch, that of `origin` before one's own -> its commit
+    server: str = f"https://{GITHUB}"
+    owner: str = ""
+    name: str = ""
+    full_name: str = ""      # `owner/name`
+    web: str = ""            # the page of the repository
+
+
+def find_top(folder: Path) -> Path | None:
+    """The top of the working tree around a folder; None where there is no repository."""
+    answer = ask(folder, "rev-parse", "--show-toplevel")
+    if b"dubious ownership" in answer.stderr:
+        raise Problem(f"{folder}: the repository belongs to somebody else, so git reads nothing of it: "
+                      f"git config --global --add safe.directory '{folder}'")
+    return Path(os.fsdecode(answer.stdout.removesuffix(b"\n"))) if answer.stdout.strip() else None
+
+
+def find_project(start: Path, top: Path) -> Path:
+    """The nearest folder from `start` up to the repository's top that has workflows; the top where none has."""
+    start, top = start.resolve(), top.resolve()
+    below = [folder for folder in (start, *start.parents) if top in folder.parents]
+    return next((folder for folder in below if (folder / ".github" / "workflows").is_dir()), top)
+
+
+def read_facts(top: Path, repository: bool, nested: bool = False) -> Facts:
+    """The facts of the working tree with that top."""
+    actor, mail = git(top, "config", "github.user") or os.environ.get("USER") or "user", git(top, "config", "user.email") or ""
+    if not repository:
+        return Facts(top, actor, mail)
+    branch = git(top, "symbolic-ref", "--quiet", "--short", "HEAD") or ""
+    tag = "" if branch else git(top, "describe", "--tags", "--exact-match", "HEAD") or ""
+    found = git(top, "for-each-ref", "--format=%(objectname) %(refname) %(symref)", "refs/heads", "refs/remotes/origin") or ""
+    rows = [line.split(" ") for line in found.splitlines()]
+    heads = {re.sub("^refs/(heads|remotes/origin)/", "", name): commit for commit, name, _ in rows}
+    of_origin = next((target.removeprefix("refs/remotes/origin/") for _, name, target in rows if name == "refs/remotes/origin/HEAD"), "")
+    # the remote `origin`, else that of the branch, else the first one
+    remotes = (git(top, "remote") or "").splitlines()
+    wanted = ["origin", git(top, "config", f"branch.{branch}.remote") if branch else None, *remotes]
+    remote = next((name for name in wanted if name in remotes), None)
+    server, owner, name = parse_remote((git(top, "remote", "get-url", remote) if remote else None) or "")
+    return Facts(
+        top, actor, mail, True, nested, git(top, "rev-parse", "--verify", "--quiet", "HEAD") or "", branch,
+        f"refs/heads/{branch}" if branch else f"refs/tags/{tag}" if tag else "",
+        of_origin or next((name for name in ("main", "master") if name in heads), branch or "main"), heads, server, owner, name,
+        f"{owner}/{name}" if owner else "", f"{server}/{owner}/{name}" if owner else "")
+
+
+def parse_remote(url: str) -> tuple[str, str, str]:
+    """Server, owner and name of a remote's URL. A path of this machine has no owner."""
+    found = next(filter(None, (form.fullmatch(url) for form in URLS)), None)
+    if not found:
+        return f"https://{GITHUB}", "", ""
+    host = found["host"].lower()
+    # an alias of ~/.ssh/config has no dot
+    host = GITHUB if "." not in host or host in ("ssh.github.com", "www.github.com") else host
+    return f"https://{host}" + (found["port"] or "" if found["scheme"].startswith("http") else ""), found["owner"], found["name"]
 
 
 def cache_root() -> Path:
@@ -25,69 +121,41 @@ def cache_root() -> Path:
     return Path(os.environ.get("XDG_CACHE_HOME") or Path.home() / ".cache").absolute() / "actrun"
 
 
-def work_folder() -> Path:
-    """The folder of the work folders, in a cache that nobody else can read."""
-    try:
-        cache_root().mkdir(mode=0o700, parents=True, exist_ok=True)
-        (cache_root() / "work").mkdir(exist_ok=True)
-    except OSError as error:
-        raise no_room(cache_root(), error.strerror) from None
-    return cache_root() / "work"
+def kept_for(top: Path, kind: str) -> Path:
+    """The place of something that is kept for one repository."""
+    place = cache_root() / kind / f"{short_name(top.name)}-{hashlib.sha256(os.fsencode(top)).hexdigest()[:12]}"
+    place.parent.mkdir(parents=True, exist_ok=True)
+    return place
 
 
 @dataclass
 class Room:
-    """The folder of one execution. Steps see `play` alone; what may hold secrets is in `private`."""
+    """The folder of one execution. Steps see `play` alone."""
 
     folder: Path
     name: str            # of the repository
     lock: IO[str]
 
-    @property
-    def play(self) -> Path:
-        """The folder of `run --work`: step files, and below it the tree and the folders of the steps."""
-        return self.folder / "play"
-
-    @property
-    def tree(self) -> Path:
-        """The copy of the working tree, or a link to it, in a folder of its own as on GitHub."""
-        return self.play / "tree" / self.name
-
-    @property
-    def private(self) -> Path:
-        """Contexts, workflows, plan, record, diagrams."""
-        return self.folder / "private"
-
-    @property
-    def objects(self) -> Path:
-        """Links to the folders in which the repository keeps its objects."""
-        return self.folder / "objects"
-
-    def below(self, name: str) -> Path:
-        """A folder for the steps, made where it is missing."""
-        folder = self.play / name
-        folder.mkdir(exist_ok=True)
-        return folder
+    def __post_init__(self) -> None:
+        self.play = self.folder / "play"             # the folder of `run --work`: step files, and below it what else steps see
+        self.tree = self.play / "tree" / self.name   # the copy of the working tree, or a link to it, in a folder of its own as on GitHub
+        self.private = self.folder / "private"
+        self.objects = self.folder / "objects"       # links to the folders in which the repository keeps its objects
 
 
 def make_room(parent: Path, name: str, keep: Path | None = None) -> Room:
     """A new folder for one execution. Nobody else can read it, and no other execution removes it while it is in use."""
-    if keep is not None:
-        folder = keep.absolute()
-        if folder.exists() and (not folder.is_dir() or any(folder.iterdir())):
-            raise Problem(f"--keep {keep}: this is there already and not empty: name a new folder")
-    else:
-        stamp = time.strftime("%Y%m%d-%H%M%S")
-        folder = parent / f"{short_name(name)}-{stamp}-{secrets.token_hex(3)}"
-    try:
-        folder.mkdir(mode=0o700, parents=True, exist_ok=keep is not None)
-        os.chmod(folder, 0o700)
-        folder = folder.resolve()
-        for part in ("play", "private", "play/tree"):
-            (folder / part).mkdir(mode=0o700)
-        lock = open(folder / "lock", "w", encoding="utf-8")
-    except OSError as error:
-        raise no_room(folder, error.strerror) from None
+    folder = keep.absolute() if keep else parent / f"{short_name(name)}-{time.strftime('%Y%m%d-%H%M%S')}-{secrets.token_hex(3)}"
+    if folder.exists() and (not folder.is_dir() or any(folder.iterdir())):
+        raise Problem(f"--keep {keep}: this is there already and not empty: name a new folder")
+    if not keep:
+        cache_root().mkdir(mode=0o700, parents=True, exist_ok=True)
+    folder.mkdir(mode=0o700, parents=True, exist_ok=True)
+    folder.chmod(0o700)
+    folder = folder.resolve()
+    for part in FOLDERS:
+        (folder / part).mkdir(mode=0o700)
+    lock = open(folder / "lock", "w", encoding="utf-8")
     fcntl.flock(lock, fcntl.LOCK_EX | fcntl.LOCK_NB)
     return Room(folder, short_name(name), lock)
 
@@ -97,17 +165,10 @@ def short_name(name: str) -> str:
     return re.sub(r"[^A-Za-z0-9._-]+", "_", name)[:40].strip("._-") or "tree"
 
 
-def no_room(folder: Path, why: str | None) -> Problem:
-    """The problem of a work folder that cannot be written."""
-    return Problem(f"the work folder {folder} cannot be written ({why}): make room there, or name another place by the "
-                   "variable XDG_CACHE_HOME", 3)
-
-
 def clean(parent: Path, kept: int = KEPT) -> None:
     """Removes all but the last work folders that no execution uses."""
-    folders = sorted((entry for entry in parent.glob("*") if entry.is_dir() and not entry.is_symlink()),
-                     key=lambda entry: entry.stat().st_mtime, reverse=True)
-    for folder in folders[kept:]:
+    folders = [entry for entry in parent.glob("*") if entry.is_dir() and not entry.is_symlink()]
+    for folder in sorted(folders, key=lambda entry: entry.stat().st_mtime, reverse=True)[kept:]:
         try:
             with open(folder / "lock", "a", encoding="utf-8") as lock:
                 fcntl.flock(lock, fcntl.LOCK_EX | fcntl.LOCK_NB)
@@ -118,154 +179,86 @@ def clean(parent: Path, kept: int = KEPT) -> None:
 
 def remove(folder: Path) -> None:
     """Removes a folder, also where steps left folders in it that cannot be written."""
-    def again(function: Callable[..., object], path: str, _: object) -> None:
-        os.chmod(os.path.dirname(path), 0o700)
-        if os.path.isdir(path) and not os.path.islink(path):
-            os.chmod(path, 0o700)
-        try:
-            function(path)
-        except OSError:
-            pass
-    shutil.rmtree(folder, onerror=again)
+    shutil.rmtree(folder, ignore_errors=True)
     if folder.exists():
+        subprocess.run(["chmod", "-R", "u+rwX", "--", folder], capture_output=True, check=False)
         shutil.rmtree(folder, ignore_errors=True)
 
 
 def copy_tree(facts: Facts, room: Room) -> list[str]:
-    """Copies the working tree into the room, and gives what was left out, a sentence each."""
+    """Copies the working tree into the room, with links, modes and times, and gives what was left out, a sentence each."""
     left: list[str] = []
-    target = room.tree
-    target.mkdir()
-    if facts.repository:
-        names = list(files_of(facts.top, left))
-        if facts.nested:
-            left.append("the history: the folder is a part of a repository, so git knows no commit in the copy")
-        else:
-            copy_repository(facts.top, room)
+    room.tree.mkdir()
+    if not facts.repository:
+        copy(facts.top, ["cp", "-a", "--reflink=auto", "--", "./.", room.tree])
+        return left
+    names = b"".join(b"./" + name + b"\0" for name in files_of(facts.top, left))
+    if facts.nested:
+        left.append("the history: the folder is a part of a repository, so git knows no commit in the copy")
     else:
-        names = list(all_files(facts.top, left))
-    copy_files(facts.top, target, names)
+        copy_repository(facts.top, room)
+    copy(facts.top, ["xargs", "-0", "-r", "cp", "-d", "--reflink=auto", "--preserve=mode,timestamps", "--parents", "-t", room.tree, "--"], names)
     return left
+
+
+def copy(top: Path, words: list[str | Path], names: bytes = b"") -> None:
+    """Executes a command that copies files of a folder; blocks are shared where the file system can."""
+    answer = subprocess.run(words, cwd=top, input=names, capture_output=True, check=False, env={**os.environ, "LC_ALL": "C"})
+    text = answer.stderr.decode("utf-8", "replace").strip()
+    if "No space left" in text:
+        raise OSError(errno.ENOSPC, os.strerror(errno.ENOSPC), os.fspath(cache_root()))
+    if answer.returncode != 0:
+        raise Problem(f"the working tree {top} cannot be copied: {text.partition(chr(10))[0]}: change the rights, or name the file in .gitignore", 3)
 
 
 def files_of(top: Path, left: list[str], prefix: bytes = b"") -> Iterator[bytes]:
     """The names of the files that git tracks or would add, those of submodules among them, from the top."""
-    root = os.fsencode(top)
+    root = os.path.realpath(os.fsencode(top))
+    real = functools.lru_cache(None)(lambda folder: os.path.realpath(folder) == folder)
     answer = ask(top, "ls-files", "-co", "--exclude-standard", "-z")
-    links = ask(top, "ls-files", "-s", "-z")
-    if answer is None or links is None or answer.returncode != 0:
-        raise Problem(f"{top}: git cannot list the files: {answer.stderr.decode(errors='replace').strip() if answer else ''}", 3)
-    modules = {entry.partition(b"\t")[2] for entry in links.stdout.split(b"\0") if entry.startswith(GITLINK)}
-    plain = real_folders(root)
+    if answer.returncode != 0:
+        raise Problem(f"{top}: git cannot list the files: {answer.stderr.decode(errors='replace').strip()}", 3)
     for name in dict.fromkeys(filter(None, answer.stdout.split(b"\0"))):
         path = os.path.join(root, name)
-        if name in modules:
+        if name.endswith(b"/"):
+            left.append(f"{os.fsdecode(prefix + name)} is a repository of its own that git does not track")
+        elif os.path.isdir(path) and not os.path.islink(path):
             if os.path.exists(os.path.join(path, b".git")):
                 yield from files_of(Path(os.fsdecode(path)), left, prefix + name + b"/")
-        elif name.endswith(b"/"):
-            left.append(f"{os.fsdecode(prefix + name)} is a repository of its own that git does not track")
-        elif plain(os.path.dirname(name)) and os.path.lexists(path) and (os.path.islink(path) or not os.path.isdir(path)):
+        elif os.path.lexists(path) and real(os.path.dirname(path)):  # (behind a link git tracks nothing)
             yield prefix + name
-
-
-def real_folders(root: bytes) -> Callable[[bytes], bool]:
-    """Whether a folder below the root is reached without a symbolic link: behind a link git tracks nothing."""
-    known = {b"": True}
-
-    def check(name: bytes) -> bool:
-        if name not in known:
-            known[name] = check(os.path.dirname(name)) and not os.path.islink(os.path.join(root, name))
-        return known[name]
-    return check
-
-
-def all_files(top: Path, left: list[str]) -> Iterator[bytes]:
-    """The names of all files and links of a folder that is no repository."""
-    root = os.fsencode(top)
-    for folder, folders, files in os.walk(root):
-        links = [name for name in folders if os.path.islink(os.path.join(folder, name))]
-        for name in files + links:
-            path = os.path.join(folder, name)
-            kind = os.lstat(path).st_mode
-            if stat.S_ISREG(kind) or stat.S_ISLNK(kind):
-                yield os.path.relpath(path, root)
-            else:
-                left.append(f"{os.fsdecode(path)} is neither a file nor a link")
-
-
-def copy_files(top: Path, target: Path, names: Iterable[bytes]) -> None:
-    """Copies files with their modes and times, links as links; blocks are shared where the file system can."""
-    words = ["xargs", "-0", "-r", "cp", "-d", "--reflink=auto", "--preserve=mode,timestamps", "--parents",
-             "--target-directory", os.fspath(target), "--"]
-    text = b"".join(b"./" + name + b"\0" for name in names)
-    answer = subprocess.run(words, cwd=top, input=text, capture_output=True, check=False, env={**os.environ, "LC_ALL": "C"})
-    if answer.returncode != 0:
-        lines = answer.stderr.decode("utf-8", "replace").strip().splitlines() or ["cp failed"]
-        if "No space left" in answer.stderr.decode("utf-8", "replace"):
-            raise no_room(target, "No space left on device")
-        raise Problem(f"the working tree cannot be copied to {target}: {lines[0]}: change the rights, or name the file in .gitignore", 3)
 
 
 def copy_repository(top: Path, room: Room) -> None:
     """Makes the copy a repository at the same commit. It reads the objects through links in the room, and can write none of them."""
-    target = room.tree
-    where = os.fsdecode((ask(top, "rev-parse", "--git-path", "objects").stdout).removesuffix(b"\n"))  # type: ignore[union-attr]
-    objects = (top / where).resolve()
-    folder = target / ".git"
-    for name in ("objects/info", "refs/heads", "refs/tags", "info"):
-        (folder / name).mkdir(parents=True)
-    links = (objects / "info" / "alternates")
-    more = links.read_bytes() if links.is_file() else b""
-    inherited = [line if line.startswith(b"/") else os.path.join(os.fsencode(objects), line) for line in more.splitlines()]
-    room.objects.mkdir()
-    places = [room.objects / str(number) for number in range(len(inherited) + 1)]
-    for place, path in zip(places, (os.fsencode(objects), *inherited)):
-        place.symlink_to(os.fsdecode(path))
-    (folder / "objects" / "info" / "alternates").write_bytes(b"".join(quoted(os.fsencode(place)) + b"\n" for place in places))
-    refs = git(top, "for-each-ref", "--format=%(objectname) %(refname)") or ""
-    (folder / "packed-refs").write_text("".join(line + "\n" for line in refs.splitlines()), encoding="utf-8", errors="replace")
-    branch = git(top, "symbolic-ref", "--quiet", "HEAD")
-    head = f"ref: {branch}" if branch else git(top, "rev-parse", "HEAD") or "ref: refs/heads/main"
-    (folder / "HEAD").write_text(head + "\n", encoding="utf-8")
-    (folder / "config").write_text(config(top), encoding="utf-8")
-    for name in ("shallow", "info/exclude"):
-        place = top / os.fsdecode(ask(top, "rev-parse", "--git-path", name).stdout.removesuffix(b"\n"))  # type: ignore[union-attr]
-        if place.is_file():
-            shutil.copyfile(place, folder / name)
-    copy_index(top, target, folder)
-
-
-def quoted(path: bytes) -> bytes:
-    """A path as a line of alternates has it: in quotes where it begins with one or has a newline."""
-    if path.startswith(b'"') or b"\n" in path:
-        return b'"' + path.replace(b"\\", b"\\\\").replace(b'"', b'\\"').replace(b"\n", b"\\n") + b'"'
-    return path
-
-
-def copy_index(top: Path, target: Path, folder: Path) -> None:
-    """The index as it is; one in several files is read anew from the last commit."""
-    index = top / os.fsdecode(ask(top, "rev-parse", "--git-path", "index").stdout.removesuffix(b"\n"))  # type: ignore[union-attr]
-    if index.is_file() and not git(top, "rev-parse", "--shared-index-path"):
-        shutil.copyfile(index, folder / "index")
-    elif (folder / "HEAD").is_file():
-        ask(target, "read-tree", "HEAD")
-
-
-def config(top: Path) -> str:
-    """The configuration of the copy: the form of the objects and the remotes without passwords, and nothing else of the user's."""
     form = git(top, "rev-parse", "--show-object-format") or "sha1"
-    lines = ["[core]", "\trepositoryformatversion = 1", "\tbare = false", "\tlogallrefupdates = true",
-             "\tcheckStat = minimal", "\ttrustctime = false", "[extensions]", f"\tobjectFormat = {form}", "[gc]", "\tauto = 0"]
-    for line in (git(top, "config", "--get-regexp", r"^core\.(autocrlf|eol|filemode|symlinks|ignorecase)$") or "").splitlines():
-        key, _, value = line.partition(" ")
-        lines.insert(1, f'\t{key.removeprefix("core.")} = "{escaped(value)}"')
-    for name in (git(top, "remote") or "").splitlines():
-        url = re.sub(r"^([a-z+]+://)[^/]*@", r"\1", git(top, "config", f"remote.{name}.url") or "")
-        fetch = (git(top, "config", "--get-all", f"remote.{name}.fetch") or "").splitlines()
-        lines += [f'[remote "{escaped(name)}"]', f'\turl = "{escaped(url)}"', *(f'\tfetch = "{escaped(text)}"' for text in fetch)]
-    return "".join(line + "\n" for line in lines)
+    ask(room.tree, "-c", "init.defaultRefFormat=files", "init", "--quiet", "--template=", f"--object-format={form}")
+    folder = room.tree / ".git"
+    for path in (room.objects, folder / "info", folder / "objects" / "info"):
+        path.mkdir(exist_ok=True)
+
+    def place(name: str) -> Path:
+        return top / os.fsdecode(ask(top, "rev-parse", "--git-path", name).stdout.removesuffix(b"\n"))
+    objects = place("objects").resolve()
+    more = objects / "info" / "alternates"
+    inherited = os.fsdecode(more.read_bytes()).splitlines() if more.is_file() else []
+    for number, path in enumerate((objects, *(objects / line for line in inherited))):
+        (room.objects / str(number)).symlink_to(path)
+    links = "".join(f"{link}\n" for link in room.objects.iterdir())
+    (folder / "objects" / "info" / "alternates").write_text(links, encoding="utf-8")
+    (folder / "packed-refs").write_bytes(ask(top, "for-each-ref", "--format=%(objectname) %(refname)").stdout)
+    branch = git(top, "symbolic-ref", "--quiet", "HEAD")
+    (folder / "HEAD").write_text((f"ref: {branch}" if branch else git(top, "rev-parse", "HEAD") or "") + "\n", encoding="utf-8")
+    write_config(top, folder / "config")
+    for path in (place("shallow"), place("info/exclude"), place("index"), *place("index").parent.glob("sharedindex.*")):
+        if path.is_file():
+            shutil.copyfile(path, folder / ("info" if path.name == "exclude" else "") / path.name)
 
 
-def escaped(text: str) -> str:
-    """A value between the quotes of a configuration file of git."""
-    return text.replace("\\", "\\\\").replace('"', '\\"').replace("\n", "\\n")
+def write_config(top: Path, file: Path) -> None:
+    """Adds the remotes without passwords to the configuration of the copy, how files are compared, and nothing else of the user's."""
+    settings = ["core.checkStat\nminimal", "core.trustctime\nfalse", "gc.auto\n0"]
+    kept = r"^(core\.(autocrlf|eol|filemode|symlinks|ignorecase)|remote\..*\.(url|fetch))$"
+    for entry in (*settings, *(git(top, "config", "-z", "--get-regexp", kept) or "").split("\0")[:-1]):
+        key, _, value = entry.partition("\n")
+        ask(top, "config", "--file", os.fspath(file), "--add", key, re.sub(r"^([a-z+]+://)[^/]*@", r"\1", value))

@@ -10,7 +10,7 @@ import sys
 import tempfile
 import unittest
 
-from actrun_front.explain import Origin, explain, take_apart
+from actrun_front.explain import explain, take_apart
 
 TOP = pathlib.Path(__file__).resolve().parents[2]
 # what `actrun lint` prints of this file, by docs/REFERENCE.md, "Lines of `lint`"
@@ -86,7 +86,7 @@ class Explain(unittest.TestCase):
             self.assertGreater(len((words or "").split()), 4, line)
 
     def test_other_lines_have_none(self) -> None:
-        for line in ("actrun: this is no fault of the program", "actrun: load Other", "actrun: flow f.json Other", "", "run 0 success"):
+        for line in ("actrun: this is no fault of the program", "actrun: load Other", "", "run 0 success"):
             self.assertIsNone(explain(line, "plan", ["f.json"]), line)
 
     def test_the_lines_of_lint_that_have_the_fault(self) -> None:
@@ -97,17 +97,28 @@ class Explain(unittest.TestCase):
     def test_the_line_of_the_yaml_file(self) -> None:
         self.program(LINT)
         lines = {("jobs",): 3, ("jobs", "test"): 4, ("jobs", "test", "steps", 0): 7, ("jobs", "test", "steps", 0, "run"): 9}
-        origin = Origin({str(pathlib.Path("bad.json").resolve()): ("ci.yml", lines)})
-        words = explain("actrun: plan Expr UnclosedTemplate at 13", "plan", ["bad.json"], origin)
+        origins = {"bad.json": ("ci.yml", lines)}
+        words = explain("actrun: plan Expr UnclosedTemplate at 13", "plan", ["bad.json"], origins)
         self.assertTrue(words.startswith("ci.yml:9: jobs.test.steps.0.run: the"), words)
         del lines[("jobs", "test", "steps", 0, "run")]
-        words = explain("actrun: plan Expr UnclosedTemplate at 13", "plan", ["bad.json"], origin)
+        words = explain("actrun: plan Expr UnclosedTemplate at 13", "plan", ["bad.json"], origins)
         self.assertTrue(words.startswith("ci.yml:7: jobs.test.steps.0.run: the"), words)
 
     def test_without_lint_the_sentence(self) -> None:
-        self.assertIn("a shell is neither", explain("actrun: flow my file.json UnknownShell", "plan", ["my file.json"]))
+        self.assertIn("actrun lint my file.json names the place", explain("actrun: flow my file.json UnknownShell", "plan", ["my file.json"]))
         self.program("")
-        self.assertIn("take one of the needs out", explain("actrun: plan Cycle", "plan", ["bad.json"]))
+        self.assertIn("actrun lint FILE names the place", explain("actrun: plan Cycle", "plan", ["bad.json"]))
+
+    def test_the_line_of_the_yaml_file_that_the_json_was_made_of(self) -> None:
+        self.program(LINT)
+        self.write("bad.yml", "on: push\njobs:\n  test:\n    steps:\n      - run: ${{ x\n")
+        done = subprocess.run([sys.executable, str(TOP / "front"), "from-yaml", "bad.yml"], capture_output=True, check=False)
+        self.assertEqual(done.returncode, 0)
+        words = explain("actrun: plan Expr UnclosedTemplate at 13", "plan", ["bad.json"])
+        self.assertEqual(words, "bad.yml:5: jobs.test.steps.0.run: the `${{` there has no `}}`: close it")
+        self.write("bad.yml", "on: push\n")
+        words = explain("actrun: plan Expr UnclosedTemplate at 13", "plan", ["bad.json"])
+        self.assertTrue(words.startswith("bad.json: jobs.test"), words)
 
     def test_events_and_jobs_that_are_there(self) -> None:
         words = explain("actrun: plan NoWorkflow", "plan", ["--event", "pusch", "ok.json"])
@@ -140,7 +151,7 @@ class Explain(unittest.TestCase):
         os.mkfifo("pipe")
         self.program("")
         self.assertIn("a read or a write failed", explain("actrun: io", "replay", ["pipe"]))
-        self.assertIn("pipe: a key or", explain("actrun: flow pipe LeftOut", "plan", ["pipe"]))
+        self.assertIn("lint pipe names", explain("actrun: flow pipe LeftOut", "plan", ["pipe"]))
         self.assertIn("no workflow is started", explain("actrun: plan NoWorkflow", "plan", ["--event", "x", "pipe"]))
 
     def test_what_is_wrong_with_the_arguments(self) -> None:
@@ -160,8 +171,8 @@ class Explain(unittest.TestCase):
 
     def test_arguments_are_taken_apart(self) -> None:
         words = take_apart("run", ["--workers", "3", "--progress", "--", "-x.plan"])
-        self.assertEqual((words.options, words.operands, words.wrong), ({"--workers": "3", "--progress": ""}, ["-x.plan"], None))
-        self.assertEqual(take_apart("eval", ["-1"]).operands, ["-1"])
+        self.assertEqual(words, ({"--workers": "3", "--progress": ""}, ["-x.plan"], []))
+        self.assertEqual(take_apart("eval", ["-1"])[1], ["-1"])
 
     def test_the_place_in_an_expression(self) -> None:
         self.assertTrue(explain("actrun: expr BadChar at 6", "eval", ["'ä' = 1"]).endswith("\n  'ä' = 1\n       ^"))

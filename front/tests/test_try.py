@@ -436,7 +436,7 @@ class BadInput(TryCase):
 
     def test_options(self) -> None:
         self.workflow("- run: 'true'")
-        self.assert_error(self.attempt("--workers", "17"), 2, "--workers", "1 to 16")
+        self.assert_error(self.attempt("--workers", "17"), 2, "--workers", "invalid choice: 17")
         self.assert_error(self.attempt("--nothing"), 2, "--nothing", "--help")
         self.assert_error(self.attempt("--stub", "a/b=/nowhere/stub"), 2, "/nowhere/stub")
         self.assert_error(self.attempt("--matrix", "x"), 2, "--matrix JOB.VARIABLE=JSON")

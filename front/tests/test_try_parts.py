@@ -8,13 +8,13 @@ import unittest
 from pathlib import Path
 
 from actrun_front import Problem, options
-from actrun_front.contexts import Play, contexts, excluded, plain, read_inputs, triggers
-from actrun_front.environment import marker, passed, settle
+from actrun_front.contexts import Play, contexts, excluded, payload, read_inputs, read_payload, triggers
+from actrun_front.environment import PASSED, marker, settle
 from actrun_front.execute import Progress, read_progress
-from actrun_front.facts import Remote, find_project, find_top, parse_remote, read_facts
-from actrun_front.payloads import payload
+from actrun_front.planning import Flow, job_rows
 from actrun_front.present import legs_of, mask, one_line, placed, table
-from actrun_front.tree import Room, clean, config, make_room, short_name
+from actrun_front.tree import Facts, Room, clean, find_project, find_top, make_room, parse_remote, read_facts, short_name, write_config
+from actrun_front.yaml_reader import read_document
 from .try_case import TryCase
 
 
@@ -23,7 +23,7 @@ class Options(TryCase):
 
     def complete(self, *words: str) -> argparse.Namespace:
         """The options of these words in the project."""
-        return options.complete(options.parse(list(words), self.project), self.project)
+        return options.complete(list(words), self.project, self.project)
 
     def test_names_of_act(self) -> None:
         found = self.complete("pull_request", "-j", "test", "-W", "a.yml", "-C", "x", "-s", "A=1", "--var", "B=2", "--input", "C=3=4",
@@ -71,7 +71,7 @@ class Remotes(unittest.TestCase):
     def check(self, url: str, server: str, name: str) -> None:
         """The parts of one URL."""
         found = parse_remote(url)
-        self.assertEqual((found.server, found.full_name), (server, name))
+        self.assertEqual((found[0], "/".join(filter(None, found[1:]))), (server, name))
 
     def test_forms(self) -> None:
         self.check("git@github.com:octo/hello.git", "https://github.com", "octo/hello")
@@ -83,11 +83,14 @@ class Remotes(unittest.TestCase):
             self.check(url, "https://github.com", "")
 
     def test_interfaces(self) -> None:
-        self.assertEqual((Remote().api, Remote().graphql), ("https://api.github.com", "https://api.github.com/graphql"))
-        server = Remote("https://ghe.example.com", "o", "n")
-        self.assertEqual((server.api, server.graphql), ("https://ghe.example.com/api/v3", "https://ghe.example.com/api/graphql"))
-        tenant = Remote("https://octo.ghe.com", "o", "n")
-        self.assertEqual((tenant.api, tenant.graphql), ("https://api.octo.ghe.com", "https://api.octo.ghe.com/graphql"))
+        found = argparse.Namespace(secrets={}, vars={}, inputs={}, in_place=None)
+        for server, api, graphql in (
+                ("https://github.com", "https://api.github.com", "https://api.github.com/graphql"),
+                ("https://ghe.example.com", "https://ghe.example.com/api/v3", "https://ghe.example.com/api/graphql"),
+                ("https://octo.ghe.com", "https://api.octo.ghe.com", "https://api.octo.ghe.com/graphql")):
+            play = Play("push", Facts(Path("/w"), server=server), found, None, Room(Path("/w"), "hello", None), 1, 2)
+            github = contexts(play, "ci.yml", {})["github"]
+            self.assertEqual((github["api_url"], github["graphql_url"]), (api, graphql))
 
 
 class Contexts(TryCase):
@@ -105,9 +108,8 @@ class Contexts(TryCase):
 
     def play(self, event: str, data: dict | None = None, **given: dict) -> Play:
         """What is the same for all workflows of a call."""
-        found = argparse.Namespace(secrets=given.get("secrets", {}), vars={}, inputs=given.get("inputs", {}))
-        place = Path("/w")
-        return Play(event, read_facts(self.project, True), found, data, place / "tree", place / "temp", place / "tools", 3, 77)
+        found = argparse.Namespace(secrets=given.get("secrets", {}), vars={}, inputs=given.get("inputs", {}), in_place=None)
+        return Play(event, read_facts(self.project, True), found, data, Room(Path("/w"), "hello", None), 3, 77)
 
     def test_push(self) -> None:
         first, second = self.git("rev-parse", "HEAD^"), self.git("rev-parse", "HEAD")
@@ -115,7 +117,7 @@ class Contexts(TryCase):
         github = found["github"]
         wanted = {"sha": second, "ref": "refs/heads/main", "ref_name": "main", "ref_type": "branch", "repository": "octo/hello",
                   "repository_owner": "octo", "repositoryUrl": "git://github.com/octo/hello.git", "run_id": "77", "run_number": "3",
-                  "workflow": "CI", "workflow_ref": "octo/hello/.github/workflows/ci.yml@refs/heads/main", "workspace": "/w/tree",
+                  "workflow": "CI", "workflow_ref": "octo/hello/.github/workflows/ci.yml@refs/heads/main", "workspace": "/w/play/tree/hello",
                   "token": "", "event_name": "push", "head_ref": "", "base_ref": "", "secret_source": "None"}
         self.assertEqual({name: github[name] for name in wanted}, wanted)
         event = github["event"]
@@ -124,7 +126,7 @@ class Contexts(TryCase):
                          [("second\n\nwith a body", ["other"], ["file"], [])])
         self.assertEqual(event["head_commit"]["author"], {"name": "Ada", "email": "ada@example.org"})
         self.assertEqual(event["compare"], f"https://github.com/octo/hello/compare/{first[:12]}...{second[:12]}")
-        self.assertEqual(found["runner"]["temp"], "/w/temp")
+        self.assertEqual(found["runner"]["temp"], "/w/play/temp")
 
     def test_request(self) -> None:
         self.git("checkout", "-q", "-b", "feature")
@@ -198,13 +200,15 @@ class Inputs(unittest.TestCase):
         with self.assertRaisesRegex(Problem, "the input x is required: --input x=VALUE"):
             read_inputs({"inputs": {"x": {"required": True}}}, {}, "ci.yml")
 
-    def test_plain(self) -> None:
-        self.assertEqual(plain({"a": [1.5, 9007199254740992, True, None, 7]}, "event"), {"a": ["1.5", "9007199254740992", True, None, 7]})
-        deep: list = []
-        for _ in range(101):
-            deep = [deep]
-        with self.assertRaisesRegex(Problem, "nests too deep"):
-            plain(deep, "event")
+
+class Payloads(TryCase):
+    """The file of --eventpath."""
+
+    def test_numbers_that_a_plan_cannot_hold(self) -> None:
+        file = self.write("event", '{"a": [1.5, 9007199254740992, true, null, 7, 3.10]}')
+        self.assertEqual(read_payload(file), {"a": ["1.5", "9007199254740992", True, None, 7, "3.10"]})
+        with self.assertRaisesRegex(Problem, "event: an object was expected"):
+            read_payload(self.write("event", "[]"))
 
 
 class Filters(unittest.TestCase):
@@ -242,8 +246,8 @@ class Surroundings(unittest.TestCase):
     """Variables, marks and the plan's texts."""
 
     def test_what_is_passed(self) -> None:
-        given = {"PATH": "/bin", "LC_ALL": "C", "https_proxy": "p", "AWS_SECRET_ACCESS_KEY": "x", "SSH_AUTH_SOCK": "s", "ACTRUN_STEP": "t"}
-        self.assertEqual(passed(given), {"PATH": "/bin", "LC_ALL": "C", "https_proxy": "p"})
+        given = ("PATH", "LC_ALL", "https_proxy", "NO_PROXY", "AWS_SECRET_ACCESS_KEY", "SSH_AUTH_SOCK", "ACTRUN_STEP", "PATHS", "ALC_X")
+        self.assertEqual(list(filter(PASSED.fullmatch, given)), ["PATH", "LC_ALL", "https_proxy", "NO_PROXY"])
 
     def test_marks(self) -> None:
         self.assertRegex(marker(["a long secret", ""]), r"^actrun-[0-9a-f]{16}$")
@@ -252,8 +256,10 @@ class Surroundings(unittest.TestCase):
 
     def settled(self, step: dict, own_trees: bool) -> dict:
         """One step of job 4 after `settle`."""
-        plan = {"runs": [{"env": {}, "jobs": [{"number": 4, "env": {}, "outputs": {}, "steps": [step]}]}]}
+        plan = {"runs": [{"env": {}, "jobs": []}, {"env": {}, "jobs": [{"number": 4, "env": {}, "outputs": {}, "steps": [step]}]}]}
         settle(plan, Room(Path("/w/it's {x}"), "hello", None), own_trees)
+        self.assertEqual(plan["runs"][0]["env"], {})
+        self.assertEqual(plan["runs"][1]["env"]["GITHUB_WORKFLOW"], "${{ github.workflow }}")
         return step
 
     def test_settle(self) -> None:
@@ -297,6 +303,14 @@ class Shown(unittest.TestCase):
     def test_table(self) -> None:
         self.assertEqual(list(table([("A", "Long", "C"), ("word", "b", "")])), ["A     Long  C", "word  b"])
 
+    def test_jobs_by_stages(self) -> None:
+        text = ("name: CI\non: [push]\njobs:\n  last: {needs: [one, two]}\n  one: {name: First}\n  two: {needs: one}\n"
+                "  a: {needs: b}\n  b: {needs: a}\n")
+        rows = job_rows([Flow("ci.yml", read_document(text.encode()))])
+        self.assertEqual([row[:3] for row in rows[1:]], [("0", "one", "First"), ("1", "two", "two"), ("1", "a", "a"), ("1", "b", "b"),
+                                                        ("2", "last", "last")])
+        self.assertEqual(rows[1][3:], ("CI", "ci.yml", "push"))
+
     def test_places_in_yaml(self) -> None:
         job = {"number": 1, "id": "test", "name": "Tests", "legs": [{}], "steps": []}
         legs = legs_of({"runs": [{"jobs": [{**job, "number": 0, "legs": [{"v": 1}]}]}, {"jobs": [job]}]})
@@ -305,7 +319,7 @@ class Shown(unittest.TestCase):
         self.assertEqual([leg.name for leg in named], ["On 1", "${{ matrix.w }} (1)"])
         lines = ["run 1 (CI) failed at line 3", "  job 1 (Tests) failed", "    leg 1 (Tests) ended failure at line 2",
                  "      step 0 (x) failed at line 1: the program ended with 1", "job 0 (Tests) (above)"]
-        found = list(placed(lines, {0: job, 1: job}, legs, lambda run, name, step: f"{run} {name} {step}"))
+        found = list(placed(lines, legs, lambda run, name, step: f"{run} {name} {step}"))
         self.assertEqual(found, [lines[0], lines[1] + "  [1 test None]", lines[2], lines[3] + "  [1 test 0]", lines[4] + "  [0 test None]"])
 
 
@@ -316,8 +330,10 @@ class Rooms(TryCase):
         self.git("init", "-q")
         self.git("remote", "add", "origin", "https://ada:hunter@2@github.com/octo/hello.git")
         self.git("config", "http.extraheader", "AUTHORIZATION: basic hunter")
-        self.assertIn('[remote "origin"]\n\turl = "https://github.com/octo/hello.git"\n', config(self.project))
-        self.assertNotIn("hunter", config(self.project))
+        write_config(self.project, self.home / "config")
+        text = (self.home / "config").read_text(encoding="utf-8")
+        self.assertIn('[remote "origin"]\n\turl = https://github.com/octo/hello.git\n', text)
+        self.assertNotIn("hunter", text)
 
     def test_only_unused_folders_are_removed(self) -> None:
         parent = self.home / "work"
