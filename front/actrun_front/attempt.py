@@ -14,7 +14,7 @@ from typing import Any, Iterable
 from . import Problem, options as words, tree as rooms
 from .actions import StubError, Stubs, after_play, stubs_for
 from .contexts import Play, read_payload
-from .environment import HOME, marker, sandbox_words, settle, variables, why_no_sandbox, write_prelude, write_sudo
+from .environment import HOME, SUDO, SUDO_OF_ROOT, marker, sandbox_words, settle, variables, why_no_sandbox, write_prelude
 from .execute import Execution, ask, program
 from .explain import explain
 from .planning import Flow, job_rows, make_plan, of_event, read_flows, workflow_files, write_private
@@ -54,7 +54,7 @@ def main(arguments: list[str]) -> int:
 def attempt(arguments: list[str], screen: Screen) -> int:
     """Reads the options and does what they ask for."""
     here = Path.cwd()
-    line = words.parse(arguments, here)
+    line = words.parser(here).parse_args(arguments)
     start = here / (line.directory or "")
     if not start.is_dir():
         raise Problem(f"--directory {start}: there is no such folder")
@@ -74,8 +74,8 @@ def attempt(arguments: list[str], screen: Screen) -> int:
     room = rooms.make_room(work, facts.name or top.name, here / options.keep if options.keep and not looks else None)
     try:
         play = Play(event, facts, options, payload, room, 1 if looks else next_number(top), int(time.time() * 1000))
-        if not looks:
-            fill_tree(play, screen)
+        for text in () if looks else rooms.copy_tree(facts, room, bool(options.in_place)):
+            screen.tell(f"note: not copied: {text}", "note")
         plan = make_plan(picked, play, screen)
         if not looks:
             return Trial(picked, play, plan, screen).execute()
@@ -96,20 +96,6 @@ def next_number(top: Path) -> int:
     with open(rooms.kept_for(top, "counts"), "ab", buffering=0) as file:
         file.write(b".")
         return file.tell()
-
-
-def fill_tree(play: Play, screen: Screen) -> None:
-    """Makes the tree in which steps start: a copy, or with --in-place a link."""
-    top = play.facts.top
-    if play.options.in_place and os.fsencode(top).decode("utf-8", "replace") != str(top):
-        raise Problem(f"--in-place {top}: the program takes names in UTF-8 alone: leave --in-place out")
-    if play.options.in_place:
-        play.room.tree.symlink_to(top)
-        return
-    if not play.facts.repository and top in (Path.home(), Path("/")):
-        raise Problem(f"{top} is no repository, and too much to copy: name a folder by --directory DIR")
-    for text in rooms.copy_tree(play.facts, play.room):
-        screen.tell(f"note: not copied: {text}", "note")
 
 
 def look(plan: dict[str, Any], flows: list[Flow], play: Play) -> Iterable[str]:
@@ -133,14 +119,6 @@ def stubs_of(plan: dict[str, Any], play: Play) -> Stubs:
                      play.room.play / "stubs", PYTHON)
 
 
-def texts_of(value: Any) -> Iterable[str]:
-    """All texts inside a value."""
-    for part in value.values() if isinstance(value, dict) else value if isinstance(value, list) else ():
-        yield from texts_of(part)
-    if isinstance(value, str) and value:
-        yield value
-
-
 class Trial:
     """The execution of a plan and what is shown of it."""
 
@@ -150,7 +128,7 @@ class Trial:
         self.legs = legs_of(plan)
         # several legs in one tree would disturb one another
         self.own_trees = len(self.legs) > 1 and not self.options.in_place
-        self.secrets = list(texts_of([run["roots"]["secrets"] for run in plan["runs"]]))
+        self.secrets = [text for run in plan["runs"] for text in run["roots"]["secrets"].values() if text]
         self.board = Board(screen, self.legs, marker(self.secrets))
         self.cache = rooms.kept_for(play.facts.top, "caches")
         # of the caller, unless this is a step of another `try`, whose prelude it is
@@ -188,7 +166,8 @@ class Trial:
             result = ["/bin/sh", "-c", f"{shlex.join(result)}\nstatus=$?\n{after} >&2\nexit $status"]
         problem = "" if options.no_sandbox else why_no_sandbox(self.sandbox(stubs))
         if problem is None:
-            write_sudo(room.play / "bin")
+            (room.play / "bin" / "sudo").write_text(SUDO if os.geteuid() else SUDO_OF_ROOT, encoding="utf-8")
+            (room.play / "bin" / "sudo").chmod(0o755)
             environment["PATH"] = f"{room.play / 'bin'}:{environment.get('PATH', os.defpath)}"
             environment.pop("TMPDIR", None)
             if HOME.parent.is_dir() and "HOME" not in options.variables:
@@ -218,7 +197,7 @@ class Trial:
         for number, flow in enumerate(self.flows):
             result, name = results.get(number, "stalled"), one_line(self.plan["runs"][number]["flow"])
             title = name if name == flow.name else f"{name} ({flow.name})"
-            screen.result(result, f"{title}: {screen.paint(result, result, sys.stdout)}", sys.stdout)
+            screen.result(result, f"{title}: ", sys.stdout, result)
             for job, system in flow.lowered.foreign:
                 screen.say(f"  {job} is for {system}: nothing of it was executed (--any-system executes it here)", "skipped")
         for line in placed(mask(ask("why", self.record).stdout, self.secrets).splitlines(), self.legs, self.place) if known else \

@@ -48,6 +48,7 @@ if [ "${{ACTRUN_STEP-}}" != "$GITHUB_OUTPUT" ]; then
 fi
 if [ -n "${{BASH_VERSION-}}" ] && [ -r "${{ACTRUN_BASH_ENV-}}" ]; then . "$ACTRUN_BASH_ENV"; fi
 """
+# a program `sudo` for the sandbox: there root executes the command, and anybody else reads what to do
 SUDO_HINT = "sudo: the sandbox shows the system read-only: `actrun try --no-sandbox` lets steps change this machine"
 SUDO = f"#!/bin/sh\necho '{SUDO_HINT}' >&2\nexit 1\n"
 SUDO_OF_ROOT = f"""\
@@ -76,12 +77,6 @@ def write_prelude(room: Room, mark: str) -> Path:
     path.write_text(PRELUDE.format(mark=f"printf '%s\\n' \"{mark}:$actrun_place\"" if mark else ":", files=shlex.quote(str(path.parent)),
                                    tree=shlex.quote(str(room.tree))), encoding="utf-8")
     return path
-
-
-def write_sudo(folder: Path) -> None:
-    """A program `sudo` for the sandbox: there root executes the command, and anybody else reads what to do."""
-    (folder / "sudo").write_text(SUDO if os.geteuid() else SUDO_OF_ROOT, encoding="utf-8")
-    (folder / "sudo").chmod(0o755)
 
 
 def settle(plan: dict[str, Any], room: Room, own_trees: bool) -> None:

@@ -9,7 +9,7 @@ import threading
 import time
 from dataclasses import dataclass
 from pathlib import Path
-from typing import IO, Any, Callable, Iterable, NamedTuple
+from typing import IO, Any, Callable, Iterable
 
 from . import Problem
 
@@ -31,25 +31,15 @@ def ask(*words: str | os.PathLike[str]) -> subprocess.CompletedProcess[str]:
     return subprocess.run([program(), *words], stdin=subprocess.DEVNULL, capture_output=True, encoding="utf-8", errors="replace", check=False)
 
 
-class Progress(NamedTuple):
-    """One line of `--progress`."""
-
-    leg: int
-    step: int
-    state: str           # `started`, `success`, `failure`
-    detail: str          # of a failure
-    seconds: str
-
-
-def read_progress(line: str) -> Progress | None:
-    """The line's parts; None where it is another one."""
+def read_progress(line: str) -> tuple[int, int, str, str, str] | None:
+    """Leg, step, state (`started`, `success`, `failure`), why it failed, and seconds of a line of --progress; None of another line."""
     found = PROGRESS.fullmatch(line)
     if not found:
         return None
     state = "started" if not found["end"] else "success" if found["code"] == "0" else "failure"
-    detail = f"not started: {found['why']}" if found["why"] else f"exit {found['code']}" if found["code"] else \
+    reason = f"exit {found['code']}" if found["code"] else f"not started: {found['why']}" if found["why"] else \
         "its outputs or variables cannot be read"
-    return Progress(int(found[1]), int(found[2]), state, detail if state == "failure" else "", found["seconds"] or "")
+    return int(found[1]), int(found[2]), state, reason if state == "failure" else "", found["seconds"] or ""
 
 
 def session(leader: int) -> dict[int, int]:

@@ -24,7 +24,7 @@ ESCAPES = {"n": "\n", "r": "\r", "t": "\t"}
 class Parser(argparse.ArgumentParser):
     """A parser whose errors are problems with a remedy."""
 
-    place = ""
+    place = ""  # of the words, before each error
 
     def error(self, message: str) -> None:  # type: ignore[override]
         raise Problem(f"{self.place}{message}: `actrun try --help` lists the options")
@@ -45,7 +45,7 @@ def matrix(text: str) -> tuple[tuple[str, str], Any]:
         raise Problem(f"--matrix {text}: write --matrix JOB.VARIABLE=JSON, as --matrix 'test.python=[\"3.11\", \"3.12\"]'") from None
 
 
-def parser(base: Path = Path()) -> Parser:
+def parser(base: Path = Path(), place: str = "") -> Parser:
     """The parser of the command line and of the lines of `.actrunrc`; files are looked for from `base`."""
     result = Parser(prog="actrun try", allow_abbrev=False, formatter_class=argparse.RawDescriptionHelpFormatter, description=(
         "Finds the workflows of the repository, plans them for EVENT, executes them on a copy of\n"
@@ -54,6 +54,8 @@ def parser(base: Path = Path()) -> Parser:
         "that of the repository cannot hold secrets or lift the sandbox. Exit status: 0 all runs\n"
         "succeeded, 1 a run failed or was cancelled, 2 an option or a file is wrong, 3 the system\n"
         "failed, 4 a run is not closed, 130 Ctrl-C."))
+
+    result.place = place
 
     def stub(text: str) -> tuple[str, str]:
         action, _, program = text.partition("=")
@@ -95,13 +97,6 @@ def parser(base: Path = Path()) -> Parser:
     return result
 
 
-def parse(words: list[str], base: Path, place: str = "", before: argparse.Namespace | None = None) -> argparse.Namespace:
-    """The options of these words over those that came before."""
-    reader = parser(base)
-    reader.place = place
-    return reader.parse_args(words, before)
-
-
 def rc_words(file: Path) -> list[str]:
     """The words of a file with one option a line."""
     words: list[str] = []
@@ -131,9 +126,10 @@ def complete(words: list[str], here: Path, top: Path) -> argparse.Namespace:
     """The options of the command line over those of the files, with secrets, variables and the like as maps."""
     user = Path(os.environ.get("XDG_CONFIG_HOME") or Path.home() / ".config") / "actrun" / RC_NAME
     own = top / RC_NAME
-    check_repository(parse(rc_words(own), top, f"{own}: "), own)
-    options = parse(rc_words(user), user.parent, f"{user}: ")
-    options = parse(words, here, "", parse(rc_words(own), top, f"{own}: ", options))
+    of_tree = parser(top, f"{own}: ")
+    check_repository(of_tree.parse_args(rc_words(own)), own)
+    options = parser(user.parent, f"{user}: ").parse_args(rc_words(user))
+    options = parser(here).parse_args(words, of_tree.parse_args(rc_words(own), options))
     for option, pairs in (("--var", options.var), ("--input", options.input)):
         for name in (name for name, value in pairs if not name or value is None):
             raise Problem(f"{option} {name}: write {option} {name or 'NAME'}=VALUE")
@@ -166,7 +162,7 @@ def named_stubs(file: Path | None) -> dict[str, str]:
         raise Problem(f"--stubs {file}: this is no JSON ({error})") from None
     if not isinstance(value, dict) or not all(isinstance(program, str) for program in value.values()):
         raise Problem(f'--stubs {file}: an object of texts was expected, as {{"owner/action": "/usr/bin/true"}}')
-    return dict(parse(["--stub", f"{action}={program}"], file.parent).stub[0] for action, program in value.items())
+    return dict(parser(file.parent).parse_args([f"--stub={action}={program}" for action, program in value.items()]).stub if file else [])
 
 
 def read_text(file: Path, option: str) -> str:

@@ -26,18 +26,10 @@ class Flow:
     document: Document
     contexts: dict[str, Any] = field(default_factory=dict)
     lowered: Lowered = field(default_factory=lambda: Lowered({}, {}))
-    json: Path = Path()
 
-    @property
-    def jobs(self) -> dict[str, Any]:
-        """The jobs as they are in the file."""
-        jobs = self.document.value.get("jobs")
-        return jobs if isinstance(jobs, dict) else {}
-
-    @property
-    def events(self) -> dict[str, Any]:
-        """The events that start the workflow."""
-        return triggers(self.document.value)
+    def __post_init__(self) -> None:
+        self.jobs = part(self.document.value, "jobs")      # as they are in the file
+        self.events = triggers(self.document.value)
 
 
 def workflow_files(given: str | None, bases: list[Path], top: Path) -> list[Path]:
@@ -89,19 +81,17 @@ def make_plan(flows: list[Flow], play: Play, screen: Screen) -> dict[str, Any]:
     """Lowers the workflows, plans them, and gives each run its own contexts."""
     for number, flow in enumerate(flows):
         lower_flow(flow, number, play, screen)
-        filtered = excluded(play.event, flow.events.get(play.event), flow.contexts["github"])
-        if filtered:
-            screen.tell(f"note: {flow.name}: on GitHub its filter would keep it from this event ({filtered})", "note")
     if flows[0].contexts["github"]["event"].keys() == {"repository", "sender"} and play.event != "workflow_call" and play.payload is None:
         screen.tell(f"note: github.event of {play.event} has only repository and sender: --eventpath FILE names a whole payload", "note")
     unknown = set(map(str.lower, play.options.inputs)) - {name.lower() for flow in flows for name in flow.contexts["inputs"]}
     if unknown:
         raise Problem(f"--input {min(unknown)}: no workflow declares this input for the event {play.event}")
-    words = ["plan", *(["--job", play.options.job] if play.options.job else ["--event", play.event]), *(str(flow.json) for flow in flows)]
+    files = [str(play.room.private / f"{number}.json") for number in range(len(flows))]
+    words = ["plan", *(["--job", play.options.job] if play.options.job else ["--event", play.event]), *files]
     answer = ask(*words)
     if answer.returncode != 0:
         line = (answer.stderr.strip().splitlines() or [f"actrun: plan ended with {answer.returncode}"])[-1]
-        more = explain(line, words[0], words[1:], {str(flow.json): (flow.name, flow.lowered.lines) for flow in flows})
+        more = explain(line, words[0], words[1:], {file: (flow.name, flow.lowered.lines) for file, flow in zip(files, flows)})
         raise Problem("\n".join(filter(None, [line.removeprefix("actrun: "), more])), answer.returncode)
     plan = json.loads(answer.stdout)
     for run, flow in zip(plan["runs"], flows):
@@ -121,9 +111,11 @@ def lower_flow(flow: Flow, number: int, play: Play, screen: Screen) -> None:
         raise Problem(f"{flow.name}:{refused.line}: {refused.text}") from None
     for note in sorted({*flow.document.notes, *flow.lowered.notes}, key=lambda note: note.line):
         screen.tell(f"note: {flow.name}:{note.line}: {note.text}", "note")
+    filtered = excluded(play.event, flow.events.get(play.event), flow.contexts["github"])
+    if filtered:
+        screen.tell(f"note: {flow.name}: on GitHub its filter would keep it from this event ({filtered})", "note")
     value = flow.lowered.value
-    flow.json = room.private / f"{number}.json"
-    write_private(flow.json, json.dumps({"name": flow.name, **value} if isinstance(value, dict) else value, ensure_ascii=False))
+    write_private(room.private / f"{number}.json", json.dumps({"name": flow.name, **value} if isinstance(value, dict) else value, ensure_ascii=False))
 
 
 def write_private(path: Path, text: str) -> None:
@@ -136,12 +128,11 @@ def job_rows(flows: list[Flow]) -> list[tuple[str, ...]]:
     """The rows of the table of jobs, by their stages; the first one has the heads."""
     rows = []
     for flow in flows:
-        title = str(flow.document.value.get("name") or flow.name)
-
-        def stage(name: str, above: tuple[str, ...] = ()) -> int:
-            needs = [need for need in texts(part(flow.jobs, name).get("needs")) if need in flow.jobs and need not in above]  # noqa: B023
-            return max((1 + stage(need, (*above, name)) for need in needs), default=0)
-        for name in flow.jobs:
-            shown = str(part(flow.jobs, name).get("name") or name)
-            rows.append((str(stage(name)), name, one_line(shown), one_line(title), flow.name, ",".join(flow.events)))
+        needs = {name: [need for need in texts(part(flow.jobs, name).get("needs")) if need in flow.jobs] for name in flow.jobs}
+        stage = dict.fromkeys(needs, 0)
+        for _ in needs:
+            stage = {name: max((stage[need] + 1 for need in needs[name]), default=0) for name in needs}
+        title = one_line(str(flow.document.value.get("name") or flow.name))
+        rows += [(str(stage[name]), name, one_line(str(part(flow.jobs, name).get("name") or name)), title, flow.name, ",".join(flow.events))
+                 for name in needs]
     return [("Stage", "Job ID", "Job name", "Workflow name", "Workflow file", "Events"), *sorted(rows, key=lambda row: int(row[0]))]

@@ -82,10 +82,10 @@ class Screen:
         """The text in the colour of its kind, where the stream has colours."""
         return f"\x1b[{COLOURS[kind]}m{text}\x1b[0m" if kind in COLOURS and stream.isatty() and not self.plain else text
 
-    def result(self, kind: str, text: str, stream: TextIO) -> None:
-        """A line behind the sign of a result."""
+    def result(self, kind: str, text: str, stream: TextIO, more: str = "") -> None:
+        """A line behind the sign of a result; what is more has its colour, too."""
         sign = SIGNS[kind]["utf" not in (stream.encoding or "").lower()]
-        self.say(f"{self.paint(sign, kind, stream)} {text}", stream=stream)
+        self.say(f"{self.paint(sign, kind, stream)} {text}{self.paint(more, kind, stream)}", stream=stream)
 
     def say(self, text: str, kind: str = "", stream: TextIO | None = None) -> None:
         """A line of standard output, or of another stream."""
@@ -144,14 +144,14 @@ class Board:
                 self.errors += [line] if line.startswith("actrun: ") else []
                 self.screen.tell(re.sub("^::(notice|warning|error)::", r"\1: ", line))
                 return
-            self.running.pop(found.leg, None)
-            if found.state == "started":
-                self.running[found.leg] = found.step
+            leg, step, state, reason, seconds = found
+            self.running.pop(leg, None)
+            if state == "started":
+                self.running[leg] = step
             else:
                 self.ended += 1
-                reason = "stopped by Ctrl-C" if self.stopped and found.state == "failure" else found.detail
-                words = [self.title(found.leg, found.step), reason, f"{found.seconds} s" if found.seconds else ""]
-                self.screen.result(found.state, ", ".join(filter(None, words)), sys.stderr)
+                words = [self.title(leg, step), "stopped by Ctrl-C" if self.stopped and reason else reason, f"{seconds} s" if seconds else ""]
+                self.screen.result(state, ", ".join(filter(None, words)), sys.stderr)
             self.screen.status("; ".join(f"{self.title(leg, step)} .." for leg, step in sorted(self.running.items())))
         except OSError:
             pass

@@ -185,9 +185,17 @@ def remove(folder: Path) -> None:
         shutil.rmtree(folder, ignore_errors=True)
 
 
-def copy_tree(facts: Facts, room: Room) -> list[str]:
-    """Copies the working tree into the room, with links, modes and times, and gives what was left out, a sentence each."""
+def copy_tree(facts: Facts, room: Room, in_place: bool = False) -> list[str]:
+    """Copies the working tree into the room, with links, modes and times, and gives what was left out, a sentence each.
+    With `in_place` a link to it is made."""
     left: list[str] = []
+    if in_place and os.fsencode(facts.top).decode("utf-8", "replace") != str(facts.top):
+        raise Problem(f"--in-place {facts.top}: the program takes names in UTF-8 alone: leave --in-place out")
+    if in_place:
+        room.tree.symlink_to(facts.top)
+        return left
+    if not facts.repository and facts.top in (Path.home(), Path("/")):
+        raise Problem(f"{facts.top} is no repository, and too much to copy: name a folder by --directory DIR")
     room.tree.mkdir()
     if not facts.repository:
         copy(facts.top, ["cp", "-a", "--reflink=auto", "--", "./.", room.tree])
@@ -230,29 +238,22 @@ def files_of(top: Path, left: list[str], prefix: bytes = b"") -> Iterator[bytes]
 
 
 def copy_repository(top: Path, room: Room) -> None:
-    """Makes the copy a repository at the same commit. It reads the objects through links in the room, and can write none of them."""
-    form = git(top, "rev-parse", "--show-object-format") or "sha1"
+    """Makes the copy a repository at the same commit. It reads the objects through links in the room, and can write none of them.
+    Of the configuration it has the remotes without passwords, and how files are compared."""
+    form, folder = git(top, "rev-parse", "--show-object-format") or "sha1", room.tree / ".git"
     ask(room.tree, "-c", "init.defaultRefFormat=files", "init", "--quiet", "--template=", f"--object-format={form}")
-    folder = room.tree / ".git"
-    for path in (room.objects, folder / "info", folder / "objects" / "info"):
-        path.mkdir(exist_ok=True)
-
-    def place(name: str) -> Path:
-        return top / os.fsdecode(ask(top, "rev-parse", "--git-path", name).stdout.removesuffix(b"\n"))
-    objects = place("objects").resolve()
+    names = ("objects", "HEAD", "packed-refs", "refs", "index", "shallow", "info")
+    found = git(top, "rev-parse", *(word for name in names for word in ("--git-path", name)), "--shared-index-path") or ""
+    objects, *paths = [top / name for name in found.split("\n") if name]
+    copy(top, ["cp", "-a", "--", *(path for path in paths if path.exists()), folder])
+    room.objects.mkdir()
     more = objects / "info" / "alternates"
     inherited = os.fsdecode(more.read_bytes()).splitlines() if more.is_file() else []
     for number, path in enumerate((objects, *(objects / line for line in inherited))):
-        (room.objects / str(number)).symlink_to(path)
+        (room.objects / str(number)).symlink_to(path.resolve())
     links = "".join(f"{link}\n" for link in room.objects.iterdir())
     (folder / "objects" / "info" / "alternates").write_text(links, encoding="utf-8")
-    (folder / "packed-refs").write_bytes(ask(top, "for-each-ref", "--format=%(objectname) %(refname)").stdout)
-    branch = git(top, "symbolic-ref", "--quiet", "HEAD")
-    (folder / "HEAD").write_text((f"ref: {branch}" if branch else git(top, "rev-parse", "HEAD") or "") + "\n", encoding="utf-8")
     write_config(top, folder / "config")
-    for path in (place("shallow"), place("info/exclude"), place("index"), *place("index").parent.glob("sharedindex.*")):
-        if path.is_file():
-            shutil.copyfile(path, folder / ("info" if path.name == "exclude" else "") / path.name)
 
 
 def write_config(top: Path, file: Path) -> None:

@@ -10,7 +10,7 @@ from pathlib import Path
 from actrun_front import Problem, options
 from actrun_front.contexts import Play, contexts, excluded, payload, read_inputs, read_payload, triggers
 from actrun_front.environment import PASSED, marker, settle
-from actrun_front.execute import Progress, read_progress
+from actrun_front.execute import read_progress
 from actrun_front.planning import Flow, job_rows
 from actrun_front.present import legs_of, mask, one_line, placed, table
 from actrun_front.tree import Facts, Room, clean, find_project, find_top, make_room, parse_remote, read_facts, short_name, write_config
@@ -284,13 +284,13 @@ class Shown(unittest.TestCase):
     """Names, tables and lines."""
 
     def test_progress(self) -> None:
-        self.assertEqual(read_progress("leg 2 (test) step 0 of 4 started: a (b)"), Progress(2, 0, "started", "", ""))
-        self.assertEqual(read_progress("leg 2 (test) step 3 of 4 exit 0 in 1.5 s, 3 of 9 steps"), Progress(2, 3, "success", "", "1.5"))
-        self.assertEqual(read_progress("leg 2 (test) step 3 of 4 exit 2, 3 of 9 steps"), Progress(2, 3, "failure", "exit 2", ""))
+        self.assertEqual(read_progress("leg 2 (test) step 0 of 4 started: a (b)"), (2, 0, "started", "", ""))
+        self.assertEqual(read_progress("leg 2 (test) step 3 of 4 exit 0 in 1.5 s, 3 of 9 steps"), (2, 3, "success", "", "1.5"))
+        self.assertEqual(read_progress("leg 2 (test) step 3 of 4 exit 2, 3 of 9 steps"), (2, 3, "failure", "exit 2", ""))
         self.assertEqual(read_progress("leg 0 (t) step 1 of 4 not started: x (y) (its folder is not there), 3 of 9 steps"),
-                         Progress(0, 1, "failure", "not started: its folder is not there", ""))
+                         (0, 1, "failure", "not started: its folder is not there", ""))
         self.assertEqual(read_progress("leg 0 (t) step 1 of 4 bad output in 0.1 s, 3 of 9 steps"),
-                         Progress(0, 1, "failure", "its outputs or variables cannot be read", "0.1"))
+                         (0, 1, "failure", "its outputs or variables cannot be read", "0.1"))
         self.assertIsNone(read_progress("actrun: io"))
 
     def test_mask_takes_the_longest(self) -> None:
@@ -305,10 +305,10 @@ class Shown(unittest.TestCase):
 
     def test_jobs_by_stages(self) -> None:
         text = ("name: CI\non: [push]\njobs:\n  last: {needs: [one, two]}\n  one: {name: First}\n  two: {needs: one}\n"
-                "  a: {needs: b}\n  b: {needs: a}\n")
+                "  four: {needs: [last, three]}\n  three: {needs: one}\n")
         rows = job_rows([Flow("ci.yml", read_document(text.encode()))])
-        self.assertEqual([row[:3] for row in rows[1:]], [("0", "one", "First"), ("1", "two", "two"), ("1", "a", "a"), ("1", "b", "b"),
-                                                        ("2", "last", "last")])
+        self.assertEqual([row[:3] for row in rows[1:]], [("0", "one", "First"), ("1", "two", "two"), ("1", "three", "three"),
+                                                        ("2", "last", "last"), ("3", "four", "four")])
         self.assertEqual(rows[1][3:], ("CI", "ci.yml", "push"))
 
     def test_places_in_yaml(self) -> None:
