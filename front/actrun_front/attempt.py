@@ -24,7 +24,6 @@ from .tree import find_project, find_top, git, read_facts
 FRONT = Path(__file__).resolve().parent.parent
 INTERRUPTED = 130
 PYTHON = "/usr/bin/python3" if os.access("/usr/bin/python3", os.X_OK) else sys.executable  # (the sandbox shows the system's)
-NO_ROOM = (errno.ENOSPC, errno.EACCES, errno.EROFS, errno.ENOTDIR)
 
 
 def main(arguments: list[str]) -> int:
@@ -39,7 +38,8 @@ def main(arguments: list[str]) -> int:
     except BrokenPipeError:
         text, status = "standard output was closed before the end", 3
     except OSError as error:
-        more = ": make room there, or name another place by the variable XDG_CACHE_HOME" if error.errno in NO_ROOM else ""
+        of_cache = error.errno == errno.ENOSPC or str(rooms.cache_root().parent) in str(error.filename)
+        more = ": make room there, or name another place by the variable XDG_CACHE_HOME" if of_cache else ""
         text, status = f"{os.fsdecode(error.filename) + ': ' if error.filename else ''}{error.strerror}{more}", 3
     for stream, show in ((sys.stderr, screen.tell), (sys.stdout, None)):
         try:
@@ -102,7 +102,10 @@ def look(plan: dict[str, Any], flows: list[Flow], play: Play) -> Iterable[str]:
     """The graph of the plan, or its tree with the stubs of its actions and the jobs that execute nothing here."""
     if play.options.graph:
         write_private(play.room.private / "plan", json.dumps(plan, ensure_ascii=False))
-        yield ask("graph", play.room.private / "plan").stdout.rstrip("\n")
+        answer = ask("graph", play.room.private / "plan")
+        if answer.returncode != 0:
+            raise Problem(answer.stderr.strip().removeprefix("actrun: "), answer.returncode)
+        yield answer.stdout.rstrip("\n")
         return
     stubs = stubs_of(plan, play)
     stands = {**dict.fromkeys(stubs.programs, "stub"), **dict.fromkeys(stubs.named, "named program"),
@@ -203,8 +206,8 @@ class Trial:
         for line in placed(mask(ask("why", self.record).stdout, self.secrets).splitlines(), self.legs, self.place) if known else \
                 self.board.without_record():
             screen.say(f"  {line}")
-        for line in self.board.errors:
-            screen.tell(explain(line, "run", ["--work", str(self.room.folder)]) or line)
+        for text in filter(None, (explain(line, "run", ["--work", str(self.room.folder)]) for line in self.board.errors)):
+            screen.tell(text)
         done = {leg.job["number"] for leg in self.legs if results.get(leg.run) == "success"}
         if self.own_trees and self.options.keep is None:
             for folder in (folder for job in done for folder in (self.room.play / "legs").glob(f"{job}-*")):

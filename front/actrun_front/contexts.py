@@ -11,14 +11,14 @@ from typing import Any
 from urllib.parse import urlsplit
 
 from . import Problem
+from .lower_tree import texts
 from .options import read_text
 from .tree import GITHUB, Facts, Room, git
 
 GREATEST = 9007199254740991
 NO_COMMIT = "0" * 40
 MOST_COMMITS = 20
-SYSTEMS = {"Linux": "Linux", "Darwin": "macOS", "Windows": "Windows"}
-MACHINES = {"x86_64": "X64", "AMD64": "X64", "aarch64": "ARM64", "arm64": "ARM64", "i386": "X86", "i686": "X86"}
+NAMES = {"Darwin": "macOS", "x86_64": "X64", "AMD64": "X64", "aarch64": "ARM64", "arm64": "ARM64", "i386": "X86", "i686": "X86"}
 # of `github.ref`: events of the current branch or tag, and those of the payload; all others are of the default branch
 OF_CURRENT = ("workflow_call", "create", "merge_group", "repository_dispatch", "release")
 OF_PAYLOAD = ("push", "workflow_dispatch")
@@ -48,7 +48,7 @@ def triggers(value: Any) -> dict[str, Any]:
     events = value.get("on", value.get("true")) if isinstance(value, dict) else None
     if isinstance(events, dict):
         return dict(events)
-    return {name: None for name in ([events] if isinstance(events, str) else events or []) if isinstance(name, str)}
+    return dict.fromkeys(texts(events))
 
 
 def contexts(play: Play, workflow: str, value: dict[str, Any]) -> dict[str, Any]:
@@ -61,7 +61,7 @@ def contexts(play: Play, workflow: str, value: dict[str, Any]) -> dict[str, Any]
     secrets = {"GITHUB_TOKEN": "", **options.secrets}
     name = value.get("name")
     github = github_context(play, event, workflow, name if isinstance(name, str) else workflow)
-    runner = {"os": SYSTEMS.get(platform.system(), platform.system()), "arch": MACHINES.get(platform.machine(), "X64"), "name": "actrun",
+    runner = {"os": NAMES.get(platform.system(), platform.system()), "arch": NAMES.get(platform.machine(), "X64"), "name": "actrun",
               "environment": "self-hosted", "temp": str(play.room.play / "temp"), "tool_cache": str(play.room.play / "tools"),
               "debug": "1" if {**options.vars, **secrets}.get("ACTIONS_STEP_DEBUG") == "true" else ""}
     return {"github": {**github, "token": secrets["GITHUB_TOKEN"]}, "inputs": inputs, "vars": dict(options.vars), "secrets": secrets,
@@ -195,20 +195,14 @@ def push(facts: Facts) -> dict[str, Any]:
 
 def commits(facts: Facts, after: str | None, most: int = MOST_COMMITS) -> list[dict[str, Any]]:
     """The commits of HEAD behind `after`, the newest last."""
-    words = ["log", "-z", "--encoding=UTF-8", f"--max-count={most}", "--no-show-signature", "--no-renames", "--name-status",
-             "--format=%x01%H%x00%T%x00%cI%x00%an%x00%ae%x00%cn%x00%ce%x00%B%x00", "HEAD", *([f"^{after}"] if after else []), "--"]
-    found = []
-    for part in reversed((git(facts.top, *words) or "").split("\1")[1:]):
-        sha, tree, time, author, author_mail, committer, committer_mail, message, *rest = part.split("\0") + [""]
-        changes = [field.lstrip("\n") for field in rest if field.strip("\n")]
-        files: dict[str, list[str]] = {"added": [], "removed": [], "modified": []}
-        for kind, name in zip(changes[::2], changes[1::2]):
-            files[{"A": "added", "D": "removed"}.get(kind, "modified")].append(name)
-        found.append({
-            "id": sha, "tree_id": tree, "distinct": True, "message": message.rstrip("\n"), "timestamp": time,
-            "url": f"{facts.web}/commit/{sha}" if facts.web else "", "author": {"name": author, "email": author_mail},
-            "committer": {"name": committer, "email": committer_mail}, **files})
-    return found
+    found = git(facts.top, "log", "-z", "--encoding=UTF-8", f"--max-count={most}", "--no-show-signature",
+                "--format=%H%x01%T%x01%cI%x01%an%x01%ae%x01%cn%x01%ce%x01%B", "HEAD", *([f"^{after}"] if after else []), "--")
+    return [{
+        "id": sha, "tree_id": tree, "distinct": True, "message": message.rstrip("\n"), "timestamp": time,
+        "url": f"{facts.web}/commit/{sha}" if facts.web else "", "author": {"name": author, "email": author_mail},
+        "committer": {"name": committer, "email": committer_mail}}
+        for sha, tree, time, author, author_mail, committer, committer_mail, message in (
+            part.split("\1", 7) for part in reversed((found or "").split("\0")) if part)]
 
 
 def pull_request(facts: Facts, repository: dict[str, Any], user: dict[str, Any]) -> dict[str, Any]:

@@ -241,7 +241,7 @@ def copy_repository(top: Path, room: Room) -> None:
     """Makes the copy a repository at the same commit. It reads the objects through links in the room, and can write none of them.
     Of the configuration it has the remotes without passwords, and how files are compared."""
     form, folder = git(top, "rev-parse", "--show-object-format") or "sha1", room.tree / ".git"
-    ask(room.tree, "-c", "init.defaultRefFormat=files", "init", "--quiet", "--template=", f"--object-format={form}")
+    ask(room.tree, "-c", "init.defaultRefFormat=files", "init", "-q", "--template=", *([f"--object-format={form}"] if form != "sha1" else []))
     names = ("objects", "HEAD", "packed-refs", "refs", "index", "shallow", "info")
     found = git(top, "rev-parse", *(word for name in names for word in ("--git-path", name)), "--shared-index-path") or ""
     objects, *paths = [top / name for name in found.split("\n") if name]

@@ -122,8 +122,7 @@ class Contexts(TryCase):
         self.assertEqual({name: github[name] for name in wanted}, wanted)
         event = github["event"]
         self.assertEqual((event["before"], event["after"], event["ref"]), (first, second, "refs/heads/main"))
-        self.assertEqual([(entry["message"], entry["added"], entry["modified"], entry["removed"]) for entry in event["commits"]],
-                         [("second\n\nwith a body", ["other"], ["file"], [])])
+        self.assertEqual([(entry["id"], entry["message"]) for entry in event["commits"]], [(second, "second\n\nwith a body")])
         self.assertEqual(event["head_commit"]["author"], {"name": "Ada", "email": "ada@example.org"})
         self.assertEqual(event["compare"], f"https://github.com/octo/hello/compare/{first[:12]}...{second[:12]}")
         self.assertEqual(found["runner"]["temp"], "/w/play/temp")
