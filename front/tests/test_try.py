@@ -58,6 +58,16 @@ class Example(TryCase):
         self.assertIn("'Hi, Ada!' != 'Hello, Ada!'", done.stdout)
         self.assertRegex(done.stdout, r"(?m)^\S+ CI \(.github/workflows/ci.yml\): failure$")
 
+    def test_jobs_and_graph_without_execution(self) -> None:
+        self.commit()
+        done = self.attempt("-l")
+        self.assert_status(done, 0)
+        self.assertEqual([line.split()[:3] for line in done.stdout.splitlines()[1:]], [["0", "test", "test"], ["1", "deploy", "deploy"]])
+        done = self.attempt("-g")
+        self.assert_status(done, 0)
+        self.assertRegex(done.stdout, r"^digraph plan \{\n(.*\n)*\}\n$")
+        self.assertEqual(list((self.home / ".cache" / "actrun" / "work").iterdir()), [])
+
     def test_a_folder_below_a_repository_is_a_project_of_its_own(self) -> None:
         outer = self.home / "outer"
         shutil.copytree(self.project, outer / "example")
