@@ -80,7 +80,7 @@ class Screen:
 
     def paint(self, text: str, kind: str, stream: TextIO) -> str:
         """The text in the colour of its kind, where the stream has colours."""
-        return f"\x1b[{COLOURS[kind]}m{text}\x1b[0m" if kind in COLOURS and stream.isatty() and not self.plain else text
+        return f"\x1b[{COLOURS[kind]}m{text}\x1b[0m" if text and kind in COLOURS and stream.isatty() and not self.plain else text
 
     def result(self, kind: str, text: str, stream: TextIO, more: str = "") -> None:
         """A line behind the sign of a result; what is more has its colour, too."""
@@ -107,8 +107,8 @@ class Screen:
         """The line of what is running, which the next line replaces."""
         with self.lock:
             if self.live and (text or self.shown):
-                text = self.paint(text[:shutil.get_terminal_size().columns - 1], "note", sys.stderr) if text else ""
-                print(f"\r\x1b[K{text}", end="", file=sys.stderr, flush=True)
+                shown = self.paint(text[:shutil.get_terminal_size().columns - 1], "note", sys.stderr)
+                print(f"\r\x1b[K{shown}", end="", file=sys.stderr, flush=True)
                 self.shown = bool(text)
 
 
