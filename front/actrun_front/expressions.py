@@ -1,15 +1,18 @@
-"""Takes expressions and templates apart by tokens, rewrites contexts and calls in them, and asks the program for values."""
+"""Takes expressions and templates apart, rewrites contexts and calls in them, and asks the program for values."""
 from __future__ import annotations
 
 import json
 import re
 import subprocess
 from dataclasses import dataclass, field
-from typing import Any, Callable, Dict, Iterable, List, NamedTuple, Optional, Tuple
+from typing import Any, Callable, Dict, Iterable, Iterator, List, NamedTuple, Optional, Set, Tuple
 
-TOKEN = re.compile(r"""(?P<space>[ \t\r\n]+)|(?P<text>'(?:[^']|'')*')|(?P<number>[-+]?\.?[0-9][0-9A-Za-z_.+-]*)|(?P<name>[A-Za-z_][A-Za-z0-9_-]*)
-    |(?P<operator><=|>=|==|!=|&&|\|\||[()\[\].,*!<>])""", re.VERBOSE)
-FRACTION = re.compile(r"[-+]?([0-9]+\.[0-9]*|\.[0-9]+)")
+NAME, TEXT = r"[A-Za-z_][A-Za-z0-9_-]*", r"'(?:[^']|'')*'"
+KEY = rf"\s*\.\s*({NAME})|\s*\[\s*({TEXT})\s*\]"  # a property that is written out
+TOKEN = re.compile(rf"""(?P<text>{TEXT}) | (?P<fraction>[-+]?(?:[0-9]+\.[0-9]*|\.[0-9]+)(?![\w.+-])) | (?P<number>[-+]?\.?[0-9][\w.+-]*)
+    | (?P<open>(?:{NAME}\s*)?\(|\[) | (?P<close>[)\]]) | (?P<comma>,) | (?P<access>{NAME}(?:{KEY})*)
+    | (?P<property>\.\s*(?:\*|{NAME})) | (?P<operator><=|>=|==|!=|&&|\|\||[*!<>.]) | (?P<space>\s+) | (?P<wrong>.)""", re.VERBOSE | re.ASCII)
+PIECE = re.compile(r"\$\{\{((?:'[^']*'|[^'}]|\}(?!\}))*)\}\}")
 STATUS = {"success", "failure", "always", "cancelled"}
 LITERALS = {"true", "false", "null"}
 
@@ -18,149 +21,78 @@ class EvaluationError(Exception):
     """An expression has no value: the text says why."""
 
 
-class Token(NamedTuple):
-    kind: str
-    text: str
-
-
 class Access(NamedTuple):
     """A context in an expression, in small letters, and the properties after it that are written out."""
     context: str
     keys: Tuple[str, ...]
 
 
-ContextRule = Callable[[Access], Optional[Tuple[str, int]]]  # the replacement, and how many keys it takes in
-CallRule = Callable[[List[str]], Optional[str]]
+Replacement = Optional[Tuple[str, int]]  # what stands in for an access, and how many keys it takes in; None leaves it as it is
 
 
 @dataclass
 class Rules:
-    """What stands in for contexts, calls and fractions. A rule that gives None leaves the text as it is."""
-    contexts: Dict[str, ContextRule] = field(default_factory=dict)
-    calls: Dict[str, CallRule] = field(default_factory=dict)
-    fraction: Optional[Callable[[str], Optional[str]]] = None
+    """What stands in for contexts, for calls by their arguments, and for fractions."""
+    contexts: Dict[str, Callable[[Access], Replacement]] = field(default_factory=dict)
+    calls: Dict[str, Callable[[List[str]], Optional[str]]] = field(default_factory=dict)
+    fraction: Optional[Callable[[str], str]] = None
+    mark: Any = None  # where the text is that is being rewritten
+    condition: bool = False  # and whether it is a condition
 
 
-def tokens(expression: str) -> list[Token] | None:
-    """The tokens of an expression, spaces too. None where it has a character or a quote that begins none."""
-    found, at = [], 0
-    while at < len(expression):
-        match = TOKEN.match(expression, at)
-        if not match:
-            return None
-        found.append(Token(match.lastgroup, match.group()))
-        at = match.end()
-    return found
-
-
-def after_space(parts: list[Token], at: int) -> int:
-    """The place of the next token that is no space, or the end."""
-    while at < len(parts) and parts[at].kind == "space":
-        at += 1
-    return at
-
-
-def is_operator(parts: list[Token], at: int, text: str) -> bool:
-    return at < len(parts) and parts[at] == Token("operator", text)
+def tokens(expression: str) -> List[Tuple[str, str]] | None:
+    """The kinds and texts of an expression's tokens. None where it has a character or a quote that begins none."""
+    found = [(str(match.lastgroup), match.group()) for match in TOKEN.finditer(expression)]
+    return None if any(kind == "wrong" for kind, _ in found) else found
 
 
 def unquoted(text: str) -> str:
     return text[1:-1].replace("''", "'")
 
 
-def static_keys(parts: list[Token], at: int) -> list[tuple[str, int]]:
-    """The properties that follow a context, each with the place after it: `.name` and `['name']`."""
-    keys = []
-    while True:
-        dot = after_space(parts, at)
-        inner = after_space(parts, dot + 1)
-        if is_operator(parts, dot, ".") and inner < len(parts) and parts[inner].kind == "name":
-            keys.append((parts[inner].text, inner + 1))
-        elif is_operator(parts, dot, "[") and inner < len(parts) and parts[inner].kind == "text":
-            end = after_space(parts, inner + 1)
-            if not is_operator(parts, end, "]"):
-                return keys
-            keys.append((unquoted(parts[inner].text), end + 1))
-        else:
-            return keys
-        at = keys[-1][1]
+def access_of(text: str) -> Tuple[Access, List[int]]:
+    """What a token reads, and where in it each key ends."""
+    keys = list(re.finditer(KEY, text))
+    return Access(re.match(NAME, text)[0].lower(), tuple(key[1] or unquoted(key[2]) for key in keys)), [key.end() for key in keys]
 
 
-def arguments(parts: list[Token], at: int) -> tuple[list[list[Token]], int] | None:
-    """The arguments of a call whose parenthesis is at a place, and the place after it. None where it is not closed."""
-    found, depth, inner = [], 0, at + 1
-    for place in range(at, len(parts)):
-        text = parts[place].text if parts[place].kind == "operator" else ""
-        depth += (text in ("(", "[")) - (text in (")", "]"))
-        if depth == 0 or depth == 1 and text == ",":
-            if place > after_space(parts, inner) or found or text == ",":
-                found.append(parts[inner:place])
-            inner = place + 1
-        if depth == 0:
-            return found, place + 1
-    return None
-
-
-def rewritten(parts: list[Token], rules: Rules) -> str:
-    """The text of tokens after the rules."""
-    out, at, property_follows = [], 0, False
-    while at < len(parts):
-        kind, text = parts[at]
-        small, end = text.lower(), at + 1
-        if kind == "name" and not property_follows and small not in LITERALS:
-            opening = after_space(parts, end)
-            if is_operator(parts, opening, "("):
-                call = arguments(parts, opening) if small in rules.calls else None
-                given = rules.calls[small]([rewritten(one, rules).strip() for one in call[0]]) if call else None
-                if given is not None:
-                    text, end = given, call[1]
-            elif small in rules.contexts:
-                keys = static_keys(parts, end)
-                given = rules.contexts[small](Access(small, tuple(key for key, _ in keys)))
-                if given is not None:
-                    text, end = given[0], keys[given[1] - 1][1] if given[1] else end
-        elif kind == "number" and rules.fraction and FRACTION.fullmatch(text):
-            text = rules.fraction(text) or text
-        if kind != "space":
-            property_follows = kind == "operator" and text == "."
-        out.append(text)
-        at = end
-    return "".join(out)
+def rewritten(parts: Iterator[Tuple[str, str]], rules: Rules) -> Tuple[List[str], str]:
+    """The texts between commas after the rules, up to the bracket that closes them, and that bracket."""
+    found = [""]
+    for kind, text in parts:
+        if kind == "close":
+            return found, text
+        if kind == "comma":
+            found.append("")
+            continue
+        if kind == "open":
+            inner, end = rewritten(parts, rules)
+            rule = rules.calls.get(text[:-1].strip().lower()) if end else None
+            given = rule([one.strip() for one in inner] if inner != [""] else []) if rule else None
+            text = text + ",".join(inner) + end if given is None else given
+        elif kind == "access":
+            access, ends = access_of(text)
+            new = rules.contexts[access.context](access) if access.context in rules.contexts else None
+            text = new[0] + text[ends[new[1] - 1] if new[1] else len(access.context):] if new else text
+        elif kind == "fraction" and rules.fraction:
+            text = rules.fraction(text)
+        found[-1] += text
+    return found, ""
 
 
 def rewrite(expression: str, rules: Rules) -> str:
     """The expression after the rules; one that cannot be read stays as it is."""
-    parts = tokens(expression)
-    return expression if parts is None else rewritten(parts, rules)
+    found, end = rewritten(iter(tokens(expression) or [("close", ")")]), rules)
+    return expression if end else ",".join(found)
 
 
-def split(template: str) -> list[tuple[bool, str]]:
+def split(template: str) -> List[Tuple[bool, str]]:
     """The pieces of a template, each with whether it is an expression. A `${{` that is not closed is text."""
-    pieces, at = [], 0
-    while True:
-        begin = template.find("${{", at)
-        end = expression_end(template, begin + 3) if begin >= 0 else -1
-        if end < 0:
-            return pieces + ([(False, template[at:])] if at < len(template) else [])
-        if begin > at:
-            pieces.append((False, template[at:begin]))
-        pieces.append((True, template[begin + 3:end]))
-        at = end + 2
-
-
-def expression_end(template: str, at: int) -> int:
-    """Where the `}}` outside of quotes begins that closes an expression, or -1."""
-    quoted = False
-    for place in range(at, len(template)):
-        if template[place] == "'":
-            quoted = not quoted
-        elif not quoted and template.startswith("}}", place):
-            return place
-    return -1
+    return [(at % 2 == 1, piece) for at, piece in enumerate(PIECE.split(template)) if piece or at % 2]
 
 
 def has_expression(value: Any) -> bool:
-    return isinstance(value, str) and any(is_one for is_one, _ in split(value))
+    return isinstance(value, str) and PIECE.search(value) is not None
 
 
 def literal(value: Any) -> str:
@@ -171,47 +103,44 @@ def literal(value: Any) -> str:
     return f"fromJSON({literal(text)})" if isinstance(value, (list, dict, float)) else text
 
 
+def lone_text(expression: str) -> str | None:
+    """The text that an expression is, in quotes and maybe in parentheses; None where it is anything else."""
+    match = re.fullmatch(rf"[\s(]*({TEXT})[\s)]*", expression)
+    return unquoted(match[1]) if match else None
+
+
 def rewrite_template(template: str, rules: Rules) -> str:
-    """The template after the rules. An expression that becomes a lone text or number is written out."""
-    out = []
-    for is_one, text in split(template):
-        if not is_one:
-            out.append(text)
-            continue
-        new = rewrite(text, rules)
-        out.append("${{" + text + "}}" if new == text else written_out(new))
-    return "".join(out)
-
-
-def written_out(expression: str) -> str:
-    """The text of an expression in a template: its value where it is a lone text that begins no expression."""
-    parts = [part for part in tokens(expression) or [] if part.kind != "space"]
-    while len(parts) >= 3 and parts[0].text == "(" and parts[-1].text == ")":
-        parts = parts[1:-1]
-    if len(parts) == 1 and parts[0].kind == "text" and "$" not in parts[0].text and "{" not in parts[0].text:
-        return unquoted(parts[0].text)
-    return "${{ " + expression.strip() + " }}"
+    """The template after the rules. An expression that becomes a lone text is written out, unless that could begin an expression."""
+    def piece(match: re.Match[str]) -> str:
+        new = rewrite(match[1], rules)
+        text = lone_text(new) if new != match[1] else None
+        return match[0] if new == match[1] else "${{ " + new.strip() + " }}" if text is None or "$" in text or "{" in text else text
+    return PIECE.sub(piece, template)
 
 
 def rewrite_condition(condition: str, rules: Rules) -> str:
     """The condition after the rules: an expression, or a template where `${{` is in it."""
-    if has_expression(condition):
-        return "".join("${{" + rewrite(text, rules) + "}}" if is_one else text for is_one, text in split(condition))
-    return rewrite(condition, rules)
+    return PIECE.sub(lambda it: "${{" + rewrite(it[1], rules) + "}}", condition) if has_expression(condition) else rewrite(condition, rules)
 
 
 def template_expression(template: str) -> str:
     """The one expression that has the value of a template."""
-    pieces = split(template)
-    if len(pieces) == 1 and pieces[0][0]:
-        return pieces[0][1].strip()
-    if not any(is_one for is_one, _ in pieces):
-        return literal(template)
-    shape, given = "", []
-    for is_one, text in pieces:
-        shape += f"{{{len(given)}}}" if is_one else text.replace("{", "{{").replace("}", "}}")
-        given += [text.strip()] if is_one else []
-    return "format(" + ", ".join([literal(shape)] + given) + ")"
+    pieces = PIECE.split(template)
+    given = [text.strip() for text in pieces[1::2]]
+    if len(given) == 1 and pieces[::2] == ["", ""]:
+        return given[0]
+    shape = "".join(text.replace("{", "{{").replace("}", "}}") + f"{{{at}}}" for at, text in enumerate(pieces[::2]))
+    return "format(" + ", ".join([literal(shape[:shape.rindex("{")]), *given]) + ")" if given else literal(template)
+
+
+def expression_of(value: Any) -> str:
+    """The expression of a text that may hold templates, or of any other value of YAML."""
+    return template_expression(value) if isinstance(value, str) else literal(value)
+
+
+def as_text(expression: str) -> str:
+    """The expression of the text of a value."""
+    return expression if lone_text(expression) is not None or expression.startswith("format(") else f"format('{{0}}', {expression})"
 
 
 def condition_expression(condition: Any) -> str | None:
@@ -229,28 +158,11 @@ def conjunction(*conditions: str | None) -> str | None:
     return given[0] if len(given) == 1 else " && ".join(f"({one})" for one in given) or None
 
 
-def references(expression: str) -> tuple[list[Access], set[str]]:
+def references(expression: str) -> Tuple[List[Access], Set[str]]:
     """The contexts that an expression reads, and the names of the functions that it calls, in small letters."""
-    accesses: list[Access] = []
     parts = tokens(expression) or []
-    named = [at for at, part in enumerate(parts) if part.kind == "name" and part.text.lower() not in LITERALS]
-    calls = {parts[at].text.lower() for at in named if is_operator(parts, after_space(parts, at + 1), "(")}
-
-    def keep(access: Access) -> None:
-        accesses.append(access)
-    rewritten(parts, Rules({parts[at].text.lower(): keep for at in named}))
-    return accesses, calls
-
-
-def template_references(template: str) -> tuple[list[Access], set[str]]:
-    """The same of all expressions of a template."""
-    accesses: list[Access] = []
-    calls: set[str] = set()
-    for is_one, text in split(template):
-        found = references(text) if is_one else ([], set())
-        accesses += found[0]
-        calls |= found[1]
-    return accesses, calls
+    accesses = [access_of(text)[0] for kind, text in parts if kind == "access" and text.lower() not in LITERALS]
+    return accesses, {text[:-1].strip().lower() for kind, text in parts if kind == "open"} - {""}
 
 
 def names_status(expression: str | None) -> bool:
@@ -261,8 +173,14 @@ def names_status(expression: str | None) -> bool:
 def reads_only(expression: str, contexts: Iterable[str]) -> bool:
     """Whether an expression can be evaluated from these contexts alone."""
     accesses, calls = references(expression)
-    allowed = set(contexts)
-    return tokens(expression) is not None and not calls & (STATUS | {"hashfiles"}) and all(it.context in allowed for it in accesses)
+    return tokens(expression) is not None and not calls & (STATUS | {"hashfiles"}) and {it.context for it in accesses} <= set(contexts)
+
+
+def inner_condition(own: str | None, began: str, success: str, failure: str) -> str:
+    """The condition of a part of something that began, where success() and failure() have a meaning of their own."""
+    rules = Rules({}, {"success": lambda _: success, "failure": lambda _: failure})
+    inner = rewrite(own, rules) if own and names_status(own) else conjunction(success, own)
+    return f"{'always()' if 'always' in references(own or '')[1] else '!cancelled()'} && {began} && ({inner})"
 
 
 class Program:
@@ -272,15 +190,15 @@ class Program:
         self.program = program
         self.answers: Dict[Tuple[str, str], Any] = {}
 
-    def answer(self, given: list[str], data: str) -> Any:
+    def answer(self, given: List[str], data: str) -> Any:
         """The JSON that the program prints."""
         try:
             ran = subprocess.run([self.program, *given], input=data.encode(), capture_output=True, check=False)
             if ran.returncode == 0:
                 return json.loads(ran.stdout)
-            raise EvaluationError(ran.stderr.decode("utf-8", "replace").strip().replace("actrun: ", "", 1))
         except (OSError, ValueError) as fault:
             raise EvaluationError(f"{self.program} cannot be started: {fault}") from None
+        raise EvaluationError(ran.stderr.decode("utf-8", "replace").strip().replace("actrun: ", "", 1))
 
     def evaluate(self, expression: str, contexts: dict) -> Any:
         """The value of an expression. Raises EvaluationError with the program's reason."""
@@ -289,7 +207,7 @@ class Program:
             self.answers[expression, data] = self.answer(["eval", "--contexts", "/dev/stdin", "--", expression], data)
         return self.answers[expression, data]
 
-    def legs(self, matrix: Any) -> list[dict]:
+    def legs(self, matrix: Any) -> List[dict]:
         """The combinations of a matrix, one for each leg. Raises EvaluationError where the planner refuses it."""
         job = {"steps": [], "strategy": {"matrix": matrix}}
         plan = self.answer(["plan", "/dev/stdin"], json.dumps({"on": "push", "jobs": {"legs": job}}))

@@ -1,15 +1,15 @@
 """The command `from-yaml`: makes JSON, as `actrun` reads it, of workflows in YAML."""
 from __future__ import annotations
 
+import argparse
 import json
 import os
 import pathlib
 import sys
-from dataclasses import dataclass, field
-from typing import Any, Optional
+from typing import Any
 
-from .lower import Refused, Setting, lower
-from .yaml_reader import read_document, text_of
+from .lower import Setting, lower
+from .yaml_reader import Refused, read_document, text_of
 
 HELP = """\
 Makes JSON, as `actrun` reads it, of workflows in YAML.
@@ -43,52 +43,40 @@ actions of the repository, matrices and variables by expression, limits of time,
 Exit statuses: 0 all JSON is written, 2 the arguments or a FILE is refused, 3 a file, a stream or the library failed."""
 
 
-@dataclass
-class Options:
-    """What the arguments ask for."""
-    names: list = field(default_factory=list)
-    out: Optional[str] = None
-    lower: bool = False
-    any_system: bool = False
-    contexts: Optional[str] = None
-    known: dict = field(default_factory=dict)  # what the file of --contexts holds
-    repository: Optional[str] = None
-    matrices: dict = field(default_factory=dict)
+def variable(text: str) -> tuple[tuple[str, str], Any]:
+    """The job, the variable and the value of `JOB.VARIABLE=JSON`."""
+    place, _, value = text.partition("=")
+    job, _, name = place.rpartition(".")
+    return (job, name), json.loads(value)
 
 
-def parsed(given: list[str]) -> Options | None:
-    """The options, or None if the arguments make no sense."""
-    options, given = Options(), list(given)
-    named = {"-o": "out", "--contexts": "contexts", "--repository": "repository"}
-    while given:
-        word = given.pop(0)
-        if word in named and given and getattr(options, named[word]) is None:
-            setattr(options, named[word], given.pop(0))
-        elif word in ("--lower", "--any-system"):
-            setattr(options, word[2:].replace("-", "_"), True)
-        elif word == "--matrix" and given:
-            place, _, text = given.pop(0).partition("=")
-            job, _, variable = place.rpartition(".")
-            try:
-                options.matrices[job, variable] = json.loads(text)
-            except ValueError:
-                return None
-        elif word.startswith("-") and word != "-":
-            return None
-        else:
-            options.names.append(word)
-    beside = options.contexts or options.repository or options.matrices or options.any_system
-    good = options.names and (len(options.names) == 1 or options.out is None) and (options.lower or not beside)
-    return options if good else None
+def parsed(given: list[str]) -> argparse.Namespace:
+    """The options; where they make no sense the process ends with a line that says why."""
+    parser = argparse.ArgumentParser("from-yaml", argparse.SUPPRESS, add_help=False, allow_abbrev=False)
+    for name in ("-o", "--contexts", "--repository"):
+        parser.add_argument(name)
+    for name in ("--lower", "--any-system"):
+        parser.add_argument(name, action="store_true")
+    parser.add_argument("--matrix", action="append", default=[], type=variable)
+    parser.add_argument("names", nargs="+", metavar="FILE")
+    options = parser.parse_args(given)
+    if options.o is not None and len(options.names) > 1:
+        parser.error("-o takes the JSON of one FILE")
+    if not options.lower and (options.contexts or options.repository or options.matrix or options.any_system):
+        parser.error("--contexts, --repository, --matrix and --any-system need --lower")
+    return options
 
 
-def made(data: bytes, name: str, options: Options) -> str | None:
+def made(data: bytes, name: str, options: argparse.Namespace, known: dict[str, Any]) -> str | None:
     """The JSON of a file's bytes, or None. Faults or notes are printed."""
     document = read_document(data)
     value, notes = document.value, document.faults or document.notes
     if options.lower and not document.faults:
+        folder = pathlib.Path(name).absolute().parent
+        found = folder.parent.parent if folder.parts[-2:] == (".github", "workflows") else pathlib.Path()
+        repository = pathlib.Path(options.repository) if options.repository else found
         try:
-            lowered = lower(document, name, setting(name, options))
+            lowered = lower(document, name, Setting(repository, known, dict(options.matrix), options.any_system))
         except Refused as refused:
             print(f"{name}:{refused.line}: {refused.text}", file=sys.stderr)
             return None
@@ -98,45 +86,22 @@ def made(data: bytes, name: str, options: Options) -> str | None:
     return None if document.faults else text_of(value) + "\n"
 
 
-def setting(name: str, options: Options) -> Setting:
-    """What the options say of a file."""
-    folder = pathlib.Path(name).absolute().parent
-    found = folder.parent.parent if folder.parts[-2:] == (".github", "workflows") else pathlib.Path()
-    repository = pathlib.Path(options.repository) if options.repository else found
-    return Setting(repository, options.known, options.matrices, options.any_system)
-
-
 def contexts_of(name: str) -> dict[str, Any]:
     """The objects in the file of --contexts. Raises ValueError where it holds something else."""
-    given = json.loads(read_bytes(name))
+    given = json.loads(pathlib.Path(name).read_bytes())
     for key in ("github", "inputs", "vars", "secrets", "runner"):
         if not isinstance(given, dict) or not isinstance(given.get(key, {}), dict):
             raise ValueError("it must hold a JSON object whose github, inputs, vars, secrets and runner are objects")
     return given
 
 
-def place_of(name):
-    """Where the JSON of a file goes without `-o`."""
-    if name == "-":
-        return "-"
-    base, end = os.path.splitext(name)
-    return (base if end.lower() in (".yml", ".yaml") else name) + ".json"
-
-
-def read_bytes(place):
-    """The bytes of a file, or of the stream of a number."""
-    with open(place, "rb", closefd=place != 0) as it:
-        return it.read()
-
-
-def convert(name: str, out: str, options: Options) -> int:
+def convert(name: str, options: argparse.Namespace, known: dict[str, Any]) -> int:
     """Makes the JSON of a file, and returns the status."""
+    base, end = os.path.splitext(name)
+    out = options.o or ("-" if name == "-" else (base if end.lower() in (".yml", ".yaml") else name) + ".json")
     try:
-        if name == "-":
-            name, data = "standard input", read_bytes(0)
-        else:
-            data = read_bytes(name)
-        text = made(data, name, options)
+        data = sys.stdin.buffer.read() if name == "-" else pathlib.Path(name).read_bytes()
+        text = made(data, "standard input" if name == "-" else name, options, known)
         if text is None:
             return 2
         with open(1 if out == "-" else out, "wb", closefd=out != "-") as it:
@@ -154,12 +119,9 @@ def main(arguments: list[str]) -> int:
         print(HELP)
         return 0
     options = parsed(arguments)
-    if options is None:
-        print("from-yaml: the arguments make no sense; from-yaml --help lists them", file=sys.stderr)
-        return 2
     try:
-        options.known = contexts_of(options.contexts) if options.contexts is not None else {}
+        known = contexts_of(options.contexts) if options.contexts is not None else {}
     except (OSError, ValueError) as fault:
         print(f"from-yaml: --contexts {options.contexts}: {getattr(fault, 'strerror', None) or fault}", file=sys.stderr)
         return 3 if isinstance(fault, OSError) else 2
-    return max(convert(name, options.out or place_of(name), options) for name in options.names)
+    return max(convert(name, options, known) for name in options.names)

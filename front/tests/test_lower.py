@@ -4,7 +4,6 @@ Expected texts are written by hand from GitHub's documents: workflow syntax, con
 """
 import unittest
 
-from actrun_front.lower_scripts import read_shell
 from tests.lower_case import LowerCase, needs_program
 
 
@@ -191,32 +190,33 @@ jobs:
 
 
 class Shells(LowerCase):
+    @needs_program
     def test_options(self):
-        for text, kind, setting in (
-                ("bash", "bash", ""), ("bash --noprofile --norc -eo pipefail {0}", "bash", ""), ("bash -e {0}", "bash", "set +o pipefail"),
-                ("bash {0}", "bash", "set +e +o pipefail"), ("/bin/bash -euxo pipefail {0}", "bash", "set -u -x"),
-                ("bash -o errexit -o pipefail {0}", "bash", ""), ("sh -e {0}", "sh", ""), ("sh {0}", "sh", "set +e"), ("bash -c x {0}", "", ""),
-                ("pwsh", "", ""), ("cmd", "", ""), ("msys2 {0}", "", ""), ("bash -e", "", ""), ("perl {0}", "", ""), ("'", "", ""), ("", "", "")):
-            self.assertEqual(read_shell(text)[:2], (kind, setting), text)
-        for text, start in (("python", "python"), ("python {0}", "python"), ("python3 -u {0}", "python3 -u"), ("/x/python3.11 {0}", "/x/python3.11")):
-            self.assertEqual(read_shell(text), ("python", "", start, False), text)
+        show = "echo \"${-//[hB]/} $(set -o | sed -n '/pipefail.*on/s/ .*//p')\""
+        shells = (("bash -e {0}", "e "), ("bash {0}", " "), ("bash -l {0}", " "), ("bash --noprofile --norc -eo pipefail {0}", "e pipefail"),
+                  ("/bin/bash -euxo pipefail {0}", "eux pipefail"), ("bash --login -ei {0}", "e "), ("bash -o errexit -o pipefail {0}", "e pipefail"),
+                  ("bash -c '. {0}'", "c "))
+        self.job("    steps:\n" + "".join(f"      - {{shell: \"{shell}\", run: '{show.replace(chr(39), chr(39) * 2)}'}}\n" for shell, _ in shells)
+                 + "      - {shell: 'sh -u {0}', run: 'echo $-'}\n      - {shell: 'sed s/a/b/ {0}', run: a}\n")
+        printed = [line for line in self.run_plan() if not line.startswith("+")]
+        self.assertEqual(printed, [wanted for _, wanted in shells] + ["u", "b"])
+        self.assertIn((6, "the shell bash -l {0} is started by bash; files of a login or interactive shell are not read"), self.notes())
+        self.assertEqual(self.lowered.value["jobs"]["a"]["steps"][-1]["name"], "a")
 
-    def test_bash(self):
-        step = self.step("run: a | b, shell: 'bash -l {0}'")
-        self.assertEqual((step["run"], step["shell"], step["name"]), ("set +e +o pipefail\na | b", "bash", "a | b"))
-        self.assertEqual(self.note(), "the shell bash -l {0} is replaced by bash with `set +e +o pipefail`; files of a login or interactive "
-                                      "shell are not read")
-
+    @needs_program
     def test_others(self):
+        self.job("    strategy: {fail-fast: false, matrix: {shell: [pwsh, cmd, 'msys2 {0}', bash -e, none -x]}}\n"
+                 "    steps:\n      - {run: Get-Item, name: n, shell: '${{ matrix.shell }}'}\n")
+        self.assertEqual(self.run_plan(status=1), [f"error: the shell {shell} is not supported here; use bash, sh or python"
+                                                   for shell in ("pwsh", "cmd", "msys2 {0}", "bash -e", "none -x")])
         step = self.step("run: Get-Item, name: n, shell: pwsh")
-        self.assertEqual(step["run"], "echo '::error::the shell pwsh is not supported here; use bash, sh or python'\nexit 1\n")
         self.assertEqual((step["name"], step["shell"], self.note()), ("n", "bash", "the shell pwsh is not supported: the step fails and says so"))
 
     def test_defaults(self):
         flow = self.lower("on: push\ndefaults: {run: {shell: pwsh, working-directory: d}}\n"
                           "jobs: {a: {steps: [{run: x}, {run: y, shell: sh}]}, b: {defaults: {run: {shell: bash}}, steps: [{run: x}]}}")
         self.assertEqual(flow["defaults"], {"run": {"working-directory": "d"}})
-        self.assertIn("pwsh is not supported", flow["jobs"]["a"]["steps"][0]["run"])
+        self.assertEqual(flow["jobs"]["a"]["steps"][0]["env"]["ACTRUN_SHELL"], "pwsh")
         self.assertEqual(flow["jobs"]["a"]["steps"][1]["run"], "y")
         self.assertEqual(flow["jobs"]["b"]["steps"][0]["run"], "x")
         self.assertEqual(self.notes(), [(2, "the shell pwsh is not supported: the step fails and says so")])
@@ -230,7 +230,7 @@ class Shells(LowerCase):
           import sys
           text = "ACTRUN_END"
           print("it's", "${{ github.ref }}", text, sys.stdin.read() == "")
-      - shell: python3 {0}
+      - shell: python3 -u {0}
         run: raise SystemExit(3)
 """)
         self.contexts = {"github": {"ref": "main"}}
