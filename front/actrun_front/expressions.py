@@ -5,13 +5,13 @@ import json
 import re
 import subprocess
 from dataclasses import dataclass, field
-from typing import Any, Callable, Dict, Iterable, Iterator, List, NamedTuple, Optional, Set, Tuple
+from typing import Any, Callable, Dict, Iterable, List, NamedTuple, Optional, Set, Tuple
 
 NAME, TEXT = r"[A-Za-z_][A-Za-z0-9_-]*", r"'(?:[^']|'')*'"
 KEY = rf"\s*\.\s*({NAME})|\s*\[\s*({TEXT})\s*\]"  # a property that is written out
 TOKEN = re.compile(rf"""(?P<text>{TEXT}) | (?P<fraction>[-+]?(?:[0-9]+\.[0-9]*|\.[0-9]+)(?![\w.+-])) | (?P<number>[-+]?\.?[0-9][\w.+-]*)
-    | (?P<open>(?:{NAME}\s*)?\(|\[) | (?P<close>[)\]]) | (?P<comma>,) | (?P<access>{NAME}(?:{KEY})*)
-    | (?P<property>\.\s*(?:\*|{NAME})) | (?P<operator><=|>=|==|!=|&&|\|\||[*!<>.]) | (?P<space>\s+) | (?P<wrong>.)""", re.VERBOSE | re.ASCII)
+    | (?P<call>{NAME}\s*\((?:\s*(?:{TEXT}\s*(?:,\s*{TEXT}\s*)*)?\))?) | (?P<access>{NAME}(?:{KEY})*) | (?P<property>\.\s*(?:\*|{NAME}))
+    | (?P<operator><=|>=|==|!=|&&|\|\||[][(),*!<>.]) | (?P<space>\s+) | (?P<wrong>.)""", re.VERBOSE | re.ASCII)
 PIECE = re.compile(r"\$\{\{((?:'[^']*'|[^'}]|\}(?!\}))*)\}\}")
 STATUS = {"success", "failure", "always", "cancelled"}
 LITERALS = {"true", "false", "null"}
@@ -32,9 +32,9 @@ Replacement = Optional[Tuple[str, int]]  # what stands in for an access, and how
 
 @dataclass
 class Rules:
-    """What stands in for contexts, for calls by their arguments, and for fractions."""
+    """What stands in for contexts, for calls by their arguments (None where one is no text in quotes), and for fractions."""
     contexts: Dict[str, Callable[[Access], Replacement]] = field(default_factory=dict)
-    calls: Dict[str, Callable[[List[str]], Optional[str]]] = field(default_factory=dict)
+    calls: Dict[str, Callable[[Optional[List[str]]], str]] = field(default_factory=dict)
     fraction: Optional[Callable[[str], str]] = None
     mark: Any = None  # where the text is that is being rewritten
     condition: bool = False  # and whether it is a condition
@@ -56,34 +56,18 @@ def access_of(text: str) -> Tuple[Access, List[int]]:
     return Access(re.match(NAME, text)[0].lower(), tuple(key[1] or unquoted(key[2]) for key in keys)), [key.end() for key in keys]
 
 
-def rewritten(parts: Iterator[Tuple[str, str]], rules: Rules) -> Tuple[List[str], str]:
-    """The texts between commas after the rules, up to the bracket that closes them, and that bracket."""
-    found = [""]
-    for kind, text in parts:
-        if kind == "close":
-            return found, text
-        if kind == "comma":
-            found.append("")
-            continue
-        if kind == "open":
-            inner, end = rewritten(parts, rules)
-            rule = rules.calls.get(text[:-1].strip().lower()) if end else None
-            given = rule([one.strip() for one in inner] if inner != [""] else []) if rule else None
-            text = text + ",".join(inner) + end if given is None else given
-        elif kind == "access":
-            access, ends = access_of(text)
-            new = rules.contexts[access.context](access) if access.context in rules.contexts else None
-            text = new[0] + text[ends[new[1] - 1] if new[1] else len(access.context):] if new else text
-        elif kind == "fraction" and rules.fraction:
-            text = rules.fraction(text)
-        found[-1] += text
-    return found, ""
-
-
 def rewrite(expression: str, rules: Rules) -> str:
     """The expression after the rules; one that cannot be read stays as it is."""
-    found, end = rewritten(iter(tokens(expression) or [("close", ")")]), rules)
-    return expression if end else ",".join(found)
+    def new(match: re.Match[str]) -> str:
+        text, rule = match[0], rules.calls.get((match["call"] or "").partition("(")[0].strip().lower())
+        if rule:
+            return rule([unquoted(one) for one in re.findall(TEXT, text)] if text.endswith(")") else None)
+        if match["access"]:
+            access, ends = access_of(text)
+            given = rules.contexts[access.context](access) if access.context in rules.contexts else None
+            return given[0] + text[ends[given[1] - 1] if given[1] else len(access.context):] if given else text
+        return rules.fraction(text) if match["fraction"] and rules.fraction else text
+    return expression if tokens(expression) is None else TOKEN.sub(new, expression)
 
 
 def split(template: str) -> List[Tuple[bool, str]]:
@@ -138,6 +122,11 @@ def expression_of(value: Any) -> str:
     return template_expression(value) if isinstance(value, str) else literal(value)
 
 
+def grouped(expression: str) -> str:
+    """The expression as a part of another one."""
+    return expression if lone_text(expression) is not None else f"({expression})"
+
+
 def as_text(expression: str) -> str:
     """The expression of the text of a value."""
     return expression if lone_text(expression) is not None or expression.startswith("format(") else f"format('{{0}}', {expression})"
@@ -162,7 +151,7 @@ def references(expression: str) -> Tuple[List[Access], Set[str]]:
     """The contexts that an expression reads, and the names of the functions that it calls, in small letters."""
     parts = tokens(expression) or []
     accesses = [access_of(text)[0] for kind, text in parts if kind == "access" and text.lower() not in LITERALS]
-    return accesses, {text[:-1].strip().lower() for kind, text in parts if kind == "open"} - {""}
+    return accesses, {text.partition("(")[0].strip().lower() for kind, text in parts if kind == "call"}
 
 
 def names_status(expression: str | None) -> bool:

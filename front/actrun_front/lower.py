@@ -1,19 +1,48 @@
 """Rewrites a workflow so that `actrun plan` takes it: what the program leaves out is replaced or dropped, with a note for each."""
 from __future__ import annotations
 
+import hashlib
+import re
+import shutil
 from dataclasses import dataclass, field
 from typing import Any, Dict, List, Tuple
 
-from .expressions import EvaluationError
-from .lower_actions import inline_actions
-from .lower_calls import inline_calls
-from .lower_contexts import KnownContexts, name_steps, rewrite_texts, set_default_variables
+from .expressions import EvaluationError, has_expression
+from .lower_inline import inline_actions, inline_calls
 from .lower_matrix import lower_env, lower_strategy, lower_system
-from .lower_scripts import drop_default_shell, lower_scripts, run_defaults
-from .lower_tree import Lowering, Setting, is_set, steps_of
-from .yaml_reader import Document, Note, Path, Refused, copied, lines_of, mark_of
+from .lower_tree import (KnownContexts, Lowering, Setting, is_set, name_steps, part, rewrite_texts, set_default_variables, set_variable,
+                         shown, steps_of)
+from .yaml_reader import Document, Mark, Note, Path, Refused, copied, lines_of, mark_of
 
 __all__ = ["EvaluationError", "Lowered", "Refused", "Setting", "lower"]
+
+KNOWN_SHELLS = ("", "bash", "sh")
+# the script of a step with another shell or a limit of time: it writes the step's own script to a file, and starts that as GitHub does
+STARTER = r"""cat >"${0%.sh}.script" <<'END'
+SCRIPTEND
+case $ACTRUN_SHELL in
+  '') ACTRUN_SHELL='bash -e {0}' ;;
+  bash) ACTRUN_SHELL='bash --noprofile --norc -eo pipefail {0}' ;;
+  sh) ACTRUN_SHELL='sh -e {0}' ;;
+  python) ACTRUN_SHELL='python {0}' ;;
+esac
+set -f
+eval "words=($ACTRUN_SHELL)" started=() mark={0}
+[ "$words" != python ] || words=$(command -v python || echo python3)
+if [[ $ACTRUN_SHELL != *' '*{0}* ]] || ! command -v "$words" >/dev/null; then
+  echo "::error::the shell $ACTRUN_SHELL is not supported here; use bash, sh or python"; exit 1
+fi
+for word in "${words[@]}"; do  # files of a login or interactive shell are not read: they would set another PATH
+  case ${started-}:$word in *bash:--login | *bash:-[il]) continue ;; *bash:-[!-]*) word=${word//[il]/} ;; esac
+  started+=("${word/"$mark"/"${0%.sh}.script"}")
+done
+limit=$ACTRUN_MINUTES status=0
+unset ACTRUN_SHELL ACTRUN_MINUTES
+[ -n "$limit" ] || exec "${started[@]}"
+timeout --kill-after=10 "${limit}m" "${started[@]}" || status=$?
+case $status in 124 | 137) echo "::error::the step was ended after $limit minutes, its timeout-minutes" ;; esac
+exit "$status"
+"""
 
 
 @dataclass
@@ -28,17 +57,14 @@ class Lowered:
 def lower(document: Document, file: str, setting: Setting) -> Lowered:
     """The lowered workflow of a document without faults. Raises Refused where a part cannot be rewritten."""
     lowering, flow = Lowering(setting), copied(document.value)
-    try:
-        if isinstance(flow, dict) and isinstance(flow.get("jobs"), dict):
-            inline_calls(lowering, flow)
-            rewrite_texts(flow, KnownContexts(lowering))
-            lower_env(lowering, flow, {})
-            for job_id, job in flow["jobs"].items():
-                if isinstance(job, dict) and isinstance(job.get("steps"), list):
-                    lower_job(lowering, flow, job_id, job)
-            drop_default_shell(flow)
-    except RecursionError:
-        raise Refused(1, "an expression nests too deep") from None
+    if isinstance(flow, dict) and isinstance(flow.get("jobs"), dict):
+        inline_calls(lowering, flow)
+        rewrite_texts(flow, KnownContexts(lowering))
+        lower_env(lowering, flow, {})
+        for job_id, job in flow["jobs"].items():
+            if isinstance(job, dict) and isinstance(job.get("steps"), list):
+                lower_job(lowering, flow, job_id, job)
+        drop_default_shell(flow)
     return Lowered(flow, lines_of(flow), sorted(lowering.notes, key=lambda note: note.line), lowering.foreign)
 
 
@@ -60,3 +86,70 @@ def lower_job(lowering: Lowering, flow: Any, job_id: str, job: Any) -> None:
     lower_system(lowering, job_id, job)
     lower_scripts(lowering, job, flow)
     set_default_variables(name, job, flow)
+
+
+def run_defaults(node: Any) -> Any:
+    """What a workflow or job has in `defaults.run`."""
+    return part(part(node, "defaults"), "run")
+
+
+def drop_default_shell(node: Any) -> None:
+    """Takes the default shell out of a workflow or job, unless the program knows it. Its steps have one of their own by then."""
+    shell = run_defaults(node).get("shell")
+    if isinstance(shell, str) and shell not in KNOWN_SHELLS:
+        del run_defaults(node)["shell"]
+
+
+def lower_scripts(lowering: Lowering, job: Any, flow: Any) -> None:
+    """Gives the program the scripts of a job for sh and bash alone. Limits of jobs and of actions are not enforced."""
+    if is_set(job.pop("timeout-minutes", None)):
+        lowering.note(mark_of(job, "timeout-minutes"), "timeout-minutes of a job is not enforced; that of a step with a script is")
+    for step in steps_of(job):
+        if step.get("if") is False:
+            step.pop("shell", None)
+            continue
+        limit, script = step.pop("timeout-minutes", None), step.get("run")
+        if is_set(limit):
+            note_limit(lowering, mark_of(step, "timeout-minutes"), limit, isinstance(script, str))
+        if isinstance(script, str):
+            named = [node for node in (step, run_defaults(job), run_defaults(flow)) if isinstance(node.get("shell"), str)]
+            shell = named[0]["shell"] if named else ""
+            step["run"] = script if shell != "sh" else lowering.setting.sh_line + script
+            if shell not in KNOWN_SHELLS:
+                note_shell(lowering, mark_of(named[0], "shell"), shell)
+            if shell not in KNOWN_SHELLS or is_set(limit):
+                start_script(step, shell, limit)
+            line = next((line.strip() for line in script.splitlines() if line.strip()), "")
+            if step["run"] != script and line and not step.get("name"):
+                step["name"] = line
+    drop_default_shell(job)
+
+
+def start_script(step: Any, shell: str, limit: Any) -> None:
+    """Puts the starter in place of a step's script."""
+    script = step["run"] + "\n" * (not step["run"].endswith("\n"))
+    end = "ACTRUN_" + hashlib.sha256(script.encode()).hexdigest()[:8]
+    step["run"], step["shell"] = STARTER.replace("END", end).replace("SCRIPT", script), "bash"
+    set_variable(step, "ACTRUN_SHELL", shell)
+    set_variable(step, "ACTRUN_MINUTES", str(limit) if is_set(limit) else "")
+
+
+def note_shell(lowering: Lowering, mark: Mark, shell: str) -> None:
+    """Notes how a shell is started."""
+    if has_expression(shell):
+        lowering.note(mark, f"the shell {shown(shell)} is known only during execution: bash starts it, or fails")
+    elif shell == "python" or "{0}" in shell and (shell.startswith("python ") or shutil.which(shell.split()[0])):
+        login = re.search(r"bash(.* )?(--login|-\w*[il])", shell)
+        lowering.note(mark, f"the shell {shown(shell)} is started by bash" + ("; files of a login or interactive shell are not read" if login else ""))
+    else:
+        lowering.note(mark, f"the shell {shown(shell)} is not supported: the step fails and says so")
+
+
+def note_limit(lowering: Lowering, mark: Mark, limit: Any, is_script: bool) -> None:
+    """Notes whether a limit of time is enforced. Raises Refused where it is no number."""
+    if not is_script:
+        lowering.note(mark, "timeout-minutes of an action is not enforced")
+    elif not has_expression(limit) and not re.fullmatch(r"[0-9]*\.?[0-9]+", str(limit)):
+        raise lowering.refuse(mark, f"timeout-minutes is {shown(limit)}, but has to be a number")
+    else:
+        lowering.note(mark, f"timeout-minutes is enforced by `timeout` of coreutils: {shown(limit)} minutes")

@@ -49,9 +49,10 @@ class Rewriting(unittest.TestCase):
             self.assertEqual(rewrite(given, RULES), wanted)
 
     def test_calls(self):
-        self.assertEqual(rewrite("hashFiles('a', format('{0},(', runner.os))", RULES), "'''a''|format(''{0},('', ''Linux'')'")
+        self.assertEqual(rewrite("hashFiles('a', 'b''s,(') && HASHFILES( )", RULES), "'a|b''s,(' && ''")
+        self.assertEqual(rewrite("hashFiles(runner.os)", Rules({}, {"hashfiles": lambda given: f"{given} && ("})), "None && (runner.os)")
         self.assertEqual(rewrite("x.hashFiles && hashFiles", RULES), "x.hashFiles && hashFiles")
-        self.assertEqual(rewrite("hashFiles('a'", RULES), "hashFiles('a'")
+        self.assertEqual(references("hashFiles(format('a')) || Success ( )")[1], {"hashfiles", "format", "success"})
 
     def test_fractions(self):
         self.assertEqual(rewrite("matrix.v == 3.10 || 1 < -.5 && 12", RULES), "matrix.v == '3.10' || 1 < '-.5' && 12")

@@ -45,17 +45,14 @@ class Contexts(LowerCase):
 
     def test_hash_files_that_are_refused(self):
         line, text = self.refused("on: push\njobs:\n  a:\n    steps:\n      - uses: c\n        with:\n          key: ${{ hashFiles(env.FILE) }}")
-        self.assertEqual(line, 7)
-        self.assertIn("hashFiles(env.FILE) has no value before execution", text)
+        self.assertEqual((line, text), (7, "hashFiles has no value before execution here: write its patterns as texts in quotes"))
         line, text = self.refused("on: push\njobs: {a: {steps: [{run: \"${{ hashFiles('../x') }}\"}]}}")
         self.assertIn("the pattern ../x of hashFiles has a `.` or `..` in it", text)
 
-    @needs_program
-    def test_hash_files_over_known_contexts(self):
+    def test_hash_files_of_the_workspace(self):
         self.write("a.lock", "one\n")
-        self.contexts = {"github": {"workspace": "/w", "ref": "a"}}
-        step = self.step("run: \"${{ hashFiles(format('{0}/{1}.lock', github.workspace, github.ref)) }}\"")
-        self.assertEqual(step["run"], "9c64071fc196d33fec0036f48898b7ff2cf8398b892ead8afce6e9568f7fb6de")
+        self.contexts = {"github": {"workspace": "/w"}}
+        self.assertEqual(self.step("run: \"${{ hashFiles('/w/a.lock') }}\"")["run"], "9c64071fc196d33fec0036f48898b7ff2cf8398b892ead8afce6e9568f7fb6de")
 
     def test_fractions(self):
         self.assertEqual(self.step("run: x, if: matrix.v == 3.10")["if"], "matrix.v == '3.10'")
@@ -81,8 +78,8 @@ class Contexts(LowerCase):
                 self.lower(text)
 
     def test_deep_expressions(self):
-        line, text = self.refused("on: push\njobs: {a: {steps: [{run: '${{ " + "hashFiles(" * 3000 + "1" + ")" * 3000 + " }}'}]}}")
-        self.assertEqual((line, text), (1, "an expression nests too deep"))
+        deep = "toJSON(" * 3000 + "runner.os" + ")" * 3000
+        self.assertEqual(self.step("run: '${{ " + deep + " }}'")["run"], "${{ " + deep.replace("runner.os", "'Linux'") + " }}")
 
 
 class Strategy(LowerCase):
@@ -249,7 +246,7 @@ class Shells(LowerCase):
     def test_first_words_of_sh(self):
         job = self.job("defaults: {run: {shell: sh}}, steps: [{run: x}, {run: y, shell: bash}, {run: z, timeout-minutes: 1}]", sh_line=". p; ")
         self.assertEqual([step["run"] for step in job["steps"][:2]], [". p; x", "y"])
-        self.assertTrue(job["steps"][2]["run"].endswith("\nunset ACTRUN_LIMITED\n. p; z"))
+        self.assertIn("\n. p; z\n", job["steps"][2]["run"])
 
 
 class Limits(LowerCase):
@@ -263,7 +260,7 @@ class Limits(LowerCase):
           echo begun
           wait
         timeout-minutes: 0.1
-      - run: echo "in time ${ACTRUN_LIMITED-}"
+      - run: echo "in time ${ACTRUN_MINUTES-}"
         if: always()
         shell: sh
         timeout-minutes: ${{ fromJSON('1') }}

@@ -57,7 +57,7 @@ class Composite(LowerCase):
 
     def test_a_step_without_an_id_needs_no_more_steps(self):
         job = self.job("steps: [{uses: ./hello, with: {who: x}, if: github.ref == 'y'}]")
-        self.assertEqual([step["if"] for step in job["steps"]], ["github.ref == 'y'", "(github.ref == 'y') && (('x') == 'abc')"])
+        self.assertEqual([step["if"] for step in job["steps"]], ["github.ref == 'y'", "(github.ref == 'y') && ('x' == 'abc')"])
         self.assertEqual([step.get("id") for step in job["steps"]], ["action__g", None])
 
     @needs_program

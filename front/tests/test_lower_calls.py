@@ -149,7 +149,7 @@ class Refusals(LowerCase):
 
     def test_a_refusal_inside(self):
         reason = self.reason("on: workflow_call\njobs:\n  a:\n    steps:\n      - run: ${{ hashFiles(env.X) }}\n")
-        self.assertTrue(reason.startswith("c.yml:5: hashFiles(env.X) has no value"), reason)
+        self.assertTrue(reason.startswith("c.yml:5: hashFiles has no value"), reason)
 
 
 if __name__ == "__main__":
