@@ -40,6 +40,16 @@ class Rules:
     condition: bool = False  # and whether it is a condition
 
 
+def known_keys(values: Dict[str, str], missing: Optional[str] = None, whole: Optional[str] = None) -> Callable[[Access], Replacement]:
+    """The rule for a context: the expressions of properties, of any other property, and of the context as a whole. None stays as it is."""
+    small = {key.lower(): value for key, value in values.items()}
+
+    def rule(access: Access) -> Replacement:
+        found = small.get(access.keys[0].lower(), missing) if access.keys else whole
+        return None if found is None else (found, len(access.keys[:1]))
+    return rule
+
+
 def tokens(expression: str) -> List[Tuple[str, str]] | None:
     """The kinds and texts of an expression's tokens. None where it has a character or a quote that begins none."""
     found = [(str(match.lastgroup), match.group()) for match in TOKEN.finditer(expression)]

@@ -127,12 +127,10 @@ class KnownContexts(Rules):
     def runner(self, access: Access) -> Replacement:
         """`runner.os` becomes the value that this machine has."""
         values = {key.lower(): value for key, value in self.lowering.contexts["runner"].items()}
-        if not access.keys:
-            self.note("`runner` is replaced by its values on this machine")
-            return literal(values), 0
-        value = literal(values.get(access.keys[0].lower()))
-        self.note(f"`runner.{access.keys[0]}` is replaced by its value on this machine, {value}")
-        return value, 1
+        value = literal(values.get(access.keys[0].lower()) if access.keys else values)
+        self.note(f"`runner.{access.keys[0]}` is replaced by its value on this machine, {value}" if access.keys
+                  else "`runner` is replaced by its values on this machine")
+        return value, len(access.keys[:1])
 
     def github(self, access: Access) -> Replacement:
         """What differs by job or step, and the token."""
@@ -140,14 +138,10 @@ class KnownContexts(Rules):
         if key == "token" and self.condition:
             self.note("`github.token` in a condition is the one of the contexts: a condition reads no secrets")
             return None
-        if key == "token":
-            self.note("`github.token` is replaced by `secrets.GITHUB_TOKEN`")
-            return "secrets.GITHUB_TOKEN", 1
-        value = self.of_place.get(key)
-        if not value:
-            return None
-        self.note(f"`github.{key}` is replaced by {literal(value)}")
-        return literal(value), 1
+        value = "secrets.GITHUB_TOKEN" if key == "token" else literal(self.of_place[key]) if self.of_place.get(key) else None
+        if value is not None:
+            self.note(f"`github.{key}` is replaced by {value}")
+        return None if value is None else (value, 1)
 
     def hash_files(self, given: Optional[List[str]]) -> str:
         """A call of hashFiles becomes the digest of the files in the repository."""
