@@ -34,40 +34,22 @@ class Stubs:
     binds: list[pathlib.Path] = field(default_factory=list)  # what a sandbox has to show, read-only
 
 
+def is_whole(uses: str) -> bool:
+    """Whether the text names a folder of the repository or a container, which have no ref."""
+    return uses in (".", "..") or uses.startswith(("./", "../", "docker://"))
+
+
 def action_name(uses: str) -> str:
-    """The action's name without its ref: `actions/cache/save` of `actions/cache/save@v4`, in small letters.
-
-    A local action (`./path`) and a container (`docker://image`) have no ref and keep their text.
-    """
-    if is_local(uses) or uses.startswith("docker://"):
-        return uses
-    return uses.partition("@")[0].strip("/").lower()
-
-
-def is_local(uses: str) -> bool:
-    """Whether the text names a folder of the repository itself."""
-    return uses in (".", "..") or uses.startswith(("./", "../"))
-
-
-def shipped_actions() -> dict[str, dict]:
-    """The table of `stubs/actions.json`: what stands for an action, by its name in small letters."""
-    table = json.loads((STUBS / "actions.json").read_text(encoding="utf-8"))
-    return {name.lower(): entry for name, entry in table.items()}
+    """The action's name without its ref: `actions/cache/save` of `actions/cache/save@v4`, in small letters."""
+    return uses if is_whole(uses) else uses.partition("@")[0].strip("/").lower()
 
 
 def named_program(uses: str, named: dict[str, str]) -> str | None:
     """The program that the user named for an action: for its whole text, its name, or a leading part `owner/name`."""
-    name = action_name(uses)
     known = {(key if "@" in key else action_name(key)): program for key, program in named.items()}
-    if uses in known:
-        return known[uses]
-    parts = [name] if is_local(uses) or "://" in uses else name.split("/")
-    for count in range(len(parts), 0, -1):
-        if count >= 2 or count == len(parts):
-            program = known.get("/".join(parts[:count]))
-            if program is not None:
-                return program
-    return None
+    parts = action_name(uses).split("/")
+    leading = ["/".join(parts[:count]) for count in range(len(parts) - 1, 1, -1)] if not is_whole(uses) else []
+    return next((known[name] for name in (uses, action_name(uses), *leading) if name in known), None)
 
 
 def check_program(action: str, program: str) -> pathlib.Path | None:
@@ -88,43 +70,23 @@ def stubs_for(uses: Iterable[str], named: dict[str, str], lenient: bool, folder:
     `named` maps actions to programs as `--stub ACTION=PROGRAM` gives them, with or without `@ref`; the longest match wins.
     Raises StubError where a named program isn't there.
     """
-    stubs = Stubs(binds=[STUBS.parent])
-    stubs.binds += [place for action, program in named.items() if (place := check_program(action, program))]
-    table = shipped_actions()
+    stubs = Stubs(binds=[STUBS.parent, *filter(None, (check_program(action, program) for action, program in named.items()))])
+    shipped = {name.lower(): entry["stub"] for name, entry in json.loads((STUBS / "actions.json").read_text(encoding="utf-8")).items()}
+    bash = shutil.which("bash") or "/bin/sh"  # other shells drop variables such as INPUT_PYTHON-VERSION
     folder.mkdir(parents=True, exist_ok=True)
     for number, text in enumerate(sorted(set(uses))):
-        program = named_program(text, named)
+        program, stub = named_program(text, named), shipped.get(action_name(text), "without.py")
+        command = [program] if program is not None else [python, "-EsB", str(STUBS / stub), text]
         if program is not None:
             stubs.named.append(text)
-            command = [program]
-        else:
-            command = shipped_command(text, table, lenient, python, stubs)
-        stubs.programs[text] = str(write_wrapper(folder, number, text, command))
+        elif stub == "without.py":
+            (stubs.lenient if lenient else stubs.missing).append(text)
+            command += ["--lenient"] if lenient else []
+        place = folder / f"{number:03}-{re.sub(r'[^A-Za-z0-9.]+', '-', text).strip('-')[:60]}"
+        place.write_text(f"#!{bash}\n{PRELUDE}\nACTRUN_ACTION={shlex.quote(text)} exec {shlex.join(command)}\n", encoding="utf-8")
+        place.chmod(0o755)
+        stubs.programs[text] = str(place.resolve())
     return stubs
-
-
-def shipped_command(text: str, table: dict[str, dict], lenient: bool, python: str, stubs: Stubs) -> list[str]:
-    """The command line of the shipped stub for an action; notes in `stubs` whether it stands for nothing."""
-    entry = table.get(action_name(text), {})
-    program = entry.get("stub", "without.py")
-    command = [python, "-EsB", str(STUBS / program), text]
-    if program == "without.py":
-        (stubs.lenient if lenient else stubs.missing).append(text)
-        if lenient:
-            command.append("--lenient")
-    return command
-
-
-def write_wrapper(folder: pathlib.Path, number: int, text: str, command: list[str]) -> pathlib.Path:
-    """Writes the executable script that starts `command` for the action `text`, and returns its place.
-
-    It is a script of bash, since other shells drop variables such as INPUT_PYTHON-VERSION.
-    """
-    place = folder / f"{number:03}-{re.sub(r'[^A-Za-z0-9.]+', '-', text).strip('-')[:60]}"
-    lines = ["#!" + (shutil.which("bash") or "/bin/sh"), PRELUDE, f"ACTRUN_ACTION={shlex.quote(text)} exec {shlex.join(command)}", ""]
-    place.write_text("\n".join(lines), encoding="utf-8")
-    place.chmod(0o755)
-    return place.resolve()
 
 
 def after_play(python: str, record: pathlib.Path) -> list[str]:

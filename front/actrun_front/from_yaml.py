@@ -9,12 +9,10 @@ import sys
 from typing import Any
 
 from .lower import Setting, lower
-from .yaml_reader import Refused, read_document, text_of
+from .yaml_reader import Document, Note, Refused, read_document, text_of
 
-HELP = """\
+ABOUT = """\
 Makes JSON, as `actrun` reads it, of workflows in YAML.
-
-usage: from-yaml [-o OUT] [--lower [--contexts FILE] [--repository DIR] [--matrix JOB.VARIABLE=JSON].. [--any-system]] FILE..
 
 Each FILE holds one workflow. Its JSON is written beside it, to FILE with `.json` in the place of `.yml` or `.yaml`, over an
 older file of that name. With `-o OUT` the JSON of the one FILE is written to OUT, and with `-o -` to standard output. The
@@ -27,18 +25,11 @@ Where GitHub reads another text (3.1 for 3.10), a line on standard error says so
 
 Anchors, aliases and `<<` are written out. A file is refused, by lines `FILE:LINE: SENTENCE` on standard error, if it is not
 UTF-8 or not YAML, or has a second document, a key that is twice in a map or is not a text, a tag beyond the core schema, an
-alias without its anchor or inside it, infinity or no number, half a character, more than 127 levels, or more than 16 MiB of JSON.
+alias without its anchor or inside it, infinity or no number, half a character, more than 127 levels, or more than 200000 values.
 
 With --lower the workflow is rewritten so that `actrun plan` takes it, and a line on standard error names each thing that was
 replaced or dropped: hashFiles, `runner`, shells other than sh and bash, containers and services, called workflows, composite
 actions of the repository, matrices and variables by expression, limits of time, and legs for Windows and macOS.
-
-  --contexts FILE  JSON with the objects github, inputs, vars, secrets and runner, as far as they are known; hand the same
-                   file to `actrun plan`
-  --repository DIR the folder that hashFiles, ./ACTION and ./.github/workflows/FILE look in; without it the one with the
-                   .github/workflows that FILE is in, else the current folder
-  --matrix JOB.VARIABLE=JSON  the value of a matrix variable, of `matrix`, `include`, `exclude`, `fail-fast` or `max-parallel`
-  --any-system     let legs for Windows and macOS execute their steps here
 
 Exit statuses: 0 all JSON is written, 2 the arguments or a FILE is refused, 3 a file, a stream or the library failed."""
 
@@ -52,38 +43,26 @@ def variable(text: str) -> tuple[tuple[str, str], Any]:
 
 def parsed(given: list[str]) -> argparse.Namespace:
     """The options; where they make no sense the process ends with a line that says why."""
-    parser = argparse.ArgumentParser("from-yaml", argparse.SUPPRESS, add_help=False, allow_abbrev=False)
-    for name in ("-o", "--contexts", "--repository"):
-        parser.add_argument(name)
-    for name in ("--lower", "--any-system"):
-        parser.add_argument(name, action="store_true")
-    parser.add_argument("--matrix", action="append", default=[], type=variable)
-    parser.add_argument("names", nargs="+", metavar="FILE")
+    parser = argparse.ArgumentParser("from-yaml", "from-yaml [-o OUT] [--lower [OPTION..]] FILE..", ABOUT, allow_abbrev=False,
+                                     formatter_class=argparse.RawDescriptionHelpFormatter)
+    parser.print_usage = lambda file=None: None
+    add = parser.add_argument
+    add("-o", metavar="OUT", help="the place of the JSON of one FILE; - is standard output")
+    add("--lower", action="store_true", help="rewrite the workflow for `actrun plan`")
+    add("--contexts", metavar="FILE", help="JSON with the objects github, inputs, vars, secrets and runner, as far as they are known; hand the "
+        "same file to `actrun plan`")
+    add("--repository", metavar="DIR", help="the folder that hashFiles, ./ACTION and ./.github/workflows/FILE look in; without it the one with "
+        "the .github/workflows that FILE is in, else the current folder")
+    add("--matrix", action="append", default=[], type=variable, metavar="JOB.VARIABLE=JSON", help="the value of a matrix variable, of `matrix`, "
+        "`include`, `exclude`, `fail-fast` or `max-parallel`")
+    add("--any-system", action="store_true", help="let legs for Windows and macOS execute their steps here")
+    add("names", nargs="+", metavar="FILE", help="a workflow in YAML; - is standard input")
     options = parser.parse_args(given)
     if options.o is not None and len(options.names) > 1:
         parser.error("-o takes the JSON of one FILE")
     if not options.lower and (options.contexts or options.repository or options.matrix or options.any_system):
         parser.error("--contexts, --repository, --matrix and --any-system need --lower")
     return options
-
-
-def made(data: bytes, name: str, options: argparse.Namespace, known: dict[str, Any]) -> str | None:
-    """The JSON of a file's bytes, or None. Faults or notes are printed."""
-    document = read_document(data)
-    value, notes = document.value, document.faults or document.notes
-    if options.lower and not document.faults:
-        folder = pathlib.Path(name).absolute().parent
-        found = folder.parent.parent if folder.parts[-2:] == (".github", "workflows") else pathlib.Path()
-        repository = pathlib.Path(options.repository) if options.repository else found
-        try:
-            lowered = lower(document, name, Setting(repository, known, dict(options.matrix), options.any_system))
-        except Refused as refused:
-            print(f"{name}:{refused.line}: {refused.text}", file=sys.stderr)
-            return None
-        value, notes = lowered.value, sorted([*notes, *lowered.notes], key=lambda note: note.line)
-    for note in notes:
-        print(f"{name}:{note.line}: {note.text}", file=sys.stderr)
-    return None if document.faults else text_of(value) + "\n"
 
 
 def contexts_of(name: str) -> dict[str, Any]:
@@ -95,17 +74,31 @@ def contexts_of(name: str) -> dict[str, Any]:
     return given
 
 
+def lowered(document: Document, name: str, options: argparse.Namespace, known: dict[str, Any]) -> Document:
+    """The document that `actrun plan` takes, or one with a fault."""
+    folder = pathlib.Path(name).absolute().parent
+    found = folder.parent.parent if folder.parts[-2:] == (".github", "workflows") else pathlib.Path()
+    try:
+        done = lower(document, name, Setting(pathlib.Path(options.repository or found), known, dict(options.matrix), options.any_system))
+    except Refused as refused:
+        return Document(faults=[Note(refused.line, refused.text)])
+    return Document(done.value, notes=sorted([*document.notes, *done.notes], key=lambda note: note.line))
+
+
 def convert(name: str, options: argparse.Namespace, known: dict[str, Any]) -> int:
-    """Makes the JSON of a file, and returns the status."""
+    """Makes the JSON of a file, prints faults or notes, and returns the status."""
     base, end = os.path.splitext(name)
     out = options.o or ("-" if name == "-" else (base if end.lower() in (".yml", ".yaml") else name) + ".json")
     try:
-        data = sys.stdin.buffer.read() if name == "-" else pathlib.Path(name).read_bytes()
-        text = made(data, "standard input" if name == "-" else name, options, known)
-        if text is None:
+        document = read_document(sys.stdin.buffer.read() if name == "-" else pathlib.Path(name).read_bytes())
+        if options.lower and not document.faults:
+            document = lowered(document, name, options, known)
+        for note in document.faults or document.notes:
+            print(f"{'standard input' if name == '-' else name}:{note.line}: {note.text}", file=sys.stderr)
+        if document.faults:
             return 2
         with open(1 if out == "-" else out, "wb", closefd=out != "-") as it:
-            it.write(text.encode())
+            it.write((text_of(document.value) + "\n").encode())
         return 0
     except (OSError, ValueError) as fault:  # a name with a zero byte is a ValueError
         named = getattr(fault, "filename", None)
@@ -115,9 +108,6 @@ def convert(name: str, options: argparse.Namespace, known: dict[str, Any]) -> in
 
 def main(arguments: list[str]) -> int:
     """Does the command, and returns its exit status."""
-    if "--help" in arguments:
-        print(HELP)
-        return 0
     options = parsed(arguments)
     try:
         known = contexts_of(options.contexts) if options.contexts is not None else {}

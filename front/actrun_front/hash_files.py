@@ -29,43 +29,36 @@ class Pattern:
     negative: bool
     folders_only: bool
 
-    def search_path(self) -> tuple[str, ...]:
-        """The literal segments before the first that is a pattern."""
-        names = [translated(segment)[1] for segment in self.segments] + [None]
-        return tuple(str(name) for name in names[:names.index(None)])
-
     @functools.cached_property
     def regex(self) -> re.Pattern[str]:
-        """The regular expression of a path that begins with `/`."""
+        """The regular expression of what matches, after a `/`, with what is below it. A last `**` takes in a file of that name too."""
         whole = "".join("(?:/[^/]+)*" if segment == "**" else "/" + translated(segment)[0] for segment in self.segments)
         return re.compile(whole + ("/.+" if self.folders_only else "(?:/.*)?"), re.DOTALL)
-
-    def matches(self, path: tuple[str, ...]) -> bool:
-        """Whether a file matches, or a folder that it is in. A last `**` takes in the folder before it, and a file of its name."""
-        return self.regex.fullmatch("/" + "/".join(path)) is not None
 
 
 @functools.lru_cache(maxsize=None)
 def translated(segment: str) -> tuple[str, str | None]:
     """The regular expression of a segment, and the name that it stands for, or None where it is a pattern."""
-    regex, name, is_name = "", "", True
+    regex, names = "", []
     for part in PART.finditer(segment):
-        inner = part["set"] or ""
-        plain = part["escaped"] or part["char"] or (inner if len(inner) == 1 else "")
-        is_name = is_name and plain != ""
-        name += plain
-        escaped = re.sub(r"([\\\[&~|])", r"\\\1", inner[1:] if inner[:1] in "!^" else inner)
-        regex += re.escape(plain) or ("[^/]*" if part["star"] else "[^/]" if part["any"] else f"[{'^' * (inner[0] in '!^')}{escaped}]")
+        inner, char = part["set"] or "", part["escaped"] or part["char"]
+        names.append(char or (inner if len(inner) == 1 else None))
+        if names[-1]:
+            regex += re.escape(names[-1])
+        else:
+            of_set = "^" * (inner[:1] in ("!", "^")) + re.sub(r"([\\\[&~|])", r"\\\1", re.sub(r"^[!^]", "", inner))
+            regex += f"[{of_set}]" if inner else "[^/]*" if part["star"] else "[^/]"
     try:
         re.compile(regex)
     except re.error:  # a range as `[z-a]` stands for itself
         return re.escape(segment), segment
-    return regex, name if is_name else None
+    return regex, None if None in names else "".join(names)
 
 
 def read_pattern(line: str, workspace: str) -> Pattern | None:
     """The pattern of a line; None where it can match nothing in the workspace."""
     text = line.lstrip("! \t")
+    negative = line[:len(line) - len(text)].count("!") % 2 == 1
     if not text:
         raise GlobError("a pattern of hashFiles is empty after its `!`")
     if workspace and (text == workspace or text.startswith(workspace + "/")):
@@ -76,18 +69,19 @@ def read_pattern(line: str, workspace: str) -> Pattern | None:
     parts = parts[1:] if parts[:1] == ["."] else parts
     if any(translated(part)[1] in (".", "..") for part in parts):
         raise GlobError(f"the pattern {text} of hashFiles has a `.` or `..` in it, which GitHub refuses")
-    return Pattern(tuple(parts) or ("**",), line[:len(line) - len(text)].count("!") % 2 == 1, text.endswith("/"))
+    return Pattern(tuple(parts) or ("**",), negative, text.endswith("/"))
 
 
 def search_paths(patterns: list[Pattern]) -> list[tuple[str, ...]]:
     """Where the search begins, in order: the literal beginnings of the patterns, without those that are below others."""
-    candidates = list(dict.fromkeys(pattern.search_path() for pattern in patterns if not pattern.negative))
+    names = [[translated(segment)[1] for segment in pattern.segments] + [None] for pattern in patterns if not pattern.negative]
+    candidates = list(dict.fromkeys(tuple(one[:one.index(None)]) for one in names))
     return [path for path in candidates if not any(path[:end] in candidates for end in range(len(path)))]
 
 
 def is_chosen(patterns: list[Pattern], path: tuple[str, ...]) -> bool:
-    """Whether the last pattern that matches a file is none with `!`."""
-    return next((not pattern.negative for pattern in reversed(patterns) if pattern.matches(path)), False)
+    """Whether the last pattern that matches a file, or a folder that it is in, is none with `!`."""
+    return next((not pattern.negative for pattern in reversed(patterns) if pattern.regex.fullmatch("/" + "/".join(path))), False)
 
 
 def files_of(repository: pathlib.Path) -> list[tuple[str, ...]]:

@@ -107,49 +107,37 @@ def lower_scripts(lowering: Lowering, job: Any, flow: Any) -> None:
     for step in steps_of(job):
         if step.get("if") is False:
             step.pop("shell", None)
-            continue
-        limit, script = step.pop("timeout-minutes", None), step.get("run")
-        if is_set(limit):
-            note_limit(lowering, mark_of(step, "timeout-minutes"), limit, isinstance(script, str))
-        if isinstance(script, str):
-            named = [node for node in (step, run_defaults(job), run_defaults(flow)) if isinstance(node.get("shell"), str)]
-            shell = named[0]["shell"] if named else ""
-            step["run"] = script if shell != "sh" else lowering.setting.sh_line + script
-            if shell not in KNOWN_SHELLS:
-                note_shell(lowering, mark_of(named[0], "shell"), shell)
-            if shell not in KNOWN_SHELLS or is_set(limit):
-                start_script(step, shell, limit)
-            line = next((line.strip() for line in script.splitlines() if line.strip()), "")
-            if step["run"] != script and line and not step.get("name"):
-                step["name"] = line
+        elif isinstance(step.get("run"), str):
+            lower_script(lowering, step, [step, run_defaults(job), run_defaults(flow)])
+        elif is_set(step.pop("timeout-minutes", None)):
+            lowering.note(mark_of(step, "timeout-minutes"), "timeout-minutes of an action is not enforced")
     drop_default_shell(job)
 
 
-def start_script(step: Any, shell: str, limit: Any) -> None:
-    """Puts the starter in place of a step's script."""
-    script = step["run"] + "\n" * (not step["run"].endswith("\n"))
-    end = "ACTRUN_" + hashlib.sha256(script.encode()).hexdigest()[:8]
-    step["run"], step["shell"] = STARTER.replace("END", end).replace("SCRIPT", script), "bash"
-    set_variable(step, "ACTRUN_SHELL", shell)
-    set_variable(step, "ACTRUN_MINUTES", str(limit) if is_set(limit) else "")
-
-
-def note_shell(lowering: Lowering, mark: Mark, shell: str) -> None:
-    """Notes how a shell is started."""
-    if has_expression(shell):
-        lowering.note(mark, f"the shell {shown(shell)} is known only during execution: bash starts it, or fails")
-    elif shell == "python" or "{0}" in shell and (shell.startswith("python ") or shutil.which(shell.split()[0])):
-        login = re.search(r"bash(.* )?(--login|-\w*[il])", shell)
-        lowering.note(mark, f"the shell {shown(shell)} is started by bash" + ("; files of a login or interactive shell are not read" if login else ""))
-    else:
-        lowering.note(mark, f"the shell {shown(shell)} is not supported: the step fails and says so")
-
-
-def note_limit(lowering: Lowering, mark: Mark, limit: Any, is_script: bool) -> None:
-    """Notes whether a limit of time is enforced. Raises Refused where it is no number."""
-    if not is_script:
-        lowering.note(mark, "timeout-minutes of an action is not enforced")
-    elif not has_expression(limit) and not re.fullmatch(r"[0-9]*\.?[0-9]+", str(limit)):
-        raise lowering.refuse(mark, f"timeout-minutes is {shown(limit)}, but has to be a number")
-    else:
-        lowering.note(mark, f"timeout-minutes is enforced by `timeout` of coreutils: {shown(limit)} minutes")
+def lower_script(lowering: Lowering, step: Any, places: List[Any]) -> None:
+    """Puts the starter in place of a script that needs it. `places` are where its shell may be named, the first one counts."""
+    script, limit, limited = step["run"], step.pop("timeout-minutes", None), mark_of(step, "timeout-minutes")
+    named = [node for node in places if isinstance(node.get("shell"), str)]
+    shell = named[0]["shell"] if named else ""
+    step["run"] = lowering.setting.sh_line + script if shell == "sh" else script
+    if shell not in KNOWN_SHELLS:
+        how = "is not supported: the step fails and says so"
+        if has_expression(shell):
+            how = "is known only during execution: bash starts it, or fails"
+        elif shell == "python" or "{0}" in shell and (shell.startswith("python ") or shutil.which(shell.split()[0])):
+            login = re.search(r"bash(.* )?(--login|-\w*[il])", shell)
+            how = "is started by bash" + ("; files of a login or interactive shell are not read" if login else "")
+        lowering.note(mark_of(named[0], "shell"), f"the shell {shown(shell)} {how}")
+    if is_set(limit):
+        if not has_expression(limit) and not re.fullmatch(r"[0-9]*\.?[0-9]+", str(limit)):
+            raise lowering.refuse(limited, f"timeout-minutes is {shown(limit)}, but has to be a number")
+        lowering.note(limited, f"timeout-minutes is enforced by `timeout` of coreutils: {shown(limit)} minutes")
+    if shell not in KNOWN_SHELLS or is_set(limit):
+        text = step["run"].rstrip("\n") + "\n"
+        end = "ACTRUN_" + hashlib.sha256(text.encode()).hexdigest()[:8]
+        step["run"], step["shell"] = STARTER.replace("END", end).replace("SCRIPT", text), "bash"
+        set_variable(step, "ACTRUN_SHELL", shell)
+        set_variable(step, "ACTRUN_MINUTES", str(limit) if is_set(limit) else "")
+    line = next((line.strip() for line in script.splitlines() if line.strip()), "")
+    if step["run"] != script and line and not step.get("name"):
+        step["name"] = line

@@ -33,18 +33,16 @@ def read_part(lowering: Lowering, name: str, what: str, mark: Mark) -> Any:
 
 def input_expressions(declared: Any, given: Any) -> Dict[str, str]:
     """The expressions of inputs, their names in small letters: the given values, else the defaults, by the declared types."""
-    kinds = {name.lower(): one if isinstance(one, dict) else {} for name, one in declared.items()}
-    values = {**{name: one.get("default") for name, one in kinds.items()}, **{name.lower(): value for name, value in given.items()}}
-    return {name: typed(kinds.get(name, {}).get("type"), value) for name, value in values.items()}
-
-
-def typed(kind: Any, value: Any) -> str:
-    """The expression of an input's value with its declared type."""
-    if value is None:
-        return MISSING.get(kind, "''")
-    if kind not in MISSING:
-        return as_text(expression_of(value))
-    return literal(plain_value(value)) if isinstance(value, str) and not has_expression(value) else expression_of(value)
+    values = {name.lower(): part(declared, name).get("default") for name in declared}
+    values.update((name.lower(), value) for name, value in given.items())
+    kinds, found = {name.lower(): part(declared, name).get("type") for name in declared}, {}
+    for name, value in values.items():
+        kind = kinds.get(name)
+        if kind in MISSING and isinstance(value, str) and not has_expression(value):
+            value = plain_value(value)
+        expression = MISSING.get(kind, "''") if value is None else expression_of(value)
+        found[name] = expression if kind in MISSING else as_text(expression)
+    return found
 
 
 def input_rule(inputs: Dict[str, str]) -> Any:
@@ -174,23 +172,19 @@ def inline_calls(lowering: Lowering, flow: Any) -> None:
 
 def push_down(flow: Any) -> None:
     """Moves the variables and defaults of a workflow into its own jobs, since called workflows do not see them."""
-    env, defaults = flow.get("env"), flow.pop("defaults", None)
+    outer = {key: flow.pop(key) for key in ("env", "defaults") if isinstance(flow.get(key), dict)}
     for job in flow["jobs"].values():
         if isinstance(job, dict) and "uses" not in job:
-            inherit(job, "env", env)
-            if part(defaults, "run"):
-                inherit(job, "defaults", Map(mark=defaults.mark))
-                inherit(job["defaults"], "run", defaults["run"])
-    if isinstance(env, dict):
-        del flow["env"]
+            job.update((key, inherited(value, job.get(key))) for key, value in outer.items())
 
 
-def inherit(node: Any, key: str, outer: Any) -> None:
-    """Gives the map at a key the members of an outer one, under its own."""
-    inner = node.get(key) if isinstance(node, dict) else 0
-    if isinstance(outer, dict) and (inner is None or isinstance(inner, dict)):
-        node[key] = Map({**outer, **(inner or {})}, outer.mark)
-        node[key].marks = {**outer.marks, **getattr(inner, "marks", {})}
+def inherited(outer: Any, inner: Any) -> Any:
+    """A value over an outer one: of two maps the members of both."""
+    if not isinstance(outer, Map) or not isinstance(inner, Map):
+        return copied(outer) if inner is None else inner
+    made = Map({**copied(outer), **inner, **{key: inherited(outer[key], inner[key]) for key in outer if key in inner}}, inner.mark)
+    made.marks = {**outer.marks, **inner.marks}
+    return made
 
 
 def expanded(lowering: Lowering, jobs: Any, above: Tuple[str, ...], taken: Set[str]) -> Any:

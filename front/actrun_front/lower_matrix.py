@@ -6,50 +6,56 @@ import re
 from typing import Any
 
 from .expressions import (PIECE, EvaluationError, condition_expression, conjunction, has_expression, literal, template_expression)
-from .lower_tree import Lowering, is_set, shown, steps_of, texts
-from .yaml_reader import mark_of, members
+from .lower_tree import Lowering, is_set, part, shown, steps_of, texts
+from .yaml_reader import Mark, mark_of, members
 
 FOREIGN = ("windows", "macos")
-KINDS = {"fail-fast": (bool, "true or false"), "max-parallel": (int, "a whole number"), "matrix": (dict, "a map")}
+KINDS = {"strategy": (dict, "a map"), "fail-fast": (bool, "true or false"), "max-parallel": (int, "a whole number"), "matrix": (dict, "a map")}
 
 
 def lower_strategy(lowering: Lowering, job_id: str, job: Any) -> None:
     """Puts values in place of the expressions of a job's strategy."""
-    def require(node: Any, key: str, kind: type, name: str, wanted: str) -> None:
-        if not isinstance(node[key], kind) or kind is int and isinstance(node[key], bool):
-            raise lowering.refuse(mark_of(node, key), f"{name} of job {job_id} is {shown(node[key])}, but has to be {wanted}")
-    decide(lowering, job_id, job, "strategy", "strategy")
-    strategy = job.get("strategy")
-    for key, (kind, wanted) in KINDS.items() if isinstance(strategy, dict) else ():
-        decide(lowering, job_id, strategy, key, key)
-        if isinstance(strategy.get(key), str) and re.fullmatch("true|false|[0-9]+", strategy[key]):
-            strategy[key] = json.loads(strategy[key])
-        if strategy.get(key) is not None:
-            require(strategy, key, kind, f"the {key}" if kind is dict else key, wanted)
-    matrix = strategy.get("matrix") if isinstance(strategy, dict) else {}
-    for variable in list(matrix or ()):
-        decide(lowering, job_id, matrix, variable, variable)
-        require(matrix, variable, list, f"{variable} in the matrix", "a list")
+    decide(lowering, job_id, job, "strategy")
+    strategy = part(job, "strategy")
+    for key in ("fail-fast", "max-parallel", "matrix"):
+        decide(lowering, job_id, strategy, key)
+    matrix = part(strategy, "matrix")
+    for variable in list(matrix):
+        decide(lowering, job_id, matrix, variable)
         if variable in ("include", "exclude") and not matrix[variable]:
             del matrix[variable]
 
 
-def decide(lowering: Lowering, job_id: str, node: Any, key: Any, name: str) -> None:
-    """Puts the value of `--matrix` in place of a member, else values in place of the expressions in it."""
-    value, mark, given = node.get(key) if isinstance(node, dict) else node[key], mark_of(node, key), lowering.setting.matrices
-    if (job_id, name) in given:
-        node[key] = json.loads(json.dumps(given[job_id, name]), parse_float=str)
-        lowering.note(mark, f"{name} of job {job_id} is {shown(given[job_id, name])}, as --matrix gives it")
-    elif has_expression(value):
+def decide(lowering: Lowering, job_id: str, node: Any, key: str) -> None:
+    """Puts the value of `--matrix` in place of a member, else values in place of the expressions in it. Refuses one of another kind."""
+    mark, given = mark_of(node, key), lowering.setting.matrices
+    if (job_id, key) in given:
+        node[key] = json.loads(json.dumps(given[job_id, key]), parse_float=str)
+        lowering.note(mark, f"{key} of job {job_id} is {shown(given[job_id, key])}, as --matrix gives it")
+    elif key in node:
+        node[key] = decided(lowering, job_id, key, node[key], mark, has_expression(node[key]) or key not in KINDS)
+    kind, wanted = KINDS.get(key, (list, "a list"))
+    value = node.get(key)
+    if isinstance(value, str) and kind in (bool, int) and re.fullmatch("true|false|[0-9]+", value):
+        value = node[key] = json.loads(value)
+    if value is not None and (not isinstance(value, kind) or kind is int and isinstance(value, bool)):
+        name = f"{key} in the matrix" if key not in KINDS else key
+        raise lowering.refuse(mark, f"{name} of job {job_id} is {shown(value)}, but has to be {wanted}")
+
+
+def decided(lowering: Lowering, job_id: str, name: str, value: Any, mark: Mark, inside: bool) -> Any:
+    """A value with the values of the expressions in it, those that are `inside` of a list or a map too."""
+    if has_expression(value):
         try:
-            node[key] = lowering.evaluate(template_expression(value.strip()))
+            found = lowering.evaluate(template_expression(value.strip()))
         except EvaluationError as fault:
             raise lowering.refuse(mark, f"{name} of job {job_id} is {shown(value)}, and cannot be evaluated before execution ({fault}); "
                                         f"give its value by --matrix {job_id}.{name}=JSON") from None
-        lowering.note(mark, f"{name} of job {job_id} is evaluated before execution: {shown(node[key])}")
-    elif name not in ("strategy", "matrix"):
-        for inner, _ in members(value):
-            decide(lowering, job_id, value, inner, name)
+        lowering.note(mark, f"{name} of job {job_id} is evaluated before execution: {shown(found)}")
+        return found
+    for key, inner in members(value) if inside else ():
+        value[key] = decided(lowering, job_id, name, inner, mark_of(value, key), True)
+    return value
 
 
 def lower_env(lowering: Lowering, node: Any, job: Any) -> None:

@@ -119,10 +119,8 @@ class KnownContexts(Rules):
 
     def __init__(self, lowering: Lowering, job_id: str = "", action: str = ""):
         super().__init__({"runner": self.runner, "github": self.github}, {"hashfiles": self.hash_files}, self.fractional)
-        self.lowering, self.of_place = lowering, {"job": job_id, "action": action}
-
-    def note(self, text: str) -> None:
-        self.lowering.note(self.mark, text)
+        self.lowering, self.note = lowering, lambda text: lowering.note(self.mark, text)
+        self.of_place = {"job": job_id, "action": action}
 
     def runner(self, access: Access) -> Replacement:
         """`runner.os` becomes the value that this machine has."""
@@ -176,15 +174,10 @@ def name_steps(job: Any) -> None:
     """Keeps GITHUB_ACTION of each step: its id, else `__run` or the action's name, with a number from the second on."""
     counts: Dict[str, int] = {}
     for step in steps_of(job):
-        name, uses = "__run", step.get("uses")
-        if isinstance(uses, str):
-            path = "self" if uses.startswith(".") else uses.replace("docker://", "").partition("@")[0]
-            name = "__" + re.sub(r"[^\w-]", "_", path)
-        if isinstance(step.get("id"), str):
-            step.known_as = step["id"]
-            continue
-        counts[name] = counts.get(name, 0) + 1
-        step.known_as = name if counts[name] == 1 else f"{name}_{counts[name]}"
+        uses = step.get("uses") if isinstance(step.get("uses"), str) else "run"
+        name = "__" + ("self" if uses.startswith(".") else re.sub(r"[^\w-]", "_", uses.replace("docker://", "").partition("@")[0]))
+        counts[name] = counts.get(name, 0) + (not isinstance(step.get("id"), str))
+        step.known_as = step["id"] if isinstance(step.get("id"), str) else name if counts[name] == 1 else f"{name}_{counts[name]}"
 
 
 def set_default_variables(job_id: str, job: Any, flow: Any) -> None:

@@ -6,7 +6,6 @@ number that is too great for `actrun`, becomes the text as it is written.
 """
 from __future__ import annotations
 
-import functools
 import itertools
 import json
 import re
@@ -16,10 +15,9 @@ from typing import Any, Callable, Dict, Iterator, List, NamedTuple, Tuple, Union
 Path = Tuple[Union[str, int], ...]
 
 DEEPEST = 127
-LARGEST = 16 * 1024 * 1024
 GREATEST = 9007199254740991
 MOST_REPORTED = 20
-MOST_PLACES = 200_000
+MOST_PLACES = 200_000  # as many values as a workflow may have, once its aliases are written out
 TAG = "tag:yaml.org,2002:"
 CORE = re.compile(r"""(?P<null>~|null|Null|NULL|) | (?P<bool>true|True|TRUE|false|False|FALSE)
     | (?P<int>[-+]?[0-9]+|0o[0-7]+|0x[0-9a-fA-F]+) | (?P<float>[-+]?(?:\.[0-9]+|[0-9]+(?:\.[0-9]*)?)(?:[eE][-+]?[0-9]+)?)
@@ -67,14 +65,10 @@ class Sequence(Node, list):
 @dataclass
 class Document:
     """What one file of YAML holds. With faults the value is not to be used."""
-    value: Any
+    value: Any = None
+    lines: Dict[Path, int] = field(default_factory=dict)  # of each place in the value
     faults: List[Note] = field(default_factory=list)
     notes: List[Note] = field(default_factory=list)
-
-    @functools.cached_property
-    def lines(self) -> Dict[Path, int]:
-        """The line of each place in the value."""
-        return lines_of(self.value)
 
 
 def members(node: Any) -> List[Tuple[Any, Any]]:
@@ -88,14 +82,18 @@ def mark_of(node: Any, key: Any = None) -> Mark:
 
 
 def lines_of(tree: Any) -> Dict[Path, int]:
-    """The line of each place in a tree, the outermost places first, and no more than a number of them."""
+    """The line of each place in a tree, the outermost places first. Raises Refused where aliases make the tree too deep or too big."""
     lines: Dict[Path, int] = {(): mark_of(tree).line}
     waiting: List[Tuple[Path, Any]] = [((), tree)]
     for path, node in waiting:
+        if len(path) >= DEEPEST or len(lines) > MOST_PLACES:
+            raise Refused(lines[path[:1]], f"values nest deeper than {DEEPEST}" if len(path) >= DEEPEST
+                          else f"the file has more than {MOST_PLACES} values once its aliases are written out")
         marks = getattr(node, "marks", {})
-        for key, inner in members(node) if len(lines) < MOST_PLACES else ():
+        for key, inner in members(node):
             lines[path + (key,)] = marks[key].line if key in marks else lines[path]
-            waiting.append((path + (key,), inner))
+            if isinstance(inner, (dict, list)):
+                waiting.append((path + (key,), inner))
     return lines
 
 
@@ -107,16 +105,6 @@ def copied(tree: Any, change: Callable[[Mark], Mark] = lambda mark: mark) -> Any
     made = Map(inner, change(tree.mark)) if isinstance(tree, dict) else Sequence([one for _, one in inner], change(tree.mark))
     made.marks = {key: change(mark) for key, mark in tree.marks.items()}
     return made
-
-
-def extent(tree: Any, known: Dict[int, Tuple[int, int]]) -> Tuple[int, int]:
-    """How many levels a tree has, and about how many bytes its JSON has, once aliases are written out."""
-    if not isinstance(tree, Node):
-        return 0, len(text_of(tree).encode()) + 1
-    if id(tree) not in known:
-        parts = [extent(one, known) for pair in members(tree) for one in pair]
-        known[id(tree)] = 1 + max((levels for levels, _ in parts), default=0), 2 + sum(size for _, size in parts)
-    return known[id(tree)]
 
 
 def text_of(value: Any) -> str:
@@ -157,16 +145,9 @@ class Reader:
             if isinstance(event, self.kinds.DocumentStartEvent) and values:
                 raise Refused(self.line, "a second document begins here, but a file holds one workflow")
             if isinstance(event, self.kinds.NodeEvent):
-                values.append(self.node(event, 0))
+                values.append(self.node(event))
         if not values:
             raise Refused(self.line, "the file is empty")
-        whole, known = 0, {}
-        for key, inner in members(values[0]):
-            levels, size = extent(inner, known)
-            whole += size
-            if levels >= DEEPEST or whole > LARGEST:
-                raise Refused(mark_of(values[0], key).line, f"values nest deeper than {DEEPEST}" if levels >= DEEPEST
-                              else "the file has more than 16 MiB once its aliases are written out")
         return values[0]
 
     def lined(self, events: Iterator[Any]) -> Iterator[Any]:
@@ -183,44 +164,42 @@ class Reader:
         """Keeps a fault, after which the rest can still be read."""
         self.faults.append(Note(line or self.line, text))
 
-    def node(self, event: Any, depth: int) -> Any:
-        """The value that begins with an event, inside of so many lists and maps."""
+    def node(self, event: Any) -> Any:
+        """The value that begins with an event."""
         name = event.anchor
         if isinstance(event, self.kinds.AliasEvent):
             if name not in self.anchors:
                 raise Refused(self.line, f"the alias *{short(name)} has no value with the anchor &{short(name)} before it")
             return self.anchors[name]
-        if depth == DEEPEST and isinstance(event, self.kinds.CollectionStartEvent):
-            raise Refused(self.line, f"values nest deeper than {DEEPEST}")
         self.anchors.pop(name, None)
         value: Any
         if isinstance(event, self.kinds.ScalarEvent):
             value = self.scalar(event)
         elif isinstance(event, self.kinds.MappingStartEvent):
-            value = self.pairs(event, depth + 1)
+            value = self.pairs(event)
         else:
             value = Sequence(mark=Mark(self.line))
             self.check_tag(event, "seq")
             for inner in self.inside():
                 value.marks[len(value)] = Mark(self.line)
-                value.append(self.node(inner, depth + 1))
+                value.append(self.node(inner))
         if name is not None:
             self.anchors.setdefault(name, value)  # the value may have had another one of that name inside
         return value
 
-    def pairs(self, event: Any, depth: int) -> Map:
+    def pairs(self, event: Any) -> Map:
         """A map. The pairs of `<<` come last, and only where their keys are missing."""
         self.check_tag(event, "map")
         made, seen, merged = Map(mark=Mark(self.line)), set(), Sequence()
         for start in self.inside():
-            line, key = self.line, self.node(start, depth)
+            line, key = self.line, self.node(start)
             if not isinstance(key, str):
                 self.refuse(f"a key must be a text, and this one is {short(text_of(key))}; write a number or the like in quotes", line)
                 key = text_of(key)
             elif key in seen:
                 self.refuse(f"the key {text_of(short(key))} is twice in one map", line)
             seen.add(key)
-            inner = self.node(next(self.events), depth)
+            inner = self.node(next(self.events))
             if key == "<<" and getattr(start, "style", None) is None:
                 merged = inner if isinstance(inner, list) else Sequence([inner])
                 if not all(isinstance(one, Map) for one in merged):
@@ -263,18 +242,22 @@ class Reader:
 def read_document(data: bytes) -> Document:
     """The document of a file's bytes. Faults say why there is no value; notes say where GitHub reads another value."""
     from ruamel.yaml.reader import ReaderError
-    reader, value, text = Reader(), None, ""
+    reader, document, text = Reader(), Document(), ""
     try:
         text = data.decode("utf-8-sig")
-        value = reader.document(text)
+        document.value = reader.document(text)
+        document.lines = lines_of(document.value)
     except Refused as fault:
         reader.refuse(fault.text, fault.line)
     except UnicodeDecodeError as fault:
         reader.refuse("the file is not UTF-8", data.count(b"\n", 0, fault.start) + 1)
     except ReaderError as fault:
         reader.refuse(f"the character U+{fault.character:04X} is not allowed in YAML", text.count("\n", 0, fault.position) + 1)
+    except RecursionError:
+        reader.refuse(f"values nest deeper than {DEEPEST}")
     except Exception as fault:  # the library does not foresee every text, as `"\UFFFFFFFF"`
         mark = getattr(fault, "problem_mark", None) or getattr(fault, "context_mark", None)
         told = ", ".join(filter(None, (getattr(fault, "context", None), getattr(fault, "problem", None)))) or str(fault)
         reader.refuse("this is not valid YAML: " + told.replace("\n", " "), mark.line + 1 if mark else reader.line)
-    return Document(value, *(sorted(kept, key=lambda note: note.line)[:MOST_REPORTED] for kept in (reader.faults, reader.notes)))
+    document.faults, document.notes = (sorted(kept, key=lambda note: note.line)[:MOST_REPORTED] for kept in (reader.faults, reader.notes))
+    return document

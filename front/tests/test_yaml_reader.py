@@ -52,7 +52,7 @@ class Faults(unittest.TestCase):
         self.assertEqual(read_document(b"").faults, [Note(1, "the file is empty")])
 
     def test_many_aliases(self):
-        text = b"".join(b"%c: &%c [%s]\n" % (c, c, b",".join([b"*%c" % (c - 1) if c > 97 else b"1"] * 10)) for c in range(97, 103))
+        text = b"".join(b"%c: &%c [%s]\n" % (c, c, b",".join([b"*%c" % (c - 1) if c > 97 else b"1"] * 10)) for c in range(97, 101))
         document = read_document(text)
         self.assertEqual(document.faults, [])
-        self.assertEqual(document.lines["f", 9, 0], 5)
+        self.assertEqual(document.lines["d", 9, 0], 3)
