@@ -71,11 +71,11 @@ def stubs_for(uses: Iterable[str], named: dict[str, str], lenient: bool, folder:
     Raises StubError where a named program isn't there.
     """
     stubs = Stubs(binds=[STUBS.parent, *filter(None, (check_program(action, program) for action, program in named.items()))])
-    shipped = {name.lower(): entry["stub"] for name, entry in json.loads((STUBS / "actions.json").read_text(encoding="utf-8")).items()}
+    shipped = {name.lower(): entry.get("stub") for name, entry in json.loads((STUBS / "actions.json").read_text(encoding="utf-8")).items()}
     bash = shutil.which("bash") or "/bin/sh"  # other shells drop variables such as INPUT_PYTHON-VERSION
     folder.mkdir(parents=True, exist_ok=True)
     for number, text in enumerate(sorted(set(uses))):
-        program, stub = named_program(text, named), shipped.get(action_name(text), "without.py")
+        program, stub = named_program(text, named), shipped.get(action_name(text)) or "without.py"
         command = [program] if program is not None else [python, "-EsB", str(STUBS / stub), text]
         if program is not None:
             stubs.named.append(text)

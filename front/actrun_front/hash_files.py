@@ -108,13 +108,7 @@ def matching(arguments: list[str], repository: pathlib.Path, workspace: str = ""
 
 
 def digest(arguments: list[str], repository: pathlib.Path, workspace: str = "") -> str:
-    """What `hashFiles(ARGUMENTS)` gives: 64 hexadecimal digits, or an empty text where no file matches."""
-    inner = []
-    for path in matching(arguments, repository, workspace):
-        file = repository.joinpath(*path)
-        try:
-            if file.is_file():
-                inner.append(hashlib.sha256(file.read_bytes()).digest())
-        except OSError as fault:
-            raise GlobError(f"hashFiles cannot read {'/'.join(path)}: {fault.strerror}") from None
+    """What `hashFiles(ARGUMENTS)` gives: 64 hexadecimal digits, or an empty text where no file matches. Raises GlobError or OSError."""
+    files = [repository.joinpath(*path) for path in matching(arguments, repository, workspace)]
+    inner = [hashlib.sha256(file.read_bytes()).digest() for file in files if file.is_file()]
     return hashlib.sha256(b"".join(inner)).hexdigest() if inner else ""

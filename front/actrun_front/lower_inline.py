@@ -112,18 +112,14 @@ class Use:
     def steps(self, has_directory: bool) -> List[Any]:
         """The steps of the action as steps of the job, between one that opens and one that closes the action where they are needed."""
         title = str(self.step.get("name") or self.step["uses"])
-        made = [self.own({"id": self.begin, "name": title, "run": ":\n"})] if self.gated else []
-        if self.gated and self.outer is not None:
-            made[0]["if"] = self.outer
+        shared = {"shell": "bash", **({"continue-on-error": self.step["continue-on-error"]} if self.tolerant else {})}
+        outer = {} if self.outer is None else {"if": self.outer}
+        made = [Map({"id": self.begin, "name": title, "run": ":\n", **shared, **outer}, self.mark)] if self.gated else []
         made += [self.adopted(at, has_directory) for at in range(len(self.inner))]
-        made += [self.closing(f"outputs of {title}")] if self.has_id else []
+        made += [self.closing({"id": self.step["id"], "name": f"outputs of {title}", **shared})] if self.has_id else []
         for one in made:
             one.known_as = self.step.known_as
         return made
-
-    def own(self, parts: Dict[str, Any]) -> Any:
-        """A step that is added."""
-        return Map({**parts, "shell": "bash", **({"continue-on-error": self.step["continue-on-error"]} if self.tolerant else {})}, self.mark)
 
     def failed(self, before: int) -> str:
         """The expression that holds where a step of the action before a place has failed."""
@@ -152,10 +148,10 @@ class Use:
             step.setdefault("working-directory", ".")
         return step
 
-    def closing(self, title: str) -> Any:
+    def closing(self, parts: Dict[str, Any]) -> Any:
         """A step that has the id, the outputs and the outcome of the outer step."""
-        made = self.own({"id": self.step["id"], "name": title, "if": f"always() && {self.began}", "run": ""})
-        for at, (name, one) in enumerate(self.outputs.items()):
+        made = Map({**parts, "if": f"always() && {self.began}", "run": ""}, self.mark)
+        for at, name in enumerate(self.outputs):
             set_variable(made, f"ACTRUN_OUTPUT_{at}", rewrite_template(str(part(self.outputs, name).get("value") or ""), self.rules))
             made["run"] += f"printf '%s<<ACTRUN_END\\n%s\\nACTRUN_END\\n' {shlex.quote(name)} \"$ACTRUN_OUTPUT_{at}\" >> \"$GITHUB_OUTPUT\"\n"
         set_variable(made, "ACTRUN_FAILED", "${{ " + self.failed(len(self.inner)) + " }}")
@@ -163,11 +159,25 @@ class Use:
         return made
 
 
-def inline_calls(lowering: Lowering, flow: Any) -> None:
-    """Replaces each job of a workflow that calls another."""
-    if any(isinstance(part(flow["jobs"], job_id).get("uses"), str) for job_id in flow["jobs"]):
-        push_down(flow)
-        flow["jobs"] = expanded(lowering, flow["jobs"], (), set(flow["jobs"]))
+def inline_calls(lowering: Lowering, flow: Any, above: Tuple[str, ...] = ()) -> None:
+    """Puts the jobs of called workflows in place of the calls. `above` are the workflows that lead to this one."""
+    jobs, taken = flow["jobs"], set(flow["jobs"])
+    calls = {job_id: job["uses"] for job_id, job in jobs.items() if isinstance(part(jobs, job_id).get("uses"), str)}
+    if not calls and not above:
+        return
+    push_down(flow)
+    flow["jobs"] = Map(mark=jobs.mark)
+    flow["jobs"].marks = dict(jobs.marks)
+    for job_id, job in jobs.items():
+        path = calls[job_id][2:] if calls.get(job_id, "").startswith("./") else ""
+        if job_id not in calls:
+            flow["jobs"][job_id] = job
+        elif path and ".." not in path.split("/") and (lowering.setting.repository / path).is_file():
+            flow["jobs"].update(called(lowering, job_id, job, path, above, taken))
+        else:
+            flow["jobs"][job_id] = distant(lowering, job_id, job, jobs)
+        if job_id in calls and is_set(job.get("concurrency")):
+            lowering.note(mark_of(job, "concurrency"), f"concurrency of job {job_id}, which calls a workflow, is dropped")
 
 
 def push_down(flow: Any) -> None:
@@ -184,24 +194,6 @@ def inherited(outer: Any, inner: Any) -> Any:
         return copied(outer) if inner is None else inner
     made = Map({**copied(outer), **inner, **{key: inherited(outer[key], inner[key]) for key in outer if key in inner}}, inner.mark)
     made.marks = {**outer.marks, **inner.marks}
-    return made
-
-
-def expanded(lowering: Lowering, jobs: Any, above: Tuple[str, ...], taken: Set[str]) -> Any:
-    """The jobs with those of called workflows in place of the calls. `taken` has all ids that are used."""
-    made = Map(mark=jobs.mark)
-    made.marks = dict(jobs.marks)
-    for job_id, job in jobs.items():
-        uses = part(jobs, job_id).get("uses")
-        path = uses[2:] if isinstance(uses, str) and uses.startswith("./") else ""
-        if not isinstance(uses, str):
-            made[job_id] = job
-        elif path and ".." not in path.split("/") and (lowering.setting.repository / path).is_file():
-            made.update(called(lowering, job_id, job, path, above, taken))
-        else:
-            made[job_id] = distant(lowering, job_id, job, jobs)
-        if isinstance(uses, str) and is_set(job.get("concurrency")):
-            lowering.note(mark_of(job, "concurrency"), f"concurrency of job {job_id}, which calls a workflow, is dropped")
     return made
 
 
@@ -240,8 +232,9 @@ def called(lowering: Lowering, job_id: str, job: Any, path: str, above: Tuple[st
         call = Call(lowering, job_id, one, path, above, taken, f"_{at + 1}" if len(legs) > 1 else "")
         made.update(call.jobs())
         ids += call.ids.values()
-        for name, expression in call.outputs().items():
-            outputs.setdefault(name, []).insert(0, f"({expression})")
+        rules, declared = Rules({**call.rules.contexts, "jobs": call.rules.contexts["needs"]}), part(call.declared, "outputs")
+        for name in declared:
+            outputs.setdefault(name, []).insert(0, f"({rewrite(expression_of(part(declared, name).get('value')), rules)})")
     lowering.note(mark, f"the called workflow {path} is inlined: {', '.join(ids)}")
     bad = " || ".join(f"needs.{name}.result == '{state}'" for name in ids for state in ("failure", "cancelled"))
     step = Map({"name": f"a job of {path} did not succeed", "if": bad, "run": "exit 1", "shell": "sh"}, mark)
@@ -265,8 +258,8 @@ class Call:
             raise lowering.refuse(self.mark, f"the called workflow {path} cannot be called: write `workflow_call` under its `on`")
         if is_set(flow.get("concurrency")):
             lowering.note(mark_of(flow, "concurrency"), "concurrency of a called workflow is dropped")
-        push_down(flow)
-        self.inner = expanded(lowering, flow["jobs"], (*above, path), set(flow["jobs"]))
+        inline_calls(lowering, flow, (*above, path))
+        self.inner = flow["jobs"]
         self.ids = {old: free_name(f"{job_id}__{old}{suffix}", taken) for old in self.inner}
         self.needs, self.condition = texts(job.get("needs")), condition_expression(job.get("if"))
         self.gate = free_name(f"{job_id}__call{suffix}", taken) if self.needs or self.condition is not None else ""
@@ -305,12 +298,6 @@ class Call:
             if isinstance(job, dict):
                 self.adopt(old, job)
         return made
-
-    def outputs(self) -> Dict[str, str]:
-        """The expressions of the outputs of the call."""
-        rules = Rules({**self.rules.contexts, "jobs": self.rules.contexts["needs"]})
-        declared = part(self.declared, "outputs")
-        return {name: rewrite(expression_of(part(declared, name).get("value")), rules) for name in declared}
 
     def adopt(self, old: str, job: Any) -> None:
         """Makes a job of the called workflow one of the caller's."""

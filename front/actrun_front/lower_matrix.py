@@ -33,7 +33,7 @@ def decide(lowering: Lowering, job_id: str, node: Any, key: str) -> None:
         node[key] = json.loads(json.dumps(given[job_id, key]), parse_float=str)
         lowering.note(mark, f"{key} of job {job_id} is {shown(given[job_id, key])}, as --matrix gives it")
     elif key in node:
-        node[key] = decided(lowering, job_id, key, node[key], mark, has_expression(node[key]) or key not in KINDS)
+        node[key] = decided(lowering, job_id, key, node[key], mark)
     kind, wanted = KINDS.get(key, (list, "a list"))
     value = node.get(key)
     if isinstance(value, str) and kind in (bool, int) and re.fullmatch("true|false|[0-9]+", value):
@@ -43,8 +43,8 @@ def decide(lowering: Lowering, job_id: str, node: Any, key: str) -> None:
         raise lowering.refuse(mark, f"{name} of job {job_id} is {shown(value)}, but has to be {wanted}")
 
 
-def decided(lowering: Lowering, job_id: str, name: str, value: Any, mark: Mark, inside: bool) -> Any:
-    """A value with the values of the expressions in it, those that are `inside` of a list or a map too."""
+def decided(lowering: Lowering, job_id: str, name: str, value: Any, mark: Mark) -> Any:
+    """A value with the values of the expressions in it."""
     if has_expression(value):
         try:
             found = lowering.evaluate(template_expression(value.strip()))
@@ -53,8 +53,8 @@ def decided(lowering: Lowering, job_id: str, name: str, value: Any, mark: Mark, 
                                         f"give its value by --matrix {job_id}.{name}=JSON") from None
         lowering.note(mark, f"{name} of job {job_id} is evaluated before execution: {shown(found)}")
         return found
-    for key, inner in members(value) if inside else ():
-        value[key] = decided(lowering, job_id, name, inner, mark_of(value, key), True)
+    for key, inner in members(value) if name not in KINDS else ():
+        value[key] = decided(lowering, job_id, name, inner, mark_of(value, key))
     return value
 
 
@@ -84,18 +84,16 @@ def lower_system(lowering: Lowering, job_id: str, job: Any) -> None:
     labels = texts(runs_on.get("labels") if isinstance(runs_on, dict) else runs_on)
     joined = "".join(" " + PIECE.sub(lambda it: "${{ join(" + it[1].strip() + ", ' ') }}", label) for label in labels)
     expression = template_expression(joined)
-    condition = " && ".join(f"!contains({expression}, ' {name}')" for name in FOREIGN)
+    condition, everywhere = " && ".join(f"!contains({expression}, ' {name}')" for name in FOREIGN), False
     try:
         found = lowering.by_leg(expression, job)
-    except EvaluationError:
-        lowering.note(mark, f"the system of job {job_id} is known only during execution: its steps are skipped on Windows and macOS")
-        everywhere = False
-    else:
-        foreign = [text.strip() for text in found if any(" " + name in text.lower() for name in FOREIGN)]
+        foreign = sorted({text.strip() for text in found if any(" " + name in text.lower() for name in FOREIGN)})
         if not foreign:
             return
-        lowering.foreign += [(job_id, name) for name in sorted(set(foreign))]
-        lowering.note(mark, f"no step of job {job_id} is executed on {', '.join(sorted(set(foreign)))}: this machine has Linux")
-        everywhere = len(foreign) == len(found)
+        lowering.foreign += [(job_id, name) for name in foreign]
+        lowering.note(mark, f"no step of job {job_id} is executed on {', '.join(foreign)}: this machine has Linux")
+        everywhere = {text.strip() for text in found} == set(foreign)
+    except EvaluationError:
+        lowering.note(mark, f"the system of job {job_id} is known only during execution: its steps are skipped on Windows and macOS")
     for step in steps_of(job):
         step["if"] = False if everywhere else conjunction(condition, condition_expression(step.get("if")))

@@ -148,7 +148,7 @@ class KnownContexts(Rules):
         call, workspace = f"hashFiles({', '.join(map(literal, given))})", str(part(self.lowering.contexts, "github").get("workspace") or "")
         try:
             value = digest(given, self.lowering.setting.repository, workspace)
-        except GlobError as fault:
+        except (GlobError, OSError) as fault:
             raise self.lowering.refuse(self.mark, f"{call} has no value: {fault}") from None
         self.note(f"{call} is replaced by " + (f"the digest {value[:12]}.. of the repository's files" if value else "an empty text: no file matches"))
         return literal(value)

@@ -24,8 +24,7 @@ CORE = re.compile(r"""(?P<null>~|null|Null|NULL|) | (?P<bool>true|True|TRUE|fals
     | (?P<infinite>[-+]?(?:\.inf|\.Inf|\.INF)|\.nan|\.NaN|\.NAN) | (?P<str>.*)""", re.VERBOSE | re.DOTALL)
 
 
-@dataclass(frozen=True)
-class Note:
+class Note(NamedTuple):
     """A sentence about a line of a file, counted from 1."""
     line: int
     text: str
@@ -129,17 +128,17 @@ def plain_value(text: str) -> Any:
 class Reader:
     """Builds one value from the events of a text, and keeps faults and notes."""
 
-    def __init__(self) -> None:
+    def __init__(self, text: str):
+        import ruamel.yaml
+        self.kinds = ruamel.yaml.events
+        self.events = self.lined(ruamel.yaml.YAML(typ="safe", pure=True).parse(text))
         self.faults: List[Note] = []
         self.notes: List[Note] = []
         self.anchors: Dict[str, Any] = {}
         self.line = 1
 
-    def document(self, text: str) -> Any:
-        """The value of a text."""
-        import ruamel.yaml
-        self.kinds = ruamel.yaml.events
-        self.events = self.lined(ruamel.yaml.YAML(typ="safe", pure=True).parse(text))
+    def document(self) -> Any:
+        """The value of the text."""
         values: List[Any] = []
         for event in self.events:
             if isinstance(event, self.kinds.DocumentStartEvent) and values:
@@ -242,10 +241,11 @@ class Reader:
 def read_document(data: bytes) -> Document:
     """The document of a file's bytes. Faults say why there is no value; notes say where GitHub reads another value."""
     from ruamel.yaml.reader import ReaderError
-    reader, document, text = Reader(), Document(), ""
+    text = data.decode("utf-8-sig", "replace")
+    reader, document = Reader(text), Document()
     try:
-        text = data.decode("utf-8-sig")
-        document.value = reader.document(text)
+        data.decode()
+        document.value = reader.document()
         document.lines = lines_of(document.value)
     except Refused as fault:
         reader.refuse(fault.text, fault.line)
