@@ -187,24 +187,24 @@ class Program:
 
     def __init__(self, program: str):
         self.program = program
-        self.answers: Dict[Tuple[str, str], Any] = {}
+        self.answers: Dict[Tuple[str, ...], Any] = {}
 
     def answer(self, given: List[str], data: str) -> Any:
-        """The JSON that the program prints."""
-        try:
-            ran = subprocess.run([self.program, *given], input=data.encode(), capture_output=True, check=False)
-            if ran.returncode == 0:
-                return json.loads(ran.stdout)
-        except (OSError, ValueError) as fault:
-            raise EvaluationError(f"{self.program} cannot be started: {fault}") from None
-        raise EvaluationError(ran.stderr.decode("utf-8", "replace").strip().replace("actrun: ", "", 1))
+        """The JSON that the program prints. Raises EvaluationError with its reason."""
+        key = (*given, data)
+        if key not in self.answers:
+            try:
+                ran = subprocess.run([self.program, *given], input=data.encode(), capture_output=True, check=False)
+                if ran.returncode != 0:
+                    raise EvaluationError(ran.stderr.decode("utf-8", "replace").strip().replace("actrun: ", "", 1))
+                self.answers[key] = json.loads(ran.stdout)
+            except (OSError, ValueError) as fault:
+                raise EvaluationError(f"{self.program} cannot be started: {fault}") from None
+        return self.answers[key]
 
     def evaluate(self, expression: str, contexts: dict) -> Any:
-        """The value of an expression. Raises EvaluationError with the program's reason."""
-        data = json.dumps(contexts)
-        if (expression, data) not in self.answers:
-            self.answers[expression, data] = self.answer(["eval", "--contexts", "/dev/stdin", "--", expression], data)
-        return self.answers[expression, data]
+        """The value of an expression. Raises EvaluationError."""
+        return self.answer(["eval", "--contexts", "/dev/stdin", "--", expression], json.dumps(contexts))
 
     def legs(self, matrix: Any) -> List[dict]:
         """The combinations of a matrix, one for each leg. Raises EvaluationError where the planner refuses it."""
