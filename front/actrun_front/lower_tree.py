@@ -138,7 +138,7 @@ class KnownContexts(Rules):
             return None
         value = "secrets.GITHUB_TOKEN" if key == "token" else literal(self.of_place[key]) if self.of_place.get(key) else None
         if value is not None:
-            self.note(f"`github.{key}` is replaced by {value}")
+            self.note(f"`github.{key}` is replaced by " + (f"`{value}`" if key == "token" else value))
         return None if value is None else (value, 1)
 
     def hash_files(self, given: Optional[List[str]]) -> str:
