@@ -10,7 +10,7 @@ from .lower_tree import Lowering, is_set, part, shown, steps_of, texts
 from .yaml_reader import Mark, mark_of, members
 
 FOREIGN = ("windows", "macos")
-KINDS = {"strategy": (dict, "a map"), "fail-fast": (bool, "true or false"), "max-parallel": (int, "a whole number"), "matrix": (dict, "a map")}
+KINDS = {"strategy": (object, "anything"), "fail-fast": (bool, "true or false"), "max-parallel": (int, "a whole number"), "matrix": (dict, "a map")}
 
 
 def lower_strategy(lowering: Lowering, job_id: str, job: Any) -> None:
