@@ -12,7 +12,7 @@ from .lower_inline import inline_actions, inline_calls
 from .lower_matrix import lower_env, lower_strategy, lower_system
 from .lower_tree import (KnownContexts, Lowering, Setting, is_set, name_steps, part, rewrite_texts, set_default_variables, set_variable,
                          shown, steps_of)
-from .yaml_reader import Document, Mark, Note, Path, Refused, copied, lines_of, mark_of
+from .yaml_reader import Document, Note, Path, Refused, copied, lines_of, mark_of
 
 __all__ = ["EvaluationError", "Lowered", "Refused", "Setting", "lower"]
 
