@@ -192,7 +192,8 @@ def inherited(outer: Any, inner: Any) -> Any:
     """A value over an outer one: of two maps the members of both."""
     if not isinstance(outer, Map) or not isinstance(inner, Map):
         return copied(outer) if inner is None else inner
-    made = Map({**copied(outer), **inner, **{key: inherited(outer[key], inner[key]) for key in outer if key in inner}}, inner.mark)
+    maps = {key: inherited(value, inner[key]) for key, value in outer.items() if isinstance(value, Map) and key in inner}
+    made = Map({**copied(outer), **inner, **maps}, inner.mark)
     made.marks = {**outer.marks, **inner.marks}
     return made
 

@@ -94,6 +94,15 @@ class Composite(LowerCase):
         self.assertEqual(self.run_plan(), ["given", "empty"])
 
 
+class Hashed(LowerCase):
+    def test_patterns_that_are_inputs(self):
+        self.write("a.lock", "one\n")
+        self.write("hash/action.yml", "inputs: {files: {default: '*.lock'}}\n"
+                   "runs: {using: composite, steps: [{run: \"${{ hashFiles(inputs.files) }}\", shell: bash}]}\n")
+        job = self.job("steps: [{uses: ./hash}, {uses: ./hash, with: {files: none}}]")
+        self.assertEqual([step["run"][:6] for step in job["steps"]], ["9c6407", ""])
+
+
 class Kept(LowerCase):
     def test_actions_that_stay(self):
         self.write("js/action.yml", "runs: {using: node20, main: x.js}")

@@ -111,6 +111,16 @@ jobs:
                    "  end: {needs: top, steps: [{run: \"echo ${{ needs.top.outputs.o }}\"}]}\n")
         self.assertEqual(self.run_plan(), ["abc/true/3/build/none", "secrets false true", "test success", "1.abc"])
 
+    @needs_program
+    def test_inputs_as_a_whole_and_variables_without_a_value(self):
+        self.write(".github/workflows/c.yml", "on: {workflow_call: {inputs: {a: {}, n: {type: number}}}}\n"
+                   "jobs: {one: {steps: [{run: \"echo ${{ fromJSON(toJSON(inputs)).n }} ${{ inputs['a'] }} ${A-none}\"}]}}\n")
+        flow = self.lower("on: push\nenv: {A: 1, B: 2}\ndefaults: {run: {shell: sh}}\njobs:\n"
+                          "  c: {uses: ./.github/workflows/c.yml, with: {a: x, n: 3}}\n  d: {env: {A: , C: 3}, defaults: {run: }, steps: []}\n")
+        self.assertEqual(self.run_plan(), ["3 x none"])
+        self.assertEqual(flow["jobs"]["d"]["env"], {"A": None, "B": 2, "C": 3, "GITHUB_JOB": "d"})
+        self.assertEqual(flow["jobs"]["d"]["defaults"], {"run": {"shell": "sh"}})
+
     def test_ids_do_not_clash(self):
         flow = self.lower("on: push\njobs: {c: {uses: ./.github/workflows/called.yml}, c__build: {steps: []}}")
         self.assertEqual(set(flow["jobs"]), {"c", "c__build", "c__build_", "c__test"})
