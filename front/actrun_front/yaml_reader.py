@@ -167,10 +167,12 @@ class Reader:
         """The value that begins with an event."""
         name = event.anchor
         if isinstance(event, self.kinds.AliasEvent):
-            if name not in self.anchors:
-                raise Refused(self.line, f"the alias *{short(name)} has no value with the anchor &{short(name)} before it")
+            if self.anchors.get(name, self) is self:
+                raise Refused(self.line, f"the alias *{short(name)} " + ("is inside the value that it names" if name in self.anchors
+                                                                       else f"has no anchor &{short(name)} before it"))
             return self.anchors[name]
-        self.anchors.pop(name, None)
+        if name is not None:
+            self.anchors[name] = self  # until the value is whole
         value: Any
         if isinstance(event, self.kinds.ScalarEvent):
             value = self.scalar(event)
@@ -182,8 +184,8 @@ class Reader:
             for inner in self.inside():
                 value.marks[len(value)] = Mark(self.line)
                 value.append(self.node(inner))
-        if name is not None:
-            self.anchors.setdefault(name, value)  # the value may have had another one of that name inside
+        if self.anchors.get(name) is self:  # else the value had another one of that name inside
+            self.anchors[name] = value
         return value
 
     def pairs(self, event: Any) -> Map:
