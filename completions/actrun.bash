@@ -1,7 +1,7 @@
 # Completion of actrun's commands and options for bash: source this file.
 _actrun() {
   local word=${COMP_WORDS[COMP_CWORD]} before=${COMP_WORDS[COMP_CWORD - 1]} command=${COMP_WORDS[1]} offered
-  local commands='try from-yaml dap plan list lint run table replay why graph timeline debug eval'
+  local commands='try from-yaml dap plan list lint run table replay why graph timeline report debug eval'
   local events='push pull_request workflow_dispatch schedule release'
   COMPREPLY=()
   if [ "$COMP_CWORD" -eq 1 ]; then
@@ -10,11 +10,11 @@ _actrun() {
   fi
   # the value of an option
   case $before in
-    --contexts | --record | --stubs | --secret-file | --var-file | --input-file | --env-file | --eventpath | -e | -o)
+    --contexts | --record | --stubs | --secret-file | --var-file | --input-file | --env-file | --eventpath | --times | -e | -o)
       _actrun_files -f "$word"
       return
       ;;
-    --work | --keep | --repository | --directory | -C) _actrun_files -d "$word"; return ;;
+    --work | --keep | --logs | --repository | --directory | -C) _actrun_files -d "$word"; return ;;
     --workflows | -W) _actrun_files -f "$word"; return ;;
     --workers) _actrun_offer '1 2 4 8 16' "$word"; return ;;
     --event) _actrun_offer "$events" "$word"; return ;;
@@ -32,6 +32,7 @@ _actrun() {
     run) offered='--help --workers --record --work --stubs --progress' ;;
     eval) offered='--help --contexts' ;;
     replay) offered='--help --settled' ;;
+    report) offered='--help -o --logs --times --around --seconds' ;;
     *) offered=--help ;;
   esac
   if [[ $word == -* ]]; then
@@ -46,7 +47,7 @@ _actrun() {
         3) _actrun_offer 'run job leg step' "$word" ;;
       esac
       ;;
-    from-yaml | plan | list | lint | run | replay | graph | timeline | debug) _actrun_files -f "$word" ;;
+    from-yaml | plan | list | lint | run | replay | graph | timeline | report | debug) _actrun_files -f "$word" ;;
   esac
 }
 

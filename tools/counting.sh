@@ -31,6 +31,8 @@ need_packages() {
   python3 -c 'import ruamel.yaml' 2>/dev/null || /usr/bin/python3 -c 'import ruamel.yaml' 2>/dev/null || missing+=(python3-ruamel.yaml)
   command -v bwrap >/dev/null || missing+=(bubblewrap)
   command -v git >/dev/null || missing+=(git)
+  command -v chromedriver >/dev/null || missing+=(chromium chromium-driver)
+  [ -d /usr/lib/python3/dist-packages/selenium ] || missing+=(python3-selenium)
   [ "${#missing[@]}" -gt 0 ] || return 0
   if [ "$(id -u)" -eq 0 ] && command -v apt-get >/dev/null; then
     echo "installing ${missing[*]}"

@@ -6,7 +6,7 @@ say() { printf 'actrun: %s\n' "$1" >&2; }
 
 # whether a command is one of the front's
 is_of_front() {
-  case $1 in try | from-yaml | dap) ;; *) false ;; esac
+  case $1 in try | from-yaml | dap | report) ;; *) false ;; esac
 }
 
 # whether a word is among others

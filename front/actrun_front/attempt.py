@@ -11,7 +11,7 @@ import time
 from pathlib import Path
 from typing import Any, Iterable
 
-from . import Problem, options as words, tree as rooms
+from . import Problem, options as words, report, tree as rooms
 from .actions import StubError, Stubs, after_play, stubs_for
 from .contexts import Play, read_payload
 from .environment import HOME, SUDO, SUDO_OF_ROOT, marker, sandbox_words, settle, variables, why_no_sandbox, write_prelude
@@ -233,3 +233,6 @@ class Trial:
             for name, command in (("timeline.svg", "timeline"), ("graph.dot", "graph")):
                 write_private(private / name, ask(command, self.record).stdout)
                 yield f"{command:<9} {private / name}"
+            page = report.beside(self.record, play)
+            if page:
+                yield f"report    {page}"

@@ -1,0 +1,370 @@
+"""Tests of `actrun report`: the page that it writes, in headless Chromium, against what `actrun debug` and `why` print.
+
+Without Chromium, its driver and selenium the browser tests are skipped, but not where ACTRUN_ALL_TESTS is set, as the gate does.
+"""
+from __future__ import annotations
+
+import json
+import os
+import random
+import re
+import shutil
+import subprocess
+import sys
+import tempfile
+import time
+import unittest
+from pathlib import Path
+from typing import Any
+
+from actrun_front import Problem, report
+
+from .dap_case import EXAMPLES, NEEDS_PROGRAM, PROGRAM, TOP
+
+sys.path.append("/usr/lib/python3/dist-packages")  # (Debian's selenium, where another Python runs the tests)
+try:
+    from selenium import webdriver
+    from selenium.webdriver.chrome.service import Service
+    from selenium.webdriver.common.keys import Keys
+    WITHOUT = "" if shutil.which("chromium") and shutil.which("chromedriver") else "chromium"
+except ImportError:
+    WITHOUT = "python3-selenium"
+NEEDS_BROWSER = unittest.skipIf(WITHOUT and not os.environ.get("ACTRUN_ALL_TESTS"),
+                                f"{WITHOUT} is missing: apt-get install chromium chromium-driver python3-selenium")
+WALK = """
+const done = arguments[arguments.length - 1], found = [];
+document.querySelector('#boardbox').open = true;
+const press = (key) => document.dispatchEvent(new KeyboardEvent('keydown', {key, bubbles: true}));
+const look = () => found.push([document.querySelector('#board').textContent,
+  [...document.querySelectorAll('#rows .row')].map((row) => row.querySelector('.kind').textContent + ' ' + row.querySelector('.says').dataset.line)]);
+press('Home');
+for (let at = Number(document.querySelector('#slider').min); ; at++) {
+  look();
+  if (at >= Number(document.querySelector('#slider').max)) break;
+  press('ArrowRight');
+}
+const back = found.map((it) => it[0]).reverse();
+let same = true;
+for (const board of back) { same = same && document.querySelector('#board').textContent === board; press('ArrowLeft'); }
+done([found, same]);
+"""
+STEP_TIME = """
+const press = (key) => document.dispatchEvent(new KeyboardEvent('keydown', {key, bubbles: true}));
+press('Home');
+const times = [];
+for (let at = 0; at < 60; at++) {
+  const began = performance.now();
+  press(at % 3 ? 'ArrowRight' : 'ArrowLeft');
+  document.body.offsetHeight;
+  times.push(performance.now() - began);
+}
+return times.sort((a, b) => a - b)[30];
+"""
+HOSTILE = ["<script>window.bad = 1</script>", "</script><img src=x onerror='window.bad = 1'>", "\"'`&lt;<!--", "a\u0007b\u001b[31m\ttab",
+           "x\u202etxt.exe\u2066y", "-->]]>\\u003c/script>"]
+
+
+def boards(record: Path) -> list[str]:
+    """What `debug` shows at each place of a record."""
+    total = record.read_bytes().rstrip(b"\n").count(b"\n")
+    asked = "".join(f"goto {at}\nshow\n" for at in range(total + 1)).encode()
+    shown = subprocess.run([PROGRAM, "debug", record], input=asked, capture_output=True, check=True).stdout.decode()
+    return re.split(r"^place \d+ of \d+\n", shown, flags=re.MULTILINE)[1:]
+
+
+def rows_of(board: str, plan: dict) -> list[str]:
+    """The rows of the tree by the text of a board: runs, jobs, legs, and of each leg its steps, done or not."""
+    counts = [len(job["steps"]) for run in plan["runs"] for job in run["jobs"] for _ in job["legs"]]
+    found, blocks = [], re.findall(r"^(run|job|leg) (\d+) (.*)\n((?:(?:step|set|out) .*\n)*)", board, flags=re.MULTILINE)
+    for kind, number, says, rest in blocks:
+        found.append(f"{kind} {number} {says}")
+        if kind == "leg":
+            steps = re.findall(r"^step \d+ (\w+) (\w+) ", rest, flags=re.MULTILINE)
+            for at in range(counts[int(number)]):
+                outcome, conclusion = steps[at] if at < len(steps) else ("", "")
+                calls = at == len(steps) and re.match(r"running \d+ call", says)
+                words = outcome if outcome == conclusion else f"{outcome}, counts as {conclusion}"
+                found.append(f"step {at} {'in its call' if calls else words}")
+    return found
+
+
+def work(script: str) -> dict:
+    return {"dir": None, "kind": "run", "run": script, "shell": "default"}
+
+
+def step(name: str, script: str = "true") -> dict:
+    return {"condition": None, "env": {}, "id": None, "name": name, "tolerate": False, "work": work(script)}
+
+
+def plan_of(flow: str, names: list[str], steps: list[dict], secrets: dict | None = None) -> dict:
+    """A plan of one run with a job for each name, each with one leg and the same steps."""
+    jobs = [{"condition": None, "env": {}, "fail_fast": True, "group": None, "id": f"j{at}", "legs": [{}], "max_parallel": None, "name": name,
+             "needs": [], "number": at, "outputs": {}, "steps": steps, "tolerate": False} for at, name in enumerate(names)]
+    roots = {"github": {}, "inputs": {}, "secrets": secrets or {}, "vars": {}}
+    return {"runs": [{"env": {}, "event": None, "flow": flow, "group": None, "jobs": jobs, "roots": roots}], "version": 2}
+
+
+class ReportCase(unittest.TestCase):
+    """A test with a folder of its own."""
+
+    @classmethod
+    def setUpClass(cls) -> None:
+        cls.room = Path(tempfile.mkdtemp(prefix="actrun-report-", dir=os.environ.get("ACTRUN_TEST_FOLDER")))
+        cls.addClassCleanup(shutil.rmtree, cls.room, ignore_errors=True)
+
+    def recorded(self, name: str, plan: dict) -> Path:
+        """The record of a plan that `run` executes; the logs are beside it."""
+        folder = self.room / name
+        folder.mkdir()
+        (folder / "plan").write_text(json.dumps(plan), encoding="utf-8")
+        subprocess.run([PROGRAM, "run", "--work", folder, "--record", folder / "record", folder / "plan"], check=False, capture_output=True)
+        return folder / "record"
+
+    @classmethod
+    def nightly(cls) -> Path:
+        """The page of an example, which is made once."""
+        if not (cls.room / "nightly.html").exists():
+            report.write(cls.room / "nightly.html", report.page(PROGRAM, EXAMPLES / "nightly.record", seconds=600))
+        return cls.room / "nightly.html"
+
+    def page(self, record: Path, **options: Any) -> Path:
+        """The page of a record, written into the folder of the test."""
+        target = Path(tempfile.mkdtemp(dir=self.room)) / "page.html"
+        report.write(target, report.page(PROGRAM, record, **{"seconds": 600, **options}))
+        return target
+
+
+@NEEDS_PROGRAM
+class Written(ReportCase):
+    @unittest.skipIf("/unproved/" in PROGRAM, "the program that was built without proofs takes minutes for it")
+    def test_a_record_of_a_thousand_entries_is_small(self) -> None:
+        record = self.room / "thousand"
+        words = [sys.executable, TOP / "bench/big_record.py", "1000", "legs", "12", "3", "16"]
+        record.write_bytes(subprocess.run(words, check=True, capture_output=True).stdout)
+        self.assertGreaterEqual(record.read_bytes().count(b"\n"), 1000)
+        page = self.page(record)
+        self.assertLess(page.stat().st_size, 300_000)
+        self.assertNotRegex(page.read_text(encoding="utf-8"), r"(src|href)=|@import|url\(|https?://(?!www\.w3\.org/2000/svg)")
+
+    def test_secrets_are_masked_everywhere(self) -> None:
+        steps = [step("say s3cret-word", "echo s3cret-word; echo 'out=of s3cret-word' >> $GITHUB_OUTPUT; echo ::add-mask::hidden-word"),
+                 step("fail", "echo hidden-word; exit 3")]
+        record = self.recorded("secret", plan_of("flow s3cret-word", ["job"], steps, {"TOKEN": "s3cret-word"}))
+        shown = self.page(record, logs=record.parent).read_text(encoding="utf-8")
+        self.assertNotIn("s3cret-word", shown)
+        self.assertIn('"0-1":"***\\n"', shown)
+        (record.parent / "step-0-0.log").unlink()
+        shown = self.page(record, logs=record.parent).read_text(encoding="utf-8")
+        self.assertIn('"0-1":"(left out: step-0-0.log cannot be read, so what it masks is not known)"', shown)
+        self.assertIn('"logs":null', self.page(record).read_text(encoding="utf-8"))
+
+    def test_what_is_wrong_is_said(self) -> None:
+        times = self.room / "times"
+        for text in ("2026-11-27T17:19:51Z\n1\n", "noon\n", ""):
+            times.write_text(text)
+            self.assertRaisesRegex(Problem, "--times", report.page, PROGRAM, EXAMPLES / "skipped.record", times=times)
+        self.assertRaisesRegex(Problem, "--around 99: the record has the places 0 to 8", report.page, PROGRAM,
+                               EXAMPLES / "skipped.record", around=99)
+        self.assertRaisesRegex(Problem, "line 2 WrongState", report.page, PROGRAM, EXAMPLES / "refused.record")
+        self.assertRaisesRegex(Problem, "no record", report.page, PROGRAM, EXAMPLES / "ci.json")
+        self.assertRaisesRegex(Problem, "none: ", report.page, PROGRAM, EXAMPLES / "none")
+
+    def test_the_command(self) -> None:
+        def ask(*words: str) -> subprocess.CompletedProcess:
+            return subprocess.run([sys.executable, TOP / "front", "report", *words], capture_output=True, text=True, check=False, cwd=self.room,
+                                  env={**os.environ, "ACTRUN_PROGRAM": PROGRAM})
+        shutil.copy(EXAMPLES / "skipped.record", self.room / "r")
+        done = ask("r")
+        self.assertEqual((done.returncode, done.stdout, done.stderr), (0, "r.html\n", ""))
+        self.assertIn("usage: actrun report", ask("--help").stdout)
+        self.assertEqual([ask(*words).returncode for words in (["no"], ["r", "--logs", "no"], [])], [2, 2, 2])
+
+
+@NEEDS_PROGRAM
+@NEEDS_BROWSER
+class Seen(ReportCase):
+    @classmethod
+    def setUpClass(cls) -> None:
+        super().setUpClass()
+        options = webdriver.ChromeOptions()
+        for word in ("--headless=new", "--no-sandbox", "--disable-dev-shm-usage", "--disable-gpu", "--window-size=1500,6000"):
+            options.add_argument(word)
+        options.set_capability("goog:loggingPrefs", {"browser": "ALL"})
+        cls.browser = webdriver.Chrome(service=Service(shutil.which("chromedriver")), options=options)
+        cls.addClassCleanup(cls.browser.quit)
+        cls.browser.set_script_timeout(300)
+
+    def open(self, page: Path, place: str = "") -> float:
+        """Opens a page; the milliseconds until it was drawn."""
+        self.browser.get("about:blank")
+        self.browser.get(f"file://{page}{place}")
+        until = time.monotonic() + 60
+        while self.js("return document.documentElement.dataset.ready") != "yes":
+            self.assertLess(time.monotonic(), until, self.browser.get_log("browser"))
+            time.sleep(0.02)
+        return self.js("return performance.now()")
+
+    def js(self, script: str, *given: Any) -> Any:
+        return self.browser.execute_script(script, *given)
+
+    def press(self, *keys: str) -> int:
+        """The place after some keys."""
+        for key in keys:
+            self.browser.switch_to.active_element.send_keys(key)
+        return int(self.js("return document.querySelector('#place b').textContent").split()[1])
+
+    def chosen(self) -> str:
+        return self.js("return document.querySelector('[aria-selected=true] .kind').textContent")
+
+    def names(self) -> list[str]:
+        return self.js("return [...document.querySelectorAll('#rows .row .name')].map((it) => it.textContent)")
+
+    def quiet(self) -> None:
+        """The browser has nothing to complain about."""
+        self.assertEqual(self.browser.get_log("browser"), [])
+
+    def generated(self) -> list[Path]:
+        """Records picked by chance, with groups, cancels and faults."""
+        sys.path.insert(0, str(TOP / "tools"))
+        import random_plans
+        import random_records
+        found = []
+        for number in range(40):
+            chance = random.Random(f"report {number}")
+            plan = random_plans.plan(chance)
+            history = random_records.played(chance, plan)[0]
+            if 10 <= len(history) <= 70 and len(found) < 5:
+                found.append(self.room / f"random-{number}")
+                found[-1].write_text("".join(random_plans.compact(it) + "\n" for it in [plan, *history]), encoding="utf-8")
+        return found
+
+    def test_each_place_is_that_of_debug(self) -> None:
+        records = [EXAMPLES / f"{name}.record" for name in ("nightly", "deploy", "cancel-in-progress", "displaced-leg", "env-faulted")]
+        records += self.generated()
+        self.assertEqual(len(records), 10)
+        for record in records:
+            with self.subTest(record.name):
+                plan = json.loads(record.read_bytes().split(b"\n")[0])
+                self.open(self.nightly() if record.name == "nightly.record" else self.page(record))
+                (found, back), wanted = self.browser.execute_async_script(WALK), boards(record)
+                self.assertEqual([board for board, _ in found], wanted)
+                self.assertTrue(back)
+                self.assertEqual([rows for _, rows in found], [rows_of(board, plan) for board in wanted])
+                self.quiet()
+
+    def test_keys_walk_the_record(self) -> None:
+        self.open(self.nightly())
+        self.assertEqual(self.press(Keys.HOME), 0)
+        self.assertEqual([self.press("f"), self.chosen()], [23, "step 0"])
+        self.assertEqual([self.press(Keys.ARROW_RIGHT), self.press(Keys.ARROW_LEFT, Keys.ARROW_LEFT), self.press(Keys.END)], [24, 22, 38])
+        self.assertEqual([self.press("p"), self.press("p"), self.press("p"), self.press("n")], [23, 16, 16, 23])
+        self.assertEqual([self.press("f"), self.press("f"), self.press("F")], [27, 27, 23])
+        self.assertEqual(self.press(Keys.HOME, " "), 0)
+        until = time.monotonic() + 20
+        while self.press() < 3 and time.monotonic() < until:
+            time.sleep(0.1)
+        self.assertGreaterEqual(self.press(" "), 3)
+        self.assertEqual(self.press(), self.press())
+        self.assertEqual([self.chosen(), self.press(Keys.ARROW_DOWN) >= 0, self.chosen()], ["step 0", True, "step 1"])
+        before = len(self.names())
+        self.press(Keys.HOME, *[Keys.ARROW_UP] * 20, Keys.ENTER)
+        self.assertEqual([self.chosen(), len(self.names())], ["run 0", 1])
+        self.press(Keys.ENTER)
+        self.assertEqual(len(self.names()), before)
+        self.quiet()
+
+    def test_slider_and_link(self) -> None:
+        page = self.nightly()
+        self.open(page, "#17")
+        self.assertEqual(self.press(), 17)
+        self.js("const it = document.querySelector('#slider'); it.value = 9; it.dispatchEvent(new Event('input'))")
+        time.sleep(0.5)
+        self.assertEqual([self.press(), self.js("return location.hash")], [9, "#9"])
+        self.js("location.hash = '#31'")
+        time.sleep(0.2)
+        self.assertEqual(self.press(), 31)
+        self.assertIn("place 31 of 38", self.js("return document.querySelector('#slider').getAttribute('aria-valuetext')"))
+        self.open(page, "#99999")
+        self.assertEqual(self.press(), 38)
+
+    def test_search_and_filter(self) -> None:
+        self.open(self.nightly())
+        every = self.names()
+        self.press("/", *"browser")
+        self.assertEqual(self.names()[:3], ["Nightly", "suites", "suites, suite browser"])
+        self.assertEqual([self.js("return document.querySelector('#found').textContent"), self.js("return document.querySelector('mark').textContent")],
+                         ["1 found", "browser"])
+        self.press(*[Keys.BACKSPACE] * 7)
+        self.assertEqual(self.names(), every)
+        self.js("document.querySelector('#only').click()")
+        self.assertEqual(self.names(), ["Nightly", "suites", "suites, suite api", "Keep the log", "suites, suite browser", "Run the suite",
+                                        "suites, suite soak", "Run the suite", "publish", "publish"])
+
+    def test_details_have_reasons_values_and_logs(self) -> None:
+        steps = [step("choose", "echo CHANNEL=beta >> $GITHUB_ENV; echo word=one >> $GITHUB_OUTPUT"), step("use", "echo $CHANNEL; exit 4")]
+        record = self.recorded("details", plan_of("ci", ["job"], steps))
+        times = self.room / "clock"
+        total = record.read_bytes().count(b"\n") - 1
+        times.write_text("2026-11-27T17:19:51Z\n" + "".join(f"{at * 250}\n" for at in range(1, total + 1)))
+        self.open(self.page(record, logs=record.parent, times=times))
+        said = "return document.querySelector('#details').textContent"
+        why = subprocess.run([PROGRAM, "why", record, "step", "0", "1"], capture_output=True, text=True, check=True).stdout.strip()
+        self.assertEqual(self.js("return document.querySelector('#why').textContent"), why)
+        self.assertEqual(self.js("return document.querySelector('#log').textContent"), "beta\n")
+        self.assertIn("CHANNELbetaset by step 0 (choose) at place 6", self.js(said))
+        self.js("[...document.querySelectorAll('#details td .link')][0].click()")
+        self.assertEqual([self.press(), self.chosen()], [6, "step 0"])
+        self.assertIn("wordone", self.js(said))
+        self.assertIn("1.5 s", self.js("return document.querySelector('#place').textContent"))
+        self.press(Keys.ARROW_LEFT)
+        self.assertNotIn("wordone", self.js(said))
+        self.assertIn("It is written at place 6", self.js(said))
+        self.quiet()
+
+    def test_hostile_names_are_texts(self) -> None:
+        steps = [step(name, f"echo {at}; echo \"X<b>=<i>$0\" >> $GITHUB_ENV; false") for at, name in enumerate(HOSTILE)]
+        record = self.recorded("hostile", plan_of(HOSTILE[0], HOSTILE, steps))
+        record = record.rename(record.with_name("<b>'\".record"))
+        self.open(self.page(record, logs=record.parent))
+        pictures = {at: 0x2400 + at for at in range(32)}
+        self.assertEqual(self.names()[:2], [HOSTILE[0], HOSTILE[0]])
+        self.assertLessEqual({name.translate(pictures) for name in HOSTILE}, set(self.names()))
+        self.assertEqual(self.js("return [window.bad, document.images.length, document.querySelectorAll('b, i, script').length]")[:2], [None, 0])
+        self.assertEqual(self.js("return document.querySelectorAll('.name script, .name b, .name img, #details script, #details img').length"), 0)
+        signs = self.js("return [...document.querySelectorAll('bdi.sign')].map((it) => [getComputedStyle(it).unicodeBidi, it.textContent])")
+        self.assertIn(["isolate", "\u202e"], signs)
+        self.assertEqual({it[0] for it in signs}, {"isolate"})
+        self.js("const it = document.createElement('script'); it.textContent = 'window.bad = 2'; document.body.append(it)")
+        self.assertIsNone(self.js("return window.bad || null"))
+        self.assertIn("Content", self.browser.get_log("browser")[0]["message"])
+
+    def test_a_person_without_eyes_can_use_it(self) -> None:
+        self.open(self.nightly(), "#24")
+        nameless = self.js("""return [...document.querySelectorAll('button, input, section, dialog, [role]')].filter((it) => !(
+            it.ariaLabel || it.textContent.trim() || it.title || it.labels && it.labels.length || it.role === 'none')).map((it) => it.outerHTML)""")
+        self.assertEqual([it for it in nameless if "said" not in it and "found" not in it], [])
+        row = self.js("""const it = document.querySelector('[aria-selected=true]'), tree = document.querySelector('[role=tree]');
+            return [it.role, it.ariaLevel, it.ariaLabel, it.ariaPosInSet, it.ariaSetSize, tree.getAttribute('aria-activedescendant') === it.id]""")
+        self.assertEqual(row, ["treeitem", "4", "step 0 (Run the suite): failure", "1", "2", True])
+
+    def test_a_big_record_has_a_window(self) -> None:
+        record = self.room / "big"
+        words = [sys.executable, TOP / "bench/big_record.py", "600", "legs", "4", "2", "64"]
+        record.write_bytes(subprocess.run(words, check=True, capture_output=True).stdout)
+        total = record.read_bytes().count(b"\n") - 1
+        page = self.page(record, seconds=2)
+        shown = json.loads(re.search(r'id="data">(.*)</script>\n<script>', page.read_text(encoding="utf-8"))[1])
+        self.assertEqual((shown["last"], shown["total"], len(shown["steps"])), (total, total, total - shown["first"]))
+        self.assertLess(self.open(page), 20_000)  # (a busy machine has time for it too)
+        self.assertLess(self.js(STEP_TIME), 250)
+        if shown["first"]:
+            self.assertIn(f"the places {shown['first']} to {total} of {total}", self.js("return document.querySelector('#window').textContent"))
+        self.press("/", *"leg 255", Keys.ENTER)
+        self.assertEqual(self.chosen(), "leg 255")
+        around = report.shown(PROGRAM, record, around=300, seconds=2)
+        self.assertTrue(around["first"] <= 300 <= around["last"], [around["first"], around["last"]])
+        self.quiet()
+
+
+if __name__ == "__main__":
+    unittest.main()
