@@ -742,6 +742,7 @@ $('search').addEventListener('input', (event) => { query = event.target.value.tr
 $('only').addEventListener('change', (event) => { only = event.target.checked; flatten(); draw(); });
 $('clock').addEventListener('change', (event) => { byClock = event.target.checked; view = [0, 1]; relayout(); });
 $('keys').addEventListener('click', () => $('help').showModal());
+$('close').addEventListener('click', () => $('help').close());
 for (const name of ['pointerdown', 'pointermove']) {
   $('axis').addEventListener(name, (event) => { if (event.buttons & 1) go(placeAt(event.clientX - $('axis').getBoundingClientRect().left)); });
 }

@@ -163,7 +163,7 @@ class Written(ReportCase):
         for text in ("2026-11-27T17:19:51Z\n1\n", "noon\n", ""):
             times.write_text(text)
             self.assertRaisesRegex(Problem, "--times", report.page, PROGRAM, EXAMPLES / "skipped.record", times=times)
-        self.assertRaisesRegex(Problem, "--around 99: the record has the places 0 to 8", report.page, PROGRAM,
+        self.assertRaisesRegex(Problem, "--around 99: the record has the places 0 to 9", report.page, PROGRAM,
                                EXAMPLES / "skipped.record", around=99)
         self.assertRaisesRegex(Problem, "line 2 WrongState", report.page, PROGRAM, EXAMPLES / "refused.record")
         self.assertRaisesRegex(Problem, "no record", report.page, PROGRAM, EXAMPLES / "ci.json")
