@@ -7,52 +7,16 @@ their names, for one starting point after the other. Their SHA-256 digests are t
 """
 from __future__ import annotations
 
-import functools
 import hashlib
 import os
 import pathlib
-import re
 import subprocess
-from dataclasses import dataclass
 
-PART = re.compile(r"\\(?P<escaped>.)|(?P<star>\*)|(?P<any>\?)|\[(?P<set>.[^\]]*)\]|(?P<char>.)", re.DOTALL)
+from stubs.globs import Pattern, is_chosen, starts, translated
 
 
 class GlobError(Exception):
     """The arguments of hashFiles cannot be read: the text says why."""
-
-
-@dataclass(frozen=True)
-class Pattern:
-    """One line of patterns, as segments from the workspace."""
-    segments: tuple[str, ...]
-    negative: bool
-    folders_only: bool
-
-    @functools.cached_property
-    def regex(self) -> re.Pattern[str]:
-        """The regular expression of what matches, after a `/`, with what is below it. A last `**` takes in a file of that name too."""
-        whole = "".join("(?:/[^/]+)*" if segment == "**" else "/" + translated(segment)[0] for segment in self.segments)
-        return re.compile(whole + ("/.+" if self.folders_only else "(?:/.*)?"), re.DOTALL)
-
-
-@functools.lru_cache(maxsize=None)
-def translated(segment: str) -> tuple[str, str | None]:
-    """The regular expression of a segment, and the name that it stands for, or None where it is a pattern."""
-    regex, names = "", []
-    for part in PART.finditer(segment):
-        inner, char = part["set"] or "", part["escaped"] or part["char"]
-        names.append(char or (inner if len(inner) == 1 else None))
-        if names[-1]:
-            regex += re.escape(names[-1])
-        else:
-            of_set = "^" * (inner[:1] in ("!", "^")) + re.sub(r"([\\\[&~|])", r"\\\1", re.sub(r"^[!^]", "", inner))
-            regex += f"[{of_set}]" if inner else "[^/]*" if part["star"] else "[^/]"
-    try:
-        re.compile(regex)
-    except re.error:  # a range as `[z-a]` stands for itself
-        return re.escape(segment), segment
-    return regex, None if None in names else "".join(names)
 
 
 def read_pattern(line: str, workspace: str) -> Pattern | None:
@@ -70,18 +34,6 @@ def read_pattern(line: str, workspace: str) -> Pattern | None:
     if any(translated(part)[1] in (".", "..") for part in parts):
         raise GlobError(f"the pattern {text} of hashFiles has a `.` or `..` in it, which GitHub refuses")
     return Pattern(tuple(parts) or ("**",), negative, text.endswith("/"))
-
-
-def search_paths(patterns: list[Pattern]) -> list[tuple[str, ...]]:
-    """Where the search begins, in order: the literal beginnings of the patterns, without those that are below others."""
-    names = [[translated(segment)[1] for segment in pattern.segments] + [None] for pattern in patterns if not pattern.negative]
-    candidates = list(dict.fromkeys(tuple(one[:one.index(None)]) for one in names))
-    return [path for path in candidates if not any(path[:end] in candidates for end in range(len(path)))]
-
-
-def is_chosen(patterns: list[Pattern], path: tuple[str, ...]) -> bool:
-    """Whether the last pattern that matches a file, or a folder that it is in, is none with `!`."""
-    return next((not pattern.negative for pattern in reversed(patterns) if pattern.regex.fullmatch("/" + "/".join(path))), False)
 
 
 def files_of(repository: pathlib.Path) -> list[tuple[str, ...]]:
@@ -104,7 +56,7 @@ def matching(arguments: list[str], repository: pathlib.Path, workspace: str = ""
     read = [read_pattern(line, workspace.rstrip("/")) for line in lines if line and not line.startswith("#")]
     patterns = [pattern for pattern in read if pattern is not None]
     chosen = [path for path in files_of(repository) if is_chosen(patterns, path)] if patterns else []
-    return list(dict.fromkeys(path for start in search_paths(patterns) for path in chosen if path[:len(start)] == start))
+    return list(dict.fromkeys(path for start in starts(patterns) for path in chosen if path[:len(start)] == start))
 
 
 def digest(arguments: list[str], repository: pathlib.Path, workspace: str = "") -> str:

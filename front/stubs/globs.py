@@ -6,14 +6,13 @@ A pattern matches hidden files too, and all that is below a folder that it match
 from __future__ import annotations
 
 import functools
-import itertools
 import os
 import pathlib
 import re
 from dataclasses import dataclass
 from typing import Iterator
 
-TOKEN = re.compile(r"\\(?P<plain>.)|\[(?P<no>[!^]?)(?P<set>.[^\]]*)\]|.", re.DOTALL)
+PART = re.compile(r"\\(?P<escaped>.)|(?P<star>\*)|(?P<any>\?)|\[(?P<set>.[^\]]*)\]|(?P<char>.)", re.DOTALL)
 
 
 @dataclass(frozen=True)
@@ -24,37 +23,41 @@ class Pattern:
     negative: bool
     folders_only: bool = False
 
-    def start(self) -> tuple[str, ...]:
-        """The literal segments before the first with a wildcard."""
-        literal = itertools.takewhile(lambda segment: not re.search(r"[*?\[]", re.sub(r"\\.", "", segment)), self.segments)
-        return tuple(re.sub(r"\\(.)", r"\1", segment) for segment in literal)
+    @functools.cached_property
+    def regex(self) -> re.Pattern[str]:
+        """The regular expression of what matches, after a `/`, with what is below it. A last `**` takes in a file of that name too."""
+        whole = "".join("(?:/[^/]+)*" if segment == "**" else "/" + translated(segment)[0] for segment in self.segments)
+        return re.compile(whole + ("/.+" if self.folders_only else "(?:/.*)?"), re.DOTALL)
 
     def matches(self, path: tuple[str, ...]) -> bool:
         """Whether a file matches, or a folder that it is in."""
-        return expression(self.segments, self.folders_only).match("/".join(path) + "/") is not None
+        return self.regex.fullmatch("/" + "/".join(path)) is not None
 
 
 @functools.lru_cache(maxsize=None)
-def expression(segments: tuple[str, ...], folders_only: bool) -> re.Pattern[str]:
-    """The regular expression for the beginning of a path with a `/` at its end; of a bad set as `[z-a]` one that never matches."""
-    parts = ["(?:[^/]+/)*" if segment == "**" else TOKEN.sub(expression_of, segment) + "/" for segment in segments]
+def translated(segment: str) -> tuple[str, str | None]:
+    """The regular expression of a segment, and the name that it stands for, or None where it is a pattern."""
+    regex, names = "", []
+    for part in PART.finditer(segment):
+        inner, char = part["set"] or "", part["escaped"] or part["char"]
+        names.append(char or (inner if len(inner) == 1 else None))
+        if names[-1]:
+            regex += re.escape(names[-1])
+        else:
+            of_set = "^" * (inner[:1] in ("!", "^")) + re.sub(r"([\\\[&~|])", r"\\\1", re.sub(r"^[!^]", "", inner))
+            regex += f"(?!/)[{of_set}]" if inner else "[^/]*" if part["star"] else "[^/]"
     try:
-        return re.compile("".join(parts) + "(?=.)" * folders_only, re.DOTALL)
-    except re.error:
-        return re.compile("(?!)")
-
-
-def expression_of(token: re.Match[str]) -> str:
-    """The regular expression of a character, a wildcard or a set."""
-    if token["set"]:
-        return f"(?!/)[{'^' * bool(token['no'])}" + re.sub(r"([\[\]\\&~|])", r"\\\1", token["set"]) + "]"
-    return {"*": "[^/]*", "?": "[^/]"}.get(token[0]) or re.escape(token["plain"] or token[0])
+        re.compile(regex)
+    except re.error:  # a range as `[z-a]` stands for itself
+        return re.escape(segment), segment
+    return regex, None if None in names else "".join(names)
 
 
 def starts(patterns: list[Pattern]) -> list[tuple[str, ...]]:
-    """Where a search begins: the literal beginnings of the patterns in their order, without those that are below others."""
-    found = [pattern.start() for pattern in patterns if not pattern.negative]
-    return [path for path in dict.fromkeys(found) if not any(path[:end] in found for end in range(len(path)))]
+    """Where the search begins, in order: the literal beginnings of the patterns, without those that are below others."""
+    names = [[translated(segment)[1] for segment in pattern.segments] + [None] for pattern in patterns if not pattern.negative]
+    candidates = list(dict.fromkeys(tuple(one[:one.index(None)]) for one in names))
+    return [path for path in candidates if not any(path[:end] in candidates for end in range(len(path)))]
 
 
 def is_chosen(patterns: list[Pattern], path: tuple[str, ...]) -> bool:

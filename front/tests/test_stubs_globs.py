@@ -39,7 +39,7 @@ class Globs(unittest.TestCase):
         home = pathlib.Path.home().resolve().parts[1:]
         for text, start in (("d/./e/../*.o", (*TREE.parts[1:], "d")), (".", TREE.parts[1:]), ("../b", ("work", "b")), (f"{TREE}/d", (*TREE.parts[1:], "d")),
                             ("~", home), ("~/d/*", (*home, "d")), ("/", ()), ("/x//y/", ("x", "y"))):
-            self.assertEqual([it.start() for it in globs.read_patterns([text], TREE)], [start], text)
+            self.assertEqual(globs.starts(globs.read_patterns([text], TREE)), [start], text)
 
 
 if __name__ == "__main__":
