@@ -687,7 +687,7 @@ function about(step) {
 }
 
 function fail(step) {
-  const next = step > 0 ? failures.find((it) => it.place > place) : failures.filter((it) => it.place < place).pop();
+  const next = step > 0 ? failures.find((it) => it.place > place) || failures[0] : failures.filter((it) => it.place < place).pop();
   if (!next) { put($('said'), 'no further failure'); return; }
   place = next.place;
   choose(next.one, true);

@@ -260,7 +260,7 @@ class Seen(ReportCase):
         self.assertEqual([self.press("f"), self.chosen()], [23, "step 0"])
         self.assertEqual([self.press(Keys.ARROW_RIGHT), self.press(Keys.ARROW_LEFT, Keys.ARROW_LEFT), self.press(Keys.END)], [24, 22, 38])
         self.assertEqual([self.press("p"), self.press("p"), self.press("p"), self.press("n")], [23, 16, 16, 23])
-        self.assertEqual([self.press("f"), self.press("f"), self.press("F")], [27, 27, 23])
+        self.assertEqual([self.press("f"), self.press("F"), self.press("F"), self.press("f", "f")], [27, 23, 23, 23])  # (after the last one the first)
         self.assertEqual(self.press(Keys.HOME, " "), 0)
         until = time.monotonic() + 20
         while self.press() < 3 and time.monotonic() < until:
