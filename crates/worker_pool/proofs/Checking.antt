@@ -45,4 +45,4 @@ pub told_unplayed : (p : Plan) (es : List Entry) (place : ℕ) (f : EventFault) 
 told_unplayed p es place f pool_fault.Workers at h = h
 told_unplayed p es place f (pool_fault.Host l step g history) at h = h
 told_unplayed p es place f (pool_fault.Mismatch history) at h = refused_after p es history place f at h.0 h.1
-told_unplayed p es place f (pool_fault.Memory history) at h = tt
+told_unplayed p es place f (pool_fault.Memory history) at h = h

@@ -1,5 +1,5 @@
 -- Whether the board after a list of entries is all of what is settled by the answers that the list gives.
-use Rattle.std.specs.Prelude.{◌≡◌, ℕ, Bool, List, length, take, Some, Result, Ok, Err, slice_get}
+use Rattle.std.specs.Prelude.{◌≡◌, ℕ, Bool, List, [], length, take, Some, Result, Ok, Err, slice_get}
 use Rattle.flow_model.specs.declared.event.Entry.{Entry}
 use Rattle.flow_model.specs.declared.plan.Plan.{Plan}
 pub use Rattle.board_settled.specs.Records.{TellsSettled}
@@ -16,17 +16,17 @@ IsRefusedAfter p all es =
     (es ≡ take (length es) all) × (e : Entry) × (slice_get all (length es) ≡ Some e) × IsRefused p es e
 
 -- What is answered of a list of entries: it is legal, and whether the board after it is all of what is settled by its
--- answers; or the first entry that the table refuses is told by those before it. Memory may run out besides.
+-- answers; or the first entry that the table refuses is told by those before it. Memory may run out, and then no entry is told.
 abbrev pub ChecksSettled : Plan → List Entry → Result Bool PoolFault → Type 0
 ChecksSettled p es (Ok holds) = IsLegal p es × TellsSettled p es holds
 ChecksSettled p es (Err fault.Workers) = ⊥
 ChecksSettled p es (Err (fault.Host l step f history)) = ⊥
 ChecksSettled p es (Err (fault.Mismatch history)) = IsRefusedAfter p es history
-ChecksSettled p es (Err (fault.Memory history)) = Unit {0}
+ChecksSettled p es (Err (fault.Memory history)) = history ≡ []
 
--- Entries that are refused at a place are told with those before it; memory may run out besides.
+-- Entries that are refused at a place are told with those before it; memory may run out, and then no entry is told.
 abbrev pub IsUnplayed : List Entry → ℕ → EventFault → PoolFault → Type 0
 IsUnplayed es place f fault.Workers = ⊥
 IsUnplayed es place f (fault.Host l step g history) = ⊥
 IsUnplayed es place f (fault.Mismatch history) = (history ≡ take place es) × (f ≡ event_fault.Memory → ⊥)
-IsUnplayed es place f (fault.Memory history) = Unit {0}
+IsUnplayed es place f (fault.Memory history) = history ≡ []

@@ -68,8 +68,10 @@ pub(crate) fn gather<N: Names, H: StepHost>(
     requires pass { IsPassOf queue.now pass }
     requires whole { (name : _) → keepers name (records_of pass) + crew_keepers name crew.items ≡ 1 }
     requires shares { (vec_len back.old.shares ≡ 0) × (vec_len crew ≤ vec_capacity back.old.shares) }
-    requires entries { (back.old.logs.entries.items ≡ []) × (vec_len crew ≤ vec_capacity back.old.logs.entries) }
-    requires calls { (back.old.logs.calls.items ≡ []) × (vec_len crew ≤ vec_capacity back.old.logs.calls) }
+    requires entries { (back.old.logs.entries.items ≡ [])
+        × (vec_len crew ≤ vec_capacity back.old.logs.entries) }
+    requires calls { (back.old.logs.calls.items ≡ [])
+        × (vec_len crew ≤ vec_capacity back.old.logs.calls) }
     requires fit { All (IsFit (H.admits _host.now) queue.now) crew.items }
     requires halts { All (λ w. IfSome w.halt (HaltsFor (H.declines _host.now))) crew.items }
     ensures shares { vec_len back.new.shares ≡ vec_len crew }

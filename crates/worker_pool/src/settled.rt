@@ -43,7 +43,7 @@ fn unplayed(alloc: Global, entries: &[Entry], place: usize, fault: EventFault) -
 ///
 /// # Errors
 ///
-/// `PoolFault::Mismatch` at the first entry that the table refuses, with the entries before, and `PoolFault::Memory`.
+/// `PoolFault::Mismatch` at the first entry that the table refuses, with the entries before, and `PoolFault::Memory` without any.
 pub fn settled_check(
     alloc: Global,
     plan: &CheckedPlan,
