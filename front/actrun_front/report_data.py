@@ -181,11 +181,11 @@ class Reasons:
         return answer(seconds, self.program, "why", self.record, *words).rstrip("\n")
 
     def read(self, bad: list[str], good: list[str], seconds: float) -> None:
-        """The reasons of all that did not succeed at once, then one by one those still missing; of the rest what costs some 3 seconds."""
+        """The reasons of all that did not succeed at once, then one by one those still missing; of the rest what costs a twentieth of the time."""
         began = time.monotonic()
         self.take(self.ask(seconds).split("\n"))
         until, cost = time.monotonic() + seconds / 3, time.monotonic() - began
-        missing = [one for one in [*bad, *good[:int(12 / max(cost, 1e-3))]] if one not in self.found]
+        missing = [one for one in [*bad, *good[:int(seconds / 5 / max(cost, 1e-3))]] if one not in self.found]
         with concurrent.futures.ThreadPoolExecutor(4) as pool:
             for one, text in zip(missing, pool.map(lambda one: self.ask(until - time.monotonic(), *one.split()), missing)):
                 if text:
