@@ -1,4 +1,5 @@
-use Rattle.std.proofs.Common.{◌≡◌, ◌≤◌, ◌+◌, Some, drop, take}
+use Rattle.std.proofs.Common.{◌≡◌, ◌≤◌, ◌+◌, ◌++◌, List, Some, take}
+use Rattle.flow_model.specs.declared.event.Entry.{Entry}
 use Rattle.status_table.specs.Runs.{after_from, most_entries, new_board}
 use Rattle.board_timeline.specs.Played.{track_from}
 use Rattle.board_timeline.proofs.played.play_noted.Given as goal
@@ -11,7 +12,8 @@ invariant-loop-place g l =
     record {
       same : plan l.table ≡ plan l.fn.table;
       played : after_from (plan l.fn.table) (board l.fn.table) (take l.place l.entries) ≡ Some (board l.table);
-      noted : track_from (plan l.fn.table) l.plan (board l.table) (l.place + 2) l.track (drop l.place l.entries)
-          ≡ track_from (plan l.fn.table) l.plan (board l.fn.table) 2 l.fn.track l.entries;
+      noted : (rest : List Entry) → track_from (plan l.fn.table) l.plan (board l.table) (l.place + 2) l.track rest
+          ≡ track_from (plan l.fn.table) l.plan (board l.fn.table) 2 l.fn.track (take l.place l.entries ++ rest);
+      so_far : track_from (plan l.fn.table) l.plan (board l.fn.table) 2 l.fn.track (take l.place l.entries) ≡ Some l.track;
       few : board l.fn.table ≡ new_board (plan l.fn.table) → l.place ≤ most_entries;
     }
