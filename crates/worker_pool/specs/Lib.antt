@@ -10,6 +10,7 @@ pub mod Log
 pub mod Logs
 pub mod Lowest
 pub mod Many
+pub mod Own
 pub mod Replaying
 pub mod Review
 pub mod Settles

@@ -20,6 +20,7 @@ mod log;
 mod logs;
 mod lowest;
 pub mod many;
+pub mod own;
 pub mod played;
 mod playing;
 mod review;
