@@ -1,3 +1,4 @@
 pub mod Accounts
 pub mod Lawful
+pub mod Members
 pub mod Named

@@ -1,8 +1,10 @@
 -- What holds of what an entry makes so, beside the row of its event.
 use Rattle.std.specs.Prelude.{◌≡◌, ℕ, ◌-◌, Bool, true, false, List, [], ◌∷◌, Option, Some, None, Ok}
-use Rattle.board_decisions.specs.Decisions.{is_stopping, stops_anyway}
-use Rattle.board_decisions.specs.Derived.{job_status}
-use Rattle.board_decisions.specs.Place.{JobAt, LegAt}
+use Rattle.std.specs.List.{AllByRecursion}
+use Rattle.board_decisions.specs.Decisions.{is_stopping, leg_entrance, run_entrance, stops_anyway}
+use Rattle.board_decisions.specs.Derived.{is_failure, job_status}
+use Rattle.board_decisions.specs.Place.{JobAt, LegAt, RunAt, leg_at, run_at}
+use Rattle.board_decisions.specs.declared.entrance.Entrance.{Entrance}
 use Rattle.why_facts.specs.Stops.{cause_of_stop, failed_of}
 use Rattle.why_facts.specs.declared.fact.Change.{Change}
 use Rattle.why_facts.specs.declared.fact.Change.TheVariants as change
@@ -10,6 +12,8 @@ use Rattle.why_facts.specs.declared.fact.JobFact.{JobFact}
 use Rattle.why_facts.specs.declared.fact.JobFact.TheVariants as job_fact
 use Rattle.why_facts.specs.declared.fact.MemberFact.{MemberFact}
 use Rattle.why_facts.specs.declared.fact.MemberFact.TheVariants as member_fact
+use Rattle.why_facts.specs.declared.fact.StepFact.{StepFact}
+use Rattle.why_facts.specs.declared.fact.StepFact.TheVariants as step_fact
 use Rattle.why_facts.specs.declared.fact.StopCause.{StopCause}
 use Rattle.why_facts.specs.declared.fact.StopCause.TheVariants as stop_cause
 use Rattle.why_facts.specs.declared.fact.Teller.{Teller}
@@ -22,9 +26,11 @@ use Rattle.flow_model.specs.declared.board.JobState.TheVariants as job_state
 use Rattle.flow_model.specs.declared.event.Entry.{Entry}
 use Rattle.flow_model.specs.declared.event.Event.{Event}
 use Rattle.flow_model.specs.declared.event.Member.{Member}
+use Rattle.flow_model.specs.declared.event.Member.TheVariants as member
 use Rattle.flow_model.specs.declared.event.Outcome.TheVariants as outcome
 use Rattle.flow_model.specs.declared.plan.Plan.{Plan}
 use Rattle.flow_model.specs.declared.reply.Reply.{Reply}
+use Rattle.status_table.specs.Groups.{first_place, holder, leg_standing, next_after, run_standing, waiter}
 use Rattle.status_table.specs.Row.{event_row, first_of, judgement}
 use Rattle.status_table.specs.Runs.{after}
 
@@ -103,6 +109,65 @@ abbrev pub ChangesNameWhomTheRowNames : Type 0
 ChangesNameWhomTheRowNames =
     (p : Plan) (b new : Board) (worker : ℕ) (e : Event) (reply : Reply)
     → event_row p b worker e ≡ Ok (new, reply) → NameTheSame (changes p b e) reply
+
+-- ---- the members that reasons name
+
+-- A run or a leg is about to enter this group, as the row looks at it.
+abbrev pub Enters : Plan → Board → Member → Entrance → Type 0
+Enters p b (member.Run r) group = (at : RunAt) × (run_at p b r ≡ Some at) × (run_entrance at ≡ Ok (Some group))
+Enters p b (member.Leg l) group = (at : LegAt) × (leg_at p b l ≡ Some at) × (leg_entrance at ≡ Ok (Some group))
+
+-- A run or a leg that leaves its group passes it on to this member.
+abbrev pub PassesOnTo : Plan → Board → Member → Member → Type 0
+PassesOnTo p b (member.Run r) next =
+    (at : RunAt) × (run_at p b r ≡ Some at) × (next_after b (run_standing at.run) ≡ Some next)
+PassesOnTo p b (member.Leg l) next =
+    (at : LegAt) × (leg_at p b l ≡ Some at) × (next_after b (leg_standing at.leg) ≡ Some next)
+
+-- Of a member that waits, the one that is named holds the group which it enters; of one that follows, the one that is named leaves
+-- the group and passes it on; of one that is displaced, the one that is named enters the group for which it waits.
+abbrev pub MemberNames : Plan → Board → Member → MemberFact → Type 0
+MemberNames p b who (member_fact.Waits holds) =
+    (group : Entrance) × Enters p b who group × (holder b group.name ≡ Some holds)
+MemberNames p b who (member_fact.Follows before) = PassesOnTo p b before who
+MemberNames p b who (member_fact.Displaced newer) =
+    (group : Entrance) × Enters p b newer group × (waiter b group.name ≡ Some who)
+MemberNames p b who member_fact.Admitted = Unit {0}
+MemberNames p b who member_fact.OwnRun = Unit {0}
+MemberNames p b who (member_fact.NoGroup fault) = Unit {0}
+MemberNames p b who (member_fact.Closed result) = Unit {0}
+MemberNames p b who member_fact.Taken = Unit {0}
+MemberNames p b who (member_fact.Finished result) = Unit {0}
+MemberNames p b who (member_fact.Stopped cause) = Unit {0}
+
+-- Of a member that a newer one tells to stop, the newer one enters the group that it holds, and wants that.
+abbrev pub TellerNames : Plan → Board → Member → Teller → Type 0
+TellerNames p b who teller.Cancel = Unit {0}
+TellerNames p b who (teller.Newer newer) =
+    (group : Entrance) × Enters p b newer group × (holder b group.name ≡ Some who) × (group.cancel ≡ true)
+
+-- Of a step that is skipped after a failure, the one that is named is the first of its leg that counts as a failure.
+abbrev pub StepNames : Plan → Board → ℕ → StepFact → Type 0
+StepNames p b l (step_fact.AfterFailure k) =
+    (at : LegAt) × (leg_at p b l ≡ Some at)
+    × (first_place 0 (λ step. is_failure step.conclusion) at.leg.steps ≡ Some k)
+StepNames p b l (step_fact.Exited code) = Unit {0}
+StepNames p b l step_fact.NotStarted = Unit {0}
+StepNames p b l step_fact.BadOutput = Unit {0}
+StepNames p b l (step_fact.Stopping cause) = Unit {0}
+StepNames p b l step_fact.Untrue = Unit {0}
+StepNames p b l (step_fact.Faulted text fault) = Unit {0}
+
+abbrev pub ChangeNames : Plan → Board → Change → Type 0
+ChangeNames p b (change.Member who fact) = MemberNames p b who fact
+ChangeNames p b (change.Job j fact) = Unit {0}
+ChangeNames p b (change.Called l) = Unit {0}
+ChangeNames p b (change.Step l fact) = StepNames p b l fact
+ChangeNames p b (change.Stop who tells) = TellerNames p b who tells
+
+-- Each change names such members and steps, on the board before the entry.
+abbrev pub ChangesNameTheRightMembers : Type 0
+ChangesNameTheRightMembers = (p : Plan) (b : Board) (e : Event) → AllByRecursion (ChangeNames p b) (changes p b e)
 
 -- ---- Judge
 

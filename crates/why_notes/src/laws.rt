@@ -13,6 +13,12 @@ pub fn changes_name_whom_the_row_names()
     ensures { spec.ChangesNameWhomTheRowNames }
 {}
 
+/// The members that an entry's changes name as causes are those that hold, leave or enter the group, as the row looks at them; the
+/// step after which one is skipped is the first that counts as a failure.
+pub fn changes_name_the_right_members()
+    ensures { spec.ChangesNameTheRightMembers }
+{}
+
 /// A job is judged into the state of what is told to have become of it.
 #[tactic(auto, using(crate::proofs::Lawful::jobs_are_judged_as_told))]
 pub fn jobs_are_judged_as_told()
