@@ -1,7 +1,9 @@
 mod Accepted
 mod Agreeing
+mod Calls
 mod Checking
 pub mod Crosses
+mod Decided
 mod Firsts
 mod Fit
 mod Fresh

@@ -1,5 +1,5 @@
 -- What a play comes to where nothing rests on the order of events.
-use Rattle.std.specs.Prelude.{◌≡◌, ℕ, Some}
+use Rattle.std.specs.Prelude.{◌≡◌, ◌⊎◌, ℕ, Some}
 use Rattle.flow_model.specs.Rules.{IsPlan}
 use Rattle.flow_model.specs.declared.board.Board.{Board}
 use Rattle.flow_model.specs.declared.event.Answer.{Answer}
@@ -10,6 +10,7 @@ use Rattle.board_settled.specs.Free.{IsFree}
 use Rattle.board_settled.specs.Settled.{Answers, settled}
 use Rattle.status_table.specs.Runs.{after}
 use Rattle.worker_pool.specs.Alone.{EndsAlone}
+use Rattle.worker_pool.specs.Entries.{AdmitsOne}
 use Rattle.worker_pool.specs.Many.{EndsByMany}
 use Rattle.worker_pool.specs.declared.played.Ending.TheVariants as ending
 use Rattle.worker_pool.specs.declared.played.Played.{Played}
@@ -35,3 +36,28 @@ ManySettle admits =
 abbrev pub OneSettles : (StepCall → Answer → Type 0) → Type 0
 OneSettles admits =
     (p : Plan) (played : Played) → IsPlan p → EndsAlone admits p played → SettlesAll admits p played
+
+-- ---- hosts that admit one answer to a call at most
+
+-- A play of a plan that came to its end, by one thread or by several workers.
+pub record IsDone (admits : StepCall → Answer → Type 0) (p : Plan) (played : Played) : Type 0 where
+  pub ends : EndsAlone admits p played ⊎ ((workers : ℕ) × EndsByMany admits p workers played)
+  pub done : played.ending ≡ ending.Done
+
+-- Where nothing rests on the order of events in a plan, and a host admits at most one answer to each call, two plays that are
+-- Done leave the same runs, with all their jobs and legs.
+abbrev pub PlaysAgree : (StepCall → Answer → Type 0) → Type 0
+PlaysAgree admits =
+    (p : Plan) (one other : Played) → IsPlan p → IsFree p → AdmitsOne admits → IsDone admits p one → IsDone admits p other
+    → one.left.board.runs ≡ other.left.board.runs
+
+-- What is settled by answers that the host admits is all of the board.
+pub record SettlesBy (admits : StepCall → Answer → Type 0) (p : Plan) (b : Board) : Type 0 where
+  pub answers : Answers
+  pub admitted : (call : StepCall) (answer : Answer) → answers call ≡ Some answer → admits call answer
+  pub settles : IsSettled (settled p answers) b
+
+-- Each such play leaves such a board.
+abbrev pub EachSettles : (StepCall → Answer → Type 0) → Type 0
+EachSettles admits =
+    (p : Plan) (played : Played) → IsPlan p → IsFree p → AdmitsOne admits → IsDone admits p played → SettlesBy admits p played.left.board
