@@ -1,11 +1,12 @@
 //! The place of a fault for which a file stands for no workflow.
 
-ghost use Rattle.std.specs.Prelude.{◌≡◌, IsTrue, Some, IfOk, IfSome};
+ghost use Rattle.std.specs.Prelude.{◌≡◌, IsTrue, Some, IfOk, IfSome, codes};
 ghost use Rattle.std.specs.List.{All};
 ghost use Rattle.serde_json.specs.Find.{as_str};
 ghost use Rattle.serde_json.specs.View.{view};
 ghost use Rattle.flow_lint.specs.FaultNodes.{HasFlow};
 ghost use Rattle.flow_lint.specs.Notes.{FlowPlace, IsFlowPlace, IsSeen};
+ghost use Rattle.flow_lint.specs.Shows as spec;
 ghost use Rattle.flow_lint.specs.Shows.{ShowsFlow};
 ghost use Rattle.flow_lint.specs.Nodes.{Fits};
 ghost use Rattle.flow_reader.specs.declared.fault.FlowFault.TheVariants.{NotWhole, Missing, BadId, LeftOut, UnknownShell};
@@ -48,11 +49,15 @@ fn wants(kind: Kind, key: &str) -> bool {
 }
 
 /// The key that may stand in the place of another.
-fn other_key(key: &str) -> &str {
-    match key {
-        "on" => "true",
-        "run" => "uses",
-        _ => key,
+fn other_key(key: &str) -> &str
+    ensures { result.now ≡ spec.other_key key.now }
+{
+    if key == "on" {
+        "true"
+    } else if key == "run" {
+        "uses"
+    } else {
+        key
     }
 }
 
@@ -73,7 +78,7 @@ fn shows_name(node: &Node, name: &str) -> bool
     match node.kind {
         Kind::Job | Kind::Output => node.key.as_str() == name && !is_id(name),
         Kind::Variable => node.key.as_str() == name && !is_variable_name(name),
-        Kind::Id => is_text(node.value, name) && !is_id(name),
+        Kind::Id => is_id_text(node, name) && !is_id(name),
         _ => false,
     }
 }
@@ -86,6 +91,14 @@ fn is_text(value: &Value, text: &str) -> bool
         Some(found) => found == text,
         None => false,
     }
+}
+
+/// Whether a place is `id`, with this text.
+fn is_id_text(node: &Node, text: &str) -> bool
+    ensures key { IsTrue result → node.now.key ≡ codes "id" }
+    ensures text { IsTrue result → as_str (view node.now.value.now) ≡ Some text.now }
+{
+    node.key.as_str() == "id" && is_text(node.value, text)
 }
 
 /// Whether an expression stands at a place.
@@ -117,7 +130,10 @@ fn shows_shell(node: &Node) -> bool
     ensures { IsTrue result → HasFlow UnknownShell node.now }
 {
     match node.value.as_str() {
-        Some(name) => node.kind == Kind::Shell && name != "sh" && name != "bash",
+        Some(name) => node.key.as_str() == "shell"
+            && node.kind == Kind::Shell
+            && name != "sh"
+            && name != "bash",
         None => false,
     }
 }
@@ -166,7 +182,7 @@ fn find_doubled<'n, 'v>(root: &Value, nodes: &'n [Node<'v>], name: &str) -> Opti
         if node.kind == Kind::Job {
             seen = false;
         }
-        if node.kind == Kind::Id && is_text(node.value, name) {
+        if node.kind == Kind::Id && is_id_text(node, name) {
             if seen {
                 return Some(node);
             }
