@@ -1,9 +1,10 @@
 //! What starts programs.
 
-ghost use Rattle.std.specs.Prelude.{Bool, IfErr, IfOk, List, ℕ};
+ghost use Rattle.std.specs.Prelude.{◌≡◌, Bool, IfErr, IfOk, List, ℕ};
 ghost use Rattle.command_io.specs.Stream.{Stream};
 ghost use Rattle.command_run.specs.Playing.{MasksAnswers};
 ghost use Rattle.command_run.specs.Run.{IsOfMachine};
+ghost use Rattle.command_run.specs.Stubs.{Stubs};
 
 use crate::environment::variables;
 use crate::progress::Progress;
@@ -54,6 +55,9 @@ pub trait Machine: Files {
     fn whole_path(&self, folder: &str) -> Result<String, CommandError>
         ensures { IfErr result (IsOfMachine (lacks folder.now)) };
 
+    /// That a host starts programs in this folder or below, each action by the program that these stubs have for it.
+    ghost starts: { Self.Host → List ℕ → Stubs → Type 0 };
+
     /// The host that starts programs, with those variables of this program that are texts. It masks the values of
     /// outputs and of variables that steps set.
     ///
@@ -61,7 +65,8 @@ pub trait Machine: Files {
     ///
     /// There is no memory.
     fn host(&self, alloc: Global, setup: HostSetup<'_>) -> Result<Self::Host, AllocError>
-        ensures masks { IfOk result (λ host. MasksAnswers setup.entry.masks (Self.Host.admits host)) };
+        ensures masks { IfOk result (λ host. MasksAnswers setup.entry.masks (Self.Host.admits host)) }
+        ensures starts { IfOk result (λ host. starts host setup.entry.work.now setup.entry.stubs) };
 }
 
 impl Machine for HostRuntime {
@@ -71,6 +76,8 @@ impl Machine for HostRuntime {
     ghost writes = { λ _ _ _ _. Unit {0} };
 
     ghost lacks = { λ _. Unit {0} };
+
+    ghost starts = { λ host work stubs. (host.host.host.work ≡ work) × (host.host.host.stubs ≡ stubs) };
 
     fn write_file<O: Sink>(&self, name: &str, text: &[u8], _out: &O) -> bool {
         match File::create(self, name) {
