@@ -1,4 +1,5 @@
 pub mod FaultNodes
+pub mod Hints
 pub mod Nodes
 pub mod Notes
 pub mod Places
