@@ -13,8 +13,9 @@ use crate::same::{are_same_steps, is_ended_so};
 use board_decisions::decisions::{job_tolerates, leg_outputs, leg_result};
 use board_decisions::derived::is_failure;
 use board_decisions::place::{LegPlace, SeenJob, SeenLeg};
-use flow_model::{Answer, DoneStep, Leg, LegState, Mapping, Outcome, Sequence, StepCall};
-use locked_board::same::is_same_mapping;
+use flow_model::{
+    Answer, DoneStep, Leg, LegState, Mapping, Outcome, Sequence, StepCall, is_same_mapping,
+};
 use status_table::events::{Begun, beginning, ended_step, failed_step, skipped_step};
 use std::alloc::{AllocError, Global};
 use step_host::{HostFault, StepHost};

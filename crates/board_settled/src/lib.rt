@@ -19,8 +19,8 @@
 //! of such plans is said of all. `variables` has what calls are given of what steps set (`specs/Variables.antt`).
 //!
 //! The crate stands on `board_decisions`, `plan_values` and `status_table` for what a place comes to, on `flat_board` and
-//! `group_admission` for what the laws speak of, on `step_host` for the answers, on `locked_board` for whether two maps are the
-//! same, on `flow_model`, and on `expr_reader` and `expr_value`.
+//! `group_admission` for what the laws speak of, on `step_host` for the answers, on `flow_model`, and on `expr_reader` and
+//! `expr_value`.
 
 #![tactic(auto)]
 

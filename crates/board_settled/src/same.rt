@@ -2,8 +2,7 @@
 
 ghost use Rattle.std.specs.Prelude.{◌≡◌, ◌↔◌, IsTrue};
 
-use flow_model::{DoneStep, LegState, Outcome};
-use locked_board::same::is_same_mapping;
+use flow_model::{DoneStep, LegState, Outcome, is_same_mapping};
 
 /// Whether two results are one.
 pub(crate) fn is_same_outcome(one: Outcome, other: Outcome) -> bool

@@ -44,7 +44,7 @@ pub use flow::{Flow, FlowJob, Workflow};
 pub use json::{JsonFault, into_json, into_value, json_of, json_of_node, value_of, whole_of};
 pub use json_text::read_json;
 pub use lines::first_line;
-pub use mapping::Mapping;
+pub use mapping::{Mapping, is_same_mapping};
 pub use mapping_iter::MappingIter;
 pub use name::{has_zero, is_id};
 pub use plan::{Combo, Flag, Group, JobPlan, Matrix, Plan, Roots, RunPlan, Shell, StepPlan, Work};

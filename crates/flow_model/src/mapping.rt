@@ -1,6 +1,6 @@
 //! A mapping from texts, which contracts see as the list of its pairs in the order of their keys.
 
-ghost use Rattle.std.specs.Prelude.{◌≡◌, ◌==◌, [], OnOk, OnErr, IfOk, length, string_bytes};
+ghost use Rattle.std.specs.Prelude.{◌≡◌, ◌==◌, ◌↔◌, [], IsTrue, OnOk, OnErr, IfOk, length, string_bytes};
 ghost use Rattle.std.specs.Option.{option_copied};
 ghost use Rattle.flow_model.specs.Mapping.{pairs_of, value_at, with_pair, Ascends};
 
@@ -143,4 +143,21 @@ impl<V: Duplicate + Drop> Duplicate for Mapping<V> {
         }
         Ok(twin)
     }
+}
+
+/// Whether two mappings have the same pairs.
+pub fn is_same_mapping(one: &Mapping<Text>, other: &Mapping<Text>) -> bool
+    ensures { IsTrue result ↔ (one.now ≡ other.now) }
+{
+    let left = one.iter();
+    let mut right = other.iter();
+    for (key, value) in left {
+        let Some((twin, held)) = right.next() else {
+            return false;
+        };
+        if key.as_str() != twin.as_str() || value.as_str() != held.as_str() {
+            return false;
+        }
+    }
+    right.next().is_none()
 }

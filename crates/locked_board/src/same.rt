@@ -2,7 +2,7 @@
 
 ghost use Rattle.std.specs.Prelude.{◌≡◌, ◌↔◌, IsTrue};
 
-use flow_model::{CallWork, Mapping, Shell, StepCall, Text};
+use flow_model::{CallWork, Shell, StepCall, Text, is_same_mapping};
 
 /// Whether two texts are equal.
 fn is_same_text(one: &Text, other: &Text) -> bool
@@ -32,23 +32,6 @@ fn is_same_directory(one: &Option<Text>, other: &Option<Text>) -> bool
         (None, None) => true,
         (Some(_), None) | (None, Some(_)) => false,
     }
-}
-
-/// Whether two mappings have the same pairs.
-pub fn is_same_mapping(one: &Mapping<Text>, other: &Mapping<Text>) -> bool
-    ensures { IsTrue result ↔ (one.now ≡ other.now) }
-{
-    let left = one.iter();
-    let mut right = other.iter();
-    for (key, value) in left {
-        let Some((twin, held)) = right.next() else {
-            return false;
-        };
-        if key.as_str() != twin.as_str() || !is_same_text(value, held) {
-            return false;
-        }
-    }
-    right.next().is_none()
 }
 
 /// Whether two calls ask for the same.

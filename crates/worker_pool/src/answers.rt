@@ -2,8 +2,7 @@
 
 ghost use Rattle.std.specs.Prelude.{◌≡◌, ◌↔◌, IsTrue};
 
-use flow_model::Answer;
-use locked_board::same::is_same_mapping;
+use flow_model::{Answer, is_same_mapping};
 
 /// Whether two answers are equal.
 pub(crate) fn is_same_answer(one: &Answer, other: &Answer) -> bool

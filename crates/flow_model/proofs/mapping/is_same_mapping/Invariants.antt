@@ -1,6 +1,6 @@
 use Rattle.std.proofs.Common.{◌≡◌, ◌↔◌}
 use Rattle.flow_model.specs.Mapping.{pairs_of}
-use Rattle.locked_board.proofs.same.is_same_mapping.Given as goal
+use Rattle.flow_model.proofs.mapping.is_same_mapping.Given as goal
 
 -- the pairs that are left are the same where all are
 abbrev pub invariant-loop-key : goal.invariant-loop-key
