@@ -24,6 +24,7 @@ use expr_reader::fold;
 use expr_value::Status;
 use flow_model::{
     CallWork, Duplicate, Flag, Group, Mapping, Outcome, StepCall, StepPlan, Text, ValueFault, Work,
+    faulted,
 };
 use plan_values::{
     Known, Scene, TextPlace, condition_at, env_at, env_over_at, flag_at, outputs_at, text_at,
@@ -55,13 +56,7 @@ fn ends_cancelled(alloc: Global, job: &SeenJob) -> Result<bool, AllocError>
     match job_condition(alloc, job, Status::Cancelled) {
         Ok(holds) => Ok(!holds),
         Err(ValueFault::Memory) => Err(AllocError),
-        Err(
-            ValueFault::NotWhole
-            | ValueFault::NoIdentity
-            | ValueFault::BadFormat
-            | ValueFault::BadJson
-            | ValueFault::TooLarge,
-        ) => Ok(true),
+        Err(faulted!()) => Ok(true),
     }
 }
 
@@ -262,13 +257,7 @@ fn known_or_none(
     match evaluated {
         Ok(()) => Ok(()),
         Err(ValueFault::Memory) => Err(AllocError),
-        Err(
-            ValueFault::NotWhole
-            | ValueFault::NoIdentity
-            | ValueFault::BadFormat
-            | ValueFault::BadJson
-            | ValueFault::TooLarge,
-        ) => {
+        Err(faulted!()) => {
             known.set_env(Mapping::empty(alloc));
             Ok(())
         },

@@ -28,7 +28,7 @@ use crate::members::{admit, close_run, delay, drop_leg, forget_end, note_end, pu
 use board_counters::Tracked;
 use board_decisions::entrance::{Entrance, Entrant};
 use board_decisions::place::{LegPlace, leg_there};
-use flow_model::{Board, LegState, Member, Outcome, Reply, RunState, Text, ValueFault};
+use flow_model::{Board, LegState, Member, Outcome, Reply, RunState, Text, ValueFault, faulted};
 use group_admission::{Groups, Held};
 use status_table::EventFault;
 use status_table::groups::{is_own, moved, stop_told, told};
@@ -196,13 +196,7 @@ pub(crate) fn enter_run(
             enter(alloc, state, groups, entrant, group)
         },
         Err(ValueFault::Memory) => Err(EventFault::Memory),
-        Err(
-            ValueFault::NotWhole
-            | ValueFault::NoIdentity
-            | ValueFault::BadFormat
-            | ValueFault::BadJson
-            | ValueFault::TooLarge,
-        ) => {
+        Err(faulted!()) => {
             close_run(state, number, Outcome::Failure);
             Ok(moved())
         },
@@ -247,13 +241,7 @@ pub(crate) fn enter_leg(
             enter(alloc, state, groups, entrant, group)
         },
         Err(ValueFault::Memory) => Err(EventFault::Memory),
-        Err(
-            ValueFault::NotWhole
-            | ValueFault::NoIdentity
-            | ValueFault::BadFormat
-            | ValueFault::BadJson
-            | ValueFault::TooLarge,
-        ) => {
+        Err(faulted!()) => {
             drop_leg(state, asker.leg, Outcome::Failure)?;
             Ok(moved())
         },

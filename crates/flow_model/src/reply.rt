@@ -30,6 +30,18 @@ pub enum ValueFault {
     Memory,
 }
 
+/// The pattern of all value faults but `Memory`.
+#[macro_export]
+macro_rules! faulted {
+    () => {
+        $crate::ValueFault::NotWhole
+            | $crate::ValueFault::NoIdentity
+            | $crate::ValueFault::BadFormat
+            | $crate::ValueFault::BadJson
+            | $crate::ValueFault::TooLarge
+    };
+}
+
 impl ValueFault {
     /// The fault's name, as it is printed.
     pub fn name(self) -> &'static str

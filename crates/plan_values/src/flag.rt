@@ -11,7 +11,7 @@ use crate::place::TextPlace;
 use crate::scene::Scene;
 use crate::texts::value_at;
 use expr_reader::same_text;
-use flow_model::{Flag, Node, Value, ValueFault};
+use flow_model::{Flag, Node, Value, ValueFault, faulted};
 use std::alloc::{AllocError, Global};
 
 // Whether a value is `true`, or a text equal to `true` ignoring case.
@@ -42,13 +42,7 @@ fn text_says_true<S: Scene>(
     match value_at(alloc, scene, known, place, text) {
         Ok(value) => Ok(says_true(&value)),
         Err(ValueFault::Memory) => Err(AllocError),
-        Err(
-            ValueFault::NotWhole
-            | ValueFault::NoIdentity
-            | ValueFault::BadFormat
-            | ValueFault::BadJson
-            | ValueFault::TooLarge,
-        ) => Ok(false),
+        Err(faulted!()) => Ok(false),
     }
 }
 

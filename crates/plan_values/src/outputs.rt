@@ -10,7 +10,7 @@ use crate::known::Known;
 use crate::place::TextPlace;
 use crate::scene::Scene;
 use crate::texts::text_at;
-use flow_model::{Mapping, Text, ValueFault};
+use flow_model::{Mapping, Text, ValueFault, faulted};
 use std::alloc::{AllocError, Global};
 
 // Sets one output among others; one that faults is left out.
@@ -33,13 +33,7 @@ fn set_output<S: Scene>(
     match text_at(alloc, scene, known, place, text.as_str()) {
         Ok(value) => made.set(alloc, name, value),
         Err(ValueFault::Memory) => Err(AllocError),
-        Err(
-            ValueFault::NotWhole
-            | ValueFault::NoIdentity
-            | ValueFault::BadFormat
-            | ValueFault::BadJson
-            | ValueFault::TooLarge,
-        ) => Ok(()),
+        Err(faulted!()) => Ok(()),
     }
 }
 

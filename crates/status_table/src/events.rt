@@ -34,7 +34,7 @@ use board_decisions::kept::LegKept;
 use board_decisions::place::{SeenJob, SeenLeg, find_job, find_leg, find_run};
 use flow_model::{
     Answer, Board, DoneStep, JobState, LegState, Mapping, Outcome, Plan, Reply, RunState, StepCall,
-    StepPlan, ValueFault, What,
+    StepPlan, ValueFault, What, faulted,
 };
 use std::alloc::{AllocError, Global};
 
@@ -83,13 +83,7 @@ pub fn judged_state(stop: bool, holds: Result<bool, ValueFault>) -> Result<JobSt
         Ok(true) => Ok(JobState::Open),
         Ok(false) => Ok(JobState::Shut(shut_result(stop))),
         Err(ValueFault::Memory) => Err(AllocError),
-        Err(
-            ValueFault::NotWhole
-            | ValueFault::NoIdentity
-            | ValueFault::BadFormat
-            | ValueFault::BadJson
-            | ValueFault::TooLarge,
-        ) => Ok(JobState::Shut(Outcome::Failure)),
+        Err(faulted!()) => Ok(JobState::Shut(Outcome::Failure)),
     }
 }
 
@@ -360,11 +354,7 @@ fn told_begun(decision: Result<Option<StepCall>, ValueFault>) -> Result<Begun, E
         Ok(Some(call)) => Ok(Begun::Call(call)),
         Ok(None) => Ok(Begun::Skips),
         Err(ValueFault::Memory) => Err(EventFault::Memory),
-        Err(ValueFault::NotWhole) => Ok(Begun::Faults(ValueFault::NotWhole)),
-        Err(ValueFault::NoIdentity) => Ok(Begun::Faults(ValueFault::NoIdentity)),
-        Err(ValueFault::BadFormat) => Ok(Begun::Faults(ValueFault::BadFormat)),
-        Err(ValueFault::BadJson) => Ok(Begun::Faults(ValueFault::BadJson)),
-        Err(ValueFault::TooLarge) => Ok(Begun::Faults(ValueFault::TooLarge)),
+        Err(fault @ faulted!()) => Ok(Begun::Faults(fault)),
     }
 }
 

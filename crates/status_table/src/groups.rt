@@ -18,7 +18,7 @@ use crate::members::{
 };
 use board_decisions::entrance::{Entrance, Entrant};
 use flow_model::{
-    Board, Leg, LegState, Member, Outcome, Reply, Run, RunState, Text, ValueFault, What,
+    Board, Leg, LegState, Member, Outcome, Reply, Run, RunState, Text, ValueFault, What, faulted,
 };
 
 /// A reply that tells who was admitted, who lost its place, and who is told to stop.
@@ -149,13 +149,7 @@ pub(crate) fn enter_run(
             enter(board, entrant, group)
         },
         Err(ValueFault::Memory) => Err(EventFault::Memory),
-        Err(
-            ValueFault::NotWhole
-            | ValueFault::NoIdentity
-            | ValueFault::BadFormat
-            | ValueFault::BadJson
-            | ValueFault::TooLarge,
-        ) => {
+        Err(faulted!()) => {
             close_run(board, number, Outcome::Failure);
             Ok(moved())
         },
@@ -183,13 +177,7 @@ pub(crate) fn enter_leg(
             enter(board, entrant, group)
         },
         Err(ValueFault::Memory) => Err(EventFault::Memory),
-        Err(
-            ValueFault::NotWhole
-            | ValueFault::NoIdentity
-            | ValueFault::BadFormat
-            | ValueFault::BadJson
-            | ValueFault::TooLarge,
-        ) => {
+        Err(faulted!()) => {
             drop_leg(board, number, Outcome::Failure)?;
             Ok(moved())
         },

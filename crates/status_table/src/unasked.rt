@@ -16,7 +16,7 @@ use crate::fault::EventFault;
 use board_decisions::kept::LegKept;
 use board_decisions::place::SeenLeg;
 use board_decisions::unasked::{is_called_at_once, is_step_called};
-use flow_model::{Answer, Outcome, ValueFault};
+use flow_model::{Answer, Outcome, ValueFault, faulted};
 use std::alloc::Global;
 
 /// What beginning a step comes to, without its call or its fault.
@@ -36,13 +36,7 @@ fn told_begins(called: Result<bool, ValueFault>) -> Result<Begins, EventFault>
         Ok(true) => Ok(Begins::Calls),
         Ok(false) => Ok(Begins::Skips),
         Err(ValueFault::Memory) => Err(EventFault::Memory),
-        Err(
-            ValueFault::NotWhole
-            | ValueFault::NoIdentity
-            | ValueFault::BadFormat
-            | ValueFault::BadJson
-            | ValueFault::TooLarge,
-        ) => Ok(Begins::Faults),
+        Err(faulted!()) => Ok(Begins::Faults),
     }
 }
 

@@ -34,6 +34,7 @@ use expr_value::Status;
 use flat_board::FlatBoard;
 use flow_model::{
     Answer, Board, Event, Member, Outcome, Plan, Run, RunState, StepCall, StepPlan, ValueFault,
+    faulted,
 };
 use status_table::groups::is_own;
 use std::alloc::{AllocError, Global};
@@ -98,15 +99,7 @@ fn add_entered(
         Ok(Some(group)) => add_grouped(out, table, entrant, &group),
         Ok(None) => add_fact(out, who, MemberFact::Admitted),
         Err(ValueFault::Memory) => Err(AllocError),
-        Err(ValueFault::NotWhole) => add_fact(out, who, MemberFact::NoGroup(ValueFault::NotWhole)),
-        Err(ValueFault::NoIdentity) => {
-            add_fact(out, who, MemberFact::NoGroup(ValueFault::NoIdentity))
-        },
-        Err(ValueFault::BadFormat) => {
-            add_fact(out, who, MemberFact::NoGroup(ValueFault::BadFormat))
-        },
-        Err(ValueFault::BadJson) => add_fact(out, who, MemberFact::NoGroup(ValueFault::BadJson)),
-        Err(ValueFault::TooLarge) => add_fact(out, who, MemberFact::NoGroup(ValueFault::TooLarge)),
+        Err(fault @ faulted!()) => add_fact(out, who, MemberFact::NoGroup(fault)),
     }
 }
 
@@ -180,11 +173,7 @@ fn judged(stop: bool, vain: bool, holds: Result<bool, ValueFault>) -> Result<Job
         Ok(true) => Ok(JobFact::Opened),
         Ok(false) => Ok(unopened(stop, vain)),
         Err(ValueFault::Memory) => Err(AllocError),
-        Err(ValueFault::NotWhole) => Ok(JobFact::Faulted(ValueFault::NotWhole)),
-        Err(ValueFault::NoIdentity) => Ok(JobFact::Faulted(ValueFault::NoIdentity)),
-        Err(ValueFault::BadFormat) => Ok(JobFact::Faulted(ValueFault::BadFormat)),
-        Err(ValueFault::BadJson) => Ok(JobFact::Faulted(ValueFault::BadJson)),
-        Err(ValueFault::TooLarge) => Ok(JobFact::Faulted(ValueFault::TooLarge)),
+        Err(fault @ faulted!()) => Ok(JobFact::Faulted(fault)),
     }
 }
 
@@ -399,11 +388,7 @@ fn begun(
         Ok(Some(_)) => Ok(Change::Called { leg: number }),
         Ok(None) => skips(alloc, number, at, step),
         Err(ValueFault::Memory) => Err(AllocError),
-        Err(ValueFault::NotWhole) => faults(alloc, number, at, step, ValueFault::NotWhole),
-        Err(ValueFault::NoIdentity) => faults(alloc, number, at, step, ValueFault::NoIdentity),
-        Err(ValueFault::BadFormat) => faults(alloc, number, at, step, ValueFault::BadFormat),
-        Err(ValueFault::BadJson) => faults(alloc, number, at, step, ValueFault::BadJson),
-        Err(ValueFault::TooLarge) => faults(alloc, number, at, step, ValueFault::TooLarge),
+        Err(fault @ faulted!()) => faults(alloc, number, at, step, fault),
     }
 }
 

@@ -12,7 +12,7 @@ use board_decisions::decisions::leg_result;
 use board_decisions::place::SeenLeg;
 use board_decisions::scene::LegScene;
 use expr_value::Status;
-use flow_model::{Mapping, Outcome, StepPlan, Text, ValueFault};
+use flow_model::{Mapping, Outcome, StepPlan, Text, ValueFault, faulted};
 use plan_values::{Known, TextPlace, condition_at, env_at};
 use std::alloc::{AllocError, Global};
 use why_facts::fact::StepText;
@@ -139,13 +139,7 @@ fn text_after_step(
     ) {
         Ok(_) => Ok(StepText::Work),
         Err(ValueFault::Memory) => Err(AllocError),
-        Err(
-            ValueFault::NotWhole
-            | ValueFault::NoIdentity
-            | ValueFault::BadFormat
-            | ValueFault::BadJson
-            | ValueFault::TooLarge,
-        ) => Ok(StepText::Condition),
+        Err(faulted!()) => Ok(StepText::Condition),
     }
 }
 
@@ -164,13 +158,7 @@ fn text_after_job(
     match know_step_env(alloc, at, known, step) {
         Ok(()) => text_after_step(alloc, at, known, step),
         Err(ValueFault::Memory) => Err(AllocError),
-        Err(
-            ValueFault::NotWhole
-            | ValueFault::NoIdentity
-            | ValueFault::BadFormat
-            | ValueFault::BadJson
-            | ValueFault::TooLarge,
-        ) => Ok(StepText::StepEnv),
+        Err(faulted!()) => Ok(StepText::StepEnv),
     }
 }
 
@@ -190,13 +178,7 @@ fn text_after_flow(
     match know_job_env(alloc, at, known, flow) {
         Ok(()) => text_after_job(alloc, at, known, step),
         Err(ValueFault::Memory) => Err(AllocError),
-        Err(
-            ValueFault::NotWhole
-            | ValueFault::NoIdentity
-            | ValueFault::BadFormat
-            | ValueFault::BadJson
-            | ValueFault::TooLarge,
-        ) => Ok(StepText::JobEnv),
+        Err(faulted!()) => Ok(StepText::JobEnv),
     }
 }
 
@@ -212,12 +194,6 @@ pub(crate) fn faulted_text(
     match flow_env(alloc, at, &mut known) {
         Ok(flow) => text_after_flow(alloc, at, &mut known, step, flow),
         Err(ValueFault::Memory) => Err(AllocError),
-        Err(
-            ValueFault::NotWhole
-            | ValueFault::NoIdentity
-            | ValueFault::BadFormat
-            | ValueFault::BadJson
-            | ValueFault::TooLarge,
-        ) => Ok(StepText::FlowEnv),
+        Err(faulted!()) => Ok(StepText::FlowEnv),
     }
 }
