@@ -435,11 +435,11 @@ impl Table for FlatBoard {
     }
 
     fn lend(&self) -> &Board {
-        self.state.counted().board()
+        self.board()
     }
 
     fn view(&self) -> Result<Board, AllocError> {
-        self.state.counted().board().copy(self.alloc)
+        self.board().copy(self.alloc)
     }
 
     fn moves(&self) -> Result<Sequence<Event>, AllocError> {

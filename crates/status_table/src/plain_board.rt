@@ -59,14 +59,6 @@ impl PlainBoard {
         Ok(PlainBoard { plan, board, alloc })
     }
 
-    /// The board, without a copy.
-    pub fn board(&self) -> &Board
-        ensures board { result.now ≡ self.now.board }
-        ensures in_play { InPlay self.now.plan self.now.board }
-    {
-        &self.board
-    }
-
     /// The clerk's events that the table accepts.
     fn clerk_moves(&self) -> Result<Vec<Event>, AllocError>
         ensures { IfOk result (λ all. all.items ≡ moves self.now.plan self.now.board) }
