@@ -16,7 +16,7 @@ use Rattle.board_counters.specs.Dependents.{all_dependents, dependents_at}
 use Rattle.board_counters.specs.Failing.{failing_of}
 use Rattle.board_counters.specs.Lasting.{IsLasting}
 use Rattle.board_counters.specs.Names.{IsGroup, IsNamed, RunComesNamed}
-use Rattle.board_counters.specs.Standing.{run_moved, run_tally, standing_in, standing_read}
+use Rattle.board_counters.specs.Standing.{run_moved, run_tally, standing_read}
 use Rattle.board_counters.specs.Stopping.{run_legs}
 use Rattle.board_counters.specs.declared.change.RunChange.{RunChange}
 use Rattle.board_counters.specs.declared.counts.Counts.{Counts}
@@ -32,7 +32,7 @@ use Rattle.board_counters.proofs.Named.{leg_named, job_named, run_named, jobs_st
 use Rattle.board_counters.proofs.Needs.{needs_follow, needs-kept, settled_in}
 use Rattle.board_decisions.specs.Places.{run_sizes}
 use Rattle.board_counters.proofs.Placed.{leg_sizes, job_sizes, run_sizes_kept, still_lasts}
-use Rattle.board_counters.proofs.Standings.{moved_alike, read_before, read_in, run_tallies_kept, runs_follow, standing_settles}
+use Rattle.board_counters.proofs.Standings.{moved_alike, read_before, read_in, run_tallies_kept, runs_follow, standing_in, standing_settles}
 use Rattle.board_counters.proofs.Stops.{job_told_kept, run_told_kept}
 use Rattle.board_counters.proofs.Tallies.{ComesSo, alike_tallies, job_tallies, moved_same, run_tallies, tallied_so}
 use Rattle.status_table.specs.Change.{changed, with_run, with_job, with_leg}

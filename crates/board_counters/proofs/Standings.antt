@@ -15,7 +15,7 @@ use Rattle.flow_model.specs.declared.board.RunState.TheVariants as run_state
 use Rattle.flow_model.specs.declared.event.Outcome.{Outcome}
 use Rattle.flow_model.specs.declared.event.Outcome.TheVariants as outcome
 use Rattle.board_counters.specs.Counters.{is_settled, settled_jobs, tally_of, tallies_of, turned}
-use Rattle.board_counters.specs.Standing.{counted_jobs, counts_job, has_fresh, has_left, no_standing, run_moved, run_tally, run_tally_there, standing_by, standing_given, standing_in, standing_of, standing_read, standing_there, tally_result, told_result}
+use Rattle.board_counters.specs.Standing.{counted_jobs, counts_job, has_fresh, has_left, no_standing, run_moved, run_tally, run_tally_there, standing_by, standing_given, standing_of, standing_read, tally_result, told_result}
 use Rattle.board_counters.specs.declared.standing.JobCounter.{JobCounter}
 use Rattle.board_counters.specs.declared.standing.JobCounter.TheVariants as counter
 use Rattle.board_counters.specs.declared.standing.JobStanding.{JobStanding}
@@ -27,6 +27,16 @@ use Rattle.board_counters.proofs.Needs.{settled_in}
 use Rattle.board_counters.proofs.Tallies.{get_changed, turned_same}
 use Rattle.status_table.specs.Change.{changed, with_leg}
 use Rattle.status_table.proofs.Lists.{changed-there, length-changed}
+
+-- how a job stands that may be there
+abbrev standing_there : Option Job → JobStanding
+standing_there None = no_standing
+standing_there (Some job) = standing_of job
+
+-- how the job at a place of a run that may be there stands
+abbrev pub standing_in : Option Run → ℕ → JobStanding
+standing_in None j = no_standing
+standing_in (Some run) j = standing_there (slice_get run.jobs j)
 
 -- ---- one job
 

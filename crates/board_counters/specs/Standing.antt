@@ -54,16 +54,6 @@ no_standing =
       may_drop = false;
     }
 
--- how a job stands that may be there
-abbrev pub standing_there : Option Job → JobStanding
-standing_there None = no_standing
-standing_there (Some job) = standing_of job
-
--- how the job at a place of a run that may be there stands
-abbrev pub standing_in : Option Run → ℕ → JobStanding
-standing_in None j = no_standing
-standing_in (Some run) j = standing_there (slice_get run.jobs j)
-
 -- ---- the same by the tally of a job's legs
 
 -- what the ends of legs come to

@@ -5,7 +5,6 @@ use Rattle.board_decisions.specs.Contexts.{first_number, job_beside, need_pair, 
 use Rattle.board_decisions.specs.Place.{◌>>=◌, JobAt}
 use Rattle.board_decisions.specs.declared.place.JobPlace.{JobPlace}
 use Rattle.board_settled.specs.Contexts.{IsNeeded, NeedsAreDirect}
-use Rattle.board_settled.specs.Pairs.{IsIn}
 use Rattle.flow_model.specs.Mapping.{value_at}
 use Rattle.flow_model.specs.Plain.{Plain}
 use Rattle.flow_model.specs.Sound.{HaveDistinctNames}
@@ -14,7 +13,7 @@ use Rattle.flow_model.specs.declared.board.Job.{Job}
 use Rattle.flow_model.specs.declared.board.Run.{Run}
 use Rattle.flow_model.specs.declared.plan.JobPlan.{JobPlan}
 use Rattle.flow_model.specs.declared.plan.RunPlan.{RunPlan}
-use Rattle.board_settled.proofs.Pairs.{found_in, in_found, in_kept, kept_in, laid_alone, no_some, same_some}
+use Rattle.board_settled.proofs.Pairs.{IsIn, found_in, in_found, in_kept, kept_in, laid_alone, no_some, same_some}
 
 -- the job at a place is planned there
 planned_by : (b : Board) (run_plan : RunPlan) (run : Run) (place : JobPlace) (o : Option JobPlan) (q : Option Job) (at : JobAt)

@@ -4,13 +4,12 @@ use Rattle.std.specs.List.{filter_map, slice_get, zip}
 use Rattle.board_decisions.specs.Contexts.{done_value, id_pair, step_pair, steps_value}
 use Rattle.board_decisions.specs.Place.{LegAt}
 use Rattle.board_settled.specs.Contexts.{IsDone, StepsAreDone, done_pairs}
-use Rattle.board_settled.specs.Pairs.{IsIn}
 use Rattle.flow_model.specs.Mapping.{value_at}
 use Rattle.flow_model.specs.Plain.{Plain}
 use Rattle.flow_model.specs.Sound.{HaveDistinctNames}
 use Rattle.flow_model.specs.declared.board.DoneStep.{DoneStep}
 use Rattle.flow_model.specs.declared.plan.StepPlan.{StepPlan}
-use Rattle.board_settled.proofs.Pairs.{found_in, in_found, in_kept, kept_in, laid_alone, no_some, same_some}
+use Rattle.board_settled.proofs.Pairs.{IsIn, found_in, in_found, in_kept, kept_in, laid_alone, no_some, same_some}
 
 -- what stands beside what
 beside : (xs : List StepPlan) (ys : List DoneStep) (k : ℕ) (x : StepPlan) (y : DoneStep) → slice_get (zip xs ys) k ≡ Some (x, y)

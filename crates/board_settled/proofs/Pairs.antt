@@ -1,5 +1,5 @@
 -- What stands in pairs that are laid over one another.
-use Rattle.std.proofs.Common.{◌≡◌, ℕ, zero, suc, Bool, true, false, cond, Option, Some, None, List, [], ◌∷◌, Ordering, Less, refl, sym, ap, subst, ◌∙◌}
+use Rattle.std.proofs.Common.{◌≡◌, ℕ, zero, suc, Bool, true, false, cond, if◌then◌else◌, Option, Some, None, List, [], ◌∷◌, Ordering, Less, refl, sym, ap, subst, ◌∙◌}
 use Rattle.std.proofs.lemmas.Bool.{true≢false}
 use Rattle.std.proofs.lemmas.Map.Text.{is_eq-slice_cmp}
 use Rattle.std.proofs.lemmas.Option.{none-some, same_Some}
@@ -8,10 +8,18 @@ use Rattle.std.specs.Cmp.Lexicographic.{slice_cmp}
 use Rattle.std.specs.List.{AllByRecursion, filter_map, cons_option, slice_get}
 use Rattle.std.specs.List.Sorted.{IsStrictlySortedBy}
 use Rattle.std.specs.Ordering.{nat_cmp, is_eq}
-use Rattle.board_settled.specs.Pairs.{IsIn, last_at}
 use Rattle.flow_model.specs.Mapping.{value_at, with_pair, keys_of, Ascends}
 use Rattle.flow_model.proofs.Lookups.{found_other, found_same}
 use Rattle.plan_values.specs.Env.{laid_over, or_below}
+
+-- an item stands somewhere in a list
+abbrev pub IsIn : {T : Type 0} → T → List T → Type 0
+IsIn x xs = (i : ℕ) × (slice_get xs i ≡ Some x)
+
+-- what the last pair with a name has there
+abbrev pub last_at : {V : Type 0} → List ℕ → List (List ℕ × V) → Option V
+last_at name [] = None
+last_at name (p ∷ ps) = or_below (last_at name ps) (if is_eq (slice_cmp nat_cmp name p.0) then Some p.1 else None)
 
 -- ---- what is there
 

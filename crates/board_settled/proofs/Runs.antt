@@ -18,7 +18,7 @@ use Rattle.flow_model.specs.declared.board.RunState.TheVariants as run_state
 use Rattle.flow_model.specs.declared.plan.JobPlan.{JobPlan}
 use Rattle.flow_model.specs.declared.plan.Plan.{Plan}
 use Rattle.flow_model.specs.declared.plan.RunPlan.{RunPlan}
-use Rattle.board_settled.specs.Alone.{SeesSettled, JobsAreSettled}
+use Rattle.board_settled.specs.Alone.{SeesSettled}
 use Rattle.board_settled.specs.Quiet.{quiet_run}
 use Rattle.board_settled.specs.Runs.{RunStands}
 use Rattle.board_settled.proofs.Comes.{job_comes}
@@ -38,6 +38,10 @@ use Rattle.status_table.proofs.Counts.{zip-left}
 use Rattle.status_table.proofs.Lists.{bind-some, zip-get, zip-length, zip-append}
 use Rattle.board_decisions.proofs.Lists.{same_some, no_some}
 use Rattle.status_table.proofs.Standings.{drop_at}
+
+-- some jobs of a run are settled
+abbrev pub JobsAreSettled : List SettledJob → List Job → Type 0
+JobsAreSettled given jobs = AllZip (λ given job. JobIsSettled given job.legs job.state) given jobs
 
 -- ---- lists
 

@@ -16,7 +16,7 @@ use Rattle.flow_model.specs.declared.event.Outcome.TheVariants as outcome
 use Rattle.flow_model.specs.declared.plan.StepPlan.{StepPlan}
 use Rattle.flow_model.specs.declared.reply.StepCall.{StepCall}
 use Rattle.flow_model.specs.declared.reply.ValueFault.{ValueFault}
-use Rattle.board_settled.specs.Agrees.{LegIsSettled, JobIsSettled}
+use Rattle.board_settled.specs.Agrees.{LegIsSettled}
 use Rattle.board_settled.specs.Sees.{Spot}
 use Rattle.board_settled.specs.Settled.{Answers, SettledLeg, SettledJob, needs_of, needs_given, status_after, steps_from}
 use Rattle.status_table.specs.Row.{skipped_step, failed_step, answered_step}
@@ -102,7 +102,3 @@ pub record SeesSettled (first : ℕ) (before : List SettledJob) (at : JobAt) : T
 pub record IsOpened (given : List SettledLeg) (job : Job) : Type 0 where
   pub state : job.state ≡ job_state.Open
   pub legs : AllZip LegIsSettled given job.legs
-
--- Some jobs of a run are settled.
-abbrev pub JobsAreSettled : List SettledJob → List Job → Type 0
-JobsAreSettled given jobs = AllZip (λ given job. JobIsSettled given job.legs job.state) given jobs

@@ -3,13 +3,19 @@ use Rattle.std.proofs.Common.{◌≡◌, ℕ, Bool, true, false, not, nat_le, co
 use Rattle.expr_value.proofs.Growing.{grown_grown, grown_nothing, limited_grown}
 use Rattle.expr_value.specs.Answer.{Gives}
 use Rattle.expr_value.specs.Bounded.{grown, grown_value, FitsLimit}
-use Rattle.expr_value.specs.Joined.{grown_answer, joined_onto, is_too_large}
+use Rattle.expr_value.specs.Evaluate.{Answer}
+use Rattle.expr_value.specs.Joined.{grown_answer, is_too_large}
 use Rattle.expr_value.specs.Kind.{kind_of}
 use Rattle.expr_value.specs.Limit.{most_bytes, last_value}
 use Rattle.expr_value.specs.Template.{with_text, limited_text}
 use Rattle.flow_model.specs.Plain as plain
 use Rattle.flow_model.specs.declared.reply.ValueFault.{ValueFault}
 use Rattle.flow_model.specs.declared.reply.ValueFault.TheVariants.{NotWhole, NoIdentity, BadFormat, BadJson, TooLarge, Memory}
+
+-- what has grown so far, with the texts that are left
+abbrev pub joined_onto : Option (List ℕ) → Result (List ℕ) ValueFault → Answer
+joined_onto held (Ok bytes) = grown_value (grown held bytes)
+joined_onto held (Err fault) = Err fault
 
 -- a text that grew, with the rest, is the text with both
 pub joined_step : (held next : Option (List ℕ)) (m rest : Result (List ℕ) ValueFault) → grown_answer held m ≡ Ok next → joined_onto next rest ≡ joined_onto held (with_text m rest)

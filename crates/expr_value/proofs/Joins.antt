@@ -3,10 +3,10 @@ use Rattle.std.proofs.Common.{◌≡◌, ℕ, ◌+◌, ◌<◌, Bool, true, fals
 use Rattle.expr_value.specs.Bounded.{grown}
 use Rattle.expr_value.specs.Convert.{text_of}
 use Rattle.expr_value.specs.Functions.{text_of_value}
-use Rattle.expr_value.specs.Joining.{item_text, items_text}
+use Rattle.expr_value.specs.Joining.{item_text}
 use Rattle.expr_value.proofs.Growing.{grown_grown}
 use Rattle.expr_value.proofs.Lists.{items-again}
-use Rattle.std.specs.List.{join_by}
+use Rattle.std.specs.List.{join_by, flat_map}
 use Rattle.expr_value.specs.Answer.{Gives}
 use Rattle.expr_value.specs.Limit.{limited}
 use Rattle.expr_value.specs.Functions.{join}
@@ -16,6 +16,11 @@ use Rattle.flow_model.specs.Plain.{Plain, list, items_of}
 use Rattle.flow_model.specs.Value.{view, views}
 use Rattle.flow_model.specs.declared.reply.ValueFault.{ValueFault}
 use Rattle.flow_model.specs.declared.value.Node.{Node}
+
+-- The texts of items, a separator before each but the first of all.
+abbrev pub items_text : List ℕ → Bool → List Plain → List ℕ
+items_text separator true vs = join_by text_of_value separator vs
+items_text separator false vs = flat_map (λ v. separator ++ text_of_value v) vs
 
 -- The first item's text, and then the others'.
 pub items_step : (separator : List ℕ) (first : Bool) (v : Plain) (vs : List Plain) → items_text separator first (v ∷ vs) ≡ item_text separator first (text_of_value v) ++ items_text separator false vs

@@ -1,7 +1,6 @@
 -- How the texts of a template's pieces come together, for private clauses.
 use Rattle.std.specs.Prelude.{ℕ, Bool, false, not, nat_le, Option, Result, Ok, Err, List, length}
-use Rattle.expr_value.specs.Bounded.{grown, grown_value}
-use Rattle.expr_value.specs.Evaluate.{Answer}
+use Rattle.expr_value.specs.Bounded.{grown}
 use Rattle.expr_value.specs.Kind.{Kind, null, truth, whole, text, list, map}
 use Rattle.expr_value.specs.Limit.{most_bytes}
 use Rattle.flow_model.specs.declared.reply.ValueFault.{ValueFault}
@@ -10,11 +9,6 @@ use Rattle.flow_model.specs.declared.reply.ValueFault.{ValueFault}
 abbrev pub grown_answer : Option (List ℕ) → Result (List ℕ) ValueFault → Result (Option (List ℕ)) ValueFault
 grown_answer held (Ok bytes) = Ok (grown held bytes)
 grown_answer held (Err fault) = Err fault
-
--- What has grown so far, with the texts that are left.
-abbrev pub joined_onto : Option (List ℕ) → Result (List ℕ) ValueFault → Answer
-joined_onto held (Ok bytes) = grown_value (grown held bytes)
-joined_onto held (Err fault) = Err fault
 
 -- It is a text beyond the limit.
 abbrev pub is_too_large : Kind → Bool

@@ -9,7 +9,7 @@ use Rattle.flow_model.specs.declared.event.Member.{Member}
 use Rattle.status_table.specs.Groups.{Standing, apart, holding, waiting, holds_name, holder, waiter, admitted, waits, passed_on, cancelled, displaced, stopped, Done, told, moved, is_own, stop_told, enters_held, enters, leaves}
 use Rattle.status_table.specs.Lawful.{NeedsEnded, Lawful}
 use Rattle.status_table.specs.Members.{OneHolder, holders, waiters}
-use Rattle.status_table.specs.Rank.{rank}
+use Rattle.status_table.proofs.Rank.{rank}
 use Rattle.status_table.specs.Row.{Row}
 use Rattle.status_table.specs.Stays.{Stays}
 use Rattle.status_table.proofs.Counts.{one}

@@ -23,7 +23,7 @@ use Rattle.status_table.specs.Change.{changed}
 use Rattle.status_table.specs.Groups.{run_standing, leg_standing, holds_name, waits_name}
 use Rattle.status_table.specs.Lawful.{leg_stands_right, JobFits, RunFits, MembersFit, Lawful}
 use Rattle.status_table.specs.Members.{is_waiting, share_name}
-use Rattle.status_table.specs.Rank.{job_rank, rank_of_run, rank_of_job, rank_of_leg, rank}
+use Rattle.status_table.proofs.Rank.{job_rank, rank_of_run, rank_of_job, rank_of_leg, rank}
 use Rattle.status_table.specs.Row as rows
 use Rattle.status_table.specs.Stays.{LegStays, JobStays, RunStays, Stays}
 use Rattle.status_table.proofs.Counts.{one, sum-changed, zip-changed-at, zip-changed-self, zip-beside, all-weaker, sum-kept, sum-flat-changed}

@@ -22,7 +22,7 @@ use Rattle.flow_model.specs.declared.event.Event.{Event}
 use Rattle.flow_model.specs.declared.reply.Reply.{Reply}
 use Rattle.status_table.specs.Groups.{run_standing, leg_standing, holds_name, waits_name}
 use Rattle.status_table.specs.Lawful.{leg_stands_right, Within, under_way, JobFits, RunFits, MembersFit, NeedsEnded, Lawful}
-use Rattle.status_table.specs.Rank.{rank_of_run, rank_of_job, rank_of_leg, rank}
+use Rattle.status_table.proofs.Rank.{rank_of_run, rank_of_job, rank_of_leg, rank}
 use Rattle.status_table.specs.Answers.{Answers}
 use Rattle.status_table.specs.declared.fault.EventFault.{EventFault}
 use Rattle.status_table.specs.Row.{Row, row, event_row}

@@ -35,7 +35,7 @@ use Rattle.status_table.specs.Change.{changed, with_leg}
 use Rattle.status_table.specs.Groups.{Standing, apart, holding, waiting, run_stands, leg_stands, run_standing, leg_standing, is_named, holds_name, holder, first_place, run_or_leg, dropped, admitted, waits, moved, is_own, enters, leaves}
 use Rattle.status_table.specs.Lawful.{leg_stands_right, Within, under_way, JobFits, RunFits, MembersFit, Lawful}
 use Rattle.status_table.specs.Members.{OneHolder, is_waiting, share_name}
-use Rattle.status_table.specs.Rank.{leg_rank, rank_of_leg, rank}
+use Rattle.status_table.proofs.Rank.{leg_rank, rank_of_leg, rank}
 use Rattle.status_table.specs.Row.{Row, Beginning, calls, skips, faults}
 use Rattle.status_table.specs.Row as rows
 use Rattle.status_table.specs.Shape.{open_calls, has_room, JobShape, RunShape, HasShape}

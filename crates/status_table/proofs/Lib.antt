@@ -15,6 +15,7 @@ pub mod Legal
 pub mod Lists
 pub mod Numbers
 pub mod Planned
+pub mod Rank
 pub mod Refusals
 pub mod Rows
 pub mod RunRows

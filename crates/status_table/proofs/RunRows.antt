@@ -20,7 +20,7 @@ use Rattle.status_table.specs.declared.fault.EventFault.TheVariants as fault
 use Rattle.status_table.specs.Change.{changed}
 use Rattle.status_table.specs.Groups.{Standing, apart, holding, waiting, run_stands, run_standing, closed, admitted, waits, stopped, moved, enters}
 use Rattle.status_table.specs.Lawful.{JobFits, RunFits, Lawful}
-use Rattle.status_table.specs.Rank.{run_rank, rank_of_run}
+use Rattle.status_table.proofs.Rank.{run_rank, rank_of_run}
 use Rattle.status_table.specs.Row as rows
 use Rattle.status_table.proofs.Entering.{Leads, leads-if, lawfully, Asker, enters_leads, leaves_leads, ends_apart, stands_still}
 use Rattle.status_table.proofs.Found.{RunStands}

@@ -33,7 +33,7 @@ use Rattle.status_table.specs.Change.{changed, leg_changed, with_run, with_numbe
 use Rattle.status_table.specs.Groups.{Standing, apart, holding, waiting, run_standing, leg_standing, holds_name, waits_name, first_place, run_or_leg, first_member, holder, waiter, closed, admitted, waits, displaced, stopped, enters_held, is_named, passed_on, dropped, leaves, Done, told, moved, is_own, stop_told, cancelled, leg_stands}
 use Rattle.status_table.specs.Lawful.{JobFits, RunFits, Lawful}
 use Rattle.status_table.specs.Members.{count_members, holders, waiters}
-use Rattle.status_table.specs.Rank.{run_rank}
+use Rattle.status_table.proofs.Rank.{run_rank}
 use Rattle.status_table.specs.Row.{Row, open_run, open_found, run_enters, run_closes, close_waiting, close_run, close_found, may_drop, drop_found, may_ask, ask_found, leg_enters, idle_owner, ended_state, leg_ended, finishing_by, finish_leg, finish_found}
 use Rattle.board_decisions.proofs.Lists.{and-left, and-right}
 use Rattle.status_table.proofs.Counts.{one, counted, first-some, only_first, map-some}

@@ -22,7 +22,7 @@ use Rattle.status_table.specs.Change.{changed, with_leg}
 use Rattle.status_table.specs.Groups.{Standing, run_standing, leg_standing, holds_name, waits_name}
 use Rattle.status_table.specs.Lawful.{leg_stands_right, Within, under_way, JobFits, RunFits, MembersFit, NeedsEnded}
 use Rattle.status_table.specs.Members.{holders, waiters}
-use Rattle.status_table.specs.Rank.{rank_of_run, rank_of_job, rank_of_leg, rank}
+use Rattle.status_table.proofs.Rank.{rank_of_run, rank_of_job, rank_of_leg, rank}
 use Rattle.status_table.specs.Stays.{LegStays, JobStays, RunStays, Stays}
 use Rattle.status_table.proofs.Counts.{one, sum-changed, sum-kept, sum-flat, map-get-kept, zip-changed-at, zip-changed-self, zip-left}
 use Rattle.status_table.proofs.Ended.{leg-stays, job-stays, run-stays, run-changed, SameJobs, same-jobs, needs-kept}

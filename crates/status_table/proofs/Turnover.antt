@@ -27,7 +27,7 @@ use Rattle.status_table.specs.Change.{with_leg, leg_changed}
 use Rattle.status_table.specs.Groups.{Standing, apart, holding, waiting, run_stands, leg_stands, run_standing, leg_standing, is_named, holds_name, waits_name, first_place, run_or_leg, first_member, holder, waiter, passed_on, cancelled, stopped}
 use Rattle.status_table.specs.Lawful.{leg_stands_right, JobFits, RunFits, MembersFit}
 use Rattle.status_table.specs.Members.{count_members, holders, waiters, is_waiting, share_name}
-use Rattle.status_table.specs.Rank.{run_rank, leg_rank}
+use Rattle.status_table.proofs.Rank.{run_rank, leg_rank}
 use Rattle.board_decisions.proofs.Lists.{and-left, and-right, and-both}
 use Rattle.status_table.proofs.Counts.{one, counted, first-none, first-some, map-some, zip-left, zip-weaker, all-weaker}
 use Rattle.status_table.proofs.Ended.{stays-same}

@@ -4,6 +4,7 @@ use Rattle.std.proofs.lemmas.Bool.Decides.{nat_tests}
 use Rattle.board_decisions.specs.Decisions.{is_called}
 use Rattle.board_decisions.specs.Place.{LegAt}
 use Rattle.flow_model.specs.declared.board.Board.{Board}
+use Rattle.flow_model.specs.declared.board.LegState.TheVariants as leg_state
 use Rattle.flow_model.specs.declared.event.Answer.{Answer}
 use Rattle.flow_model.specs.declared.event.Answer.TheVariants as answer
 use Rattle.flow_model.specs.declared.event.Entry.{Entry}
@@ -13,10 +14,10 @@ use Rattle.flow_model.specs.declared.reply.Reply.{Reply}
 use Rattle.flow_model.specs.declared.reply.StepCall.{StepCall}
 use Rattle.flow_model.specs.declared.reply.ValueFault.{ValueFault}
 use Rattle.status_table.specs.Answers.{AnswersEntry, Decides, Refuses}
-use Rattle.status_table.specs.Row.{Row, Beginning, calls, skips, faults, decided, begin_leg, calling_owner, ending, ending_by}
+use Rattle.status_table.specs.Row.{Row, Beginning, calls, skips, faults, decided, begin_leg, calling_owner, ending, ending_by, failed_step, leg_state_set, skipped_step, step_done}
 use Rattle.status_table.specs.Runs.{Plays, then_after}
 use Rattle.status_table.specs.Seen.{ended_step}
-use Rattle.status_table.specs.Unasked.{begins_by, begins_of, begins_called, begun_board, IsLeftOf, Leads, without_reply}
+use Rattle.status_table.specs.Unasked.{begins_by, begins_of, begins_called, IsLeftOf, Leads, without_reply}
 use Rattle.status_table.specs.declared.fault.EventFault.{EventFault}
 use Rattle.status_table.specs.declared.fault.EventFault.TheVariants as fault
 use Rattle.status_table.specs.declared.unasked.Begins.{Begins}
@@ -70,6 +71,12 @@ refused_unasked x fault.NotStopping h = ap begins_by h
 refused_unasked x fault.StepsLeft h = ap begins_by h
 refused_unasked x fault.BadAnswer h = ap begins_by h
 refused_unasked x fault.Memory h = tt
+
+-- the board after a step of a leg was begun by its worker
+abbrev pub begun_board : Board → ℕ → LegAt → Begins → Board
+begun_board b worker at begins.Calls = leg_state_set b at.place (leg_state.Running worker true)
+begun_board b worker at begins.Skips = step_done b at.place worker skipped_step
+begun_board b worker at begins.Faults = step_done b at.place worker (failed_step at)
 
 -- the board after a step was begun, if it was
 abbrev begun : Board → ℕ → LegAt → Result Begins EventFault → Option Board

@@ -12,7 +12,6 @@ pub mod Lawful
 pub mod Members
 pub mod Moves
 pub mod Play
-pub mod Rank
 pub mod Reversible
 pub mod Row
 pub mod Runs

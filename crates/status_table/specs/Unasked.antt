@@ -1,12 +1,10 @@
 -- Entries whose reply nobody asks for.
-use Rattle.std.specs.Prelude.{◌≡◌, ℕ, Bool, true, false, Some, Result, Ok, Err}
-use Rattle.board_decisions.specs.Place.{LegAt}
+use Rattle.std.specs.Prelude.{◌≡◌, Bool, true, false, Some, Result, Ok, Err}
 use Rattle.flow_model.specs.declared.board.Board.{Board}
-use Rattle.flow_model.specs.declared.board.LegState.TheVariants as leg_state
 use Rattle.flow_model.specs.declared.reply.Reply.{Reply}
 use Rattle.flow_model.specs.declared.reply.ValueFault.{ValueFault}
 use Rattle.status_table.specs.Answers.{Answers, Refuses}
-use Rattle.status_table.specs.Row.{Row, Beginning, calls, skips, faults, leg_state_set, step_done, skipped_step, failed_step}
+use Rattle.status_table.specs.Row.{Row, Beginning, calls, skips, faults}
 use Rattle.status_table.specs.Runs.{then_after}
 use Rattle.status_table.specs.declared.fault.EventFault.{EventFault}
 use Rattle.status_table.specs.declared.unasked.Begins.{Begins}
@@ -28,12 +26,6 @@ abbrev pub begins_called : Result Bool ValueFault → Begins
 begins_called (Ok true) = Calls
 begins_called (Ok false) = Skips
 begins_called (Err f) = Faults
-
--- the board after a step of a leg was begun by its worker
-abbrev pub begun_board : Board → ℕ → LegAt → Begins → Board
-begun_board b worker at Calls = leg_state_set b at.place (leg_state.Running worker true)
-begun_board b worker at Skips = step_done b at.place worker skipped_step
-begun_board b worker at Faults = step_done b at.place worker (failed_step at)
 
 -- What is done leads to the row's board, and what is refused is refused as the row is, and changes nothing.
 abbrev pub Leads : Row → Board → Result (Unit {0}) EventFault → Board → Type 0

@@ -1,5 +1,6 @@
 use Rattle.std.proofs.Common.{◌≡◌, ◌+◌, take}
-use Rattle.board_settled.specs.Alone.{ByAnswers, JobsAreSettled}
+use Rattle.board_settled.specs.Alone.{ByAnswers}
+use Rattle.board_settled.proofs.Runs.{JobsAreSettled}
 use Rattle.board_settled.proofs.Numbers.{before_job}
 use Rattle.board_settled.proofs.Played.{jobs_of}
 use Rattle.board_settled.proofs.run.is_run_settled.Given as goal

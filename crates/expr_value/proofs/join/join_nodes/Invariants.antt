@@ -1,6 +1,6 @@
 use Rattle.std.proofs.Common.{◌≡◌, Some, [], drop, true}
 use Rattle.expr_value.specs.Bounded.{grown}
-use Rattle.expr_value.specs.Joining.{items_text}
+use Rattle.expr_value.proofs.Joins.{items_text}
 use Rattle.flow_model.specs.Value.{views}
 use Rattle.expr_value.proofs.join.join_nodes.Given as goal
 

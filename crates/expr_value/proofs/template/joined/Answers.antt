@@ -2,8 +2,7 @@ use Rattle.std.proofs.Common.{rules, arith, ◌≡◌, ◌+◌, ◌∷◌, List,
 use Rattle.std.proofs.lemmas.Result.{err_from_is_err_and}
 use Rattle.expr_reader.specs.TemplateView.{piece_of}
 use Rattle.expr_reader.specs.declared.template.Piece.{Piece}
-use Rattle.expr_value.proofs.JoinedTexts.{fault_stands, joined_first, joined_step}
-use Rattle.expr_value.specs.Joined.{joined_onto}
+use Rattle.expr_value.proofs.JoinedTexts.{fault_stands, joined_first, joined_onto, joined_step}
 use Rattle.expr_value.specs.Template.{pieces_text}
 use Rattle.flow_model.proofs.Conversions.{drop-next}
 use Rattle.flow_model.specs.Value.{view}

@@ -1,6 +1,6 @@
 use Rattle.std.proofs.Common.{◌≡◌, Some, [], map, drop}
 use Rattle.expr_reader.specs.TemplateView.{piece_of}
-use Rattle.expr_value.specs.Joined.{joined_onto}
+use Rattle.expr_value.proofs.JoinedTexts.{joined_onto}
 use Rattle.expr_value.specs.Template.{pieces_text}
 use Rattle.expr_value.proofs.template.joined.Given as goal
 
