@@ -32,4 +32,4 @@ pub use standing::RunTally;
 pub use stopping::RunLegs;
 pub use tally::Tally;
 pub use tracked::Tracked;
-pub use undo::{Change, OnlyChange};
+pub use undo::{Change, Changes, OnlyChange};

@@ -1,35 +1,37 @@
 //! A plan in play with its counters, and what takes back what was changed since it last began.
 
-ghost use Rattle.std.specs.Prelude.{◌≡◌, ◌≤◌, ◌<◌, ◌+◌, ◌-◌, ◌++◌, ◌∷◌, [], None, IfOk, IfSome, OnOk, OnErr, vec_len, vec_capacity};
+ghost use Rattle.std.specs.Prelude.{◌≡◌, ◌≤◌, ◌+◌, ◌-◌, ◌++◌, ◌∷◌, [], None, IfOk, IfSome, OnOk, OnErr};
 ghost use Rattle.board_counters.specs.Changes as spec;
 ghost use Rattle.board_counters.specs.Undo.{only_before, undone};
 ghost use Rattle.flow_model.specs.declared.board.Board.{Board as BoardOf};
+ghost use Rattle.smallvec.specs.SmallVec.{HasRoomFor, small_vec_len};
 ghost use Rattle.status_table.specs.Change.{with_leg, with_run};
 ghost use Rattle.status_table.specs.Row as row;
 ghost use Rattle.status_table.specs.Seen.{leg_after};
 
 use crate::change::RunChange;
 use crate::counted::Counted;
-use crate::undo::{Change, LegBack, OnlyChange};
+use crate::undo::{Change, Changes, LegBack, OnlyChange};
 use board_decisions::place::{JobPlace, LegPlace};
 use flow_model::{CheckedPlan, DoneStep, JobState, LegState};
+use smallvec::SmallVec;
 use status_table::change::LegChange;
 use std::alloc::{AllocError, Global};
 use std::marker::Model;
 use std::mem;
 
 /// Keeps what takes a change back, where there is room for it.
-fn keep(changes: &mut Vec<Change>, change: Change)
-    requires { vec_len changes.old < vec_capacity changes.old }
+fn keep(changes: &mut Changes, change: Change)
+    requires { HasRoomFor changes.old 1 }
     ensures items { changes.new.items ≡ changes.old.items ++ change ∷ [] }
-    ensures room { vec_capacity changes.old - vec_len changes.old
-        ≤ (vec_capacity changes.new - vec_len changes.new) + 1 }
+    ensures room { changes.old.capacity - small_vec_len changes.old
+        ≤ (changes.new.capacity - small_vec_len changes.new) + 1 }
 {
-    changes.push(change).unwrap();
+    changes.push_reserved(change);
 }
 
 /// Takes changes back, the last one first. It takes no memory.
-fn take_all_back(counted: &mut Counted, alloc: Global, changes: Vec<Change>)
+fn take_all_back(counted: &mut Counted, alloc: Global, changes: Changes)
     ensures plan { counted.new.plan ≡ counted.old.plan }
     ensures board { counted.new.board ≡ undone changes.items counted.old.board }
 {
@@ -66,11 +68,12 @@ fn only_of(changes: &[Change]) -> Option<OnlyChange>
 #[derive(Drop)]
 pub struct Tracked {
     counted: Counted,
-    changes: Vec<Change>,
+    changes: Changes,
 }
 
 impl Model for Tracked {
-    ghost use Rattle.std.specs.Prelude.{◌-◌, vec_len, vec_capacity};
+    ghost use Rattle.std.specs.Prelude.{◌-◌};
+    ghost use Rattle.smallvec.specs.SmallVec.{small_vec_len};
     ghost use Rattle.std.specs.Coded.{codes};
     ghost use Rattle.board_counters.specs.Track.{Track};
     ghost use Rattle.flow_model.specs.Plain.{coded_plain};
@@ -85,7 +88,7 @@ impl Model for Tracked {
       plan = t.counted.plan;
       board = t.counted.board;
       back = undone t.changes.items t.counted.board;
-      room = vec_capacity t.changes - vec_len t.changes;
+      room = t.changes.capacity - small_vec_len t.changes;
     } };
 }
 
@@ -101,7 +104,7 @@ impl Tracked {
         ensures { IfOk result (λ made. play_of made ≡ new_play plan) }
     {
         let counted = Counted::new(alloc, plan)?;
-        let changes = Vec::new(alloc);
+        let changes = SmallVec::new(alloc);
         Ok(Tracked { counted, changes })
     }
 
@@ -127,12 +130,12 @@ impl Tracked {
     }
 
     /// What takes back all changes since it began, and it begins anew. It takes no memory.
-    pub fn take_changes(&mut self, alloc: Global) -> Vec<Change>
+    pub fn take_changes(&mut self, alloc: Global) -> Changes
         ensures plan { self.new.plan ≡ self.old.plan }
         ensures board { self.new.board ≡ self.old.board }
         ensures back { undone result.items self.new.board ≡ self.old.back }
     {
-        mem::replace(&mut self.changes, Vec::new(alloc))
+        mem::replace(&mut self.changes, SmallVec::new(alloc))
     }
 
     /// What takes back the only change since it began, where that is a leg's state or a step that is done; it begins
@@ -162,7 +165,7 @@ impl Tracked {
     }
 
     /// Takes changes back, the last one first. It takes no memory.
-    pub fn revert(&mut self, alloc: Global, changes: Vec<Change>)
+    pub fn revert(&mut self, alloc: Global, changes: Changes)
         ensures plan { self.new.plan ≡ self.old.plan }
         ensures board { self.new.board ≡ undone changes.items self.old.board }
     {

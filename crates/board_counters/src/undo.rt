@@ -5,6 +5,7 @@ ghost use Rattle.board_counters.specs.Names.{Names, leg_group, run_group};
 use crate::change::RunChange;
 use board_decisions::place::{JobPlace, LegPlace};
 use flow_model::{JobState, LegState};
+use smallvec::SmallVec;
 use status_table::change::LegChange;
 
 /// What puts the leg at a place back.
@@ -46,3 +47,13 @@ pub enum Change {
     /// The last of the ends is taken off.
     End,
 }
+
+impl Default for Change {
+    /// What stands where there is room for a change.
+    fn default() -> Change {
+        Change::End
+    }
+}
+
+/// What takes the changes of one entry back, the last of them first. As many as an entry makes have room in place.
+pub type Changes = SmallVec<Change, 4>;

@@ -1,4 +1,4 @@
-use Rattle.std.proofs.Common.{◌≡◌}
+use Rattle.std.proofs.Common.{◌≡◌, length}
 use Rattle.board_counters.specs.Undo.{undone}
 use Rattle.board_counters.proofs.tracked.take_all_back.Given as goal
 
@@ -10,4 +10,4 @@ invariant-loop-change l = record {
 }
 
 abbrev pub decreases-loop-change : goal.decreases-loop-change
-decreases-loop-change l = goal.left-loop-change l
+decreases-loop-change l = length l.left.items
