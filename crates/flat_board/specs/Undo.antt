@@ -19,8 +19,8 @@ use Rattle.status_table.specs.InPlay.{InPlay}
 abbrev pub board_before : Undo → Board → Board
 board_before (takes.State place state) b = only_before (only_change.State place state) b
 board_before (takes.Step place state) b = only_before (only_change.Step place state) b
-board_before (takes.Changes changes) b = undone changes.items b
-board_before (takes.Asked changes cell) b = undone changes.items b
+board_before (takes.Changes changes) b = undone changes.value.items b
+board_before (takes.Asked changes cell) b = undone changes.value.items b
 
 -- what was held before it of the name that it asked for, if it asked for one
 abbrev pub cell_of : Undo → Option CellBack

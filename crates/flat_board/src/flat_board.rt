@@ -22,9 +22,9 @@ use crate::groups::{holder, leg_stand, next_after, run_stand, waiter};
 use crate::laws::{events_keep_the_groups, who_enters_is_outside};
 use crate::moves::{find_first, find_moves};
 use crate::touched::{Touch, held_before, name_at, touched};
-use crate::unasked::{begin_unasked, end_unasked, undo_apart};
+use crate::unasked::{begin_unasked, end_unasked, filled, undo_apart};
 use crate::undo::{CellBack, Stood, Undo};
-use board_counters::{Counted, OnlyChange, Tracked};
+use board_counters::{Changes, Counted, OnlyChange, Tracked};
 use flow_model::{Board, CheckedPlan, Duplicate, Entry, Event, Leg, Member, Reply, Run, Sequence};
 use group_admission::Groups;
 use status_table::{EventFault, Reversible, Table};
@@ -220,13 +220,13 @@ fn advance_event(
 }
 
 /// What takes back what was played since the board last began, with what was held of the name that was asked for.
-fn undo_with(alloc: Global, state: &mut Tracked, cell: Box<CellBack>) -> Undo
+fn undo_with(alloc: Global, state: &mut Tracked, list: Box<Changes>, cell: Box<CellBack>) -> Undo
     ensures plan { state.new.plan ≡ state.old.plan }
     ensures board { state.new.board ≡ state.old.board }
     ensures back { board_before result state.new.board ≡ state.old.back }
     ensures cell { cell_of result ≡ Some cell.value }
 {
-    Undo::Asked(state.take_changes(alloc), cell)
+    Undo::Asked(filled(alloc, state, list), cell)
 }
 
 /// Plays an event that asks for no name, and gives what takes it back.
@@ -244,8 +244,9 @@ fn play_apart(
     ensures back { IfOk result (λ both. board_before both.1 state.new.board ≡ state.old.board) }
     ensures cell { IfOk result (λ both. cell_of both.1 ≡ None) }
 {
+    let list = Box::new(alloc, Changes::new(alloc))?;
     let reply = play_event(alloc, state, groups, worker, event)?;
-    Ok((reply, undo_apart(alloc, state)))
+    Ok((reply, undo_apart(alloc, state, list)))
 }
 
 /// Plays an event by which one leaves its group, and gives what takes it back.
@@ -263,9 +264,10 @@ fn play_leaving(
     ensures back { IfOk result (λ both. board_before both.1 state.new.board ≡ state.old.board) }
     ensures cell { IfOk result (λ both. cell_of both.1 ≡ Some cell) }
 {
+    let list = Box::new(alloc, Changes::new(alloc))?;
     let cell = Box::new(alloc, cell)?;
     let reply = play_event(alloc, state, groups, entry.worker, entry.event)?;
-    Ok((reply, undo_with(alloc, state, cell)))
+    Ok((reply, undo_with(alloc, state, list, cell)))
 }
 
 /// A member that enters its group, and where it stands on the board.
@@ -297,11 +299,12 @@ fn play_entering(
         who: stood,
         held: None,
     };
+    let list = Box::new(alloc, Changes::new(alloc))?;
     let mut cell = Box::new(alloc, nothing)?;
     let reply = play_event(alloc, state, groups, entry.worker, entry.event)?;
     let board = state.counted().board();
     cell.held = held_before(groups, board, stood, member, reply.displaced);
-    Ok((reply, undo_with(alloc, state, cell)))
+    Ok((reply, undo_with(alloc, state, list, cell)))
 }
 
 /// Plays an event, and gives what takes it back.
@@ -394,8 +397,8 @@ fn take_back(alloc: Global, state: &mut Tracked, undo: Undo)
         Undo::Step(place, leg_state) => {
             state.revert_only(alloc, OnlyChange::Step(place, leg_state));
         },
-        Undo::Changes(changes) => state.revert(alloc, changes),
-        Undo::Asked(changes, _) => state.revert(alloc, changes),
+        Undo::Changes(changes) => state.revert(alloc, Box::into_inner(changes)),
+        Undo::Asked(changes, _) => state.revert(alloc, Box::into_inner(changes)),
     }
 }
 

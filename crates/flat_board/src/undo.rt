@@ -5,7 +5,7 @@ use board_decisions::place::LegPlace;
 use flow_model::LegState;
 use group_admission::Held;
 
-const _: () = prove!(size_of::<Undo>() == 320);
+const _: () = prove!(size_of::<Undo>() == 40);
 
 /// Where a run or a leg stands on a board.
 #[derive(Clone, Copy)]
@@ -32,7 +32,7 @@ pub enum Undo {
     /// The last step of a leg is taken off, and the leg comes into a state. This has none either.
     Step(LegPlace, LegState),
     /// The changes of the board, of which the last is taken back first.
-    Changes(Changes),
+    Changes(Box<Changes>),
     /// The changes of the board, and what was held of the name that the entry asked for.
-    Asked(Changes, Box<CellBack>),
+    Asked(Box<Changes>, Box<CellBack>),
 }
