@@ -27,7 +27,7 @@ pub struct Run {
 }
 
 /// The states of a run.
-#[derive(Clone, Copy)]
+#[derive(Clone, Copy, PartialEq, Eq)]
 pub enum RunState {
     New,
     Waiting,
@@ -43,7 +43,7 @@ pub struct Job {
 }
 
 /// The states of a job.
-#[derive(Clone, Copy)]
+#[derive(Clone, Copy, PartialEq, Eq)]
 pub enum JobState {
     Unjudged,
     Open,
@@ -65,7 +65,7 @@ pub struct Leg {
 }
 
 /// The states of a leg.
-#[derive(Clone, Copy)]
+#[derive(Clone, Copy, PartialEq, Eq)]
 pub enum LegState {
     Fresh,
     Waiting,
