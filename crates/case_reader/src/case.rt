@@ -95,20 +95,36 @@ fn add_named(text: &mut Vec<u8>, texts: &Files, name: &str) -> Result<(), AllocE
     }
 }
 
-/// Adds a part so many times.
-fn add_times(text: &mut Vec<u8>, part: &[u8], count: &str) -> Result<(), AllocError> {
-    for _ in 0..count.parse::<u32>().unwrap_or(0) {
+/// Adds a part so many times, one by one.
+fn add_each(text: &mut Vec<u8>, part: &[u8], count: u32) -> Result<(), AllocError> {
+    for _ in 0..count {
         text.extend_from_slice(part)?;
     }
     Ok(())
 }
 
+/// Adds a part so many times: if they are many in blocks, since an unproved program takes its time for each call.
+fn add_times(
+    alloc: Global,
+    text: &mut Vec<u8>,
+    part: &[u8],
+    count: &str,
+) -> Result<(), AllocError> {
+    let count = count.parse::<u32>().unwrap_or(0);
+    if count < 1024 {
+        return add_each(text, part, count);
+    }
+    let block = part.repeat(alloc, 1024)?;
+    add_each(text, block.as_slice(), count / 1024)?;
+    add_each(text, part, count % 1024)
+}
+
 /// Adds the bytes that hexadecimal words name, each as often as stands behind its star.
-fn add_bytes(text: &mut Vec<u8>, line: &str) -> Result<(), AllocError> {
+fn add_bytes(alloc: Global, text: &mut Vec<u8>, line: &str) -> Result<(), AllocError> {
     for word in line.split_whitespace() {
         let (byte, count) = word.split_once('*').unwrap_or((word, "1"));
         let byte = u8::from_str_radix(byte, 16).unwrap_or(b'?');
-        add_times(text, &[byte], count)?;
+        add_times(alloc, text, &[byte], count)?;
     }
     Ok(())
 }
@@ -326,9 +342,9 @@ impl Case {
             "&" => add_named(&mut self.text, &self.texts, text),
             "*" => {
                 let (count, part) = parted(text);
-                add_times(&mut self.text, part.as_bytes(), count)
+                add_times(alloc, &mut self.text, part.as_bytes(), count)
             },
-            "@" => add_bytes(&mut self.text, text),
+            "@" => add_bytes(alloc, &mut self.text, text),
             "-" => self.cut(text),
             "~" => self.take_named(alloc, text),
             "\\" => {
