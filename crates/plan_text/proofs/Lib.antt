@@ -1,4 +1,5 @@
 mod BoardLaws
+pub mod ChangeLemmas
 mod LoadLemmas
 mod Numerals
 mod OneLine

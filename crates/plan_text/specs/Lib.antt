@@ -1,5 +1,6 @@
 pub mod BoardNumbers
 pub mod BoardText
+pub mod Changes
 pub mod Fault
 pub mod Lines
 pub mod Load

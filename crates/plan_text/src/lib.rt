@@ -11,6 +11,7 @@
 
 mod board;
 mod brief;
+mod changes;
 mod digits;
 mod entry;
 mod fault;
@@ -24,6 +25,7 @@ mod tree;
 
 pub use board::board_text;
 pub use brief::Printed;
+pub use changes::add_changes;
 pub use entry::{print_entry, read_entry};
 pub use fault::LoadFault;
 pub use plan::{load_plan, print_plan};
