@@ -2,6 +2,7 @@
 -- as it was, and so tells it of all but what the notes say.
 use Rattle.std.specs.Prelude.{ℕ, suc, ◌+◌, ◌-◌, ◌++◌, ◌==◌, ◌&&◌, Bool, true, false, not, List, [], ◌∷◌, length, map, Option, Some, None, slice_get, if◌then◌else◌}
 use Rattle.board_decisions.specs.Contexts.{first_number}
+use Rattle.board_decisions.specs.Decisions.{is_stopping}
 use Rattle.board_decisions.specs.Derived.{has_failed, holds_at, is_cancelled, is_ended, is_failure, is_full, is_going, is_open, is_under_way, job_has_ended, job_result, legs_result, was_cancelled}
 use Rattle.board_decisions.specs.Place.{RunAt, JobAt, LegAt, run_at, job_at, leg_at}
 use Rattle.why_causes.specs.declared.question.Question.{Question}
@@ -9,6 +10,7 @@ use Rattle.why_causes.specs.declared.question.Question.TheVariants as question
 use Rattle.why_causes.specs.declared.sought.Sought.{Sought}
 use Rattle.why_causes.specs.declared.sought.Sought.TheVariants as sought
 use Rattle.why_facts.specs.Ancestors.{first_unsuccessful}
+use Rattle.why_facts.specs.Stops.{cause_of_stop}
 use Rattle.why_facts.specs.declared.fact.JobFact.{JobFact}
 use Rattle.why_facts.specs.declared.fact.JobFact.TheVariants as job_fact
 use Rattle.why_facts.specs.declared.fact.MemberFact.{MemberFact}
@@ -205,12 +207,21 @@ job_asked a j (Some at) = job_state_asked at (slice_get a.notes.jobs j) at.job.s
 
 -- ---- a leg
 
--- of a leg that has not asked: its job, where that is not open, or the legs that take all its slots
+-- why a leg is to stop, where it is
+abbrev pub stopping_asked : ℕ → LegAt → List Question
+stopping_asked l at = if is_stopping at then cause_asked at.place.run l (cause_of_stop l at) else []
+
+-- the legs that take all the slots of a leg's job, where they do
+abbrev pub slots_asked : ℕ → LegAt → List Question
+slots_asked l at =
+    if is_full at.job_plan at.job
+    then asked question.Leg (l - at.place.leg) (leg_sought sought.UnderWay) at.job.legs else []
+
+-- of a leg that has not asked: its job, where that is not open; else why it will be dropped, and the legs that take all slots
 abbrev pub fresh_asked : ℕ → LegAt → List Question
 fresh_asked l at =
     if not (is_going at.run.state && is_open at.job.state) then question.Job at.job_plan.number ∷ []
-    else (if is_full at.job_plan at.job
-    then asked question.Leg (l - at.place.leg) (leg_sought sought.UnderWay) at.job.legs else [])
+    else stopping_asked l at ++ slots_asked l at
 
 -- a leg is in the call of a step
 abbrev pub is_in_call : LegState → Bool
@@ -223,6 +234,10 @@ is_in_call (leg_state.Ended result tolerated) = false
 -- the step that is called, if one is
 abbrev pub call_asked : ℕ → Leg → List Question
 call_asked l leg = if is_in_call leg.state then question.Step l (length leg.steps) ∷ [] else []
+
+-- of a leg that runs: the step that is called, and that the leg was told to stop
+abbrev pub taken_asked : ℕ → Leg → List Question
+taken_asked l leg = call_asked l leg ++ stop_asked (member.Leg l) leg.stop
 
 -- the step at a place is in its call
 abbrev pub is_called : ℕ → Leg → Bool
@@ -244,7 +259,9 @@ finished_asked l at result = if is_failure result then failure_asked l at.leg.st
 -- by what became of the leg last
 abbrev pub leg_fact_asked : ℕ → LegAt → MemberFact → List Question
 leg_fact_asked l at (member_fact.Waits holds) = about holds ∷ stop_asked (member.Leg l) at.leg.stop
-leg_fact_asked l at member_fact.Taken = call_asked l at.leg
+leg_fact_asked l at member_fact.Admitted = stop_asked (member.Leg l) at.leg.stop
+leg_fact_asked l at (member_fact.Follows before) = stop_asked (member.Leg l) at.leg.stop
+leg_fact_asked l at member_fact.Taken = taken_asked l at.leg
 leg_fact_asked l at (member_fact.Finished result) = finished_asked l at result
 leg_fact_asked l at (member_fact.Stopped cause) = cause_asked at.place.run l cause
 leg_fact_asked l at _ = []

@@ -13,6 +13,7 @@ ghost use Rattle.why_notes.specs.Account.{account_seen};
 use crate::numbers::next_number;
 use crate::question::{Question, about};
 use crate::sought::{Sought, job_sought, leg_sought, opened_sought};
+use board_decisions::decisions::is_stopping;
 use board_decisions::derived::{is_full, job_has_ended};
 use board_decisions::place::{SeenJob, SeenLeg, SeenRun, find_job, find_leg, find_run, item_at};
 use flow_model::{DoneStep, JobPlan, JobState, Leg, LegState, Member, Outcome, Run, RunState};
@@ -21,6 +22,7 @@ use why_facts::ancestors;
 use why_facts::fact::{JobFact, MemberFact, StepFact, StopCause};
 use why_facts::failures::first_failure;
 use why_facts::notes::{JobNote, JobNotes, LegNotes, MemberNote, RunNotes, StepNote};
+use why_facts::stopping::cause_of_stop;
 use why_notes::account::SeenAccount;
 
 /// Adds a question.
@@ -357,19 +359,49 @@ fn is_in_open_job(at: &SeenLeg) -> bool
     )
 }
 
+/// Adds why a leg is to stop, where it is.
+fn add_stopping(
+    alloc: Global,
+    out: &mut Vec<Question>,
+    number: u64,
+    at: &SeenLeg,
+) -> Result<(), AllocError>
+    ensures { OnOk result
+        (Adds out.old.items out.new.items (spec.stopping_asked number (leg_seen at.now))) }
+{
+    if is_stopping(alloc, at)? {
+        return add_cause(out, at.place.run as u64, number, cause_of_stop(number, at));
+    }
+    Ok(())
+}
+
+/// Adds the legs that take all the slots of a leg's job, where they do.
+fn add_slots(out: &mut Vec<Question>, number: u64, at: &SeenLeg) -> Result<(), AllocError>
+    ensures { OnOk result
+        (Adds out.old.items out.new.items (spec.slots_asked number (leg_seen at.now))) }
+{
+    if is_full(at.job_plan, at.job) {
+        let first = number.saturating_sub(at.place.leg as u64);
+        return add_legs(out, first, Sought::UnderWay, at.job.legs.as_slice());
+    }
+    Ok(())
+}
+
 /// Adds why a leg has not asked.
-fn add_fresh(out: &mut Vec<Question>, number: u64, at: &SeenLeg) -> Result<(), AllocError>
+fn add_fresh(
+    alloc: Global,
+    out: &mut Vec<Question>,
+    number: u64,
+    at: &SeenLeg,
+) -> Result<(), AllocError>
     ensures { OnOk result
         (Adds out.old.items out.new.items (spec.fresh_asked number (leg_seen at.now))) }
 {
     if !is_in_open_job(at) {
         return add(out, Question::Job(at.job_plan.number));
     }
-    if is_full(at.job_plan, at.job) {
-        let first = number.saturating_sub(at.place.leg as u64);
-        return add_legs(out, first, Sought::UnderWay, at.job.legs.as_slice());
-    }
-    Ok(())
+    add_stopping(alloc, out, number, at)?;
+    add_slots(out, number, at)
 }
 
 /// Adds the first step that counts as a failure, if there is one.
@@ -416,6 +448,14 @@ fn add_call(out: &mut Vec<Question>, leg: u64, at: &Leg) -> Result<(), AllocErro
     Ok(())
 }
 
+/// Adds the step that a running leg calls, and who told the leg to stop, where it was told to.
+fn add_taken(out: &mut Vec<Question>, leg: u64, at: &Leg) -> Result<(), AllocError>
+    ensures { OnOk result (Adds out.old.items out.new.items (spec.taken_asked leg at.now)) }
+{
+    add_call(out, leg, at)?;
+    add_stop(out, Member::Leg(leg), at.stop)
+}
+
 /// Adds what made a leg so, by what became of it last.
 fn add_leg_fact(
     out: &mut Vec<Question>,
@@ -428,12 +468,12 @@ fn add_leg_fact(
 {
     match fact {
         MemberFact::Waits(holds) => add_waits(out, holds, Member::Leg(number), at.leg.stop),
-        MemberFact::Taken => add_call(out, number, at.leg),
+        MemberFact::Admitted => add_stop(out, Member::Leg(number), at.leg.stop),
+        MemberFact::Follows(_) => add_stop(out, Member::Leg(number), at.leg.stop),
+        MemberFact::Taken => add_taken(out, number, at.leg),
         MemberFact::Finished(how) => add_finished(out, number, at, how),
         MemberFact::Stopped(cause) => add_cause(out, at.place.run as u64, number, cause),
-        MemberFact::Admitted
-        | MemberFact::Follows(_)
-        | MemberFact::Displaced(_)
+        MemberFact::Displaced(_)
         | MemberFact::OwnRun
         | MemberFact::NoGroup(_)
         | MemberFact::Closed(_) => Ok(()),
@@ -450,7 +490,12 @@ pub fn leg_last(notes: Option<&LegNotes>) -> Option<MemberNote>
     }
 }
 
-fn add_leg(out: &mut Vec<Question>, account: &SeenAccount, number: u64) -> Result<(), AllocError>
+fn add_leg(
+    alloc: Global,
+    out: &mut Vec<Question>,
+    account: &SeenAccount,
+    number: u64,
+) -> Result<(), AllocError>
     ensures { OnOk result (Adds out.old.items out.new.items
         (spec.leg_asked (account_seen account.now) number
         (leg_at account.now.plan.now account.now.board.now number))) }
@@ -460,7 +505,7 @@ fn add_leg(out: &mut Vec<Question>, account: &SeenAccount, number: u64) -> Resul
     };
     match leg_last(item_at(&account.notes.legs, number as usize)) {
         Some(note) => add_leg_fact(out, number, &at, note.fact),
-        None => add_fresh(out, number, &at),
+        None => add_fresh(alloc, out, number, &at),
     }
 }
 
@@ -541,7 +586,7 @@ pub(crate) fn add_causes(
     match question {
         Question::Run(number) => add_run(out, account, number),
         Question::Job(number) => add_job(alloc, out, account, number),
-        Question::Leg(number) => add_leg(out, account, number),
+        Question::Leg(number) => add_leg(alloc, out, account, number),
         Question::Step { leg, step } => add_step(out, account, leg, step),
         Question::Stop(_) => Ok(()),
     }
