@@ -1,6 +1,6 @@
 //! `actrun replay`: the board after a record, which is played again.
 
-ghost use Rattle.std.specs.Prelude.{◌≡◌, ◌++◌, OnOk, string_bytes};
+ghost use Rattle.std.specs.Prelude.{◌≡◌, ◌++◌, Ok, Err, IfErr, IfOk, OnOk, string_bytes};
 ghost use Rattle.command_io.specs.Records.{GivesPlay, GivesPrinted};
 ghost use Rattle.command_print.specs.Replay.{GivesBoard, GivesBoth, GivesBothOf, GivesSettled, ReplayTells, SettledTells, ShowsReplay, ShowsSettled, settled_line};
 
@@ -53,6 +53,20 @@ fn checked(alloc: Global, plan: &CheckedPlan, entries: &[Entry]) -> Result<bool,
     }
 }
 
+/// A plan in play with what was found of it, or why nothing was; the plan is let go then.
+fn with_found(
+    play: FlatBoard,
+    found: Result<bool, CommandError>,
+) -> Result<(FlatBoard, bool), CommandError>
+    ensures ok { IfOk result (λ both. (both.0 ≡ play) × (found ≡ Ok both.1)) }
+    ensures err { IfErr result (λ error. found ≡ Err error) }
+{
+    match found {
+        Ok(yes) => Ok((play, yes)),
+        Err(error) => Err(error),
+    }
+}
+
 /// The plan in play after entries, and whether its board is all of what is settled.
 fn played_and_checked(
     alloc: Global,
@@ -62,8 +76,7 @@ fn played_and_checked(
     ensures { GivesBoth plan.now entries.now result }
 {
     let play = played(alloc, plan.copy(alloc)?, entries)?;
-    let yes = checked(alloc, plan, entries)?;
-    Ok((play, yes))
+    with_found(play, checked(alloc, plan, entries))
 }
 
 /// The plan of a record in play after its entries, and whether its board is all of what is settled.

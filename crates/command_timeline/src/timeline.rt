@@ -2,6 +2,7 @@
 
 ghost use Rattle.std.specs.Prelude.{◌≡◌, ◌+◌, IfOk};
 ghost use Rattle.command_io.specs.Records.{GivesPrinted};
+ghost use Rattle.command_io.specs.Runs.{runs_status as board_status};
 ghost use Rattle.command_timeline.specs.Timeline as spec;
 ghost use Rattle.command_timeline.specs.Timeline.{GivesDrawn, GivesNoted, ShowsTimeline, TimelineTells};
 
@@ -46,6 +47,13 @@ fn timeline_text(
     picture(alloc, sheet.width, sheet.height, sheet.shapes.as_slice())
 }
 
+/// The status that tells how the runs of a board ended. The board is let go.
+fn left_status(board: FlatBoard) -> u8
+    ensures { result ≡ board_status board.board }
+{
+    runs_status(board.board())
+}
+
 /// The picture of a plan and entries, and the status of the board after them.
 fn drawn(
     alloc: Global,
@@ -55,9 +63,10 @@ fn drawn(
     ensures { GivesDrawn plan.now entries.now result }
 {
     let (board, track) = noted(alloc, plan, entries)?;
+    let status = left_status(board);
     let lines = entries.len() as u64 + 1;
     let text = timeline_text(alloc, plan.plan(), &track, lines)?;
-    Ok((text, runs_status(board.board())))
+    Ok((text, status))
 }
 
 /// The picture of a text, and the status that goes with it.
