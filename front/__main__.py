@@ -4,6 +4,7 @@ Where the running Python has no `ruamel.yaml`, the system's Python takes over.
 """
 import importlib
 import os
+import signal
 import sys
 
 SYSTEM_PYTHON = "/usr/bin/python3"
@@ -25,6 +26,8 @@ def main(arguments):
         os.environ["ACTRUN_SYSTEM_PYTHON"] = "1"
         os.execv(SYSTEM_PYTHON, [SYSTEM_PYTHON, os.path.dirname(os.path.abspath(__file__)), *arguments])
     os.environ.pop("ACTRUN_SYSTEM_PYTHON", None)
+    # (a parent may ignore it; then no command would be told how the programs that it starts end)
+    signal.signal(signal.SIGCHLD, signal.SIG_DFL)
     module = importlib.import_module("actrun_front." + COMMANDS[arguments[0]])
     return module.main(arguments[1:])
 

@@ -53,10 +53,18 @@ start_front() {
   exec python3 "$top/front" "$@"
 }
 
+# sets `starter` to the words before those of a command. `run` has to be told how its steps end, also where the parent of this
+# script ignores that signal.
+choose_starter() {
+  starter=()
+  [ "$1" != run ] || ! env --default-signal=CHLD true 2>/dev/null || starter=(env --default-signal=CHLD)
+}
+
 # starts the program; on a terminal the front explains what it refuses
 start_program() {
+  choose_starter "${1-}"
   if [ -t 2 ] && has_front; then explain_program "$@"; fi
-  exec "$program" "$@"
+  exec "${starter[@]}" "$program" "$@"
 }
 
 # starts the program, shows its standard error as it comes, and has the front explain an error after it
@@ -66,7 +74,7 @@ explain_program() {
   # shellcheck disable=SC2064
   trap "rm -rf ${room@Q}" EXIT
   {
-    "$program" "$@" 2>&1 >&3 3>&- | tee -i -- "$room/err" >&2 3>&-
+    "${starter[@]}" "$program" "$@" 2>&1 >&3 3>&- | tee -i -- "$room/err" >&2 3>&-
     status=${PIPESTATUS[0]}
   } 3>&1
   case $status in
