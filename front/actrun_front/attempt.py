@@ -1,6 +1,7 @@
 """`actrun try`: from a repository to executed workflows and a reason for each thing that did not succeed."""
 from __future__ import annotations
 
+import concurrent.futures
 import errno
 import json
 import os
@@ -9,9 +10,9 @@ import shlex
 import sys
 import time
 from pathlib import Path
-from typing import Any, Iterable
+from typing import Any, Dict, Iterable
 
-from . import Problem, options as words, report, tree as rooms
+from . import Problem, options as words, tree as rooms
 from .actions import StubError, Stubs, after_play, stubs_for
 from .contexts import Play, read_payload
 from .environment import HOME, SUDO, SUDO_OF_ROOT, marker, sandbox_words, settle, variables, why_no_sandbox, write_prelude
@@ -21,6 +22,8 @@ from .planning import Flow, job_rows, make_plan, of_event, read_flows, workflow_
 from .present import Board, Screen, legs_of, mask, one_line, placed, summaries, table, tree
 from .tree import find_project, find_top, git, read_facts
 
+Future = concurrent.futures.Future
+Answers = Dict[str, Future]  # by the command that was asked
 FRONT = Path(__file__).resolve().parent.parent
 INTERRUPTED = 130
 PYTHON = "/usr/bin/python3" if os.access("/usr/bin/python3", os.X_OK) else sys.executable  # (the sandbox shows the system's)
@@ -191,8 +194,20 @@ class Trial:
         return sandbox_words(self.room, readable, [*in_place, self.cache, self.record], bool(self.options.offline))
 
     def show_result(self, results: dict[int, str]) -> None:
-        """Shows summaries, results, reasons and places."""
-        screen, known = self.screen, self.record.stat().st_size > 0
+        """Shows summaries, results, reasons and places; what is asked of the record is asked side by side."""
+        from . import report  # (here, as it takes longer than the rest together, and no step waits for it)
+        with concurrent.futures.ThreadPoolExecutor() as pool:
+            known = self.record.stat().st_size > 0
+            asked = {command: pool.submit(ask, command, self.record) for command in ("why", "timeline", "graph") if known}
+            page = pool.submit(report.beside, self.record, self.room.play, asked) if known else None
+            self.show_runs(results, asked)
+            self.screen.say("")
+            for line in self.places(asked, page):
+                self.screen.say(line, "note")
+
+    def show_runs(self, results: dict[int, str], asked: Answers) -> None:
+        """Shows summaries, and the result of each run with what did not succeed, and why."""
+        screen = self.screen
         for title, text in summaries(self.room.play / "files", self.secrets, self.board):
             screen.section(title)
             screen.say(text)
@@ -203,7 +218,7 @@ class Trial:
             screen.result(result, f"{title}: ", sys.stdout, result)
             for job, system in flow.lowered.foreign:
                 screen.say(f"  {job} is for {system}: nothing of it was executed (--any-system executes it here)", "skipped")
-        for line in placed(mask(ask("why", self.record).stdout, self.secrets).splitlines(), self.legs, self.place) if known else \
+        for line in placed(mask(asked["why"].result().stdout, self.secrets).splitlines(), self.legs, self.place) if asked else \
                 self.board.without_record():
             screen.say(f"  {line}")
         for text in filter(None, (explain(line, "run", ["--work", str(self.room.folder)]) for line in self.board.errors)):
@@ -212,27 +227,23 @@ class Trial:
         if self.own_trees and self.options.keep is None:
             for folder in (folder for job in done for folder in (self.room.play / "legs").glob(f"{job}-*")):
                 rooms.remove(folder)
-        screen.say("")
-        for line in self.places(known):
-            screen.say(line, "note")
 
     def place(self, run: int, job: str, step: int | None) -> str:
         """File and line of a job or a step."""
         line = self.flows[run].lowered.lines.get(("jobs", job) if step is None else ("jobs", job, "steps", step))
         return f"{self.flows[run].name}:{line}" if line else ""
 
-    def places(self, known: bool) -> Iterable[str]:
+    def places(self, asked: Answers, page: Future | None) -> Iterable[str]:
         """Where the record, the logs, the trees and the diagrams are."""
         private, play = self.room.private, self.room.play
         yield f"logs      {play}/step-LEG-STEP.log"
         trees = sorted((play / "legs").glob("*")) if self.own_trees else [self.play.workspace]
         if trees:
             yield f"tree      {trees[0] if len(trees) == 1 else play / 'legs' / 'JOB-INDEX' / self.room.name}"
-        if known:
+        if page:
             yield f"record    {self.record}"
             for name, command in (("timeline.svg", "timeline"), ("graph.dot", "graph")):
-                write_private(private / name, ask(command, self.record).stdout)
+                write_private(private / name, asked[command].result().stdout)
                 yield f"{command:<9} {private / name}"
-            page = report.beside(self.record, play)
-            if page:
-                yield f"report    {page}"
+            if page.result():
+                yield f"report    {page.result()}"

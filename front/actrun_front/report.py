@@ -14,7 +14,7 @@ from typing import Any
 from . import Problem
 from .dap_logs import plan_masks
 from .dap_record import Record
-from .report_data import CONTROL, Boards, Reasons, job_results, read_logs, read_times
+from .report_data import CONTROL, Boards, Reasons, answer, job_results, read_logs, read_times
 
 HERE = pathlib.Path(__file__).resolve().parent
 ANSWERS = {"not-started": "not started", "bad-output": "bad output"}
@@ -40,8 +40,8 @@ def digest(text: str) -> str:
 
 
 def shown(program: str, path: pathlib.Path, logs: pathlib.Path | None = None, times: pathlib.Path | None = None,
-          around: int | None = None, seconds: float = 60) -> dict[str, Any]:
-    """What the page's script reads."""
+          around: int | None = None, seconds: float = 60, asked: dict[str, Any] | None = None) -> dict[str, Any]:
+    """What the page's script reads. `asked` has what `why` and `timeline` are answering; then nothing is asked of what succeeded."""
     record = read_record(program, path)
     masks = plan_masks(record.plan)
     clock = read_times(times, record.last) if times else None
@@ -50,15 +50,16 @@ def shown(program: str, path: pathlib.Path, logs: pathlib.Path | None = None, ti
     boards = Boards(program, path, masks, around, seconds)
     if boards.total != record.last:
         raise Problem(f"{path}: the record changed while it was read; write the report again")
+    why, chart = (asked[command].result().stdout if asked else answer(seconds, program, command, path) for command in ("why", "timeline"))
     states, reasons = last_states(boards), Reasons(program, path)
     good = [words for words, state in states.items() if state.endswith(("success", "open"))]
-    reasons.read(sorted(states.keys() - set(good), reverse=True), good, seconds)
+    reasons.read(why, sorted(states.keys() - set(good), reverse=True), good if not asked else [], seconds)
     failed = {"-".join(words.split()[1:]) for words, state in states.items() if state == "failure"}
     hide = masks.hide
     return {
         "record": hide(path.name).translate(CONTROL), "total": record.last, "first": boards.first, "last": boards.last, "around": around,
         "runs": hide(parts(record)), "texts": boards.texts.texts, "base": boards.base, "steps": boards.steps,
-        "entries": entries(record)[boards.first:boards.last + 1], "jobs": job_results(program, path, seconds),
+        "entries": entries(record)[boards.first:boards.last + 1], "jobs": job_results(chart),
         "why": {key: hide(text) for key, text in reasons.found.items()},
         "logs": read_logs(record, logs, masks, failed) if logs else None,
         "times": clock and {**clock, "entries": [0, *clock["entries"]][boards.first:boards.last + 1]},
@@ -112,11 +113,11 @@ def last_states(boards: Boards) -> dict[str, str]:
     return found
 
 
-def beside(record: pathlib.Path, logs: pathlib.Path, seconds: float = 5) -> pathlib.Path | None:
+def beside(record: pathlib.Path, logs: pathlib.Path, asked: dict[str, Any], seconds: float = 5) -> pathlib.Path | None:
     """The page of a record that `try` made, written beside it for its owner alone; None where that fails."""
     target = record.with_name("report.html")
     try:
-        write(target, page(os.environ["ACTRUN_PROGRAM"], record, logs=logs, seconds=seconds), 0o600)
+        write(target, page(os.environ["ACTRUN_PROGRAM"], record, logs=logs, seconds=seconds, asked=asked), 0o600)
     except (Problem, OSError, ValueError, KeyError):
         return None
     return target

@@ -180,16 +180,19 @@ class Reasons:
         """The text of one answer; nothing where there is no time for it."""
         return answer(seconds, self.program, "why", self.record, *words).rstrip("\n")
 
-    def read(self, bad: list[str], good: list[str], seconds: float) -> None:
-        """The reasons of all that did not succeed at once, then one by one those still missing; of the rest what costs a twentieth of the time."""
-        began = time.monotonic()
-        self.take(self.ask(seconds).split("\n"))
-        until, cost = time.monotonic() + seconds / 3, time.monotonic() - began
-        missing = [one for one in [*bad, *good[:int(seconds / 5 / max(cost, 1e-3))]] if one not in self.found]
+    def read(self, whole: str, bad: list[str], good: list[str], seconds: float) -> None:
+        """The reasons of all that did not succeed: what `why` prints of all, then what is missing there; of the rest for a twentieth of the time."""
+        self.take(whole.rstrip("\n").split("\n"))
+        until = time.monotonic() + seconds / 3
+        self.ask_missing(bad, until, until)
+        self.ask_missing(good, time.monotonic() + seconds / 20, until)
+
+    def ask_missing(self, parts: list[str], begins: float, until: float) -> None:
+        """Asks for the missing reasons of parts, as long as there is time to begin."""
+        missing = [one for one in parts if one not in self.found]
         with concurrent.futures.ThreadPoolExecutor(4) as pool:
-            for one, text in zip(missing, pool.map(lambda one: self.ask(until - time.monotonic(), *one.split()), missing)):
-                if text:
-                    self.found[one] = text
+            asked = pool.map(lambda one: time.monotonic() < begins and self.ask(until - time.monotonic(), *one.split()), missing)
+            self.found.update((one, text) for one, text in zip(missing, asked) if text)
 
     def take(self, lines: list[str]) -> None:
         """Keeps each fact of a tree with all that is below it."""
@@ -219,9 +222,8 @@ def answer(seconds: float, *words: Any) -> str:
     return done.stdout.decode("utf-8") if done.returncode in (0, 1, 4) else ""
 
 
-def job_results(program: str, record: pathlib.Path, seconds: float) -> dict[str, list]:
+def job_results(chart: str) -> dict[str, list]:
     """Of each job that ended its result, and the place where it did, by the marks of `timeline`."""
-    chart = answer(seconds, program, "timeline", record)
     return {job: [result, int(line) - 1] for job, result, line in JOB_ENDED.findall(chart)}
 
 
