@@ -260,6 +260,7 @@ def read_document(data: bytes) -> Document:
     except Exception as fault:  # the library does not foresee every text, as `"\UFFFFFFFF"`
         mark = getattr(fault, "problem_mark", None) or getattr(fault, "context_mark", None)
         told = ", ".join(filter(None, (getattr(fault, "context", None), getattr(fault, "problem", None)))) or str(fault)
-        reader.refuse("this is not valid YAML: " + told.replace("\n", " "), mark.line + 1 if mark else reader.line)
+        remedy = ": write spaces in place of the tab" * (r"'\t'" in told)
+        reader.refuse("this is not valid YAML: " + told.replace("\n", " ") + remedy, mark.line + 1 if mark else reader.line)
     document.faults, document.notes = (sorted(kept, key=lambda note: note.line)[:MOST_REPORTED] for kept in (reader.faults, reader.notes))
     return document

@@ -432,7 +432,7 @@ class BadInput(TryCase):
 
     def test_tab_in_yaml(self) -> None:
         self.write(".github/workflows/ci.yml", "on: push\njobs:\n\tone: {}\n")
-        self.assert_error(self.attempt(), 2, ".github/workflows/ci.yml:3:")
+        self.assert_error(self.attempt(), 2, ".github/workflows/ci.yml:3:", "write spaces in place of the tab")
 
     def test_no_mapping(self) -> None:
         self.write(".github/workflows/ci.yml", "- on\n")
