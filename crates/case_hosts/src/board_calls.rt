@@ -62,7 +62,7 @@ struct Fresh<T> {
 #[derive(Drop)]
 pub struct Locked<'b, N: Names, T: Reversible + Send, R> {
     pub rt: &'b R,
-    pub board: &'b SharedBoard<N, T>,
+    pub board: &'b SharedBoard<N, T, ()>,
 }
 
 /// Does what a verb of these asks.
@@ -118,7 +118,7 @@ fn play_aside<N: Names + Send + Sync, T: Reversible + Send + Drop, R: Threads + 
 {
     let (table, other) = tables;
     let mut held = Vec::new(page.alloc);
-    match SharedBoard::<N, T>::new(page.alloc, table, blank, script.workers) {
+    match SharedBoard::<N, T, ()>::new(page.alloc, table, blank, script.workers) {
         Ok((board, mut shares)) => {
             let first = Lines {
                 text: script.lines,
@@ -156,7 +156,7 @@ fn play_all<N: Names + Send + Sync, T: Reversible + Send + Drop, R: Threads + Wa
     requires number { (1 ≤ script.workers) × (script.workers ≤ 16) }
 {
     let Fresh { table, blank } = fresh;
-    match SharedBoard::<N, T>::new(page.alloc, table, blank, script.workers) {
+    match SharedBoard::<N, T, ()>::new(page.alloc, table, blank, script.workers) {
         Ok((board, mut shares)) => {
             let all = Lines {
                 text: script.lines,

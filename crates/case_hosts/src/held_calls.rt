@@ -106,7 +106,7 @@ pub fn abandon<N: Names, T: Reversible + Send + Drop, R: Wait>(
 /// Gives up all calls that are held.
 pub fn give_up<N: Names, T: Reversible + Send + Drop, R: Wait>(
     rt: &R,
-    board: &SharedBoard<N, T>,
+    board: &SharedBoard<N, T, ()>,
     held: Vec<Held>,
 ) {
     let mut held = held;
@@ -120,7 +120,7 @@ pub fn give_up<N: Names, T: Reversible + Send + Drop, R: Wait>(
 pub fn play_leg<N: Names, T: Reversible + Send + Drop, R: Wait>(
     rt: &R,
     alloc: Global,
-    board: &SharedBoard<N, T>,
+    board: &SharedBoard<N, T, ()>,
     share: &mut Share<N>,
 ) {
     let leg = u64::from(share.worker());
@@ -139,7 +139,7 @@ pub fn play_leg<N: Names, T: Reversible + Send + Drop, R: Wait>(
 fn end_well<N: Names, T: Reversible + Send + Drop, R: Wait>(
     rt: &R,
     alloc: Global,
-    board: &SharedBoard<N, T>,
+    board: &SharedBoard<N, T, ()>,
     share: &mut Share<N>,
     call: Held,
 ) {

@@ -1,4 +1,5 @@
 pub mod Environment
+pub mod Growing
 pub mod PlanMasks
 pub mod Playing
 pub mod Progress

@@ -9,6 +9,8 @@
 #![tactic(auto)]
 
 mod environment;
+mod growing;
+pub mod growing_files;
 pub mod machine;
 mod plan_masks;
 mod playing;

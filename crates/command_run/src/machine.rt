@@ -2,11 +2,13 @@
 
 ghost use Rattle.std.specs.Prelude.{◌≡◌, Bool, IfErr, IfOk, List, ℕ};
 ghost use Rattle.command_io.specs.Stream.{Stream};
+ghost use Rattle.command_run.specs.Growing.{IsFresh};
 ghost use Rattle.command_run.specs.Playing.{MasksAnswers};
 ghost use Rattle.command_run.specs.Run.{IsOfMachine};
 ghost use Rattle.command_run.specs.Stubs.{Stubs};
 
 use crate::environment::variables;
+use crate::growing_files::{GrowingFiles, GrowingNames, part_name};
 use crate::progress::Progress;
 use crate::step_names::StepNames;
 use command_io::error::CommandError;
@@ -15,7 +17,7 @@ use flow_model::{Duplicate, Mapping, Sequence, Text};
 use std::alloc::{AllocError, Global};
 use std::fs::{File, Files};
 use std::io::ErrorKind;
-use std::path;
+use std::{fs, path};
 use step_host::{Masked, ProgramHost, StepHost, Watched};
 
 /// What a host is built from.
@@ -35,6 +37,17 @@ pub struct HostSetup<'w> {
 pub trait Machine: Files {
     /// What plays steps by programs.
     type Host: StepHost + Drop;
+
+    /// A file that gets the lines of a record while its plan is played.
+    type Growing: Sink + Send + Drop;
+
+    /// The files of these names that grow while a plan is played, in which nothing stands. What cannot be made is told to standard
+    /// error at once.
+    fn grow(&self, alloc: Global, names: &GrowingNames<'_>) -> Self::Growing
+        ensures { IsFresh (Self.Growing.seen result) };
+
+    /// Removes the file in which the record of that name grew.
+    fn remove_grown(&self, alloc: Global, name: &str);
 
     /// That it wrote a file of this name with this text, whole or not, at a time when `out` showed this.
     ghost writes: { List ℕ → List ℕ → Stream → Bool → Type 0 };
@@ -72,12 +85,24 @@ pub trait Machine: Files {
 impl Machine for HostRuntime {
     type Host = Watched<Masked<ProgramHost<HostRuntime>>, Progress>;
 
+    type Growing = GrowingFiles;
+
     // nothing is known of a disk
     ghost writes = { λ _ _ _ _. Unit {0} };
 
     ghost lacks = { λ _. Unit {0} };
 
     ghost starts = { λ host work stubs. (host.host.host.work ≡ work) × (host.host.host.stubs ≡ stubs) };
+
+    fn grow(&self, alloc: Global, names: &GrowingNames<'_>) -> GrowingFiles {
+        GrowingFiles::new(*self, alloc, names)
+    }
+
+    fn remove_grown(&self, alloc: Global, name: &str) {
+        if let Ok(part) = part_name(alloc, name) {
+            drop(fs::remove_file(self, part.as_str()));
+        }
+    }
 
     fn write_file<O: Sink>(&self, name: &str, text: &[u8], _out: &O) -> bool {
         match File::create(self, name) {

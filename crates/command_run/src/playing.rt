@@ -1,17 +1,18 @@
 //! What is played of a plan.
 
-ghost use Rattle.std.specs.Prelude.{◌≡◌, ℕ, IfErr, IfOk};
+ghost use Rattle.std.specs.Prelude.{◌≡◌, ℕ, [], IfErr, IfOk};
 ghost use Rattle.flow_model.specs.declared.plan.Plan.{Plan};
 ghost use Rattle.command_run.specs.PlanMasks.{plan_masks};
 ghost use Rattle.command_run.specs.Playing as spec;
 
 use command_io::stop::PlayStop;
 use flow_model::{CheckedPlan, Entry, Sequence};
+use locked_board::Recorder;
 use std::alloc::Global;
 use std::sync::Wait;
 use std::thread::Threads;
 use step_host::{PlayBoard, StepHost};
-use worker_pool::{Played, PoolFault, play, play_alone};
+use worker_pool::{Played, PoolFault, play_alone_recorded, play_recorded};
 
 /// What was played of a plan.
 #[derive(Drop)]
@@ -33,22 +34,25 @@ impl Playing {
     }
 }
 
-/// Plays a plan by so many workers. One plays in the thread of the program, so that the same answers make the same history.
-fn play_by<R: Threads + Wait + Sync, H: StepHost>(
+/// Plays a plan by so many workers, and tells a recorder of each entry. One plays in the thread of the program, so that the same
+/// answers make the same history.
+fn play_by<R: Threads + Wait + Sync, H: StepHost, W: Recorder + Send + Drop>(
     rt: &R,
     alloc: Global,
     plan: &CheckedPlan,
     host: &H,
     workers: u64,
+    recorder: W,
 ) -> Result<Played, PoolFault>
-    requires { spec.MasksAnswers (plan_masks plan.now) (H.admits host.now) }
+    requires masks { spec.MasksAnswers (plan_masks plan.now) (H.admits host.now) }
+    requires told { W.told recorder [] }
     ensures played { IfOk result (spec.EndsPlayed plan.now workers) }
     ensures stopped { IfErr result (spec.StopsPlayed plan.now workers) }
 {
     if workers == 1 {
-        return play_alone(alloc, plan, host);
+        return play_alone_recorded(alloc, plan, host, recorder);
     }
-    play(rt, alloc, plan, host, workers)
+    play_recorded(rt, alloc, plan, host, workers, recorder)
 }
 
 /// What was played until a play was stopped, if there were so many workers.
@@ -73,18 +77,20 @@ fn stopped(fault: PoolFault) -> Option<Playing>
     }
 }
 
-/// What is played of a plan by so many workers, if there are so many.
-pub(crate) fn played_by<R: Threads + Wait + Sync, H: StepHost>(
+/// What is played of a plan by so many workers, if there are so many. A recorder is told of each entry.
+pub(crate) fn played_by<R: Threads + Wait + Sync, H: StepHost, W: Recorder + Send + Drop>(
     rt: &R,
     alloc: Global,
     plan: &CheckedPlan,
     host: &H,
     workers: u64,
+    recorder: W,
 ) -> Option<Playing>
-    requires { spec.MasksAnswers (plan_masks plan.now) (H.admits host.now) }
+    requires masks { spec.MasksAnswers (plan_masks plan.now) (H.admits host.now) }
+    requires told { W.told recorder [] }
     ensures { spec.ComesTo plan.now workers result }
 {
-    match play_by(rt, alloc, plan, host, workers) {
+    match play_by(rt, alloc, plan, host, workers, recorder) {
         Ok(played) => Some(Playing {
             history: played.history,
             end: Ok(played.left),

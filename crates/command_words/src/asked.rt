@@ -139,6 +139,7 @@ impl<'m, 'w, F: Folder> Asking<'m, 'w, F> {
         let words = RunWords {
             workers: self.words.get_one::<u64>("workers").unwrap_or(1),
             record: self.words.get_str("record"),
+            times: self.words.get_str("times"),
             work: self.words.get_str("work"),
             progress: self.words.get_flag("progress"),
         };

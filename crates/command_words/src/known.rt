@@ -58,6 +58,7 @@ fn known_run<'a>(alloc: Global) -> Result<Command<'a>, AllocError> {
     Command::new(alloc, "run")
         .arg(workers)?
         .arg(Arg::new(alloc, "record").long("record"))?
+        .arg(Arg::new(alloc, "times").long("times"))?
         .arg(Arg::new(alloc, "work").long("work"))?
         .arg(Arg::new(alloc, "stubs").long("stubs"))?
         .arg(progress)?

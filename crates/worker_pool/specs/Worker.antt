@@ -41,10 +41,10 @@ module _ {N : Type 0} where
 abbrev pub HasRoomFor : {X : Type 0} → ℕ → Vec X Global → Type 0
 HasRoomFor n xs = (xs.items ≡ []) × (n ≤ vec_capacity xs)
 
-module _ {N T U : Type 0} where
+module _ {N T U W : Type 0} where
   -- So many workers can begin: there is a share for each, no pass is out but the first, and there is room for the workers, and for
   -- what each of them logs.
-  pub record IsReady (workers : ℕ) (start : Start N T U) : Type 0 where
+  pub record IsReady (workers : ℕ) (start : Start N T U W) : Type 0 where
     pub shares : vec_len start.shares ≡ workers
     pub pass : IsPassOf start.pool.queue start.pass
     pub whole : IsWhole (records_of start.pass)

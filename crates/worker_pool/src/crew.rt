@@ -12,7 +12,7 @@ use crate::halt::Halt;
 use crate::log::Log;
 use crate::logs::Logs;
 use crate::worker::{Pool, Worker};
-use locked_board::{Names, Share};
+use locked_board::{Names, Recorder, Share};
 use ready_queue::{Pass, TicketQueue};
 use status_table::Reversible;
 use step_host::StepHost;
@@ -25,9 +25,9 @@ pub(crate) struct Gathered<N: Names> {
 
 /// Makes a worker of each share, with a pass of its own that is split off the one given. There is room for them. What is left
 /// of that pass is handed back.
-pub(crate) fn hire<N: Names, T: Reversible + Send + Drop, H: StepHost>(
+pub(crate) fn hire<N: Names, T: Reversible + Send + Drop, W: Recorder + Send + Drop, H: StepHost>(
     _host: &H,
-    pool: &Pool<N, T>,
+    pool: &Pool<N, T, W>,
     pass: Pass,
     shares: &mut Vec<Share<N>>,
     crew: &mut Vec<Worker<N>>,

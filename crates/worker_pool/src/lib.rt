@@ -31,9 +31,9 @@ mod stop;
 mod worker;
 
 pub use agreement::agree;
-pub use alone::play_alone;
+pub use alone::{play_alone, play_alone_recorded};
 pub use entries::play_entries;
 pub use fault::PoolFault;
-pub use many::play;
+pub use many::{play, play_recorded};
 pub use played::{Ending, Played};
 pub use settled::settled_check;

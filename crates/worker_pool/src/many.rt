@@ -1,6 +1,6 @@
 //! Several workers play a plan to its end.
 
-ghost use Rattle.std.specs.Prelude.{◌≡◌, ◌≤◌, Err, IfOk, IfErr, IfSome};
+ghost use Rattle.std.specs.Prelude.{◌≡◌, ◌≤◌, [], Err, IfOk, IfErr, IfSome};
 ghost use Rattle.std.specs.List.{All};
 ghost use Rattle.status_table.specs.Runs.{new_board};
 ghost use Rattle.worker_pool.specs.Log.{HaltsFor};
@@ -22,7 +22,7 @@ use crate::stop::Stop;
 use crate::worker::{Pool, Worker};
 use flow_model::CheckedPlan;
 use flow_model::laws::rules_hold;
-use locked_board::{Names, Share, SharedBoard};
+use locked_board::{Names, Recorder, Share, SharedBoard};
 use ready_queue::{Pass, TicketQueue};
 use status_table::moves::count_legs;
 use status_table::{Reversible, Table};
@@ -39,9 +39,10 @@ use step_host::{PlayBoard, StepHost};
 fn play_each<
     N: Names + Send + Sync,
     T: Reversible + Send + Drop,
+    W: Recorder + Send + Drop,
     R: Threads + Wait + Sync,
     H: StepHost + Sync,
->(rt: &R, pool: &Pool<N, T>, host: &H, workers: &mut [Worker<N>])
+>(rt: &R, pool: &Pool<N, T, W>, host: &H, workers: &mut [Worker<N>])
     requires fit { All (IsFit (H.admits host.now) pool.now.queue) workers.old }
     ensures fit { All (IsFit (H.admits host.now) pool.now.queue) workers.new }
     ensures names { (name : _) → crew_keepers name workers.new ≡ crew_keepers name workers.old }
@@ -58,8 +59,8 @@ fn play_each<
 
 /// What a play begins with: what its workers have in common and their shares, the first pass, and room for the workers and for
 /// what they log.
-struct Start<N: Names, T: Reversible + Send> {
-    pool: Pool<N, T>,
+struct Start<N: Names, T: Reversible + Send, W: Recorder + Send> {
+    pool: Pool<N, T, W>,
     shares: Vec<Share<N>>,
     pass: Pass,
     crew: Vec<Worker<N>>,
@@ -67,13 +68,14 @@ struct Start<N: Names, T: Reversible + Send> {
 }
 
 /// Takes all memory that is needed before the workers begin.
-fn prepare<N: Names, T: Reversible + Send + Drop>(
+fn prepare<N: Names, T: Reversible + Send + Drop, W: Recorder + Send + Drop>(
     alloc: Global,
-    table: T,
+    fresh: (T, W),
     blank: Blank,
     workers: u8,
-) -> Result<Start<N, T>, AllocError>
-    requires fresh { T.board table ≡ new_board (T.plan table) }
+) -> Result<Start<N, T, W>, AllocError>
+    requires fresh { T.board fresh.0 ≡ new_board (T.plan fresh.0) }
+    requires told { W.told fresh.1 [] }
     requires name { blank.name ≡ N.name }
     requires parts { (blank.parts ≡ N.parts) × (blank.parts ≡ workers) }
     requires number { (1 ≤ workers) × (workers ≤ 16) }
@@ -81,11 +83,11 @@ fn prepare<N: Names, T: Reversible + Send + Drop>(
 {
     rules_hold();
     let count = usize::from(workers);
-    let legs = count_legs(table.lend().runs.as_slice());
+    let legs = count_legs(fresh.0.lend().runs.as_slice());
     let (queue, pass) = TicketQueue::new(alloc, legs.max(1))?;
     let logs = Logs::with_room(alloc, count)?;
     let crew = Vec::with_capacity(alloc, count)?;
-    match SharedBoard::new(alloc, table, blank, workers) {
+    match SharedBoard::recorded(alloc, fresh, blank, workers) {
         Ok((board, shares)) => {
             let bell = Bell::new();
             let pool = Pool {
@@ -113,9 +115,16 @@ fn prepare<N: Names, T: Reversible + Send + Drop>(
 fn play_start<
     N: Names + Send + Sync,
     T: Reversible + Send + Drop,
+    W: Recorder + Send + Drop,
     R: Threads + Wait + Sync,
     H: StepHost + Sync,
->(rt: &R, start: Start<N, T>, again: PlayBoard, host: &H, workers: u8) -> Result<Played, PoolFault>
+>(
+    rt: &R,
+    start: Start<N, T, W>,
+    again: PlayBoard,
+    host: &H,
+    workers: u8,
+) -> Result<Played, PoolFault>
     requires fresh { again.board ≡ new_board again.plan }
     requires number { (1 ≤ workers) × (workers ≤ 16) }
     requires parts { N.parts ≡ workers }
@@ -149,10 +158,10 @@ fn play_start<
     settle(alloc, again, host, &handed, history)
 }
 
-/// The boards of a play, on which all is new: one that the workers share, with the ledger of their shares, and one that plays
-/// their history again.
-struct Boards<T> {
-    table: T,
+/// The boards of a play, on which all is new: one that the workers share, with its recorder and the ledger of their shares, and one
+/// that plays their history again.
+struct Boards<T, W> {
+    fresh: (T, W),
     blank: Blank,
     again: PlayBoard,
 }
@@ -162,16 +171,18 @@ struct Boards<T> {
 fn play_named<
     N: Names + Send + Sync,
     T: Reversible + Send + Drop,
+    W: Recorder + Send + Drop,
     R: Threads + Wait + Sync,
     H: StepHost + Sync,
 >(
     rt: &R,
     alloc: Global,
-    boards: Boards<T>,
+    boards: Boards<T, W>,
     host: &H,
     workers: u8,
 ) -> Result<Result<Played, PoolFault>, AllocError>
-    requires fresh { T.board boards.table ≡ new_board (T.plan boards.table) }
+    requires fresh { T.board boards.fresh.0 ≡ new_board (T.plan boards.fresh.0) }
+    requires told { W.told boards.fresh.1 [] }
     requires again { boards.again.board ≡ new_board boards.again.plan }
     requires name { boards.blank.name ≡ N.name }
     requires parts { (boards.blank.parts ≡ N.parts) × (boards.blank.parts ≡ workers) }
@@ -182,22 +193,24 @@ fn play_named<
         (StopsByMany (H.admits host.now) (H.declines host.now) boards.again.plan workers)) }
 {
     let Boards {
-        table,
+        fresh,
         blank,
         again,
     } = boards;
-    let start = prepare::<N, T>(alloc, table, blank, workers)?;
+    let start = prepare::<N, T, W>(alloc, fresh, blank, workers)?;
     Ok(play_start(rt, start, again, host, workers))
 }
 
 /// Plays a plan by so many workers, each in a thread of its own where one can be made.
-fn play_counted<R: Threads + Wait + Sync, H: StepHost + Sync>(
+fn play_counted<R: Threads + Wait + Sync, H: StepHost + Sync, W: Recorder + Send + Drop>(
     rt: &R,
     alloc: Global,
     plan: &CheckedPlan,
     host: &H,
     workers: u8,
+    recorder: W,
 ) -> Result<Result<Played, PoolFault>, AllocError>
+    requires told { W.told recorder [] }
     requires number { (1 ≤ workers) × (workers ≤ 16) }
     ensures played { IfOk result (λ come. IfOk come (EndsByMany (H.admits host.now) plan.now workers)) }
     ensures stopped { IfOk result (λ come. IfErr come
@@ -205,11 +218,11 @@ fn play_counted<R: Threads + Wait + Sync, H: StepHost + Sync>(
 {
     let (table, again) = (PlayBoard::new(alloc, plan)?, PlayBoard::new(alloc, plan)?);
     let boards = Boards {
-        table,
+        fresh: (table, recorder),
         blank: Blank::new(u64::from(workers)),
         again,
     };
-    play_named::<Brand, PlayBoard, R, H>(rt, alloc, boards, host, workers)
+    play_named::<Brand, PlayBoard, W, R, H>(rt, alloc, boards, host, workers)
 }
 
 /// Plays a plan by 1 to 16 workers, each in a thread of its own where one can be made. Each posts what a clerk may, and else takes a
@@ -237,6 +250,31 @@ pub fn play<R: Threads + Wait + Sync, H: StepHost + Sync>(
         → IfOk result (λ played. played.ending ≡ ending.Done) }
     ensures settled { IfOk result (SettlesAll (H.admits host.now) plan.now) }
 {
+    play_recorded(rt, alloc, plan, host, workers, ())
+}
+
+/// Plays a plan by 1 to 16 workers, as `play` does, and tells a recorder of each entry as soon as it is accepted.
+///
+/// # Errors
+///
+/// Those of `play`.
+pub fn play_recorded<R: Threads + Wait + Sync, H: StepHost + Sync, W: Recorder + Send + Drop>(
+    rt: &R,
+    alloc: Global,
+    plan: &CheckedPlan,
+    host: &H,
+    workers: u64,
+    recorder: W,
+) -> Result<Played, PoolFault>
+    requires told { W.told recorder [] }
+    ensures number { AreNoWorkers workers → result ≡ Err PoolFault.Workers }
+    ensures played { IfOk result (EndsByMany (H.admits host.now) plan.now workers) }
+    ensures stopped { IfErr result
+        (StopsByMany (H.admits host.now) (H.declines host.now) plan.now workers) }
+    ensures groups { HasNoJobGroup plan.now
+        → IfOk result (λ played. played.ending ≡ ending.Done) }
+    ensures settled { IfOk result (SettlesAll (H.admits host.now) plan.now) }
+{
     if workers == 0 || workers > 16 {
         return Err(PoolFault::Workers);
     }
@@ -244,7 +282,7 @@ pub fn play<R: Threads + Wait + Sync, H: StepHost + Sync>(
     plays_leave_what_is_settled(host);
     // The plan says that it breaks no rule.
     let _ = plan.plan();
-    match play_counted(rt, alloc, plan, host, workers as u8) {
+    match play_counted(rt, alloc, plan, host, workers as u8, recorder) {
         Ok(come) => come,
         Err(_) => Err(Stop::Memory.after(Vec::new(alloc))),
     }

@@ -5,19 +5,19 @@ use Rattle.command_run.proofs.playing.play_by.Goals as goal
 pub returns-then-workers-eq1-clause-played : goal.returns-then-workers-eq1-clause-played
 returns-then-workers-eq1-clause-played g c =
     let one : c.args.workers ≡ 1 = search rules in
-    alone_ends_played (g.H.StepHost.admits c.args.host.now) c.args.plan.now c.args.workers c.play_alone.result c.requires one c.play_alone.ensures.played
+    alone_ends_played (g.H.StepHost.admits c.args.host.now) c.args.plan.now c.args.workers c.play_alone_recorded.result c.requires.masks one c.play_alone_recorded.ensures.played
 
 pub returns-then-workers-eq1-clause-stopped : goal.returns-then-workers-eq1-clause-stopped
 returns-then-workers-eq1-clause-stopped g c =
     let one : c.args.workers ≡ 1 = search rules in
-    alone_stops_played (g.H.StepHost.admits c.args.host.now) (g.H.StepHost.declines c.args.host.now) c.args.plan.now c.args.workers c.play_alone.result c.requires one
-    c.play_alone.ensures.stopped
+    alone_stops_played (g.H.StepHost.admits c.args.host.now) (g.H.StepHost.declines c.args.host.now) c.args.plan.now c.args.workers c.play_alone_recorded.result c.requires.masks one
+    c.play_alone_recorded.ensures.stopped
 
 pub returns-clause-played : goal.returns-clause-played
 returns-clause-played g c =
-    many_end_played (g.H.StepHost.admits c.args.host.now) c.args.plan.now c.args.workers c.play.result c.requires c.play.ensures.number c.play.ensures.played
+    many_end_played (g.H.StepHost.admits c.args.host.now) c.args.plan.now c.args.workers c.play_recorded.result c.requires.masks c.play_recorded.ensures.number c.play_recorded.ensures.played
 
 pub returns-clause-stopped : goal.returns-clause-stopped
 returns-clause-stopped g c =
-    many_stop_played (g.H.StepHost.admits c.args.host.now) (g.H.StepHost.declines c.args.host.now) c.args.plan.now c.args.workers c.play.result c.requires
-    c.play.ensures.number c.play.ensures.stopped
+    many_stop_played (g.H.StepHost.admits c.args.host.now) (g.H.StepHost.declines c.args.host.now) c.args.plan.now c.args.workers c.play_recorded.result c.requires.masks
+    c.play_recorded.ensures.number c.play_recorded.ensures.stopped

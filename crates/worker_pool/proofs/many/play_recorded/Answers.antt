@@ -3,7 +3,7 @@ use Rattle.std.proofs.lemmas.Result.{IfOk-weaker}
 use Rattle.flow_model.specs.Rules.{IsPlan}
 use Rattle.worker_pool.specs.Many.{StopsByMany}
 use Rattle.worker_pool.proofs.Reviews.{none_played}
-use Rattle.worker_pool.proofs.many.play.Goals as goal
+use Rattle.worker_pool.proofs.many.play_recorded.Goals as goal
 
 pub returns-in-Err-clause-stopped : goal.returns-in-Err-clause-stopped
 returns-in-Err-clause-stopped g c =

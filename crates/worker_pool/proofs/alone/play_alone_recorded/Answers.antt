@@ -9,7 +9,7 @@ use Rattle.worker_pool.specs.Fault.{StopsAlone}
 use Rattle.worker_pool.specs.Settles.{SettlesAll}
 use Rattle.worker_pool.proofs.Grows.{nothing_played}
 use Rattle.worker_pool.proofs.Turned.{done_without_groups}
-use Rattle.worker_pool.proofs.alone.play_alone.Goals as goal
+use Rattle.worker_pool.proofs.alone.play_alone_recorded.Goals as goal
 
 pub returns-in-Err-clause-stopped : goal.returns-in-Err-clause-stopped
 returns-in-Err-clause-stopped g c =
