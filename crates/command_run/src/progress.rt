@@ -12,7 +12,7 @@ use std::fmt::Write as _;
 use std::io::{ErrorKind, Write};
 use std::sync::atomic::{AtomicU64, Ordering};
 use std::time::{Duration, Instant};
-use step_host::{Unstarted, Watch};
+use step_host::{Refusal, Unstarted, Watch};
 
 /// Who tells on standard error of the steps of a plan, where somebody asks for it. A line is one write, so that those of
 /// several workers do not mix; one that cannot be written is left out.
@@ -53,6 +53,18 @@ fn add_reason(text: &mut String, why: Unstarted) -> Result<(), AllocError> {
 /// Why a program cannot be started.
 fn add_kind(text: &mut String, kind: ErrorKind) -> Result<(), AllocError> {
     write!(text, "its program cannot be started: {kind}")
+}
+
+/// Why an answer is bad output.
+fn add_refusal(text: &mut String, why: Refusal) -> Result<(), AllocError> {
+    match why {
+        Refusal::NoEnd(kind) => write!(text, "its end cannot be waited for: {kind}"),
+        Refusal::NoLog(kind) => write!(text, "what it printed cannot be kept: {kind}"),
+        Refusal::NoOutputs(kind) => write!(text, "its file of outputs cannot be read: {kind}"),
+        Refusal::NoVariables(kind) => write!(text, "its file of variables cannot be read: {kind}"),
+        Refusal::Outputs(fault) => write!(text, "its file of outputs is refused: {fault}"),
+        Refusal::Variables(fault) => write!(text, "its file of variables is refused: {fault}"),
+    }
 }
 
 /// What was not started, and why.
@@ -144,6 +156,19 @@ impl Progress {
         Ok(text)
     }
 
+    /// The line of a step whose answer is bad output.
+    fn refused_text(
+        &self,
+        call: &StepCall,
+        step: NamedStep<'_>,
+        why: Refusal,
+    ) -> Result<String, AllocError> {
+        let mut text = self.placed(call, step)?;
+        text.push_str(" refused: ")?;
+        add_refusal(&mut text, why)?;
+        Ok(text)
+    }
+
     /// Adds how a step ended.
     fn add_end(
         &self,
@@ -204,6 +229,12 @@ impl Watch for Progress {
     fn unstarted(&self, call: &StepCall, why: Unstarted) {
         if let Some(step) = self.asked(call) {
             self.tell_made(self.unstarted_text(call, step, why));
+        }
+    }
+
+    fn refused(&self, call: &StepCall, why: Refusal) {
+        if let Some(step) = self.asked(call) {
+            self.tell_made(self.refused_text(call, step, why));
         }
     }
 

@@ -116,7 +116,7 @@ fn open_log<F: Files>(
         (λ file. file.name ≡ log_name workspace.now.work.now step.0 step.1)) }
 {
     let name = log_file(workspace.alloc, workspace.work, step.0, step.1)?;
-    match read_named(workspace.alloc, workspace.files, name) {
+    match read_named(workspace.alloc, workspace.files, name, u64::MAX) {
         Ok(file) => Ok(Some(file)),
         Err(error) => {
             if error.kind() == ErrorKind::OutOfMemory {

@@ -7,6 +7,7 @@ use Rattle.std.specs.Process.{command_program, command_args, command_var, comman
 use Rattle.std.specs.IoError.{error_kind}
 use Rattle.std.specs.declared.alloc.AllocError.{AllocError}
 use Rattle.std.specs.declared.io.Error.{Error}
+use Rattle.std.specs.declared.io.ErrorKind.{ErrorKind}
 use Rattle.std.specs.declared.io.ErrorKind.TheVariants.{OutOfMemory}
 use Rattle.std.specs.declared.process.command.Command.{Command}
 use Rattle.std.specs.declared.alloc.Global.{Global}
@@ -181,6 +182,12 @@ abbrev pub ended : Option ℤ → List ℕ → List ℕ → Answer
 ended code given set = answered (code_of code) (accepted (outputs given)) (accepted (env set))
 
 -- ---- what may fail
+
+-- What was done, or the kind of what failed; where memory ran out, that is told apart.
+abbrev pub SortsKind : {A : Type 0} → Result A Error → Result (Result A ErrorKind) AllocError → Type 0
+SortsKind (Ok found) answer = answer ≡ Ok (Ok found)
+SortsKind (Err error) (Ok found) = (found ≡ Err (error_kind error)) × (error_kind error ≢ OutOfMemory)
+SortsKind (Err error) (Err fault) = error_kind error ≡ OutOfMemory
 
 -- What was done; where memory ran out, that is told, and anything else that failed is not.
 abbrev pub Sorts : {A : Type 0} → Result A Error → Result (Option A) AllocError → Type 0

@@ -7,6 +7,7 @@ ghost use Rattle.flow_model.specs.declared.event.Answer.TheVariants.{Exit};
 ghost use Rattle.flow_commands.specs.PairFiles.{Reading, Refuses, are_outputs, are_variables, env as env_of, outputs as outputs_of};
 ghost use Rattle.step_host.specs.Program as spec;
 
+use crate::watch::Refusal;
 use flow_commands::{OutputFault, read_env_file, read_output_file};
 use flow_model::{Answer, Mapping, Text};
 use std::alloc::{AllocError, Global};
@@ -87,6 +88,22 @@ fn exit(status: ExitStatus, outputs: Mapping<Text>, env: Mapping<Text>) -> Answe
         code: code_of(status),
         outputs,
         env,
+    }
+}
+
+/// Why the file of variables is refused; one that is not is taken for one that there was no memory to read.
+fn variables_fault(alloc: Global, env: &[u8]) -> OutputFault {
+    match read_env_file(alloc, env) {
+        Ok(_) => OutputFault::Memory,
+        Err(fault) => fault,
+    }
+}
+
+/// Why one of these files is refused: that of outputs, or else that of variables.
+pub(crate) fn refusal_of(alloc: Global, outputs: &[u8], env: &[u8]) -> Refusal {
+    match read_output_file(alloc, outputs) {
+        Ok(_) => Refusal::Variables(variables_fault(alloc, env)),
+        Err(fault) => Refusal::Outputs(fault),
     }
 }
 

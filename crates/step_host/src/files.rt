@@ -54,17 +54,38 @@ pub(crate) fn is_empty_file<F: Files>(files: &F, name: &str) -> bool {
 /// The bytes that a file has now. What is added while they are read is left out.
 pub(crate) fn bytes_now<F: Read + OpenFile + Drop>(alloc: Global, file: F) -> io::Result<Vec<u8>> {
     let length = file.metadata()?.len();
+    first_bytes(alloc, file, length)
+}
+
+/// So many bytes of a file, or all, where it has fewer.
+fn first_bytes<F: Read + Drop>(alloc: Global, file: F, length: u64) -> io::Result<Vec<u8>> {
     let mut bytes = Vec::new(alloc);
     file.take(length).read_to_end(&mut bytes)?;
     Ok(bytes)
 }
 
-/// The bytes of the file of that name. An empty one is not opened.
-///
-/// # Errors
-///
-/// It cannot be read, or it is a pipe, a device, a folder or the like, which is not opened; or there is no memory.
-pub fn file_bytes<F: Files>(alloc: Global, files: &F, name: &str) -> io::Result<Vec<u8>> {
+/// Opens the file of that name to read it. It is opened to be written too, since opening a pipe to be read alone waits for a writer: a
+/// pipe that takes the place of the file just now is opened at once, and refused.
+fn open_file<F: Files>(files: &F, name: &str) -> io::Result<F::File> {
+    let mut how = File::options();
+    how.read(true).write(true);
+    match how.open(files, name) {
+        Err(error) if error.kind() == ErrorKind::PermissionDenied => File::open(files, name),
+        opened => opened,
+    }
+}
+
+/// How many bytes a regular file has.
+fn regular_length<F: OpenFile>(file: &F) -> io::Result<u64> {
+    let found = file.metadata()?;
+    if found.is_file() {
+        return Ok(found.len());
+    }
+    Err(io::Error::from(ErrorKind::InvalidInput))
+}
+
+/// The bytes of the file of that name, if it has so many at most. An empty one is not opened.
+fn file_bytes<F: Files>(alloc: Global, files: &F, name: &str, most: u64) -> io::Result<Vec<u8>> {
     let found = fs::metadata(files, name)?;
     if !found.is_file() {
         return Err(io::Error::from(ErrorKind::InvalidInput));
@@ -72,7 +93,12 @@ pub fn file_bytes<F: Files>(alloc: Global, files: &F, name: &str) -> io::Result<
     if found.len() == 0 {
         return Ok(Vec::new(alloc));
     }
-    bytes_now(alloc, File::open(files, name)?)
+    let file = open_file(files, name)?;
+    let length = regular_length(&file)?;
+    if length > most {
+        return Err(io::Error::from(ErrorKind::FileTooLarge));
+    }
+    first_bytes(alloc, file, length)
 }
 
 /// The bytes of a file, with the name by which they were read: `read_named` alone makes one.
@@ -98,14 +124,19 @@ impl FileBytes {
     }
 }
 
-/// The bytes of the file of that name, with the name. An empty one is not opened.
+/// The bytes of the file of that name, if it has so many at most, with the name. An empty one is not opened.
 ///
 /// # Errors
 ///
-/// Those of `file_bytes`.
-pub fn read_named<F: Files>(alloc: Global, files: &F, name: Text) -> io::Result<FileBytes>
+/// It cannot be read, or has more bytes; or it is a pipe, a device, a folder or the like; or there is no memory.
+pub fn read_named<F: Files>(
+    alloc: Global,
+    files: &F,
+    name: Text,
+    most: u64,
+) -> io::Result<FileBytes>
     ensures { IfOk result (λ file. file.name ≡ name) }
 {
-    let bytes = file_bytes(alloc, files, name.as_str())?;
+    let bytes = file_bytes(alloc, files, name.as_str(), most)?;
     Ok(FileBytes { name, bytes })
 }

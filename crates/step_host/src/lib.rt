@@ -36,7 +36,7 @@ pub mod watched;
 
 pub use board::PlayBoard;
 pub use fault::{HostFault, ScriptFault};
-pub use files::{FileBytes, file_bytes, read_named};
+pub use files::{FileBytes, read_named};
 pub use flow_commands::{mask, read_commands, read_env_file, read_output_file, shell_words, shown};
 pub use host::{DecidedHost, StepHost, WatchedHost};
 pub use launch::log_file;
@@ -44,5 +44,5 @@ pub use masked::Masked;
 pub use program::ProgramHost;
 pub use replay::ReplayHost;
 pub use script::ScriptHost;
-pub use watch::{Unstarted, Watch};
+pub use watch::{Refusal, Unstarted, Watch};
 pub use watched::Watched;

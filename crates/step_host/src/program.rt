@@ -8,7 +8,7 @@ ghost use Rattle.flow_model.specs.declared.reply.StepCall.{StepCall};
 ghost use Rattle.step_host.specs.Program as spec;
 
 use crate::command::command_of;
-use crate::ending::{ended, logged};
+use crate::ending::{ended, logged, refusal_of};
 use crate::fault::HostFault;
 use crate::files::{
     FileBytes, Printed, bytes_now, is_empty_file, printed_file, read_named, write_file,
@@ -18,13 +18,16 @@ use crate::launch::{
     Launch, env_file, err_file, log_file, other_shell, out_file, print_file, script_file,
     script_launch, stub_launch,
 };
-use crate::watch::{Nobody, Unstarted, Watch};
+use crate::watch::{Nobody, Refusal, Unstarted, Watch};
 use flow_model::{Answer, CallWork, Mapping, Shell, StepCall, Text};
 use std::alloc::{AllocError, Global};
 use std::fs::{File, Files};
 use std::io::ErrorKind;
 use std::process::{Child, Command, ExitStatus, OpenProcess, Processes, Stdio};
 use std::{fs, io};
+
+/// How many bytes the file of outputs or of variables of a step may have at most.
+const MOST_BYTES: u64 = 67_108_864;
 
 /// The host that starts a program for each step: a script by its shell, an action by the stub that is named for it.
 #[derive(Drop)]
@@ -51,11 +54,41 @@ fn unless_memory<T: Drop>(done: io::Result<T>) -> Result<Option<T>, AllocError>
     }
 }
 
+/// What was done, or why it could not be. Want of memory is told apart.
+fn or_kind<T: Drop>(done: io::Result<T>) -> Result<Result<T, ErrorKind>, AllocError>
+    ensures { spec.SortsKind done result }
+{
+    match done {
+        Ok(found) => Ok(Ok(found)),
+        Err(error) => {
+            let kind = error.kind();
+            if kind == ErrorKind::OutOfMemory {
+                return Err(AllocError);
+            }
+            Ok(Err(kind))
+        },
+    }
+}
+
 /// What a program printed into two files, as it is kept.
 fn printed(alloc: Global, out: File, err: File) -> io::Result<Vec<u8>> {
     let out = bytes_now(alloc, out)?;
     let err = bytes_now(alloc, err)?;
     Ok(logged(out, err.as_slice())?)
+}
+
+/// The answer to a call. Where it is bad output, somebody is told why.
+fn answered<W: Watch>(call: &StepCall, finished: Result<Answer, Refusal>, watch: &W) -> Answer
+    requires { IfOk finished (λ a. is_well_formed a ≡ true) }
+    ensures { is_well_formed result ≡ true }
+{
+    match finished {
+        Ok(answer) => answer,
+        Err(why) => {
+            watch.refused(call, why);
+            Answer::BadOutput
+        },
+    }
 }
 
 /// A program that was started, and the files into which it prints, to be read.
@@ -270,67 +303,80 @@ impl<R: Processes + Files<File = File>> ProgramHost<R> {
         }
     }
 
-    /// Keeps what a program printed. The answer is whether it could be kept.
-    fn keeps(&self, call: &StepCall, out: File, err: File) -> Result<bool, AllocError> {
-        match unless_memory(printed(self.alloc, out, err))? {
-            Some(log) => self.keeps_log(call, log.as_slice()),
-            None => Ok(false),
+    /// Keeps what a program printed, or says why that could not be.
+    fn keeps(
+        &self,
+        call: &StepCall,
+        out: File,
+        err: File,
+    ) -> Result<Result<(), ErrorKind>, AllocError> {
+        match or_kind(printed(self.alloc, out, err))? {
+            Ok(log) => self.keeps_log(call, log.as_slice()),
+            Err(kind) => Ok(Err(kind)),
         }
     }
 
     /// Keeps a log. One of nothing is kept already where the file is still as it was made at the start.
-    fn keeps_log(&self, call: &StepCall, log: &[u8]) -> Result<bool, AllocError> {
+    fn keeps_log(&self, call: &StepCall, log: &[u8]) -> Result<Result<(), ErrorKind>, AllocError> {
         let name = log_file(self.alloc, self.work.as_str(), call.leg, call.step)?;
         if log.is_empty() && is_empty_file(&self.runtime, name.as_str()) {
-            return Ok(true);
+            return Ok(Ok(()));
         }
-        self.writes(&name, log)
+        or_kind(write_file(&self.runtime, name.as_str(), log))
     }
 
     /// The file of a call's outputs, if it can be read.
-    fn outputs(&self, call: &StepCall) -> Result<Option<FileBytes>, AllocError>
+    fn outputs(&self, call: &StepCall) -> Result<Result<FileBytes, ErrorKind>, AllocError>
         ensures { IfOk result (λ found.
-            IfSome found (λ file. file.name ≡ spec.out_file self.now.work call.now)) }
+            IfOk found (λ file. file.name ≡ spec.out_file self.now.work call.now)) }
     {
         let name = out_file(self.alloc, self.work.as_str(), call)?;
-        unless_memory(read_named(self.alloc, &self.runtime, name))
+        or_kind(read_named(self.alloc, &self.runtime, name, MOST_BYTES))
     }
 
     /// The file of a call's variables, if it can be read.
-    fn env(&self, call: &StepCall) -> Result<Option<FileBytes>, AllocError>
+    fn env(&self, call: &StepCall) -> Result<Result<FileBytes, ErrorKind>, AllocError>
         ensures { IfOk result (λ found.
-            IfSome found (λ file. file.name ≡ spec.env_file self.now.work call.now)) }
+            IfOk found (λ file. file.name ≡ spec.env_file self.now.work call.now)) }
     {
         let name = env_file(self.alloc, self.work.as_str(), call)?;
-        unless_memory(read_named(self.alloc, &self.runtime, name))
+        or_kind(read_named(self.alloc, &self.runtime, name, MOST_BYTES))
     }
 
-    /// Waits until a program has ended, whatever it leaves behind, and answers for it.
-    fn finished(&self, call: &StepCall, started: Started<R::Started>) -> Result<Answer, AllocError>
-        ensures { IfOk result (λ a. is_well_formed a ≡ true) }
+    /// Waits until a program has ended, whatever it leaves behind, and answers for it, or says why the answer is bad output.
+    fn finished(
+        &self,
+        call: &StepCall,
+        started: Started<R::Started>,
+    ) -> Result<Result<Answer, Refusal>, AllocError>
+        ensures { IfOk result (λ end. IfOk end (λ a. is_well_formed a ≡ true)) }
     {
         let Started {
             mut child,
             out,
             err,
         } = started;
-        let ended = unless_memory(child.wait())?;
-        if !self.keeps(call, out, err)? {
-            return Ok(Answer::BadOutput);
+        let ended = or_kind(child.wait())?;
+        if let Err(kind) = self.keeps(call, out, err)? {
+            return Ok(Err(Refusal::NoLog(kind)));
         }
-        self.answer(call, ended)
+        match ended {
+            Ok(status) => self.answer(call, status),
+            Err(kind) => Ok(Err(Refusal::NoEnd(kind))),
+        }
     }
 
-    /// The answer of a program with this exit status, if it could be waited for.
-    fn answer(&self, call: &StepCall, status: Option<ExitStatus>) -> Result<Answer, AllocError>
-        ensures { IfOk result (λ a. is_well_formed a ≡ true) }
+    /// The answer of a program with this exit status.
+    fn answer(
+        &self,
+        call: &StepCall,
+        status: ExitStatus,
+    ) -> Result<Result<Answer, Refusal>, AllocError>
+        ensures { IfOk result (λ end. IfOk end (λ a. is_well_formed a ≡ true)) }
     {
-        let Some(status) = status else {
-            return Ok(Answer::BadOutput);
-        };
         match self.outputs(call)? {
-            Some(outputs) => self.answer_with(call, status, &outputs),
-            None => Ok(Answer::BadOutput),
+            Ok(outputs) => self.answer_with(call, status, &outputs),
+            Err(kind) => Ok(Err(Refusal::NoOutputs(kind))),
         }
     }
 
@@ -340,14 +386,27 @@ impl<R: Processes + Files<File = File>> ProgramHost<R> {
         call: &StepCall,
         status: ExitStatus,
         outputs: &FileBytes,
-    ) -> Result<Answer, AllocError>
+    ) -> Result<Result<Answer, Refusal>, AllocError>
         requires { outputs.now.name ≡ spec.out_file self.now.work call.now }
-        ensures { IfOk result (λ a. is_well_formed a ≡ true) }
+        ensures { IfOk result (λ end. IfOk end (λ a. is_well_formed a ≡ true)) }
     {
         match self.env(call)? {
-            Some(env) => self.answer_of(call, status, outputs, &env),
-            None => Ok(Answer::BadOutput),
+            Ok(env) => {
+                let answer = self.answer_of(call, status, outputs, &env)?;
+                Ok(self.told(answer, outputs, &env))
+            },
+            Err(kind) => Ok(Err(Refusal::NoVariables(kind))),
         }
+    }
+
+    /// An answer, or why it is bad output: one of these files is refused.
+    fn told(&self, answer: Answer, outputs: &FileBytes, env: &FileBytes) -> Result<Answer, Refusal>
+        ensures { IfOk result (λ told. told ≡ answer) }
+    {
+        if matches!(answer, Answer::BadOutput) {
+            return Err(refusal_of(self.alloc, outputs.bytes(), env.bytes()));
+        }
+        Ok(answer)
     }
 
     /// The answer of a program with this exit status, which wrote these files of its outputs and of its variables.
@@ -374,7 +433,8 @@ impl<R: Processes + Files<File = File>> ProgramHost<R> {
         match self.start_call(call)? {
             Ok(started) => {
                 watch.started(call);
-                self.finished(call, started)
+                let finished = self.finished(call, started)?;
+                Ok(answered(call, finished, watch))
             },
             Err(why) => {
                 watch.unstarted(call, why);

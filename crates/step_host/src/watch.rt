@@ -1,5 +1,6 @@
 //! Who is told of steps while they are played.
 
+use flow_commands::OutputFault;
 use flow_model::{Answer, StepCall};
 use std::io::ErrorKind;
 
@@ -14,6 +15,23 @@ pub enum Unstarted {
     NoFolder,
     /// The program cannot be started, for this reason.
     NoProgram(ErrorKind),
+}
+
+/// Why the answer to a call is bad output.
+#[derive(Clone, Copy)]
+pub enum Refusal {
+    /// The end of the program could not be waited for, for this reason.
+    NoEnd(ErrorKind),
+    /// What it printed could not be kept.
+    NoLog(ErrorKind),
+    /// The file of its outputs could not be read.
+    NoOutputs(ErrorKind),
+    /// The file of the variables that it sets could not be read.
+    NoVariables(ErrorKind),
+    /// The file of its outputs is not spelled as one.
+    Outputs(OutputFault),
+    /// The file of the variables that it sets is not spelled as one.
+    Variables(OutputFault),
 }
 
 /// Who is told of steps while they are played. What is told has no part in what is answered, and may be told by several
@@ -31,6 +49,9 @@ pub trait Watch {
     /// None was, and why.
     fn unstarted(&self, call: &StepCall, why: Unstarted);
 
+    /// The answer to a call is bad output, and why.
+    fn refused(&self, call: &StepCall, why: Refusal);
+
     /// A call that was made at that moment has its answer.
     fn ended(&self, call: &StepCall, answer: &Answer, moment: Self::Moment);
 }
@@ -47,6 +68,8 @@ impl Watch for Nobody {
     fn started(&self, _call: &StepCall) {}
 
     fn unstarted(&self, _call: &StepCall, _why: Unstarted) {}
+
+    fn refused(&self, _call: &StepCall, _why: Refusal) {}
 
     fn ended(&self, _call: &StepCall, _answer: &Answer, _moment: ()) {}
 }
