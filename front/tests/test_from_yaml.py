@@ -46,7 +46,7 @@ REFUSED = [
     (b'a: 1\nb: "\\ud83d"\n', "2: a text has half a character"),
     (b"\n" + b"[" * 128 + b"]" * 128, "2: values nest deeper than 127"),
     (b"a: &a " + b"[" * 64 + b"]" * 64 + b"\nb: " + b"[" * 64 + b"*a" + b"]" * 64, "2: values nest deeper than 127"),
-    (b"\n" + b"[" * 5000, "2: values nest deeper than 127"),
+    (b"\n" + b"[" * 1500, "2: values nest deeper than 127"),
     (b"".join(b"%c: &%c [%s]\n" % (c, c, b",".join([b"*%c" % (c - 1) if c > 97 else b"x"] * 10)) for c in range(97, 105)),
      "6: the file has more than 200000 values once its aliases are written out"),
     (b"a: 1\na: 2\nb: .inf\n", '2: the key "a" is twice in one map\n3: JSON has no number .inf; write a text in quotes'),
