@@ -21,7 +21,7 @@ CRATE = Path(__file__).resolve().parent.parent / "crates/conformance"
 TOLD = re.compile(r"(\d+) cases agree(?:, (\d+) differ)?$")
 SECONDS = 1800
 # a program without proofs takes long for these files, so they begin first, the slowest before all, and each is executed in parts
-SLOW = [f"{name}.cases" for name in "hostile-sweeps dropped-legs evaluation expressions pools table eval settled planning-limits".split()]
+SLOW = [f"{name}.cases" for name in "settled evaluation expressions hostile-sweeps pools eval table planning-limits".split()]
 PARTS = 8
 # the marks of lines that ask or want something, and of lines that define something for later cases
 ASKS, DEFINES = "$?>!=<~%", "#|/:"

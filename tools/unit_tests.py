@@ -62,6 +62,7 @@ def run(folder: Path, module: str, file: Path, interpreter: str) -> tuple[int, i
 def main() -> int:
     interpreter, words = python(), sys.argv[1:]
     chosen = [it for it in modules() if not words or any(word in str(it[2]) for word in words)]
+    chosen.sort(key=lambda it: -it[2].stat().st_size)  # (a long file takes long, so it begins early)
     passed = failed = 0
     with concurrent.futures.ThreadPoolExecutor(os.cpu_count()) as pool:
         for done in concurrent.futures.as_completed([pool.submit(run, *it, interpreter) for it in chosen]):
