@@ -20,8 +20,10 @@ from pathlib import Path
 CRATE = Path(__file__).resolve().parent.parent / "crates/conformance"
 TOLD = re.compile(r"(\d+) cases agree(?:, (\d+) differ)?$")
 SECONDS = 1800
-# a program without proofs takes long for these files, so they begin first, the slowest before all, and each is executed in parts
-SLOW = [f"{name}.cases" for name in "settled evaluation expressions hostile-sweeps pools eval table planning-limits".split()]
+# a program without proofs takes long for these files, so they begin first. Those with several slow cases are executed in parts, but
+# not those that define great texts, since each part reads all definitions.
+WHOLE = [f"{name}.cases" for name in "expressions settled eval pools".split()]
+SLOW = [f"{name}.cases" for name in "evaluation hostile-sweeps table planning-limits".split()]
 PARTS = 8
 # the marks of lines that ask or want something, and of lines that define something for later cases
 ASKS, DEFINES = "$?>!=<~%", "#|/:"
@@ -80,7 +82,7 @@ def main() -> int:
         print(__doc__, file=sys.stderr)
         return 2
     program, named = Path(sys.argv[1]).resolve(), sys.argv[2:]
-    files = sorted(named or (CRATE / "args").read_text(encoding="utf-8").split(), key=lambda it: [*SLOW, it].index(it))
+    files = sorted(named or (CRATE / "args").read_text(encoding="utf-8").split(), key=lambda it: [*WHOLE, *SLOW, it].index(it))
     agree = differ = 0
     with concurrent.futures.ThreadPoolExecutor(os.cpu_count()) as pool:
         started = [pool.submit(execute, program, file, number) for file in files
