@@ -53,37 +53,142 @@ start_front() {
   exec python3 "$top/front" "$@"
 }
 
-# sets `starter` to the words before those of a command. `run` has to be told how its steps end, also where the parent of this
-# script ignores that signal.
+# Sets `starter` to the words before those of a command. `run` has to be told how its steps end, also where the parent of this
+# script ignores that signal. With --record this script waits beside `run`: then `record` and `work` are set, the program ignores
+# no more signals than this script, and it ends where this script is killed.
 choose_starter() {
-  starter=()
-  [ "$1" != run ] || ! env --default-signal=CHLD true 2>/dev/null || starter=(env --default-signal=CHLD)
+  local signals=CHLD
+  starter=() record='' work=.
+  [ "$1" = run ] || return 0
+  read_run_words "${@:2}"
+  if [ -n "$record" ]; then
+    [ -n "$(trap -p INT)" ] || signals+=,INT
+    [ -n "$(trap -p QUIT)" ] || signals+=,QUIT
+    starter=(setpriv --pdeathsig KILL env --default-signal="$signals")
+    ! "${starter[@]}" true 2>/dev/null || return 0
+  fi
+  starter=(env --default-signal="$signals")
+  "${starter[@]}" true 2>/dev/null || starter=() record=''
+}
+
+# sets `record` and `work` to the values of these options among the words of `run`
+read_run_words() {
+  while [ $# -gt 0 ] && [ "$1" != -- ]; do
+    case $1 in
+      --record=*) record=${1#*=} ;;
+      --work=*) work=${1#*=} ;;
+      --record) record=${2-} ;;
+      --work) work=${2-} ;;
+    esac
+    shift
+  done
 }
 
 # starts the program; on a terminal the front explains what it refuses
 start_program() {
-  choose_starter "${1-}"
+  choose_starter "$@"
   if [ -t 2 ] && has_front; then explain_program "$@"; fi
-  exec "${starter[@]}" "$program" "$@"
+  [ -n "$record" ] || exec "${starter[@]}" "$program" "$@"
+  watch_program "$@"
+  status=$?
+  tell_part
+  [ -n "$stopped" ] || [ "$status" -le 128 ] || kill -s "$(kill -l "$status")" $$
+  exit "$status"
 }
 
 # starts the program, shows its standard error as it comes, and has the front explain an error after it
 explain_program() {
-  local room status
+  local room shows
   room=$(mktemp -d) || return
   # shellcheck disable=SC2064
   trap "rm -rf ${room@Q}" EXIT
-  {
-    "${starter[@]}" "$program" "$@" 2>&1 >&3 3>&- | tee -i -- "$room/err" >&2 3>&-
-    status=${PIPESTATUS[0]}
-  } 3>&1
+  exec 3> >(exec tee -i -- "$room/err" >&2)
+  shows=$!
+  if [ -n "$record" ]; then watch_program "$@" 2>&3 3>&-; else "${starter[@]}" "$program" "$@" 2>&3 3>&-; fi
+  status=$?
+  exec 3>&-
+  wait "$shows" 2>/dev/null
   case $status in
     2 | 3)
       tell_front
       python3 "$top/front" explain "$status" "$room/err" "$@" >&2
       ;;
   esac
+  tell_part
   exit "$status"
+}
+
+# Runs the program beside this script, which ends it and its steps at SIGINT or SIGTERM, since the program sees no signals. Then
+# `stopped` is the exit status.
+watch_program() {
+  local ended
+  stopped=''
+  trap 'stop_run 130' INT
+  trap 'stop_run 143' TERM
+  [ -e /dev/fd/0 ] || exec </dev/null
+  "${starter[@]}" "$program" "$@" <&0 &
+  wait "$!" 2>/dev/null
+  ended=$?
+  trap - INT TERM
+  return "${stopped:-$ended}"
+}
+
+# where a signal ended the program, says what has the record so far, and why it is as it is
+tell_part() {
+  [ -n "$record" ] && [ "$status" -gt 128 ] && [ -s "$record.part" ] || return 0
+  say "a signal ended the run; $record.part has its record so far: actrun why $(printf %q "$record.part")"
+  "$program" why -- "$record.part" >&2
+}
+
+# Ends the program, then its steps: by SIGTERM, and those that are there three seconds later by SIGKILL. Another signal ends all at
+# once; one of the next moment belongs to the first.
+stop_run() {
+  local child found
+  trap '' INT TERM
+  stopped=$1 SECONDS=0
+  child=$(jobs -p)
+  kill -STOP "$child"
+  found=$(step_processes "$child")
+  # (nor is it a job any more, so that bash does not say how it ended)
+  disown "$child"
+  kill -KILL "$child"
+  # shellcheck disable=SC2086
+  kill -TERM $found && kill -CONT $found
+  # shellcheck disable=SC2064
+  trap "kill -KILL \$found; exit $stopped" INT TERM
+  # shellcheck disable=SC2086
+  while found=$(step_processes $found); [ -n "$found" ] && [ "$SECONDS" -lt 6 ]; do
+    [ "$SECONDS" -lt 3 ] || kill -KILL $found
+    sleep 0.1
+  done
+} 2>/dev/null
+
+# Prints the processes of steps in this session: those given, those whose variable GITHUB_OUTPUT is a file in the folder of --work,
+# those of a process group of this script alone that nobody in it waits for, all below these, and all of their process groups.
+step_processes() {
+  local file folder own=${GITHUB_OUTPUT-} marked=("$@")
+  while IFS= read -r file; do
+    IFS= read -r -d '' folder < <(grep -szm 1 '^GITHUB_OUTPUT=' "$file")
+    folder=${folder#*=} folder=${folder%/*} file=${file%/*}
+    # (this script may be part of a step)
+    [ "$folder" = "${own%/*}" ] || { [ -d "$folder" ] && ! [ "$folder" -ef "$work" ]; } || marked+=("${file##*/}")
+  done < <(grep -lszE '^GITHUB_OUTPUT=.*/step-[0-9]+-[0-9]+\.out$' /proc/[0-9]*/environ)
+  cat /proc/[0-9]*/stat | awk -v self="$$" -v words="${marked[*]}" '
+    function is_below(it) {
+      while (it in parent) { if (it in marked) return 1; it = parent[it] }
+      return 0
+    }
+    { it = $1; sub(/.*\) /, ""); if ($1 != "Z") { parent[it] = $2; group[it] = $3; session[it] = $4 } }
+    END {
+      count = split(words, list, " ")
+      for (i = 1; i <= count; i++) marked[list[i]]
+      # (beside this script in a pipeline are processes of the same parent)
+      if (group[self] == self)
+        for (it in parent)
+          if (group[it] == self && !(parent[it] in parent && group[parent[it]] == self) && parent[it] != parent[self]) marked[it]
+      for (it in parent) if (session[it] == session[self] && is_below(it)) { steps[it]; if (group[it] != group[self]) groups[group[it]] }
+      for (it in parent) if (session[it] == session[self] && (it in steps || group[it] in groups)) print it
+    }'
 }
 
 # answers a command by the program that was chosen, or by the front
