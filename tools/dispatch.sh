@@ -57,13 +57,14 @@ start_front() {
 # script ignores that signal. With --record this script waits beside `run`: then `record` and `work` are set, the program ignores
 # no more signals than this script, and it ends where this script is killed.
 choose_starter() {
-  local signals=CHLD
+  local signals=CHLD ignored
   starter=() record='' work=.
   [ "$1" = run ] || return 0
   read_run_words "${@:2}"
   if [ -n "$record" ]; then
-    [ -n "$(trap -p INT)" ] || signals+=,INT
-    [ -n "$(trap -p QUIT)" ] || signals+=,QUIT
+    ignored=$(trap -p INT QUIT)
+    [[ $ignored == *SIGINT* ]] || signals+=,INT
+    [[ $ignored == *SIGQUIT* ]] || signals+=,QUIT
     starter=(setpriv --pdeathsig KILL env --default-signal="$signals")
     ! "${starter[@]}" true 2>/dev/null || return 0
   fi

@@ -130,7 +130,8 @@ class Trial:
 
     def __init__(self, flows: list[Flow], play: Play, plan: dict[str, Any], screen: Screen) -> None:
         self.flows, self.play, self.plan, self.screen = flows, play, plan, screen
-        self.room, self.options, self.record = play.room, play.options, play.room.private / "record"
+        self.room, self.options = play.room, play.options
+        self.record, self.part, self.times = (play.room.private / name for name in ("record", "record.part", "times"))
         self.legs = legs_of(plan)
         # several legs in one tree would disturb one another
         self.own_trees = len(self.legs) > 1 and not self.options.in_place
@@ -151,7 +152,8 @@ class Trial:
         for text in stubs.missing:
             self.screen.tell(f"note: no stub stands for {text}: its steps will fail; name a program by --stub "
                              f"{text.partition('@')[0]}=PROGRAM, or skip such actions by --lenient", "note")
-        for name, text in (("plan", json.dumps(self.plan, ensure_ascii=False)), ("stubs.json", json.dumps(stubs.programs)), ("record", "")):
+        for name, text in (("plan", json.dumps(self.plan, ensure_ascii=False)), ("stubs.json", json.dumps(stubs.programs)),
+                           *((path.name, "") for path in (self.record, self.part, self.times))):
             write_private(room.private / name, text)
         self.cache.mkdir(exist_ok=True)
         environment = {**variables(room, self.flows[0].contexts, write_prelude(room, self.board.mark), self.cache),
@@ -159,14 +161,14 @@ class Trial:
         execution = Execution(room.play / "files" / "stopped", self.board)
         status = execution.run(self.words(stubs, environment), environment, room.private / "plan")
         self.screen.status("")
-        self.show_result(dict(self.board.results))
+        self.show_result({**self.results_of_part(), **dict(self.board.results)})
         return INTERRUPTED if execution.interrupts else status
 
     def words(self, stubs: Stubs, environment: dict[str, str]) -> list[str]:
         """The words that execute the plan: in the sandbox, or with a line that says why not."""
         room, options = self.room, self.options
         result = [program(), "run", "--progress", "--workers", str(options.workers), "--work", str(room.play),
-                  "--stubs", str(room.private / "stubs.json"), "--record", str(self.record), "/dev/stdin"]
+                  "--stubs", str(room.private / "stubs.json"), "--record", str(self.record), "--times", str(self.times), "/dev/stdin"]
         if any(re.match(r"actions/cache(/save)?(@|$)", text) for text in stubs.programs):
             after = shlex.join(after_play(PYTHON, self.record))
             result = ["/bin/sh", "-c", f"{shlex.join(result)}\nstatus=$?\n{after} >&2\nexit $status"]
@@ -191,7 +193,19 @@ class Trial:
         readable = [Path(program()), FRONT, *stubs.binds, private / "stubs.json", *([Path(self.bash_env)] if self.bash_env else [])]
         common = git(top, "rev-parse", "--path-format=absolute", "--git-common-dir") if self.options.in_place else None
         in_place = [top, *([Path(common)] if common else [])] if self.options.in_place else []
-        return sandbox_words(self.room, readable, [*in_place, self.cache, self.record], bool(self.options.offline))
+        return sandbox_words(self.room, readable, [*in_place, self.cache, self.record, self.part, self.times], bool(self.options.offline))
+
+    def results_of_part(self) -> dict[int, str]:
+        """Where the program did not write its record, takes the part that grew with the events; gives the results of runs in that part."""
+        if not self.part.exists():
+            return {}
+        if self.part.stat().st_size <= self.record.stat().st_size:
+            self.part.unlink()  # (the program cannot remove it in the sandbox)
+            return {}
+        self.part.replace(self.record)
+        self.screen.tell(f"note: the program was ended before it wrote its record: {self.record} has the events until then", "warning")
+        closed = re.findall(r"(?m)^run (\d+) closed (\w+)", ask("replay", self.record).stdout)
+        return {**dict.fromkeys(range(len(self.flows)), "interrupted"), **{int(run): result for run, result in closed}}
 
     def show_result(self, results: dict[int, str]) -> None:
         """Shows summaries, results, reasons and places; what is asked of the record is asked side by side."""
@@ -199,7 +213,7 @@ class Trial:
         with concurrent.futures.ThreadPoolExecutor() as pool:
             known = self.record.stat().st_size > 0
             asked = {command: pool.submit(ask, command, self.record) for command in ("why", "timeline", "graph") if known}
-            page = pool.submit(report.beside, self.record, self.room.play, asked) if known else None
+            page = pool.submit(report.beside, self.record, self.room.play, self.times, asked) if known else None
             self.show_runs(results, asked)
             self.screen.say("")
             for line in self.places(asked, page):

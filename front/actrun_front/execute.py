@@ -96,7 +96,7 @@ class Execution:
     child: Any = None
 
     def run(self, words: list[str], environment: dict[str, str], plan: Path) -> int:
-        """Executes the plan to its end; gives the status of `run`, or 3 where a signal ended it."""
+        """Executes the plan to its end; gives the status of `run`, or 3 where a signal ended it, also in the sandbox."""
         kept = {number: signal.signal(number, self.interrupt) for number in (signal.SIGINT, signal.SIGTERM, signal.SIGHUP)}
         try:
             with open(plan, "rb") as text:
@@ -107,7 +107,7 @@ class Execution:
             each_line(self.child.stdout, self.board.output)
             status = self.child.wait()
             reader.join(PATIENCE)
-            return status if status >= 0 else 3
+            return status if 0 <= status < 128 else 3
         finally:
             self.end()
             for number, handler in kept.items():

@@ -113,7 +113,8 @@ def explain_io(files: list[str], work: str, record: str) -> str:
     if space.f_bavail * space.f_frsize < LEAST_SPACE:
         return f"{work}: No space left on device: make room there, or name another place"
     if record and (os.path.isdir(record) or not os.access(os.path.dirname(record) or ".", os.W_OK)):
-        return f"the record {record} cannot be written: its folder is not there or not writable, or it is a folder itself"
+        part = f"; {record}.part has it" if os.path.isfile(f"{record}.part") else ""
+        return f"the record {record} cannot be written: its folder is not there or not writable, or it is a folder itself{part}"
     return "all files that are named can be opened, so a read or a write failed: is the disk full, or standard output closed?"
 
 

@@ -13,10 +13,10 @@ from typing import Any, Callable, Iterable, TextIO
 from .execute import read_progress
 
 CONTROL = re.compile(r"[\x00-\x1f\x7f]")
-COLOURS = {"success": "32", "failure": "31", "cancelled": "33", "skipped": "90", "stalled": "31", "note": "90", "head": "1",
+COLOURS = {"success": "32", "failure": "31", "cancelled": "33", "skipped": "90", "stalled": "31", "interrupted": "33", "note": "90", "head": "1",
            "warning": "33"}
 SIGNS = {"success": ("✓", "ok"), "failure": ("✗", "FAILED"), "cancelled": ("⊘", "CANCELLED"), "skipped": ("-", "skipped"),
-         "stalled": ("✗", "STALLED")}
+         "stalled": ("✗", "STALLED"), "interrupted": ("⊘", "INTERRUPTED")}
 MATRIX = re.compile(r"\$\{\{\s*matrix\.([\w-]+)\s*\}\}")
 RUN_LINE = re.compile(r"run (\d+) (success|failure|cancelled|skipped|stalled)")
 WHY_LINE = re.compile(r"( *)(job|leg|step) (\d+) \(")

@@ -247,7 +247,7 @@ function happened(at) {
 
 function clockText(at) {
   if (!times) return '';
-  const wall = new Date(data.times.start * 1000 + times[at - FIRST]);
+  const wall = new Date(data.times.start + times[at - FIRST]);
   return `${(times[at - FIRST] / 1000).toFixed(1)} s, ${wall.toLocaleTimeString()}`;
 }
 

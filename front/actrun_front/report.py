@@ -45,8 +45,6 @@ def shown(program: str, path: pathlib.Path, logs: pathlib.Path | None = None, ti
     record = read_record(program, path)
     masks = plan_masks(record.plan)
     clock = read_times(times, record.last) if times else None
-    if clock and len(clock["entries"]) != record.last:
-        raise Problem(f"--times {times}: it has {len(clock['entries'])} entries, the record {record.last}")
     boards = Boards(program, path, masks, around, seconds)
     if boards.total != record.last:
         raise Problem(f"{path}: the record changed while it was read; write the report again")
@@ -113,14 +111,17 @@ def last_states(boards: Boards) -> dict[str, str]:
     return found
 
 
-def beside(record: pathlib.Path, logs: pathlib.Path, asked: dict[str, Any], seconds: float = 5) -> pathlib.Path | None:
-    """The page of a record that `try` made, written beside it for its owner alone; None where that fails."""
+def beside(record: pathlib.Path, logs: pathlib.Path, times: pathlib.Path, asked: dict[str, Any], seconds: float = 5) -> pathlib.Path | None:
+    """The page of a record that `try` made, written beside it for its owner alone, without a clock where the times do not fit; None where
+    that fails."""
     target = record.with_name("report.html")
-    try:
-        write(target, page(os.environ["ACTRUN_PROGRAM"], record, logs=logs, seconds=seconds, asked=asked), 0o600)
-    except (Problem, OSError, ValueError, KeyError):
-        return None
-    return target
+    for clock in (times, None):
+        try:
+            write(target, page(os.environ["ACTRUN_PROGRAM"], record, logs=logs, times=clock, seconds=seconds, asked=asked), 0o600)
+            return target
+        except (Problem, OSError, ValueError, KeyError):
+            continue
+    return None
 
 
 def write(target: pathlib.Path, text: str, mode: int = 0o666) -> None:
@@ -138,7 +139,7 @@ def options(arguments: list[str]) -> argparse.Namespace:
     reader.add_argument("record", metavar="RECORD", type=pathlib.Path, help="what `run --record` or `try` wrote")
     reader.add_argument("-o", dest="output", metavar="FILE", type=pathlib.Path, help="where to write the page (default: RECORD.html)")
     reader.add_argument("--logs", metavar="DIR", type=pathlib.Path, help="show the step-L-S.log of this folder, masked")
-    reader.add_argument("--times", metavar="FILE", type=pathlib.Path, help="wall clock of the start, then milliseconds of each entry, one a line")
+    reader.add_argument("--times", metavar="FILE", type=pathlib.Path, help="what `run --times` wrote: gives the chart a clock")
     reader.add_argument("--around", metavar="K", type=int, help="of a record too big for one page, show the places round K")
     reader.add_argument("--seconds", metavar="N", type=float, default=60, help="read boards for so long (default: 60), then show a window")
     return reader.parse_args(arguments)

@@ -5,7 +5,6 @@ A board is kept as blocks: one for each run, job and leg, and one for the ended 
 from __future__ import annotations
 
 import concurrent.futures
-import datetime
 import itertools
 import json
 import pathlib
@@ -260,12 +259,13 @@ def unknown(path: pathlib.Path) -> bool:
 
 
 def read_times(path: pathlib.Path, entries: int) -> dict[str, Any]:
-    """The wall clock of the start, in seconds since 1970, and the milliseconds of each entry since then."""
+    """The wall clock of the start, in milliseconds since 1970, and the milliseconds of each entry since then."""
     try:
-        lines = path.read_text(encoding="utf-8").split()
-        start = float(lines[0]) if re.fullmatch(r"[0-9.]+", lines[0]) else datetime.datetime.fromisoformat(
-            lines[0].replace("Z", "+00:00")).timestamp()
-        return {"start": start / 1000 if start > 1e11 else start, "entries": list(itertools.accumulate(map(float, lines[1:1 + entries]), max))}
-    except (OSError, ValueError, IndexError) as fault:
-        raise Problem(f"--times {path}: {fault}: the first line has to be a wall clock as 2026-11-27T17:19:51Z or in seconds since 1970, "
-                      "each later line milliseconds since then") from None
+        lines = path.read_text(encoding="utf-8").splitlines()[:1 + entries]
+    except (OSError, ValueError) as fault:
+        raise Problem(f"--times {path}: {fault}: name a file that `actrun run --times` wrote") from None
+    wrong = next((number for number, line in enumerate(lines, 1) if not re.fullmatch("[0-9]{1,15}", line)), 0)
+    if wrong or len(lines) <= entries:
+        raise Problem(f"--times {path}: line {wrong or len(lines) + 1} is no number of milliseconds, and the record has {entries + 1} lines: "
+                      "name the file that `actrun run --times` wrote beside this record")
+    return {"start": int(lines[0]), "entries": list(itertools.accumulate(map(int, lines[1:]), max))}

@@ -135,6 +135,7 @@ class Explain(unittest.TestCase):
     def test_the_file_that_cannot_be_opened(self) -> None:
         self.write("here.plan", "{}")
         os.mkdir("folder")
+        self.write("folder.part", "")
         for command, arguments, expected in (
                 ("plan", ["ok.json", "ok.jsn"], "ok.jsn is not there; did you mean ok.json?"),
                 ("plan", ["--contexts", "none", "ok.jsn"], "none is not there"),
@@ -142,7 +143,8 @@ class Explain(unittest.TestCase):
                 ("run", ["folder"], "folder is a folder"),
                 ("run", ["--work", "none", "here.plan"], "the folder none of --work is not there"),
                 ("run", ["--record", "none/r", "here.plan"], "the record none/r cannot be written"),
-                ("run", ["--record", "folder", "here.plan"], "the record folder cannot be written"),
+                ("run", ["--record", "folder", "here.plan"], "the record folder cannot be written: its folder is not there or not writable, or it is "
+                 "a folder itself; folder.part has it"),
                 ("list", ["ok.json"], "is the disk full"), ("table", [], "is the disk full")):
             words = explain("actrun: io", command, arguments)
             self.assertTrue(words.startswith(expected) or expected == "is the disk full" and expected in words, words)

@@ -160,7 +160,7 @@ class Written(ReportCase):
 
     def test_what_is_wrong_is_said(self) -> None:
         times = self.room / "times"
-        for text in ("2026-11-27T17:19:51Z\n1\n", "noon\n", ""):
+        for text in ("1795800000000\n1\n", "2026-11-27T17:19:51Z\n" * 10, "1795800000000\n" + "1\n" * 8 + "1e3\n", ""):
             times.write_text(text)
             self.assertRaisesRegex(Problem, "--times", report.page, PROGRAM, EXAMPLES / "skipped.record", times=times)
         self.assertRaisesRegex(Problem, "--around 99: the record has the places 0 to 9", report.page, PROGRAM,
@@ -307,7 +307,7 @@ class Seen(ReportCase):
         record = self.recorded("details", plan_of("ci", ["job"], steps))
         times = self.room / "clock"
         total = record.read_bytes().count(b"\n") - 1
-        times.write_text("2026-11-27T17:19:51Z\n" + "".join(f"{at * 250}\n" for at in range(1, total + 1)))
+        times.write_text("1795800000000\n" + "".join(f"{at * 250}\n" for at in range(1, total + 1)))
         self.open(self.page(record, logs=record.parent, times=times))
         said = "return document.querySelector('#details').textContent"
         why = subprocess.run([PROGRAM, "why", record, "step", "0", "1"], capture_output=True, text=True, check=True).stdout.strip()

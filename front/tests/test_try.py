@@ -10,7 +10,7 @@ import time
 import unittest
 from pathlib import Path
 
-from .try_case import FRONT, NEEDS_PROGRAM, TryCase, sandbox_works
+from .try_case import FRONT, NEEDS_PROGRAM, PROGRAM, TryCase, sandbox_works
 
 EXAMPLE = FRONT.parent / "examples" / "repository"
 
@@ -372,8 +372,8 @@ class InSandbox(TryCase):
 class Interrupted(TryCase):
     """Ctrl-C."""
 
-    def interrupt(self, *words: str) -> tuple[int, str, str]:
-        """Status and outputs of a play that is interrupted in its second step."""
+    def interrupt(self, *words: str, killed: bool = False) -> tuple[int, str, str]:
+        """Status and outputs of a play that is interrupted in its second step, or whose program is killed there."""
         seconds = f"6{{}}.{os.getpid()}"  # (that no other program of this machine sleeps)
         self.workflow(f"- run: echo first\n- name: long\n  run: touch here; sleep {seconds.format(0)} & sleep {seconds.format(1)}\n"
                       "- if: always()\n  run: echo after")
@@ -383,10 +383,35 @@ class Interrupted(TryCase):
         while not list(self.home.glob(".cache/actrun/work/*/play/tree/project/here")) and time.time() < end:
             time.sleep(0.05)
         begun = time.time()
-        os.killpg(child.pid, signal.SIGINT)
+        if killed:
+            os.kill(self.program(), signal.SIGKILL)
+        else:
+            os.killpg(child.pid, signal.SIGINT)
         out, err = child.communicate(timeout=30)
         self.assertLess(time.time() - begun, 10)
         return child.returncode, out, err
+
+    def program(self) -> int:
+        """The process that executes the plan."""
+        for place in Path("/proc").glob("[0-9]*/cmdline"):
+            try:
+                words = place.read_bytes().split(b"\0")
+            except OSError:
+                continue
+            if words[:2] == [os.fsencode(PROGRAM), b"run"] and os.fsencode(self.work()) in b" ".join(words):
+                return int(place.parent.name)
+        self.fail("no program executes the plan")
+
+    def check_killed(self, status: int, out: str, err: str) -> None:
+        """The record that grew until then was taken."""
+        self.assertEqual(status, 3, out + err)
+        private = self.work() / "private"
+        self.assertIn(f"note: the program was ended before it wrote its record: {private}/record has the events until then\n", err)
+        self.assertRegex(out, r"(?m)^\S+ \.github/workflows/ci\.yml: interrupted\n  run 0 \(.*\) is going since line 2$")
+        self.assertRegex(out, r"step 1 \(long\) runs since line \d+  \[\.github/workflows/ci\.yml:7\]")
+        self.assertIn(f"report    {private}/report.html\n", out)
+        self.assertRegex((private / "report.html").read_text(encoding="utf-8"), r'"times":\{"start":\d{13},')
+        self.assertFalse((private / "record.part").exists())
 
     def check(self, status: int, out: str, err: str) -> None:
         """The play ended and said what it knows."""
@@ -404,6 +429,13 @@ class Interrupted(TryCase):
 
     def test_without_sandbox(self) -> None:
         self.check(*self.interrupt("--no-sandbox"))
+
+    @unittest.skipUnless(sandbox_works(), "bwrap is not installed or does not work here")
+    def test_a_killed_program_in_the_sandbox(self) -> None:
+        self.check_killed(*self.interrupt(killed=True))
+
+    def test_a_killed_program_without_sandbox(self) -> None:
+        self.check_killed(*self.interrupt("--no-sandbox", killed=True))
 
 
 @NEEDS_PROGRAM

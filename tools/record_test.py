@@ -1,0 +1,258 @@
+"""Tests of the record that grows while a plan is executed: what a signal, a full disk and a file that cannot be written leave of it.
+
+The environment variable ACTRUN_PROGRAM names a built program; `tools/unit_tests.py` is started with it by `tools/test`.
+"""
+from __future__ import annotations
+
+import concurrent.futures
+import json
+import os
+import random
+import shutil
+import signal
+import subprocess
+import sys
+import tempfile
+import time
+import unittest
+from pathlib import Path
+
+TOP = Path(__file__).resolve().parent.parent
+# (a server that a step starts has its number in its command line, so that it is found again)
+UNIQUE = f"{os.getpid()}"
+STARTER = 'set -u; top=$1 program=$2; shift 2; . "$top/tools/dispatch.sh"; answer "$@"'
+LONG = [{"name": "first", "run": f"echo shown; sleep 71.{UNIQUE} & (set -m; sleep 72.{UNIQUE} &); env -i sleep 73.{UNIQUE} &"},
+        {"name": "long", "run": f"sleep 74.{UNIQUE} & (set -m; timeout 99 sleep 75.{UNIQUE} & wait) & touch here; sleep 76.{UNIQUE}"},
+        {"run": "echo never"}]
+
+
+def program() -> str:
+    """The program that the tests use."""
+    named = os.environ.get("ACTRUN_PROGRAM")
+    if not named:
+        raise RuntimeError("ACTRUN_PROGRAM has to name a built program: start these tests by tools/test python")
+    return str(Path(named).resolve())
+
+
+def sleeps() -> dict[str, int]:
+    """The sleeping processes that these tests started, by their seconds."""
+    found = {}
+    for place in Path("/proc").glob("[0-9]*/cmdline"):
+        try:
+            words = place.read_bytes().split(b"\0")
+        except OSError:
+            continue
+        if words[0] == b"sleep" and words[1].endswith(UNIQUE.encode()):
+            found[words[1].decode()] = int(place.parent.name)
+    return found
+
+
+class Case(unittest.TestCase):
+    """A folder with a plan, and the ways to execute it."""
+
+    def setUp(self) -> None:
+        self.room = Path(tempfile.mkdtemp(prefix="actrun-record-")).resolve()
+        self.addCleanup(shutil.rmtree, self.room, ignore_errors=True)
+        self.addCleanup(lambda: [os.kill(it, signal.SIGKILL) for it in sleeps().values()])
+        self.work, self.record = self.room / "work", self.room / "r"
+        self.part = self.room / "r.part"
+        self.work.mkdir()
+
+    def plan(self, steps: list[dict], legs: int = 1) -> Path:
+        """The plan of one job with these steps."""
+        matrix = {"strategy": {"fail-fast": False, "matrix": {"leg": list(range(legs))}}}
+        flow = {"on": "push", "jobs": {"job": {"runs-on": "x", "steps": steps, **(matrix if legs > 1 else {})}}}
+        (self.room / "flow.json").write_text(json.dumps(flow), encoding="utf-8")
+        plan = self.room / "plan"
+        plan.write_bytes(subprocess.run([program(), "plan", self.room / "flow.json"], check=True, stdout=subprocess.PIPE).stdout)
+        return plan
+
+    def words(self, plan: Path, *more: str) -> list[str]:
+        """The words of `run` by the program itself."""
+        return [program(), "run", "--work", str(self.work), *(more or ("--record", str(self.record))), str(plan)]
+
+    def script(self, *words: str) -> list[str]:
+        """The same words by what the script `actrun` does with them."""
+        return ["bash", "-c", STARTER, "actrun", str(TOP), *words]
+
+    def run_words(self, words: list[str], **more) -> subprocess.CompletedProcess[str]:
+        """What a command answers."""
+        more.setdefault("stdin", None if "input" in more else subprocess.DEVNULL)
+        if "input" in more:
+            del more["stdin"]
+        return subprocess.run(words, text=True, capture_output=True, timeout=60, check=False, **more)
+
+    def lines(self, file: Path) -> list[bytes]:
+        """The lines of a record that `table` accepts; all of them are whole."""
+        text = file.read_bytes()
+        answer = subprocess.run([program(), "table"], input=text, capture_output=True, check=False)
+        self.assertEqual((answer.returncode, answer.stderr, text[-1:]), (0, b"", b"\n"), text[-300:])
+        return text.splitlines(keepends=True)
+
+
+class Growing(Case):
+    """What a run leaves that nobody stops, or that is killed."""
+
+    def test_a_kill_at_any_moment_leaves_a_beginning_of_a_legal_record(self) -> None:
+        plan = self.plan([{"run": "echo one=1 >> $GITHUB_OUTPUT"}, {"run": "sleep 0.01"}, {"run": "exit 1"}], 4)
+        began = time.monotonic()
+        self.run_words(self.words(plan))
+        whole, longest = self.lines(self.record), time.monotonic() - began
+
+        def kill(number: int) -> int:
+            """How many lines there are after a kill; -1 where the run had ended."""
+            room = self.room / str(number)
+            room.mkdir()
+            words = [program(), "run", "--workers", "2", "--work", str(room), "--record", str(room / "r"), str(plan)]
+            with subprocess.Popen(words, stdout=subprocess.DEVNULL, stderr=subprocess.DEVNULL) as child:
+                time.sleep(random.uniform(0, longest))
+                child.kill()
+            part, record = room / "r.part", room / "r"
+            if not part.exists():
+                return -1 if record.exists() else 0
+            lines = self.lines(part) if part.stat().st_size else []
+            self.assertEqual(lines[:1], whole[:1] if lines else [])
+            self.assertTrue(not record.exists() or part.read_bytes().startswith(record.read_bytes()))
+            return len(lines)
+        with concurrent.futures.ThreadPoolExecutor(4) as pool:
+            counts = list(pool.map(kill, range(int(os.environ.get("ACTRUN_KILLS", "40")))))
+        if "ACTRUN_KILLS" in os.environ:
+            print(sorted(counts), file=sys.stderr)
+        self.assertTrue(any(1 < count < len(whole) for count in counts), counts)
+
+    def test_times_has_a_number_for_each_line(self) -> None:
+        now = time.time() * 1000
+        answer = self.run_words(self.words(self.plan([{"run": "sleep 0.2"}, {"run": "true"}]), "--record", str(self.record), "--times",
+                                           str(self.room / "times")))
+        self.assertEqual((answer.returncode, answer.stderr), (0, ""))
+        first, *later = map(int, (self.room / "times").read_text(encoding="utf-8").splitlines())
+        self.assertEqual(len(later) + 1, len(self.lines(self.record)))
+        self.assertEqual(later, sorted(later))
+        self.assertTrue(now - 1000 < first < now + 60000 and later[-1] >= 200, (now, first, later))
+        self.assertFalse(self.part.exists())
+
+    def test_a_folder_that_is_missing_is_named_and_the_plan_executed(self) -> None:
+        plan = self.plan([{"run": "echo shown"}])
+        for folder, why in ((self.room / "none", "entity not found"), (Path("/sys"), "permission denied")):
+            answer = self.run_words(self.words(plan, "--record", f"{folder}/r"))
+            self.assertEqual((answer.returncode, answer.stdout), (3, "shown\nrun 0 success\n"))
+            self.assertEqual(answer.stderr, f"actrun: {folder}/r.part cannot be written ({why}); the plan is executed all the same\nactrun: io\n")
+
+    def test_a_file_that_cannot_be_written_leaves_the_part(self) -> None:
+        self.record.mkdir()
+        answer = self.run_words(self.words(self.plan([{"run": "true"}])))
+        self.assertEqual((answer.returncode, answer.stderr), (3, "actrun: io\n"))
+        self.assertIn(b'"close"', self.lines(self.part)[-1])
+
+    def test_a_record_may_be_standard_output(self) -> None:
+        answer = self.run_words(self.words(self.plan([{"run": "echo shown"}]), "--record", "/dev/stdout"))
+        shown, result, *record = answer.stdout.splitlines(keepends=True)
+        self.assertEqual((answer.returncode, shown, result), (0, "shown\n", "run 0 success\n"))
+        self.record.write_text("".join(record), encoding="utf-8")
+        self.lines(self.record)
+        self.assertFalse(Path("/dev/stdout.part").exists())
+
+    @unittest.skipUnless(os.geteuid() == 0, "only root can mount a small file system")
+    def test_a_full_disk_leaves_whole_lines(self) -> None:
+        small = self.room / "small"
+        small.mkdir()
+        if subprocess.run(["mount", "-t", "tmpfs", "-o", "size=64k", "tmpfs", str(small)], capture_output=True, check=False).returncode:
+            self.skipTest("a file system cannot be mounted here")
+        self.addCleanup(subprocess.run, ["umount", "-l", str(small)], check=False)
+        plan = self.plan([{"run": "printf 'word=%09000d\\n' 1 >> $GITHUB_OUTPUT"}] * 12)
+        answer = self.run_words(self.words(plan, "--record", str(small / "r")))
+        self.assertEqual((answer.returncode, answer.stdout, answer.stderr), (3, "run 0 success\n", "actrun: io\n"))
+        self.assertGreater(len(self.lines(small / "r.part")), 10)
+
+
+class Signalled(Case):
+    """What the script does at a signal."""
+
+    def stop(self, number: int, steps: list[dict] | None = None, again: bool = False) -> subprocess.CompletedProcess[str]:
+        """What a run answers that gets a signal in its second step, and the same signal again and again until it ends."""
+        words = self.script(*self.words(self.plan(steps or LONG)))
+        with subprocess.Popen(words, stdin=subprocess.DEVNULL, stdout=subprocess.PIPE, stderr=subprocess.PIPE, text=True,
+                              start_new_session=True) as child:
+            end = time.monotonic() + 20
+            while not (self.work / "here").exists() and time.monotonic() < end:
+                time.sleep(0.02)
+            time.sleep(0.1)
+            # (a terminal sends SIGINT to all processes of the group, `kill` SIGTERM to the script alone)
+            (os.killpg if number == signal.SIGINT else os.kill)(child.pid, number)
+            while again and child.poll() is None:
+                time.sleep(0.3)
+                child.send_signal(number)
+            out, err = child.communicate(timeout=30)
+        return subprocess.CompletedProcess(words, child.returncode, out, err)
+
+    def test_a_signal_ends_the_steps_and_the_record_is_named(self) -> None:
+        for number, status in ((signal.SIGINT, 130), (signal.SIGTERM, 143)):
+            with self.subTest(number=number):
+                (self.work / "here").unlink(missing_ok=True)
+                answer = self.stop(number)
+                self.assertEqual((answer.returncode, answer.stdout), (status, ""), answer.stderr)
+                first, *why = answer.stderr.splitlines()
+                self.assertEqual(first, f"actrun: a signal ended the run; {self.part} has its record so far: actrun why {self.part}")
+                self.assertRegex("\n".join(why), r"\n      step 1 \(long\) runs since line \d+$")
+                self.assertEqual(sleeps(), {})
+                self.lines(self.part)
+                self.assertFalse(self.record.exists())
+
+    def test_a_server_in_a_session_of_its_own_goes_on(self) -> None:
+        steps = [{"run": f"setsid sleep 77.{UNIQUE} > /dev/null & sleep 0.1; touch here; sleep 78.{UNIQUE}"}]
+        self.assertEqual(self.stop(signal.SIGTERM, steps).returncode, 143)
+        self.assertEqual(list(sleeps()), [f"77.{UNIQUE}"])
+
+    def test_a_second_signal_ends_at_once_what_does_not_end(self) -> None:
+        steps = [{"run": f"trap '' TERM; touch here; sleep 79.{UNIQUE}"}]
+        answer = self.stop(signal.SIGTERM, steps, again=True)
+        self.assertEqual((answer.returncode, answer.stdout, answer.stderr), (143, "", ""))
+        end = time.monotonic() + 5
+        while sleeps() and time.monotonic() < end:
+            time.sleep(0.02)
+        self.assertEqual(sleeps(), {})
+
+    def test_a_signal_that_the_parent_ignores_is_ignored(self) -> None:
+        plan = self.plan([{"run": "touch here; sleep 1; echo through"}])
+        code = "import os, signal, sys; signal.signal(signal.SIGINT, signal.SIG_IGN); os.execvp(sys.argv[1], sys.argv[1:])"
+        words = [sys.executable, "-c", code, *self.script(*self.words(plan))]
+        with subprocess.Popen(words, stdout=subprocess.PIPE, stderr=subprocess.PIPE, text=True, start_new_session=True) as child:
+            while not (self.work / "here").exists() and child.poll() is None:
+                time.sleep(0.02)
+            os.killpg(child.pid, signal.SIGINT)
+            out, err = child.communicate(timeout=30)
+        self.assertEqual((child.returncode, out, err), (0, "through\nrun 0 success\n", ""))
+
+    def test_nothing_else_changes(self) -> None:
+        self.plan([{"run": "cat; kill -INT $$; echo on; exit 4"}])
+        words = self.words(Path("/dev/stdin"))
+        text = (self.room / "plan").read_text(encoding="utf-8")
+        plain, answer = (self.run_words(it, input=text) for it in (words, self.script(*words)))
+        self.assertEqual((answer.returncode, answer.stdout, answer.stderr), (plain.returncode, plain.stdout, plain.stderr))
+        self.assertEqual((answer.returncode, answer.stdout), (1, "run 0 failure\n"))
+        self.lines(self.record)
+        code = "import os, sys; os.close(0); os.execvp(sys.argv[1], sys.argv[1:])"
+        answer = self.run_words([sys.executable, "-c", code, *self.script(*self.words(self.room / "plan"))])
+        self.assertEqual((answer.returncode, answer.stdout, answer.stderr), (1, "run 0 failure\n", ""))
+
+    def test_without_a_record_the_script_is_the_program(self) -> None:
+        plan = self.plan([{"run": "readlink /proc/$PPID/exe; echo $PPID"}])
+        words = self.script(*self.words(plan, "--progress"))
+        with subprocess.Popen(words, stdout=subprocess.PIPE, stderr=subprocess.DEVNULL, text=True) as child:
+            out, _ = child.communicate(timeout=30)
+        self.assertEqual(out.splitlines()[:2], [program(), str(child.pid)])
+
+    @unittest.skipUnless(shutil.which("setpriv"), "setpriv is missing")
+    def test_the_program_ends_where_the_script_is_killed(self) -> None:
+        plan = self.plan([{"run": "echo $PPID > here; sleep 0.5"}, {"run": "touch after"}])
+        with subprocess.Popen(self.script(*self.words(plan)), stdout=subprocess.DEVNULL) as child:
+            while not ((self.work / "here").exists() and (self.work / "here").stat().st_size):
+                time.sleep(0.02)
+            child.kill()
+        time.sleep(1)
+        self.assertFalse((self.work / "after").exists())
+        self.lines(self.part)
+
+
+if __name__ == "__main__":
+    unittest.main()
