@@ -29,7 +29,7 @@ _actrun() {
       ;;
     from-yaml) offered='--help -o --lower --contexts --repository --matrix --any-system' ;;
     plan) offered='--help --event --job --contexts' ;;
-    run) offered='--help --workers --record --work --stubs --progress' ;;
+    run) offered='--help --workers --record --times --work --stubs --progress' ;;
     eval) offered='--help --contexts' ;;
     replay) offered='--help --settled' ;;
     report) offered='--help -o --logs --times --around --seconds' ;;

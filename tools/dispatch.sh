@@ -134,11 +134,11 @@ watch_program() {
   return "${stopped:-$ended}"
 }
 
-# where a signal ended the program, says what has the record so far, and why it is as it is
+# where a signal ended the program, says what has the record so far, and why it is as it is, in at most 30 lines
 tell_part() {
   [ -n "$record" ] && [ "$status" -gt 128 ] && [ -s "$record.part" ] || return 0
   say "a signal ended the run; $record.part has its record so far: actrun why $(printf %q "$record.part")"
-  "$program" why -- "$record.part" >&2
+  "$program" why -- "$record.part" 2>/dev/null | sed '30{s/.*/.../;q;}' >&2
 }
 
 # Ends the program, then its steps: by SIGTERM, and those that are there three seconds later by SIGKILL. Another signal ends all at

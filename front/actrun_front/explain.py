@@ -109,11 +109,13 @@ def explain_io(files: list[str], work: str, record: str) -> str:
     reason = next(filter(None, map(unreadable, files)), None)
     if reason or not os.path.isdir(work):
         return reason or f"the folder {work} of --work is not there: mkdir -p it"
-    space = os.statvfs(work)
-    if space.f_bavail * space.f_frsize < LEAST_SPACE:
-        return f"{work}: No space left on device: make room there, or name another place"
-    if record and (os.path.isdir(record) or not os.access(os.path.dirname(record) or ".", os.W_OK)):
-        part = f"; {record}.part has it" if os.path.isfile(f"{record}.part") else ""
+    of_record = os.path.dirname(record) or "."
+    part = f"; {record}.part has what was recorded" if record and os.path.isfile(f"{record}.part") else ""
+    for folder in filter(os.path.isdir, (work, of_record)):
+        space = os.statvfs(folder)
+        if space.f_bavail * space.f_frsize < LEAST_SPACE:
+            return f"{folder}: No space left on device: make room there, or name another place{part}"
+    if record and (os.path.isdir(record) or not os.access(of_record, os.W_OK)):
         return f"the record {record} cannot be written: its folder is not there or not writable, or it is a folder itself{part}"
     return "all files that are named can be opened, so a read or a write failed: is the disk full, or standard output closed?"
 

@@ -144,7 +144,7 @@ class Explain(unittest.TestCase):
                 ("run", ["--work", "none", "here.plan"], "the folder none of --work is not there"),
                 ("run", ["--record", "none/r", "here.plan"], "the record none/r cannot be written"),
                 ("run", ["--record", "folder", "here.plan"], "the record folder cannot be written: its folder is not there or not writable, or it is "
-                 "a folder itself; folder.part has it"),
+                 "a folder itself; folder.part has what was recorded"),
                 ("list", ["ok.json"], "is the disk full"), ("table", [], "is the disk full")):
             words = explain("actrun: io", command, arguments)
             self.assertTrue(words.startswith(expected) or expected == "is the disk full" and expected in words, words)
