@@ -231,9 +231,15 @@ class Signalled(Case):
         self.assertEqual((answer.returncode, answer.stdout, answer.stderr), (plain.returncode, plain.stdout, plain.stderr))
         self.assertEqual((answer.returncode, answer.stdout), (1, "run 0 failure\n"))
         self.lines(self.record)
-        code = "import os, sys; os.close(0); os.execvp(sys.argv[1], sys.argv[1:])"
-        answer = self.run_words([sys.executable, "-c", code, *self.script(*self.words(self.room / "plan"))])
-        self.assertEqual((answer.returncode, answer.stdout, answer.stderr), (1, "run 0 failure\n", ""))
+        for first in ("os.close(0)", "signal.signal(signal.SIGCHLD, signal.SIG_IGN)"):
+            code = f"import os, signal, sys; {first}; os.execvp(sys.argv[1], sys.argv[1:])"
+            answer = self.run_words([sys.executable, "-c", code, *self.script(*self.words(self.room / "plan"))])
+            self.assertEqual((answer.returncode, answer.stdout, answer.stderr), (1, "run 0 failure\n", ""))
+
+    def test_a_program_that_is_killed_ends_the_script_by_that_signal(self) -> None:
+        answer = self.run_words(self.script(*self.words(self.plan([{"run": "kill -KILL $PPID; sleep 0.1"}]))))
+        self.assertEqual((answer.returncode, answer.stdout), (-signal.SIGKILL, ""))
+        self.assertRegex(answer.stderr, r"^actrun: a signal ended the run; .*\n(.*\n)*      step 0 \(.*\) runs since line 6\n$")
 
     def test_without_a_record_the_script_is_the_program(self) -> None:
         plan = self.plan([{"run": "readlink /proc/$PPID/exe; echo $PPID"}])

@@ -155,6 +155,7 @@ class Trial:
         for name, text in (("plan", json.dumps(self.plan, ensure_ascii=False)), ("stubs.json", json.dumps(stubs.programs)),
                            *((path.name, "") for path in (self.record, self.part, self.times))):
             write_private(room.private / name, text)
+        self.part.chmod(0o200)  # (it has the secrets while steps run)
         self.cache.mkdir(exist_ok=True)
         environment = {**variables(room, self.flows[0].contexts, write_prelude(room, self.board.mark), self.cache),
                        "ACTRUN_PROGRAM": program(), "ACTRUN_BASH_ENV": self.bash_env, **self.options.variables}
@@ -199,6 +200,7 @@ class Trial:
         """Where the program did not write its record, takes the part that grew with the events; gives the results of runs in that part."""
         if not self.part.exists():
             return {}
+        self.part.chmod(0o600)
         if self.part.stat().st_size <= self.record.stat().st_size:
             self.part.unlink()  # (the program cannot remove it in the sandbox)
             return {}
