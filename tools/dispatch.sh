@@ -54,32 +54,31 @@ start_front() {
 }
 
 # Sets `starter` to the words before those of a command. `run` has to be told how its steps end, also where the parent of this
-# script ignores that signal. With --record this script waits beside `run`: then `record` and `work` are set, the program ignores
-# no more signals than this script, and it ends where this script is killed.
+# script ignores that signal. With --record, whose value `record` has then, this script waits beside `run`: that is in a session of
+# its own, ignores no more signals than this script, and ends where this script is killed.
 choose_starter() {
   local signals=CHLD ignored
-  starter=() record='' work=.
+  starter=() record=''
   [ "$1" = run ] || return 0
-  read_run_words "${@:2}"
+  read_record "${@:2}"
   if [ -n "$record" ]; then
     ignored=$(trap -p INT QUIT)
     [[ $ignored == *SIGINT* ]] || signals+=,INT
     [[ $ignored == *SIGQUIT* ]] || signals+=,QUIT
-    starter=(setpriv --pdeathsig KILL env --default-signal="$signals")
-    ! "${starter[@]}" true 2>/dev/null || return 0
+    starter=(setsid setpriv --pdeathsig KILL env --default-signal="$signals")
+    ! "${starter[@]:1}" true 2>/dev/null || return 0
   fi
   starter=(env --default-signal="$signals")
-  "${starter[@]}" true 2>/dev/null || starter=() record=''
+  "${starter[@]}" true 2>/dev/null || starter=()
+  record=''
 }
 
-# sets `record` and `work` to the values of these options among the words of `run`
-read_run_words() {
+# sets `record` to the value of this option among the words of `run`
+read_record() {
   while [ $# -gt 0 ] && [ "$1" != -- ]; do
     case $1 in
       --record=*) record=${1#*=} ;;
-      --work=*) work=${1#*=} ;;
       --record) record=${2-} ;;
-      --work) work=${2-} ;;
     esac
     shift
   done
@@ -124,11 +123,12 @@ explain_program() {
 watch_program() {
   local ended
   stopped=''
-  trap 'stop_run 130' INT
-  trap 'stop_run 143' TERM
   [ -e /dev/fd/0 ] || exec </dev/null
   "${starter[@]}" "$program" "$@" <&0 &
-  wait "$!" 2>/dev/null
+  child=$!
+  trap 'stop_run 130' INT
+  trap 'stop_run 143' TERM
+  wait "$child" 2>/dev/null
   ended=$?
   trap - INT TERM
   return "${stopped:-$ended}"
@@ -141,55 +141,33 @@ tell_part() {
   "$program" why -- "$record.part" 2>/dev/null | sed '30{s/.*/.../;q;}' >&2
 }
 
-# Ends the program, then its steps: by SIGTERM, and those that are there three seconds later by SIGKILL. Another signal ends all at
-# once; one of the next moment belongs to the first.
+# Ends the program, then the steps in its session: by SIGTERM, and those that are there three seconds later by SIGKILL. Another
+# signal ends all at once.
 stop_run() {
-  local child found
-  trap '' INT TERM
-  stopped=$1 SECONDS=0
-  child=$(jobs -p)
-  kill -STOP "$child"
-  found=$(step_processes "$child")
-  # (nor is it a job any more, so that bash does not say how it ended)
+  stopped=$1
+  # shellcheck disable=SC2064
+  trap "end_session KILL; exit $1" INT TERM
+  # (it is no job any more, so that bash does not say how it ended)
   disown "$child"
   kill -KILL "$child"
-  # shellcheck disable=SC2086
-  kill -TERM $found && kill -CONT $found
-  # shellcheck disable=SC2064
-  trap "kill -KILL \$found; exit $stopped" INT TERM
-  # shellcheck disable=SC2086
-  while found=$(step_processes $found); [ -n "$found" ] && [ "$SECONDS" -lt 6 ]; do
-    [ "$SECONDS" -lt 3 ] || kill -KILL $found
+  end_session TERM
+  for _ in {1..30}; do
+    [ -n "$(in_session)" ] || return
     sleep 0.1
   done
+  end_session KILL
 } 2>/dev/null
 
-# Prints the processes of steps in this session: those given, those whose variable GITHUB_OUTPUT is a file in the folder of --work,
-# those of a process group of this script alone that nobody in it waits for, all below these, and all of their process groups.
-step_processes() {
-  local file folder own=${GITHUB_OUTPUT-} marked=("$@")
-  while IFS= read -r file; do
-    IFS= read -r -d '' folder < <(grep -szm 1 '^GITHUB_OUTPUT=' "$file")
-    folder=${folder#*=} folder=${folder%/*} file=${file%/*}
-    # (this script may be part of a step)
-    [ "$folder" = "${own%/*}" ] || { [ -d "$folder" ] && ! [ "$folder" -ef "$work" ]; } || marked+=("${file##*/}")
-  done < <(grep -lszE '^GITHUB_OUTPUT=.*/step-[0-9]+-[0-9]+\.out$' /proc/[0-9]*/environ)
-  cat /proc/[0-9]*/stat | awk -v self="$$" -v words="${marked[*]}" '
-    function is_below(it) {
-      while (it in parent) { if (it in marked) return 1; it = parent[it] }
-      return 0
-    }
-    { it = $1; sub(/.*\) /, ""); if ($1 != "Z") { parent[it] = $2; group[it] = $3; session[it] = $4 } }
-    END {
-      count = split(words, list, " ")
-      for (i = 1; i <= count; i++) marked[list[i]]
-      # (beside this script in a pipeline are processes of the same parent)
-      if (group[self] == self)
-        for (it in parent)
-          if (group[it] == self && !(parent[it] in parent && group[parent[it]] == self) && parent[it] != parent[self]) marked[it]
-      for (it in parent) if (session[it] == session[self] && is_below(it)) { steps[it]; if (group[it] != group[self]) groups[group[it]] }
-      for (it in parent) if (session[it] == session[self] && (it in steps || group[it] in groups)) print it
-    }'
+# sends a signal to what is in the program's session
+end_session() {
+  # shellcheck disable=SC2046
+  kill -s "$1" $(in_session) 2>/dev/null
+}
+
+# prints the processes in the program's session
+in_session() {
+  cat /proc/[0-9]*/stat 2>/dev/null |
+    awk -v session="$child" '{ it = $1; sub(/.*\) /, ""); if ($4 == session && $1 != "Z") print it }'
 }
 
 # answers a command by the program that was chosen, or by the front

@@ -165,6 +165,25 @@ class Growing(Case):
         self.assertGreater(len(self.lines(small / "r.part")), 10)
 
 
+class Refused(Case):
+    """Why an answer is bad output."""
+
+    def test_each_reason_is_told_and_nothing_hangs(self) -> None:
+        reasons = {
+            "printf 'a<<E\\nb\\n' > $GITHUB_OUTPUT": "its file of outputs is refused: OpenBlock",
+            "printf '\\377' > $GITHUB_OUTPUT": "its file of outputs is refused: NotUtf8",
+            "echo =x > $GITHUB_ENV": "its file of variables is refused: NoName",
+            "truncate -s 3G $GITHUB_OUTPUT": "its file of outputs cannot be read: file too large",
+            "rm $GITHUB_OUTPUT; mkfifo $GITHUB_OUTPUT": "its file of outputs cannot be read: invalid input parameter",
+            "rm $GITHUB_ENV": "its file of variables cannot be read: entity not found",
+        }
+        plan = self.plan([{"run": script, "continue-on-error": True} for script in reasons])
+        answer = self.run_words(["bash", "-c", 'ulimit -v 2000000; exec "$@"', "sh", *self.words(plan), "--progress"])
+        told = [line.partition(" refused: ")[2] for line in answer.stderr.splitlines() if " refused: " in line]
+        self.assertEqual((told, answer.returncode), (list(reasons.values()), 0), answer.stderr)
+        self.assertEqual(answer.stderr.count(" bad output in "), len(reasons))
+
+
 class Signalled(Case):
     """What the script does at a signal."""
 

@@ -14,7 +14,7 @@ from typing import IO, Any, Callable, Iterable
 from . import Problem
 
 PATIENCE = 3.0
-PROGRESS = re.compile(r"leg (\d+) \(.*?\) step (\d+) of \d+ (?:started: .*|(?P<end>exit (?P<code>\d+)|bad output|not started: .* \((?P<why>.*)\))"
+PROGRESS = re.compile(r"leg (\d+) \(.*?\) step (\d+) of \d+ (?:started: .*|refused: (?P<refusal>.*)|(?P<end>exit (?P<code>\d+)|bad output|not started: .* \((?P<why>.*)\))"
                       r"(?: in (?P<seconds>[\d.]+) s)?, \d+ of \d+ steps)")
 
 
@@ -32,10 +32,12 @@ def ask(*words: str | os.PathLike[str]) -> subprocess.CompletedProcess[str]:
 
 
 def read_progress(line: str) -> tuple[int, int, str, str, str] | None:
-    """Leg, step, state (`started`, `success`, `failure`), why it failed, and seconds of a line of --progress; None of another line."""
+    """Leg, step, state (`started`, `refused`, `success`, `failure`), why it failed, and seconds of a line of --progress; None of another."""
     found = PROGRESS.fullmatch(line)
     if not found:
         return None
+    if found["refusal"]:
+        return int(found[1]), int(found[2]), "refused", found["refusal"], ""
     state = "started" if not found["end"] else "success" if found["code"] == "0" else "failure"
     reason = f"exit {found['code']}" if found["code"] else f"not started: {found['why']}" if found["why"] else \
         "its outputs or variables cannot be read"

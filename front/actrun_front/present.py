@@ -121,6 +121,7 @@ class Board:
     mark: str                                                     # of the lines that begin a step's output
     stopped: bool = False                                         # by Ctrl-C
     running: dict[int, int] = field(default_factory=dict)         # leg -> step
+    refused: dict[int, str] = field(default_factory=dict)         # leg -> why the answer of its step is bad output
     ended: int = 0                                                # steps
     errors: list[str] = field(default_factory=list)               # lines of the program
     results: list[tuple[int, str]] = field(default_factory=list)  # runs and their results, when all lines came
@@ -145,10 +146,14 @@ class Board:
                 self.screen.tell(re.sub("^::(notice|warning|error)::", r"\1: ", line))
                 return
             leg, step, state, reason, seconds = found
+            if state == "refused":  # (the line of the step's end follows)
+                self.refused[leg] = reason
+                return
             self.running.pop(leg, None)
             if state == "started":
                 self.running[leg] = step
             else:
+                reason = self.refused.pop(leg, reason)
                 self.ended += 1
                 words = [self.title(leg, step), "stopped by Ctrl-C" if self.stopped and reason else reason, f"{seconds} s" if seconds else ""]
                 self.screen.result(state, ", ".join(filter(None, words)), sys.stderr)

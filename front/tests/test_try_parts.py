@@ -290,6 +290,8 @@ class Shown(unittest.TestCase):
                          (0, 1, "failure", "not started: its folder is not there", ""))
         self.assertEqual(read_progress("leg 0 (t) step 1 of 4 bad output in 0.1 s, 3 of 9 steps"),
                          (0, 1, "failure", "its outputs or variables cannot be read", "0.1"))
+        self.assertEqual(read_progress("leg 0 (t) step 1 of 4 refused: its file of outputs is refused: OpenBlock"),
+                         (0, 1, "refused", "its file of outputs is refused: OpenBlock", ""))
         self.assertIsNone(read_progress("actrun: io"))
 
     def test_mask_takes_the_longest(self) -> None:
