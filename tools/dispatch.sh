@@ -136,8 +136,10 @@ watch_program() {
 
 # where a signal ended the program, says what has the record so far, and why it is as it is, in at most 30 lines
 tell_part() {
+  local part
   [ -n "$record" ] && [ "$status" -gt 128 ] && [ -s "$record.part" ] || return 0
-  say "a signal ended the run; $record.part has its record so far: actrun why $(printf %q "$record.part")"
+  printf -v part %q "$record.part"
+  say "a signal ended the run; $part has its record so far: actrun why $part"
   "$program" why -- "$record.part" 2>/dev/null | sed '30{s/.*/.../;q;}' >&2
 }
 

@@ -398,7 +398,7 @@ class Interrupted(TryCase):
                 words = place.read_bytes().split(b"\0")
             except OSError:
                 continue
-            if words[:2] == [os.fsencode(PROGRAM), b"run"] and os.fsencode(self.work()) in b" ".join(words):
+            if words[:2] == [os.fsencode(os.path.abspath(PROGRAM)), b"run"] and os.fsencode(self.work()) in b" ".join(words):
                 return int(place.parent.name)
         self.fail("no program executes the plan")
 
