@@ -31,7 +31,7 @@ _actrun() {
     plan) offered='--help --event --job --contexts' ;;
     run) offered='--help --workers --record --times --work --stubs --progress' ;;
     eval) offered='--help --contexts' ;;
-    replay) offered='--help --settled' ;;
+    replay) offered='--help --settled --changes' ;;
     report) offered='--help -o --logs --times --around --seconds' ;;
     *) offered=--help ;;
   esac

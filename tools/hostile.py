@@ -20,8 +20,8 @@ Of each answer it is asked that
 - a file that `lint` names alone is refused by it exactly where `plan` refuses it, by the same name;
 - `replay`, `graph`, `timeline` and `why` refuse a record exactly where `table` does, by the same line, but for one that is no entry:
   `table` may refuse one before it, since it plays each before it reads the next;
-- the status of `replay` fits its board, which is that of `table`; those of `graph`, whose braces and quotes are closed, and of
-  `timeline` fit it too, and a row of `timeline` says how far the board has what it is for;
+- the status of `replay` fits its board, which is that of `table`, and to which the places of `--changes` lead; those of `graph`, whose
+  braces and quotes are closed, and of `timeline` fit it too, and a row of `timeline` says how far the board has what it is for;
 - `why` refuses words that name nothing of what it knows, and where the plan has not what they name it tells that; else that is its
   root; without such words it tells of each run and of each leg that ended, where that did not succeed, and no other is a root;
 - `debug` answers each line once.
@@ -114,7 +114,8 @@ REFUSED_LINE = re.compile(r"a\.json: \S.*?: refused, ([A-Za-z]+(?: [A-Za-z]+)?(?
 QUOTED = re.compile(r'"(?:[^"\\]|\\.)*"', re.DOTALL)
 TABLE = hostile_inputs.Tried([b"table"])
 PLAN = hostile_inputs.Tried([b"plan", b"a.json"])
-OF_A_RECORD = ([b"replay", b"record"], [b"replay", b"--settled", b"record"], [b"graph", b"record"], [b"timeline", b"record"], [b"why", b"record"])
+OF_A_RECORD = ([b"replay", b"record"], [b"replay", b"--settled", b"record"], [b"replay", b"--changes", b"record"], [b"graph", b"record"],
+               [b"timeline", b"record"], [b"why", b"record"])
 LIST_LINE = re.compile(r"stage [0-9]+|job [0-9]+ run [0-9]+ [A-Za-z_][A-Za-z0-9_-]*")
 
 
@@ -203,7 +204,7 @@ def wrong_text(tried, text):
     elif command == "debug":
         if not all(BOARD_LINE.fullmatch(it) or DEBUG_LINE.fullmatch(it) for it in lines):
             return "it printed no answers of the debugger"
-    elif not is_board(without_settled(lines)):
+    elif not is_board(last_board(lines)):
         return "it printed no board"
     return None
 
@@ -211,6 +212,29 @@ def wrong_text(tried, text):
 def without_settled(lines):
     """The lines of a board, without the last where that says whether it is settled."""
     return lines[:-1] if lines and lines[-1] in ("settled yes", "settled no") else lines
+
+
+def last_board(lines):
+    """The lines of the board that `replay` printed: of places that of the last one."""
+    return board_of_places(lines) if lines[:1] == ["place 0"] else without_settled(lines)
+
+
+def board_of_places(lines):
+    """The board at the last place, by the board at place 0 and what each later place changes; nothing where places are misnumbered."""
+    places = [it for it in lines if it.startswith("place ")]
+    if places != [f"place {at}" for at in range(len(places))]:
+        return []
+    blocks, block = {}, []
+    for line in lines:
+        kind, *rest = line.split(" ")
+        if kind in ("run", "job", "leg"):
+            block = blocks.setdefault((kind, rest[0]), [])
+            block[:] = [line, *(it for it in block[1:] if not it.startswith("out "))]
+        elif kind == "ends":
+            blocks["ends"] = [" ".join([*blocks.get("ends", ["ends"]), *rest])]
+        elif kind != "place":
+            block.append(line)
+    return [line for block in blocks.values() for line in block]
 
 
 def is_graph(text):
@@ -293,7 +317,7 @@ def wrong(tried, answer):
     if answer.status in (1, 4) and command not in ("replay", "graph", "timeline"):
         return "only replay, graph and timeline have this status"
     found = wrong_text(tried, out)
-    if found is None and command == "replay" and status_of_board(without_settled(lines_of(out))) != answer.status:
+    if found is None and command == "replay" and status_of_board(last_board(lines_of(out))) != answer.status:
         found = "its status is not that of the board"
     return found
 
@@ -357,9 +381,11 @@ def is_same_refusal(answer, other):
 def wrong_replay(tried, answer, board):
     """What is wrong with the text of `replay` beside a board, or nothing."""
     told = lines_of(answer.out.decode())
-    lines = without_settled(told)
-    if (len(told) != len(lines)) != (b"--settled" in tried.words):
+    lines = last_board(told)
+    if (told[-1:] in (["settled yes"], ["settled no"])) != (b"--settled" in tried.words):
         return "it tells whether the board is settled, and is not asked, or the other way round"
+    if (told[:1] == ["place 0"]) != (b"--changes" in tried.words):
+        return "it tells of places, and is not asked, or the other way round"
     return None if lines == board else "table prints another board than replay"
 
 

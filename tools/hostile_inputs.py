@@ -485,7 +485,8 @@ def made_table(chance):
 
 
 def made_replay(chance):
-    return Tried([b"replay"] + [b"--settled"] * (chance.random() < 0.4) + [b"record"], {"record": record(chance)})
+    option = chance.choice(([], [], [b"--settled"], [b"--changes"]))
+    return Tried([b"replay", *option, b"record"], {"record": record(chance)})
 
 
 def made_graph(chance):
@@ -526,7 +527,7 @@ def made_debug(chance):
 def made_words(chance):
     """Words at random. `run` is none of them, since it starts programs."""
     some = (b"eval", b"table", b"plan", b"list", b"lint", b"replay", b"graph", b"timeline", b"why", b"debug", b"job", b"leg", b"step", b"0",
-            b"--settled", b"--contexts", b"--event", b"--job", b"--workers", b"--stubs", b"--record", b"--work", b"--", b"-", b"-h", b"--help",
+            b"--settled", b"--changes", b"--contexts", b"--event", b"--job", b"--workers", b"--stubs", b"--record", b"--work", b"--", b"-", b"-h", b"--help",
             b"--version", b"help", b"", b" ", b"1", b"push", b"a", b"a.json", b"record", b"contexts.json", b"missing.json",
             b"--contexts=contexts.json", b"--event=push", b"--job=a", b"-1", b"\xff", b"--contexts=", b"/", b".", b"x" * 300)
     words = [chance.choice(some) for _ in range(chance.choice((0, 1, 1, 2, 3, 4, 6)))]

@@ -314,6 +314,7 @@ def tasks():
             text = it.read()
         yield f"table {name}", lambda it, text=text: command(it, ["table"], text)
         yield f"replay {name}", lambda it, path=path: command(it, ["replay", path])
+        yield f"changes {name}", lambda it, path=path: command(it, ["replay", "--changes", path])
         yield f"graph {name}", lambda it, path=path: command(it, ["graph", path])
         yield f"timeline {name}", lambda it, path=path: command(it, ["timeline", path])
         yield f"why {name}", lambda it, path=path: command(it, ["why", path])

@@ -5,4 +5,6 @@ pub mod Lines
 pub mod Linted
 pub mod LookedAt
 pub mod OneAnswer
+pub mod OneTelling
+pub mod Places
 pub mod Unplanned

@@ -1,3 +1,4 @@
+pub mod Changes
 pub mod Eval
 pub mod Lint
 pub mod List

@@ -7,6 +7,7 @@ use Rattle.command_debug.specs.Debug.{DebugTells}
 use Rattle.command_print.specs.Eval.{EvalTells}
 use Rattle.why_causes.specs.declared.question.Question.{Question}
 use Rattle.command_io.specs.Files.{File}
+use Rattle.command_print.specs.Changes.{ChangesTells}
 use Rattle.command_print.specs.Lint.{LintTells}
 use Rattle.command_print.specs.List.{ListTells}
 use Rattle.command_print.specs.Plan.{PlanTells}
@@ -45,10 +46,12 @@ abbrev pub RunsLint : Stream → Stream → Stream → Stream → ℕ → Type 0
 RunsLint out out' err err' status =
     ((flows flows' : List File) × LintTells flows flows' out out' err err' status) ⊎ TellsSome out out' err err' status
 
--- What `replay` tells of some record, or what `replay --settled` does; or an error is told.
+-- What `replay` tells of some record, or what `replay --settled` or `replay --changes` does; or an error is told.
 abbrev pub RunsReplay : Stream → Stream → Stream → Stream → ℕ → Type 0
 RunsReplay out out' err err' status =
-    ((input input' : Stream) × (ReplayTells input input' out out' err err' status ⊎ SettledTells input input' out out' err err' status))
+    ((input input' : Stream)
+    × (ReplayTells input input' out out' err err' status
+    ⊎ (SettledTells input input' out out' err err' status ⊎ ChangesTells input input' out out' err err' status)))
     ⊎ TellsSome out out' err err' status
 
 -- What `graph` tells of some plan or record; or an error is told.

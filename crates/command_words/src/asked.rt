@@ -15,12 +15,32 @@ use flow_model::Text;
 use std::alloc::Global;
 use why_causes::question::Question;
 
+/// What `replay` shows of a record.
+#[derive(Clone, Copy)]
+pub(crate) enum Shown {
+    /// The board after it.
+    Board,
+    /// That board, and whether it is what is settled.
+    Settled,
+    /// What each entry changes of the board.
+    Changes,
+}
+
 /// What `replay` is asked for.
 #[derive(Drop)]
 pub(crate) struct AskedReplay<S> {
     pub(crate) record: S,
-    /// Whether the board is held against what is settled.
-    pub(crate) settled: bool,
+    pub(crate) shown: Shown,
+}
+
+/// What the options `--settled` and `--changes` have `replay` show; they exclude each other.
+fn shown_by(settled: bool, changes: bool) -> Result<Shown, CommandError> {
+    match (settled, changes) {
+        (true, true) => Err(CommandError::Words),
+        (true, false) => Ok(Shown::Settled),
+        (false, true) => Ok(Shown::Changes),
+        (false, false) => Ok(Shown::Board),
+    }
 }
 
 /// What `why` is asked for.
@@ -150,9 +170,10 @@ impl<'m, 'w, F: Folder> Asking<'m, 'w, F> {
 
     /// What `replay` is asked for.
     fn asked_replay(&self) -> Result<AskedReplay<F::File>, CommandError> {
-        let settled = self.words.get_flag("settled");
+        let words = self.words;
+        let shown = shown_by(words.get_flag("settled"), words.get_flag("changes"))?;
         let record = self.open_required("record")?;
-        Ok(AskedReplay { record, settled })
+        Ok(AskedReplay { record, shown })
     }
 
     /// What `why` is asked for.

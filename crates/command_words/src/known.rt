@@ -39,7 +39,12 @@ fn known_replay<'a>(alloc: Global) -> Result<Command<'a>, AllocError> {
     let settled = Arg::new(alloc, "settled")
         .long("settled")
         .action(ArgAction::SetTrue);
-    known_file(alloc, "replay", "record")?.arg(settled)
+    let changes = Arg::new(alloc, "changes")
+        .long("changes")
+        .action(ArgAction::SetTrue);
+    known_file(alloc, "replay", "record")?
+        .arg(settled)?
+        .arg(changes)
 }
 
 /// The command `why`.

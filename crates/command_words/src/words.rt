@@ -5,7 +5,7 @@ ghost use Rattle.std.specs.IoError.{error_kind};
 ghost use Rattle.command_words.specs.Words as spec;
 ghost use Rattle.command_words.specs.Words.{RunTells};
 
-use crate::asked::{Asked, AskedReplay, AskedWhy, asked_by};
+use crate::asked::{Asked, AskedReplay, AskedWhy, Shown, asked_by};
 use crate::folder::Folder;
 use crate::known::known_commands;
 use clap::{ArgMatches, Error};
@@ -15,6 +15,7 @@ use command_io::error::CommandError;
 use command_io::files::NamedSource;
 use command_io::stream::{LineSource, Sink, Source};
 use command_io::tell::refuse;
+use command_print::changes::replay_changes;
 use command_print::eval::{AskedEval, eval};
 use command_print::lint::lint;
 use command_print::list::list;
@@ -103,14 +104,11 @@ fn perform_replay<S: Source + Drop, O: Sink, E: Sink>(
     ensures { spec.RunsReplay (O.seen out.old) (O.seen out.new)
         (E.seen err.old) (E.seen err.new) result }
 {
-    let AskedReplay {
-        mut record,
-        settled,
-    } = asked;
-    if settled {
-        replay_settled(alloc, &mut record, out, err)
-    } else {
-        replay(alloc, &mut record, out, err)
+    let AskedReplay { mut record, shown } = asked;
+    match shown {
+        Shown::Board => replay(alloc, &mut record, out, err),
+        Shown::Settled => replay_settled(alloc, &mut record, out, err),
+        Shown::Changes => replay_changes(alloc, &mut record, out, err),
     }
 }
 
