@@ -1,6 +1,6 @@
 
 'use strict';
-// The page of `actrun report`. All states are lines that `actrun debug` showed; this script looks up the lines of a place and draws them.
+// The page of `actrun report`. All states are lines that `actrun replay` printed; this script looks up the lines of a place and draws them.
 (() => {
 const data = JSON.parse(document.getElementById('data').textContent);
 const FIRST = data.first, LAST = data.last, HEIGHT = 28;
@@ -191,14 +191,16 @@ function stand(one, place) {
 // the places of a thing and of all that is in it
 function placesOf(one) {
   if (one.own) return one.own;
-  const found = new Set();
+  if (one.kind === 'leg') return (one.own = one.places.slice(1));
+  if (one.kind === 'step') return (one.own = Object.values(spans(one.parent)[one.number]).filter((place) => place !== null && place > FIRST));
+  const seen = new Uint8Array(LAST - FIRST + 1), found = [];
   const take = (it) => {
-    it.places.slice(1).forEach((place) => found.add(place));
+    for (let at = 1; at < it.places.length; at++) seen[it.places[at] - FIRST] = 1;
     if (it.kind !== 'leg') it.children.forEach(take);
   };
-  if (one.kind === 'step') Object.values(spans(one.parent)[one.number]).forEach((place) => place !== null && place > FIRST && found.add(place));
-  else take(one);
-  return (one.own = [...found].sort((a, b) => a - b));
+  take(one);
+  seen.forEach((yes, at) => { if (yes) found.push(FIRST + at); });
+  return (one.own = found);
 }
 
 // Failures: where a step failed, or a leg, job or run in which nothing had failed before.

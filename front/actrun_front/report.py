@@ -21,7 +21,7 @@ ANSWERS = {"not-started": "not started", "bad-output": "bad output"}
 
 
 def page(program: str, record: pathlib.Path, **options: Any) -> str:
-    """The page of a record. Options are `logs`, `times` (paths), `around` (a place) and `seconds` for reading boards and for reasons."""
+    """The page of a record. Options are `logs`, `times` (paths), `around` (a place) and `seconds` for reasons."""
     data = json.dumps(shown(program, record, **options), ensure_ascii=False, separators=(",", ":")).replace("<", "\\u003c")
     style, script = ((HERE / f"report.{kind}").read_text(encoding="utf-8") for kind in ("css", "js"))
     rules = "; ".join(["default-src 'none'", f"script-src '{digest(script)}'", f"style-src '{digest(style)}'", "base-uri 'none'",
@@ -45,9 +45,7 @@ def shown(program: str, path: pathlib.Path, logs: pathlib.Path | None = None, ti
     record = read_record(program, path)
     masks = plan_masks(record.plan)
     clock = read_times(times, record.last) if times else None
-    boards = Boards(program, path, masks, around, seconds)
-    if boards.total != record.last:
-        raise Problem(f"{path}: the record changed while it was read; write the report again")
+    boards = Boards(program, path, masks, record.last, around)
     why, chart = (asked[command].result().stdout if asked else answer(seconds, program, command, path) for command in ("why", "timeline"))
     states, reasons = last_states(boards), Reasons(program, path)
     good = [words for words, state in states.items() if state.endswith(("success", "open"))]
@@ -65,7 +63,7 @@ def shown(program: str, path: pathlib.Path, logs: pathlib.Path | None = None, ti
 
 
 def read_record(program: str, path: pathlib.Path) -> Record:
-    """The record of a file, which `debug` checks later."""
+    """The record of a file, which `replay` checks later."""
     try:
         return Record(program, path.read_bytes())
     except OSError as fault:
@@ -98,13 +96,10 @@ def entries(record: Record) -> list[list]:
 
 
 def last_states(boards: Boards) -> dict[str, str]:
-    """What the lines of all runs, jobs, legs and done steps say at the end of the window, under the words by which `why` is asked."""
-    blocks, texts = [list(block) for block in boards.base], boards.texts.texts
-    for number, head, keep, *lines in (change for step in boards.steps for change in step):
-        blocks[number] = [blocks[number][0] if head < 0 else head, *blocks[number][1:1 + keep], *lines]
+    """What the lines of all runs, jobs, legs and done steps say at the end of the page, under the words by which `why` is asked."""
     found = {}
-    for (kind, name), number in boards.ids.items():
-        words, lines = f"{kind.decode()} {name.decode()}", [texts[line] for line in blocks[number]]
+    for (kind, name), block in boards.blocks.items():
+        words, lines = f"{kind.decode()} {name.decode()}", [boards.texts.texts[line] for line in block]
         if kind != b"ends":
             found[words] = lines[0]
             found.update({f"step {name.decode()} {line.split(' ')[1]}": line.split(" ")[2] for line in lines[1:] if line.startswith("step ")})
@@ -140,8 +135,8 @@ def options(arguments: list[str]) -> argparse.Namespace:
     reader.add_argument("-o", dest="output", metavar="FILE", type=pathlib.Path, help="where to write the page (default: RECORD.html)")
     reader.add_argument("--logs", metavar="DIR", type=pathlib.Path, help="show the step-L-S.log of this folder, masked")
     reader.add_argument("--times", metavar="FILE", type=pathlib.Path, help="what `run --times` wrote: gives the chart a clock")
-    reader.add_argument("--around", metavar="K", type=int, help="of a record too big for one page, show the places round K")
-    reader.add_argument("--seconds", metavar="N", type=float, default=60, help="read boards for so long (default: 60), then show a window")
+    reader.add_argument("--around", metavar="K", type=int, help="of a record of more than 100,000 entries, show the places round K")
+    reader.add_argument("--seconds", metavar="N", type=float, default=60, help="ask for reasons for so long (default: 60)")
     return reader.parse_args(arguments)
 
 

@@ -1,26 +1,26 @@
-"""What the page of `actrun report` shows of a record: boards by `debug`, reasons by `why`, results of jobs by `timeline`.
+"""What the page of `actrun report` shows of a record: boards by `replay`, reasons by `why`, results of jobs by `timeline`.
 
 A board is kept as blocks: one for each run, job and leg, and one for the ended legs. A block is a list of numbers of texts, its head first.
 """
 from __future__ import annotations
 
 import concurrent.futures
+import contextlib
 import itertools
 import json
 import pathlib
 import re
 import subprocess
-import threading
 import time
 from dataclasses import dataclass, field
 from typing import Any, Iterator
 
 from . import Problem
 from .dap_logs import LARGEST, Masks, shown_log
-from .dap_record import PICTURES, Record, Walker
+from .dap_record import PICTURES, Record
 
-LINES = 40_000_000  # of `show`, at most
-LOGS = 1 << 20      # characters of logs, at most
+MOST = 100_000  # entries of a page
+LOGS = 1 << 20  # characters of logs, at most
 JOB_ENDED = re.compile(r"<title>job (\d+) \(.*\): (success|failure|cancelled|skipped), line (\d+)</title>")
 FACT = re.compile(r"( *)(run|job|leg|step) (\d+) \(")
 VALUE = re.compile(r"(?:step \d+ \w+ \w+|set|out|[^\"{]* group) (.*)")
@@ -53,119 +53,74 @@ class Texts:
 
 
 class Boards:
-    """The board at a place, and what each earlier place differs in, read backwards from `debug` until lines or seconds are used up."""
+    """The board at the first place of a page, and what each later place of the page changes, as `replay --changes` prints them."""
 
-    def __init__(self, program: str, record: pathlib.Path, masks: Masks, around: int | None, seconds: float):
-        self.walker, self.texts = Walker(program, record), Texts(masks)
-        self.total, self.until = self.walker.last, time.monotonic() + seconds
-        if around is not None and around > self.total:
-            self.walker.close()
-            raise Problem(f"--around {around}: the record has the places 0 to {self.total}")
-        self.ids: dict[tuple[bytes, bytes], int] = {}
-        try:
-            self.read(around, seconds)
-        finally:
-            self.walker.close()
+    def __init__(self, program: str, record: pathlib.Path, masks: Masks, total: int, around: int | None):
+        if around is not None and around > total:
+            raise Problem(f"--around {around}: the record has the places 0 to {total}")
+        self.first = max(0, total - MOST if around is None else min(around - MOST // 2, total - MOST))
+        self.last = min(total, self.first + MOST)
+        self.texts, self.steps, self.ids = Texts(masks), [], {}
+        self.blocks: dict[tuple[bytes, bytes], list[int]] = {}
+        with contextlib.closing(places(program, record)) as found:
+            self.open(next(found))
+            for place, lines in enumerate(itertools.islice(found, self.last), 1):
+                changes = [self.change(head, block) for head, block in blocks_of(lines).items()]
+                if place > self.first:
+                    self.steps.append(changes)
+                elif place == self.first:
+                    self.base = list(self.blocks.values())
+        if len(self.steps) < self.last - self.first:
+            raise Problem(f"{record}: the record changed while it was read; write the report again")
 
-    def read(self, around: int | None, seconds: float) -> None:
-        """Reads the boards of the window."""
-        began, last = time.monotonic(), self.total
-        self.walker.go(f"goto {last}")
-        board = next(self.shown(b"show\n", 1))
-        lines = board.count(b"\n")
-        if around is not None:
-            half = min(LINES / lines, seconds / max(time.monotonic() - began, 1e-6)) / 2
-            last = min(last, around + int(half))
-            self.walker.go(f"goto {last}")
-            board = next(self.shown(b"show\n", 1))
-        for head in (it for kind in (b"run", b"job", b"leg", b"ends") for it in sorted(blocks_of(board), key=number_of) if it[0] == kind):
+    def open(self, lines: list[bytes]) -> None:
+        """Takes the board at place 0: runs, jobs, legs and the ended legs, each kind by its numbers."""
+        found = blocks_of(lines)
+        for head in (it for kind in (b"run", b"job", b"leg", b"ends") for it in found if it[0] == kind):
             self.ids[head] = len(self.ids)
-        changes: list[list[list[int]]] = []
-        for before in self.shown(b"back\nshow\n", min(last, LINES // lines)):
-            changes.append(self.changes(before, board))
-            board = before
-            if time.monotonic() > self.until:
-                break
-        self.first, self.last, self.steps = last - len(changes), last, changes[::-1]
-        self.base = [[self.texts.number(text) for text in block] for _, block in sorted(
-            (self.ids[head], block) for head, block in blocks_of(board).items())]
+            self.blocks[head] = [self.texts.number(line) for line in found[head]]
+        self.base = list(self.blocks.values())
 
-    def shown(self, commands: bytes, count: int) -> Iterator[bytes]:
-        """The boards that the same commands show, one after the other; the commands are sent ahead."""
-        pipe = self.walker.process
-        sender = threading.Thread(target=send, args=(pipe.stdin, commands, count), daemon=True)
-        sender.start()
-        kept, seen = bytearray(), 0
-        for _ in range(count):
-            while (at := kept.find(b"\nends", seen)) < 0 or (end := kept.find(b"\n", at + 1)) < 0:
-                seen = at if at >= 0 else max(0, len(kept) - 5)
-                more = pipe.stdout.read1(1 << 20)
-                if not more:
-                    raise Problem(pipe.stderr.read().decode("utf-8", "replace").strip() or "`actrun debug` ended too early")
-                kept += more
-            yield bytes(kept[kept.find(b"run "):end + 1])
-            del kept[:end + 1]
-            seen = 0
-
-    def changes(self, before: bytes, after: bytes) -> list[list[int]]:
-        """The blocks that differ: block, its head or -1, how many lines stay, and the lines after these."""
-        start, end = difference(before, after)
-        old, new = blocks_of(before[start:len(before) - end]), blocks_of(after[start:len(after) - end])
-        found = []
-        for head, block in new.items():
-            was = old[head]
-            if was != block:
-                keep = next((at for at, (one, other) in enumerate(zip(was[1:], block[1:])) if one != other), min(len(was), len(block)) - 1)
-                found.append([self.ids[head], -1 if was[0] == block[0] else self.texts.number(block[0]), keep,
-                              *map(self.texts.number, block[1 + keep:])])
-        return found
+    def change(self, head: tuple[bytes, bytes], lines: list[str]) -> list[int]:
+        """Changes a block: its number, its head or -1 where that stays, how many lines stay, and the lines after these."""
+        was, block = self.blocks[head], [self.texts.number(line) for line in lines]
+        keep = len(was) - 1
+        if keep and self.texts.texts[was[-1]].startswith("out "):
+            keep -= 1  # (the outputs of a leg are its last line, and are told whole)
+        self.blocks[head] = [block[0], *was[1:1 + keep], *block[1:]]
+        return [self.ids[head], -1 if block[0] == was[0] else block[0], keep, *block[1:]]
 
 
-def send(pipe: Any, commands: bytes, count: int) -> None:
-    """Sends the same commands many times, until nobody reads them."""
-    try:
-        for at in range(0, count, 1000):
-            pipe.write(commands * min(1000, count - at))
-            pipe.flush()
-    except (OSError, ValueError):
-        pass
+def places(program: str, record: pathlib.Path) -> Iterator[list[bytes]]:
+    """The lines of each place: of place 0 the board, of each later place what it changes."""
+    with subprocess.Popen([program, "replay", "--changes", record], stdout=subprocess.PIPE, stderr=subprocess.PIPE) as process:
+        lines = None
+        for line in process.stdout:
+            if not line.startswith(b"place "):
+                lines.append(line)
+                continue
+            if lines is not None:
+                yield lines
+            lines = []
+        if lines is None:
+            raise Problem(f"{record}: {process.stderr.read().decode('utf-8', 'replace').strip() or '`actrun replay` ended too early'}")
+        yield lines
 
 
-def difference(one: bytes, other: bytes) -> tuple[int, int]:
-    """How many bytes at the start and at the end of two boards are in blocks that are the same."""
-    low, high = 0, min(len(one), len(other))
-    while low < high:
-        middle = (low + high + 1) // 2
-        low, high = (middle, high) if one[low:middle] == other[low:middle] else (low, middle - 1)
-    start = max(one.rfind(b"\n" + kind + b" ", 0, low) for kind in (b"run", b"job", b"leg")) + 1
-    most, low = min(len(one), len(other)) - start, 0
-    high = most
-    while low < high:
-        middle = (low + high + 1) // 2
-        same = one[len(one) - middle:len(one) - low] == other[len(other) - middle:len(other) - low]
-        low, high = (middle, high) if same else (low, middle - 1)
-    heads = [at for at in (one.find(b"\n" + kind, len(one) - low) for kind in (b"run ", b"job ", b"leg ", b"ends")) if at >= 0]
-    return start, len(one) - min(heads) - 1 if heads else 0
-
-
-def blocks_of(board: bytes) -> dict[tuple[bytes, bytes], list[str]]:
+def blocks_of(lines: list[bytes]) -> dict[tuple[bytes, bytes], list[str]]:
     """The blocks of some lines of a board, each its head without kind and number, then its further lines."""
     found: dict[tuple[bytes, bytes], list[str]] = {}
     block: list[str] = []
-    for line in board.split(b"\n")[:-1]:
-        kind, _, rest = line.partition(b" ")
+    for line in lines:
+        kind, _, rest = line[:-1].partition(b" ")
         if kind in (b"run", b"job", b"leg"):
             number, _, head = rest.partition(b" ")
             block = found[kind, number] = [head.decode("utf-8")]
         elif kind == b"ends":
             found[kind, b"0"] = ["", *rest.decode("ascii").split()]
         else:
-            block.append(line.decode("utf-8"))
+            block.append(line[:-1].decode("utf-8"))
     return found
-
-
-def number_of(head: tuple[bytes, bytes]) -> int:
-    return int(head[1])
 
 
 @dataclass

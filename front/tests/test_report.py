@@ -16,8 +16,9 @@ import time
 import unittest
 from pathlib import Path
 from typing import Any
+from unittest import mock
 
-from actrun_front import Problem, report
+from actrun_front import Problem, report, report_data
 
 from .dap_case import EXAMPLES, NEEDS_PROGRAM, PROGRAM, TOP
 
@@ -349,22 +350,42 @@ class Seen(ReportCase):
             return [it.role, it.ariaLevel, it.ariaLabel, it.ariaPosInSet, it.ariaSetSize, tree.getAttribute('aria-activedescendant') === it.id]""")
         self.assertEqual(row, ["treeitem", "4", "step 0 (Run the suite): failure", "1", "2", True])
 
-    def test_a_big_record_has_a_window(self) -> None:
-        record = self.room / "big"
-        words = [sys.executable, TOP / "bench/big_record.py", "600", "legs", "4", "2", "64"]
-        record.write_bytes(subprocess.run(words, check=True, capture_output=True).stdout)
+    def big(self, *words: str) -> Path:
+        """A record of many legs, of bench/big_record.py."""
+        record = self.room / f"big-{words[0]}"
+        made = subprocess.run([sys.executable, TOP / "bench/big_record.py", words[0], "legs", *words[1:]], check=True, capture_output=True)
+        record.write_bytes(made.stdout)
+        return record
+
+    def test_a_longer_record_has_a_window(self) -> None:
+        record = self.big("600", "4", "2", "64")
         total = record.read_bytes().count(b"\n") - 1
-        page = self.page(record, seconds=2)
+        with mock.patch.object(report_data, "MOST", 300):
+            page = self.page(record, seconds=2)
+            around = report.shown(PROGRAM, record, around=200, seconds=2)
+            early = report.shown(PROGRAM, record, around=20, seconds=2)
         shown = json.loads(re.search(r'id="data">(.*)</script>\n<script>', page.read_text(encoding="utf-8"))[1])
-        self.assertEqual((shown["last"], shown["total"], len(shown["steps"])), (total, total, total - shown["first"]))
-        self.assertLess(self.open(page), 20_000)  # (a busy machine has time for it too)
-        self.assertLess(self.js(STEP_TIME), 250)
-        if shown["first"]:
-            self.assertIn(f"the places {shown['first']} to {total} of {total}", self.js("return document.querySelector('#window').textContent"))
+        self.assertEqual([shown[it] for it in ("first", "last", "total")], [total - 300, total, total])
+        self.assertEqual([around[it] for it in ("first", "last")], [50, 350])
+        self.assertEqual([early[it] for it in ("first", "last")], [0, 300])
+        self.assertEqual([len(it["steps"]) for it in (shown, around, early)], [300, 300, 300])
+        self.open(page)
+        self.assertIn(f"the places {total - 300} to {total} of {total}", self.js("return document.querySelector('#window').textContent"))
+        (found, back), wanted = self.browser.execute_async_script(WALK), boards(record)
+        self.assertEqual([board for board, _ in found], wanted[total - 300:])
+        self.assertTrue(back)
         self.press("/", *"leg 255", Keys.ENTER)
         self.assertEqual(self.chosen(), "leg 255")
-        around = report.shown(PROGRAM, record, around=300, seconds=2)
-        self.assertTrue(around["first"] <= 300 <= around["last"], [around["first"], around["last"]])
+        self.quiet()
+
+    @unittest.skipIf("/unproved/" in PROGRAM, "the program that was built without proofs takes minutes for it")
+    def test_a_great_record_is_shown_whole(self) -> None:
+        page = self.page(self.big("100000", "16", "24", "256"), seconds=20)
+        self.assertLess(self.open(page), 12_000)  # (3 seconds; a busy machine has time for it too)
+        self.assertLess(self.js(STEP_TIME), 200)  # (50 milliseconds)
+        self.assertTrue(self.js("return document.querySelector('#window').hidden"))
+        self.assertEqual(self.press(Keys.HOME), 0)
+        self.assertEqual(self.press(Keys.END), 100_000)
         self.quiet()
 
 
