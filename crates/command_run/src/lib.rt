@@ -2,9 +2,10 @@
 //!
 //! `run` writes what the steps of a plan printed, as it is shown, and how the runs ended, or one line that says why there is
 //! nothing to tell or why the play stopped; it answers an exit status always. Its contract says what is told of some
-//! history that the table accepts. The crate stands on `command_io`, which reads, tells and refuses, on `plan_text`, which
-//! reads plans and prints records, on `step_host`, which starts programs, on `flow_commands`, which shows what they printed,
-//! on `worker_pool`, which plays plans, and on `status_table`, whose words say what was played.
+//! history that the table accepts. While a plan is played, its record grows in a file (`GrowingRecord`). The crate stands on
+//! `command_io`, which reads, tells and refuses, on `plan_text`, which reads plans and prints records, on `step_host`, which
+//! starts programs, on `flow_commands`, which shows what they printed, on `worker_pool`, which plays plans, on
+//! `locked_board`, whose recorders are told of entries, and on `status_table`, whose words say what was played.
 
 #![tactic(auto)]
 
