@@ -1,4 +1,5 @@
 pub mod Counting
 pub mod Entries
+pub mod Grown
 pub mod Played
 pub mod Telling

@@ -10,7 +10,7 @@
 #![tactic(auto)]
 
 mod environment;
-mod growing;
+pub mod growing;
 pub mod growing_files;
 pub mod machine;
 mod plan_masks;

@@ -1,13 +1,13 @@
 //! What starts programs.
 
-ghost use Rattle.std.specs.Prelude.{◌≡◌, Bool, IfErr, IfOk, List, ℕ};
+ghost use Rattle.std.specs.Prelude.{◌≡◌, [], Bool, IfErr, IfOk, List, ℕ};
 ghost use Rattle.command_io.specs.Stream.{Stream};
-ghost use Rattle.command_run.specs.Growing.{IsFresh};
 ghost use Rattle.command_run.specs.Playing.{MasksAnswers};
 ghost use Rattle.command_run.specs.Run.{IsOfMachine};
 ghost use Rattle.command_run.specs.Stubs.{Stubs};
 
 use crate::environment::variables;
+use crate::growing::GrowingFile;
 use crate::growing_files::{GrowingFiles, GrowingNames, part_name};
 use crate::progress::Progress;
 use crate::step_names::StepNames;
@@ -39,12 +39,12 @@ pub trait Machine: Files {
     type Host: StepHost + Drop;
 
     /// A file that gets the lines of a record while its plan is played.
-    type Growing: Sink + Send + Drop;
+    type Growing: GrowingFile + Send + Drop;
 
     /// The files of these names that grow while a plan is played, in which nothing stands. What cannot be made is told to standard
     /// error at once.
     fn grow(&self, alloc: Global, names: &GrowingNames<'_>) -> Self::Growing
-        ensures { IsFresh (Self.Growing.seen result) };
+        ensures { Self.Growing.holds result [] };
 
     /// Removes the file in which the record of that name grew.
     fn remove_grown(&self, alloc: Global, name: &str);
