@@ -33,6 +33,8 @@ need_packages() {
   command -v git >/dev/null || missing+=(git)
   command -v chromedriver >/dev/null || missing+=(chromium chromium-driver)
   [ -d /usr/lib/python3/dist-packages/selenium ] || missing+=(python3-selenium)
+  # (the gate alone drives an editor)
+  [ -z "${ACTRUN_ALL_TESTS-}" ] || dpkg -s elpa-dap-mode >/dev/null 2>&1 || missing+=(emacs-nox elpa-dap-mode)
   [ "${#missing[@]}" -gt 0 ] || return 0
   if [ "$(id -u)" -eq 0 ] && command -v apt-get >/dev/null; then
     echo "installing ${missing[*]}"
