@@ -8,8 +8,9 @@ mod HeardLines
 mod Items
 mod LastItems
 mod LogLines
+mod LongestMasks
+mod MaskTrees
 mod Members
 mod Replacing
-mod ShownLines
 mod Splitting
 mod Standing

@@ -3,6 +3,7 @@ pub mod CommandTexts
 pub mod Laws
 pub mod Logs
 pub mod Mask
+pub mod MaskTree
 pub mod OutputFaults
 pub mod PairFiles
 pub mod Replace

@@ -6,6 +6,7 @@ ghost use Rattle.flow_commands.specs.Logs as spec;
 
 use crate::command_lines::read_commands;
 use crate::line::Line;
+use crate::masks::Masks;
 use crate::showing::{added_masks, shown};
 use flow_model::{Duplicate, Sequence, Text};
 use std::alloc::{AllocError, Global};
@@ -18,7 +19,7 @@ pub type Log = (u64, Option<Sequence<u8>>);
 type Told = (Sequence<Text>, Sequence<Text>);
 
 /// What lines come to.
-fn lines_told(alloc: Global, lines: &[Line], masks: &[Text]) -> Result<Told, AllocError>
+fn lines_told(alloc: Global, lines: &[Line], masks: &Masks) -> Result<Told, AllocError>
     ensures { IfOk result (λ told. told ≡ spec.lines_told masks.now lines.now) }
 {
     let texts = shown(alloc, lines, masks)?;
@@ -26,7 +27,7 @@ fn lines_told(alloc: Global, lines: &[Line], masks: &[Text]) -> Result<Told, All
 }
 
 /// What a text comes to.
-fn text_told(alloc: Global, text: &str, masks: &[Text]) -> Result<Told, AllocError>
+fn text_told(alloc: Global, text: &str, masks: &Masks) -> Result<Told, AllocError>
     ensures { IfOk result (λ told.
         told ≡ spec.lines_told masks.now (commands text.now)) }
 {
@@ -44,7 +45,7 @@ fn no_text_told(alloc: Global) -> Result<Told, AllocError>
 }
 
 /// What the bytes of a log come to.
-fn bytes_told(alloc: Global, bytes: &[u8], masks: &[Text]) -> Result<Told, AllocError>
+fn bytes_told(alloc: Global, bytes: &[u8], masks: &Masks) -> Result<Told, AllocError>
     ensures { IfOk result (λ told. told ≡ spec.bytes_told masks.now bytes.now) }
 {
     match str::from_utf8(bytes) {
@@ -54,7 +55,7 @@ fn bytes_told(alloc: Global, bytes: &[u8], masks: &[Text]) -> Result<Told, Alloc
 }
 
 /// What a log comes to. One that could not be read comes to nothing.
-fn log_told(alloc: Global, log: &Option<Sequence<u8>>, masks: &[Text]) -> Result<Told, AllocError>
+fn log_told(alloc: Global, log: &Option<Sequence<u8>>, masks: &Masks) -> Result<Told, AllocError>
     ensures { IfOk result (λ told. told ≡ spec.log_told masks.now log.now) }
 {
     match log {
@@ -66,31 +67,26 @@ fn log_told(alloc: Global, log: &Option<Sequence<u8>>, masks: &[Text]) -> Result
 /// The masks of a leg: those that are given, and those that its earlier logs added.
 fn leg_masks(
     alloc: Global,
-    given: &Sequence<Text>,
+    given: &Masks,
     added: &[(u64, Text)],
     leg: u64,
-) -> Result<Sequence<Text>, AllocError>
+) -> Result<Masks, AllocError>
     ensures { IfOk result (λ masks. masks ≡ spec.leg_masks given.now added.now leg) }
 {
     let mut masks = given.copy(alloc)?;
     for mask in added {
-        add_mask_for(alloc, leg, mask, &mut masks)?;
+        add_mask_for(leg, mask, &mut masks)?;
     }
     Ok(masks)
 }
 
 /// Adds a mask, if it is one of the leg.
-fn add_mask_for(
-    alloc: Global,
-    leg: u64,
-    added: &(u64, Text),
-    masks: &mut Sequence<Text>,
-) -> Result<(), AllocError>
+fn add_mask_for(leg: u64, added: &(u64, Text), masks: &mut Masks) -> Result<(), AllocError>
     ensures { OnOk result (masks.new ≡ masks.old ++ spec.mask_for leg added.now) }
 {
     let (of, mask) = added;
     if leg == *of {
-        masks.push(mask.copy(alloc)?)?;
+        masks.push(mask.as_str())?;
     }
     Ok(())
 }
@@ -139,7 +135,7 @@ fn add_lines(text: &mut String, lines: &[Text]) -> Result<(), AllocError>
 /// There is no memory.
 pub fn tell_log(
     alloc: Global,
-    given: &Sequence<Text>,
+    given: &Masks,
     log: &Log,
     added: &mut Sequence<(u64, Text)>,
     text: &mut String,
@@ -150,7 +146,7 @@ pub fn tell_log(
 {
     let (leg, bytes) = log;
     let masks = leg_masks(alloc, given, added.as_slice(), *leg)?;
-    let (lines, more) = log_told(alloc, bytes, masks.as_slice())?;
+    let (lines, more) = log_told(alloc, bytes, &masks)?;
     add_lines(text, lines.as_slice())?;
     keep_masks(alloc, *leg, more.as_slice(), added)
 }

@@ -1,45 +1,112 @@
 //! Texts in which what must not be seen is masked.
 
-ghost use Rattle.std.specs.Prelude.{◌≡◌, ◌<◌, ◌≤◌, IfOk, length, take};
+ghost use Rattle.std.specs.Prelude.{◌≡◌, ◌==◌, ◌∷◌, [], ◌++◌, ◌<◌, ◌≤◌, IfOk, IfSome, OnErr, OnOk, length, take};
+ghost use Rattle.std.specs.Option.{option_map};
 ghost use Rattle.std.specs.Str.{IsUtf8};
-ghost use Rattle.flow_commands.specs.Mask.{standing as standing_of, longest as longest_of, masked};
+ghost use Rattle.flow_commands.specs.Mask.{longest as longest_of, masked, stars as stars_of};
 
-use crate::replace::{Rule, begins, replace};
-use flow_model::Text;
+use crate::mask_tree::MaskTree;
+use crate::replace::{Rule, replace};
+use flow_model::{Duplicate, Sequence, Text};
 use std::alloc::{AllocError, Global};
+use std::marker::Model;
 
-/// How many bytes the mask has, if it stands at the front of the text; else 0.
-fn standing(mask: &str, text: &[u8]) -> usize
-    ensures exact { result ≡ standing_of mask.now text.now }
-    ensures within { result ≤ length text.now }
-    ensures text { IsUtf8 (take result text.now) }
-{
-    if begins(text, mask) {
-        return mask.len();
-    }
-    0
+/// A list of masks, in which those that stand at the front of a text are found in one walk, however many there are.
+#[derive(Drop)]
+pub struct Masks {
+    /// The masks, in the order in which they were added.
+    texts: Sequence<Text>,
+    /// The tree of these masks.
+    tree: MaskTree,
+    alloc: Global,
 }
 
-/// How many bytes the longest mask has that stands at the front of the text; 0 where none stands there.
-fn longest(masks: &[Text], text: &[u8]) -> usize
-    ensures exact { result ≡ longest_of masks.now text.now }
-    ensures within { result ≤ length text.now }
-    ensures text { IsUtf8 (take result text.now) }
-{
-    let mut most = 0;
-    for mask in masks {
-        let here = standing(mask.as_str(), text);
-        if most < here {
-            most = here;
-        }
+impl Model for Masks {
+    ghost use Rattle.std.specs.Prelude.{List, ℕ};
+    ghost use Rattle.std.specs.List.{AllByRecursion};
+    ghost use Rattle.std.specs.Str.{IsUtf8};
+
+    ghost Value = { List (List ℕ) };
+
+    ghost use Rattle.flow_commands.specs.MaskTree.{IsTreeOf};
+
+    ghost view = { λ m. m.texts };
+
+    ghost invariant = { λ m. IsTreeOf m.texts m.tree × AllByRecursion IsUtf8 m.texts };
+}
+
+impl Masks {
+    /// No masks. They take no memory.
+    pub fn empty(alloc: Global) -> Masks
+        ensures { result ≡ [] }
+    {
+        let texts = Sequence::empty(alloc);
+        let tree = MaskTree::empty(alloc);
+        Masks { texts, tree, alloc }
     }
-    most
+
+    /// These texts as masks.
+    pub fn of_texts(alloc: Global, texts: &[Text]) -> Result<Masks, AllocError>
+        ensures { IfOk result (λ masks. masks ≡ texts.now) }
+    {
+        let mut masks = Masks::empty(alloc);
+        for text in texts {
+            masks.push(text.as_str())?;
+        }
+        Ok(masks)
+    }
+
+    /// Adds a mask; where memory runs out, nothing is changed.
+    pub fn push(&mut self, mask: &str) -> Result<(), AllocError>
+        ensures ok { OnOk result (self.new ≡ self.old ++ mask.now ∷ []) }
+        ensures err { OnErr result (self.new ≡ self.old) }
+    {
+        let text = Text::from_str(self.alloc, mask)?;
+        let node = self.tree.path(mask.as_bytes())?;
+        self.texts.push(text)?;
+        self.tree.mark(node);
+        Ok(())
+    }
+
+    /// Whether there is no mask.
+    pub fn is_empty(&self) -> bool
+        ensures { result ≡ (length self.now == 0) }
+    {
+        self.texts.is_empty()
+    }
+
+    /// How many bytes the longest mask has that stands at the front of the text; 0 where none stands there.
+    fn longest(&self, text: &[u8]) -> usize
+        ensures exact { result ≡ longest_of self.now text.now }
+        ensures within { result ≤ length text.now }
+        ensures text { IsUtf8 (take result text.now) }
+    {
+        self.tree.longest(text)
+    }
+}
+
+impl Duplicate for Masks {
+    fn copy(&self, alloc: Global) -> Result<Masks, AllocError> {
+        Masks::of_texts(alloc, self.texts.as_slice())
+    }
+}
+
+/// Three stars for so many bytes of a mask, if there are any.
+fn stars(hidden: usize) -> Option<(&'static str, usize)>
+    ensures value { option_map (λ x. (x.0.now, x.1)) result ≡ stars_of hidden }
+    ensures some { IfSome result (λ x. 0 < x.1) }
+    ensures same { IfSome result (λ x. x.1 ≡ hidden) }
+{
+    if hidden == 0 {
+        return None;
+    }
+    Some(("***", hidden))
 }
 
 /// Masks are replaced by three stars.
 #[derive(Drop)]
 struct Masking<'a> {
-    masks: &'a [Text],
+    masks: &'a Masks,
 }
 
 impl Rule for Masking<'_> {
@@ -48,11 +115,30 @@ impl Rule for Masking<'_> {
     ghost rule = { λ m. masking m.masks.now };
 
     fn at(&self, text: &[u8]) -> Option<(&'static str, usize)> {
-        let hidden = longest(self.masks, text);
-        if hidden == 0 {
-            return None;
+        stars(self.masks.longest(text))
+    }
+}
+
+/// The masks of two lists are replaced by three stars.
+#[derive(Drop)]
+struct MaskingByBoth<'a> {
+    given: &'a Masks,
+    own: &'a Masks,
+}
+
+impl Rule for MaskingByBoth<'_> {
+    ghost use Rattle.std.specs.Prelude.{◌++◌};
+    ghost use Rattle.flow_commands.specs.Mask.{masking};
+
+    ghost rule = { λ m. masking (m.given.now ++ m.own.now) };
+
+    fn at(&self, text: &[u8]) -> Option<(&'static str, usize)> {
+        let given = self.given.longest(text);
+        let own = self.own.longest(text);
+        if given < own {
+            return stars(own);
         }
-        Some(("***", hidden))
+        stars(given)
     }
 }
 
@@ -62,9 +148,30 @@ impl Rule for Masking<'_> {
 /// # Errors
 ///
 /// There is no memory.
-pub fn mask(alloc: Global, text: &str, masks: &[Text]) -> Result<Text, AllocError>
+pub fn mask(alloc: Global, text: &str, masks: &Masks) -> Result<Text, AllocError>
     ensures { IfOk result (λ shown. shown ≡ masked masks.now text.now) }
 {
-    let masking = Masking { masks };
-    replace(alloc, text, &masking)
+    if masks.is_empty() {
+        return Text::from_str(alloc, text);
+    }
+    replace(alloc, text, &Masking { masks })
+}
+
+/// The text with three stars for the masks of both lists, as `mask` puts them for one list.
+///
+/// # Errors
+///
+/// There is no memory.
+pub fn mask_by_both(
+    alloc: Global,
+    text: &str,
+    given: &Masks,
+    own: &Masks,
+) -> Result<Text, AllocError>
+    ensures { IfOk result (λ shown. shown ≡ masked (given.now ++ own.now) text.now) }
+{
+    if own.is_empty() {
+        return mask(alloc, text, given);
+    }
+    replace(alloc, text, &MaskingByBoth { given, own })
 }

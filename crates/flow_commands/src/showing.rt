@@ -4,7 +4,7 @@ ghost use Rattle.std.specs.Prelude.{◌≡◌, ◌++◌, IfOk, OnOk, flat_map};
 ghost use Rattle.flow_commands.specs.Shown.{command_shown as command_shown_of, line_shown as line_shown_of, masked_line, masks_added, shown as shown_of};
 
 use crate::line::Line;
-use crate::masks::mask;
+use crate::masks::{Masks, mask_by_both};
 use flow_model::{Duplicate, Sequence, Text};
 use std::alloc::{AllocError, Global};
 
@@ -32,7 +32,7 @@ fn command_shown(alloc: Global, name: &str, message: &str) -> Result<Option<Text
 }
 
 /// What is shown of a line, if it is shown.
-fn line_shown(alloc: Global, line: &Line) -> Result<Option<Text>, AllocError>
+pub(crate) fn line_shown(alloc: Global, line: &Line) -> Result<Option<Text>, AllocError>
     ensures { IfOk result (λ found. found ≡ line_shown_of line.now) }
 {
     match line {
@@ -74,31 +74,36 @@ pub fn added_masks(alloc: Global, lines: &[Line]) -> Result<Sequence<Text>, Allo
     Ok(masks)
 }
 
+/// Adds the mask that a line adds to those of its leg, if it does.
+pub(crate) fn add_own_mask(line: &Line, own: &mut Masks) -> Result<(), AllocError>
+    ensures { OnOk result (own.new ≡ own.old ++ masks_added line.now) }
+{
+    match line {
+        Line::Command { name, message, .. } => {
+            if name.as_str() == "add-mask" {
+                own.push(message.as_str())?;
+            }
+            Ok(())
+        },
+        Line::Plain(_) | Line::Resume => Ok(()),
+    }
+}
+
 /// Adds what is shown of a line, masked, if it is shown.
 fn show(
     alloc: Global,
     line: &Line,
-    masks: &[Text],
+    given: &Masks,
+    own: &Masks,
     texts: &mut Sequence<Text>,
 ) -> Result<(), AllocError>
     ensures { OnOk result
-        (texts.new ≡ texts.old ++ masked_line masks.now (line_shown_of line.now)) }
+        (texts.new ≡ texts.old ++ masked_line (given.now ++ own.now) (line_shown_of line.now)) }
 {
     match line_shown(alloc, line)? {
-        Some(text) => texts.push(mask(alloc, text.as_str(), masks)?),
+        Some(text) => texts.push(mask_by_both(alloc, text.as_str(), given, own)?),
         None => Ok(()),
     }
-}
-
-/// Copies of masks.
-fn copies_of(alloc: Global, masks: &[Text]) -> Result<Sequence<Text>, AllocError>
-    ensures { IfOk result (λ made. made ≡ masks.now) }
-{
-    let mut made = Sequence::empty(alloc);
-    for mask in masks {
-        made.push(mask.copy(alloc)?)?;
-    }
-    Ok(made)
 }
 
 /// The lines that are shown: those of `notice`, `warning` and `error` as `name: message`, that of `group` as
@@ -108,14 +113,14 @@ fn copies_of(alloc: Global, masks: &[Text]) -> Result<Sequence<Text>, AllocError
 /// # Errors
 ///
 /// There is no memory.
-pub fn shown(alloc: Global, lines: &[Line], masks: &[Text]) -> Result<Sequence<Text>, AllocError>
+pub fn shown(alloc: Global, lines: &[Line], masks: &Masks) -> Result<Sequence<Text>, AllocError>
     ensures { IfOk result (λ texts. texts ≡ shown_of masks.now lines.now) }
 {
     let mut texts = Sequence::empty(alloc);
-    let mut hidden = copies_of(alloc, masks)?;
+    let mut own = Masks::empty(alloc);
     for line in lines {
-        show(alloc, line, hidden.as_slice(), &mut texts)?;
-        add_mask(alloc, line, &mut hidden)?;
+        show(alloc, line, masks, &own, &mut texts)?;
+        add_own_mask(line, &mut own)?;
     }
     Ok(texts)
 }
