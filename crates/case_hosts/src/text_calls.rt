@@ -14,9 +14,9 @@
 use crate::host_calls::script_of;
 use case_reader::Page;
 use flow_commands::{
-    Line, mask, read_commands, read_env_file, read_output_file, shell_words, shown,
+    Line, Masks, mask, read_commands, read_env_file, read_output_file, shell_words, shown,
 };
-use flow_model::{Answer, CallWork, Entry, Event, Mapping, Sequence, Shell, StepCall, Text};
+use flow_model::{Answer, CallWork, Entry, Event, Mapping, Shell, StepCall, Text};
 use plan_text::print_entry;
 use std::str;
 use step_host::{Masked, StepHost};
@@ -152,12 +152,10 @@ fn put_pairs(page: &mut Page<'_>, pairs: &[(Text, Text)]) {
 }
 
 /// The masks that the words are.
-fn masks(page: &mut Page<'_>) -> Sequence<Text> {
-    let mut masks = Sequence::empty(page.alloc);
+fn masks(page: &mut Page<'_>) -> Masks {
+    let mut masks = Masks::empty(page.alloc);
     for word in page.words.iter().skip(1) {
-        if let Some(word) = page.have(Text::from_str(page.alloc, word.as_str())) {
-            page.note(masks.push(word));
-        }
+        page.note(masks.push(word.as_str()));
     }
     masks
 }
@@ -166,7 +164,7 @@ fn masks(page: &mut Page<'_>) -> Sequence<Text> {
 fn show(page: &mut Page<'_>, text: &str) {
     let masks = masks(page);
     if let Some(lines) = page.have(read_commands(page.alloc, text)) {
-        if let Some(lines) = page.have(shown(page.alloc, lines.as_slice(), masks.as_slice())) {
+        if let Some(lines) = page.have(shown(page.alloc, lines.as_slice(), &masks)) {
             for line in lines.as_slice() {
                 writeln!(page, "{}", line.as_str());
             }
@@ -178,7 +176,7 @@ fn show(page: &mut Page<'_>, text: &str) {
 fn masked(page: &mut Page<'_>, text: &str) {
     let masks = masks(page);
     if !text.is_empty() {
-        if let Some(text) = page.have(mask(page.alloc, text, masks.as_slice())) {
+        if let Some(text) = page.have(mask(page.alloc, text, &masks)) {
             page.put(text.as_str());
         }
     } else if let Some(host) = script_of(page, page.file()) {

@@ -13,7 +13,8 @@ use crate::progress::Progress;
 use crate::step_names::StepNames;
 use command_io::error::CommandError;
 use command_io::stream::{Output, Sink};
-use flow_model::{Duplicate, Mapping, Sequence, Text};
+use flow_commands::Masks;
+use flow_model::{Duplicate, Mapping, Text};
 use std::alloc::{AllocError, Global};
 use std::fs::{File, Files};
 use std::io::ErrorKind;
@@ -28,7 +29,7 @@ pub struct HostSetup<'w> {
     /// The program of each action.
     pub stubs: Mapping<Text>,
     /// The texts that are masked.
-    pub masks: Sequence<Text>,
+    pub masks: Masks,
     /// The names of the steps, if the start and the end of each are reported on standard error.
     pub progress: Option<StepNames>,
 }

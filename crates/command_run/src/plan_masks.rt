@@ -6,84 +6,77 @@ ghost use Rattle.flow_model.specs.Plain as plain;
 ghost use Rattle.flow_model.specs.Value.{view, views, viewed};
 ghost use Rattle.command_run.specs.PlanMasks as spec;
 
-use flow_model::{Mapping, Node, Plan, Sequence, Text, Value};
+use flow_commands::Masks;
+use flow_model::{Mapping, Node, Plan, Text, Value};
 use std::alloc::{AllocError, Global};
 use std::collections::BTreeMap;
 
 /// Adds the masks that a secret is: each text in it that has a byte.
 #[cycle(texts)]
-fn add_secret(alloc: Global, secret: &Node, masks: &mut Sequence<Text>) -> Result<(), AllocError>
+fn add_secret(secret: &Node, masks: &mut Masks) -> Result<(), AllocError>
     ensures { OnOk result (masks.new ≡ masks.old ++ spec.texts_in (view secret.now)) }
 {
     match secret {
-        Node::Text(text) => add_text(alloc, text, masks),
-        Node::List(nodes) => add_items(alloc, nodes, masks),
-        Node::Map(members) => add_members(alloc, members, masks),
+        Node::Text(text) => add_text(text, masks),
+        Node::List(nodes) => add_items(nodes, masks),
+        Node::Map(members) => add_members(members, masks),
         Node::Null | Node::Truth(_) | Node::Whole(_) => Ok(()),
     }
 }
 
 /// Adds the texts in the items of a list.
 #[cycle(texts)]
-fn add_items(alloc: Global, nodes: &Vec<Node>, masks: &mut Sequence<Text>) -> Result<(), AllocError>
+fn add_items(nodes: &Vec<Node>, masks: &mut Masks) -> Result<(), AllocError>
     ensures { OnOk result (masks.new
         ≡ masks.old ++ spec.texts_in_items (plain.items_of (views nodes.now.items))) }
 {
     for node in nodes {
-        add_secret(alloc, node, masks)?;
+        add_secret(node, masks)?;
     }
     Ok(())
 }
 
 /// Adds the texts in the values of a map.
 #[cycle(texts)]
-fn add_members(
-    alloc: Global,
-    members: &BTreeMap<String, Node>,
-    masks: &mut Sequence<Text>,
-) -> Result<(), AllocError>
+fn add_members(members: &BTreeMap<String, Node>, masks: &mut Masks) -> Result<(), AllocError>
     ensures { OnOk result (masks.new ≡ masks.old
         ++ spec.texts_in_members (plain.members_of (viewed (pairs_of members.now.entries)))) }
 {
     for (_key, node) in members.iter() {
-        add_secret(alloc, node, masks)?;
+        add_secret(node, masks)?;
     }
     Ok(())
 }
 
 /// Adds a text, if it has a byte.
-fn add_text(alloc: Global, text: &Text, masks: &mut Sequence<Text>) -> Result<(), AllocError>
+fn add_text(text: &Text, masks: &mut Masks) -> Result<(), AllocError>
     ensures { OnOk result (masks.new ≡ masks.old ++ spec.some_text text.now) }
 {
     if text.is_empty() {
         return Ok(());
     }
-    masks.push(Text::from_str(alloc, text.as_str())?)
+    masks.push(text.as_str())
 }
 
 /// Adds the masks that secrets are.
-fn add_secrets(
-    alloc: Global,
-    secrets: &Mapping<Value>,
-    masks: &mut Sequence<Text>,
-) -> Result<(), AllocError>
+fn add_secrets(secrets: &Mapping<Value>, masks: &mut Masks) -> Result<(), AllocError>
     ensures { OnOk result (masks.new ≡ masks.old ++ spec.secret_masks secrets.now) }
 {
     let from = secrets.iter();
     for (_, secret) in from {
-        add_secret(alloc, secret.node(), masks)?;
+        add_secret(secret.node(), masks)?;
     }
     Ok(())
 }
 
 /// The masks that the secrets of a plan's runs are.
-pub(crate) fn masks_of(alloc: Global, plan: &Plan) -> Result<Sequence<Text>, AllocError>
+pub(crate) fn masks_of(alloc: Global, plan: &Plan) -> Result<Masks, AllocError>
     ensures { IfOk result (λ masks. masks ≡ spec.plan_masks plan.now) }
 {
-    let mut masks = Sequence::empty(alloc);
+    let mut masks = Masks::empty(alloc);
     let runs = plan.runs.as_slice();
     for run in runs {
-        add_secrets(alloc, &run.roots.secrets, &mut masks)?;
+        add_secrets(&run.roots.secrets, &mut masks)?;
     }
     Ok(masks)
 }

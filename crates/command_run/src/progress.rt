@@ -5,8 +5,8 @@ ghost use Rattle.flow_commands.specs.Mask.{masked};
 ghost use Rattle.command_run.specs.Progress as spec;
 
 use crate::step_names::{NamedStep, StepNames};
-use flow_commands::mask;
-use flow_model::{Answer, Sequence, StepCall, Text};
+use flow_commands::{Masks, mask};
+use flow_model::{Answer, StepCall};
 use std::alloc::{AllocError, Global};
 use std::fmt::Write as _;
 use std::io::{ErrorKind, Write};
@@ -21,7 +21,7 @@ pub struct Progress {
     runtime: HostRuntime,
     alloc: Global,
     names: Option<StepNames>,
-    masks: Sequence<Text>,
+    masks: Masks,
     // how many steps have been played
     done: AtomicU64,
 }
@@ -81,7 +81,7 @@ fn add_time(text: &mut String, time: Duration) -> Result<(), AllocError> {
 }
 
 /// A line of a text, masked.
-fn masked_line(alloc: Global, text: &str, masks: &[Text]) -> Result<String, AllocError>
+fn masked_line(alloc: Global, text: &str, masks: &Masks) -> Result<String, AllocError>
     ensures { IfOk result (λ line. string_bytes line ≡ masked masks.now text.now ++ codes "\n") }
 {
     let text = mask(alloc, text, masks)?;
@@ -97,7 +97,7 @@ impl Progress {
         alloc: Global,
         runtime: HostRuntime,
         names: Option<StepNames>,
-        masks: Sequence<Text>,
+        masks: Masks,
     ) -> Progress {
         Progress {
             runtime,
@@ -110,7 +110,7 @@ impl Progress {
 
     /// Writes a text as a line, masked.
     fn tell(&self, text: &str) {
-        if let Ok(line) = masked_line(self.alloc, text, self.masks.as_slice()) {
+        if let Ok(line) = masked_line(self.alloc, text, &self.masks) {
             drop(self.runtime.stderr().write_all(line.as_bytes()));
         }
     }

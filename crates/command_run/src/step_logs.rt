@@ -10,7 +10,7 @@ ghost use Rattle.command_run.specs.StepLogs as spec;
 use crate::plan_masks::masks_of;
 use crate::workspace::Workspace;
 use command_io::stream::Sink;
-use flow_commands::{Log, tell_log};
+use flow_commands::{Log, Masks, tell_log};
 use flow_model::{Answer, CheckedPlan, Entry, Event, Sequence, Text};
 use std::alloc::{AllocError, Global};
 use std::collections::HashMap;
@@ -149,7 +149,7 @@ fn read_log<F: Files>(workspace: &Workspace<'_, F>, step: (u64, u64)) -> Result<
 /// Writes what is shown of the log of a step, and keeps the masks that it adds.
 fn put_log<F: Files, O: Sink>(
     workspace: &Workspace<'_, F>,
-    masks: &Sequence<Text>,
+    masks: &Masks,
     step: (u64, u64),
     added: &mut Sequence<(u64, Text)>,
     out: &mut O,
@@ -165,7 +165,7 @@ fn put_log<F: Files, O: Sink>(
 /// Writes what is shown of the logs of steps, one log after the other.
 fn put_each<F: Files, O: Sink>(
     workspace: &Workspace<'_, F>,
-    masks: &Sequence<Text>,
+    masks: &Masks,
     steps: &[(u64, u64)],
     out: &mut O,
 ) -> Result<bool, AllocError>

@@ -7,7 +7,7 @@ use case_hosts::text_calls::put_played;
 use case_reader::Page;
 use case_reader::samples::pair;
 use command_run::machine::{HostSetup, Machine};
-use flow_model::Sequence;
+use flow_commands::Masks;
 
 /// A host of programs in this folder, with the stub of the one action that has one.
 fn host<R: Machine>(rt: &R, page: &mut Page<'_>) -> Option<R::Host> {
@@ -16,7 +16,7 @@ fn host<R: Machine>(rt: &R, page: &mut Page<'_>) -> Option<R::Host> {
     let setup = HostSetup {
         work: folder.as_str(),
         stubs,
-        masks: Sequence::empty(page.alloc),
+        masks: Masks::empty(page.alloc),
         progress: None,
     };
     rt.host(page.alloc, setup).ok()

@@ -37,7 +37,9 @@ pub mod watched;
 pub use board::PlayBoard;
 pub use fault::{HostFault, ScriptFault};
 pub use files::{FileBytes, read_named};
-pub use flow_commands::{mask, read_commands, read_env_file, read_output_file, shell_words, shown};
+pub use flow_commands::{
+    Masks, mask, read_commands, read_env_file, read_output_file, shell_words, shown,
+};
 pub use host::{DecidedHost, StepHost, WatchedHost};
 pub use launch::log_file;
 pub use masked::Masked;

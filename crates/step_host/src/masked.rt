@@ -10,15 +10,15 @@ ghost use Rattle.step_host.specs.Masked.{IsMasked, IsMasked-one, IsMasked-well_f
 use crate::fault::HostFault;
 use crate::host::{DecidedHost, StepHost, WatchedHost};
 use crate::watch::Watch;
-use flow_commands::mask;
-use flow_model::{Answer, Mapping, Sequence, StepCall, Text};
+use flow_commands::{Masks, mask};
+use flow_model::{Answer, Mapping, StepCall, Text};
 use std::alloc::{AllocError, Global};
 
 /// The host that gives the answers of another with the values of their outputs and variables masked.
 #[derive(Drop)]
 pub struct Masked<H> {
     host: H,
-    masks: Sequence<Text>,
+    masks: Masks,
     alloc: Global,
 }
 
@@ -26,7 +26,7 @@ impl<H: StepHost> Masked<H> {
     /// The host that admits the masked forms of what this one admits: the values of outputs and of variables are masked,
     /// and where the answer is no longer well-formed then, `Answer::BadOutput` stands for it. It declines what this one
     /// does. It keeps the allocator, and takes no memory.
-    pub fn new(alloc: Global, host: H, masks: Sequence<Text>) -> Masked<H>
+    pub fn new(alloc: Global, host: H, masks: Masks) -> Masked<H>
         ensures admits { (call : StepCall) (answer : Answer)
             → ⟦<Masked<H> as StepHost>⟧.admits result call answer
             ↔ IsMasked masks (H.admits host call) answer }
@@ -43,7 +43,7 @@ impl<H: StepHost> Masked<H> {
 fn masked_values(
     alloc: Global,
     pairs: &Mapping<Text>,
-    masks: &[Text],
+    masks: &Masks,
 ) -> Result<Mapping<Text>, AllocError>
     ensures { IfOk result (λ made. made ≡ map_values (masked masks.now) pairs.now) }
 {
@@ -67,7 +67,7 @@ fn checked(answer: Answer) -> Answer
 }
 
 /// The masked form of an answer.
-fn masked_answer(alloc: Global, answer: Answer, masks: &[Text]) -> Result<Answer, AllocError>
+fn masked_answer(alloc: Global, answer: Answer, masks: &Masks) -> Result<Answer, AllocError>
     ensures { IfOk result (λ made. made ≡ masked_answer_of masks.now answer) }
 {
     match answer {
@@ -88,7 +88,7 @@ impl<H: StepHost> StepHost for Masked<H> {
 
     fn play(&self, call: &StepCall) -> Result<Answer, HostFault> {
         let answer = self.host.play(call)?;
-        Ok(masked_answer(self.alloc, answer, self.masks.as_slice())?)
+        Ok(masked_answer(self.alloc, answer, &self.masks)?)
     }
 
     ghost admits_well_formed = { λ host call answer.
@@ -98,7 +98,7 @@ impl<H: StepHost> StepHost for Masked<H> {
 impl<H: WatchedHost> WatchedHost for Masked<H> {
     fn play_watched<W: Watch>(&self, call: &StepCall, watch: &W) -> Result<Answer, HostFault> {
         let answer = self.host.play_watched(call, watch)?;
-        Ok(masked_answer(self.alloc, answer, self.masks.as_slice())?)
+        Ok(masked_answer(self.alloc, answer, &self.masks)?)
     }
 }
 
