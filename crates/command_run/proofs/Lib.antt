@@ -1,5 +1,6 @@
 pub mod Counting
 pub mod Entries
 pub mod Grown
+pub mod LogTexts
 pub mod Played
 pub mod Telling

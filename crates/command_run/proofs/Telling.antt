@@ -14,7 +14,7 @@ use Rattle.plan_text.specs.Record.{record_text}
 use Rattle.command_run.specs.PlanMasks.{plan_masks}
 use Rattle.command_run.specs.RecordFile.{Keeping, Kept, Writes}
 use Rattle.command_run.specs.Run.{PutsPlayed, ShowsRest, TellsHistory, TellsWritten}
-use Rattle.command_run.specs.StepLogs.{IsBegun, PutsLog, PutsLogs, PutsShown, PutsText, Written, started_leg}
+use Rattle.command_run.specs.StepLogs.{AreAdded, IsBegun, PutsLog, PutsLogs, PutsShown, PutsText, ShowsLog, Written, started_leg}
 use Rattle.step_host.specs.Replay.{recorded}
 
 -- ---- pieces of a text
@@ -34,8 +34,23 @@ cut_after a b c before piece after whole written cut is =
       failed,
     )
 
+-- a piece that is begun after others begins the whole
+part_after : (a b c : Stream) (before piece after whole : List ℕ) → IsWritten a b before → IsBegun b c piece → whole ≡ before ++ (piece ++ after)
+    → IsBegun a c whole
+part_after a b c before piece after whole written begun is =
+    let (kept, failed) = begun in (
+      record {
+        part = before ++ kept.part;
+        rest = kept.rest ++ after;
+        whole = is ∙ ap (λ (l : List ℕ). before ++ (l ++ after)) kept.whole ∙ ap (λ (l : List ℕ). before ++ l) (append_assoc kept.part kept.rest after)
+            ∙ sym (append_assoc before kept.part (kept.rest ++ after));
+        appended = Appends-then _ _ _ before kept.part written.0 kept.appended;
+      },
+      failed ∙ written.1,
+    )
+
 -- where nothing follows a piece, the whole is begun
-begun_after : (a b c : Stream) (before after whole : List ℕ) → IsWritten a b before → IsKept b c → whole ≡ before ++ after → IsBegun a c whole
+pub begun_after : (a b c : Stream) (before after whole : List ℕ) → IsWritten a b before → IsKept b c → whole ≡ before ++ after → IsBegun a c whole
 begun_after a b c before after whole written kept is =
     (record { part = before; rest = after; whole = is; appended = Appends-kept _ _ _ before written.0 kept.0 }, kept.1 ∙ written.1)
 
@@ -85,64 +100,78 @@ map_append f (x ∷ xs) ys = ap (λ zs. f x ∷ zs) (map_append f xs ys)
 
 -- ---- the logs so far
 
--- The logs of these legs were told.
-pub record ToldSoFar (given : List (List ℕ)) (legs : List ℕ) (added : List (ℕ × List ℕ)) (out out' : Stream) : Type 0 where
+-- The logs of these legs were told, and the masks that they added are kept.
+pub record ToldSoFar (given : List (List ℕ)) (legs : List ℕ) (by : ℕ → List (List ℕ)) (out out' : Stream) : Type 0 where
   pub logs : List Log
   pub of : map (λ log. log.0) logs ≡ legs
+  pub added : List (ℕ × List ℕ)
+  pub kept : AreAdded by added
   pub text : List ℕ
   pub is : (rest : List Log) → logs_text given [] (logs ++ rest) ≡ text ++ logs_text given added rest
   pub written : IsWritten out out' text
 
-pub none_told : (given : List (List ℕ)) (added : List (ℕ × List ℕ)) (out : Stream) → added ≡ [] → ToldSoFar given [] added out out
-none_told given added out none = record {
+pub none_told : (given : List (List ℕ)) (by : ℕ → List (List ℕ)) (out : Stream) → ((leg : ℕ) → by leg ≡ []) → ToldSoFar given [] by out out
+none_told given by out none = record {
   logs = [];
   of = refl;
+  added = [];
+  kept = none;
   text = [];
-  is = λ rest. ap (λ a. logs_text given a rest) (sym none);
+  is = λ rest. refl;
   written = (Appends-nothing out.bytes, refl);
 }
 
 -- one more was told
-pub more_told : (given : List (List ℕ)) (legs : List ℕ) (leg : ℕ) (added added' : List (ℕ × List ℕ)) (a b c : Stream) → ToldSoFar given legs added a b
-    → PutsLog given leg added added' b c (Ok true) → ToldSoFar given (legs ++ leg ∷ []) added' a c
-more_told given legs leg added added' a b c told (shown, shows, put) = record {
-  logs = told.logs ++ shows.log ∷ [];
-  of = map_append (λ log. log.0) told.logs (shows.log ∷ []) ∙ ap (λ ls. ls ++ shows.log.0 ∷ []) told.of ∙ ap (λ l. legs ++ l ∷ []) shows.of;
-  text = told.text ++ shown;
-  is = λ rest. ap (logs_text given []) (append_assoc told.logs (shows.log ∷ []) rest) ∙ told.is (shows.log ∷ rest)
-      ∙ ap (λ t. told.text ++ t) (shows.is rest) ∙ sym (append_assoc told.text shown (logs_text given added' rest));
-  written = (Appends-then _ _ _ told.text shown told.written.0 put.0, put.1 ∙ told.written.1);
-}
+pub more_told : (given : List (List ℕ)) (legs : List ℕ) (leg : ℕ) (by by' : ℕ → List (List ℕ)) (a b c : Stream) → ToldSoFar given legs by a b
+    → PutsLog given leg by by' b c (Ok true) → ToldSoFar given (legs ++ leg ∷ []) by' a c
+more_told given legs leg by by' a b c told puts =
+    let (added', keeps, shown, shows, put) = puts told.added told.kept in
+    record {
+      logs = told.logs ++ shows.log ∷ [];
+      of = map_append (λ log. log.0) told.logs (shows.log ∷ []) ∙ ap (λ ls. ls ++ shows.log.0 ∷ []) told.of ∙ ap (λ l. legs ++ l ∷ []) shows.of;
+      added = added';
+      kept = keeps;
+      text = told.text ++ shown;
+      is = λ rest. ap (logs_text given []) (append_assoc told.logs (shows.log ∷ []) rest) ∙ told.is (shows.log ∷ rest)
+          ∙ ap (λ t. told.text ++ t) (shows.is rest) ∙ sym (append_assoc told.text shown (logs_text given added' rest));
+      written = (Appends-then _ _ _ told.text shown told.written.0 put.0, put.1 ∙ told.written.1);
+    }
 
 -- all were told
-pub all_told : (given : List (List ℕ)) (legs : List ℕ) (added : List (ℕ × List ℕ)) (a b : Stream) → ToldSoFar given legs added a b → PutsLogs given legs a b (Ok true)
-all_told given legs added a b told = record {
+pub all_told : (given : List (List ℕ)) (legs : List ℕ) (by : ℕ → List (List ℕ)) (a b : Stream) → ToldSoFar given legs by a b → PutsLogs given legs a b (Ok true)
+all_told given legs by a b told = record {
   logs = told.logs;
   of = told.of;
   puts = subst (λ (t : List ℕ). IsWritten a b t)
       (sym (ap (logs_text given []) (sym (append-nil told.logs)) ∙ told.is [] ∙ append-nil told.text)) told.written;
 }
 
--- one was cut off, and the others are not told
-pub cut_told : (given : List (List ℕ)) (legs : List ℕ) (leg : ℕ) (rest all : List ℕ) (added added' : List (ℕ × List ℕ)) (a b c : Stream) → ToldSoFar given legs added a b
-    → PutsLog given leg added added' b c (Ok false) → all ≡ legs ++ leg ∷ rest → PutsLogs given all a c (Ok false)
-cut_told given legs leg rest all added added' a b c told (shown, shows, put) are = record {
+-- one was told in part, and the others are not told
+ended_told : (given : List (List ℕ)) (legs : List ℕ) (leg : ℕ) (rest all : List ℕ) (by : ℕ → List (List ℕ)) (added' : List (ℕ × List ℕ)) (shown : List ℕ) (a b c : Stream)
+    (how : Written) → (told : ToldSoFar given legs by a b) → ShowsLog given leg told.added added' shown → all ≡ legs ++ leg ∷ rest
+    → ((after whole : List ℕ) → whole ≡ told.text ++ (shown ++ after) → PutsText a c whole how) → PutsLogs given all a c how
+ended_told given legs leg rest all by added' shown a b c how told shows are puts = record {
   logs = told.logs ++ shows.log ∷ unread rest;
   of = map_append (λ log. log.0) told.logs (shows.log ∷ unread rest) ∙ ap (λ ls. ls ++ shows.log.0 ∷ map (λ log. log.0) (unread rest)) told.of
       ∙ ap (λ l. legs ++ l ∷ map (λ log. log.0) (unread rest)) shows.of ∙ ap (λ ls. legs ++ leg ∷ ls) (unread_of rest) ∙ sym are;
-  puts = cut_after a b c told.text shown (logs_text given added' (unread rest)) _ told.written put
-      (told.is (shows.log ∷ unread rest) ∙ ap (λ t. told.text ++ t) (shows.is (unread rest)));
+  puts = puts (logs_text given added' (unread rest)) _ (told.is (shows.log ∷ unread rest) ∙ ap (λ t. told.text ++ t) (shows.is (unread rest)));
 }
 
--- there was no memory for one, and it and the others are not told
-pub begun_told : (given : List (List ℕ)) (legs rest all : List ℕ) (added : List (ℕ × List ℕ)) (a b c : Stream) (e : AllocError) → ToldSoFar given legs added a b
-    → IsKept b c → all ≡ legs ++ rest → PutsLogs given all a c (Err e)
-begun_told given legs rest all added a b c e told kept are = record {
-  logs = told.logs ++ unread rest;
-  of = map_append (λ log. log.0) told.logs (unread rest) ∙ ap (λ ls. ls ++ map (λ log. log.0) (unread rest)) told.of
-      ∙ ap (λ ls. legs ++ ls) (unread_of rest) ∙ sym are;
-  puts = begun_after a b c told.text (logs_text given added (unread rest)) _ told.written kept (told.is (unread rest));
-}
+-- it was cut off
+pub cut_told : (given : List (List ℕ)) (legs : List ℕ) (leg : ℕ) (rest all : List ℕ) (by by' : ℕ → List (List ℕ)) (a b c : Stream) → ToldSoFar given legs by a b
+    → PutsLog given leg by by' b c (Ok false) → all ≡ legs ++ leg ∷ rest → PutsLogs given all a c (Ok false)
+cut_told given legs leg rest all by by' a b c told puts are =
+    let (added', shown, shows, put) = puts told.added told.kept in
+    ended_told given legs leg rest all by added' shown a b c (Ok false) told shows are
+    (λ after whole is. cut_after a b c told.text shown after whole told.written put is)
+
+-- there was no memory for the rest of it
+pub begun_told : (given : List (List ℕ)) (legs : List ℕ) (leg : ℕ) (rest all : List ℕ) (by by' : ℕ → List (List ℕ)) (a b c : Stream) (e e' : AllocError)
+    → ToldSoFar given legs by a b → PutsLog given leg by by' b c (Err e') → all ≡ legs ++ leg ∷ rest → PutsLogs given all a c (Err e)
+begun_told given legs leg rest all by by' a b c e e' told puts are =
+    let (added', shown, shows, put) = puts told.added told.kept in
+    ended_told given legs leg rest all by added' shown a b c (Err e) told shows are
+    (λ after whole is. part_after a b c told.text shown after whole told.written put is)
 
 -- ---- the place among steps
 
@@ -158,30 +187,30 @@ taken_at : {X : Type 0} (f : X → ℕ) (xs : List X) (i : ℕ) (d : X) → i < 
 taken_at f xs i d within = taken_rest f xs i ∙ ap (λ ys. map f (take i xs) ++ map f ys) (drop-cons xs i d within)
 
 -- the same of what the code answers at a place
-pub step_told : (given : List (List ℕ)) (steps : List (ℕ × ℕ)) (i : ℕ) (d : ℕ × ℕ) (added added' : List (ℕ × List ℕ)) (a b c : Stream) (told : Written) → i < length steps
-    → ToldSoFar given (map (λ step. step.0) (take i steps)) added a b → PutsLog given (get_or steps i d).0 added added' b c told → told ≡ Ok true
-    → ToldSoFar given (map (λ step. step.0) (take (i + 1) steps)) added' a c
-step_told given steps i d added added' a b c told within sofar put is =
-    subst (λ ls. ToldSoFar given ls added' a c) (sym (taken_more (λ step. step.0) steps i d within))
-    (more_told given _ _ added added' a b c sofar (subst (PutsLog given (get_or steps i d).0 added added' b c) is put))
+pub step_told : (given : List (List ℕ)) (steps : List (ℕ × ℕ)) (i : ℕ) (d : ℕ × ℕ) (by by' : ℕ → List (List ℕ)) (a b c : Stream) (told : Written) → i < length steps
+    → ToldSoFar given (map (λ step. step.0) (take i steps)) by a b → PutsLog given (get_or steps i d).0 by by' b c told → told ≡ Ok true
+    → ToldSoFar given (map (λ step. step.0) (take (i + 1) steps)) by' a c
+step_told given steps i d by by' a b c told within sofar put is =
+    subst (λ ls. ToldSoFar given ls by' a c) (sym (taken_more (λ step. step.0) steps i d within))
+    (more_told given _ _ by by' a b c sofar (subst (PutsLog given (get_or steps i d).0 by by' b c) is put))
 
-pub step_cut : (given : List (List ℕ)) (steps : List (ℕ × ℕ)) (i : ℕ) (d : ℕ × ℕ) (added added' : List (ℕ × List ℕ)) (a b c : Stream) (told : Written) → i < length steps
-    → ToldSoFar given (map (λ step. step.0) (take i steps)) added a b → PutsLog given (get_or steps i d).0 added added' b c told → told ≡ Ok false
+pub step_cut : (given : List (List ℕ)) (steps : List (ℕ × ℕ)) (i : ℕ) (d : ℕ × ℕ) (by by' : ℕ → List (List ℕ)) (a b c : Stream) (told : Written) → i < length steps
+    → ToldSoFar given (map (λ step. step.0) (take i steps)) by a b → PutsLog given (get_or steps i d).0 by by' b c told → told ≡ Ok false
     → PutsLogs given (map (λ step. step.0) steps) a c (Ok false)
-step_cut given steps i d added added' a b c told within sofar put is =
-    cut_told given _ _ _ _ added added' a b c sofar (subst (PutsLog given (get_or steps i d).0 added added' b c) is put) (taken_at (λ step. step.0) steps i d within)
+step_cut given steps i d by by' a b c told within sofar put is =
+    cut_told given _ _ _ _ by by' a b c sofar (subst (PutsLog given (get_or steps i d).0 by by' b c) is put) (taken_at (λ step. step.0) steps i d within)
 
-pub step_begun : (given : List (List ℕ)) (steps : List (ℕ × ℕ)) (i leg : ℕ) (added added' : List (ℕ × List ℕ)) (a b c : Stream) (told : Written) (e : AllocError) (how : Written)
-    → ToldSoFar given (map (λ step. step.0) (take i steps)) added a b → PutsLog given leg added added' b c told → told ≡ Err e → IsErr how
+pub step_begun : (given : List (List ℕ)) (steps : List (ℕ × ℕ)) (i : ℕ) (d : ℕ × ℕ) (by by' : ℕ → List (List ℕ)) (a b c : Stream) (told : Written) (e : AllocError) (how : Written)
+    → i < length steps → ToldSoFar given (map (λ step. step.0) (take i steps)) by a b → PutsLog given (get_or steps i d).0 by by' b c told → told ≡ Err e → IsErr how
     → PutsLogs given (map (λ step. step.0) steps) a c how
-step_begun given steps i leg added added' a b c told e (Err e') sofar put is failed =
-    begun_told given _ _ _ added a b c e' sofar (subst (PutsLog given leg added added' b c) is put) (taken_rest (λ step. step.0) steps i)
-step_begun given steps i leg added added' a b c told e (Ok whole) sofar put is failed = let no : false ≡ true = failed in absurd (cc)
+step_begun given steps i d by by' a b c told e (Err e') within sofar put is failed =
+    begun_told given _ _ _ _ by by' a b c e' e sofar (subst (PutsLog given (get_or steps i d).0 by by' b c) is put) (taken_at (λ step. step.0) steps i d within)
+step_begun given steps i d by by' a b c told e (Ok whole) within sofar put is failed = let no : false ≡ true = failed in absurd (cc)
 
-pub steps_told : (given : List (List ℕ)) (steps : List (ℕ × ℕ)) (i : ℕ) (added : List (ℕ × List ℕ)) (a b : Stream) → length steps ≤ i
-    → ToldSoFar given (map (λ step. step.0) (take i steps)) added a b → PutsLogs given (map (λ step. step.0) steps) a b (Ok true)
-steps_told given steps i added a b past sofar =
-    subst (λ (ss : List (ℕ × ℕ)). PutsLogs given (map (λ step. step.0) ss) a b (Ok true)) (take_all i steps past) (all_told given _ added a b sofar)
+pub steps_told : (given : List (List ℕ)) (steps : List (ℕ × ℕ)) (i : ℕ) (by : ℕ → List (List ℕ)) (a b : Stream) → length steps ≤ i
+    → ToldSoFar given (map (λ step. step.0) (take i steps)) by a b → PutsLogs given (map (λ step. step.0) steps) a b (Ok true)
+steps_told given steps i by a b past sofar =
+    subst (λ (ss : List (ℕ × ℕ)). PutsLogs given (map (λ step. step.0) ss) a b (Ok true)) (take_all i steps past) (all_told given _ by a b sofar)
 
 -- ---- what is shown of a history
 

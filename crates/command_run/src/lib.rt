@@ -12,6 +12,7 @@
 mod environment;
 pub mod growing;
 pub mod growing_files;
+mod log_files;
 pub mod machine;
 mod plan_masks;
 mod playing;
@@ -19,6 +20,7 @@ pub mod progress;
 pub mod record_file;
 pub mod run;
 mod run_lines;
+mod started_steps;
 mod step_logs;
 pub mod step_names;
 mod stubs;

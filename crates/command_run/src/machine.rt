@@ -1,6 +1,6 @@
 //! What starts programs.
 
-ghost use Rattle.std.specs.Prelude.{◌≡◌, [], Bool, IfErr, IfOk, List, ℕ};
+ghost use Rattle.std.specs.Prelude.{◌≡◌, [], Bool, IfErr, IfOk, IfSome, List, ℕ};
 ghost use Rattle.command_io.specs.Stream.{Stream};
 ghost use Rattle.command_run.specs.Playing.{MasksAnswers};
 ghost use Rattle.command_run.specs.Run.{IsOfMachine};
@@ -11,15 +11,16 @@ use crate::growing::GrowingFile;
 use crate::growing_files::{GrowingFiles, GrowingNames, part_name};
 use crate::progress::Progress;
 use crate::step_names::StepNames;
+use command_io::bounded::{Bounded, MOST_READS};
 use command_io::error::CommandError;
-use command_io::stream::{Output, Sink};
+use command_io::stream::{Input, LineSource, Output, Sink};
 use flow_commands::Masks;
 use flow_model::{Duplicate, Mapping, Text};
 use std::alloc::{AllocError, Global};
 use std::fs::{File, Files};
-use std::io::ErrorKind;
-use std::{fs, path};
-use step_host::{Masked, ProgramHost, StepHost, Watched};
+use std::io::{BufReader, ErrorKind, Take};
+use std::{fs, io, path};
+use step_host::{Masked, ProgramHost, StepHost, Watched, open_regular};
 
 /// What a host is built from.
 #[derive(Drop)]
@@ -32,6 +33,19 @@ pub struct HostSetup<'w> {
     pub masks: Masks,
     /// The names of the steps, if the start and the end of each are reported on standard error.
     pub progress: Option<StepNames>,
+}
+
+/// A file whose lines are read as they come.
+type FileLines = Input<BufReader<Bounded<Take<File>, MOST_READS>>>;
+
+/// The lines of the file of that name.
+fn open_lines<F: Files<File = File>>(
+    alloc: Global,
+    files: &F,
+    name: &str,
+) -> io::Result<FileLines> {
+    let file = open_regular(files, name)?;
+    Ok(Input::new(BufReader::new(alloc, Bounded::new(file))?))
 }
 
 /// Where programs run.
@@ -49,6 +63,20 @@ pub trait Machine: Files {
 
     /// Removes the file in which the record of that name grew.
     fn remove_grown(&self, alloc: Global, name: &str);
+
+    /// A log of a step, which is read line by line.
+    type Log: LineSource + Drop;
+
+    /// That this is the log that the file of this name holds.
+    ghost logs: { Self.Log → List ℕ → Type 0 };
+
+    /// The log that the file of that name holds, if it can be opened.
+    ///
+    /// # Errors
+    ///
+    /// There is no memory.
+    fn open_log(&self, alloc: Global, name: &str) -> Result<Option<Self::Log>, AllocError>
+        ensures { IfOk result (λ found. IfSome found (λ log. logs log name.now)) };
 
     /// That it wrote a file of this name with this text, whole or not, at a time when `out` showed this.
     ghost writes: { List ℕ → List ℕ → Stream → Bool → Type 0 };
@@ -88,7 +116,11 @@ impl Machine for HostRuntime {
 
     type Growing = GrowingFiles;
 
+    type Log = FileLines;
+
     // nothing is known of a disk
+    ghost logs = { λ _ _. Unit {0} };
+
     ghost writes = { λ _ _ _ _. Unit {0} };
 
     ghost lacks = { λ _. Unit {0} };
@@ -102,6 +134,18 @@ impl Machine for HostRuntime {
     fn remove_grown(&self, alloc: Global, name: &str) {
         if let Ok(part) = part_name(alloc, name) {
             drop(fs::remove_file(self, part.as_str()));
+        }
+    }
+
+    fn open_log(&self, alloc: Global, name: &str) -> Result<Option<FileLines>, AllocError> {
+        match open_lines(alloc, self, name) {
+            Ok(lines) => Ok(Some(lines)),
+            Err(error) => {
+                if error.kind() == ErrorKind::OutOfMemory {
+                    return Err(AllocError);
+                }
+                Ok(None)
+            },
         }
     }
 

@@ -1,194 +1,156 @@
-//! The logs of the steps that were started, and what is shown of them.
+//! What is shown of the logs of the steps that were started.
 
-ghost use Rattle.std.specs.Prelude.{◌≡◌, ◌++◌, ℕ, IfOk, IfSome, OnOk, Some, flat_map, map, nat_eq};
+ghost use Rattle.std.specs.Prelude.{◌≡◌, [], ◌==◌, ℕ, None, if◌then◌else◌, map, nat_eq, OnOk, string_bytes};
 ghost use Rattle.std.specs.HashMap.{get};
 ghost use Rattle.status_table.specs.Runs.{IsLegal};
-ghost use Rattle.step_host.specs.Counted.{begun_after, counted};
-ghost use Rattle.step_host.specs.Program.{log_file as log_name};
 ghost use Rattle.command_run.specs.StepLogs as spec;
 
+use crate::log_files::{LogKind, log_kind, next_text, open_log};
+use crate::machine::Machine;
 use crate::plan_masks::masks_of;
+use crate::started_steps::started_steps;
 use crate::workspace::Workspace;
-use command_io::stream::Sink;
-use flow_commands::{Log, Masks, tell_log};
-use flow_model::{Answer, CheckedPlan, Entry, Event, Sequence, Text};
+use command_io::stream::{LineSource, Sink};
+use flow_commands::{LogTeller, Masks};
+use flow_model::{CheckedPlan, Entry};
 use std::alloc::{AllocError, Global};
 use std::collections::HashMap;
-use std::fs::Files;
-use std::io::ErrorKind;
 use step_host::laws::records_are_counted;
-use step_host::{FileBytes, log_file, read_named};
 
-/// Whether a program was started.
-fn was_started(answer: &Answer) -> bool
-    ensures { result ≡ spec.was_started answer.now }
+/// The masks that the logs of each leg added, by the legs' numbers.
+type Added = HashMap<u64, Masks>;
+
+/// How many bytes of what is shown of a log are gathered before they are written.
+const MOST_GATHERED: usize = 65_536;
+
+/// Takes the masks that the logs of a leg added.
+fn take_masks(alloc: Global, added: &mut Added, leg: u64) -> Masks
+    ensures masks { result ≡ spec.added_by (get nat_eq added.old) leg }
+    ensures others { (l : ℕ) → spec.added_by (get nat_eq added.new) l
+        ≡ (if l == leg then [] else spec.added_by (get nat_eq added.old) l) }
 {
-    match answer {
-        Answer::Exit { .. } => true,
-        Answer::NotStarted => false,
-        Answer::BadOutput => true,
+    match added.remove(&leg) {
+        Some(masks) => masks,
+        None => Masks::empty(alloc),
     }
 }
 
-/// How many steps of each leg are begun, by the legs' numbers.
-type Begun = HashMap<u64, u64>;
-
-/// How many steps of a leg are begun.
-fn begun_of(begun: &Begun, leg: u64) -> u64
-    ensures { result ≡ spec.begun_of (get nat_eq begun.now) leg }
+/// Keeps masks as those that the logs of a leg added.
+fn keep_masks(added: &mut Added, leg: u64, masks: Masks) -> Result<(), AllocError>
+    ensures { OnOk result ((l : ℕ) → spec.added_by (get nat_eq added.new) l
+        ≡ (if l == leg then masks else spec.added_by (get nat_eq added.old) l)) }
 {
-    match begun.get(&leg) {
-        Some(many) => *many,
-        None => 0,
-    }
-}
-
-/// Counts one more step of a leg.
-fn count_step(begun: &mut Begun, leg: u64) -> Result<(), AllocError>
-    ensures { OnOk result ((l : ℕ) → spec.begun_of (get nat_eq begun.new) l
-        ≡ begun_after l (spec.begun_of (get nat_eq begun.old) l) (Event.Begin leg)) }
-{
-    let Some(many) = begun_of(begun, leg).checked_add(1) else {
-        return Err(AllocError);
-    };
-    begun.insert(leg, many)?;
+    added.insert(leg, masks)?;
     Ok(())
 }
 
-/// Lists the step of a leg that was begun last, if a program was started for it.
-fn list_step(
-    begun: &Begun,
-    leg: u64,
-    answer: &Answer,
-    steps: &mut Vec<(u64, u64)>,
-) -> Result<(), AllocError>
-    ensures { OnOk result (steps.new.items ≡ steps.old.items
-        ++ spec.started_by (spec.begun_of (get nat_eq begun.now)) (Event.End leg answer.now)) }
+/// Writes what is shown of the lines so far of a log where it is much, and answers whether it was written or is still gathered.
+fn hand_on<O: Sink>(log: &mut LogTeller, out: &mut O) -> bool
+    ensures { spec.HandsOn log.old log.new (O.seen out.old) (O.seen out.new) result }
 {
-    if was_started(answer) {
-        let step = begun_of(begun, leg).saturating_sub(1);
-        steps.push((leg, step))?;
+    if log.shown().len() < MOST_GATHERED {
+        return true;
     }
-    Ok(())
+    if !out.put(log.shown().as_bytes()) {
+        return false;
+    }
+    log.take_shown();
+    true
 }
 
-/// Counts the step that an event begins, or lists the one that it ends, if a program was started for it.
-fn follow(begun: &mut Begun, event: &Event, steps: &mut Vec<(u64, u64)>) -> Result<(), AllocError>
-    ensures counts { OnOk result ((l : ℕ) → spec.begun_of (get nat_eq begun.new) l
-        ≡ begun_after l (spec.begun_of (get nat_eq begun.old) l) event.now) }
-    ensures lists { OnOk result (steps.new.items ≡ steps.old.items
-        ++ spec.started_by (spec.begun_of (get nat_eq begun.old)) event.now) }
+/// Writes what is shown of the lines of a log, up to one that cannot be read or is no text, and answers whether it was written.
+///
+/// # Errors
+///
+/// There is no memory. A beginning may have been written.
+fn put_lines<S: LineSource, O: Sink>(
+    alloc: Global,
+    given: &Masks,
+    lines: &mut S,
+    log: &mut LogTeller,
+    out: &mut O,
+) -> Result<bool, AllocError>
+    requires shown { string_bytes log.old.shown ≡ [] }
+    requires stop { log.old.stop ≡ None }
+    ensures { spec.PutsLines given.now log.old.masks log.new.masks (O.seen out.old) (O.seen out.new) result }
 {
-    match event {
-        Event::Begin { leg } => count_step(begun, *leg),
-        Event::End { leg, answer } => list_step(begun, *leg, answer, steps),
-        Event::Open { .. } => Ok(()),
-        Event::Judge { .. } => Ok(()),
-        Event::Ask { .. } => Ok(()),
-        Event::Drop { .. } => Ok(()),
-        Event::Take { .. } => Ok(()),
-        Event::Finish { .. } => Ok(()),
-        Event::Close { .. } => Ok(()),
-        Event::Cancel { .. } => Ok(()),
+    let mut line = Vec::new(alloc);
+    while let Some(text) = next_text(lines, &mut line)? {
+        log.add_lines(given, text)?;
+        if !hand_on(log, out) {
+            return Ok(false);
+        }
     }
+    Ok(out.put(log.shown().as_bytes()))
 }
 
-/// The legs and numbers of the steps for which a program was started, in the order in which they ended. They are counted in
-/// the entries: nothing is played again.
-fn started_steps(alloc: Global, history: &[Entry]) -> Result<Vec<(u64, u64)>, AllocError>
-    ensures { IfOk result (λ steps.
-        steps.items ≡ flat_map spec.started_step (counted history.now)) }
-{
-    let mut begun = HashMap::new(alloc);
-    let mut steps = Vec::new(alloc);
-    for entry in history {
-        follow(&mut begun, &entry.event, &mut steps)?;
-    }
-    Ok(steps)
-}
-
-/// The file of the log of a step of a leg, if it can be read.
-fn open_log<F: Files>(
-    workspace: &Workspace<'_, F>,
+/// Writes what is shown of the log of a step that is text, and keeps the masks that it adds.
+fn put_text<M: Machine, O: Sink>(
+    workspace: &Workspace<'_, M>,
+    given: &Masks,
     step: (u64, u64),
-) -> Result<Option<FileBytes>, AllocError>
-    ensures { IfOk result (λ found. IfSome found
-        (λ file. file.name ≡ log_name workspace.now.work.now step.0 step.1)) }
+    added: &mut Added,
+    out: &mut O,
+) -> Result<bool, AllocError>
+    ensures { spec.PutsLog given.now step.0 (spec.added_by (get nat_eq added.old))
+        (spec.added_by (get nat_eq added.new)) (O.seen out.old) (O.seen out.new) result }
 {
-    let name = log_file(workspace.alloc, workspace.work, step.0, step.1)?;
-    match read_named(workspace.alloc, workspace.files, name, u64::MAX) {
-        Ok(file) => Ok(Some(file)),
-        Err(error) => {
-            if error.kind() == ErrorKind::OutOfMemory {
-                return Err(AllocError);
-            }
-            Ok(None)
-        },
+    let Some(mut lines) = open_log(workspace, step)? else {
+        return Ok(true);
+    };
+    let mut log = LogTeller::new(workspace.alloc, take_masks(workspace.alloc, added, step.0));
+    if !put_lines(workspace.alloc, given, &mut lines, &mut log, out)? {
+        return Ok(false);
     }
-}
-
-/// The log that the file of a step holds, in this folder.
-fn log_in(_work: &str, step: (u64, u64), file: FileBytes) -> Log
-    requires { file.name ≡ log_name _work.now step.0 step.1 }
-    ensures leg { result.0 ≡ step.0 }
-    ensures bytes { result.1 ≡ Some file.bytes.items }
-{
-    (step.0, Some(Sequence::new(file.into_bytes())))
-}
-
-/// The log of a step of a leg, whose bytes are there if its file can be read.
-fn read_log<F: Files>(workspace: &Workspace<'_, F>, step: (u64, u64)) -> Result<Log, AllocError>
-    ensures { IfOk result (λ log. log.0 ≡ step.0) }
-{
-    match open_log(workspace, step)? {
-        Some(file) => Ok(log_in(workspace.work, step, file)),
-        None => Ok((step.0, None)),
-    }
+    keep_masks(added, step.0, log.into_masks())?;
+    Ok(true)
 }
 
 /// Writes what is shown of the log of a step, and keeps the masks that it adds.
-fn put_log<F: Files, O: Sink>(
-    workspace: &Workspace<'_, F>,
-    masks: &Masks,
+fn put_log<M: Machine, O: Sink>(
+    workspace: &Workspace<'_, M>,
+    given: &Masks,
     step: (u64, u64),
-    added: &mut Sequence<(u64, Text)>,
+    added: &mut Added,
     out: &mut O,
 ) -> Result<bool, AllocError>
-    ensures { spec.PutsLog masks.now step.0 added.old added.new (O.seen out.old) (O.seen out.new) result }
+    ensures { spec.PutsLog given.now step.0 (spec.added_by (get nat_eq added.old))
+        (spec.added_by (get nat_eq added.new)) (O.seen out.old) (O.seen out.new) result }
 {
-    let log = read_log(workspace, step)?;
-    let mut text = String::new(workspace.alloc);
-    tell_log(workspace.alloc, masks, &log, added, &mut text)?;
-    Ok(out.put(text.as_bytes()))
+    match log_kind(workspace, step)? {
+        LogKind::Unread => Ok(true),
+        LogKind::NoText => Ok(out.put(b"(output is not UTF-8)\n")),
+        LogKind::Text => put_text(workspace, given, step, added, out),
+    }
 }
 
 /// Writes what is shown of the logs of steps, one log after the other.
-fn put_each<F: Files, O: Sink>(
-    workspace: &Workspace<'_, F>,
-    masks: &Masks,
+fn put_each<M: Machine, O: Sink>(
+    workspace: &Workspace<'_, M>,
+    given: &Masks,
     steps: &[(u64, u64)],
     out: &mut O,
 ) -> Result<bool, AllocError>
-    ensures { spec.PutsLogs masks.now (map (λ step. step.0) steps.now)
+    ensures { spec.PutsLogs given.now (map (λ step. step.0) steps.now)
         (O.seen out.old) (O.seen out.new) result }
 {
-    let mut added = Sequence::empty(workspace.alloc);
+    let mut added = HashMap::new(workspace.alloc);
     for step in steps {
-        if !put_log(workspace, masks, *step, &mut added, out)? {
+        if !put_log(workspace, given, *step, &mut added, out)? {
             return Ok(false);
         }
     }
     Ok(true)
 }
 
-/// Writes what is shown of the logs of a history, one log after the other: no more than one of them is held at a time. It
-/// answers whether all was written.
+/// Writes what is shown of the logs of a history, one log after the other: of each no more is held than its longest line and what is
+/// gathered. It answers whether all was written.
 ///
 /// # Errors
 ///
 /// There is no memory. A beginning may have been written.
-pub(crate) fn put_logs<F: Files, O: Sink>(
-    workspace: &Workspace<'_, F>,
+pub(crate) fn put_logs<M: Machine, O: Sink>(
+    workspace: &Workspace<'_, M>,
     plan: &CheckedPlan,
     history: &[Entry],
     out: &mut O,

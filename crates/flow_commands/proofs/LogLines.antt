@@ -1,29 +1,76 @@
--- The logs that are told, one more.
-use Rattle.std.proofs.Common.{◌≡◌, ℕ, Bool, true, false, if◌then◌else◌, List, [], ◌∷◌, ◌++◌, refl, sym, ap, ◌∙◌, append_assoc}
-use Rattle.std.proofs.lemmas.Str.{is_utf8-from_IsUtf8, IsUtf8-from_is_utf8}
-use Rattle.std.specs.Str.{IsUtf8, is_utf8}
-use Rattle.flow_commands.specs.CommandTexts.{commands}
-use Rattle.flow_commands.specs.Logs.{Log, Told, bytes_told, leg_masks, lines_text, lines_told, log_told, logs_text, no_text, of_leg}
+-- The lines of a log that are told, one more.
+use Rattle.std.proofs.Common.{◌≡◌, ℕ, Bool, true, false, if◌then◌else◌, codes, string_bytes, Option, Some, None, List, [], ◌∷◌, ◌++◌, flat_map, refl, sym, ap, ◌∙◌, append_assoc, append-nil}
+use Rattle.std.proofs.lemmas.List.Concat.{flat_map-append}
+use Rattle.std.specs.Str.{is_utf8}
+use Rattle.flow_model.specs.Lines.{lines_of}
+use Rattle.flow_commands.specs.CommandTexts.{commands, is_resuming, opened, read_as, read_from, stopped_by}
+use Rattle.flow_commands.specs.Logs.{bytes_told, leg_masks, line_text, lines_text, lines_told, logs_text, no_text, of_leg, told_with}
+use Rattle.flow_commands.specs.Shown.{line_shown, masked_line, masks_added, shown}
+use Rattle.flow_commands.specs.Splits.{after_front, from_text}
+use Rattle.flow_commands.specs.declared.line.Line.{Line}
+use Rattle.flow_commands.specs.declared.line.Line.TheVariants.{Plain, Resume}
+use Rattle.flow_commands.specs.declared.logs.LogTeller.{LogTeller}
+use Rattle.flow_commands.proofs.Commanding.{resumes_not}
 
--- a log is told: its lines are added, and its masks are kept
-pub log_told_first : (text text' : List ℕ) (given : List (List ℕ)) (added added' : List (ℕ × List ℕ)) (log : Log) (masks : List (List ℕ)) (told : Told)
-    → masks ≡ leg_masks given added log.0 → told ≡ log_told masks log.1 → text' ≡ text ++ lines_text told.0 → added' ≡ added ++ of_leg log.0 told.1
-    → (logs : List Log) → text ++ logs_text given added (log ∷ logs) ≡ text' ++ logs_text given added' logs
-log_told_first text text' given added added' log masks told of_masks is shown kept logs =
-    rw (shown, kept, is, of_masks)
-    (sym (append_assoc text (lines_text (log_told (leg_masks given added log.0) log.1).0) (logs_text given (added ++ of_leg log.0 (log_told (leg_masks given added log.0) log.1).1) logs)))
+-- ---- a line without colons
 
--- bytes that are text are told as its lines, and others by a line
-pub text_is_told : (masks : List (List ℕ)) (bytes text : List ℕ) → text ≡ bytes → IsUtf8 bytes → lines_told masks (commands text) ≡ bytes_told masks bytes
-text_is_told masks bytes text same utf8 = ap (λ (t : List ℕ). lines_told masks (commands t)) same ∙ sym (by_test (is_utf8 bytes) (is_utf8-from_IsUtf8 bytes utf8))
-  where
-    by_test : (b : Bool) → b ≡ true → (if b then lines_told masks (commands bytes) else (no_text ∷ [], [])) ≡ lines_told masks (commands bytes)
-    by_test true h = refl
-    by_test false h = absurd (cc)
+not_resuming : (line word : List ℕ) (lines : List (List ℕ)) (b : Bool) → b ≡ false
+    → (if b then Resume ∷ read_from None lines else Plain line ∷ read_from (Some word) lines) ≡ Plain line ∷ read_from (Some word) lines
+not_resuming line word lines true h = absurd (cc)
+not_resuming line word lines false h = refl
 
-pub no_text_is_told : (masks : List (List ℕ)) (bytes : List ℕ) → (IsUtf8 bytes → ⊥) → (no_text ∷ [], []) ≡ bytes_told masks bytes
-no_text_is_told masks bytes unread = by_test (is_utf8 bytes) refl
-  where
-    by_test : (b : Bool) → is_utf8 bytes ≡ b → (no_text ∷ [], []) ≡ (if b then lines_told masks (commands bytes) else (no_text ∷ [], []))
-    by_test true h = absurd (unread (IsUtf8-from_is_utf8 bytes h))
-    by_test false h = refl
+-- it is plain, wherever it stands
+pub plain_line : (line : List ℕ) → after_front (codes "::") (from_text line) ≡ None → (stop : Option (List ℕ)) (lines : List (List ℕ))
+    → read_from stop (line ∷ lines) ≡ Plain line ∷ read_from stop lines
+plain_line line none None lines = ap (λ o. read_as line (opened o) ∷ read_from (stopped_by (read_as line (opened o))) lines) none
+plain_line line none (Some word) lines =
+    not_resuming line word lines (is_resuming word line) (resumes_not (codes "::") (from_text line) (word ++ codes "::") none)
+
+-- ---- one line more
+
+text_told : (given masks masks' : List (List ℕ)) (text text' : List ℕ) (read : Line) (rest : List Line)
+    → text' ≡ text ++ lines_text (masked_line (given ++ masks) (line_shown read)) → masks' ≡ masks ++ masks_added read
+    → text ++ lines_text (shown (given ++ masks) (read ∷ rest)) ≡ text' ++ lines_text (shown (given ++ masks') rest)
+text_told given masks masks' text text' read rest shows adds =
+    let first = masked_line (given ++ masks) (line_shown read) in
+    let others = shown ((given ++ masks) ++ masks_added read) rest in
+    ap (λ (t : List ℕ). text ++ t) (flat_map-append line_text first others)
+    ∙ sym (append_assoc text (lines_text first) (lines_text others))
+    ∙ ap (λ (t : List ℕ). t ++ lines_text others) (sym shows)
+    ∙ ap (λ (ms : List (List ℕ)). text' ++ lines_text (shown ms rest))
+    (append_assoc given masks (masks_added read) ∙ ap (λ (ms : List (List ℕ)). given ++ ms) (sym adds))
+
+-- a line was told: what is shown of it was added, and its masks
+pub line_told : (given : List (List ℕ)) (old new : LogTeller) (line : List ℕ) (read : Line)
+    → ((lines : List (List ℕ)) → read_from old.stop (line ∷ lines) ≡ read ∷ read_from new.stop lines)
+    → string_bytes new.shown ≡ string_bytes old.shown ++ lines_text (masked_line (given ++ old.masks) (line_shown read))
+    → new.masks ≡ old.masks ++ masks_added read
+    → (lines : List (List ℕ)) → told_with given old (line ∷ lines) ≡ told_with given new lines
+line_told given old new line read reads shows adds lines =
+    let rest = read_from new.stop lines in
+    ap (λ (ls : List Line). (string_bytes old.shown ++ lines_text (shown (given ++ old.masks) ls), old.masks ++ flat_map masks_added ls)) (reads lines)
+    ∙ ap (λ (t : List ℕ). (t, old.masks ++ (masks_added read ++ flat_map masks_added rest)))
+    (text_told given old.masks new.masks (string_bytes old.shown) (string_bytes new.shown) read rest shows adds)
+    ∙ ap (λ (ms : List (List ℕ)). (string_bytes new.shown ++ lines_text (shown (given ++ new.masks) rest), ms))
+    (sym (append_assoc old.masks (masks_added read) (flat_map masks_added rest)) ∙ ap (λ (ms : List (List ℕ)). ms ++ flat_map masks_added rest) (sym adds))
+
+-- a plain line was
+pub plain_told : (given : List (List ℕ)) (old new : LogTeller) (line : List ℕ)
+    → ((stop : Option (List ℕ)) (lines : List (List ℕ)) → read_from stop (line ∷ lines) ≡ Plain line ∷ read_from stop lines)
+    → string_bytes new.shown ≡ string_bytes old.shown ++ lines_text (masked_line (given ++ old.masks) (Some line))
+    → new.masks ≡ old.masks → new.stop ≡ old.stop
+    → (lines : List (List ℕ)) → told_with given old (line ∷ lines) ≡ told_with given new lines
+plain_told given old new line plain shows masks stop =
+    line_told given old new line (Plain line)
+    (λ lines. plain old.stop lines ∙ ap (λ s. Plain line ∷ read_from s lines) (sym stop))
+    shows
+    (masks ∙ sym (append-nil old.masks))
+
+-- the next of several lines was
+pub lines_more : (given : List (List ℕ)) (first old new : LogTeller) (text rest line after : List ℕ)
+    → ((lines : List (List ℕ)) → told_with given first (lines_of text ++ lines) ≡ told_with given old (lines_of rest ++ lines))
+    → lines_of rest ≡ line ∷ lines_of after
+    → ((lines : List (List ℕ)) → told_with given old (line ∷ lines) ≡ told_with given new lines)
+    → (lines : List (List ℕ)) → told_with given first (lines_of text ++ lines) ≡ told_with given new (lines_of after ++ lines)
+lines_more given first old new text rest line after sofar cut told lines =
+    sofar lines ∙ ap (λ (ls : List (List ℕ)). told_with given old (ls ++ lines)) cut ∙ told (lines_of after ++ lines)

@@ -1,9 +1,10 @@
 -- What is shown of the logs of steps: what their programs printed.
-use Rattle.std.specs.Prelude.{ℕ, ◌==◌, if◌then◌else◌, List, [], ◌∷◌, ◌++◌, flat_map, map, codes, Option, Some, None}
+use Rattle.std.specs.Prelude.{ℕ, ◌==◌, if◌then◌else◌, List, [], ◌∷◌, ◌++◌, flat_map, map, codes, string_bytes, Option, Some, None}
 use Rattle.std.specs.Str.{is_utf8}
-use Rattle.flow_commands.specs.CommandTexts.{commands}
+use Rattle.flow_commands.specs.CommandTexts.{commands, read_from}
 use Rattle.flow_commands.specs.Shown.{masks_added, shown}
 use Rattle.flow_commands.specs.declared.line.Line.{Line}
+use Rattle.flow_commands.specs.declared.logs.LogTeller.{LogTeller}
 
 -- a log: the number of the leg, and its bytes, if it could be read
 abbrev pub Log : Type 0
@@ -55,3 +56,12 @@ logs_text given added [] = []
 logs_text given added (log ∷ logs) =
     lines_text (log_told (leg_masks given added log.0) log.1).0
     ++ logs_text given (added ++ of_leg log.0 (log_told (leg_masks given added log.0) log.1).1) logs
+
+-- ---- what the code answers on the way
+
+-- What is shown of a log, and the masks of its leg, once these lines follow those that were told.
+abbrev pub told_with : List (List ℕ) → LogTeller → List (List ℕ) → List ℕ × List (List ℕ)
+told_with given log lines = (
+  string_bytes log.shown ++ lines_text (shown (given ++ log.masks) (read_from log.stop lines)),
+  log.masks ++ flat_map masks_added (read_from log.stop lines),
+)

@@ -163,7 +163,7 @@ fn read_stopped(alloc: Global, line: &str, word: Text) -> Result<(Line, Option<T
 }
 
 /// The next line, and the word that stops commands from it on.
-fn read_line(
+pub(crate) fn read_line(
     alloc: Global,
     line: &str,
     stop: Option<Text>,

@@ -1,152 +1,144 @@
-//! What is shown of the logs of steps: what their programs printed.
+//! What is shown of the logs of steps, line by line: what their programs printed.
 
-ghost use Rattle.std.specs.Prelude.{◌≡◌, [], ◌∷◌, ◌++◌, IfOk, List, OnOk, string_bytes};
-ghost use Rattle.flow_commands.specs.CommandTexts.{commands};
-ghost use Rattle.flow_commands.specs.Logs as spec;
+ghost use Rattle.std.specs.Prelude.{◌≡◌, [], ◌∷◌, ◌++◌, ℕ, IsTrue, List, None, OnOk, Option, string_bytes};
+ghost use Rattle.flow_model.specs.Lines.{lines_of};
+ghost use Rattle.flow_commands.specs.CommandTexts.{read_from};
+ghost use Rattle.flow_commands.specs.Logs.{lines_text, told_with};
+ghost use Rattle.flow_commands.specs.Shown.{line_shown as line_shown_of, masked_line};
+ghost use Rattle.flow_commands.specs.declared.line.Line.TheVariants.{Plain};
 
-use crate::command_lines::read_commands;
+use crate::command_lines::read_line;
 use crate::line::Line;
-use crate::masks::Masks;
-use crate::showing::{added_masks, shown};
-use flow_model::{Duplicate, Sequence, Text};
+use crate::masks::{Masks, mask_by_both};
+use crate::showing::{add_own_mask, line_shown};
+use crate::splits::{after_front, first_line, from_text};
+use flow_model::Text;
 use std::alloc::{AllocError, Global};
-use std::str;
 
-/// A log: the number of the leg, and its bytes, if it could be read.
-pub type Log = (u64, Option<Sequence<u8>>);
-
-/// The lines that are shown of a log, and the masks that it adds.
-type Told = (Sequence<Text>, Sequence<Text>);
-
-/// What lines come to.
-fn lines_told(alloc: Global, lines: &[Line], masks: &Masks) -> Result<Told, AllocError>
-    ensures { IfOk result (λ told. told ≡ spec.lines_told masks.now lines.now) }
-{
-    let texts = shown(alloc, lines, masks)?;
-    Ok((texts, added_masks(alloc, lines)?))
-}
-
-/// What a text comes to.
-fn text_told(alloc: Global, text: &str, masks: &Masks) -> Result<Told, AllocError>
-    ensures { IfOk result (λ told.
-        told ≡ spec.lines_told masks.now (commands text.now)) }
-{
-    let lines = read_commands(alloc, text)?;
-    lines_told(alloc, lines.as_slice(), masks)
-}
-
-/// What bytes come to that are no text: a line says so.
-fn no_text_told(alloc: Global) -> Result<Told, AllocError>
-    ensures { IfOk result (λ told. told ≡ (spec.no_text ∷ [], [])) }
-{
-    let mut texts = Sequence::empty(alloc);
-    texts.push(Text::from_str(alloc, "(output is not UTF-8)")?)?;
-    Ok((texts, Sequence::empty(alloc)))
-}
-
-/// What the bytes of a log come to.
-fn bytes_told(alloc: Global, bytes: &[u8], masks: &Masks) -> Result<Told, AllocError>
-    ensures { IfOk result (λ told. told ≡ spec.bytes_told masks.now bytes.now) }
-{
-    match str::from_utf8(bytes) {
-        Ok(text) => text_told(alloc, text, masks),
-        Err(_) => no_text_told(alloc),
-    }
-}
-
-/// What a log comes to. One that could not be read comes to nothing.
-fn log_told(alloc: Global, log: &Option<Sequence<u8>>, masks: &Masks) -> Result<Told, AllocError>
-    ensures { IfOk result (λ told. told ≡ spec.log_told masks.now log.now) }
-{
-    match log {
-        Some(bytes) => bytes_told(alloc, bytes.as_slice(), masks),
-        None => Ok((Sequence::empty(alloc), Sequence::empty(alloc))),
-    }
-}
-
-/// The masks of a leg: those that are given, and those that its earlier logs added.
-fn leg_masks(
+/// A log whose lines are told as they come.
+#[derive(Drop)]
+pub struct LogTeller {
     alloc: Global,
-    given: &Masks,
-    added: &[(u64, Text)],
-    leg: u64,
-) -> Result<Masks, AllocError>
-    ensures { IfOk result (λ masks. masks ≡ spec.leg_masks given.now added.now leg) }
+    /// What is shown of the lines so far, but for what was taken.
+    shown: String,
+    /// The masks that earlier logs of the leg and the lines so far added.
+    masks: Masks,
+    /// The word that stops commands, if one does.
+    stop: Option<Text>,
+}
+
+/// Whether a line is no command, and ends no `stop-commands`, wherever it stands.
+fn is_plain(line: &str) -> bool
+    ensures { IsTrue result → (stop : Option (List ℕ)) (lines : List (List ℕ))
+        → read_from stop (line.now ∷ lines) ≡ Plain line.now ∷ read_from stop lines }
 {
-    let mut masks = given.copy(alloc)?;
-    for mask in added {
-        add_mask_for(leg, mask, &mut masks)?;
+    match after_front(from_text(line), "::") {
+        Some(_) => false,
+        None => true,
     }
-    Ok(masks)
 }
 
-/// Adds a mask, if it is one of the leg.
-fn add_mask_for(leg: u64, added: &(u64, Text), masks: &mut Masks) -> Result<(), AllocError>
-    ensures { OnOk result (masks.new ≡ masks.old ++ spec.mask_for leg added.now) }
-{
-    let (of, mask) = added;
-    if leg == *of {
-        masks.push(mask.as_str())?;
+impl LogTeller {
+    /// A log of which no line was told, and the masks that earlier logs of its leg added.
+    pub fn new(alloc: Global, masks: Masks) -> LogTeller
+        ensures shown { string_bytes result.shown ≡ [] }
+        ensures masks { result.masks ≡ masks }
+        ensures stop { result.stop ≡ None }
+    {
+        LogTeller {
+            alloc,
+            shown: String::new(alloc),
+            masks,
+            stop: None,
+        }
     }
-    Ok(())
-}
 
-/// Keeps masks as those of a leg.
-fn keep_masks(
-    alloc: Global,
-    leg: u64,
-    masks: &[Text],
-    added: &mut Sequence<(u64, Text)>,
-) -> Result<(), AllocError>
-    ensures { OnOk result (added.new ≡ added.old ++ spec.of_leg leg masks.now) }
-{
-    for mask in masks {
-        added.push((leg, mask.copy(alloc)?))?;
+    /// Adds a text, masked, and a newline.
+    fn show_text(&mut self, given: &Masks, text: &str) -> Result<(), AllocError>
+        ensures shown { OnOk result (string_bytes self.new.shown ≡ string_bytes self.old.shown
+            ++ lines_text (masked_line (given.now ++ self.old.masks) (Some text.now))) }
+        ensures masks { self.new.masks ≡ self.old.masks }
+        ensures stop { self.new.stop ≡ self.old.stop }
+    {
+        let masked = mask_by_both(self.alloc, text, given, &self.masks)?;
+        self.shown.push_str(masked.as_str())?;
+        self.shown.push_str("\n")
     }
-    Ok(())
-}
 
-/// Adds a line.
-fn add_line(text: &mut String, line: &str) -> Result<(), AllocError>
-    ensures { OnOk result
-        (string_bytes text.new ≡ string_bytes text.old ++ spec.line_text line.now) }
-{
-    text.push_str(line)?;
-    text.push_str("\n")
-}
-
-/// Adds lines.
-fn add_lines(text: &mut String, lines: &[Text]) -> Result<(), AllocError>
-    ensures { OnOk result
-        (string_bytes text.new ≡ string_bytes text.old ++ spec.lines_text lines.now) }
-{
-    for line in lines {
-        add_line(text, line.as_str())?;
+    /// Adds what is shown of a line, masked, if it is shown.
+    fn show(&mut self, given: &Masks, line: &Line) -> Result<(), AllocError>
+        ensures shown { OnOk result (string_bytes self.new.shown ≡ string_bytes self.old.shown
+            ++ lines_text (masked_line (given.now ++ self.old.masks) (line_shown_of line.now))) }
+        ensures masks { self.new.masks ≡ self.old.masks }
+        ensures stop { self.new.stop ≡ self.old.stop }
+    {
+        match line_shown(self.alloc, line)? {
+            Some(text) => self.show_text(given, text.as_str()),
+            None => Ok(()),
+        }
     }
-    Ok(())
-}
 
-/// Adds what is shown of a log to a text: by the masks that are given, and by those that earlier logs of its leg added. `added`
-/// has these, each with the number of its leg, and keeps those that this log adds. So logs are told one after the other, from
-/// no masks on.
-///
-/// # Errors
-///
-/// There is no memory.
-pub fn tell_log(
-    alloc: Global,
-    given: &Masks,
-    log: &Log,
-    added: &mut Sequence<(u64, Text)>,
-    text: &mut String,
-) -> Result<(), AllocError>
-    ensures { OnOk result ((logs : List spec.Log)
-        → string_bytes text.old ++ spec.logs_text given.now added.old (log.now ∷ logs)
-        ≡ string_bytes text.new ++ spec.logs_text given.now added.new logs) }
-{
-    let (leg, bytes) = log;
-    let masks = leg_masks(alloc, given, added.as_slice(), *leg)?;
-    let (lines, more) = log_told(alloc, bytes, &masks)?;
-    add_lines(text, lines.as_slice())?;
-    keep_masks(alloc, *leg, more.as_slice(), added)
+    /// Tells the next line, which may be a command.
+    fn add_read(&mut self, given: &Masks, line: &str) -> Result<(), AllocError>
+        ensures { OnOk result ((lines : List (List ℕ)) → told_with given.now self.old (line.now ∷ lines)
+            ≡ told_with given.now self.new lines) }
+    {
+        let (read, stop) = read_line(self.alloc, line, self.stop.take())?;
+        self.show(given, &read)?;
+        add_own_mask(&read, &mut self.masks)?;
+        self.stop = stop;
+        Ok(())
+    }
+
+    /// Tells the next line.
+    fn add_line(&mut self, given: &Masks, line: &str) -> Result<(), AllocError>
+        ensures { OnOk result ((lines : List (List ℕ)) → told_with given.now self.old (line.now ∷ lines)
+            ≡ told_with given.now self.new lines) }
+    {
+        if is_plain(line) {
+            return self.show_text(given, line);
+        }
+        self.add_read(given, line)
+    }
+
+    /// Tells the next lines, those of a text: what is shown of each, by the masks that are given and those of its leg.
+    ///
+    /// # Errors
+    ///
+    /// There is no memory.
+    pub fn add_lines(&mut self, given: &Masks, text: &str) -> Result<(), AllocError>
+        ensures { OnOk result ((lines : List (List ℕ))
+            → told_with given.now self.old (lines_of text.now ++ lines) ≡ told_with given.now self.new lines) }
+    {
+        let mut rest = text;
+        while !rest.is_empty() {
+            let (line, after) = first_line(rest);
+            self.add_line(given, line)?;
+            rest = after;
+        }
+        Ok(())
+    }
+
+    /// What is shown of the lines so far, but for what was taken.
+    pub fn shown(&self) -> &str
+        ensures { result.now ≡ string_bytes self.now.shown }
+    {
+        self.shown.as_str()
+    }
+
+    /// Takes what is shown of the lines so far.
+    pub fn take_shown(&mut self)
+        ensures shown { string_bytes self.new.shown ≡ [] }
+        ensures masks { self.new.masks ≡ self.old.masks }
+        ensures stop { self.new.stop ≡ self.old.stop }
+    {
+        self.shown.clear();
+    }
+
+    /// The masks of the leg.
+    pub fn into_masks(self) -> Masks
+        ensures { result ≡ self.masks }
+    {
+        self.masks
+    }
 }

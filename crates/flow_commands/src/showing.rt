@@ -1,6 +1,6 @@
 //! What is shown of the lines that a step printed.
 
-ghost use Rattle.std.specs.Prelude.{◌≡◌, ◌++◌, IfOk, OnOk, flat_map};
+ghost use Rattle.std.specs.Prelude.{◌≡◌, ◌++◌, IfOk, OnOk};
 ghost use Rattle.flow_commands.specs.Shown.{command_shown as command_shown_of, line_shown as line_shown_of, masked_line, masks_added, shown as shown_of};
 
 use crate::line::Line;
@@ -42,36 +42,6 @@ pub(crate) fn line_shown(alloc: Global, line: &Line) -> Result<Option<Text>, All
         },
         Line::Resume => Ok(None),
     }
-}
-
-/// Adds the mask that a line adds, if it does.
-fn add_mask(alloc: Global, line: &Line, masks: &mut Sequence<Text>) -> Result<(), AllocError>
-    ensures { OnOk result (masks.new ≡ masks.old ++ masks_added line.now) }
-{
-    match line {
-        Line::Command { name, message, .. } => {
-            if name.as_str() == "add-mask" {
-                masks.push(message.copy(alloc)?)?;
-            }
-            Ok(())
-        },
-        Line::Plain(_) | Line::Resume => Ok(()),
-    }
-}
-
-/// The masks that lines add, in their order.
-///
-/// # Errors
-///
-/// There is no memory.
-pub fn added_masks(alloc: Global, lines: &[Line]) -> Result<Sequence<Text>, AllocError>
-    ensures { IfOk result (λ masks. masks ≡ flat_map masks_added lines.now) }
-{
-    let mut masks = Sequence::empty(alloc);
-    for line in lines {
-        add_mask(alloc, line, &mut masks)?;
-    }
-    Ok(masks)
 }
 
 /// Adds the mask that a line adds to those of its leg, if it does.

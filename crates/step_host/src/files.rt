@@ -5,7 +5,7 @@ ghost use Rattle.std.specs.Prelude.{◌≡◌, IfOk};
 use flow_model::Text;
 use std::alloc::Global;
 use std::fs::{File, Files, OpenFile, OpenOptions};
-use std::io::{ErrorKind, Read, Write};
+use std::io::{ErrorKind, Read, Take, Write};
 use std::{fs, io};
 
 /// A file for what a program prints, as it is written and as it is read. It has no name: nobody else finds it, and it is gone
@@ -84,13 +84,18 @@ fn regular_length<F: OpenFile>(file: &F) -> io::Result<u64> {
     Err(io::Error::from(ErrorKind::InvalidInput))
 }
 
+/// How many bytes the regular file of that name has, which is not opened for that.
+fn regular_size<F: Files>(files: &F, name: &str) -> io::Result<u64> {
+    let found = fs::metadata(files, name)?;
+    if found.is_file() {
+        return Ok(found.len());
+    }
+    Err(io::Error::from(ErrorKind::InvalidInput))
+}
+
 /// The bytes of the file of that name, if it has so many at most. An empty one is not opened.
 fn file_bytes<F: Files>(alloc: Global, files: &F, name: &str, most: u64) -> io::Result<Vec<u8>> {
-    let found = fs::metadata(files, name)?;
-    if !found.is_file() {
-        return Err(io::Error::from(ErrorKind::InvalidInput));
-    }
-    if found.len() == 0 {
+    if regular_size(files, name)? == 0 {
         return Ok(Vec::new(alloc));
     }
     let file = open_file(files, name)?;
@@ -103,24 +108,17 @@ fn file_bytes<F: Files>(alloc: Global, files: &F, name: &str, most: u64) -> io::
 
 /// The bytes of a file, with the name by which they were read: `read_named` alone makes one.
 #[derive(Drop)]
-pub struct FileBytes {
+pub(crate) struct FileBytes {
     name: Text,
     bytes: Vec<u8>,
 }
 
 impl FileBytes {
     /// The bytes.
-    pub fn bytes(&self) -> &[u8]
+    pub(crate) fn bytes(&self) -> &[u8]
         ensures { result.now ≡ self.now.bytes.items }
     {
         self.bytes.as_slice()
-    }
-
-    /// The bytes, without the name.
-    pub fn into_bytes(self) -> Vec<u8>
-        ensures { result ≡ self.bytes }
-    {
-        self.bytes
     }
 }
 
@@ -129,7 +127,7 @@ impl FileBytes {
 /// # Errors
 ///
 /// It cannot be read, or has more bytes; or it is a pipe, a device, a folder or the like; or there is no memory.
-pub fn read_named<F: Files>(
+pub(crate) fn read_named<F: Files>(
     alloc: Global,
     files: &F,
     name: Text,
@@ -139,4 +137,16 @@ pub fn read_named<F: Files>(
 {
     let bytes = file_bytes(alloc, files, name.as_str(), most)?;
     Ok(FileBytes { name, bytes })
+}
+
+/// The file of that name, open to be read up to the bytes that it has now.
+///
+/// # Errors
+///
+/// It cannot be opened; or it is a pipe, a device, a folder or the like; or there is no memory.
+pub fn open_regular<F: Files>(files: &F, name: &str) -> io::Result<Take<F::File>> {
+    regular_size(files, name)?;
+    let file = open_file(files, name)?;
+    let length = regular_length(&file)?;
+    Ok(file.take(length))
 }

@@ -1,0 +1,103 @@
+"""Tests of logs of great length: what `run` takes of memory and time to show them.
+
+The environment variable ACTRUN_PROGRAM names a built program; `tools/unit_tests.py` is started with it by `tools/test`.
+ACTRUN_ALL_TESTS has the log of a gigabyte shown too.
+"""
+from __future__ import annotations
+
+import json
+import os
+import shutil
+import subprocess
+import sys
+import tempfile
+import time
+import unittest
+from pathlib import Path
+
+# the most memory that `run` may take beside the greatest line of a log
+MOST_BYTES = 32 << 20
+# executes the words after the first, with what they print at the file that the first names, and prints the most memory that they took
+MEASURE = """
+import resource, subprocess, sys
+with open(sys.argv[1], "wb") as out:
+    status = subprocess.run(sys.argv[2:], stdin=subprocess.DEVNULL, stdout=out, check=False).returncode
+print(status, resource.getrusage(resource.RUSAGE_CHILDREN).ru_maxrss * 1024)
+"""
+
+
+def program() -> str:
+    """The program that the tests use."""
+    named = os.environ.get("ACTRUN_PROGRAM")
+    if not named:
+        raise RuntimeError("ACTRUN_PROGRAM has to name a built program: start these tests by tools/test python")
+    return str(Path(named).resolve())
+
+
+class LongLogs(unittest.TestCase):
+    """Plans whose steps print much."""
+
+    def setUp(self) -> None:
+        self.room = Path(tempfile.mkdtemp(prefix="actrun-log-")).resolve()
+        self.addCleanup(shutil.rmtree, self.room, ignore_errors=True)
+        self.shown = self.room / "shown"
+        (self.room / "work").mkdir()
+
+    def execute(self, *scripts: str, legs: int = 1) -> tuple[int, float]:
+        """The most memory, in bytes, and the seconds that `run` takes of a plan of one job with these steps."""
+        matrix = {"strategy": {"matrix": {"leg": list(range(legs))}}} if legs > 1 else {}
+        flow = {"on": "push", "jobs": {"job": {"runs-on": "x", "steps": [{"run": it} for it in scripts], **matrix}}}
+        (self.room / "flow.json").write_text(json.dumps(flow), encoding="utf-8")
+        planned = subprocess.run([program(), "plan", self.room / "flow.json"], check=True, stdout=subprocess.PIPE)
+        (self.room / "plan").write_bytes(planned.stdout)
+        words = [program(), "run", "--work", self.room / "work", self.room / "plan"]
+        began = time.monotonic()
+        ran = subprocess.run([sys.executable, "-c", MEASURE, self.shown, *words], stdout=subprocess.PIPE, check=True, text=True)
+        status, most = map(int, ran.stdout.split())
+        self.assertEqual(status, 0)
+        return most, time.monotonic() - began
+
+    def show_short_lines(self, count: int) -> None:
+        """Has so many lines of two bytes shown."""
+        most, _ = self.execute(f"yes | head -n {count}")
+        self.assertEqual(self.shown.stat().st_size, 2 * count + len("run 0 success\n"))
+        self.assertLess(most, MOST_BYTES)
+
+    def test_short_lines(self) -> None:
+        self.show_short_lines(10_000_000)
+
+    @unittest.skipUnless(os.environ.get("ACTRUN_ALL_TESTS"), "a gigabyte is shown where ACTRUN_ALL_TESTS is set")
+    def test_a_gigabyte(self) -> None:
+        self.show_short_lines(500_000_000)
+
+    def test_one_long_line(self) -> None:
+        """A line is shown whole, and takes its own length a few times."""
+        most, _ = self.execute("head -c 30000000 /dev/zero | tr '\\0' x; echo; echo end")
+        self.assertEqual(self.shown.read_bytes(), b"x" * 30_000_000 + b"\nend\nrun 0 success\n")
+        self.assertLess(most, MOST_BYTES + 6 * 30_000_000)
+
+    def test_bytes_that_are_no_text_at_the_end(self) -> None:
+        """The whole log is one line then, as for bytes at its beginning."""
+        self.execute("yes | head -n 1000000; printf '\\377\\n'", "printf '\\377'; echo shown")
+        self.assertEqual(self.shown.read_bytes(), b"(output is not UTF-8)\n" * 2 + b"run 0 success\n")
+
+    def test_many_masks(self) -> None:
+        """A hundred times the masks and lines take no more than some hundred times as long."""
+        most, took = self.execute("seq -f '::add-mask::secret-%.0f' 100000 139999; seq -f 'a secret-%.0f b' 100000 299999")
+        shown = self.shown.read_text().splitlines()
+        self.assertEqual(shown[:2], ["a *** b"] * 2)
+        self.assertEqual(shown[39_999:40_001], ["a *** b", "a secret-140000 b"])
+        self.assertEqual(len(shown), 200_001)
+        self.assertLess(took, 120)
+        self.assertLess(most, 8 * MOST_BYTES)
+
+    def test_masks_are_those_of_the_leg(self) -> None:
+        """Each of many legs adds masks, which its own later steps are masked by, and no other leg's."""
+        self.execute("echo '::add-mask::mask-${{ matrix.leg }}-'", "echo 'own mask-${{ matrix.leg }}- first mask-0-'", legs=40)
+        shown = self.shown.read_text().splitlines()
+        self.assertEqual(shown.count("own *** first ***"), 1)
+        self.assertEqual(shown.count("own *** first mask-0-"), 39)
+
+
+if __name__ == "__main__":
+    unittest.main()
