@@ -1,7 +1,7 @@
 # Builds programs from the sources as they are, without proofs, and keeps them. Read by ../actrun and test, after sources.sh.
 #
-# `rt try` builds a program, starts it and removes it. So the program is started with a step of a plan, or a case, that copies it:
-# its path is the argument that ends in `/program` in the command line of the step's parent.
+# `rt try` (by quick_try.py) builds a program, starts it and removes it. So the program is started with a step of a plan, or a case,
+# that copies it: its path is the argument that ends in `/program` in the command line of the step's parent.
 # shellcheck shell=bash disable=SC2154
 
 # a new folder whose path needs no quoting in any language
@@ -66,21 +66,14 @@ build_locked() {
   done
 }
 
-# Puts a `sh` into a folder that leaves out the check of names which `rt try` starts beside the build by `sh`. Only a hint comes of
-# that check, which nobody reads here, and it takes as much processor time and memory as the build.
-put_shell() {
-  mkdir -- "$1" && printf '#!/bin/sh\ncase " $* " in *" check --crate-name "*) exit ;; esac\nexec /bin/sh "$@"\n' >"$1/sh" && chmod 755 -- "$1/sh"
-}
-
 # has `rt try` build the program and the program copy itself into a folder, where standard error goes too
 try_copy() {
   local words
   read -ra words < <(self_copy "$1" "$2")
-  put_shell "$2/bin" || return
   # (in a process group of its own, so that a terminal's Ctrl-C does not reach it beside the signal of stop_build: `rt` ends what
   # it started at its first signal, and a second one breaks that off)
   set -m
-  (cd "$top/crates/$1" && PATH=$2/bin:$PATH TMPDIR=$2 exec rt try --data "${words[0]}=$2/${words[0]}" -- "${words[@]:1}") \
+  (cd "$top/crates/$1" && TMPDIR=$2 exec python3 "$top/tools/quick_try.py" --data "${words[0]}=$2/${words[0]}" -- "${words[@]:1}") \
     </dev/null >"$2/out" 2>"$2/err" &
   building=$!
   set +m
