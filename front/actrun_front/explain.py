@@ -75,16 +75,19 @@ def take_apart(command: str, arguments: list[str]) -> tuple[dict[str, str], list
     operands, wrong, rest = [], [], list(arguments)
     while rest:
         word = rest.pop(0)
+        name, equals, value = word.partition("=")
         if word == "--":
             operands, rest = operands + rest, []
-        elif not word.startswith("-") or command == "eval" and not rest:
+        elif not word.startswith("-") or word == "-" or command == "eval" and not rest:
             operands.append(word)
-        elif word not in known:
-            wrong.append(f"{command} has no option {word}{near(word, known)}")
-        elif word in options or known[word] and not rest:
-            wrong.append(f"{word} stands twice" if word in options else f"a value is missing after {word}")
+        elif name not in known:
+            wrong.append(f"{command} has no option {name}{near(name, known)}")
+        elif equals and not known[name]:
+            wrong.append(f"{name} takes no value")
+        elif name in options or known[name] and not equals and not rest:
+            wrong.append(f"{name} stands twice" if name in options else f"a value is missing after {name}")
         else:
-            options[word] = rest.pop(0) if known[word] else ""
+            options[name] = value if equals or not known[name] else rest.pop(0)
     if command != "table" and not operands:
         wrong.append(f"{command} needs {'an expression' if command == 'eval' else 'a file'}")
     if "--event" in options and "--job" in options:
@@ -198,8 +201,14 @@ def main(arguments: list[str]) -> int:
     """`explain STATUS STDERR_FILE COMMAND ARG..`: explains the last error line in a file, on standard error."""
     text = pathlib.Path(arguments[1]).read_text(encoding="utf-8", errors="surrogateescape")
     start = max(text.rfind("\nactrun: ") + 1, 0)
-    words = explain(text[start:], arguments[2], arguments[3:]) if text.startswith("actrun: ", start) else None
+    if text.startswith("actrun: ", start):
+        show(text[start:], arguments[2], arguments[3:])
+    return 0
+
+
+def show(line: str, command: str, arguments: list[str]) -> None:
+    """Explains an error line, on standard error."""
+    words = explain(line, command, arguments)
     if words:
         sys.stderr.reconfigure(errors="backslashreplace")  # type: ignore[union-attr]
         print("  " + words.replace("\n", "\n  "), file=sys.stderr)
-    return 0

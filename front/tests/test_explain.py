@@ -161,8 +161,10 @@ class Explain(unittest.TestCase):
                 ("plam", [], "there is no command plam; did you mean plan?"), ("plan", [], "plan needs a file"),
                 ("eval", [], "eval needs an expression"), ("run", ["--worker", "x"], "run has no option --worker; did you mean --workers?"),
                 ("run", ["x", "--work"], "a value is missing after --work"), ("replay", ["--settled", "--settled", "r"], "stands twice"),
+                ("run", ["--progress=x", "p"], "--progress takes no value"), ("run", ["--work=a", "--work", "b", "p"], "--work stands twice"),
                 ("plan", ["--event", "a", "--job", "b", "f"], "--event and --job are not taken together")):
             self.assertIn(expected, explain("actrun: words", command, arguments))
+        self.assertIn("--workers takes 1 to 16, not 40", explain("actrun: pool Workers", "run", ["--workers=40", "p"]))
 
     def test_the_usage_of_the_command(self) -> None:
         os.makedirs("top/docs")
