@@ -24,6 +24,7 @@ LOGS = 1 << 20  # characters of logs, at most
 JOB_ENDED = re.compile(r"<title>job (\d+) \(.*\): (success|failure|cancelled|skipped), line (\d+)</title>")
 FACT = re.compile(r"( *)(run|job|leg|step) (\d+) \(")
 VALUE = re.compile(r"(?:step \d+ \w+ \w+|set|out|[^\"{]* group) (.*)")
+TIME = re.compile(rb"[0-9]{1,14}")  # (of 14 digits: in the year 5138)
 COLOURS = re.compile(r"\x1b\[[0-9;]*[A-Za-z]")
 CONTROL = {number: picture for number, picture in PICTURES.items() if number not in (9, 10)}
 
@@ -213,14 +214,27 @@ def unknown(path: pathlib.Path) -> bool:
     return False
 
 
-def read_times(path: pathlib.Path, entries: int) -> dict[str, Any]:
-    """The wall clock of the start, in milliseconds since 1970, and the milliseconds of each entry since then."""
+def read_times(path: pathlib.Path, entries: int, ended: bool = False) -> dict[str, Any]:
+    """The wall clock of the start, in milliseconds since 1970, and the milliseconds of each entry since then. Further numbers are left
+    out, since the record may be the first part of one; but where all its runs have `ended`, it is whole."""
     try:
-        lines = path.read_text(encoding="utf-8").splitlines()[:1 + entries]
-    except (OSError, ValueError) as fault:
-        raise Problem(f"--times {path}: {fault}: name a file that `actrun run --times` wrote") from None
-    wrong = next((number for number, line in enumerate(lines, 1) if not re.fullmatch("[0-9]{1,15}", line)), 0)
-    if wrong or len(lines) <= entries:
-        raise Problem(f"--times {path}: line {wrong or len(lines) + 1} is no number of milliseconds, and the record has {entries + 1} lines: "
-                      "name the file that `actrun run --times` wrote beside this record")
-    return {"start": int(lines[0]), "entries": list(itertools.accumulate(map(int, lines[1:]), max))}
+        with open(path, "rb") as file:
+            lines = [line.rstrip(b"\r\n") for line in itertools.islice(file, entries + 2)]
+    except OSError as fault:
+        raise Problem(f"--times {path}: {fault.strerror}: name a file that `actrun run --times` wrote") from None
+    wrong = misfit(lines, entries, ended)
+    if wrong:
+        raise Problem(f"--times {path}: {wrong}: name the file that `actrun run --times` wrote beside this record")
+    return {"start": int(lines[0]), "entries": [int(line) for line in lines[1:entries + 1]]}
+
+
+def misfit(lines: list[bytes], entries: int, ended: bool) -> str:
+    """The first line of a file of times that does not fit a record, and why; nothing where all fit."""
+    for number, line in enumerate(lines[:entries + 1], 1):
+        if not TIME.fullmatch(line):
+            return f"line {number} is no number of milliseconds"
+        if number > 2 and int(line) < int(lines[number - 2]):
+            return f"line {number} is less than line {number - 1}"
+    if len(lines) <= entries:
+        return f"line {len(lines) + 1} is missing, since the record has {entries + 1} lines"
+    return f"line {entries + 2} is too many, since the record has {entries + 1} lines" if ended and len(lines) > entries + 1 else ""

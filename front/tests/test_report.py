@@ -161,7 +161,7 @@ class Written(ReportCase):
 
     def test_what_is_wrong_is_said(self) -> None:
         times = self.room / "times"
-        for text in ("1795800000000\n1\n", "2026-11-27T17:19:51Z\n" * 10, "1795800000000\n" + "1\n" * 8 + "1e3\n", ""):
+        for text in ("1795800000000\n1\n", "2026-11-27T17:19:51Z\n" * 10, "1795800000000\n" + "1\n" * 8 + "1e3\n", "1795800000000\n2\n" + "1\n" * 8, ""):
             times.write_text(text)
             self.assertRaisesRegex(Problem, "--times", report.page, PROGRAM, EXAMPLES / "skipped.record", times=times)
         self.assertRaisesRegex(Problem, "--around 99: the record has the places 0 to 9", report.page, PROGRAM,
