@@ -32,6 +32,7 @@ _actrun() {
     run) offered='--help --workers --record --times --work --stubs --progress' ;;
     eval) offered='--help --contexts' ;;
     replay) offered='--help --settled --changes' ;;
+    timeline) offered='--help --times' ;;
     report) offered='--help -o --logs --times --around --seconds' ;;
     *) offered=--help ;;
   esac

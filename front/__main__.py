@@ -1,4 +1,4 @@
-"""The front of actrun: `python3 FRONT try|from-yaml|dap|report|explain ARGUMENTS`.
+"""The front of actrun: `python3 FRONT try|from-yaml|dap|report|timeline|explain ARGUMENTS`.
 
 Where the running Python has no `ruamel.yaml`, the system's Python takes over.
 """
@@ -8,13 +8,14 @@ import signal
 import sys
 
 SYSTEM_PYTHON = "/usr/bin/python3"
-COMMANDS = {"try": "attempt", "from-yaml": "from_yaml", "dap": "dap", "report": "report", "explain": "explain"}
+COMMANDS = {"try": "attempt", "from-yaml": "from_yaml", "dap": "dap", "report": "report", "timeline": "timeline",
+            "explain": "explain"}
 
 
 def main(arguments):
     """Exit status of the command that the first argument names."""
     if not arguments or arguments[0] not in COMMANDS:
-        print("usage: python3 front try|from-yaml|dap|report|explain ARGUMENTS", file=sys.stderr)
+        print("usage: python3 front try|from-yaml|dap|report|timeline|explain ARGUMENTS", file=sys.stderr)
         return 2
     try:
         import ruamel.yaml  # noqa: F401

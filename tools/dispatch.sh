@@ -6,7 +6,17 @@ say() { printf 'actrun: %s\n' "$1" >&2; }
 
 # whether a command is one of the front's
 is_of_front() {
-  case $1 in try | from-yaml | dap | report) ;; *) false ;; esac
+  case $1 in try | from-yaml | dap | report) ;; *) is_by_time "$@" ;; esac
+}
+
+# whether a command is a timeline by time
+is_by_time() {
+  local word
+  [ "$1" = timeline ] || return
+  for word in "${@:2}"; do
+    case $word in --times | --times=*) return ;; --) break ;; esac
+  done
+  false
 }
 
 # whether a word is among others
@@ -19,7 +29,7 @@ has_word() {
 
 # whether a command is answered without the program
 needs_no_program() {
-  is_of_front "$1" || return
+  is_of_front "$@" || return
   has_word --help "$@" || has_word -h "$@" || { [ "$1" = from-yaml ] && ! has_word --lower "$@"; }
 }
 
@@ -46,6 +56,7 @@ tell_front() {
 
 start_front() {
   if ! has_front; then
+    ! is_by_time "$@" || set -- '--times'
     say "'$1' needs python3 (3.9 or newer) and the folder $top/front"
     exit 3
   fi
@@ -174,6 +185,6 @@ in_session() {
 
 # answers a command by the program that was chosen, or by the front
 answer() {
-  if is_of_front "$1"; then start_front "$@"; fi
+  if is_of_front "$@"; then start_front "$@"; fi
   start_program "$@"
 }
