@@ -1,5 +1,8 @@
+pub mod Contexts
 pub mod FaultNodes
 pub mod Hints
+pub mod Keys
+pub mod Kinds
 pub mod Nodes
 pub mod Notes
 pub mod Places

@@ -8,26 +8,26 @@ use Rattle.flow_reader.specs.declared.fault.FlowFault.TheVariants as flow
 use Rattle.plan_assembler.specs.declared.fault.PlanFault.{PlanFault}
 use Rattle.plan_assembler.specs.declared.fault.PlanFault.TheVariants as plan
 use Rattle.flow_lint.specs.Shows.{ShowsFlow, ShowsText}
-use Rattle.flow_lint.specs.Places.{StandsAt, ShowsNeed}
+use Rattle.flow_lint.specs.Places.{Place, StandsAt, ShowsNeed, IsRepeated}
 
--- The path leads to a value that shows something, behind its last key or number.
-pub record LeadsTo (root : Data) (path : List ℕ) (Shows : List ℕ → Data → Type 0) : Type 0 where
-  pub last : List ℕ
-  pub shown : Data
-  pub stands : StandsAt root path last shown
-  pub shows : Shows last shown
+-- The path leads to a place that shows something.
+pub record LeadsTo (root : Data) (path : List ℕ) (Shows : Place → Type 0) : Type 0 where
+  pub place : Place
+  pub stands : StandsAt root path place
+  pub shows : Shows place
 
 -- The whole file, or a place of it where something is to be seen.
-abbrev pub IsSeen : Data → List ℕ → (List ℕ → Data → Type 0) → Type 0
+abbrev pub IsSeen : Data → List ℕ → (Place → Type 0) → Type 0
 IsSeen root path Shows = (path ≡ []) ⊎ LeadsTo root path Shows
 
--- Where a fault is told for which a value stands for no workflow. What has the wrong shape is told at the fault's own path.
+-- Where a fault is told for which a value stands for no workflow: at a place that shows it, at the second of two equal ids, or at the
+-- fault's own path, where something has the wrong shape.
 abbrev pub FlowPlace : Data → FlowFault → List ℕ → Type 0
 FlowPlace root flow.NotJson path = Unit {0}
 FlowPlace root flow.NotWhole path = IsSeen root path (ShowsFlow flow.NotWhole)
 FlowPlace root (flow.Missing key) path = IsSeen root path (ShowsFlow (flow.Missing key))
 FlowPlace root (flow.WrongShape shape) path = path ≡ shape
-FlowPlace root (flow.BadId name) path = IsSeen root path (ShowsFlow (flow.BadId name))
+FlowPlace root (flow.BadId name) path = IsSeen root path (ShowsFlow (flow.BadId name)) ⊎ IsRepeated root name path
 FlowPlace root (flow.LeftOut key) path = IsSeen root path (ShowsFlow (flow.LeftOut key))
 FlowPlace root flow.UnknownShell path = IsSeen root path (ShowsFlow flow.UnknownShell)
 FlowPlace root flow.Memory path = Unit {0}
@@ -35,12 +35,12 @@ FlowPlace root flow.Memory path = Unit {0}
 -- Where a fault is told for which a workflow comes to no plan: that of a text, and a need that is no job. Of other faults
 -- nothing is said.
 abbrev pub PlanPlace : Data → PlanFault → List ℕ → Type 0
-PlanPlace root plan.UnknownNeed path = IsSeen root path (λ last d. ShowsNeed (get (codes "jobs") root) d)
+PlanPlace root plan.UnknownNeed path = IsSeen root path (ShowsNeed (get (codes "jobs") root))
 PlanPlace root plan.Cycle path = Unit {0}
 PlanPlace root plan.UnknownJob path = Unit {0}
 PlanPlace root plan.NoWorkflow path = Unit {0}
 PlanPlace root plan.TooMany path = Unit {0}
-PlanPlace root (plan.Expr at fault) path = IsSeen root path (λ last d. ShowsText fault d)
+PlanPlace root (plan.Expr at fault) path = IsSeen root path (ShowsText fault)
 PlanPlace root (plan.Matrix number fault) path = Unit {0}
 PlanPlace root plan.Memory path = Unit {0}
 

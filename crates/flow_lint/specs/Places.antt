@@ -1,9 +1,15 @@
 -- Places in a workflow's file, and what there is to be seen at one whatever comes of the file.
-use Rattle.std.specs.Prelude.{◌≡◌, ℕ, ◌⊎◌, List, [], ◌∷◌, ◌++◌, codes, decimal, Option, Some, None, option_and_then}
+use Rattle.std.specs.Prelude.{◌≡◌, ◌<◌, ℕ, ◌⊎◌, List, [], ◌∷◌, ◌++◌, codes, decimal, Option, Some, None, option_and_then}
 use Rattle.serde_json.specs.Data.{Data}
 use Rattle.serde_json.specs.Find.{get, at, as_str}
 use Rattle.expr_reader.specs.TemplateStands.{TemplateFaultStands, ConditionFaultStands}
 use Rattle.expr_reader.specs.declared.fault.ExprFault.{ExprFault}
+use Rattle.flow_lint.specs.Keys.{kind_at}
+use Rattle.flow_lint.specs.Kinds.{IsNeed, IsTemplate, level_in}
+use Rattle.flow_lint.specs.declared.kind.Kind.{Kind}
+use Rattle.flow_lint.specs.declared.kind.Kind.TheVariants as kinds
+use Rattle.flow_lint.specs.declared.kind.Level.{Level}
+use Rattle.flow_lint.specs.declared.kind.Level.TheVariants as levels
 
 -- ---- places
 
@@ -40,21 +46,78 @@ abbrev pub last_text : List Way → List ℕ
 last_text [] = []
 last_text (way ∷ ways) = way_text way
 
--- At this path of a file stands this value, behind this key or number.
-pub record StandsAt (root : Data) (path last : List ℕ) (d : Data) : Type 0 where
+-- What the table of keys has at the end of a path, and what it has around that.
+abbrev pub kind_of : List Way → Kind
+kind_of [] = kinds.Workflow
+kind_of (way ∷ ways) = kind_at (kind_of ways) (way_text way)
+
+abbrev pub kind_around : List Way → Kind
+kind_around [] = kinds.Workflow
+kind_around (way ∷ ways) = kind_of ways
+
+-- Whether what stands there belongs to the workflow, a job or a step.
+abbrev pub level_of : List Way → Level
+level_of [] = levels.Workflow
+level_of (way ∷ ways) = level_in (kind_of (way ∷ ways)) (level_of ways)
+
+-- What is to be seen at a place: what the table of keys has there and around it, to what it belongs, the last key or number, and the
+-- value.
+pub record Place : Type 0 where
+  pub around : Kind
+  pub kind : Kind
+  pub level : Level
+  pub last : List ℕ
+  pub value : Data
+
+-- What is to be seen one step further.
+abbrev pub inner : Place → List ℕ → Data → Place
+inner p last value = record {
+  around = p.kind;
+  kind = kind_at p.kind last;
+  level = level_in (kind_at p.kind last) p.level;
+  last = last;
+  value = value;
+}
+
+-- At this path of a file is this to be seen.
+pub record StandsAt (root : Data) (path : List ℕ) (p : Place) : Type 0 where
   pub ways : List Way
   pub is_path : path ≡ path_text ways
-  pub is_last : last ≡ last_text ways
-  pub stands : found ways root ≡ Some d
+  pub is_around : p.around ≡ kind_around ways
+  pub is_kind : p.kind ≡ kind_of ways
+  pub is_level : p.level ≡ level_of ways
+  pub is_last : p.last ≡ last_text ways
+  pub stands : found ways root ≡ Some p.value
 
 -- ---- texts and needs
 
--- A fault stands in a text, which is read as a template or as a condition.
-pub record IsUnread (fault : ExprFault) (d : Data) : Type 0 where
+-- A fault stands in a text, which is read as a template or as a condition, as the table says.
+pub record IsUnread (fault : ExprFault) (p : Place) : Type 0 where
   pub text : List ℕ
-  pub is : as_str d ≡ Some text
-  pub stands : TemplateFaultStands text fault ⊎ ConditionFaultStands text fault
+  pub is : as_str p.value ≡ Some text
+  pub stands : (IsTemplate p.kind × TemplateFaultStands text fault) ⊎ ((p.kind ≡ kinds.Condition) × ConditionFaultStands text fault)
 
--- A text is the id of no job.
-abbrev pub ShowsNeed : Option Data → Data → Type 0
-ShowsNeed jobs d = (id : List ℕ) × ((as_str d ≡ Some id) × (option_and_then (get id) jobs ≡ None))
+-- A text where a need stands is the id of no job.
+abbrev pub ShowsNeed : Option Data → Place → Type 0
+ShowsNeed jobs p = IsNeed p.kind × ((id : List ℕ) × ((as_str p.value ≡ Some id) × (option_and_then (get id) jobs ≡ None)))
+
+-- ---- ids of steps
+
+-- The id of the step at a place of a list.
+abbrev pub id_at : ℕ → Data → Option (List ℕ)
+id_at place steps = option_and_then as_str (option_and_then (get (codes "id")) (at place steps))
+
+-- The step at this place of a list has this id, and an earlier one has it.
+abbrev pub Repeats : Data → List ℕ → ℕ → Type 0
+Repeats steps name later =
+    (id_at later steps ≡ Some name) × ((earlier : ℕ) × ((earlier < later) × (id_at earlier steps ≡ Some name)))
+
+-- The path leads to the id of a step, which an earlier step of the same job has.
+pub record IsRepeated (root : Data) (name path : List ℕ) : Type 0 where
+  pub ways : List Way
+  pub steps : Data
+  pub are_steps : kind_of ways ≡ kinds.Steps
+  pub stand : found ways root ≡ Some steps
+  pub later : ℕ
+  pub repeats : Repeats steps name later
+  pub is_path : path ≡ path_text (key (codes "id") ∷ item later ∷ ways)

@@ -4,11 +4,14 @@ use Rattle.std.specs.Str.{bytes_eq}
 use Rattle.serde_json.specs.Data.{Data}
 use Rattle.serde_json.specs.Find.{get, as_object, as_str}
 use Rattle.expr_reader.specs.Faults.{fault_name, fault_place}
+use Rattle.expr_reader.specs.Template.{has_marker}
 use Rattle.expr_reader.specs.declared.fault.ExprFault.{ExprFault}
 use Rattle.flow_model.specs.Json.{value_of}
 use Rattle.flow_model.specs.Name.{is_id}
 use Rattle.flow_model.specs.Rules.{is_variable_name}
-use Rattle.flow_lint.specs.Places.{IsUnread}
+use Rattle.flow_lint.specs.Kinds.{WantsValue, WantsWhole, Wants}
+use Rattle.flow_lint.specs.Places.{Place, IsUnread}
+use Rattle.flow_lint.specs.declared.kind.Kind.TheVariants as kinds
 use Rattle.flow_reader.specs.Parts.{shell_named}
 use Rattle.flow_reader.specs.Checked.{bad}
 use Rattle.flow_reader.specs.declared.fault.FlowFault.{FlowFault}
@@ -26,25 +29,33 @@ pub record Lacks (key : List ℕ) (d : Data) : Type 0 where
   pub none : get key d ≡ None
   pub no_other : get (other_key key) d ≡ None
 
--- A name is no id, or names no variable.
-abbrev pub IsNoName : List ℕ → Type 0
-IsNoName name = (is_id name ≡ false) ⊎ (is_variable_name name ≡ false)
+-- A name is none at a place where one has to be: the id of a job or output, the name of a variable, the id of a step.
+abbrev pub IsMisnamed : List ℕ → Place → Type 0
+IsMisnamed name p =
+    (((p.kind ≡ kinds.Job) ⊎ (p.kind ≡ kinds.Output)) × ((p.last ≡ name) × (is_id name ≡ false)))
+    ⊎ (((p.kind ≡ kinds.Variable) × ((p.last ≡ name) × (is_variable_name name ≡ false)))
+    ⊎ ((p.kind ≡ kinds.Id) × ((p.last ≡ codes "id") × ((as_str p.value ≡ Some name) × (is_id name ≡ false)))))
 
--- A value behind a key shows a fault: a number in it is not held as whole; it is an object that lacks the key that is missing; it
--- stands behind a name that is none, or is the name behind `id`; it stands behind the key that is left out; it is a text behind
--- `shell` that names none.
-abbrev pub ShowsFlow : FlowFault → List ℕ → Data → Type 0
-ShowsFlow flow.NotJson last d = ⊥
-ShowsFlow flow.NotWhole last d = value_of d ≡ None
-ShowsFlow (flow.Missing missed) last d = Lacks missed d
-ShowsFlow (flow.WrongShape path) last d = ⊥
-ShowsFlow (flow.BadId name) last d = ((last ≡ name) × IsNoName name) ⊎ ((last ≡ codes "id") × (as_str d ≡ Some name))
-ShowsFlow (flow.LeftOut left) last d = last ≡ left
-ShowsFlow flow.UnknownShell last d =
-    (last ≡ codes "shell") × ((name : List ℕ) × ((as_str d ≡ Some name) × (shell_named name ≡ bad flow.UnknownShell)))
-ShowsFlow flow.Memory last d = ⊥
+-- A text has an expression in it.
+abbrev pub HasExpression : Data → Type 0
+HasExpression d = (text : List ℕ) × ((as_str d ≡ Some text) × (has_marker text ≡ true))
+
+-- A place shows a fault: a number in the value there is not held as whole; it is an object that lacks the key that has to be in it;
+-- a name there is none; the table leaves its key out, or it has an expression where a value is written; it is a text where a
+-- shell is named, and names none.
+abbrev pub ShowsFlow : FlowFault → Place → Type 0
+ShowsFlow flow.NotJson p = ⊥
+ShowsFlow flow.NotWhole p = WantsWhole p.kind × (value_of p.value ≡ None)
+ShowsFlow (flow.Missing missed) p = Wants p.kind missed × Lacks missed p.value
+ShowsFlow (flow.WrongShape path) p = ⊥
+ShowsFlow (flow.BadId name) p = IsMisnamed name p
+ShowsFlow (flow.LeftOut left) p = (p.last ≡ left) × ((p.kind ≡ kinds.LeftOut) ⊎ (WantsValue p.kind × HasExpression p.value))
+ShowsFlow flow.UnknownShell p =
+    (p.kind ≡ kinds.Shell) × ((p.last ≡ codes "shell")
+    × ((name : List ℕ) × ((as_str p.value ≡ Some name) × (shell_named name ≡ bad flow.UnknownShell))))
+ShowsFlow flow.Memory p = ⊥
 
 -- A fault of that name stands at that byte of a text.
-abbrev pub ShowsText : ExprFault → Data → Type 0
-ShowsText fault d =
-    (other : ExprFault) × (IsUnread other d × ((fault_name other ≡ fault_name fault) × (fault_place other ≡ fault_place fault)))
+abbrev pub ShowsText : ExprFault → Place → Type 0
+ShowsText fault p =
+    (other : ExprFault) × (IsUnread other p × ((fault_name other ≡ fault_name fault) × (fault_place other ≡ fault_place fault)))

@@ -1,5 +1,9 @@
 //! Which contexts a text sees at its place.
 
+ghost use Rattle.std.specs.Prelude.{◌↔◌, IsTrue};
+ghost use Rattle.flow_lint.specs.Contexts.{IsOfStep, Sees, SeesSecrets};
+ghost use Rattle.flow_lint.specs.Nodes.{place_of};
+
 use crate::kind::{Kind, Level};
 use crate::node::Node;
 use expr_reader::Context;
@@ -21,12 +25,16 @@ pub(crate) const EVERY_CONTEXT: [Context; 12] = [
 ];
 
 /// Whether a text at a place stands in a step, or is seen as one that does.
-fn is_of_step(node: &Node) -> bool {
+fn is_of_step(node: &Node) -> bool
+    ensures { IsTrue result ↔ IsOfStep (place_of node.now) }
+{
     node.level == Level::Step || node.kind == Kind::SharedDirectory
 }
 
 /// Whether `secrets` is seen: in environments, in outputs, and in steps but for their conditions.
-fn sees_secrets(node: &Node) -> bool {
+fn sees_secrets(node: &Node) -> bool
+    ensures { IsTrue result ↔ SeesSecrets (place_of node.now) }
+{
     match node.kind {
         Kind::Variable | Kind::Output => true,
         Kind::Condition => false,
@@ -35,7 +43,9 @@ fn sees_secrets(node: &Node) -> bool {
 }
 
 /// Whether a text at a place sees a context that is not empty there.
-pub(crate) fn sees(node: &Node, context: Context) -> bool {
+pub(crate) fn sees(node: &Node, context: Context) -> bool
+    ensures { IsTrue result ↔ Sees context (place_of node.now) }
+{
     match context {
         Context::Github | Context::Inputs | Context::Vars => true,
         Context::Jobs | Context::Runner => false,

@@ -1,22 +1,26 @@
 //! The place of a fault for which a file stands for no workflow.
 
-ghost use Rattle.std.specs.Prelude.{◌≡◌, IsTrue, Some, IfOk, IfSome, codes};
+ghost use Rattle.std.specs.Prelude.{◌≡◌, ◌↔◌, IsTrue, Some, IfOk, IfSome, codes, decimal, option_map};
 ghost use Rattle.std.specs.List.{All};
 ghost use Rattle.serde_json.specs.Find.{as_str};
 ghost use Rattle.serde_json.specs.View.{view};
 ghost use Rattle.flow_lint.specs.FaultNodes.{HasFlow};
+ghost use Rattle.flow_lint.specs.Kinds.{WantsValue, WantsWhole, Wants};
 ghost use Rattle.flow_lint.specs.Notes.{FlowPlace, IsFlowPlace, IsSeen};
+ghost use Rattle.flow_lint.specs.Places as places;
+ghost use Rattle.flow_lint.specs.Places.{IsRepeated, Repeats, id_at};
 ghost use Rattle.flow_lint.specs.Shows as spec;
-ghost use Rattle.flow_lint.specs.Shows.{ShowsFlow};
+ghost use Rattle.flow_lint.specs.Shows.{HasExpression, ShowsFlow};
 ghost use Rattle.flow_lint.specs.Nodes.{Fits};
+ghost use Rattle.flow_lint.specs.declared.kind.Kind.TheVariants.{Steps};
 ghost use Rattle.flow_reader.specs.declared.fault.FlowFault.TheVariants.{NotWhole, Missing, BadId, LeftOut, UnknownShell};
 
 use crate::kind::Kind;
-use crate::node::{Node, nodes_of};
+use crate::node::{Node, below, nodes_of, number};
 use crate::note::{Note, noted};
 use crate::sentences::{flow_sentence, json_sentence};
 use expr_reader::has_marker;
-use flow_model::{JsonFault, is_id, is_variable_name, read_json, value_of};
+use flow_model::{JsonFault, Text, is_id, is_variable_name, read_json, value_of};
 use flow_reader::FlowFault;
 use serde_json::Value;
 use std::alloc::{AllocError, Global};
@@ -38,7 +42,9 @@ fn shows_fraction(alloc: Global, node: &Node) -> Result<bool, AllocError>
 }
 
 /// Whether a key has to be there in what is of this kind.
-fn wants(kind: Kind, key: &str) -> bool {
+fn wants(kind: Kind, key: &str) -> bool
+    ensures { IsTrue result → Wants kind key.now }
+{
     match kind {
         Kind::Workflow => key == "on" || key == "jobs",
         Kind::Job => key == "steps",
@@ -102,7 +108,9 @@ fn is_id_text(node: &Node, text: &str) -> bool
 }
 
 /// Whether an expression stands at a place.
-fn is_expression(value: &Value) -> bool {
+fn is_expression(value: &Value) -> bool
+    ensures { IsTrue result → HasExpression (view value.now) }
+{
     match value.as_str() {
         Some(text) => has_marker(text),
         None => false,
@@ -171,25 +179,74 @@ fn find<'n, 'v>(
     Ok(None)
 }
 
-/// The place of the second step of a job that has this id.
-fn find_doubled<'n, 'v>(root: &Value, nodes: &'n [Node<'v>], name: &str) -> Option<&'n Node<'v>>
-    requires { All (Fits (view root.now)) nodes.now }
-    ensures { IfSome result (λ node.
-        Fits (view root.now) node.now × HasFlow (BadId name.now) node.now) }
+/// The id of the step at a place of a list.
+fn step_id(steps: &Value, place: usize) -> Option<&str>
+    ensures { option_map (λ id. id.now) result ≡ id_at place (view steps.now) }
 {
-    let mut seen = false;
-    for node in nodes {
-        if node.kind == Kind::Job {
-            seen = false;
-        }
-        if node.kind == Kind::Id && is_id_text(node, name) {
-            if seen {
-                return Some(node);
+    steps.get(place)?.get("id")?.as_str()
+}
+
+/// Whether the step at a place of a list has this id.
+fn has_id(steps: &Value, place: usize, name: &str) -> bool
+    ensures { IsTrue result → id_at place (view steps.now) ≡ Some name.now }
+{
+    match step_id(steps, place) {
+        Some(id) => id == name,
+        None => false,
+    }
+}
+
+/// The place of the second step of a list that has this id.
+fn repeated_at(steps: &Value, count: usize, name: &str) -> Option<usize>
+    ensures { IfSome result (Repeats (view steps.now) name.now) }
+{
+    let mut first = None;
+    for place in 0..count {
+        if has_id(steps, place, name) {
+            if first.is_some() {
+                return Some(place);
             }
-            seen = true;
+            first = Some(place);
         }
     }
     None
+}
+
+/// The second place of this id in the steps at a place, where a job has it twice.
+fn repeated_in(node: &Node, name: &str) -> Option<usize>
+    ensures kind { IfSome result (λ _. node.now.kind ≡ Steps) }
+    ensures repeats { IfSome result (Repeats (view node.now.value.now) name.now) }
+{
+    if node.kind != Kind::Steps {
+        return None;
+    }
+    repeated_at(node.value, node.value.as_array()?.len(), name)
+}
+
+/// The path of the id of the step at a place of a list.
+fn id_path(alloc: Global, steps: &str, place: usize) -> Result<Text, AllocError>
+    ensures { IfOk result (λ path. path ≡ places.below (places.below steps.now (decimal place)) (codes "id")) }
+{
+    let step = below(alloc, steps, number(alloc, place)?.as_str())?;
+    below(alloc, step.as_str(), "id")
+}
+
+/// The path of the second of two steps of a job that have this id.
+fn find_repeated(
+    alloc: Global,
+    root: &Value,
+    nodes: &[Node],
+    name: &str,
+) -> Result<Option<Text>, AllocError>
+    requires { All (Fits (view root.now)) nodes.now }
+    ensures { IfOk result (λ found. IfSome found (IsRepeated (view root.now) name.now)) }
+{
+    for node in nodes {
+        if let Some(place) = repeated_in(node, name) {
+            return Ok(Some(id_path(alloc, node.path.as_str(), place)?));
+        }
+    }
+    Ok(None)
 }
 
 /// The place of this path.
@@ -214,6 +271,24 @@ fn noted_at(
     noted(alloc, path, flow_sentence(alloc, node, fault)?)
 }
 
+/// What is to be known of an id that stands twice, or at no place that is found.
+fn repeated_note(
+    alloc: Global,
+    root: &Value,
+    nodes: &[Node],
+    name: &str,
+    fault: &FlowFault,
+) -> Result<Note, AllocError>
+    requires nodes { All (Fits (view root.now)) nodes.now }
+    requires fault { fault.now ≡ BadId name.now }
+    ensures { IfOk result (λ note. FlowPlace (view root.now) (BadId name.now) note.path) }
+{
+    match find_repeated(alloc, root, nodes, name)? {
+        Some(path) => noted(alloc, path.as_str(), flow_sentence(alloc, None, fault)?),
+        None => noted_at(alloc, root, None, fault),
+    }
+}
+
 /// What is to be known of a name that is none, or stands twice.
 fn name_note(
     alloc: Global,
@@ -224,11 +299,11 @@ fn name_note(
 ) -> Result<Note, AllocError>
     requires nodes { All (Fits (view root.now)) nodes.now }
     requires fault { fault.now ≡ BadId name.now }
-    ensures { IfOk result (λ note. IsSeen (view root.now) note.path (ShowsFlow (BadId name.now))) }
+    ensures { IfOk result (λ note. FlowPlace (view root.now) (BadId name.now) note.path) }
 {
     match find(alloc, root, nodes, fault)? {
         Some(node) => noted_at(alloc, root, Some(node), fault),
-        None => noted_at(alloc, root, find_doubled(root, nodes, name), fault),
+        None => repeated_note(alloc, root, nodes, name, fault),
     }
 }
 

@@ -1,5 +1,8 @@
 //! The keys that are known, level by level, and what stands at each.
 
+ghost use Rattle.std.specs.Prelude.{◌≡◌, map};
+ghost use Rattle.flow_lint.specs.Keys as spec;
+
 use crate::kind::Kind;
 
 /// The keys of a workflow.
@@ -75,7 +78,9 @@ const GROUP: [(&str, Kind); 2] = [
 const MATRIX: [(&str, Kind); 2] = [("include", Kind::Entries), ("exclude", Kind::Entries)];
 
 /// The keys that are known within what is of this kind.
-pub(crate) fn known_keys(kind: Kind) -> &'static [(&'static str, Kind)] {
+pub(crate) fn known_keys(kind: Kind) -> &'static [(&'static str, Kind)]
+    ensures { map (λ entry. (entry.0.now, entry.1)) result.now ≡ spec.known_keys kind }
+{
     match kind {
         Kind::Workflow => &WORKFLOW,
         Kind::Job => &JOB,
@@ -90,7 +95,9 @@ pub(crate) fn known_keys(kind: Kind) -> &'static [(&'static str, Kind)] {
 }
 
 /// What stands at a key that has no meaning of its own.
-fn other_key(kind: Kind) -> Kind {
+fn other_kind(kind: Kind) -> Kind
+    ensures { result ≡ spec.other_kind kind }
+{
     match kind {
         Kind::Jobs => Kind::Job,
         Kind::Steps => Kind::Step,
@@ -105,18 +112,20 @@ fn other_key(kind: Kind) -> Kind {
 }
 
 /// What stands at a key of what is of this kind.
-pub(crate) fn kind_at(kind: Kind, key: &str) -> Kind {
+pub(crate) fn kind_at(kind: Kind, key: &str) -> Kind
+    ensures { result ≡ spec.kind_at kind key.now }
+{
     for (name, found) in known_keys(kind) {
         if *name == key {
             return *found;
         }
     }
-    other_key(kind)
+    other_kind(kind)
 }
 
 /// Whether what stands within is looked at.
 pub(crate) fn is_opened(kind: Kind) -> bool {
-    !known_keys(kind).is_empty() || other_key(kind) != Kind::Unknown
+    !known_keys(kind).is_empty() || other_kind(kind) != Kind::Unknown
 }
 
 /// Whether it is a list whose items are looked at.

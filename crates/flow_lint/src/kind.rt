@@ -1,5 +1,8 @@
 //! What stands at the places of a workflow's file.
 
+ghost use Rattle.std.specs.Prelude.{◌≡◌, ◌↔◌, IsTrue};
+ghost use Rattle.flow_lint.specs.Kinds.{IsNeed, IsTemplate, level_in};
+
 /// What a place belongs to.
 #[derive(Clone, Copy, PartialEq, Eq)]
 pub enum Level {
@@ -90,7 +93,9 @@ pub enum Kind {
 
 impl Kind {
     /// The level of what stands at a place of this kind, where that around it has another.
-    pub(crate) fn level(self, around: Level) -> Level {
+    pub(crate) fn level(self, around: Level) -> Level
+        ensures { result ≡ level_in self around }
+    {
         match self {
             Kind::Job => Level::Job,
             Kind::Step => Level::Step,
@@ -99,7 +104,9 @@ impl Kind {
     }
 
     /// Whether this is a text that is evaluated as a template.
-    pub(crate) fn is_template(self) -> bool {
+    pub(crate) fn is_template(self) -> bool
+        ensures { IsTrue result ↔ IsTemplate self }
+    {
         matches!(
             self,
             Kind::Variable
@@ -112,5 +119,12 @@ impl Kind {
                 | Kind::Directory
                 | Kind::SharedDirectory
         )
+    }
+
+    /// Whether this is what a job needs: an id alone, or one of a list.
+    pub(crate) fn is_need(self) -> bool
+        ensures { IsTrue result ↔ IsNeed self }
+    {
+        matches!(self, Kind::Needs | Kind::Need)
     }
 }

@@ -4,7 +4,7 @@ ghost use Rattle.std.specs.Prelude.{◌≡◌, IfOk, IfSome, OnOk, decimal};
 ghost use Rattle.std.specs.List.{All};
 ghost use Rattle.serde_json.specs.View.{view};
 ghost use Rattle.flow_lint.specs.Places as spec;
-ghost use Rattle.flow_lint.specs.Nodes.{Fits};
+ghost use Rattle.flow_lint.specs.Nodes.{Fits, place_of};
 
 use crate::keys::{is_list, is_opened, kind_at};
 use crate::kind::{Kind, Level};
@@ -61,8 +61,7 @@ impl<'v> Node<'v> {
     /// What stands in it behind a key or number.
     fn inner(&self, alloc: Global, key: Text, value: &'v Value) -> Result<Node<'v>, AllocError>
         ensures path { IfOk result (λ node. node.path ≡ spec.below self.now.path key) }
-        ensures key { IfOk result (λ node. node.key ≡ key) }
-        ensures value { IfOk result (λ node. view node.value.now ≡ view value.now) }
+        ensures place { IfOk result (λ node. place_of node ≡ spec.inner (place_of self.now) key (view value.now)) }
     {
         let kind = kind_at(self.kind, key.as_str());
         Ok(Node {
@@ -76,7 +75,6 @@ impl<'v> Node<'v> {
     }
 
     /// What stands in it at a key.
-    #[tactic(auto, using(crate::proofs::Standing::member_stands))]
     fn member(
         &self,
         alloc: Global,
@@ -93,7 +91,6 @@ impl<'v> Node<'v> {
     }
 
     /// What stands in it at a number, from 0.
-    #[tactic(auto, using(crate::proofs::Standing::item_stands))]
     fn item(
         &self,
         alloc: Global,
@@ -111,7 +108,7 @@ impl<'v> Node<'v> {
 }
 
 /// A number as a text.
-fn number(alloc: Global, place: usize) -> Result<Text, AllocError>
+pub fn number(alloc: Global, place: usize) -> Result<Text, AllocError>
     ensures { IfOk result (λ text. text ≡ decimal place) }
 {
     Ok(Text::new(format!(in alloc; "{place}")?))

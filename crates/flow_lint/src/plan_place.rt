@@ -80,7 +80,7 @@ fn find_unread<'n, 'v>(
 
 /// What is to be known of a text that cannot be read.
 fn text_note(alloc: Global, root: &Value, fault: ExprFault) -> Result<Note, AllocError>
-    ensures { IfOk result (λ note. IsSeen (view root.now) note.path (λ _ d. ShowsText fault d)) }
+    ensures { IfOk result (λ note. IsSeen (view root.now) note.path (ShowsText fault)) }
 {
     let nodes = nodes_of(alloc, root)?;
     let sentence = text_sentence(alloc, fault)?;
@@ -97,7 +97,7 @@ fn find_need<'n, 'v>(root: &Value, nodes: &'n [Node<'v>]) -> Option<&'n Node<'v>
         IfSome result (λ node. Fits (view root.now) node.now × HasNeed jobs node.now) }
 {
     for node in nodes {
-        if matches!(node.kind, Kind::Needs | Kind::Need) && unknown_need(node, root).is_some() {
+        if unknown_need(node, root).is_some() {
             return Some(node);
         }
     }

@@ -1,8 +1,8 @@
 //! The texts of a file that are evaluated.
 
 ghost use Rattle.std.specs.Prelude.{IfErr, IfSome};
-ghost use Rattle.serde_json.specs.View.{view};
 ghost use Rattle.expr_reader.specs.TemplateStands.{ConditionFaultStands};
+ghost use Rattle.flow_lint.specs.Nodes.{place_of};
 ghost use Rattle.flow_lint.specs.Places.{IsUnread};
 
 use crate::kind::Kind;
@@ -23,7 +23,7 @@ fn condition(alloc: Global, text: &str) -> Option<Result<Template, ExprFault>>
 /// What is read of a place, where a text that is evaluated stands there.
 pub fn read_text(alloc: Global, node: &Node) -> Option<Result<Template, ExprFault>>
     ensures { IfSome result (λ read. IfErr read (λ fault.
-        IsUnread fault (view node.now.value.now))) }
+        IsUnread fault (place_of node.now))) }
 {
     let Some(text) = node.value.as_str() else {
         return None;
