@@ -1,12 +1,102 @@
--- What hints say.
-use Rattle.std.specs.Prelude.{◌≡◌, ◌++◌, ℕ, List, codes}
-use Rattle.std.specs.List.{All}
+-- What hints say, and at which places of a file.
+use Rattle.std.specs.Prelude.{◌≡◌, ◌++◌, ℕ, ◌⊎◌, ◌∷◌, List, [], codes, true, Option, Some, is_some}
+use Rattle.std.specs.List.{All, Contains}
+use Rattle.serde_json.specs.Data.{Data}
+use Rattle.serde_json.specs.Find.{get, as_str}
+use Rattle.expr_reader.specs.Accepts.{template_read, condition_read}
+use Rattle.expr_reader.specs.Names.{context_name}
+use Rattle.expr_reader.specs.Template.{Piece}
+use Rattle.expr_reader.specs.declared.tree.Context.{Context}
+use Rattle.expr_value.specs.Named.{pieces_name_context}
+use Rattle.flow_model.specs.JsonText.{json_read}
+use Rattle.flow_lint.specs.Contexts.{Sees}
+use Rattle.flow_lint.specs.Kinds.{IsTemplate}
+use Rattle.flow_lint.specs.Nodes.{place_of}
+use Rattle.flow_lint.specs.Places.{Place, StandsAt, ShowsNeed, below}
+use Rattle.flow_lint.specs.Unknown.{IsJob, IsKey, Suggests, idle_key, unknown_id, unknown_key}
+use Rattle.flow_lint.specs.declared.kind.Kind.TheVariants as kinds
+use Rattle.flow_lint.specs.declared.node.Node.{Node}
 use Rattle.flow_lint.specs.declared.note.Note.{Note}
+
+-- ---- of the place alone
+
+-- The table knows no such key there; it is read and does nothing.
+abbrev pub SaysUnknown : Place → List ℕ → Type 0
+SaysUnknown p said = (p.kind ≡ kinds.Unknown) × Suggests (IsKey p.around) (unknown_key p.last) said
+
+abbrev pub SaysIdle : Place → List ℕ → Type 0
+SaysIdle p said = (p.kind ≡ kinds.Idle) × (said ≡ idle_key p.last)
+
+-- An event is there, and what stands at it.
+abbrev pub SaysEvent : Place → List ℕ → Type 0
+SaysEvent p said = (p.kind ≡ kinds.Event) × (said ≡ codes "what stands here does nothing: an event counts by its name alone")
+
+-- No job has the id that is needed there.
+abbrev pub SaysNeed : Option Data → Place → List ℕ → Type 0
+SaysNeed jobs p said =
+    ShowsNeed jobs p × ((id : List ℕ) × ((as_str p.value ≡ Some id) × Suggests (IsJob jobs) (unknown_id id) said))
+
+-- The text there is read as these pieces.
+abbrev pub IsReadAs : List Piece → Place → Type 0
+IsReadAs pieces p =
+    (text : List ℕ) × ((as_str p.value ≡ Some text)
+    × ((IsTemplate p.kind × (template_read text ≡ Some pieces)) ⊎ ((p.kind ≡ kinds.Condition) × (condition_read text ≡ Some pieces))))
+
+-- A text names a context that it does not see.
+pub record NamesUnseen (context : Context) (p : Place) : Type 0 where
+  pub pieces : List Piece
+  pub read : IsReadAs pieces p
+  pub names : pieces_name_context context pieces ≡ true
+  pub unseen : Sees context p → ⊥
+
+abbrev pub SaysEmpty : Place → List ℕ → Type 0
+SaysEmpty p said =
+    (context : Context) × (NamesUnseen context p
+    × (said ≡ codes "the context `" ++ (context_name context ++ codes "` is empty here")))
+
+abbrev pub Says : Option Data → Place → List ℕ → Type 0
+Says jobs p said = SaysUnknown p said ⊎ (SaysIdle p said ⊎ (SaysEvent p said ⊎ (SaysNeed jobs p said ⊎ SaysEmpty p said)))
+
+-- ---- of a key of a step beside another
+
+-- The keys of a step that do nothing, each beside what makes it so.
+abbrev pub beside_others : List (List ℕ × List ℕ)
+beside_others =
+    (codes "shell", codes "uses") ∷ (codes "with", codes "run") ∷ (codes "working-directory", codes "uses") ∷ []
+
+pub record IsBeside (path : List ℕ) (p : Place) (note : Note) : Type 0 where
+  pub both : List ℕ × List ℕ
+  pub one : Contains beside_others both
+  pub is_step : p.kind ≡ kinds.Step
+  pub is_there : is_some (get both.0 p.value) ≡ true
+  pub other_is : is_some (get both.1 p.value) ≡ true
+  pub is_path : note.path ≡ below path both.0
+  pub is : note.sentence ≡ codes "`" ++ (both.0 ++ (codes "` does nothing beside `" ++ (both.1 ++ codes "`")))
+
+-- ---- of a file
+
+-- A hint on what is to be seen at a path.
+abbrev pub Hints : Option Data → List ℕ → Place → Note → Type 0
+Hints jobs path p note = ((note.path ≡ path) × Says jobs p note.sentence) ⊎ IsBeside path p note
+
+abbrev pub HasHint : Option Data → Node → Note → Type 0
+HasHint jobs node note = Hints jobs node.path (place_of node) note
 
 -- A sentence does not begin as that of a rejection does.
 abbrev pub IsHint : List ℕ → Type 0
 IsHint said = (rest : List ℕ) → said ≡ codes "refused, " ++ rest → ⊥
 
--- The sentence of each note.
-abbrev pub AreHints : List Note → Type 0
-AreHints notes = All (λ note. IsHint note.sentence) notes
+-- A hint of a file.
+pub record IsHintOf (root : Data) (note : Note) : Type 0 where
+  pub path : List ℕ
+  pub place : Place
+  pub stands : StandsAt root path place
+  pub hints : Hints (get (codes "jobs") root) path place note
+  pub passes : IsHint note.sentence
+
+abbrev pub AreHintsOf : Data → List Note → Type 0
+AreHintsOf root notes = All (IsHintOf root) notes
+
+-- The hints of a file's bytes, which has none where it is no JSON.
+abbrev pub AreHints : List ℕ → List Note → Type 0
+AreHints bytes notes = All (λ note. (root : Data) × ((json_read bytes ≡ Some root) × IsHintOf root note)) notes

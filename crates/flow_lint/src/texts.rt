@@ -1,7 +1,10 @@
 //! The texts of a file that are evaluated.
 
-ghost use Rattle.std.specs.Prelude.{IfErr, IfSome};
+ghost use Rattle.std.specs.Prelude.{◌≡◌, IfErr, IfOk, IfSome, Some};
+ghost use Rattle.expr_reader.specs.Accepts.{condition_read};
 ghost use Rattle.expr_reader.specs.TemplateStands.{ConditionFaultStands};
+ghost use Rattle.expr_reader.specs.TemplateView.{template_of};
+ghost use Rattle.flow_lint.specs.Hints.{IsReadAs};
 ghost use Rattle.flow_lint.specs.Nodes.{place_of};
 ghost use Rattle.flow_lint.specs.Places.{IsUnread};
 
@@ -12,7 +15,9 @@ use std::alloc::Global;
 
 /// The condition of a text, if it is not blank.
 fn condition(alloc: Global, text: &str) -> Option<Result<Template, ExprFault>>
-    ensures { IfSome result (λ read. IfErr read (ConditionFaultStands text.now)) }
+    ensures stands { IfSome result (λ read. IfErr read (ConditionFaultStands text.now)) }
+    ensures reads { IfSome result (λ read. IfOk read (λ template.
+        condition_read text.now ≡ Some (template_of template))) }
 {
     if is_blank(text) {
         return None;
@@ -22,8 +27,9 @@ fn condition(alloc: Global, text: &str) -> Option<Result<Template, ExprFault>>
 
 /// What is read of a place, where a text that is evaluated stands there.
 pub fn read_text(alloc: Global, node: &Node) -> Option<Result<Template, ExprFault>>
-    ensures { IfSome result (λ read. IfErr read (λ fault.
-        IsUnread fault (place_of node.now))) }
+    ensures stands { IfSome result (λ read. IfErr read (λ fault. IsUnread fault (place_of node.now))) }
+    ensures reads { IfSome result (λ read. IfOk read (λ template.
+        IsReadAs (template_of template) (place_of node.now))) }
 {
     let Some(text) = node.value.as_str() else {
         return None;
