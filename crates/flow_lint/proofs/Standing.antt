@@ -1,11 +1,12 @@
 -- What stands in a place stands behind the place's path.
-use Rattle.std.proofs.Common.{refl, ◌≡◌, ◌∙◌, ℕ, List, ◌∷◌, decimal, Some, ap, sym, subst, option_and_then}
+use Rattle.std.proofs.Common.{refl, ◌≡◌, ◌∙◌, ℕ, List, ◌∷◌, codes, decimal, Some, ap, sym, subst, option_and_then}
 use Rattle.serde_json.specs.Data.{Data}
 use Rattle.serde_json.specs.Find.{get, at}
 use Rattle.flow_lint.specs.Keys.{kind_at}
 use Rattle.flow_lint.specs.Kinds.{level_in}
-use Rattle.flow_lint.specs.Places.{Place, StandsAt, Way, key, item, follow, below, inner, kind_of, level_of}
+use Rattle.flow_lint.specs.Places.{Place, StandsAt, Way, key, item, follow, below, inner, kind_of, level_of, Repeats, IsRepeated}
 use Rattle.flow_lint.specs.declared.kind.Kind.{Kind}
+use Rattle.flow_lint.specs.declared.kind.Kind.TheVariants as kinds
 
 level_inside : (name : List ℕ) (p : Place) (ways : List Way) → p.kind ≡ kind_of ways → p.level ≡ level_of ways
     → level_in (kind_at p.kind name) p.level ≡ level_in (kind_at (kind_of ways) name) (level_of ways)
@@ -51,3 +52,17 @@ item_stands root path place p e path' p' last s h is_last is_path is_place =
     subst (λ (q : Place). StandsAt root path' q) (sym (is_place ∙ ap (λ (name : List ℕ). inner p name e) is_last))
     (subst (λ (front : List ℕ). StandsAt root front (inner p (decimal place) e))
     (sym (is_path ∙ ap (below path) is_last)) (item_inside root path place p e s h))
+
+-- the id of a step that an earlier step has is at the path behind that of the steps
+pub is_repeated : (root : Data) (path : List ℕ) (p : Place) (name : List ℕ) (later : ℕ) (path' : List ℕ) → StandsAt root path p
+    → p.kind ≡ kinds.Steps → Repeats p.value name later → path' ≡ below (below path (decimal later)) (codes "id")
+    → IsRepeated root name path'
+is_repeated root path p name later path' s are_steps repeats is_path = record {
+  ways = s.ways;
+  steps = p.value;
+  are_steps = sym s.is_kind ∙ are_steps;
+  stand = s.stands;
+  later = later;
+  repeats = repeats;
+  is_path = is_path ∙ ap (λ (front : List ℕ). below (below front (decimal later)) (codes "id")) s.is_path;
+}

@@ -231,6 +231,22 @@ fn id_path(alloc: Global, steps: &str, place: usize) -> Result<Text, AllocError>
     below(alloc, step.as_str(), "id")
 }
 
+/// The path of the second place of this id, in the steps at a place.
+fn repeated_path(
+    alloc: Global,
+    _root: &Value,
+    node: &Node,
+    name: &str,
+) -> Result<Option<Text>, AllocError>
+    requires { Fits (view _root.now) node.now }
+    ensures { IfOk result (λ found. IfSome found (IsRepeated (view _root.now) name.now)) }
+{
+    match repeated_in(node, name) {
+        Some(place) => Ok(Some(id_path(alloc, node.path.as_str(), place)?)),
+        None => Ok(None),
+    }
+}
+
 /// The path of the second of two steps of a job that have this id.
 fn find_repeated(
     alloc: Global,
@@ -242,8 +258,8 @@ fn find_repeated(
     ensures { IfOk result (λ found. IfSome found (IsRepeated (view root.now) name.now)) }
 {
     for node in nodes {
-        if let Some(place) = repeated_in(node, name) {
-            return Ok(Some(id_path(alloc, node.path.as_str(), place)?));
+        if let Some(path) = repeated_path(alloc, root, node, name)? {
+            return Ok(Some(path));
         }
     }
     Ok(None)
