@@ -78,15 +78,43 @@ fn find_unread<'n, 'v>(
     }
 }
 
+/// What is to be known of a text that cannot be read, which was found at a place, or at none.
+fn text_noted_at(
+    alloc: Global,
+    root: &Value,
+    node: Option<&Node>,
+    fault: ExprFault,
+) -> Result<Note, AllocError>
+    requires { IfSome node (λ node. Fits (view root.now) node.now × HasText fault node.now) }
+    ensures { IfOk result (λ note. IsSeen (view root.now) note.path (ShowsText fault)) }
+{
+    let path = match node {
+        Some(node) => node.path.as_str(),
+        None => "",
+    };
+    noted(alloc, path, text_sentence(alloc, fault)?)
+}
+
 /// What is to be known of a text that cannot be read.
 fn text_note(alloc: Global, root: &Value, fault: ExprFault) -> Result<Note, AllocError>
     ensures { IfOk result (λ note. IsSeen (view root.now) note.path (ShowsText fault)) }
 {
     let nodes = nodes_of(alloc, root)?;
-    let sentence = text_sentence(alloc, fault)?;
-    match find_unread(alloc, root, nodes.as_slice(), fault)? {
-        Some(node) => noted(alloc, node.path.as_str(), sentence),
-        None => noted(alloc, "", sentence),
+    text_noted_at(
+        alloc,
+        root,
+        find_unread(alloc, root, nodes.as_slice(), fault)?,
+        fault,
+    )
+}
+
+/// Whether a need that is no job stands at a place.
+fn is_unknown_need(root: &Value, node: &Node) -> bool
+    ensures { IsTrue result → HasNeed (get (codes "jobs") (view root.now)) node.now }
+{
+    match unknown_need(node, root) {
+        Some(_) => true,
+        None => false,
     }
 }
 
@@ -97,7 +125,7 @@ fn find_need<'n, 'v>(root: &Value, nodes: &'n [Node<'v>]) -> Option<&'n Node<'v>
         IfSome result (λ node. Fits (view root.now) node.now × HasNeed jobs node.now) }
 {
     for node in nodes {
-        if unknown_need(node, root).is_some() {
+        if is_unknown_need(root, node) {
             return Some(node);
         }
     }

@@ -8,6 +8,6 @@ pub loop-context-preserved : goal.loop-context-preserved
 loop-context-preserved c =
     let root = view c.args.root.now in
     elim c.if-names_unseen.branch [
-      then-names_unseen+in_ok-add_context w ↦ subst (λ notes. AreHintsOf root notes.items) (sym w.notes-is) w.in_ok-add_context.ensures
-    | else-names_unseen w ↦ subst (λ notes. AreHintsOf root notes.items) (sym w.notes-is) c.loop-context.invariant
+      | then-names_unseen+in_ok-add_context w ↦ subst (λ notes. AreHintsOf root notes.items) (sym w.notes-is) w.in_ok-add_context.ensures
+      | else-names_unseen w ↦ subst (λ notes. AreHintsOf root notes.items) (sym w.notes-is) c.loop-context.invariant
     ]

@@ -9,13 +9,13 @@ pub returns : goal.returns
 returns c =
     let root = view c.args.root.now in
     let made : IsHintOf root c.args.note =
-        record {
-          path = c.args.node.now.path;
-          place = place_of c.args.node.now;
-          stands = c.requires.node;
-          hints = c.requires.hint;
-          passes = c.requires.passes;
-        } in
+    record {
+      path = c.args.node.now.path;
+      place = place_of c.args.node.now;
+      stands = c.requires.node;
+      hints = c.requires.hint;
+      passes = c.requires.passes;
+    } in
     let all : AreHintsOf root (c.args.notes.now.items ++ c.args.note ∷ []) =
-        All-push (IsHintOf root) c.args.notes.now.items c.args.note c.requires.notes made in
+    All-push (IsHintOf root) c.args.notes.now.items c.args.note c.requires.notes made in
     search rules

@@ -1,4 +1,4 @@
-use Rattle.std.proofs.Common.{sym, ◌∙◌}
+use Rattle.std.proofs.Common.{sym}
 use Rattle.flow_lint.proofs.Standing.{member_stands}
 use Rattle.flow_lint.proofs.node.Node.member.Goals as goal
 
