@@ -132,16 +132,33 @@ fn find_need<'n, 'v>(root: &Value, nodes: &'n [Node<'v>]) -> Option<&'n Node<'v>
     None
 }
 
+/// What is said of a need that is no job, which was found at a place, or at none.
+fn need_told(alloc: Global, root: &Value, node: Option<&Node>) -> Result<String, AllocError> {
+    match node {
+        Some(node) => need_sentence(alloc, root, node.value.as_str().unwrap_or("")),
+        None => String::from_str(alloc, "a need is no job"),
+    }
+}
+
+/// What is to be known of a need that is no job, which was found at a place, or at none.
+fn need_noted_at(alloc: Global, root: &Value, node: Option<&Node>) -> Result<Note, AllocError>
+    requires { let jobs = get (codes "jobs") (view root.now) in
+        IfSome node (λ node. Fits (view root.now) node.now × HasNeed jobs node.now) }
+    ensures { IfOk result (λ note. PlanPlace (view root.now) UnknownNeed note.path) }
+{
+    let path = match node {
+        Some(node) => node.path.as_str(),
+        None => "",
+    };
+    noted(alloc, path, need_told(alloc, root, node)?)
+}
+
 /// What is to be known of a need that is no job.
 fn need_note(alloc: Global, root: &Value) -> Result<Note, AllocError>
     ensures { IfOk result (λ note. PlanPlace (view root.now) UnknownNeed note.path) }
 {
     let nodes = nodes_of(alloc, root)?;
-    let Some(node) = find_need(root, nodes.as_slice()) else {
-        return noted(alloc, "", String::from_str(alloc, "a need is no job")?);
-    };
-    let id = node.value.as_str().unwrap_or("");
-    noted(alloc, node.path.as_str(), need_sentence(alloc, root, id)?)
+    need_noted_at(alloc, root, find_need(root, nodes.as_slice()))
 }
 
 /// The path of a key of a job.
