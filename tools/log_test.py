@@ -1,7 +1,7 @@
 """Tests of logs of great length: what `run` takes of memory and time to show them.
 
 The environment variable ACTRUN_PROGRAM names a built program; `tools/unit_tests.py` is started with it by `tools/test`.
-ACTRUN_ALL_TESTS has the log of a gigabyte shown too.
+Where ACTRUN_ALL_TESTS is set, a log of a gigabyte is shown too, and the other logs are greater.
 """
 from __future__ import annotations
 
@@ -15,6 +15,7 @@ import time
 import unittest
 from pathlib import Path
 
+ALL = bool(os.environ.get("ACTRUN_ALL_TESTS"))
 # the most memory that `run` may take beside the greatest line of a log
 MOST_BYTES = 32 << 20
 # executes the words after the first, with what they print at the file that the first names, and prints the most memory that they took
@@ -64,30 +65,32 @@ class LongLogs(unittest.TestCase):
         self.assertLess(most, MOST_BYTES)
 
     def test_short_lines(self) -> None:
-        self.show_short_lines(10_000_000)
+        self.show_short_lines(1_000_000)
 
-    @unittest.skipUnless(os.environ.get("ACTRUN_ALL_TESTS"), "a gigabyte is shown where ACTRUN_ALL_TESTS is set")
+    @unittest.skipUnless(ALL, "a gigabyte is shown where ACTRUN_ALL_TESTS is set")
     def test_a_gigabyte(self) -> None:
         self.show_short_lines(500_000_000)
 
     def test_one_long_line(self) -> None:
         """A line is shown whole, and takes its own length a few times."""
-        most, _ = self.execute("head -c 30000000 /dev/zero | tr '\\0' x; echo; echo end")
-        self.assertEqual(self.shown.read_bytes(), b"x" * 30_000_000 + b"\nend\nrun 0 success\n")
-        self.assertLess(most, MOST_BYTES + 6 * 30_000_000)
+        length = 30_000_000 if ALL else 3_000_000
+        most, _ = self.execute(f"head -c {length} /dev/zero | tr '\\0' x; echo; echo end")
+        self.assertEqual(self.shown.read_bytes(), b"x" * length + b"\nend\nrun 0 success\n")
+        self.assertLess(most, MOST_BYTES + 6 * length)
 
     def test_bytes_that_are_no_text_at_the_end(self) -> None:
         """The whole log is one line then, as for bytes at its beginning."""
-        self.execute("yes | head -n 1000000; printf '\\377\\n'", "printf '\\377'; echo shown")
+        self.execute("yes | head -n 100000; printf '\\377\\n'", "printf '\\377'; echo shown")
         self.assertEqual(self.shown.read_bytes(), b"(output is not UTF-8)\n" * 2 + b"run 0 success\n")
 
     def test_many_masks(self) -> None:
-        """A hundred times the masks and lines take no more than some hundred times as long."""
-        most, took = self.execute("seq -f '::add-mask::secret-%.0f' 100000 139999; seq -f 'a secret-%.0f b' 100000 299999")
+        """Ten times the masks and the lines take some ten times as long."""
+        masks = 40_000 if ALL else 4_000
+        most, took = self.execute(f"seq -f '::add-mask::secret-%.0f' 100000 {100_000 + masks - 1}; seq -f 'a secret-%.0f b' 100000 {100_000 + 5 * masks - 1}")
         shown = self.shown.read_text().splitlines()
-        self.assertEqual(shown[:2], ["a *** b"] * 2)
-        self.assertEqual(shown[39_999:40_001], ["a *** b", "a secret-140000 b"])
-        self.assertEqual(len(shown), 200_001)
+        self.assertEqual(shown[:masks], ["a *** b"] * masks)
+        self.assertEqual(shown[masks], f"a secret-{100_000 + masks} b")
+        self.assertEqual(len(shown), 5 * masks + 1)
         self.assertLess(took, 120)
         self.assertLess(most, 8 * MOST_BYTES)
 
