@@ -17,11 +17,19 @@ use Rattle.command_io.specs.Pictures.{HasPlainLines}
 
 -- what is told of a file by what it comes to is told of it
 pub told_by_judged : (file : Content) (error : Option CommandError) (told : Told) → Judges file (Ok error) → IsToldOf file error told → IsTold file told
-told_by_judged file None (false, text) judged h = record { plan = judged.0; comes = judged.1; hints = h.1.0; is = h.1.1 }
+told_by_judged file None (false, text) judged h = record { plan = judged.0; comes = judged.1; hints = h.1.0; are = h.1.1.0; is = h.1.1.1 }
 told_by_judged file None (true, text) judged h = absurd (true≢false h.0)
 told_by_judged file (Some t) (false, text) judged h = absurd (true≢false (sym h.0))
 told_by_judged file (Some t) (true, text) judged h =
-    record { error = t; comes_to_none = judged; note = h.1.0; placed = h.1.1.0; hints = h.1.1.1.0; is = h.1.1.1.1 }
+    record {
+      error = t;
+      comes_to_none = judged;
+      note = h.1.0;
+      placed = h.1.1.0;
+      hints = h.1.1.1.0;
+      are = h.1.1.1.1.0;
+      is = h.1.1.1.1.1;
+    }
 
 -- This is told of the first i files: what is told of the others completes what is told of all.
 pub record GoingFiles (files : List Content) (i : ℕ) (tolds : List Told) : Type 0 where

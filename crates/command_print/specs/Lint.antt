@@ -1,8 +1,9 @@
 -- What `actrun lint` tells of workflows' files: of each why it alone comes to no plan, where it comes to none, and what else
 -- there is to be known of it.
-use Rattle.std.specs.Prelude.{◌≡◌, ℕ, ◌++◌, codes, if◌then◌else◌, Bool, true, false, List, [], ◌∷◌, flat_map, String, string_bytes, Option, Some, None, Result, Ok, Err}
+use Rattle.std.specs.Prelude.{◌≡◌, ℕ, ◌++◌, codes, if◌then◌else◌, Bool, true, false, List, [], ◌∷◌, flat_map, String, Option, Some, None, Result, Ok, Err}
 use Rattle.std.specs.List.{list_any}
 use Rattle.std.specs.declared.alloc.Global.{Global}
+use Rattle.flow_lint.specs.Hints.{AreHints}
 use Rattle.flow_lint.specs.Notes.{IsFlowPlace, IsPlanPlace}
 use Rattle.flow_model.specs.declared.plan.Plan.{Plan}
 use Rattle.flow_lint.specs.declared.note.Note.{Note}
@@ -71,7 +72,7 @@ IsPlace file Memory path = ⊥
 
 -- ---- what is told of a file
 
--- What refuses nothing, line by line.
+-- What refuses nothing, line by line: hints, each at a place of the file where it is so.
 abbrev pub hint_lines : List ℕ → List Note → List ℕ
 hint_lines file notes = flat_map (note_line file) notes
 
@@ -80,6 +81,7 @@ pub record IsPassed (file : Content) (text : List ℕ) : Type 0 where
   pub plan : Plan
   pub comes : ComesTo All no_contexts (file ∷ []) plan
   pub hints : List Note
+  pub are : AreHints file.bytes hints
   pub is : text ≡ hint_lines file.name hints
 
 -- The file alone comes to none, and the first line says why, at its place.
@@ -89,6 +91,7 @@ pub record IsRefused (file : Content) (text : List ℕ) : Type 0 where
   pub note : Note
   pub placed : IsPlace file error note.path
   pub hints : List Note
+  pub are : AreHints file.bytes hints
   pub is : text ≡ refusing_line file.name (fault_text error) note ++ hint_lines file.name hints
 
 -- Whether a file is refused, and the lines that are told of it.
@@ -145,18 +148,19 @@ Judges file (Ok None) = (plan : Plan) × ComesTo All no_contexts (file ∷ []) p
 Judges file (Ok (Some error)) = ComesToNone All no_contexts (file ∷ []) error
 Judges file (Err error) = error ≡ Memory
 
--- Hints are added to a text.
-abbrev pub AddsHints : List ℕ → String Global → String Global → Type 0
-AddsHints file old new = (notes : List Note) × Adds old new (hint_lines file notes)
+-- Hints of a file are added to a text.
+abbrev pub AddsHints : Content → String Global → String Global → Type 0
+AddsHints file old new = (notes : List Note) × (AreHints file.bytes notes × Adds old new (hint_lines file.name notes))
 
 -- The lines of a file that passes, and of one that is refused for this error.
 abbrev pub Passes : Content → List ℕ → Type 0
-Passes file text = (notes : List Note) × (text ≡ hint_lines file.name notes)
+Passes file text = (notes : List Note) × (AreHints file.bytes notes × (text ≡ hint_lines file.name notes))
 
 abbrev pub Refuses : Content → CommandError → List ℕ → Type 0
 Refuses file error text =
     (note : Note) × (IsPlace file error note.path
-    × ((notes : List Note) × (text ≡ refusing_line file.name (fault_text error) note ++ hint_lines file.name notes)))
+    × ((notes : List Note) × (AreHints file.bytes notes
+    × (text ≡ refusing_line file.name (fault_text error) note ++ hint_lines file.name notes))))
 
 abbrev pub IsToldOf : Content → Option CommandError → Told → Type 0
 IsToldOf file None (refused, text) = (refused ≡ false) × Passes file text
