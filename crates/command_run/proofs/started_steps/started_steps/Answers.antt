@@ -4,7 +4,7 @@ use Rattle.step_host.specs.Counted.{begun_after}
 use Rattle.step_host.proofs.Counted.{begun-more}
 use Rattle.command_run.specs.StepLogs.{begun_of}
 use Rattle.command_run.proofs.Counting.{started_on}
-use Rattle.command_run.proofs.step_logs.started_steps.Goals as goal
+use Rattle.command_run.proofs.started_steps.started_steps.Goals as goal
 
 pub loop-entry-preserved : goal.loop-entry-preserved
 loop-entry-preserved c =
