@@ -108,7 +108,8 @@ impl LogTeller {
     /// There is no memory.
     pub fn add_lines(&mut self, given: &Masks, text: &str) -> Result<(), AllocError>
         ensures { OnOk result ((lines : List (List ℕ))
-            → told_with given.now self.old (lines_of text.now ++ lines) ≡ told_with given.now self.new lines) }
+            → told_with given.now self.old (lines_of text.now ++ lines)
+            ≡ told_with given.now self.new lines) }
     {
         let mut rest = text;
         while !rest.is_empty() {

@@ -225,7 +225,8 @@ fn repeated_in(node: &Node, name: &str) -> Option<usize>
 
 /// The path of the id of the step at a place of a list.
 fn id_path(alloc: Global, steps: &str, place: usize) -> Result<Text, AllocError>
-    ensures { IfOk result (λ path. path ≡ places.below (places.below steps.now (decimal place)) (codes "id")) }
+    ensures { IfOk result (λ path.
+        path ≡ places.below (places.below steps.now (decimal place)) (codes "id")) }
 {
     let step = below(alloc, steps, number(alloc, place)?.as_str())?;
     below(alloc, step.as_str(), "id")

@@ -61,7 +61,8 @@ impl<'v> Node<'v> {
     /// What stands in it behind a key or number.
     fn inner(&self, alloc: Global, key: Text, value: &'v Value) -> Result<Node<'v>, AllocError>
         ensures path { IfOk result (λ node. node.path ≡ spec.below self.now.path key) }
-        ensures place { IfOk result (λ node. place_of node ≡ spec.inner (place_of self.now) key (view value.now)) }
+        ensures place { IfOk result (λ node.
+            place_of node ≡ spec.inner (place_of self.now) key (view value.now)) }
     {
         let kind = kind_at(self.kind, key.as_str());
         Ok(Node {
