@@ -16,7 +16,7 @@ import unittest
 from pathlib import Path
 
 ALL = bool(os.environ.get("ACTRUN_ALL_TESTS"))
-# the most memory that `run` may take beside what a step prints, which its host holds once to make the log, and the greatest line
+# the most memory that `run` may take beside the greatest line of a log
 MOST_BYTES = 32 << 20
 # executes the words after the first, with what they print at the file that the first names, and prints the most memory that they took
 MEASURE = """
@@ -59,11 +59,17 @@ class LongLogs(unittest.TestCase):
         return most, time.monotonic() - began
 
     def test_short_lines(self) -> None:
-        """Showing them takes no memory for each."""
-        count = 10_000_000 if ALL else 1_000_000
+        """A log is made and shown in pieces, whatever its length."""
+        count = 100_000_000 if ALL else 1_000_000
         most, _ = self.execute(f"yes | head -n {count}")
         self.assertEqual(self.shown.stat().st_size, 2 * count + len("run 0 success\n"))
-        self.assertLess(most, MOST_BYTES + 2 * count)
+        self.assertLess(most, MOST_BYTES)
+
+    def test_errors_begin_on_a_line_of_their_own(self) -> None:
+        """Between the two streams of a step stands a newline where the first does not end in one, whatever its length."""
+        for length in (1, 8_191, 8_192, 8_193, 100_000):
+            self.execute(f"head -c {length} /dev/zero | tr '\\0' x; echo error >&2", "echo out; echo error >&2")
+            self.assertEqual(self.shown.read_bytes(), b"x" * length + b"\nerror\nout\nerror\nrun 0 success\n")
 
     def test_one_long_line(self) -> None:
         """A line is shown whole, and takes its own length a few times."""

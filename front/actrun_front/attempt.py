@@ -251,6 +251,7 @@ class Trial:
 
     def places(self, asked: Answers, page: Future | None) -> Iterable[str]:
         """Where the record, the logs, the trees and the diagrams are."""
+        from . import timeline  # (here, as `report` is)
         private, play = self.room.private, self.room.play
         yield f"logs      {play}/step-LEG-STEP.log"
         trees = sorted((play / "legs").glob("*")) if self.own_trees else [self.play.workspace]
@@ -258,8 +259,9 @@ class Trial:
             yield f"tree      {trees[0] if len(trees) == 1 else play / 'legs' / 'JOB-INDEX' / self.room.name}"
         if page:
             yield f"record    {self.record}"
-            for name, command in (("timeline.svg", "timeline"), ("graph.dot", "graph")):
-                write_private(private / name, asked[command].result().stdout)
+            chart = timeline.beside(asked["timeline"].result(), self.times)
+            for name, command, text in (("timeline.svg", "timeline", chart), ("graph.dot", "graph", asked["graph"].result().stdout)):
+                write_private(private / name, text)
                 yield f"{command:<9} {private / name}"
             if page.result():
                 yield f"report    {page.result()}"

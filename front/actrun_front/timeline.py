@@ -107,6 +107,14 @@ def by_time(chart: bytes, times: pathlib.Path, ended: bool) -> str:
     return ElementTree.tostring(root, encoding="unicode") + "\n"
 
 
+def beside(chart: subprocess.CompletedProcess[str], times: pathlib.Path) -> str:
+    """A chart that the program printed, by the times in a file where these fit its record."""
+    try:
+        return by_time(chart.stdout.encode("utf-8"), times, chart.returncode != 4)
+    except (Problem, ElementTree.ParseError):
+        return chart.stdout
+
+
 def put(stream: int, text: str) -> None:
     """Writes a text to a standard stream."""
     data = text.encode("utf-8", "surrogateescape")

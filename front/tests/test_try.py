@@ -277,6 +277,7 @@ class Steps(TryCase):
         kept = self.home / "kept here"
         self.assertEqual((kept / "play" / "tree" / "project" / "kept").read_text(encoding="utf-8"), "kept\n")
         self.assertIn(f"{kept}/private/timeline.svg", done.stdout)
+        self.assertIn("timeline from 20", (kept / "private" / "timeline.svg").read_text(encoding="utf-8"))
         self.assert_status(self.attempt("--keep", "../kept here"), 2)
 
     def test_inputs_differ_by_workflow(self) -> None:

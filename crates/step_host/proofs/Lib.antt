@@ -1,3 +1,4 @@
+mod Copied
 pub mod Counted
 pub mod Kept
 pub mod LastCalls

@@ -13,20 +13,6 @@ use flow_model::{Answer, Mapping, Text};
 use std::alloc::{AllocError, Global};
 use std::process::ExitStatus;
 
-/// What a program printed: its standard output, and then its standard error, which begins on a line of its own.
-pub(crate) fn logged(out: Vec<u8>, err: &[u8]) -> Result<Vec<u8>, AllocError>
-    ensures { IfOk result (λ log. log.items ≡ spec.logged out.items err.now) }
-{
-    let mut log = out;
-    let last = log.as_slice().last().copied();
-    match last {
-        Some(b'\n') | None => {},
-        Some(_) => log.push(b'\n')?,
-    }
-    log.extend_from_slice(err)?;
-    Ok(log)
-}
-
 /// The code of an exit status; without one it counts as 255.
 fn code_of(status: ExitStatus) -> i64
     ensures value { result ≡ spec.code_of (exit_code status) }

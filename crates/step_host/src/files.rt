@@ -25,11 +25,16 @@ fn make_file<F: Files>(files: &F, how: &OpenOptions, name: &str) -> io::Result<F
     }
 }
 
-/// Writes a file in place of what has this name, which is not opened.
-pub(crate) fn write_file<F: Files>(files: &F, name: &str, bytes: &[u8]) -> io::Result<()> {
+/// Makes a file to be written in place of what has this name, which is not opened.
+pub(crate) fn new_file<F: Files>(files: &F, name: &str) -> io::Result<F::File> {
     let mut how = File::options();
     how.write(true).create_new(true);
-    let mut file = make_file(files, &how, name)?;
+    make_file(files, &how, name)
+}
+
+/// Writes a file in place of what has this name, which is not opened.
+pub(crate) fn write_file<F: Files>(files: &F, name: &str, bytes: &[u8]) -> io::Result<()> {
+    let mut file = new_file(files, name)?;
     file.write_all(bytes)
 }
 
@@ -52,9 +57,9 @@ pub(crate) fn is_empty_file<F: Files>(files: &F, name: &str) -> bool {
 }
 
 /// The bytes that a file has now. What is added while they are read is left out.
-pub(crate) fn bytes_now<F: Read + OpenFile + Drop>(alloc: Global, file: F) -> io::Result<Vec<u8>> {
+pub(crate) fn so_far<F: Read + OpenFile + Drop>(file: F) -> io::Result<Take<F>> {
     let length = file.metadata()?.len();
-    first_bytes(alloc, file, length)
+    Ok(file.take(length))
 }
 
 /// So many bytes of a file, or all, where it has fewer.

@@ -27,6 +27,7 @@ mod files;
 pub mod host;
 mod launch;
 pub mod laws;
+mod log;
 pub mod masked;
 pub mod program;
 pub mod replay;

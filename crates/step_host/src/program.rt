@@ -8,16 +8,15 @@ ghost use Rattle.flow_model.specs.declared.reply.StepCall.{StepCall};
 ghost use Rattle.step_host.specs.Program as spec;
 
 use crate::command::command_of;
-use crate::ending::{ended, logged, refusal_of};
+use crate::ending::{ended, refusal_of};
 use crate::fault::HostFault;
-use crate::files::{
-    FileBytes, Printed, bytes_now, is_empty_file, printed_file, read_named, write_file,
-};
+use crate::files::{FileBytes, Printed, printed_file, read_named, write_file};
 use crate::host::{StepHost, WatchedHost};
 use crate::launch::{
     Launch, env_file, err_file, log_file, other_shell, out_file, print_file, script_file,
     script_launch, stub_launch,
 };
+use crate::log::keep_log;
 use crate::watch::{Nobody, Refusal, Unstarted, Watch};
 use flow_model::{Answer, CallWork, Mapping, Shell, StepCall, Text};
 use std::alloc::{AllocError, Global};
@@ -68,13 +67,6 @@ fn or_kind<T: Drop>(done: io::Result<T>) -> Result<Result<T, ErrorKind>, AllocEr
             Ok(Err(kind))
         },
     }
-}
-
-/// What a program printed into two files, as it is kept.
-fn printed(alloc: Global, out: File, err: File) -> io::Result<Vec<u8>> {
-    let out = bytes_now(alloc, out)?;
-    let err = bytes_now(alloc, err)?;
-    Ok(logged(out, err.as_slice())?)
 }
 
 /// The answer to a call. Where it is bad output, somebody is told why.
@@ -303,26 +295,15 @@ impl<R: Processes + Files<File = File>> ProgramHost<R> {
         }
     }
 
-    /// Keeps what a program printed, or says why that could not be.
+    /// Keeps what a program printed so far, or says why that could not be.
     fn keeps(
         &self,
         call: &StepCall,
         out: File,
         err: File,
     ) -> Result<Result<(), ErrorKind>, AllocError> {
-        match or_kind(printed(self.alloc, out, err))? {
-            Ok(log) => self.keeps_log(call, log.as_slice()),
-            Err(kind) => Ok(Err(kind)),
-        }
-    }
-
-    /// Keeps a log. One of nothing is kept already where the file is still as it was made at the start.
-    fn keeps_log(&self, call: &StepCall, log: &[u8]) -> Result<Result<(), ErrorKind>, AllocError> {
         let name = log_file(self.alloc, self.work.as_str(), call.leg, call.step)?;
-        if log.is_empty() && is_empty_file(&self.runtime, name.as_str()) {
-            return Ok(Ok(()));
-        }
-        or_kind(write_file(&self.runtime, name.as_str(), log))
+        or_kind(keep_log(&self.runtime, name.as_str(), out, err))
     }
 
     /// The file of a call's outputs, if it can be read.

@@ -1,0 +1,69 @@
+-- What was copied so far of a reader into a writer.
+use Rattle.std.proofs.Common.{◌≡◌, ◌∙◌, ap, sym, refl, ℕ, ◌-◌, List, [], ◌∷◌, ◌++◌, length, slice_get, Option, Some, None, IfSome, append_assoc}
+use Rattle.std.proofs.Common.{append-nil, subst}
+use native.Mathlib.Numerals.{unary_clauses}
+use Rattle.std.specs.Io.KnownBytes.{Appends, Consumes, IsAtEnd}
+
+-- These bytes were read, and are those that were written; the last of them is the last of all so far.
+pub record Copied (before now written with : Option (List ℕ)) (last : Option ℕ) : Type 0 where
+  pub bytes : List ℕ
+  pub read : Consumes before now bytes
+  pub put : Appends written with bytes
+  pub ends : last ≡ slice_get bytes (length bytes - 1)
+
+last_of_two : (xs : List ℕ) (y : ℕ) (ys : List ℕ) → slice_get (xs ++ (y ∷ ys)) (length (xs ++ (y ∷ ys)) - 1) ≡ slice_get (y ∷ ys) (length (y ∷ ys) - 1)
+last_of_two [] y ys = refl
+last_of_two (x ∷ []) y ys = simp unary_clauses refl
+last_of_two (x ∷ (z ∷ zs)) y ys = simp unary_clauses (simp unary_clauses at (last_of_two (z ∷ zs) y ys))
+
+consumes_nothing : (a : Option (List ℕ)) → Consumes a a []
+consumes_nothing None = tt
+consumes_nothing (Some xs) = refl
+
+appends_nothing : (a : Option (List ℕ)) → Appends a a []
+appends_nothing None = tt
+appends_nothing (Some xs) = sym (append-nil xs)
+
+consumes_more : (a b c : Option (List ℕ)) (xs ys : List ℕ) → Consumes a b xs → Consumes b c ys → Consumes a c (xs ++ ys)
+consumes_more None b c xs ys p q = tt
+consumes_more (Some x) None c xs ys p q = absurd p
+consumes_more (Some x) (Some y) None xs ys p q = absurd q
+consumes_more (Some x) (Some y) (Some z) xs ys p q = p ∙ ap (λ l. xs ++ l) q ∙ sym (append_assoc xs ys z)
+
+appends_more : (a b c : Option (List ℕ)) (xs ys : List ℕ) → Appends a b xs → Appends b c ys → Appends a c (xs ++ ys)
+appends_more None b c xs ys p q = tt
+appends_more (Some x) None c xs ys p q = absurd p
+appends_more (Some x) (Some y) None xs ys p q = absurd q
+appends_more (Some x) (Some y) (Some z) xs ys p q = q ∙ ap (λ l. l ++ ys) p ∙ append_assoc x xs ys
+
+pub none_copied : (a w : Option (List ℕ)) → Copied a a w w None
+none_copied a w = record { bytes = []; read = consumes_nothing a; put = appends_nothing w; ends = refl }
+
+-- A piece more that is not empty was read, and written.
+pub piece_copied : (a b c w x y : Option (List ℕ)) (last next : Option ℕ) (piece : List ℕ)
+    → Copied a b w x last → Consumes b c piece → Appends x y piece → (piece ≡ [] → ⊥)
+    → next ≡ slice_get piece (length piece - 1) → Copied a c w y next
+piece_copied a b c w x y last next [] before read put some ends = absurd (some refl)
+piece_copied a b c w x y last next (p ∷ ps) before read put some ends =
+    record {
+      bytes = before.bytes ++ (p ∷ ps);
+      read = consumes_more a b c _ _ before.read read;
+      put = appends_more w x y _ _ before.put put;
+      ends = ends ∙ sym (last_of_two before.bytes p ps);
+    }
+
+at_the_end : (a b : Option (List ℕ)) (xs : List ℕ) → Consumes a b xs → IsAtEnd b → IfSome a (λ all. xs ≡ all)
+at_the_end None b xs p end = tt
+at_the_end (Some x) None xs p end = absurd p
+at_the_end (Some x) (Some y) xs p end = sym (p ∙ ap (λ l. xs ++ l) end ∙ append-nil xs)
+
+-- Nothing is left: all was written, and the last byte is the last of all.
+pub all_written : (a b w x : Option (List ℕ)) (last : Option ℕ) → Copied a b w x last → IsAtEnd b → IfSome a (Appends w x)
+all_written None b w x last c end = tt
+all_written (Some xs) b w x last c end = subst (Appends w x) (at_the_end (Some xs) b c.bytes c.read end) c.put
+
+pub all_ended : (a b w x : Option (List ℕ)) (last : Option ℕ) → Copied a b w x last → IsAtEnd b
+    → IfSome a (λ bytes. last ≡ slice_get bytes (length bytes - 1))
+all_ended None b w x last c end = tt
+all_ended (Some xs) b w x last c end =
+    subst (λ bytes. last ≡ slice_get bytes (length bytes - 1)) (at_the_end (Some xs) b c.bytes c.read end) c.ends
