@@ -5,4 +5,5 @@ mod Going
 mod Grouping
 mod Members
 mod Noting
+pub mod Obstacles
 pub mod Trees

@@ -1,9 +1,17 @@
 //! What holds of a tree of facts, beside its lines.
 
+ghost use Rattle.why_causes.specs.Obstacles.{ObstaclesAreNamed};
 ghost use Rattle.why_causes.specs.Once.{NothingIsAskedTwice};
 
 /// In a tree each run, job and leg, and that a run was told to stop, is answered once at most.
 #[tactic(auto, using(crate::proofs::AskedOnce::nothing_is_asked_twice))]
 pub fn nothing_is_asked_twice()
     ensures { NothingIsAskedTwice }
+{}
+
+/// Below a job, a run or a leg that the table refuses, since needs or jobs have not ended or no slot is free, stand those that
+/// are in its way, and such are named there only then; below a job without success stands a leg that brought it there.
+#[tactic(auto, using(crate::proofs::Obstacles::obstacles_are_named))]
+pub fn obstacles_are_named()
+    ensures { ObstaclesAreNamed }
 {}

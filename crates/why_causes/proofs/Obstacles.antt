@@ -1,0 +1,352 @@
+-- Where others keep a job, a run or a leg from going on, or bring a job to its result, they are named.
+use Rattle.std.proofs.Common.{◌≡◌, ◌∙◌, ap, sym, refl, subst, ℕ, zero, suc, ◌+◌, ◌-◌, arith, Bool, true, false, List, [], ◌∷◌, ◌++◌, Option, Some, None, slice_get, map, true≢false}
+use Rattle.std.specs.Prelude.{◌≢◌, Result, Ok, Err, not, ◌&&◌, ◌||◌, if◌then◌else◌}
+use Rattle.std.specs.List.{list_all, list_any}
+use Rattle.board_decisions.specs.Contexts.{first_number}
+use Rattle.board_decisions.specs.Decisions.{is_stopping, job_condition, leg_entrance}
+use Rattle.board_decisions.specs.Derived.{has_failed, holds_at, is_fresh, is_full, is_going, is_open, job_has_ended, job_status, jobs_have_ended, legs_result, needs_have_ended, run_result, was_cancelled}
+use Rattle.board_decisions.specs.declared.entrance.Entrance.{Entrance}
+use Rattle.board_decisions.specs.declared.place.JobPlace.{JobPlace}
+use Rattle.why_facts.specs.declared.fact.MemberFact.{MemberFact}
+use Rattle.why_facts.specs.declared.fact.MemberFact.TheVariants as member_fact
+use Rattle.why_facts.specs.declared.notes.MemberNote.{MemberNote}
+use Rattle.why_facts.specs.declared.notes.JobNotes.{JobNotes}
+use Rattle.why_causes.specs.Agrees.{LegAgrees, LegNow, LegStill, RunAgrees, RunNow}
+use Rattle.why_causes.specs.Causes.{asked, causes, first_leg, fresh_asked, going_asked, job_asked, job_sought, job_state_asked, jobs_asked, leg_asked, leg_last, leg_noted_asked, leg_sought, needs_asked, run_asked, run_fact_asked, run_last, run_noted_asked, slots_asked, stopping_asked}
+use Rattle.why_causes.specs.Obstacles.{LegsOfResultsAreNamed, ObstaclesAreNamed, OpenJobsAreNamed, OpenNeedsAreNamed, TakenSlotsAreNamed}
+use Rattle.why_causes.specs.Stands.{RunIs}
+use Rattle.why_causes.specs.declared.question.Question.{Question}
+use Rattle.why_causes.specs.declared.question.Question.TheVariants as question
+use Rattle.why_causes.specs.declared.sought.Sought.TheVariants as sought
+use Rattle.flow_model.specs.Numbers.{board_legs}
+use Rattle.flow_model.specs.declared.board.Board.{Board}
+use Rattle.flow_model.specs.declared.board.Job.{Job}
+use Rattle.flow_model.specs.declared.board.JobState.{JobState}
+use Rattle.flow_model.specs.declared.board.Leg.{Leg}
+use Rattle.flow_model.specs.declared.board.LegState.{LegState}
+use Rattle.flow_model.specs.declared.board.LegState.TheVariants as leg_state
+use Rattle.flow_model.specs.declared.board.Run.{Run}
+use Rattle.flow_model.specs.declared.board.RunState.{RunState}
+use Rattle.flow_model.specs.declared.board.RunState.TheVariants as run_state
+use Rattle.flow_model.specs.declared.event.Event.TheVariants as event
+use Rattle.flow_model.specs.declared.event.Outcome.{Outcome}
+use Rattle.flow_model.specs.declared.event.Outcome.TheVariants as outcome
+use Rattle.flow_model.specs.declared.reply.Reply.{Reply}
+use Rattle.flow_model.specs.declared.reply.ValueFault.{ValueFault}
+use Rattle.status_table.specs.Groups.{closed, leaves, run_standing}
+use Rattle.status_table.specs.Row.{Row, ask_found, close_found, close_run, event_row, first_of, judge_found, judge_job, judged_state, judgement_by, leg_enters, run_closes}
+use Rattle.status_table.specs.declared.fault.EventFault.{EventFault}
+use Rattle.status_table.specs.declared.fault.EventFault.TheVariants as fault
+use Rattle.board_decisions.proofs.Lists.{no_some, same_some}
+use Rattle.why_causes.proofs.Noting.{notes_are_made}
+use Rattle.status_table.proofs.Counts.{zip-left}
+use Rattle.status_table.proofs.Found.{leg_item, leg_stands, run_stands}
+use Rattle.status_table.proofs.Sound.{is_numbered_in}
+
+-- ---- lists of questions
+
+abbrev is_some_asked : List Question → Type 0
+is_some_asked [] = ⊥
+is_some_asked (q ∷ qs) = Unit {0}
+
+no_cons : (q : Question) (qs : List Question) → q ∷ qs ≢ []
+no_cons q qs none = subst is_some_asked none tt
+
+some-one : (b any : Bool) (q : Question) (qs : List Question) → (any ≡ true → qs ≢ []) → (b || any) ≡ true → (if b then q ∷ qs else qs) ≢ []
+some-one true any q qs more is none = no_cons q qs none
+some-one false any q qs more is none = more is none
+
+any-one : (b any : Bool) (q : Question) (qs : List Question) → (qs ≢ [] → any ≡ true) → (if b then q ∷ qs else qs) ≢ [] → (b || any) ≡ true
+any-one true any q qs more some = refl
+any-one false any q qs more some = more some
+
+some_asked : {A : Type 0} (ask : ℕ → Question) (n : ℕ) (test : A → Bool) (xs : List A) → list_any test xs ≡ true → asked ask n test xs ≢ []
+some_asked ask n test [] any none = true≢false (sym any)
+some_asked ask n test (x ∷ xs) any none =
+    some-one (test x) (list_any test xs) (ask n) (asked ask (suc n) test xs) (some_asked ask (suc n) test xs) any none
+
+any_asked : {A : Type 0} (ask : ℕ → Question) (n : ℕ) (test : A → Bool) (xs : List A) → asked ask n test xs ≢ [] → list_any test xs ≡ true
+any_asked ask n test [] some = absurd (some refl)
+any_asked ask n test (x ∷ xs) some =
+    any-one (test x) (list_any test xs) (ask n) (asked ask (suc n) test xs) (any_asked ask (suc n) test xs) some
+
+same_any : {A : Type 0} (s t : A → Bool) (xs : List A) → ((x : A) → s x ≡ t x) → list_any s xs ≡ list_any t xs
+same_any s t [] same = refl
+same_any s t (x ∷ xs) same = (λ i. same x i || list_any s xs) ∙ ap (λ b. t x || b) (same_any s t xs same)
+
+-- Each item that passes is asked about.
+item_asked : {A : Type 0} (ask : ℕ → Question) (n : ℕ) (test : A → Bool) (xs : List A) (k : ℕ) (x : A) → slice_get xs k ≡ Some x → test x ≡ true
+    → (i : ℕ) × (slice_get (asked ask n test xs) i ≡ Some (ask (n + k)))
+item_asked ask n test [] k x at is = absurd (no_some x at)
+item_asked {A} ask n test (y ∷ xs) zero x at is =
+    (0, here (test y) (ap test (same_some y x at) ∙ is))
+  where
+    here : (b : Bool) → b ≡ true → slice_get (if b then ask n ∷ asked ask (suc n) test xs else asked ask (suc n) test xs) 0 ≡ Some (ask (n + 0))
+    here true e = ap (λ m. Some (ask m)) (omega arith)
+    here false e = absurd (true≢false (sym e))
+item_asked {A} ask n test (y ∷ xs) (suc k) x at is =
+    let more = item_asked ask (suc n) test xs k x at is in
+    there (test y) more.0 (more.1 ∙ ap (λ m. Some (ask m)) (omega arith))
+  where
+    there : (b : Bool) (i : ℕ) → slice_get (asked ask (suc n) test xs) i ≡ Some (ask (n + suc k))
+        → (m : ℕ) × (slice_get (if b then ask n ∷ asked ask (suc n) test xs else asked ask (suc n) test xs) m ≡ Some (ask (n + suc k)))
+    there true i e = (suc i, e)
+    there false i e = (i, e)
+
+-- ---- rows that refuse
+
+abbrev accepted : Row → Type 0
+accepted (Ok x) = Unit {0}
+accepted (Err f) = ⊥
+
+refused : (x : Board × Reply) (f : EventFault) (c : Bool) → (if c then Ok x else Err f) ≡ Err f → c ≡ false
+refused x f true h = absurd (subst accepted h tt)
+refused x f false h = refl
+
+refuses : (x : Board × Reply) (f : EventFault) (c : Bool) → c ≡ false → (if c then Ok x else Err f) ≡ Err f
+refuses x f true h = absurd (true≢false h)
+refuses x f false h = refl
+
+going_is : (s : RunState) → is_going s ≡ true → s ≡ run_state.Going
+going_is run_state.New h = absurd (true≢false (sym h))
+going_is run_state.Waiting h = absurd (true≢false (sym h))
+going_is run_state.Going h = refl
+going_is (run_state.Closed result) h = absurd (true≢false (sym h))
+
+-- ---- a job that waits for what it needs
+
+need-left : (b all : Bool) (q : Question) (qs : List Question) → (all ≡ false → qs ≢ []) → (b && all) ≡ false → (if b then qs else q ∷ qs) ≢ []
+need-left true all q qs more is none = more is none
+need-left false all q qs more is none = no_cons q qs none
+
+left-need : (b all : Bool) (q : Question) (qs : List Question) → (qs ≢ [] → all ≡ false) → (if b then qs else q ∷ qs) ≢ [] → (b && all) ≡ false
+left-need true all q qs more some = more some
+left-need false all q qs more some = refl
+
+abbrev ended_at : ℕ → Run → ℕ → Bool
+ended_at first run need = holds_at (map (job_has_ended run) run.jobs) (need - first)
+
+needs_left : (first : ℕ) (run : Run) (needs : List ℕ) → list_all (ended_at first run) needs ≡ false → needs_asked first run needs ≢ []
+needs_left first run [] is none = true≢false is
+needs_left first run (n ∷ ns) is none =
+    need-left (ended_at first run n) (list_all (ended_at first run) ns) (question.Job n) (needs_asked first run ns) (needs_left first run ns) is none
+
+left_needs : (first : ℕ) (run : Run) (needs : List ℕ) → needs_asked first run needs ≢ [] → list_all (ended_at first run) needs ≡ false
+left_needs first run [] some = absurd (some refl)
+left_needs first run (n ∷ ns) some =
+    left-need (ended_at first run n) (list_all (ended_at first run) ns) (question.Job n) (needs_asked first run ns) (left_needs first run ns) some
+
+judge-refused : (b : Board) (place : JobPlace) (s : JobState) (c : Bool) → judge_job b place (if c then Ok s else Err fault.NeedsOpen) ≡ Err fault.NeedsOpen → c ≡ false
+judge-refused b place s true h = absurd (subst accepted h tt)
+judge-refused b place s false h = refl
+
+judge-refuses : (b : Board) (place : JobPlace) (s : JobState) (c : Bool) → c ≡ false → judge_job b place (if c then Ok s else Err fault.NeedsOpen) ≡ Err fault.NeedsOpen
+judge-refuses b place s true h = absurd (true≢false h)
+judge-refuses b place s false h = refl
+
+open_needs : OpenNeedsAreNamed
+open_needs a j at worker play is going unjudged =
+    let state = judged_state at.run.stop (job_condition at (job_status first at)) in
+    record {
+      all = λ h. subst (λ qs. qs ≢ []) (sym below) (needs_left first at.run at.plan.needs (judge-refused a.board at.place state ended (sym row ∙ h)));
+      alone = λ some. row ∙ judge-refuses a.board at.place state ended (left_needs first at.run at.plan.needs (subst (λ qs. qs ≢ []) below some));
+    }
+  where
+    first : ℕ
+    first = first_number at
+
+    ended : Bool
+    ended = needs_have_ended first at.run at.plan
+
+    ready : ℕ → Row
+    ready f =
+        judge_job a.board at.place (if needs_have_ended f at.run at.plan then Ok (judged_state at.run.stop (job_condition at (job_status f at))) else Err fault.NeedsOpen)
+
+    placed : first_of j at ≡ first
+    placed = ap (λ n. n - at.place.job) (sym (is_numbered_in a.plan a.board j at play is).number)
+
+    row : event_row a.plan a.board worker (event.Judge j) ≡ ready first
+    row =
+        ap (judge_found a.board j) is
+        ∙ ap (λ s. judge_job a.board at.place (judgement_by j at s at.job.state)) (going_is at.run.state going)
+        ∙ ap (λ s. judge_job a.board at.place (judgement_by j at run_state.Going s)) unjudged
+        ∙ ap ready placed
+
+    below : causes a (question.Job j) ≡ needs_asked first at.run at.plan.needs
+    below =
+        ap (job_asked a j) is
+        ∙ ap (job_state_asked at (slice_get a.notes.jobs j)) unjudged
+        ∙ ap (λ g. if g then needs_asked first at.run at.plan.needs else question.Run at.place.run ∷ []) going
+
+-- ---- a run that waits for its jobs
+
+not-both : (b c d : Bool) → c ≡ not d → (not b || c) ≡ not (b && d)
+not-both true c d e = e
+not-both false c d e = refl
+
+not-true : (b : Bool) → not b ≡ true → b ≡ false
+not-true true h = absurd (true≢false (sym h))
+not-true false h = refl
+
+any_unended : (run : Run) (jobs : List Job) → list_any (job_sought sought.Unended run) jobs ≡ not (list_all (job_has_ended run) jobs)
+any_unended run [] = refl
+any_unended run (x ∷ xs) =
+    not-both (job_has_ended run x) (list_any (job_sought sought.Unended run) xs) (list_all (job_has_ended run) xs) (any_unended run xs)
+
+open_jobs : OpenJobsAreNamed
+open_jobs p es a r at worker account is going =
+    record {
+      jobs = jobs_asked at sought.Unended;
+      below = below;
+      named = record {
+        all = λ h. some_asked question.Job _ _ at.run.jobs (any_unended at.run at.run.jobs ∙ ap not (refused ending fault.NeedsOpen (jobs_have_ended at.run) (sym row ∙ h)));
+        alone = λ some. row ∙ refuses ending fault.NeedsOpen (jobs_have_ended at.run)
+            (not-true (jobs_have_ended at.run) (sym (any_unended at.run at.run.jobs) ∙ any_asked question.Job _ _ at.run.jobs some));
+      };
+    }
+  where
+    ending : Board × Reply
+    ending = leaves a.board (run_standing at.run) (closed a.board r (run_result at.run))
+
+    row : event_row a.plan a.board worker (event.Close r) ≡ (if jobs_have_ended at.run then run_closes a.board r at.run (run_result at.run) else Err fault.NeedsOpen)
+    row = ap (close_found a.board r) is ∙ ap (close_run a.board r at.run) (going_is at.run.state going)
+
+    by_fact : (fact : MemberFact) → RunIs fact at.run.state → run_fact_asked r at fact ≡ going_asked r at
+    by_fact member_fact.Admitted so = refl
+    by_fact (member_fact.Waits holder) so = absurd (true≢false (sym going ∙ ap is_going so))
+    by_fact (member_fact.Follows before) so = refl
+    by_fact (member_fact.Displaced by) so = absurd (true≢false (sym going ∙ ap is_going so))
+    by_fact member_fact.OwnRun so = absurd so
+    by_fact (member_fact.NoGroup f) so = absurd (true≢false (sym going ∙ ap is_going so))
+    by_fact (member_fact.Closed result) so = absurd (true≢false (sym going ∙ ap is_going so))
+    by_fact member_fact.Taken so = absurd so
+    by_fact (member_fact.Finished result) so = absurd so
+    by_fact (member_fact.Stopped cause) so = absurd so
+
+    by_last : (last : Option MemberNote) → RunNow last at.run.state → run_noted_asked r at last ≡ going_asked r at
+    by_last None so = absurd (true≢false (sym going ∙ ap is_going so))
+    by_last (Some note) so = by_fact note.fact so
+
+    below : causes a (question.Run r) ≡ going_asked r at
+    below =
+        let noted = zip-left RunAgrees a.notes.runs a.board.runs r at.run (run_stands a.plan a.board r at is).run (notes_are_made p es a account).agrees.runs in
+        ap (run_asked a r) is ∙ ap (λ n. run_noted_asked r at (run_last n)) noted.1 ∙ by_last noted.0.last noted.2.state
+
+-- ---- a leg that waits for a slot
+
+and-first : (a b c : Bool) → (a && b && c) ≡ true → (a && b) ≡ true
+and-first true true c h = refl
+and-first true false c h = absurd (true≢false (sym h))
+and-first false b c h = absurd (true≢false (sym h))
+
+and-third : (a b c : Bool) → (a && b && c) ≡ true → c ≡ true
+and-third true true c h = h
+and-third true false c h = absurd (true≢false (sym h))
+and-third false b c h = absurd (true≢false (sym h))
+
+abbrev slots_full : Row → Type 0
+slots_full (Ok x) = ⊥
+slots_full (Err f) = by f
+  where
+    by : EventFault → Type 0
+    by fault.SlotsFull = Unit {0}
+    by _ = ⊥
+
+some-full : (f : Bool) (qs : List Question) → (if f then qs else []) ≢ [] → f ≡ true
+some-full true qs some = refl
+some-full false qs some = absurd (some refl)
+
+taken_slots : TakenSlotsAreNamed
+taken_slots p es a l at worker account is may =
+    record {
+      legs = slots_asked l at;
+      below = below;
+      all = λ h k leg there under. subst (λ qs. (n : ℕ) × (slice_get qs n ≡ Some (question.Leg (l - at.place.leg + k))))
+          (sym (ap (λ f. if f then taken else []) (full (sym h ∙ row))))
+          (item_asked question.Leg (l - at.place.leg) (leg_sought sought.UnderWay) at.job.legs k leg there under);
+      alone = λ some. row ∙ ap asking (some-full (is_full at.job_plan at.job) taken some);
+    }
+  where
+    taken : List Question
+    taken = asked question.Leg (l - at.place.leg) (leg_sought sought.UnderWay) at.job.legs
+
+    asking : Bool → Row
+    asking f = if f then Err fault.SlotsFull else (if is_stopping at then Err fault.Stopping else leg_enters a.board l at (leg_entrance at))
+
+    row : event_row a.plan a.board worker (event.Ask l) ≡ asking (is_full at.job_plan at.job)
+    row = ap (ask_found a.board l) is ∙ ap (λ m. if not m then Err fault.WrongState else asking (is_full at.job_plan at.job)) may
+
+    by_all : (f s : Bool) (entrance : Result (Option Entrance) ValueFault)
+        → slots_full (if f then Err fault.SlotsFull else (if s then Err fault.Stopping else leg_enters a.board l at entrance)) → f ≡ true
+    by_all true s entrance h = refl
+    by_all false true entrance h = absurd h
+    by_all false false (Ok group) h = absurd h
+    by_all false false (Err f) h = absurd h
+
+    full : Err fault.SlotsFull ≡ asking (is_full at.job_plan at.job) → is_full at.job_plan at.job ≡ true
+    full h = by_all (is_full at.job_plan at.job) (is_stopping at) (leg_entrance at) (subst slots_full h tt)
+
+    fresh : is_fresh at.leg.state ≡ true
+    fresh = and-third (is_going at.run.state) (is_open at.job.state) (is_fresh at.leg.state) may
+
+    other : (s : LegState) → is_fresh s ≡ false → at.leg.state ≡ s → ⊥
+    other s stale so = true≢false (sym fresh ∙ ap is_fresh so ∙ stale)
+
+    by_fact : (fact : MemberFact) → LegStill fact at.leg.state → ⊥
+    by_fact member_fact.Admitted so = other leg_state.Admitted refl so
+    by_fact (member_fact.Waits holder) so = other leg_state.Waiting refl so
+    by_fact (member_fact.Follows before) so = other leg_state.Admitted refl so
+    by_fact (member_fact.Displaced by) so = other (leg_state.Ended outcome.Cancelled false) refl so
+    by_fact member_fact.OwnRun so = other (leg_state.Ended outcome.Cancelled false) refl so
+    by_fact (member_fact.NoGroup f) so = other (leg_state.Ended outcome.Failure false) refl so
+    by_fact (member_fact.Closed result) so = so
+    by_fact member_fact.Taken so = other (leg_state.Running so.0 so.1.0) refl so.1.1
+    by_fact (member_fact.Finished result) so = other (leg_state.Ended result so.0) refl so.1
+    by_fact (member_fact.Stopped cause) so = other (leg_state.Ended outcome.Cancelled false) refl so
+
+    by_last : (last : Option MemberNote) → LegNow last at.leg.state → leg_noted_asked l at last ≡ fresh_asked l at
+    by_last None so = refl
+    by_last (Some note) so = absurd (by_fact note.fact so)
+
+    below : causes a (question.Leg l) ≡ stopping_asked l at ++ slots_asked l at
+    below =
+        let there = leg_item a.plan a.board l at (leg_stands a.plan a.board l at is) in
+        let noted = zip-left LegAgrees a.notes.legs (board_legs a.board) l at.leg there (notes_are_made p es a account).agrees.legs in
+        ap (leg_asked a l) is ∙ ap (λ n. leg_noted_asked l at (leg_last n)) noted.1 ∙ by_last noted.0.last noted.2.state
+        ∙ ap (λ g. if not g then question.Job at.job_plan.number ∷ [] else stopping_asked l at ++ slots_asked l at)
+        (and-first (is_going at.run.state) (is_open at.job.state) (is_fresh at.leg.state) may)
+
+-- ---- a job by its legs
+
+-- legs that did not succeed are asked about by the result that they come to
+unsuccessful_legs : (n : ℕ) (legs : List Leg) → legs_result legs ≢ outcome.Success
+    → asked question.Leg n (leg_sought (sought.Counting (legs_result legs))) legs ≢ []
+unsuccessful_legs n legs = by (list_any (λ leg. has_failed leg.state) legs) (list_any (λ leg. was_cancelled leg.state) legs) refl refl
+  where
+    result : Bool → Bool → Outcome
+    result failed cancelled = if failed then outcome.Failure else (if cancelled then outcome.Cancelled else outcome.Success)
+
+    by : (failed cancelled : Bool) → list_any (λ leg. has_failed leg.state) legs ≡ failed → list_any (λ leg. was_cancelled leg.state) legs ≡ cancelled
+        → result failed cancelled ≢ outcome.Success → asked question.Leg n (leg_sought (sought.Counting (result failed cancelled))) legs ≢ []
+    by true cancelled f c some =
+        some_asked question.Leg n (leg_sought (sought.Counting outcome.Failure)) legs
+        (same_any (leg_sought (sought.Counting outcome.Failure)) (λ leg. has_failed leg.state) legs (λ x. refl) ∙ f)
+    by false true f c some =
+        some_asked question.Leg n (leg_sought (sought.Counting outcome.Cancelled)) legs
+        (same_any (leg_sought (sought.Counting outcome.Cancelled)) (λ leg. was_cancelled leg.state) legs (λ x. refl) ∙ c)
+    by false false f c some = absurd (some refl)
+
+result_legs : LegsOfResultsAreNamed
+result_legs a j at is opened ended some =
+    subst (λ qs. qs ≢ []) (sym below) (unsuccessful_legs (first_leg notes) at.job.legs some)
+  where
+    notes : Option JobNotes
+    notes = slice_get a.notes.jobs j
+
+    below : causes a (question.Job j) ≡ asked question.Leg (first_leg notes) (leg_sought (sought.Counting (legs_result at.job.legs))) at.job.legs
+    below =
+        ap (job_asked a j) is ∙ ap (job_state_asked at notes) opened
+        ∙ ap (λ e. asked question.Leg (first_leg notes) (leg_sought (if e then sought.Counting (legs_result at.job.legs) else sought.Unended)) at.job.legs) ended
+
+pub obstacles_are_named : ObstaclesAreNamed
+obstacles_are_named = record { needs = open_needs; jobs = open_jobs; slots = taken_slots; legs = result_legs }
