@@ -1,5 +1,5 @@
 -- What the index of groups tells of a board.
-use Rattle.std.proofs.Common.{◌≡◌, ℕ, true, List, [], ◌∷◌, Option, Some, None, Result, Ok, Err, option_map, if◌then◌else◌, ap, sym, refl, ◌∙◌}
+use Rattle.std.proofs.Common.{◌≡◌, ◌≢◌, ◌⊎◌, ℕ, inl, inr, true, false, List, [], ◌∷◌, Option, Some, None, Result, Ok, Err, option_map, option_and_then, if◌then◌else◌, ap, refl, ◌∙◌}
 use Rattle.expr_reader.specs.Fold.{fold}
 use Rattle.flow_model.specs.Mapping.{value_at, with_pair}
 use Rattle.flow_model.specs.declared.board.Board.{Board}
@@ -11,8 +11,9 @@ use Rattle.group_admission.specs.declared.held.Held.{Held}
 use Rattle.status_table.specs.Grouped.{KeptAsShown}
 use Rattle.status_table.specs.Groups.{holder, is_own, waiter}
 use Rattle.flat_board.specs.Index.{Goes}
+use Rattle.flat_board.specs.Undo.{IsAt, NameChanged}
+use Rattle.flow_model.proofs.Lookups.{found_other, found_same}
 use Rattle.board_counters.specs.Names.{IsName}
-use Rattle.board_decisions.proofs.Lists.{same_some, no_some}
 
 -- an event that asks nothing of the groups leaves them
 pub goes_same : {T E : Type 0} (r : Result T E) (groups : Known) → Goes r groups (content groups) groups
@@ -34,14 +35,42 @@ own_same (Some r) (member.Run s) = refl
 own_same (Some r) (member.Leg l) = refl
 
 -- a leg whose own run holds the name gets no place
-pub own_stays : (groups : Content) (name : List ℕ) (who h : Member) (own : Option ℕ) → Some h ≡ holder_of name groups → is_own own h ≡ true → after_enter name who own groups ≡ groups
-own_stays groups [] who h own held mine = refl
-own_stays groups (c ∷ cs) who h own held mine = by (value_at (c ∷ cs) groups) refl
+pub own_stays : (groups : Content) (name : List ℕ) (who : Member) (held : Held) (own : Option ℕ) → value_at name groups ≡ Some held → is_own own held.holder ≡ true → after_enter name who own groups ≡ groups
+own_stays groups [] who held own at mine = refl
+own_stays groups (c ∷ cs) who held own at mine =
+    ap (λ o. after_at (c ∷ cs) who own o groups) at
+    ∙ ap (λ d. if d then groups else with_pair (c ∷ cs) (record { holder = held.holder; waiter = Some who }) groups) (own_same own held.holder ∙ mine)
+
+-- ---- what leads back from a member that entered
+
+entered_back : (b : Board) (name : List ℕ) (m : Member) (held : Held) (was : Option Held) (gs now : Content) → now ≡ with_pair name held gs → value_at name gs ≡ was
+    → (held.holder ≡ m) ⊎ (held.waiter ≡ Some m) → NameChanged (record { who = m; held = was }) b gs now
+entered_back b name m held was gs now is before at = record {
+  name = name;
+  of_who = inr (by at);
+  held = before;
+  others = λ q differs. ap (value_at q) is ∙ found_other q name held gs differs;
+}
   where
-    by : (o : Option Held) → value_at (c ∷ cs) groups ≡ o → after_at (c ∷ cs) who own (value_at (c ∷ cs) groups) groups ≡ groups
-    by None is = absurd (no_some h (sym (held ∙ ap (option_map (λ x. x.holder)) is)))
-    by (Some x) is =
-        let same : h ≡ x.holder = same_some h x.holder (held ∙ ap (option_map (λ y. y.holder)) is) in
-        let own_is : own_run own x.holder ≡ true = ap (own_run own) (sym same) ∙ own_same own h ∙ mine in
-        ap (λ o. after_at (c ∷ cs) who own o groups) is
-        ∙ ap (λ d. if d then groups else with_pair (c ∷ cs) (record { holder = x.holder; waiter = Some who }) groups) own_is
+    found : value_at name now ≡ Some held
+    found = ap (value_at name) is ∙ found_same name held gs
+
+    by : (held.holder ≡ m) ⊎ (held.waiter ≡ Some m) → IsAt m name now
+    by (inl e) = inl (ap (option_map (λ (x : Held). x.holder)) found ∙ ap (λ (x : Member). Some x) e)
+    by (inr e) = inr (ap (option_and_then (λ (x : Held). x.waiter)) found ∙ e)
+
+-- one that nobody held
+pub free_back : (b : Board) (name : List ℕ) (m : Member) (own : Option ℕ) (gs now : Content) → IsName name → value_at name gs ≡ None → now ≡ after_enter name m own gs
+    → NameChanged (record { who = m; held = None }) b gs now
+free_back b [] m own gs now named free is = absurd (named.some refl)
+free_back b (c ∷ cs) m own gs now named free is =
+    entered_back b (c ∷ cs) m (record { holder = m; waiter = None }) None gs now (is ∙ ap (λ o. after_at (c ∷ cs) m own o gs) free) free (inl refl)
+
+-- one that another holds
+pub queued_back : (b : Board) (name : List ℕ) (m : Member) (own : Option ℕ) (held : Held) (gs now : Content) → IsName name → value_at name gs ≡ Some held → is_own own held.holder ≡ false
+    → now ≡ after_enter name m own gs → NameChanged (record { who = m; held = Some held }) b gs now
+queued_back b [] m own held gs now named at other is = absurd (named.some refl)
+queued_back b (c ∷ cs) m own held gs now named at other is =
+    let held' : Held = record { holder = held.holder; waiter = Some m } in
+    entered_back b (c ∷ cs) m held' (Some held) gs now
+    (is ∙ ap (λ o. after_at (c ∷ cs) m own o gs) at ∙ ap (λ d. if d then gs else with_pair (c ∷ cs) held' gs) (own_same own held.holder ∙ other)) at (inr refl)

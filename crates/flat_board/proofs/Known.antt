@@ -1,18 +1,11 @@
 -- The names that stand on a board are known to the groups after an event, and before it.
-use Rattle.std.proofs.Common.{◌≡◌, ◌≢◌, ℕ, ◌&&◌, Bool, true, false, List, [], ◌∷◌, Option, Some, None, Result, Ok, slice_get, if◌then◌else◌, refl, ap, subst, sym, ◌∙◌}
+use Rattle.std.proofs.Common.{◌≡◌, ◌≢◌, ℕ, Bool, true, false, List, [], ◌∷◌, Option, Some, None, Result, Ok, if◌then◌else◌, refl, ap, subst, sym, ◌∙◌}
 use Rattle.std.proofs.lemmas.Bool.{true≢false}
-use Rattle.board_decisions.specs.Decisions.{leg_entrance, run_entrance}
-use Rattle.board_decisions.specs.Derived.{is_fresh, is_going, is_open}
-use Rattle.board_decisions.specs.Numbered.{leg_there}
-use Rattle.board_decisions.specs.Place.{RunAt, LegAt, leg_place, run_at, leg_at}
+use Rattle.board_decisions.specs.Place.{RunAt, LegAt}
 use Rattle.board_decisions.specs.declared.entrance.Entrance.{Entrance}
-use Rattle.board_decisions.specs.declared.place.LegPlace.{LegPlace}
 use Rattle.flow_model.specs.Mapping.{value_at, with_pair}
 use Rattle.flow_model.proofs.Lookups.{found_same}
 use Rattle.flow_model.specs.declared.board.Board.{Board}
-use Rattle.flow_model.specs.declared.board.Run.{Run}
-use Rattle.flow_model.specs.declared.board.RunState.TheVariants as run_state
-use Rattle.flow_model.specs.declared.board.Leg.{Leg}
 use Rattle.flow_model.specs.declared.event.Event.{Event}
 use Rattle.flow_model.specs.declared.event.Event.TheVariants as event
 use Rattle.flow_model.specs.declared.event.Member.{Member}
@@ -26,89 +19,15 @@ use Rattle.group_admission.specs.declared.held.Held.{Held}
 use Rattle.group_admission.proofs.Back.{held_is_known, put_keeps}
 use Rattle.expr_reader.specs.Fold.{fold}
 use Rattle.flat_board.specs.Index.{AsksNamed, Keeps}
-use Rattle.flat_board.specs.Names.{IsNamedIn, NamesKnown, Seen, SeenNamed, group_at, group_of, is_new, leg_names, run_names, seen_at}
+use Rattle.flat_board.specs.Names.{IsNamedIn, NamesKnown, Seen, SeenNamed, group_at, group_of, seen_at}
 use Rattle.flat_board.specs.Undo.{groups_put_back, name_put_back}
 use Rattle.flat_board.specs.declared.undo.CellBack.{CellBack}
-use Rattle.flat_board.specs.declared.undo.Stood.{Stood}
 use Rattle.flat_board.proofs.Named.{leg_asks, run_asks}
-use Rattle.flat_board.proofs.Names.{EnterComes, EventComes, ThenSeen, event_step}
+use Rattle.flat_board.proofs.Names.{Comes, Enters, ThenSeen, event_step, flag_of}
 use Rattle.board_counters.specs.Names.{IsName}
-use Rattle.board_counters.proofs.Tallies.{there}
 use Rattle.status_table.specs.Admissions.{asked, opened}
 use Rattle.status_table.specs.Grouped.{after_event, leg_asked, run_opened}
-use Rattle.status_table.specs.Row.{Row, event_row, may_ask}
-use Rattle.status_table.proofs.Found.{leg_stands, run_stands}
-use Rattle.board_decisions.proofs.Lists.{same_some}
-
--- ---- who is new
-
--- whether it is
-abbrev pub flag_of : Seen → Bool
-flag_of None = false
-flag_of (Some s) = s.0
-
--- the name of the group that is entered
-abbrev pub group_name : Option Entrance → Option (List ℕ)
-group_name None = None
-group_name (Some group) = Some group.name
-
-fresh_of : (a b c : Bool) → (a && b && c) ≡ true → c ≡ true
-fresh_of true true c h = h
-fresh_of true false c h = absurd (true≢false (sym h))
-fresh_of false b c h = absurd (true≢false (sym h))
-
--- whom an event lets enter a group is new
-module _ (P : Seen → Type 0) (p : Plan) (b : Board) where
-  abbrev pub Enters : Event → Option Entrance → Type 0
-  Enters (event.Open r) group = (at : RunAt) × (run_at p b r ≡ Some at) × (run_entrance at ≡ Ok group)
-  Enters (event.Judge j) group = ⊥
-  Enters (event.Ask l) group = (at : LegAt) × (leg_at p b l ≡ Some at) × (leg_entrance at ≡ Ok group)
-  Enters (event.Drop l) group = ⊥
-  Enters (event.Take l) group = ⊥
-  Enters (event.Begin l) group = ⊥
-  Enters (event.End l a) group = ⊥
-  Enters (event.Finish l) group = ⊥
-  Enters (event.Close r) group = ⊥
-  Enters (event.Cancel r) group = ⊥
-
-  run_comes : (r : ℕ) (at : RunAt) → run_at p b r ≡ Some at → at.run.state ≡ run_state.New → (group : Option Entrance)
-      → ((s : Seen) → flag_of s ≡ true → P s → P (Some (false, group_name group))) → EnterComes P b (member.Run r) group
-  run_comes r at is new group comes = by group comes
-    where
-      same : (run : Run) → slice_get b.runs r ≡ Some run → flag_of (run_names run) ≡ true
-      same run found = ap (λ (x : Run). is_new x.state) (sym (same_some at.run run (sym (run_stands p b r at is).run ∙ found))) ∙ ap is_new new
-
-      by : (group : Option Entrance) → ((s : Seen) → flag_of s ≡ true → P s → P (Some (false, group_name group))) → EnterComes P b (member.Run r) group
-      by None comes = λ run found. comes (run_names run) (same run found)
-      by (Some g) comes = λ run found. comes (run_names run) (same run found)
-
-  leg_comes : (l : ℕ) (at : LegAt) → leg_at p b l ≡ Some at → may_ask at ≡ true → (group : Option Entrance)
-      → ((s : Seen) → flag_of s ≡ true → P s → P (Some (false, group_name group))) → EnterComes P b (member.Leg l) group
-  leg_comes l at is may group comes = by group comes
-    where
-      same : (place : LegPlace) (leg : Leg) → leg_place b l ≡ Some place → leg_there b place ≡ Some leg → flag_of (leg_names leg) ≡ true
-      same place leg placed found =
-          let stands = leg_stands p b l at is in
-          let here : at.place ≡ place = same_some at.place place (sym stands.place ∙ placed) in
-          let mine : leg_there b at.place ≡ Some at.leg = there b at.place at.run at.job stands.in_board stands.job ∙ stands.leg in
-          let one : at.leg ≡ leg = same_some at.leg leg (sym mine ∙ ap (leg_there b) here ∙ found) in
-          ap (λ (x : Leg). is_fresh x.state) (sym one) ∙ fresh_of (is_going at.run.state) (is_open at.job.state) (is_fresh at.leg.state) may
-
-      by : (group : Option Entrance) → ((s : Seen) → flag_of s ≡ true → P s → P (Some (false, group_name group))) → EnterComes P b (member.Leg l) group
-      by None comes = λ place leg placed found. comes (leg_names leg) (same place leg placed found)
-      by (Some g) comes = λ place leg placed found. comes (leg_names leg) (same place leg placed found)
-
-  pub comes_new : (e : Event) → ((group : Option Entrance) → Enters e group → (s : Seen) → flag_of s ≡ true → P s → P (Some (false, group_name group))) → EventComes P p b e
-  comes_new (event.Open r) comes = λ at group is new value. run_comes r at is new group (comes group (at, is, value))
-  comes_new (event.Judge j) comes = tt
-  comes_new (event.Ask l) comes = λ at group is may value. leg_comes l at is may group (comes group (at, is, value))
-  comes_new (event.Drop l) comes = tt
-  comes_new (event.Take l) comes = tt
-  comes_new (event.Begin l) comes = tt
-  comes_new (event.End l a) comes = tt
-  comes_new (event.Finish l) comes = tt
-  comes_new (event.Close r) comes = tt
-  comes_new (event.Cancel r) comes = tt
+use Rattle.status_table.specs.Row.{Row, event_row}
 
 -- ---- after an event
 
@@ -144,39 +63,32 @@ older_named known true group h = subst (IsNamedIn known false) (sym h) tt
 older_named known false group h = h
 
 module _ (p : Plan) (b : Board) (worker : ℕ) (groups after : Known) (keeps : Keeps groups after) (names : NamesKnown groups b) where
-  named_comes : (e : Event) → content after ≡ after_event p b (content groups) e → EventComes (SeenNamed after) p b e
-  named_comes (event.Open r) is = comes_new (SeenNamed after) p b (event.Open r) (λ group enters s new h. by group enters)
-    where
-      by : (group : Option Entrance) → Enters (SeenNamed after) p b (event.Open r) group → SeenNamed after (Some (false, group_name group))
-      by None enters = tt
-      by (Some g) enters =
-          let named : IsName g.name = subst AsksNamed enters.2 (run_asks enters.0) in
-          let held : content after ≡ after_enter g.name (member.Run r) None (content groups) =
-          is ∙ ap (λ (o : Option RunAt). run_opened (content groups) r o) enters.1 ∙ ap (λ (x : Result (Option Entrance) ValueFault). opened (content groups) r x) enters.2 in
-          (named, entered_known g.name (member.Run r) None (content groups) after named.some held)
-  named_comes (event.Judge j) is = tt
-  named_comes (event.Ask l) is = comes_new (SeenNamed after) p b (event.Ask l) (λ group enters s new h. by group enters)
-    where
-      by : (group : Option Entrance) → Enters (SeenNamed after) p b (event.Ask l) group → SeenNamed after (Some (false, group_name group))
-      by None enters = tt
-      by (Some g) enters =
-          let at = enters.0 in
-          let named : IsName g.name = subst AsksNamed enters.2 (leg_asks at) in
-          let held : content after ≡ after_enter g.name (member.Leg l) (Some at.place.run) (content groups) =
-          is ∙ ap (λ (o : Option LegAt). leg_asked (content groups) l o) enters.1 ∙ ap (λ (x : Result (Option Entrance) ValueFault). asked (content groups) l at.place.run x) enters.2 in
-          (named, entered_known g.name (member.Leg l) (Some at.place.run) (content groups) after named.some held)
-  named_comes (event.Drop l) is = tt
-  named_comes (event.Take l) is = tt
-  named_comes (event.Begin l) is = tt
-  named_comes (event.End l a) is = tt
-  named_comes (event.Finish l) is = tt
-  named_comes (event.Close r) is = tt
-  named_comes (event.Cancel r) is = tt
+  named_comes : (e : Event) → content after ≡ after_event p b (content groups) e → (group : Option Entrance) → Enters p b e group → Comes (SeenNamed after) group
+  named_comes e is None enters = λ s new h. tt
+  named_comes (event.Open r) is (Some g) enters = λ s new h.
+      let named : IsName g.name = subst AsksNamed enters.2 (run_asks enters.0) in
+      let held : content after ≡ after_enter g.name (member.Run r) None (content groups) =
+      is ∙ ap (λ (o : Option RunAt). run_opened (content groups) r o) enters.1 ∙ ap (λ (x : Result (Option Entrance) ValueFault). opened (content groups) r x) enters.2 in
+      (named, entered_known g.name (member.Run r) None (content groups) after named.some held)
+  named_comes (event.Judge j) is (Some g) enters = absurd enters
+  named_comes (event.Ask l) is (Some g) enters = λ s new h.
+      let at = enters.0 in
+      let named : IsName g.name = subst AsksNamed enters.2 (leg_asks at) in
+      let held : content after ≡ after_enter g.name (member.Leg l) (Some at.place.run) (content groups) =
+      is ∙ ap (λ (o : Option LegAt). leg_asked (content groups) l o) enters.1 ∙ ap (λ (x : Result (Option Entrance) ValueFault). asked (content groups) l at.place.run x) enters.2 in
+      (named, entered_known g.name (member.Leg l) (Some at.place.run) (content groups) after named.some held)
+  named_comes (event.Drop l) is (Some g) enters = absurd enters
+  named_comes (event.Take l) is (Some g) enters = absurd enters
+  named_comes (event.Begin l) is (Some g) enters = absurd enters
+  named_comes (event.End l a) is (Some g) enters = absurd enters
+  named_comes (event.Finish l) is (Some g) enters = absurd enters
+  named_comes (event.Close r) is (Some g) enters = absurd enters
+  named_comes (event.Cancel r) is (Some g) enters = absurd enters
 
   -- the names that stand on the board after an event are known
   pub names_after : (e : Event) (x : Board × Reply) → content after ≡ after_event p b (content groups) e → event_row p b worker e ≡ Ok x → NamesKnown after x.0
-  names_after e x is row_is who = subst (λ (r : Row). ThenSeen (SeenNamed after) who r) row_is
-      (event_step (SeenNamed after) (older_named after) who p b worker (more_named groups after keeps (seen_at b who) (names who)) e (named_comes e is))
+  names_after e x is row_is m = subst (λ (r : Row). ThenSeen (SeenNamed after) m r) row_is
+      (event_step (SeenNamed after) (older_named after) m p b worker (more_named groups after keeps (seen_at b m) (names m)) e (named_comes e is))
 
 -- ---- before an event
 
@@ -184,21 +96,20 @@ older_same : (g : Option (List ℕ)) (new : Bool) (group : Option (List ℕ)) �
 older_same g new group e = ap (λ (s : Seen). Some (false, group_of s)) e
 
 -- who is not new is seen in its group after an event too
-pub stays_in : (p : Plan) (b : Board) (worker : ℕ) (e : Event) (x : Board × Reply) (who : Stood) (g : Option (List ℕ)) → event_row p b worker e ≡ Ok x
-    → seen_at b who ≡ Some (false, g) → seen_at x.0 who ≡ Some (false, g)
-stays_in p b worker e x who g row_is is = subst (λ (r : Row). ThenSeen (λ s. s ≡ Some (false, g)) who r) row_is
-    (event_step (λ s. s ≡ Some (false, g)) (older_same g) who p b worker is e
-    (comes_new (λ s. s ≡ Some (false, g)) p b e (λ group enters s new h. absurd (true≢false (sym new ∙ ap flag_of h)))))
+pub stays_in : (p : Plan) (b : Board) (worker : ℕ) (e : Event) (x : Board × Reply) (m : Member) (g : Option (List ℕ)) → event_row p b worker e ≡ Ok x
+    → seen_at b m ≡ Some (false, g) → seen_at x.0 m ≡ Some (false, g)
+stays_in p b worker e x m g row_is is = subst (λ (r : Row). ThenSeen (λ s. s ≡ Some (false, g)) m r) row_is
+    (event_step (λ s. s ≡ Some (false, g)) (older_same g) m p b worker is e (λ group enters s new h. absurd (true≢false (sym new ∙ ap flag_of h))))
 
 -- the names that stand on the board before an event are known to whom those after it are
 pub names_before : (p : Plan) (b : Board) (worker : ℕ) (e : Event) (x : Board × Reply) (groups known : Known) → event_row p b worker e ≡ Ok x → NamesKnown groups b → NamesKnown known x.0
     → NamesKnown known b
-names_before p b worker e x groups known row_is names after who = by (seen_at b who) refl
+names_before p b worker e x groups known row_is names after m = by (seen_at b m) refl
   where
-    by : (s : Seen) → seen_at b who ≡ s → SeenNamed known s
+    by : (s : Seen) → seen_at b m ≡ s → SeenNamed known s
     by None is = tt
-    by (Some (true, g)) is = subst (SeenNamed groups) is (names who)
-    by (Some (false, g)) is = subst (SeenNamed known) (stays_in p b worker e x who g row_is is) (after who)
+    by (Some (true, g)) is = subst (SeenNamed groups) is (names m)
+    by (Some (false, g)) is = subst (SeenNamed known) (stays_in p b worker e x m g row_is is) (after m)
 
 -- what is put back is known as it was
 pub names_put_back : (cell : Option CellBack) (at b : Board) (known : Known) → NamesKnown known b → NamesKnown (groups_put_back cell at known) b
@@ -207,4 +118,4 @@ names_put_back (Some cell) at b known names = by (group_at at cell.who)
   where
     by : (g : Option (List ℕ)) → NamesKnown (name_put_back g cell.held known) b
     by None = names
-    by (Some name) = λ who. more_named known (put_known (fold name) cell.held known) (λ q. put_keeps (fold name) cell.held known q) (seen_at b who) (names who)
+    by (Some name) = λ m. more_named known (put_known (fold name) cell.held known) (λ q. put_keeps (fold name) cell.held known q) (seen_at b m) (names m)

@@ -13,15 +13,21 @@ use Rattle.flow_model.specs.declared.event.Member.{Member}
 use Rattle.flow_model.specs.declared.event.Member.TheVariants as member
 use Rattle.flow_model.specs.declared.event.Outcome.{Outcome}
 use Rattle.group_admission.specs.Content.{Content, after_release, after_withdraw, holder_of, same_member, waiter_of}
+use Rattle.group_admission.proofs.Leaving.{release_passes_on, withdraw_leaves_holder}
 use Rattle.group_admission.proofs.Members.{one_member, there as there_is}
 use Rattle.group_admission.proofs.Nowhere.{nothing_released, nothing_withdrawn}
+use Rattle.flat_board.proofs.Names.{seen_leg, seen_run}
+use Rattle.flat_board.specs.Names.{group_at, group_of}
 use Rattle.flat_board.specs.Stands.{StandsOnlyThere, standing_by}
+use Rattle.flat_board.specs.Undo.{Leaves}
+use Rattle.flat_board.specs.declared.undo.CellBack.{CellBack}
+use Rattle.flow_model.specs.Mapping.{value_at}
 use Rattle.flat_board.specs.declared.groups.Stand.{Stand}
 use Rattle.flat_board.specs.declared.groups.Stand.TheVariants as stand
 use Rattle.board_counters.proofs.Tallies.{there}
 use Rattle.status_table.specs.Admissions.{left}
 use Rattle.status_table.specs.Change.{changed, leg_changed, with_leg}
-use Rattle.status_table.specs.Grouped.{KeptAsShown, leg_left, run_left}
+use Rattle.status_table.specs.Grouped.{KeptAsShown}
 use Rattle.status_table.specs.Groups.{Standing, apart, dropped, holding, waiting, run_stands as run_stands_so, run_standing, leg_stands as leg_stands_so, leg_standing}
 use Rattle.status_table.specs.Row.{leg_ended}
 use Rattle.status_table.proofs.Found.{leg_item, leg_stands, run_stands}
@@ -49,12 +55,12 @@ stands_only groups b m s kept is = record { ordered = kept.ordered; holder = hol
         same_some s (waiting (Some (c ∷ cs))) (sym is ∙ (a_waiter b (c ∷ cs) m (sym (kept.shown.waiter (c ∷ cs) (filled c cs)) ∙ e)).0)
 
 -- so it is with a run that is found
-pub run_stands_only : (p : Plan) (b : Board) (groups : Content) (n : ℕ) (at : RunAt) → KeptAsShown groups b → run_at p b n ≡ Some at → StandsOnlyThere groups (member.Run n) (run_standing at.run)
+run_stands_only : (p : Plan) (b : Board) (groups : Content) (n : ℕ) (at : RunAt) → KeptAsShown groups b → run_at p b n ≡ Some at → StandsOnlyThere groups (member.Run n) (run_standing at.run)
 run_stands_only p b groups n at kept is =
     stands_only groups b (member.Run n) (run_standing at.run) kept (ap (option_map run_standing) (run_stands p b n at is).run)
 
 -- and with a leg
-pub leg_stands_only : (p : Plan) (b : Board) (groups : Content) (n : ℕ) (at : LegAt) → KeptAsShown groups b → leg_at p b n ≡ Some at → StandsOnlyThere groups (member.Leg n) (leg_standing at.leg)
+leg_stands_only : (p : Plan) (b : Board) (groups : Content) (n : ℕ) (at : LegAt) → KeptAsShown groups b → leg_at p b n ≡ Some at → StandsOnlyThere groups (member.Leg n) (leg_standing at.leg)
 leg_stands_only p b groups n at kept is =
     stands_only groups b (member.Leg n) (leg_standing at.leg) kept (ap (option_map leg_standing) (leg_item p b n at (leg_stands p b n at is)))
 
@@ -103,6 +109,18 @@ module _ (groups : Content) (m : Member) where
       one_name : (q : List ℕ) → waiting (Some name) ≡ waiting (Some q) → name ≡ q
       one_name q e = cc
 
+  -- it changes no name but that
+  pub others_left : (name : List ℕ) (s : Stand) → StandsOnlyThere groups m (standing_by s (Some name)) → (q : List ℕ) → q ≢ name → value_at q (left groups m (standing_by s (Some name))) ≡ value_at q groups
+  others_left name stand.Apart only q differs = refl
+  others_left name stand.Holding only q differs = (release_passes_on groups m q only.ordered).others (λ e. differs (one_name (only.holder q e)))
+    where
+      one_name : holding (Some name) ≡ holding (Some q) → q ≡ name
+      one_name e = cc
+  others_left name stand.Waiting only q differs = (withdraw_leaves_holder groups m q only.ordered).others (λ e. differs (one_name (only.waiter q e)))
+    where
+      one_name : waiting (Some name) ≡ waiting (Some q) → q ≡ name
+      one_name e = cc
+
   -- and one that has none leaves none
   pub none_left : (s : Stand) → StandsOnlyThere groups m (standing_by s None) → groups ≡ left groups m (standing_by s None)
   none_left stand.Apart only = refl
@@ -136,7 +154,7 @@ module _ (p : Plan) (b : Board) (n : ℕ) (at : LegAt) (is : leg_at p b n ≡ So
   placed_there new runs = ap (λ (rs : List Run). leg_there (record new { runs = rs }) at.place) runs ∙ changed_there
 
   -- and where it was by its number
-  pub numbered_there : (new : Board) → new.runs ≡ leg_changed b.runs (leg_place b n) f → leg_there new at.place ≡ Some (f at.leg)
+  numbered_there : (new : Board) → new.runs ≡ leg_changed b.runs (leg_place b n) f → leg_there new at.place ≡ Some (f at.leg)
   numbered_there new runs = placed_there new (runs ∙ numbered b n at.place f (leg_stands p b n at is).place)
 
 -- A leg that was found, and stood so, may leave its group by the name that it still has.
@@ -146,36 +164,36 @@ module _ (p : Plan) (b : Board) (groups : Content) (n : ℕ) (at : LegAt) (kept 
   stands : (leg : Leg) → leg_there new at.place ≡ Some leg → leg_standing at.leg ≡ standing_by s leg.group
   stands leg there_now = stood at.leg.group ∙ ap (standing_by s) (sym same ∙ ap (λ (x : Leg). x.group) (same_some now leg (sym found ∙ there_now)))
 
-  only : (leg : Leg) → leg_there new at.place ≡ Some leg → StandsOnlyThere groups (member.Leg n) (standing_by s leg.group)
-  only leg there_now = subst (StandsOnlyThere groups (member.Leg n)) (stands leg there_now) (leg_stands_only p b groups n at kept is)
-
-  leg_has_left : (after : Content)
-      → ((leg : Leg) (t : Stand) → leg_there new at.place ≡ Some leg → StandsOnlyThere groups (member.Leg n) (standing_by t leg.group) → after ≡ left groups (member.Leg n) (standing_by t leg.group))
-      → after ≡ leg_left groups n (leg_at p b n)
-  leg_has_left after leaves =
-      leaves now s found (only now found) ∙ ap (left groups (member.Leg n)) (sym (stands now found)) ∙ ap (leg_left groups n) (sym is)
+  leg_has_left : (cell : Option CellBack) (after : Content)
+      → ((leg : Leg) (t : Stand) → leg_there new at.place ≡ Some leg → group_at b (member.Leg n) ≡ leg.group → StandsOnlyThere groups (member.Leg n) (standing_by t leg.group)
+      → Leaves cell b (member.Leg n) (standing_by t leg.group) groups after) → Leaves cell b (member.Leg n) (leg_standing at.leg) groups after
+  leg_has_left cell after leaves =
+      let standing = stands now found in
+      subst (λ (t : Standing). Leaves cell b (member.Leg n) t groups after) (sym standing)
+      (leaves now s found (ap group_of (seen_leg p b n at is) ∙ sym same) (subst (StandsOnlyThere groups (member.Leg n)) standing (leg_stands_only p b groups n at kept is)))
 
 module _ (p : Plan) (b : Board) (groups : Content) (n : ℕ) (at : LegAt) (kept : KeptAsShown groups b) (is : leg_at p b n ≡ Some at)
-    (s : Stand) (stood : (group : Option (List ℕ)) → leg_stands_so at.leg.state group ≡ standing_by s group) (new : Board) (after : Content)
-    (leaves : (leg : Leg) (t : Stand) → leg_there new at.place ≡ Some leg → StandsOnlyThere groups (member.Leg n) (standing_by t leg.group)
-    → after ≡ left groups (member.Leg n) (standing_by t leg.group)) where
+    (s : Stand) (stood : (group : Option (List ℕ)) → leg_stands_so at.leg.state group ≡ standing_by s group) (new : Board) (cell : Option CellBack) (after : Content)
+    (leaves : (leg : Leg) (t : Stand) → leg_there new at.place ≡ Some leg → group_at b (member.Leg n) ≡ leg.group → StandsOnlyThere groups (member.Leg n) (standing_by t leg.group)
+    → Leaves cell b (member.Leg n) (standing_by t leg.group) groups after) where
   -- so it is with a leg that was dropped
-  pub dropped_has_left : (result : Outcome) → new ≡ dropped b n result → after ≡ leg_left groups n (leg_at p b n)
+  pub dropped_has_left : (result : Outcome) → new ≡ dropped b n result → Leaves cell b (member.Leg n) (leg_standing at.leg) groups after
   dropped_has_left result new_is =
       let found = numbered_there p b n at is (λ leg. record leg { state = leg_state.Ended result false }) new (ap (λ (x : Board). x.runs) new_is) in
-      leg_has_left p b groups n at kept is s stood new (record at.leg { state = leg_state.Ended result false }) found refl after leaves
+      leg_has_left p b groups n at kept is s stood new (record at.leg { state = leg_state.Ended result false }) found refl cell after leaves
 
   -- and with one that has finished
-  pub ended_has_left : (state : LegState) (outputs : List (List ℕ × List ℕ)) → new ≡ leg_ended b at.place n state outputs → after ≡ leg_left groups n (leg_at p b n)
+  pub ended_has_left : (state : LegState) (outputs : List (List ℕ × List ℕ)) → new ≡ leg_ended b at.place n state outputs → Leaves cell b (member.Leg n) (leg_standing at.leg) groups after
   ended_has_left state outputs new_is =
       let found = placed_there p b n at is (λ leg. record leg { state = state; outputs = outputs }) new (ap (λ (x : Board). x.runs) new_is) in
-      leg_has_left p b groups n at kept is s stood new (record at.leg { state = state; outputs = outputs }) found refl after leaves
+      leg_has_left p b groups n at kept is s stood new (record at.leg { state = state; outputs = outputs }) found refl cell after leaves
 
 -- And so may a run that was found.
 pub run_has_left : (p : Plan) (b : Board) (groups : Content) (n : ℕ) (at : RunAt) → KeptAsShown groups b → run_at p b n ≡ Some at
-    → (s : Stand) → ((group : Option (List ℕ)) → run_stands_so at.run.state group ≡ standing_by s group) → (after : Content)
-    → ((t : Stand) → StandsOnlyThere groups (member.Run n) (standing_by t at.run.group) → after ≡ left groups (member.Run n) (standing_by t at.run.group))
-    → after ≡ run_left groups n (run_at p b n)
-run_has_left p b groups n at kept is s stood after leaves =
+    → (s : Stand) → ((group : Option (List ℕ)) → run_stands_so at.run.state group ≡ standing_by s group) → (cell : Option CellBack) (after : Content)
+    → ((t : Stand) → group_at b (member.Run n) ≡ at.run.group → StandsOnlyThere groups (member.Run n) (standing_by t at.run.group)
+    → Leaves cell b (member.Run n) (standing_by t at.run.group) groups after) → Leaves cell b (member.Run n) (run_standing at.run) groups after
+run_has_left p b groups n at kept is s stood cell after leaves =
     let stands = stood at.run.group in
-    leaves s (subst (StandsOnlyThere groups (member.Run n)) stands (run_stands_only p b groups n at kept is)) ∙ ap (left groups (member.Run n)) (sym stands) ∙ ap (run_left groups n) (sym is)
+    subst (λ (t : Standing). Leaves cell b (member.Run n) t groups after) (sym stands)
+    (leaves s (ap group_of (seen_run p b n at is)) (subst (StandsOnlyThere groups (member.Run n)) stands (run_stands_only p b groups n at kept is)))

@@ -1,8 +1,6 @@
 pub mod Accepting
 pub mod Back
-pub mod Entered
 pub mod FirstMove
-pub mod Groupless
 pub mod Index
 pub mod Kept
 pub mod Known

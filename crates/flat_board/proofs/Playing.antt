@@ -7,14 +7,19 @@ use Rattle.flow_model.specs.declared.event.Answer.{Answer}
 use Rattle.flow_model.specs.declared.event.Entry.{Entry}
 use Rattle.flow_model.specs.declared.event.Event.{Event}
 use Rattle.flow_model.specs.declared.event.Event.TheVariants as event
+use Rattle.flow_model.specs.Numbers.{board_legs, plan_jobs, plan_legs}
+use Rattle.flow_model.specs.declared.board.Job.{Job}
+use Rattle.flow_model.specs.declared.board.Leg.{Leg}
+use Rattle.flow_model.specs.declared.event.Member.TheVariants as member
 use Rattle.flow_model.specs.declared.plan.Plan.{Plan}
+use Rattle.std.specs.List.{flat_map}
+use Rattle.status_table.proofs.Lists.{flat_map-map}
 use Rattle.flow_model.specs.declared.reply.Reply.{Reply}
 use Rattle.group_admission.specs.Content.{Content}
 use Rattle.group_admission.specs.Known.{Known, content}
 use Rattle.flat_board.specs.Index.{Follows, FollowsUnasked, Goes, EventsKeep}
-use Rattle.flat_board.specs.Names.{NamesKnown, Seen, SeenNamed, in_job, in_run, leg_names, run_names}
+use Rattle.flat_board.specs.Names.{NamesKnown, Seen, SeenNamed, leg_names, run_names}
 use Rattle.flat_board.specs.Sound.{IsSound}
-use Rattle.flat_board.specs.declared.undo.Stood.TheVariants as stood
 use Rattle.flat_board.proofs.Known.{names_after}
 use Rattle.board_decisions.specs.Place.{◌>>=◌}
 use Rattle.status_table.specs.Answers.{Answers}
@@ -38,10 +43,13 @@ each_new P f h (x ∷ xs) (suc k) none step = each_new P f h xs k none step
 
 -- where all is new no name stands on the board
 new_names : (p : Plan) → NamesKnown [] (new_board p)
-new_names p (stood.Run r) = each_new (SeenNamed []) new_run run_names p.runs r tt (λ run. refl)
-new_names p (stood.Leg place) = each_new (SeenNamed []) new_run (in_run place) p.runs place.run tt (λ run.
-    each_new (SeenNamed []) new_job (in_job place) run.jobs place.job tt (λ job.
-    each_new (SeenNamed []) new_leg leg_names job.legs place.leg tt (λ leg. refl)))
+new_names p (member.Run r) = each_new (SeenNamed []) new_run run_names p.runs r tt (λ run. refl)
+new_names p (member.Leg l) = subst (λ (legs : List Leg). SeenNamed [] (slice_get legs l >>= leg_names)) (sym new_legs) (each_new (SeenNamed []) new_leg leg_names (plan_legs p) l tt (λ leg. refl))
+  where
+    new_legs : board_legs (new_board p) ≡ map new_leg (plan_legs p)
+    new_legs =
+        ap (flat_map (λ (job : Job). job.legs)) (flat_map-map new_run (λ run. run.jobs) new_job (λ run. run.jobs) p.runs (λ run. refl))
+        ∙ flat_map-map new_job (λ job. job.legs) new_leg (λ job. job.legs) (plan_jobs p) (λ job. refl)
 
 -- the board on which all is new shows that nobody is in a group
 pub new_sound : (p : Plan) (made : Play) (groups : Known) → IsPlan p → SoundPlan p → made ≡ new_play p → groups ≡ [] → IsSound made groups

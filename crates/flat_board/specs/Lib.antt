@@ -3,5 +3,4 @@ pub mod Index
 pub mod Names
 pub mod Sound
 pub mod Stands
-pub mod Touched
 pub mod Undo

@@ -1,5 +1,5 @@
 -- What takes an entry back.
-use Rattle.std.specs.Prelude.{ℕ, List, Option, Some, None}
+use Rattle.std.specs.Prelude.{◌≡◌, ◌≢◌, ◌⊎◌, ℕ, List, Option, Some, None}
 use Rattle.expr_reader.specs.Fold.{fold}
 use Rattle.flat_board.specs.Names.{NamesKnown, group_at}
 use Rattle.flat_board.specs.declared.undo.CellBack.{CellBack}
@@ -7,27 +7,29 @@ use Rattle.flat_board.specs.declared.undo.Undo.{Undo}
 use Rattle.flat_board.specs.declared.undo.Undo.TheVariants as takes
 use Rattle.board_counters.specs.Undo.{only_before, undone}
 use Rattle.board_counters.specs.declared.undo.OnlyChange.TheVariants as only_change
-use Rattle.flow_model.specs.Mapping.{Ascends}
+use Rattle.flow_model.specs.Mapping.{Ascends, value_at}
 use Rattle.flow_model.specs.declared.board.Board.{Board}
+use Rattle.flow_model.specs.declared.event.Member.{Member}
 use Rattle.flow_model.specs.declared.plan.Plan.{Plan}
+use Rattle.group_admission.specs.Content.{Content, holder_of, waiter_of}
 use Rattle.group_admission.specs.Known.{Known, content, put_known}
 use Rattle.group_admission.specs.declared.held.Held.{Held}
+use Rattle.status_table.specs.Admissions.{left}
 use Rattle.status_table.specs.Grouped.{KeptAsShown}
+use Rattle.status_table.specs.Groups.{Standing}
 use Rattle.status_table.specs.InPlay.{InPlay}
 
 -- the board before an entry: its changes are taken back, the last one first
 abbrev pub board_before : Undo → Board → Board
 board_before (takes.State place state) b = only_before (only_change.State place state) b
 board_before (takes.Step place state) b = only_before (only_change.Step place state) b
-board_before (takes.Changes changes) b = undone changes.value.items b
-board_before (takes.Asked changes cell) b = undone changes.value.items b
+board_before (takes.Entry back) b = undone back.value.changes.items b
 
 -- what was held before it of the name that it asked for, if it asked for one
 abbrev pub cell_of : Undo → Option CellBack
 cell_of (takes.State place state) = None
 cell_of (takes.Step place state) = None
-cell_of (takes.Changes changes) = None
-cell_of (takes.Asked changes cell) = Some cell.value
+cell_of (takes.Entry back) = back.value.cell
 
 -- a name, if there is one, is held again as it was
 abbrev pub name_put_back : Option (List ℕ) → Option Held → Known → Known
@@ -47,3 +49,26 @@ pub record Fits (undo : Undo) (p : Plan) (b : Board) : Type 0 where
       → KeptAsShown (content (groups_put_back (cell_of undo) b known)) (board_before undo b)
   pub names : (known : Known) → Ascends known → KeptAsShown (content known) b → NamesKnown known b
       → NamesKnown (groups_put_back (cell_of undo) b known) (board_before undo b)
+
+-- ---- what an entry asks of the groups
+
+-- a member holds a name or waits for it
+abbrev pub IsAt : Member → List ℕ → Content → Type 0
+IsAt m name groups = (holder_of name groups ≡ Some m) ⊎ (waiter_of name groups ≡ Some m)
+
+-- No name changed but one, which a member left that was in that group on the board, or entered. So was it held.
+pub record NameChanged (cell : CellBack) (b : Board) (was now : Content) : Type 0 where
+  pub name : List ℕ
+  pub of_who : (group_at b cell.who ≡ Some name) ⊎ IsAt cell.who name now
+  pub held : value_at name was ≡ cell.held
+  pub others : (q : List ℕ) → q ≢ name → value_at q now ≡ value_at q was
+
+-- what leads back to the groups before: nothing where none changed
+abbrev pub LeadsBack : Option CellBack → Board → Content → Content → Type 0
+LeadsBack None b was now = now ≡ was
+LeadsBack (Some cell) b was now = NameChanged cell b was now
+
+-- A member that stood so to its group left that, and this leads back.
+pub record Leaves (cell : Option CellBack) (b : Board) (m : Member) (s : Standing) (was now : Content) : Type 0 where
+  pub to : now ≡ left was m s
+  pub back : LeadsBack cell b was now

@@ -2,14 +2,16 @@
 //!
 //! Each function looks for a refusal first, makes what room it needs, and only then changes the board.
 
-ghost use Rattle.std.specs.Prelude.{◌≡◌, ◌≤◌, OnOk, Some};
+ghost use Rattle.std.specs.Prelude.{◌≡◌, ◌≤◌, IfOk, OnOk, Some};
 ghost use Rattle.board_decisions.specs.Place.{job_at, leg_at, run_at};
 ghost use Rattle.board_decisions.specs.Seen.{job_seen};
 ghost use Rattle.flat_board.specs.Index.{Goes};
+ghost use Rattle.flat_board.specs.Undo.{LeadsBack};
 ghost use Rattle.group_admission.specs.Known.{content};
 ghost use Rattle.status_table.specs.Answers.{Answers, Decides};
 ghost use Rattle.status_table.specs.Grouped.{KeptAsShown, leg_asked, leg_left, run_left, run_opened};
 ghost use Rattle.status_table.specs.InPlay.{InPlay};
+ghost use Rattle.status_table.specs.Reversible.{answer_of};
 ghost use Rattle.status_table.specs.Row as spec;
 
 use crate::found::{find_job, find_leg, is_full, is_stopping, keep};
@@ -18,6 +20,7 @@ use crate::groups::{
 };
 use crate::laws::who_enters_is_outside;
 use crate::members::{close_run, drop_leg, pass_on, set_ended, stop_run};
+use crate::undo::CellBack;
 use board_counters::{Counted, Tracked};
 use board_decisions::ancestors::job_status_kept;
 use board_decisions::decisions::{job_condition, leg_entrance, leg_outputs, run_entrance};
@@ -40,15 +43,17 @@ pub(crate) fn open(
     state: &mut Tracked,
     groups: &mut Groups,
     number: u64,
-) -> Result<Reply, EventFault>
+) -> Result<(Reply, Option<CellBack>), EventFault>
     requires kept { KeptAsShown (content groups.old) state.old.board }
     requires room { 4 ≤ state.old.room }
     ensures plan { state.new.plan ≡ state.old.plan }
     ensures answers { Answers (spec.open_row state.old.plan state.old.board number)
-        state.old.board result state.new.board }
-    ensures groups { Goes result groups.old
+        state.old.board (answer_of result) state.new.board }
+    ensures groups { Goes (answer_of result) groups.old
         (run_opened (content groups.old) number (run_at state.old.plan state.old.board number)) groups.new }
     ensures back { OnOk result (state.new.back ≡ state.old.back) }
+    ensures cell { IfOk result (λ both. LeadsBack both.1
+        state.old.board (content groups.old) (content groups.new)) }
 {
     who_enters_is_outside();
     let play = state.counted();
@@ -119,15 +124,17 @@ pub(crate) fn ask(
     state: &mut Tracked,
     groups: &mut Groups,
     number: u64,
-) -> Result<Reply, EventFault>
+) -> Result<(Reply, Option<CellBack>), EventFault>
     requires kept { KeptAsShown (content groups.old) state.old.board }
     requires room { 4 ≤ state.old.room }
     ensures plan { state.new.plan ≡ state.old.plan }
     ensures answers { Answers (spec.ask_row state.old.plan state.old.board number)
-        state.old.board result state.new.board }
-    ensures groups { Goes result groups.old
+        state.old.board (answer_of result) state.new.board }
+    ensures groups { Goes (answer_of result) groups.old
         (leg_asked (content groups.old) number (leg_at state.old.plan state.old.board number)) groups.new }
     ensures back { OnOk result (state.new.back ≡ state.old.back) }
+    ensures cell { IfOk result (λ both. LeadsBack both.1
+        state.old.board (content groups.old) (content groups.new)) }
 {
     who_enters_is_outside();
     let Some(leg) = find_leg(state.counted(), number) else {
@@ -153,15 +160,17 @@ pub(crate) fn discard(
     state: &mut Tracked,
     groups: &mut Groups,
     number: u64,
-) -> Result<Reply, EventFault>
+) -> Result<(Reply, Option<CellBack>), EventFault>
     requires kept { KeptAsShown (content groups.old) state.old.board }
     requires room { 3 ≤ state.old.room }
     ensures plan { state.new.plan ≡ state.old.plan }
     ensures answers { Answers (spec.drop_row state.old.plan state.old.board number)
-        state.old.board result state.new.board }
-    ensures groups { Goes result groups.old
+        state.old.board (answer_of result) state.new.board }
+    ensures groups { Goes (answer_of result) groups.old
         (leg_left (content groups.old) number (leg_at state.old.plan state.old.board number)) groups.new }
     ensures back { OnOk result (state.new.back ≡ state.old.back) }
+    ensures cell { IfOk result (λ both. LeadsBack both.1
+        state.old.board (content groups.old) (content groups.new)) }
 {
     let Some(leg) = find_leg(state.counted(), number) else {
         return Err(EventFault::NoSuch);
@@ -176,9 +185,9 @@ pub(crate) fn discard(
     let stand = leg_stand(leg.at.leg.state);
     let next = next_after(groups, stand, &leg.at.leg.group);
     drop_leg(state, number, Outcome::Cancelled)?;
-    leave_leg(groups, state.counted().board(), place, number);
+    let cell = leave_leg(groups, state.counted().board(), place, number);
     pass_on(state, next);
-    Ok(told(next, None, None))
+    Ok((told(next, None, None), cell))
 }
 
 /// Gives a leg that is admitted to a worker.
@@ -292,15 +301,17 @@ pub(crate) fn finish(
     groups: &mut Groups,
     worker: u8,
     number: u64,
-) -> Result<Reply, EventFault>
+) -> Result<(Reply, Option<CellBack>), EventFault>
     requires kept { KeptAsShown (content groups.old) state.old.board }
     requires room { 3 ≤ state.old.room }
     ensures plan { state.new.plan ≡ state.old.plan }
     ensures answers { Answers (spec.finish_row state.old.plan state.old.board worker number)
-        state.old.board result state.new.board }
-    ensures groups { Goes result groups.old
+        state.old.board (answer_of result) state.new.board }
+    ensures groups { Goes (answer_of result) groups.old
         (leg_left (content groups.old) number (leg_at state.old.plan state.old.board number)) groups.new }
     ensures back { OnOk result (state.new.back ≡ state.old.back) }
+    ensures cell { IfOk result (λ both. LeadsBack both.1
+        state.old.board (content groups.old) (content groups.new)) }
 {
     let play = state.counted();
     let Some(leg) = find_leg(play, number) else {
@@ -312,9 +323,9 @@ pub(crate) fn finish(
     let stand = leg_stand(leg.at.leg.state);
     let next = next_after(groups, stand, &leg.at.leg.group);
     set_ended(state, place, number, to, outputs)?;
-    leave_leg(groups, state.counted().board(), place, number);
+    let cell = leave_leg(groups, state.counted().board(), place, number);
     pass_on(state, next);
-    Ok(told(next, None, None))
+    Ok((told(next, None, None), cell))
 }
 
 /// Ends a run whose jobs have ended, or that never went.
@@ -322,15 +333,17 @@ pub(crate) fn close(
     state: &mut Tracked,
     groups: &mut Groups,
     number: u64,
-) -> Result<Reply, EventFault>
+) -> Result<(Reply, Option<CellBack>), EventFault>
     requires kept { KeptAsShown (content groups.old) state.old.board }
     requires room { 2 ≤ state.old.room }
     ensures plan { state.new.plan ≡ state.old.plan }
     ensures answers { Answers (spec.close_row state.old.plan state.old.board number)
-        state.old.board result state.new.board }
-    ensures groups { Goes result groups.old
+        state.old.board (answer_of result) state.new.board }
+    ensures groups { Goes (answer_of result) groups.old
         (run_left (content groups.old) number (run_at state.old.plan state.old.board number)) groups.new }
     ensures back { OnOk result (state.new.back ≡ state.old.back) }
+    ensures cell { IfOk result (λ both. LeadsBack both.1
+        state.old.board (content groups.old) (content groups.new)) }
 {
     let play = state.counted();
     let Some(at) = find_run(play.plan(), play.board(), number as usize) else {
@@ -353,10 +366,10 @@ pub(crate) fn close(
     };
     let stand = run_stand(at.run.state);
     let next = next_after(groups, stand, &at.run.group);
-    leave(groups, Member::Run(number), &at.run.group);
+    let cell = leave(groups, Member::Run(number), &at.run.group);
     close_run(state, number, how);
     pass_on(state, next);
-    Ok(told(next, None, None))
+    Ok((told(next, None, None), cell))
 }
 
 /// Tells a run to stop.

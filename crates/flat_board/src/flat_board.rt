@@ -2,29 +2,23 @@
 
 ghost use Rattle.std.specs.Prelude.{◌≡◌, ◌≤◌, true, Ok, Some, None, IfOk, OnOk};
 ghost use Rattle.flat_board.specs.Index.{Follows, FollowsUnasked, most_changes};
-ghost use Rattle.flat_board.specs.Touched.{cell_before, touched as touched_by};
-ghost use Rattle.flat_board.specs.Undo.{board_before, cell_of, groups_put_back};
+ghost use Rattle.flat_board.specs.Undo.{LeadsBack, board_before, cell_of};
 ghost use Rattle.board_counters.specs.Names.{IsGroup, IsName, IsNamed};
 ghost use Rattle.board_counters.specs.Track.{play_of};
-ghost use Rattle.flow_model.specs.declared.board.Board.{Board};
-ghost use Rattle.flow_model.specs.declared.reply.Reply.{Reply as ReplyOf};
-ghost use Rattle.group_admission.specs.Content.{EachOnce};
 ghost use Rattle.group_admission.specs.Known.{content};
 ghost use Rattle.status_table.specs.Grouped.{KeptAsShown};
 ghost use Rattle.status_table.specs.Groups as spec;
 ghost use Rattle.status_table.specs.InPlay.{InPlay};
 ghost use Rattle.status_table.specs.Reversible.{answer_of, done_of};
-ghost use Rattle.status_table.specs.Row.{event_row};
 ghost use Rattle.status_table.specs.Runs.{new_play};
 
 use crate::events::{ask, begin, cancel, close, discard, end, finish, judge, open, take};
 use crate::groups::{holder, leg_stand, next_after, run_stand, waiter};
-use crate::laws::{events_keep_the_groups, who_enters_is_outside};
+use crate::laws::events_keep_the_groups;
 use crate::moves::{find_first, find_moves};
-use crate::touched::{Touch, held_before, name_at, touched};
-use crate::unasked::{begin_unasked, end_unasked, filled, undo_apart};
-use crate::undo::{CellBack, Stood, Undo};
-use board_counters::{Changes, Counted, OnlyChange, Tracked};
+use crate::unasked::{begin_unasked, end_unasked};
+use crate::undo::{CellBack, Undo, cell_back, make_back, put_back, take_back, undo_of};
+use board_counters::Tracked;
 use flow_model::{Board, CheckedPlan, Duplicate, Entry, Event, Leg, Member, Reply, Run, Sequence};
 use group_admission::Groups;
 use status_table::{EventFault, Reversible, Table};
@@ -127,25 +121,27 @@ fn apply_event(
     groups: &mut Groups,
     worker: u8,
     event: Event,
-) -> Result<Reply, EventFault>
+) -> Result<(Reply, Option<CellBack>), EventFault>
     requires in_play { InPlay state.old.plan state.old.board }
     requires kept { KeptAsShown (content groups.old) state.old.board }
     requires room { most_changes event ≤ state.old.room }
     ensures follows { Follows (play_of state.old) (play_of state.new)
-        groups.old groups.new worker event result }
+        groups.old groups.new worker event (answer_of result) }
     ensures back { OnOk result (state.new.back ≡ state.old.back) }
+    ensures cell { IfOk result (λ both. LeadsBack both.1
+        state.old.board (content groups.old) (content groups.new)) }
 {
     match event {
         Event::Open { run } => open(alloc, state, groups, run),
-        Event::Judge { job } => judge(alloc, state, job),
+        Event::Judge { job } => Ok((judge(alloc, state, job)?, None)),
         Event::Ask { leg } => ask(alloc, state, groups, leg),
         Event::Drop { leg } => discard(alloc, state, groups, leg),
-        Event::Take { leg } => take(alloc, state, worker, leg),
-        Event::Begin { leg } => begin(alloc, state, worker, leg),
-        Event::End { leg, answer } => end(alloc, state, worker, leg, answer),
+        Event::Take { leg } => Ok((take(alloc, state, worker, leg)?, None)),
+        Event::Begin { leg } => Ok((begin(alloc, state, worker, leg)?, None)),
+        Event::End { leg, answer } => Ok((end(alloc, state, worker, leg, answer)?, None)),
         Event::Finish { leg } => finish(alloc, state, groups, worker, leg),
         Event::Close { run } => close(state, groups, run),
-        Event::Cancel { run } => cancel(state, run),
+        Event::Cancel { run } => Ok((cancel(state, run)?, None)),
     }
 }
 
@@ -162,8 +158,28 @@ fn most_changes(event: &Event) -> usize
     }
 }
 
-/// Plays an event, and keeps what takes it back.
+/// Plays an event, and gives what was held of the name that it asked for.
 fn play_event(
+    alloc: Global,
+    state: &mut Tracked,
+    groups: &mut Groups,
+    worker: u8,
+    event: Event,
+) -> Result<(Reply, Option<CellBack>), EventFault>
+    requires in_play { InPlay state.old.plan state.old.board }
+    requires kept { KeptAsShown (content groups.old) state.old.board }
+    ensures follows { Follows (play_of state.old) (play_of state.new)
+        groups.old groups.new worker event (answer_of result) }
+    ensures back { OnOk result (state.new.back ≡ state.old.board) }
+    ensures cell { IfOk result (λ both. LeadsBack both.1
+        state.old.board (content groups.old) (content groups.new)) }
+{
+    state.begin(most_changes(&event))?;
+    apply_event(alloc, state, groups, worker, event)
+}
+
+/// Plays an event, and gives its reply alone.
+fn play_asked(
     alloc: Global,
     state: &mut Tracked,
     groups: &mut Groups,
@@ -174,10 +190,9 @@ fn play_event(
     requires kept { KeptAsShown (content groups.old) state.old.board }
     ensures follows { Follows (play_of state.old) (play_of state.new)
         groups.old groups.new worker event result }
-    ensures back { OnOk result (state.new.back ≡ state.old.board) }
 {
-    state.begin(most_changes(&event))?;
-    apply_event(alloc, state, groups, worker, event)
+    let (reply, _) = play_event(alloc, state, groups, worker, event)?;
+    Ok(reply)
 }
 
 /// Plays an event, and lets its reply go. It stands apart, so that what plays most events has no room for a reply.
@@ -194,7 +209,7 @@ fn play_unasked(
     ensures follows { FollowsUnasked (play_of state.old) (play_of state.new)
         groups.old groups.new worker event result }
 {
-    play_event(alloc, state, groups, worker, event)?;
+    play_asked(alloc, state, groups, worker, event)?;
     Ok(())
 }
 
@@ -219,94 +234,6 @@ fn advance_event(
     Ok(())
 }
 
-/// What takes back what was played since the board last began, with what was held of the name that was asked for.
-fn undo_with(alloc: Global, state: &mut Tracked, list: Box<Changes>, cell: Box<CellBack>) -> Undo
-    ensures plan { state.new.plan ≡ state.old.plan }
-    ensures board { state.new.board ≡ state.old.board }
-    ensures back { board_before result state.new.board ≡ state.old.back }
-    ensures cell { cell_of result ≡ Some cell.value }
-{
-    Undo::Asked(filled(alloc, state, list), cell)
-}
-
-/// Plays an event that asks for no name, and gives what takes it back.
-fn play_apart(
-    alloc: Global,
-    state: &mut Tracked,
-    groups: &mut Groups,
-    worker: u8,
-    event: Event,
-) -> Result<(Reply, Undo), EventFault>
-    requires in_play { InPlay state.old.plan state.old.board }
-    requires kept { KeptAsShown (content groups.old) state.old.board }
-    ensures follows { Follows (play_of state.old) (play_of state.new)
-        groups.old groups.new worker event (answer_of result) }
-    ensures back { IfOk result (λ both. board_before both.1 state.new.board ≡ state.old.board) }
-    ensures cell { IfOk result (λ both. cell_of both.1 ≡ None) }
-{
-    let list = Box::new(alloc, Changes::new(alloc))?;
-    let reply = play_event(alloc, state, groups, worker, event)?;
-    Ok((reply, undo_apart(alloc, state, list)))
-}
-
-/// Plays an event by which one leaves its group, and gives what takes it back.
-fn play_leaving(
-    alloc: Global,
-    state: &mut Tracked,
-    groups: &mut Groups,
-    entry: Entry,
-    cell: CellBack,
-) -> Result<(Reply, Undo), EventFault>
-    requires in_play { InPlay state.old.plan state.old.board }
-    requires kept { KeptAsShown (content groups.old) state.old.board }
-    ensures follows { Follows (play_of state.old) (play_of state.new)
-        groups.old groups.new entry.worker entry.event (answer_of result) }
-    ensures back { IfOk result (λ both. board_before both.1 state.new.board ≡ state.old.board) }
-    ensures cell { IfOk result (λ both. cell_of both.1 ≡ Some cell) }
-{
-    let list = Box::new(alloc, Changes::new(alloc))?;
-    let cell = Box::new(alloc, cell)?;
-    let reply = play_event(alloc, state, groups, entry.worker, entry.event)?;
-    Ok((reply, undo_with(alloc, state, list, cell)))
-}
-
-/// A member that enters its group, and where it stands on the board.
-#[derive(Clone, Copy)]
-struct Entering {
-    stood: Stood,
-    member: Member,
-}
-
-/// Plays an event by which a member enters its group, and gives what takes it back.
-fn play_entering(
-    alloc: Global,
-    state: &mut Tracked,
-    groups: &mut Groups,
-    entry: Entry,
-    entering: Entering,
-) -> Result<(Reply, Undo), EventFault>
-    requires in_play { InPlay state.old.plan state.old.board }
-    requires kept { KeptAsShown (content groups.old) state.old.board }
-    ensures follows { Follows (play_of state.old) (play_of state.new)
-        groups.old groups.new entry.worker entry.event (answer_of result) }
-    ensures back { IfOk result (λ both. board_before both.1 state.new.board ≡ state.old.board) }
-    ensures cell { IfOk result (λ both. cell_of both.1
-        ≡ cell_before (Touch.Enters entering.stood entering.member)
-        state.new.board (content groups.new) both.0.displaced) }
-{
-    let Entering { stood, member } = entering;
-    let nothing = CellBack {
-        who: stood,
-        held: None,
-    };
-    let list = Box::new(alloc, Changes::new(alloc))?;
-    let mut cell = Box::new(alloc, nothing)?;
-    let reply = play_event(alloc, state, groups, entry.worker, entry.event)?;
-    let board = state.counted().board();
-    cell.held = held_before(groups, board, stood, member, reply.displaced);
-    Ok((reply, undo_with(alloc, state, list, cell)))
-}
-
 /// Plays an event, and gives what takes it back.
 fn play_with_undo(
     alloc: Global,
@@ -320,18 +247,12 @@ fn play_with_undo(
     ensures follows { Follows (play_of state.old) (play_of state.new)
         groups.old groups.new worker event (answer_of result) }
     ensures back { IfOk result (λ both. board_before both.1 state.new.board ≡ state.old.board) }
-    ensures cell { IfOk result (λ both. cell_of both.1 ≡ cell_before
-        (touched_by state.old.plan state.old.board (content groups.old) event)
-        state.new.board (content groups.new) both.0.displaced) }
+    ensures cell { IfOk result (λ both. LeadsBack (cell_of both.1)
+        state.old.board (content groups.old) (content groups.new)) }
 {
-    match touched(state.counted(), groups, &event) {
-        Touch::Nothing => play_apart(alloc, state, groups, worker, event),
-        Touch::Leaves(cell) => play_leaving(alloc, state, groups, Entry { worker, event }, cell),
-        Touch::Enters(stood, member) => {
-            let entering = Entering { stood, member };
-            play_entering(alloc, state, groups, Entry { worker, event }, entering)
-        },
-    }
+    let back = make_back(alloc)?;
+    let (reply, cell) = play_event(alloc, state, groups, worker, event)?;
+    Ok((reply, undo_of(alloc, state, back, cell)))
 }
 
 /// Plays an event whose reply nobody asks for, and gives what takes it back.
@@ -347,11 +268,8 @@ fn advance_with_undo(
     ensures follows { FollowsUnasked (play_of state.old) (play_of state.new)
         groups.old groups.new worker event (done_of result) }
     ensures back { IfOk result (λ undo. board_before undo state.new.board ≡ state.old.board) }
-    ensures cell { IfOk result (λ undo. (reply : ReplyOf)
-        → event_row state.old.plan state.old.board worker event ≡ Ok (state.new.board, reply)
-        → cell_of undo ≡ cell_before
-        (touched_by state.old.plan state.old.board (content groups.old) event)
-        state.new.board (content groups.new) reply.displaced) }
+    ensures cell { IfOk result (λ undo. LeadsBack (cell_of undo)
+        state.old.board (content groups.old) (content groups.new)) }
 {
     match event {
         Event::Begin { leg } => begin_unasked(alloc, state, worker, leg),
@@ -360,45 +278,6 @@ fn advance_with_undo(
             let (_, undo) = play_with_undo(alloc, state, groups, worker, other)?;
             Ok(undo)
         },
-    }
-}
-
-/// Puts a name back, where one was asked for: it stands on the board after the entry.
-fn put_back(groups: &mut Groups, board: &Board, cell: Option<CellBack>)
-    requires { EachOnce (content (groups_put_back cell board.now groups.old)) }
-    ensures { groups.new ≡ groups_put_back cell board.now groups.old }
-{
-    if let Some(cell) = cell {
-        if let Some(name) = name_at(board, cell.who) {
-            groups.put_back(name, cell.held);
-        }
-    }
-}
-
-/// What was held before an entry of the name that it asked for.
-fn cell_back(undo: &Undo) -> Option<CellBack>
-    ensures { result ≡ cell_of undo.now }
-{
-    match undo {
-        Undo::State(..) | Undo::Step(..) | Undo::Changes(_) => None,
-        Undo::Asked(_, cell) => Some(**cell),
-    }
-}
-
-/// Takes the changes of an entry back.
-fn take_back(alloc: Global, state: &mut Tracked, undo: Undo)
-    ensures plan { state.new.plan ≡ state.old.plan }
-    ensures board { state.new.board ≡ board_before undo state.old.board }
-{
-    match undo {
-        Undo::State(place, leg_state) => {
-            state.revert_only(alloc, OnlyChange::State(place, leg_state));
-        },
-        Undo::Step(place, leg_state) => {
-            state.revert_only(alloc, OnlyChange::Step(place, leg_state));
-        },
-        Undo::Changes(changes) => state.revert(alloc, Box::into_inner(changes)),
-        Undo::Asked(changes, _) => state.revert(alloc, Box::into_inner(changes)),
     }
 }
 
@@ -413,7 +292,7 @@ impl Table for FlatBoard {
         if entry.worker > 15 {
             return Err(EventFault::NoSuch);
         }
-        play_event(
+        play_asked(
             alloc,
             &mut self.state,
             &mut self.groups,
@@ -466,7 +345,6 @@ impl Reversible for FlatBoard {
 
     fn apply_with_undo(&mut self, entry: Entry) -> Result<(Reply, Undo), EventFault> {
         events_keep_the_groups();
-        who_enters_is_outside();
         let alloc = self.alloc;
         if entry.worker > 15 {
             return Err(EventFault::NoSuch);
@@ -482,7 +360,6 @@ impl Reversible for FlatBoard {
 
     fn advance_with_undo(&mut self, entry: Entry) -> Result<Undo, EventFault> {
         events_keep_the_groups();
-        who_enters_is_outside();
         let alloc = self.alloc;
         if entry.worker > 15 {
             return Err(EventFault::NoSuch);
@@ -498,11 +375,7 @@ impl Reversible for FlatBoard {
 
     fn revert(&mut self, undo: Undo) {
         self.groups.names_ascend();
-        put_back(
-            &mut self.groups,
-            self.state.counted().board(),
-            cell_back(&undo),
-        );
+        put_back(&mut self.groups, self.state.counted(), cell_back(&undo));
         take_back(self.alloc, &mut self.state, undo);
     }
 }

@@ -2,13 +2,15 @@
 //!
 //! Memory is asked for first; what comes after it changes the board in place.
 
-ghost use Rattle.std.specs.Prelude.{◌≡◌, ◌≤◌, ℕ, List, None, Ok, OnOk, Option, Result, Some, false};
+ghost use Rattle.std.specs.Prelude.{◌≡◌, ◌≤◌, ℕ, IfOk, List, None, Ok, OnOk, Option, Result, Some, false};
 ghost use Rattle.board_decisions.specs.Numbered.{leg_there as leg_there_of};
 ghost use Rattle.board_decisions.specs.Place.{LegAt};
 ghost use Rattle.board_decisions.specs.declared.entrance.Entrance.{Entrance as EntranceOf};
 ghost use Rattle.expr_value.specs.Answer.{Gives};
 ghost use Rattle.flat_board.specs.Index.{AsksNamed, EntersNamed, Goes, Keeps, entered};
+ghost use Rattle.flat_board.specs.Names.{group_at};
 ghost use Rattle.flat_board.specs.Stands.{StandsOnlyThere, standing_by};
+ghost use Rattle.flat_board.specs.Undo.{LeadsBack, Leaves};
 ghost use Rattle.flat_board.specs.declared.groups.Stand.{Stand as StandOf};
 ghost use Rattle.board_counters.specs.Names.{IsGroup, IsName, IsNamed};
 ghost use Rattle.flow_model.specs.declared.board.Board.{Board as BoardOf};
@@ -16,15 +18,18 @@ ghost use Rattle.flow_model.specs.declared.board.Leg.{Leg as LegOf};
 ghost use Rattle.flow_model.specs.declared.event.Member.{Member as MemberOf};
 ghost use Rattle.flow_model.specs.declared.event.Member.TheVariants as member;
 ghost use Rattle.flow_model.specs.declared.reply.ValueFault.{ValueFault as ValueFaultOf};
-ghost use Rattle.group_admission.specs.Content.{after_enter, holder_of, is_in_group};
+ghost use Rattle.flow_model.specs.Mapping.{value_at};
+ghost use Rattle.group_admission.specs.Content.{after_enter, is_in_group};
 ghost use Rattle.group_admission.specs.Known.{content};
-ghost use Rattle.status_table.specs.Admissions.{asked, left, opened};
+ghost use Rattle.status_table.specs.Admissions.{asked, opened};
 ghost use Rattle.status_table.specs.Answers.{Answers};
 ghost use Rattle.status_table.specs.Grouped.{KeptAsShown};
 ghost use Rattle.status_table.specs.Groups as spec;
+ghost use Rattle.status_table.specs.Reversible.{answer_of};
 ghost use Rattle.status_table.specs.Row.{leg_enters, run_enters};
 
 use crate::members::{admit, close_run, delay, drop_leg, forget_end, note_end, put_out, stop};
+use crate::undo::CellBack;
 use board_counters::Tracked;
 use board_decisions::entrance::{Entrance, Entrant};
 use board_decisions::place::{LegPlace, leg_there};
@@ -64,17 +69,21 @@ fn queue(
     groups: &mut Groups,
     asked: Asked,
     held: Held,
-) -> Result<Reply, EventFault>
+) -> Result<(Reply, Option<CellBack>), EventFault>
     requires named { IsName asked.group.name }
     requires outside { is_in_group asked.entrant.who (content groups.old) ≡ false }
+    requires held { value_at asked.group.name (content groups.old) ≡ Some held }
+    requires other { spec.is_own asked.entrant.own held.holder ≡ false }
     requires room { 4 ≤ state.old.room }
     ensures plan { state.new.plan ≡ state.old.plan }
     ensures answers { Answers
         (Ok (spec.queued state.old.board asked.entrant.who asked.group held.holder held.waiter))
-        state.old.board result state.new.board }
-    ensures groups { Goes result groups.old
+        state.old.board (answer_of result) state.new.board }
+    ensures groups { Goes (answer_of result) groups.old
         (after_enter asked.group.name asked.entrant.who asked.entrant.own (content groups.old)) groups.new }
     ensures back { OnOk result (state.new.back ≡ state.old.back) }
+    ensures cell { IfOk result (λ both. LeadsBack both.1
+        state.old.board (content groups.old) (content groups.new)) }
 {
     let Asked { entrant, group } = asked;
     note_end(state, held.waiter)?;
@@ -89,7 +98,10 @@ fn queue(
     delay(state, group.name, entrant.who);
     put_out(state, held.waiter);
     stop(state, cancel, held.holder);
-    Ok(told(None, held.waiter, stop_told(cancel, held.holder)))
+    let reply = told(None, held.waiter, stop_told(cancel, held.holder));
+    let who = entrant.who;
+    let held = Some(held);
+    Ok((reply, Some(CellBack { who, held })))
 }
 
 /// What comes of a member that enters a group, whose name is held so.
@@ -99,42 +111,55 @@ fn enter_held(
     groups: &mut Groups,
     asked: Asked,
     held: Held,
-) -> Result<Reply, EventFault>
+) -> Result<(Reply, Option<CellBack>), EventFault>
     requires named { IsName asked.group.name }
     requires outside { is_in_group asked.entrant.who (content groups.old) ≡ false }
-    requires held { Some held.holder ≡ holder_of asked.group.name (content groups.old) }
+    requires held { value_at asked.group.name (content groups.old) ≡ Some held }
     requires room { 4 ≤ state.old.room }
     ensures plan { state.new.plan ≡ state.old.plan }
     ensures answers { Answers (Ok (spec.enters_held state.old.board asked.entrant.who
         asked.entrant.own asked.group (Some held.holder) held.waiter))
-        state.old.board result state.new.board }
-    ensures groups { Goes result groups.old
+        state.old.board (answer_of result) state.new.board }
+    ensures groups { Goes (answer_of result) groups.old
         (after_enter asked.group.name asked.entrant.who asked.entrant.own (content groups.old)) groups.new }
     ensures back { OnOk result (state.new.back ≡ state.old.back) }
+    ensures cell { IfOk result (λ both. LeadsBack both.1
+        state.old.board (content groups.old) (content groups.new)) }
 {
     if is_own(asked.entrant.own, held.holder) {
-        return cancel(state, asked.entrant.who);
+        return Ok((cancel(state, asked.entrant.who)?, None));
     }
     queue(alloc, state, groups, asked, held)
 }
 
 /// A member enters a group whose name nobody holds.
-fn enter_free(state: &mut Tracked, groups: &mut Groups, asked: Asked) -> Result<Reply, EventFault>
+fn enter_free(
+    state: &mut Tracked,
+    groups: &mut Groups,
+    asked: Asked,
+) -> Result<(Reply, Option<CellBack>), EventFault>
     requires named { IsName asked.group.name }
     requires outside { is_in_group asked.entrant.who (content groups.old) ≡ false }
+    requires free { value_at asked.group.name (content groups.old) ≡ None }
     requires room { 4 ≤ state.old.room }
     ensures plan { state.new.plan ≡ state.old.plan }
     ensures answers { (waited : Option MemberOf) → Answers (Ok (spec.enters_held state.old.board
         asked.entrant.who asked.entrant.own asked.group None waited))
-        state.old.board result state.new.board }
-    ensures groups { Goes result groups.old
+        state.old.board (answer_of result) state.new.board }
+    ensures groups { Goes (answer_of result) groups.old
         (after_enter asked.group.name asked.entrant.who asked.entrant.own (content groups.old)) groups.new }
     ensures back { OnOk result (state.new.back ≡ state.old.back) }
+    ensures cell { IfOk result (λ both. LeadsBack both.1
+        state.old.board (content groups.old) (content groups.new)) }
 {
     let Asked { entrant, group } = asked;
     groups.enter(group.name.as_str(), entrant.who, entrant.own, group.cancel)?;
-    admit(state, Some(group.name), entrant.who);
-    Ok(told(Some(entrant.who), None, None))
+    let who = entrant.who;
+    admit(state, Some(group.name), who);
+    Ok((
+        told(Some(who), None, None),
+        Some(CellBack { who, held: None }),
+    ))
 }
 
 /// A member enters its group, or none.
@@ -144,21 +169,23 @@ pub(crate) fn enter(
     groups: &mut Groups,
     entrant: Entrant,
     group: Option<Entrance>,
-) -> Result<Reply, EventFault>
+) -> Result<(Reply, Option<CellBack>), EventFault>
     requires named { EntersNamed group }
     requires outside { is_in_group entrant.who (content groups.old) ≡ false }
     requires kept { KeptAsShown (content groups.old) state.old.board }
     requires room { 4 ≤ state.old.room }
     ensures plan { state.new.plan ≡ state.old.plan }
     ensures answers { Answers (Ok (spec.enters state.old.board entrant.who entrant.own group))
-        state.old.board result state.new.board }
-    ensures groups { Goes result groups.old
+        state.old.board (answer_of result) state.new.board }
+    ensures groups { Goes (answer_of result) groups.old
         (entered entrant.who entrant.own group (content groups.old)) groups.new }
     ensures back { OnOk result (state.new.back ≡ state.old.back) }
+    ensures cell { IfOk result (λ both. LeadsBack both.1
+        state.old.board (content groups.old) (content groups.new)) }
 {
     let Some(group) = group else {
         admit(state, None, entrant.who);
-        return Ok(told(Some(entrant.who), None, None));
+        return Ok((told(Some(entrant.who), None, None), None));
     };
     match groups.held(group.name.as_str()) {
         Some(held) => enter_held(alloc, state, groups, Asked { entrant, group }, held),
@@ -173,7 +200,7 @@ pub(crate) fn enter_run(
     groups: &mut Groups,
     number: u64,
     group: Result<Option<Entrance>, ValueFault>,
-) -> Result<Reply, EventFault>
+) -> Result<(Reply, Option<CellBack>), EventFault>
     requires named { AsksNamed group }
     requires outside { is_in_group (member.Run number) (content groups.old) ≡ false }
     requires kept { KeptAsShown (content groups.old) state.old.board }
@@ -181,11 +208,13 @@ pub(crate) fn enter_run(
     ensures plan { state.new.plan ≡ state.old.plan }
     ensures answers { (value : Result (Option EntranceOf) ValueFaultOf)
         → Gives (λ group. group) group value
-        → Answers (run_enters state.old.board number value) state.old.board result state.new.board }
+        → Answers (run_enters state.old.board number value) state.old.board (answer_of result) state.new.board }
     ensures groups { (value : Result (Option EntranceOf) ValueFaultOf)
         → Gives (λ group. group) group value
-        → Goes result groups.old (opened (content groups.old) number value) groups.new }
+        → Goes (answer_of result) groups.old (opened (content groups.old) number value) groups.new }
     ensures back { OnOk result (state.new.back ≡ state.old.back) }
+    ensures cell { IfOk result (λ both. LeadsBack both.1
+        state.old.board (content groups.old) (content groups.new)) }
 {
     match group {
         Ok(group) => {
@@ -198,7 +227,7 @@ pub(crate) fn enter_run(
         Err(ValueFault::Memory) => Err(EventFault::Memory),
         Err(faulted!()) => {
             close_run(state, number, Outcome::Failure);
-            Ok(moved())
+            Ok((moved(), None))
         },
     }
 }
@@ -217,7 +246,7 @@ pub(crate) fn enter_leg(
     groups: &mut Groups,
     asker: Asker,
     group: Result<Option<Entrance>, ValueFault>,
-) -> Result<Reply, EventFault>
+) -> Result<(Reply, Option<CellBack>), EventFault>
     requires named { AsksNamed group }
     requires outside { is_in_group (member.Leg asker.leg) (content groups.old) ≡ false }
     requires kept { KeptAsShown (content groups.old) state.old.board }
@@ -226,11 +255,13 @@ pub(crate) fn enter_leg(
     ensures answers { (at : LegAt) (value : Result (Option EntranceOf) ValueFaultOf)
         → at.place.run ≡ asker.run → Gives (λ group. group) group value
         → Answers (leg_enters state.old.board asker.leg at value)
-        state.old.board result state.new.board }
+        state.old.board (answer_of result) state.new.board }
     ensures groups { (value : Result (Option EntranceOf) ValueFaultOf)
         → Gives (λ group. group) group value
-        → Goes result groups.old (asked (content groups.old) asker.leg asker.run value) groups.new }
+        → Goes (answer_of result) groups.old (asked (content groups.old) asker.leg asker.run value) groups.new }
     ensures back { OnOk result (state.new.back ≡ state.old.back) }
+    ensures cell { IfOk result (λ both. LeadsBack both.1
+        state.old.board (content groups.old) (content groups.new)) }
 {
     match group {
         Ok(group) => {
@@ -243,7 +274,7 @@ pub(crate) fn enter_leg(
         Err(ValueFault::Memory) => Err(EventFault::Memory),
         Err(faulted!()) => {
             drop_leg(state, asker.leg, Outcome::Failure)?;
-            Ok(moved())
+            Ok((moved(), None))
         },
     }
 }
@@ -321,28 +352,42 @@ pub(crate) fn next_after(groups: &Groups, stand: Stand, group: &Option<Text>) ->
     }
 }
 
-/// A member that ended leaves its group, which is found by its name; one that has no group leaves none.
-pub(crate) fn leave(groups: &mut Groups, who: Member, group: &Option<Text>)
+/// A member that ended leaves its group, which is found by its name, and what was held of that is told; one that has no
+/// group leaves none.
+pub(crate) fn leave(groups: &mut Groups, who: Member, group: &Option<Text>) -> Option<CellBack>
     requires { IsGroup group.now }
-    ensures leaves { (stood : StandOf)
+    ensures leaves { (b : BoardOf) (stood : StandOf) → group_at b who ≡ group.now
         → StandsOnlyThere (content groups.old) who (standing_by stood group.now)
-        → content groups.new ≡ left (content groups.old) who (standing_by stood group.now) }
+        → Leaves result b who (standing_by stood group.now) (content groups.old) (content groups.new) }
     ensures known { Keeps groups.old groups.new }
 {
-    if let Some(name) = group {
-        groups.leave_name(name.as_str(), who);
+    match group {
+        Some(name) => {
+            let held = groups.held(name.as_str());
+            groups.leave_name(name.as_str(), who);
+            Some(CellBack { who, held })
+        },
+        None => None,
     }
 }
 
-/// A leg that ended leaves its group, whose name stands on the board still.
-pub(crate) fn leave_leg(groups: &mut Groups, board: &Board, place: LegPlace, number: u64)
+/// A leg that ended leaves its group, whose name stands on the board still, and what was held of that is told.
+pub(crate) fn leave_leg(
+    groups: &mut Groups,
+    board: &Board,
+    place: LegPlace,
+    number: u64,
+) -> Option<CellBack>
     requires { IsNamed board.now }
-    ensures leaves { (leg : LegOf) (stood : StandOf) → leg_there_of board.now place ≡ Some leg
+    ensures leaves { (b : BoardOf) (leg : LegOf) (stood : StandOf)
+        → leg_there_of board.now place ≡ Some leg → group_at b (member.Leg number) ≡ leg.group
         → StandsOnlyThere (content groups.old) (member.Leg number) (standing_by stood leg.group)
-        → content groups.new ≡ left (content groups.old) (member.Leg number) (standing_by stood leg.group) }
+        → Leaves result b (member.Leg number) (standing_by stood leg.group)
+        (content groups.old) (content groups.new) }
     ensures known { Keeps groups.old groups.new }
 {
-    if let Some(leg) = leg_there(board, place) {
-        leave(groups, Member::Leg(number), &leg.group);
+    match leg_there(board, place) {
+        Some(leg) => leave(groups, Member::Leg(number), &leg.group),
+        None => None,
     }
 }

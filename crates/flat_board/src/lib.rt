@@ -5,8 +5,7 @@
 //! holds a name and who is next are read off, and not looked for; who holds a name, who waits for it and who is next it
 //! tells callers too. `members` and `groups` are the changes of members and what comes of entering and leaving a group;
 //! `events` are the rows of the table, and `moves` what a clerk may do, for which jobs to whose legs nothing may happen are
-//! passed over (`idle`); `undo` is what takes an entry back; `touched` is what it keeps of the groups: the one name that an
-//! event asks for.
+//! passed over (`idle`); `undo` is what takes an entry back, of the groups too: the one name that an event asks for.
 //!
 //! No contract of a caller speaks of the counters. The crate stands on `board_counters`, on `status_table` for the
 //! table and for what does not look at counters, on `group_admission` for the index, and on `board_decisions` and
@@ -22,9 +21,8 @@ mod idle;
 mod laws;
 mod members;
 mod moves;
-mod touched;
 mod unasked;
 mod undo;
 
 pub use flat_board::FlatBoard;
-pub use undo::{CellBack, Stood, Undo};
+pub use undo::{CellBack, EntryBack, Undo};

@@ -4,7 +4,6 @@
 //! known as they are played, and is given by itself.
 
 ghost use Rattle.std.specs.Prelude.{◌≡◌, ◌≤◌, None, IfOk, OnOk};
-ghost use Rattle.board_counters.specs.Undo.{undone};
 ghost use Rattle.flat_board.specs.Undo.{board_before, cell_of};
 ghost use Rattle.status_table.specs.Reversible.{done_of};
 ghost use Rattle.status_table.specs.Row.{begin_row, end_row};
@@ -12,40 +11,14 @@ ghost use Rattle.status_table.specs.Unasked.{Leads};
 
 use crate::events::end;
 use crate::found::{find_leg, keep};
-use crate::undo::Undo;
-use board_counters::{Changes, OnlyChange, Tracked};
+use crate::undo::{Undo, make_back, undo_of};
+use board_counters::Tracked;
 use flow_model::{Answer, LegState, Outcome};
 use status_table::EventFault;
 use status_table::change::LegChange;
 use status_table::events::{ended_step, failed_step, skipped_step};
 use status_table::unasked::{Begins, beginning_unasked, is_begun_at_once, is_ended_at_once};
 use std::alloc::Global;
-
-/// What takes back all changes since the board last began, in a list that is there.
-pub(crate) fn filled(alloc: Global, state: &mut Tracked, list: Box<Changes>) -> Box<Changes>
-    ensures plan { state.new.plan ≡ state.old.plan }
-    ensures board { state.new.board ≡ state.old.board }
-    ensures back { undone result.value.items state.new.board ≡ state.old.back }
-{
-    let mut list = list;
-    *list = state.take_changes(alloc);
-    list
-}
-
-/// What takes back what was played since the board last began, where no name was asked for.
-pub(crate) fn undo_apart(alloc: Global, state: &mut Tracked, list: Box<Changes>) -> Undo
-    ensures plan { state.new.plan ≡ state.old.plan }
-    ensures board { state.new.board ≡ state.old.board }
-    ensures back { board_before result state.new.board ≡ state.old.back }
-    ensures cell { cell_of result ≡ None }
-{
-    match state.take_only() {
-        Some(OnlyChange::State(place, leg_state)) => return Undo::State(place, leg_state),
-        Some(OnlyChange::Step(place, leg_state)) => return Undo::Step(place, leg_state),
-        None => {},
-    }
-    Undo::Changes(filled(alloc, state, list))
-}
 
 /// Begins the next step of a leg, whose texts may have to be evaluated.
 fn begin_by_texts(
@@ -95,10 +68,10 @@ fn begin_slowly(
     ensures back { IfOk result (λ undo. board_before undo state.new.board ≡ state.old.board) }
     ensures cell { IfOk result (λ undo. cell_of undo ≡ None) }
 {
-    let list = Box::new(alloc, Changes::new(alloc))?;
+    let back = make_back(alloc)?;
     state.begin(1)?;
     begin_by_texts(alloc, state, worker, number)?;
-    Ok(undo_apart(alloc, state, list))
+    Ok(undo_of(alloc, state, back, None))
 }
 
 /// Begins the next step of a leg, whose call nobody asks for, and gives what takes it back.
@@ -142,10 +115,10 @@ fn end_slowly(
     ensures back { IfOk result (λ undo. board_before undo state.new.board ≡ state.old.board) }
     ensures cell { IfOk result (λ undo. cell_of undo ≡ None) }
 {
-    let list = Box::new(alloc, Changes::new(alloc))?;
+    let back = make_back(alloc)?;
     state.begin(1)?;
     end(alloc, state, worker, number, answer)?;
-    Ok(undo_apart(alloc, state, list))
+    Ok(undo_of(alloc, state, back, None))
 }
 
 /// Ends the step of a leg that is in a call, and gives what takes it back.

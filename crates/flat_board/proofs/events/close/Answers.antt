@@ -1,6 +1,7 @@
-use Rattle.std.proofs.Common.{◌≡◌, Some, subst, sym, ◌∙◌}
+use Rattle.std.proofs.Common.{◌≡◌, Some, ap, subst, sym, ◌∙◌}
 use Rattle.board_decisions.specs.Place.{run_at}
 use Rattle.board_decisions.specs.Seen.{run_seen}
+use Rattle.status_table.specs.Grouped.{run_left}
 use Rattle.status_table.specs.Play.{Play}
 use Rattle.flat_board.proofs.Leaving.{run_has_left}
 use Rattle.group_admission.specs.Known.{content}
@@ -9,10 +10,20 @@ use Rattle.flat_board.proofs.events.close.Goals as goal
 pub returns-clause-groups : goal.returns-clause-groups
 returns-clause-groups c =
     let at = run_seen c.in-Some.at in
+    let groups = content c.args.groups.now in
+    let found = subst (λ (s : Play). run_at s.plan s.board c.args.number ≡ Some at) c.counted-play.ensures
+    ((λ i. run_at (sym c.plan.ensures.same i) (sym c.board.ensures.board i) c.args.number) ∙ sym c.in-Some.ensures) in
     record {
-      held = run_has_left c.args.state.now.plan c.args.state.now.board (content c.args.groups.now) c.args.number at c.requires.kept
-          (subst (λ (s : Play). run_at s.plan s.board c.args.number ≡ Some at) c.counted-play.ensures
-          ((λ i. run_at (sym c.plan.ensures.same i) (sym c.board.ensures.board i) c.args.number) ∙ sym c.in-Some.ensures))
-          c.run_stand-stand.result c.run_stand-stand.ensures (content c.leave.new.groups) c.leave.ensures.leaves;
-      known = c.leave.ensures.known;
+      held = (run_has_left c.args.state.now.plan c.args.state.now.board groups c.args.number at c.requires.kept found
+          c.run_stand-stand.result c.run_stand-stand.ensures c.leave-cell.result (content c.leave-cell.new.groups) (c.leave-cell.ensures.leaves c.args.state.now.board)).to
+          ∙ ap (run_left groups c.args.number) (sym found);
+      known = c.leave-cell.ensures.known;
     }
+
+pub returns-clause-cell : goal.returns-clause-cell
+returns-clause-cell c =
+    let at = run_seen c.in-Some.at in
+    let found = subst (λ (s : Play). run_at s.plan s.board c.args.number ≡ Some at) c.counted-play.ensures
+    ((λ i. run_at (sym c.plan.ensures.same i) (sym c.board.ensures.board i) c.args.number) ∙ sym c.in-Some.ensures) in
+    (run_has_left c.args.state.now.plan c.args.state.now.board (content c.args.groups.now) c.args.number at c.requires.kept found
+    c.run_stand-stand.result c.run_stand-stand.ensures c.leave-cell.result (content c.leave-cell.new.groups) (c.leave-cell.ensures.leaves c.args.state.now.board)).back

@@ -1,6 +1,7 @@
 use Rattle.std.proofs.Common.{◌≡◌, Some, ap, subst, sym, ◌∙◌}
 use Rattle.board_decisions.specs.Place.{leg_at}
 use Rattle.board_decisions.specs.Seen.{leg_seen}
+use Rattle.status_table.specs.Grouped.{leg_left}
 use Rattle.status_table.specs.Play.{Play}
 use Rattle.flat_board.proofs.Leaving.{ended_has_left}
 use Rattle.group_admission.specs.Known.{content}
@@ -9,10 +10,18 @@ use Rattle.flat_board.proofs.events.finish.Goals as goal
 pub returns-clause-groups : goal.returns-clause-groups
 returns-clause-groups c =
     let at = leg_seen c.in-Some.leg.at in
+    let found = subst (λ (s : Play). leg_at s.plan s.board c.args.number ≡ Some at) c.counted-play.ensures (sym c.in-Some.ensures.found) in
     record {
-      held = ended_has_left c.args.state.now.plan c.args.state.now.board (content c.args.groups.now) c.args.number at c.requires.kept
-          (subst (λ (s : Play). leg_at s.plan s.board c.args.number ≡ Some at) c.counted-play.ensures (sym c.in-Some.ensures.found))
-          c.leg_stand-stand.result c.leg_stand-stand.ensures c.board.result.now (content c.leave_leg.new.groups) c.leave_leg.ensures.leaves _ _
-          (c.board.ensures.board ∙ ap (λ (s : Play). s.board) c.counted.ensures ∙ c.in_ok-set_ended.ensures.ok);
-      known = c.leave_leg.ensures.known;
+      held = (ended_has_left c.args.state.now.plan c.args.state.now.board (content c.args.groups.now) c.args.number at c.requires.kept found
+          c.leg_stand-stand.result c.leg_stand-stand.ensures c.board.result.now c.leave_leg-cell.result (content c.leave_leg-cell.new.groups) (c.leave_leg-cell.ensures.leaves c.args.state.now.board) _ _
+          (c.board.ensures.board ∙ ap (λ (s : Play). s.board) c.counted.ensures ∙ c.in_ok-set_ended.ensures.ok)).to ∙ ap (leg_left (content c.args.groups.now) c.args.number) (sym found);
+      known = c.leave_leg-cell.ensures.known;
     }
+
+pub returns-clause-cell : goal.returns-clause-cell
+returns-clause-cell c =
+    let at = leg_seen c.in-Some.leg.at in
+    let found = subst (λ (s : Play). leg_at s.plan s.board c.args.number ≡ Some at) c.counted-play.ensures (sym c.in-Some.ensures.found) in
+    (ended_has_left c.args.state.now.plan c.args.state.now.board (content c.args.groups.now) c.args.number at c.requires.kept found
+    c.leg_stand-stand.result c.leg_stand-stand.ensures c.board.result.now c.leave_leg-cell.result (content c.leave_leg-cell.new.groups) (c.leave_leg-cell.ensures.leaves c.args.state.now.board) _ _
+    (c.board.ensures.board ∙ ap (λ (s : Play). s.board) c.counted.ensures ∙ c.in_ok-set_ended.ensures.ok)).back

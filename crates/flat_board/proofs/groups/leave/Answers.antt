@@ -1,35 +1,49 @@
-use Rattle.std.proofs.Common.{◌≡◌, List, ℕ, Option, ap, subst, sym, ◌∙◌}
+use Rattle.std.proofs.Common.{◌≡◌, List, ℕ, Option, Some, inl, ap, subst, sym, ◌∙◌, refl}
 use Rattle.expr_reader.specs.Fold.{fold}
+use Rattle.flow_model.specs.Mapping.{value_at}
 use Rattle.group_admission.specs.Content.{holder_of, waiter_of}
 use Rattle.flat_board.specs.Stands.{StandsOnlyThere, standing_by}
 use Rattle.board_counters.specs.Names.{IsGroup}
 use Rattle.status_table.specs.Admissions.{left}
-use Rattle.flat_board.proofs.Leaving.{name_left, none_left}
+use Rattle.flat_board.proofs.Leaving.{name_left, none_left, others_left}
 use Rattle.group_admission.specs.Known.{content}
 use Rattle.flat_board.proofs.groups.leave.Goals as goal
 
 pub returns-in-Some-clause-leaves : goal.returns-in-Some-clause-leaves
-returns-in-Some-clause-leaves c = λ stood only.
+returns-in-Some-clause-leaves c = λ b stood there only.
     let who = c.args.who in
     let groups = content c.args.groups.now in
-    let same : fold c.as_str.result.now ≡ c.in-Some.name = ap fold c.as_str.ensures ∙ (subst IsGroup c.in-Some.is c.requires).folded in
+    let name = c.in-Some.name in
+    let same : fold c.as_str-in-Some.result.now ≡ name = ap fold c.as_str-in-Some.ensures ∙ (subst IsGroup c.in-Some.is c.requires).folded in
+    let same_held : fold c.as_str.result.now ≡ name = ap fold c.as_str.ensures ∙ (subst IsGroup c.in-Some.is c.requires).folded in
     let holds = ap (λ n. holder_of n groups) same in
     let waits = ap (λ n. waiter_of n groups) same in
     let left_it = c.leave_name.ensures in
-    name_left groups who (content c.leave_name.new.self) c.in-Some.name (λ e. left_it.held (holds ∙ e)) (λ e. left_it.awaited (waits ∙ e))
-    (λ holder waiter. left_it.other (λ e. holder (sym holds ∙ e)) (λ e. waiter (sym waits ∙ e))) stood
-    (subst (λ (g : Option (List ℕ)). StandsOnlyThere groups who (standing_by stood g)) c.in-Some.is only)
-    ∙ ap (λ (g : Option (List ℕ)). left groups who (standing_by stood g)) (sym c.in-Some.is)
+    let stays = subst (λ (g : Option (List ℕ)). StandsOnlyThere groups who (standing_by stood g)) c.in-Some.is only in
+    let to = name_left groups who (content c.leave_name.new.self) name (λ e. left_it.held (holds ∙ e)) (λ e. left_it.awaited (waits ∙ e))
+    (λ holder waiter. left_it.other (λ e. holder (sym holds ∙ e)) (λ e. waiter (sym waits ∙ e))) stood stays in
+    record {
+      to = to ∙ ap (λ (g : Option (List ℕ)). left groups who (standing_by stood g)) (sym c.in-Some.is);
+      back = record {
+        name = name;
+        of_who = inl (there ∙ c.in-Some.is);
+        held = ap (λ n. value_at n groups) (sym same_held) ∙ sym c.held-held.ensures;
+        others = λ q differs. ap (value_at q) to ∙ others_left groups who name stood stays q differs;
+      };
+    }
 
-pub returns-in_default-clause-leaves : goal.returns-in_default-clause-leaves
-returns-in_default-clause-leaves c = λ stood only.
+pub returns-in-None-clause-leaves : goal.returns-in-None-clause-leaves
+returns-in-None-clause-leaves c = λ b stood there only.
     let who = c.args.who in
     let groups = content c.args.groups.now in
-    none_left groups who stood (subst (λ (g : Option (List ℕ)). StandsOnlyThere groups who (standing_by stood g)) c.in_default.is only)
-    ∙ ap (λ (g : Option (List ℕ)). left groups who (standing_by stood g)) (sym c.in_default.is)
+    record {
+      to = none_left groups who stood (subst (λ (g : Option (List ℕ)). StandsOnlyThere groups who (standing_by stood g)) c.in-None.is only)
+          ∙ ap (λ (g : Option (List ℕ)). left groups who (standing_by stood g)) (sym c.in-None.is);
+      back = refl;
+    }
 
 pub returns-in-Some-clause-known : goal.returns-in-Some-clause-known
 returns-in-Some-clause-known c = λ q h. c.leave_name.ensures.known q ∙ h
 
-pub returns-in_default-clause-known : goal.returns-in_default-clause-known
-returns-in_default-clause-known c = λ q h. h
+pub returns-in-None-clause-known : goal.returns-in-None-clause-known
+returns-in-None-clause-known c = λ q h. h

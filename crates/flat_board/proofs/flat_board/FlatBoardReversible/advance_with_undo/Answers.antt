@@ -38,7 +38,7 @@ returns-clause-ended_stays c =
 
 pub returns-clause-fits : goal.returns-clause-fits
 returns-clause-fits c =
-    fits_unasked c.events_keep_the_groups.ensures c.who_enters_is_outside.ensures (play_of c.self.inside.state) (play_of c.advance_with_undo.new.state) c.self.inside.groups c.advance_with_undo.new.groups
+    fits_unasked c.events_keep_the_groups.ensures (play_of c.self.inside.state) (play_of c.advance_with_undo.new.state) c.self.inside.groups c.advance_with_undo.new.groups
     c.args.entry.worker c.args.entry.event c.if-entry-gt15.false c.self.invariant c.advance_with_undo.result c.advance_with_undo.ensures.follows
     c.advance_with_undo.ensures.back c.advance_with_undo.ensures.cell
 

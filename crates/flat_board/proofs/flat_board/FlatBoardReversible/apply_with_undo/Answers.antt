@@ -28,7 +28,7 @@ returns-clause-ended_stays c =
 
 pub returns-clause-fits : goal.returns-clause-fits
 returns-clause-fits c =
-    fits_all c.events_keep_the_groups.ensures c.who_enters_is_outside.ensures (play_of c.self.inside.state) (play_of c.play_with_undo.new.state) c.self.inside.groups c.play_with_undo.new.groups
+    fits_all c.events_keep_the_groups.ensures (play_of c.self.inside.state) (play_of c.play_with_undo.new.state) c.self.inside.groups c.play_with_undo.new.groups
     c.args.entry.worker c.args.entry.event c.if-entry-gt15.false c.self.invariant c.play_with_undo.result c.play_with_undo.ensures.follows
     c.play_with_undo.ensures.back c.play_with_undo.ensures.cell
 

@@ -8,19 +8,19 @@ use Rattle.flat_board.proofs.flat_board.FlatBoardTable.apply.Goals as goal
 
 pub invariant_of-self : goal.invariant_of-self
 invariant_of-self c =
-    sound_after c.events_keep_the_groups.ensures (play_of c.self.inside.state) (play_of c.play_event.new.state) c.self.inside.groups c.play_event.new.groups c.args.entry.worker
-    c.args.entry.event c.if-entry-gt15.false c.self.invariant c.play_event.result c.play_event.ensures.follows
+    sound_after c.events_keep_the_groups.ensures (play_of c.self.inside.state) (play_of c.play_asked.new.state) c.self.inside.groups c.play_asked.new.groups c.args.entry.worker
+    c.args.entry.event c.if-entry-gt15.false c.self.invariant c.play_asked.result c.play_asked.ensures.follows
 
 pub returns-clause-in_play : goal.returns-clause-in_play
 returns-clause-in_play c =
-    (sound_after c.events_keep_the_groups.ensures (play_of c.self.inside.state) (play_of c.play_event.new.state) c.self.inside.groups c.play_event.new.groups c.args.entry.worker
-    c.args.entry.event c.if-entry-gt15.false c.self.invariant c.play_event.result c.play_event.ensures.follows).in_play
+    (sound_after c.events_keep_the_groups.ensures (play_of c.self.inside.state) (play_of c.play_asked.new.state) c.self.inside.groups c.play_asked.new.groups c.args.entry.worker
+    c.args.entry.event c.if-entry-gt15.false c.self.invariant c.play_asked.result c.play_asked.ensures.follows).in_play
 
 pub returns-clause-ended_stays : goal.returns-clause-ended_stays
 returns-clause-ended_stays c =
-    subst (λ (s : Play). Stays s.board c.play_event.new.state.board) c.self.view_is
-    (stays_after c.events_keep_the_groups.ensures (play_of c.self.inside.state) (play_of c.play_event.new.state) c.self.inside.groups c.play_event.new.groups c.args.entry.worker
-    c.args.entry.event c.if-entry-gt15.false c.self.invariant c.play_event.result c.play_event.ensures.follows)
+    subst (λ (s : Play). Stays s.board c.play_asked.new.state.board) c.self.view_is
+    (stays_after c.events_keep_the_groups.ensures (play_of c.self.inside.state) (play_of c.play_asked.new.state) c.self.inside.groups c.play_asked.new.groups c.args.entry.worker
+    c.args.entry.event c.if-entry-gt15.false c.self.invariant c.play_asked.result c.play_asked.ensures.follows)
 
 pub returns-then-entry-gt15-clause-ended_stays : goal.returns-then-entry-gt15-clause-ended_stays
 returns-then-entry-gt15-clause-ended_stays c = stays-same c.args.self.now.board
