@@ -15,10 +15,10 @@ use Rattle.board_counters.specs.Counters.{is_settled, moved, needs_of, tallies_o
 use Rattle.board_counters.specs.Dependents.{all_dependents, dependents_at}
 use Rattle.board_counters.specs.Failing.{failing_of}
 use Rattle.board_counters.specs.Lasting.{IsLasting}
-use Rattle.board_counters.specs.Names.{IsGroup, IsNamed, RunComesNamed}
 use Rattle.board_counters.specs.Standing.{run_moved, run_tally, standing_read}
 use Rattle.board_counters.specs.Stopping.{run_legs}
 use Rattle.board_counters.specs.declared.change.RunChange.{RunChange}
+use Rattle.board_counters.specs.declared.change.RunChange.TheVariants as run_change
 use Rattle.board_counters.specs.declared.counts.Counts.{Counts}
 use Rattle.board_counters.specs.declared.lasting.Lasting.{Lasting}
 use Rattle.board_counters.specs.declared.need.Need.{Need}
@@ -28,7 +28,6 @@ use Rattle.board_counters.specs.declared.stopping.RunLegs.{RunLegs}
 use Rattle.board_counters.specs.declared.tally.Tally.{Tally}
 use Rattle.board_counters.proofs.Failings.{job_failing_kept, run_failing_kept}
 use Rattle.board_counters.proofs.Lists.{changed-same}
-use Rattle.board_counters.proofs.Named.{leg_named, job_named, run_named, jobs_stay}
 use Rattle.board_counters.proofs.Needs.{needs_follow, needs-kept, settled_in}
 use Rattle.board_decisions.specs.Places.{run_sizes}
 use Rattle.board_counters.proofs.Placed.{leg_sizes, job_sizes, run_sizes_kept, still_lasts}
@@ -106,12 +105,11 @@ leg_counts p b new place f was is old made legs ls counted lasts new_is so again
 
 -- all that is kept where a leg was changed
 pub leg_counted : (p : Plan) (b new : Board) (place : LegPlace) (f : Leg → Leg) (was is : LegState) (old made : Counts) (legs : List RunLegs) (fs gs : List (List (List Bool))) (ls : Lasting)
-    → IsCounted p b old fs ls → ((leg : Leg) → IsGroup leg.group → IsGroup (f leg).group) → new ≡ with_leg b place f → ComesSo b new place was is
+    → IsCounted p b old fs ls → new ≡ with_leg b place f → ComesSo b new place was is
     → LegRecounted place was is (slice_get new.runs place.run) ls.dependents old made → legs ≡ map run_legs new.runs → gs ≡ failing_of new → IsCounted p new (record made { legs = legs }) gs ls
-leg_counted p b new place f was is old made legs fs gs ls counted names new_is so again told failed = record {
+leg_counted p b new place f was is old made legs fs gs ls counted new_is so again told failed = record {
   counted = leg_counts p b new place f was is old made legs ls counted.counted counted.lasts new_is so again told;
   failed = failed;
-  named = subst IsNamed (sym new_is) (leg_named b place f names counted.named);
   lasts = still_lasts p b new ls (ap (λ (x : Board). run_sizes x.runs) new_is ∙ leg_sizes b place f) counted.lasts;
 }
 
@@ -137,14 +135,18 @@ job_counted p b new place state was is old made fs ls counted new_is was_is is_i
         needed = job-needed p b new place.run place.job g was is ls old.needs made.needs counted.lasts counted.counted.needed runs before after needs_is;
       };
       failed = counted.failed ∙ sym (job_failing_kept b place state) ∙ ap failing_of (sym new_is);
-      named = subst IsNamed (sym new_is) (job_named b place state counted.named);
       lasts = still_lasts p b new ls (ap (λ (x : Board). run_sizes x.runs) new_is ∙ job_sizes b place state) counted.lasts;
     }
 
+jobs_stay : (how : RunChange) (run : Run) → (run_after how run).jobs ≡ run.jobs
+jobs_stay (run_change.State state) run = refl
+jobs_stay (run_change.Group state group) run = refl
+jobs_stay (run_change.Stop stop) run = refl
+
 -- where a run was changed, but not its jobs
-pub run_counted : (p : Plan) (b new : Board) (r : ℕ) (how : RunChange) (counts : Counts) (fs : List (List (List Bool))) (ls : Lasting) → IsCounted p b counts fs ls → RunComesNamed how
+pub run_counted : (p : Plan) (b new : Board) (r : ℕ) (how : RunChange) (counts : Counts) (fs : List (List (List Bool))) (ls : Lasting) → IsCounted p b counts fs ls
     → new ≡ with_run b r (run_after how) → IsCounted p new counts fs ls
-run_counted p b new r how counts fs ls counted comes new_is = subst (λ (x : Board). IsCounted p x counts fs ls) (sym new_is) (record {
+run_counted p b new r how counts fs ls counted new_is = subst (λ (x : Board). IsCounted p x counts fs ls) (sym new_is) (record {
   counted = record {
     tallied = counted.counted.tallied ∙ sym (run_tallies b r (run_after how) (jobs_stay how));
     stand = counted.counted.stand ∙ sym (run_tallies_kept b.runs r (run_after how) (jobs_stay how));
@@ -152,7 +154,6 @@ run_counted p b new r how counts fs ls counted comes new_is = subst (λ (x : Boa
     needed = counted.counted.needed ∙ sym (needs-kept p.runs b.runs r (run_after how) (λ run at. ap settled (jobs_stay how run)));
   };
   failed = counted.failed ∙ sym (run_failing_kept b r (run_after how) (jobs_stay how));
-  named = run_named b r how comes counted.named;
   lasts = still_lasts p b (with_run b r (run_after how)) ls (run_sizes_kept b r (run_after how) (jobs_stay how)) counted.lasts;
 })
   where

@@ -3,7 +3,6 @@ pub mod Ended
 pub mod Failings
 pub mod Followed
 pub mod Lists
-pub mod Named
 pub mod Needs
 pub mod Placed
 pub mod Standings

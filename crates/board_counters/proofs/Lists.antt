@@ -4,7 +4,6 @@ use Rattle.std.specs.List.{list_any}
 use Rattle.std.proofs.lemmas.Bool.Decides.{nat_tests}
 use Rattle.std.proofs.lemmas.List.{drop_more}
 use Rattle.std.proofs.lemmas.List.Sums.{sum_by-cons}
-use Rattle.flow_model.specs.Sound.{Each}
 use Rattle.board_counters.specs.Counters.{turned}
 use Rattle.status_table.specs.Change.{put, changed}
 use Rattle.status_table.proofs.Counts.{one, sum-changed}
@@ -58,22 +57,6 @@ pub changed-more : {T : Type 0} (f : T → T) (xs : List T) (i : ℕ) → i < le
 changed-more f [] i h = absurd (omega (arith, h))
 changed-more f (x ∷ xs) zero h = refl
 changed-more f (x ∷ xs) (suc i) h = changed-cons (f x) (map f (take i xs) ++ drop i xs) i f ∙ ap (λ ys. f x ∷ ys) (changed-more f xs i (omega (arith, h)))
-
--- ---- each item
-
-pub each-changed : {T : Type 0} (P : T → Type 0) (xs : List T) (i : ℕ) (f : T → T) → ((x : T) → P x → P (f x)) → Each P xs → Each P (changed xs i f)
-each-changed P [] i f step h = h
-each-changed {T} P (y ∷ ys) zero f step h = λ k. each k
-  where
-    each : (k : ℕ) (x : T) → slice_get (f y ∷ ys) k ≡ Some x → P x
-    each zero x at = subst P (same_some (f y) x at) (step y (h 0 y refl))
-    each (suc k) x at = h (suc k) x at
-each-changed {T} P (y ∷ ys) (suc i) f step h =
-    subst (Each P) (sym (changed-cons y ys i f)) (each (each-changed P ys i f step (λ j z there. h (suc j) z there)))
-  where
-    each : Each P (changed ys i f) → (k : ℕ) (x : T) → slice_get (y ∷ changed ys i f) k ≡ Some x → P x
-    each later zero x at = h 0 x at
-    each later (suc k) x at = later k x at
 
 -- ---- how many pass a test
 

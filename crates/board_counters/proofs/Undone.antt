@@ -108,9 +108,6 @@ state_back b new place state was new_is was_is =
     ∙ leg-there b place (λ leg. record leg { state = state }) (λ leg. record leg { state = was }) (λ leg at.
     ap (λ (s : LegState). record leg { state = s }) (was_is ∙ ap state_of at))
 
-pub end_back : (b new : Board) (l : ℕ) → new ≡ noted_last b l → unnoted new ≡ b
-end_back b new l new_is = ap unnoted new_is ∙ ap (λ (ends : List ℕ). record b { ends = ends }) (front-more b.ends l)
-
 -- ---- all changes of a board
 
 undone-last : (xs : List Change) (x : Change) (b : Board) → undone (xs ++ x ∷ []) b ≡ undone xs (board_before x b)

@@ -2,7 +2,6 @@
 use Rattle.std.specs.Prelude.{◌≡◌, Bool, List, map}
 use Rattle.board_counters.specs.Counters.{tallies_of, needs_of}
 use Rattle.board_counters.specs.Failing.{failing_of}
-use Rattle.board_counters.specs.Names.{IsNamed}
 use Rattle.board_counters.specs.Lasting.{IsLasting}
 use Rattle.board_counters.specs.Standing.{run_tally}
 use Rattle.board_counters.specs.Stopping.{run_legs}
@@ -18,9 +17,8 @@ pub record AreCounts (p : Plan) (b : Board) (counts : Counts) : Type 0 where
   pub told : counts.legs ≡ map run_legs b.runs
   pub needed : counts.needs ≡ needs_of p.runs b.runs
 
--- So do which legs have a failed step and what stays, and the names on the board are such as a group may have.
+-- So do which legs have a failed step, and what stays.
 pub record IsCounted (p : Plan) (b : Board) (counts : Counts) (failing : List (List (List Bool))) (lasting : Lasting) : Type 0 where
   pub counted : AreCounts p b counts
   pub failed : failing ≡ failing_of b
-  pub named : IsNamed b
   pub lasts : IsLasting p b lasting

@@ -4,7 +4,6 @@ pub mod Counters
 pub mod Dependents
 pub mod Failing
 pub mod Lasting
-pub mod Names
 pub mod Standing
 pub mod Stopping
 pub mod Track

@@ -12,10 +12,10 @@ use Rattle.status_table.specs.Row.{job_state_set, leg_state_set}
 
 -- the board before one change, by what takes it back
 abbrev pub board_before : Change → Board → Board
-board_before (change.Leg back) b = with_leg b back.place (leg_after back.how)
+board_before (change.Leg place how) b = with_leg b place (leg_after how)
 board_before (change.Step place state) b = with_leg b place (step_taken state)
 board_before (change.Job place state) b = job_state_set b place state
-board_before (change.Run back) b = with_run b back.place (run_after back.how)
+board_before (change.Run place how) b = with_run b place (run_after how)
 board_before change.End b = unnoted b
 
 -- the board before a change that was the only one

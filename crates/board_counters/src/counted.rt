@@ -21,7 +21,7 @@ use crate::need::Need;
 use crate::standing::RunTally;
 use crate::stopping::{RunLegs, retell, run_legs_at};
 use crate::tally::{Tally, are_alike};
-use crate::undo::{Change, LegBack, RunBack};
+use crate::undo::Change;
 use board_decisions::derived::is_failure;
 use board_decisions::kept::Calls;
 use board_decisions::place::{JobPlace, LegPlace, leg_there};
@@ -163,7 +163,6 @@ impl Counted {
     ghost use Rattle.flow_model.specs.declared.plan.JobPlan.{JobPlan};
     ghost use Rattle.flow_model.specs.declared.plan.RunPlan.{RunPlan};
     ghost use Rattle.flow_model.specs.declared.plan.StepPlan.{StepPlan};
-    ghost use Rattle.board_counters.specs.Names.{IsNamed, LegComesNamed, RunComesNamed};
     ghost use Rattle.board_counters.specs.Undo.{board_before};
     ghost use Rattle.status_table.specs.InPlay.{InPlay};
     ghost use Rattle.status_table.specs.Row as row;
@@ -200,8 +199,7 @@ impl Counted {
     /// The board.
     #[inline(always)]
     pub fn board(&self) -> &Board
-        ensures board { result.now ≡ self.now.board }
-        ensures named { IsNamed self.now.board }
+        ensures { result.now ≡ self.now.board }
     {
         &self.board
     }
@@ -274,7 +272,6 @@ impl Counted {
 
     /// Changes the leg at a place, where there is one, and gives what takes that back.
     pub fn change_leg(&mut self, place: LegPlace, how: LegChange) -> Change
-        requires { LegComesNamed how }
         ensures plan { self.new.plan ≡ self.old.plan }
         ensures board { self.new.board ≡ with_leg self.old.board place (leg_after how) }
         ensures back { board_before result self.new.board ≡ self.old.board }
@@ -291,7 +288,7 @@ impl Counted {
             turn,
         );
         retell(&mut self.counts.legs, place.run, stop_in(&how), is_told);
-        Change::Leg(LegBack { place, how })
+        Change::Leg(place, how)
     }
 
     /// Puts the leg at a place, where there is one, into a state, and gives that in which it was.
@@ -399,13 +396,12 @@ impl Counted {
 
     /// Changes the run at a place, where there is one, but not its jobs, and gives what takes that back.
     pub fn change_run(&mut self, place: usize, how: RunChange) -> Change
-        requires { RunComesNamed how }
         ensures plan { self.new.plan ≡ self.old.plan }
         ensures board { self.new.board ≡ with_run self.old.board place (spec.run_after how) }
         ensures back { board_before result self.new.board ≡ self.old.board }
     {
         let how = exchange_run_at(&mut self.board, place, how);
-        Change::Run(RunBack { place, how })
+        Change::Run(place, how)
     }
 
     /// Notes a leg as the last that ended, and gives what takes that back; where memory runs out, nothing is
@@ -434,10 +430,10 @@ impl Counted {
         ensures board { self.new.board ≡ board_before change self.old.board }
     {
         match change {
-            Change::Leg(back) => drop(self.change_leg(back.place, back.how)),
+            Change::Leg(place, how) => drop(self.change_leg(place, how)),
             Change::Step(place, state) => self.take_done(alloc, place, state),
             Change::Job(place, state) => drop(self.set_job(place, state)),
-            Change::Run(back) => drop(self.change_run(back.place, back.how)),
+            Change::Run(place, how) => drop(self.change_run(place, how)),
             Change::End => self.pop_end(alloc),
         }
     }

@@ -11,7 +11,7 @@ ghost use Rattle.status_table.specs.Seen.{leg_after};
 
 use crate::change::RunChange;
 use crate::counted::Counted;
-use crate::undo::{Change, Changes, LegBack, OnlyChange};
+use crate::undo::{Change, Changes, OnlyChange};
 use board_decisions::place::{JobPlace, LegPlace};
 use flow_model::{CheckedPlan, DoneStep, JobState, LegState};
 use smallvec::SmallVec;
@@ -42,12 +42,12 @@ fn take_all_back(counted: &mut Counted, alloc: Global, changes: Changes)
 }
 
 /// What puts a leg back, where that is its state alone.
-fn state_back(back: &LegBack) -> Option<OnlyChange>
+fn state_back(place: LegPlace, how: &LegChange) -> Option<OnlyChange>
     ensures { IfSome result (λ only. (b : BoardOf)
-        → with_leg b back.now.place (leg_after back.now.how) ≡ only_before only b) }
+        → with_leg b place (leg_after how.now) ≡ only_before only b) }
 {
-    match &back.how {
-        LegChange::State(state) => Some(OnlyChange::State(back.place, *state)),
+    match how {
+        LegChange::State(state) => Some(OnlyChange::State(place, *state)),
         LegChange::Group(..) | LegChange::Outputs(..) | LegChange::Stop(_) => None,
     }
 }
@@ -57,9 +57,9 @@ fn only_of(changes: &[Change]) -> Option<OnlyChange>
     ensures { IfSome result (λ only. (b : BoardOf) → undone changes.now b ≡ only_before only b) }
 {
     match changes {
-        [Change::Leg(back)] => state_back(back),
+        [Change::Leg(place, how)] => state_back(*place, how),
         [Change::Step(place, state)] => Some(OnlyChange::Step(*place, *state)),
-        [Change::Job(..) | Change::Run(_) | Change::End] => None,
+        [Change::Job(..) | Change::Run(..) | Change::End] => None,
         [] | [_, _, ..] => None,
     }
 }
@@ -93,7 +93,6 @@ impl Model for Tracked {
 }
 
 impl Tracked {
-    ghost use Rattle.board_counters.specs.Names.{LegComesNamed, RunComesNamed};
     ghost use Rattle.board_counters.specs.Track.{play_of};
     ghost use Rattle.flow_model.specs.declared.board.Board.{Board};
     ghost use Rattle.std.specs.Prelude.{ℕ};
@@ -174,8 +173,7 @@ impl Tracked {
 
     /// Changes the leg at a place, where there is one.
     pub fn change_leg(&mut self, place: LegPlace, how: LegChange)
-        requires named { LegComesNamed how }
-        requires room { 1 ≤ self.old.room }
+        requires { 1 ≤ self.old.room }
         ensures plan { self.new.plan ≡ self.old.plan }
         ensures board { self.new.board ≡ with_leg self.old.board place (leg_after how) }
         ensures back { self.new.back ≡ self.old.back }
@@ -260,8 +258,7 @@ impl Tracked {
 
     /// Changes a run, but not its jobs.
     pub fn change_run(&mut self, number: u64, how: RunChange)
-        requires named { RunComesNamed how }
-        requires room { 1 ≤ self.old.room }
+        requires { 1 ≤ self.old.room }
         ensures plan { self.new.plan ≡ self.old.plan }
         ensures board { self.new.board ≡ with_run self.old.board number (spec.run_after how) }
         ensures back { self.new.back ≡ self.old.back }

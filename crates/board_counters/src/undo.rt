@@ -1,28 +1,10 @@
 //! What takes one change of a board back.
 
-ghost use Rattle.board_counters.specs.Names.{Names, leg_group, run_group};
-
 use crate::change::RunChange;
 use board_decisions::place::{JobPlace, LegPlace};
 use flow_model::{JobState, LegState};
 use smallvec::SmallVec;
 use status_table::change::LegChange;
-
-/// What puts the leg at a place back.
-#[derive(Drop)]
-pub struct LegBack {
-    pub(crate) place: LegPlace,
-    pub(crate) how: LegChange,
-    ghost named: { Names (leg_group how) },
-}
-
-/// What puts the run at a place back, but for its jobs.
-#[derive(Drop)]
-pub struct RunBack {
-    pub(crate) place: usize,
-    pub(crate) how: RunChange,
-    ghost named: { Names (run_group how) },
-}
 
 /// What takes back the only change of an entry, where that is a leg's state or a step that is done.
 #[derive(Clone, Copy)]
@@ -37,13 +19,13 @@ pub enum OnlyChange {
 #[derive(Drop)]
 pub enum Change {
     /// A leg is put back.
-    Leg(LegBack),
+    Leg(LegPlace, LegChange),
     /// The last step of a leg is taken off, and the leg comes into a state.
     Step(LegPlace, LegState),
     /// A job comes into a state.
     Job(JobPlace, JobState),
-    /// A run is put back.
-    Run(RunBack),
+    /// A run is put back, but for its jobs.
+    Run(usize, RunChange),
     /// The last of the ends is taken off.
     End,
 }

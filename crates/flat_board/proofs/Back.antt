@@ -21,14 +21,13 @@ use Rattle.group_admission.specs.Known.{Known, content, is_known, put_known}
 use Rattle.group_admission.specs.declared.held.Held.{Held}
 use Rattle.group_admission.proofs.Back.{all_put_back, same_content}
 use Rattle.flat_board.specs.Index.{Follows, FollowsUnasked, EventsKeep}
-use Rattle.flat_board.specs.Names.{IsNamedIn, NamesKnown, Seen, SeenNamed, group_at, group_of, leg_names, run_names, seen_at}
+use Rattle.flat_board.specs.Names.{IsName, IsNamedIn, NamesKnown, Seen, SeenNamed, group_at, group_of, leg_names, run_names, seen_at}
 use Rattle.flat_board.specs.Sound.{IsSound}
 use Rattle.flat_board.specs.Undo.{Fits, IsAt, LeadsBack, NameChanged, board_before, cell_of, groups_put_back, name_put_back}
 use Rattle.flat_board.specs.declared.undo.CellBack.{CellBack}
 use Rattle.flat_board.specs.declared.undo.Undo.{Undo}
 use Rattle.flat_board.proofs.Known.{names_before, names_put_back, stays_in}
 use Rattle.flat_board.proofs.Playing.{sound_after}
-use Rattle.board_counters.specs.Names.{IsName}
 use Rattle.status_table.specs.Grouped.{KeptAsShown}
 use Rattle.status_table.specs.Groups.{Standing, apart, holding, leg_stands, leg_standing, run_stands, run_standing, waiting}
 use Rattle.status_table.specs.InPlay.{InPlay}

@@ -13,7 +13,7 @@ use Rattle.status_table.specs.Groups.{holder, is_own, waiter}
 use Rattle.flat_board.specs.Index.{Goes}
 use Rattle.flat_board.specs.Undo.{IsAt, NameChanged}
 use Rattle.flow_model.proofs.Lookups.{found_other, found_same}
-use Rattle.board_counters.specs.Names.{IsName}
+use Rattle.flat_board.specs.Names.{IsName}
 
 -- an event that asks nothing of the groups leaves them
 pub goes_same : {T E : Type 0} (r : Result T E) (groups : Known) → Goes r groups (content groups) groups

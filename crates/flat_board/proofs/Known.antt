@@ -1,7 +1,14 @@
 -- The names that stand on a board are known to the groups after an event, and before it.
-use Rattle.std.proofs.Common.{◌≡◌, ◌≢◌, ℕ, Bool, true, false, List, [], ◌∷◌, Option, Some, None, Result, Ok, if◌then◌else◌, refl, ap, subst, sym, ◌∙◌}
+use Rattle.std.proofs.Common.{◌≡◌, ◌≢◌, ℕ, zero, suc, ◌+◌, ◌-◌, Bool, true, false, List, [], ◌∷◌, Option, Some, None, Result, Ok, length, slice_get, if◌then◌else◌, refl, ap, subst, sym, ◌∙◌, arith}
+use Rattle.std.specs.List.{flat_map}
+use Rattle.std.proofs.lemmas.Option.{slice_get_within}
 use Rattle.std.proofs.lemmas.Bool.{true≢false}
-use Rattle.board_decisions.specs.Place.{RunAt, LegAt}
+use Rattle.board_decisions.proofs.Lists.{get-left, get-right, no_some, same_some}
+use Rattle.board_decisions.specs.Derived.{is_fresh}
+use Rattle.board_decisions.specs.Place.{◌>>=◌, RunAt, LegAt}
+use Rattle.flow_model.specs.Numbers.{board_jobs}
+use Rattle.flow_model.specs.declared.board.Run.{Run}
+use Rattle.flow_model.specs.declared.board.Job.{Job}
 use Rattle.board_decisions.specs.declared.entrance.Entrance.{Entrance}
 use Rattle.flow_model.specs.Mapping.{value_at, with_pair}
 use Rattle.flow_model.proofs.Lookups.{found_same}
@@ -19,15 +26,41 @@ use Rattle.group_admission.specs.declared.held.Held.{Held}
 use Rattle.group_admission.proofs.Back.{held_is_known, put_keeps}
 use Rattle.expr_reader.specs.Fold.{fold}
 use Rattle.flat_board.specs.Index.{AsksNamed, Keeps}
-use Rattle.flat_board.specs.Names.{IsNamedIn, NamesKnown, Seen, SeenNamed, group_at, group_of, seen_at}
+use Rattle.flat_board.specs.Names.{IsGroup, IsName, IsNamed, IsNamedIn, NamesKnown, Seen, SeenNamed, group_at, group_of, is_new, leg_names, run_names, seen_at}
 use Rattle.flat_board.specs.Undo.{groups_put_back, name_put_back}
 use Rattle.flat_board.specs.declared.undo.CellBack.{CellBack}
 use Rattle.flat_board.proofs.Named.{leg_asks, run_asks}
 use Rattle.flat_board.proofs.Names.{Comes, Enters, ThenSeen, event_step, flag_of}
-use Rattle.board_counters.specs.Names.{IsName}
 use Rattle.status_table.specs.Admissions.{asked, opened}
 use Rattle.status_table.specs.Grouped.{after_event, leg_asked, run_opened}
 use Rattle.status_table.specs.Row.{Row, event_row}
+
+-- ---- what is known is named
+
+pub seen_group : (known : Known) (new : Bool) (group : Option (List ℕ)) → IsNamedIn known new group → IsGroup group
+seen_group known true group h = subst IsGroup (sym h) tt
+seen_group known false None h = tt
+seen_group known false (Some name) h = h.0
+
+-- an item of an item is one of all
+in_all : {A B : Type 0} (g : A → List B) (xs : List A) (i k : ℕ) (x : A) (y : B) → slice_get xs i ≡ Some x → slice_get (g x) k ≡ Some y → (n : ℕ) × (slice_get (flat_map g xs) n ≡ Some y)
+in_all g [] i k x y at there = absurd (no_some x at)
+in_all g (z ∷ zs) zero k x y at there =
+    let here : slice_get (g z) k ≡ Some y = ap (λ w. slice_get (g w) k) (same_some z x at) ∙ there in
+    (k, get-left (g z) (flat_map g zs) k (slice_get_within (g z) k y here) ∙ here)
+in_all g (z ∷ zs) (suc i) k x y at there =
+    let later = in_all g zs i k x y at there in
+    let less : length (g z) + later.0 - length (g z) ≡ later.0 = omega arith in
+    (length (g z) + later.0, get-right (g z) (flat_map g zs) (length (g z) + later.0) (omega arith) ∙ ap (slice_get (flat_map g zs)) less ∙ later.1)
+
+pub board_named : (known : Known) (b : Board) → NamesKnown known b → IsNamed b
+board_named known b names = λ r run in_runs. record {
+  group = seen_group known (is_new run.state) run.group (subst (SeenNamed known) (ap (λ o. o >>= run_names) in_runs) (names (member.Run r)));
+  jobs = λ j job in_jobs k leg in_legs.
+      let of_all = in_all (λ (x : Run). x.jobs) b.runs r j run job in_runs in_jobs in
+      let there = in_all (λ (x : Job). x.legs) (board_jobs b) of_all.0 k job leg of_all.1 in_legs in
+      seen_group known (is_fresh leg.state) leg.group (subst (SeenNamed known) (ap (λ o. o >>= leg_names) there.1) (names (member.Leg there.0)));
+}
 
 -- ---- after an event
 

@@ -17,7 +17,7 @@ use Rattle.group_admission.proofs.Leaving.{release_passes_on, withdraw_leaves_ho
 use Rattle.group_admission.proofs.Members.{one_member, there as there_is}
 use Rattle.group_admission.proofs.Nowhere.{nothing_released, nothing_withdrawn}
 use Rattle.flat_board.proofs.Names.{seen_leg, seen_run}
-use Rattle.flat_board.specs.Names.{group_at, group_of}
+use Rattle.flat_board.specs.Names.{IsGroup, group_at, group_of}
 use Rattle.flat_board.specs.Stands.{StandsOnlyThere, standing_by}
 use Rattle.flat_board.specs.Undo.{Leaves}
 use Rattle.flat_board.specs.declared.undo.CellBack.{CellBack}
@@ -165,35 +165,35 @@ module _ (p : Plan) (b : Board) (groups : Content) (n : ℕ) (at : LegAt) (kept 
   stands leg there_now = stood at.leg.group ∙ ap (standing_by s) (sym same ∙ ap (λ (x : Leg). x.group) (same_some now leg (sym found ∙ there_now)))
 
   leg_has_left : (cell : Option CellBack) (after : Content)
-      → ((leg : Leg) (t : Stand) → leg_there new at.place ≡ Some leg → group_at b (member.Leg n) ≡ leg.group → StandsOnlyThere groups (member.Leg n) (standing_by t leg.group)
+      → IsGroup at.leg.group → ((leg : Leg) (t : Stand) → IsGroup leg.group → leg_there new at.place ≡ Some leg → group_at b (member.Leg n) ≡ leg.group → StandsOnlyThere groups (member.Leg n) (standing_by t leg.group)
       → Leaves cell b (member.Leg n) (standing_by t leg.group) groups after) → Leaves cell b (member.Leg n) (leg_standing at.leg) groups after
-  leg_has_left cell after leaves =
+  leg_has_left cell after named leaves =
       let standing = stands now found in
       subst (λ (t : Standing). Leaves cell b (member.Leg n) t groups after) (sym standing)
-      (leaves now s found (ap group_of (seen_leg p b n at is) ∙ sym same) (subst (StandsOnlyThere groups (member.Leg n)) standing (leg_stands_only p b groups n at kept is)))
+      (leaves now s (subst IsGroup (sym same) named) found (ap group_of (seen_leg p b n at is) ∙ sym same) (subst (StandsOnlyThere groups (member.Leg n)) standing (leg_stands_only p b groups n at kept is)))
 
 module _ (p : Plan) (b : Board) (groups : Content) (n : ℕ) (at : LegAt) (kept : KeptAsShown groups b) (is : leg_at p b n ≡ Some at)
-    (s : Stand) (stood : (group : Option (List ℕ)) → leg_stands_so at.leg.state group ≡ standing_by s group) (new : Board) (cell : Option CellBack) (after : Content)
-    (leaves : (leg : Leg) (t : Stand) → leg_there new at.place ≡ Some leg → group_at b (member.Leg n) ≡ leg.group → StandsOnlyThere groups (member.Leg n) (standing_by t leg.group)
+    (s : Stand) (stood : (group : Option (List ℕ)) → leg_stands_so at.leg.state group ≡ standing_by s group) (new : Board) (cell : Option CellBack) (after : Content) (named : IsGroup at.leg.group)
+    (leaves : (leg : Leg) (t : Stand) → IsGroup leg.group → leg_there new at.place ≡ Some leg → group_at b (member.Leg n) ≡ leg.group → StandsOnlyThere groups (member.Leg n) (standing_by t leg.group)
     → Leaves cell b (member.Leg n) (standing_by t leg.group) groups after) where
   -- so it is with a leg that was dropped
   pub dropped_has_left : (result : Outcome) → new ≡ dropped b n result → Leaves cell b (member.Leg n) (leg_standing at.leg) groups after
   dropped_has_left result new_is =
       let found = numbered_there p b n at is (λ leg. record leg { state = leg_state.Ended result false }) new (ap (λ (x : Board). x.runs) new_is) in
-      leg_has_left p b groups n at kept is s stood new (record at.leg { state = leg_state.Ended result false }) found refl cell after leaves
+      leg_has_left p b groups n at kept is s stood new (record at.leg { state = leg_state.Ended result false }) found refl cell after named leaves
 
   -- and with one that has finished
   pub ended_has_left : (state : LegState) (outputs : List (List ℕ × List ℕ)) → new ≡ leg_ended b at.place n state outputs → Leaves cell b (member.Leg n) (leg_standing at.leg) groups after
   ended_has_left state outputs new_is =
       let found = placed_there p b n at is (λ leg. record leg { state = state; outputs = outputs }) new (ap (λ (x : Board). x.runs) new_is) in
-      leg_has_left p b groups n at kept is s stood new (record at.leg { state = state; outputs = outputs }) found refl cell after leaves
+      leg_has_left p b groups n at kept is s stood new (record at.leg { state = state; outputs = outputs }) found refl cell after named leaves
 
 -- And so may a run that was found.
 pub run_has_left : (p : Plan) (b : Board) (groups : Content) (n : ℕ) (at : RunAt) → KeptAsShown groups b → run_at p b n ≡ Some at
-    → (s : Stand) → ((group : Option (List ℕ)) → run_stands_so at.run.state group ≡ standing_by s group) → (cell : Option CellBack) (after : Content)
-    → ((t : Stand) → group_at b (member.Run n) ≡ at.run.group → StandsOnlyThere groups (member.Run n) (standing_by t at.run.group)
+    → (s : Stand) → ((group : Option (List ℕ)) → run_stands_so at.run.state group ≡ standing_by s group) → (cell : Option CellBack) (after : Content) → IsGroup at.run.group
+    → ((t : Stand) → IsGroup at.run.group → group_at b (member.Run n) ≡ at.run.group → StandsOnlyThere groups (member.Run n) (standing_by t at.run.group)
     → Leaves cell b (member.Run n) (standing_by t at.run.group) groups after) → Leaves cell b (member.Run n) (run_standing at.run) groups after
-run_has_left p b groups n at kept is s stood cell after leaves =
+run_has_left p b groups n at kept is s stood cell after named leaves =
     let stands = stood at.run.group in
     subst (λ (t : Standing). Leaves cell b (member.Run n) t groups after) (sym stands)
-    (leaves s (ap group_of (seen_run p b n at is)) (subst (StandsOnlyThere groups (member.Run n)) stands (run_stands_only p b groups n at kept is)))
+    (leaves s named (ap group_of (seen_run p b n at is)) (subst (StandsOnlyThere groups (member.Run n)) stands (run_stands_only p b groups n at kept is)))

@@ -1,7 +1,7 @@
 -- What is known of a run or a leg that is found.
-use Rattle.std.proofs.Common.{◌≡◌, ℕ, Bool, true, false, not, Some, Ok, Err, slice_get, if◌then◌else◌, ap, sym, refl, ◌∙◌}
+use Rattle.std.proofs.Common.{◌≡◌, ℕ, Bool, true, false, not, Some, Ok, Err, slice_get, if◌then◌else◌, ap, subst, sym, refl, ◌∙◌}
 use Rattle.board_decisions.specs.Decisions.{is_stopping, job_condition, run_entrance, leg_entrance}
-use Rattle.board_decisions.specs.Derived.{is_full, job_status, needs_have_ended}
+use Rattle.board_decisions.specs.Derived.{is_fresh, is_full, job_status, needs_have_ended}
 use Rattle.board_decisions.specs.Numbered.{job_there}
 use Rattle.board_decisions.specs.Place.{◌>>=◌, RunAt, JobAt, LegAt, run_at, job_at, leg_at}
 use Rattle.flow_model.specs.declared.plan.Plan.{Plan}
@@ -13,13 +13,16 @@ use Rattle.flow_model.specs.declared.event.Member.TheVariants as member
 use Rattle.group_admission.specs.Content.{Content, is_in_group}
 use Rattle.flat_board.specs.Index.{EntersOnce}
 use Rattle.board_counters.specs.Changes.{job_of}
-use Rattle.board_counters.specs.Names.{IsGroup, IsNamed}
+use Rattle.flat_board.specs.Names.{IsGroup, NamesKnown, SeenNamed, is_new}
+use Rattle.flat_board.proofs.Known.{seen_group}
+use Rattle.flat_board.proofs.Names.{seen_leg, seen_run}
+use Rattle.group_admission.specs.Known.{Known}
 use Rattle.status_table.specs.declared.fault.EventFault.TheVariants as fault
 use Rattle.status_table.specs.Grouped.{KeptAsShown}
 use Rattle.status_table.specs.Moves.{is_accepted, accepts}
 use Rattle.status_table.specs.Row.{open_run, open_found, first_of, judged_state, judgement_by, judgement, judge_job, judge_found, may_ask, ask_found, leg_enters}
 use Rattle.status_table.proofs.Accepting.{run_enters_accepted, leg_enters_accepted}
-use Rattle.status_table.proofs.Found.{run_stands, leg_stands}
+use Rattle.status_table.proofs.Found.{leg_stands}
 
 -- the job of a leg that is found
 pub job_found : (p : Plan) (b : Board) (n : ℕ) (at : LegAt) → leg_at p b n ≡ Some at → job_there b (job_of at.place) ≡ Some at.job
@@ -28,14 +31,12 @@ job_found p b n at is =
     ap (λ o. o >>= λ run. slice_get run.jobs at.place.job) stands.in_board ∙ stands.job
 
 -- the name of its group
-pub leg_found_named : (p : Plan) (b : Board) (n : ℕ) (at : LegAt) → IsNamed b → leg_at p b n ≡ Some at → IsGroup at.leg.group
-leg_found_named p b n at named is =
-    let stands = leg_stands p b n at is in
-    (named at.place.run at.run stands.in_board).jobs at.place.job at.job stands.job at.place.leg at.leg stands.leg
+pub leg_found_named : (p : Plan) (b : Board) (known : Known) (n : ℕ) (at : LegAt) → NamesKnown known b → leg_at p b n ≡ Some at → IsGroup at.leg.group
+leg_found_named p b known n at names is = seen_group known (is_fresh at.leg.state) at.leg.group (subst (SeenNamed known) (seen_leg p b n at is) (names (member.Leg n)))
 
 -- and that of a run
-pub run_found_named : (p : Plan) (b : Board) (n : ℕ) (at : RunAt) → IsNamed b → run_at p b n ≡ Some at → IsGroup at.run.group
-run_found_named p b n at named is = (named n at.run (run_stands p b n at is).run).group
+pub run_found_named : (p : Plan) (b : Board) (known : Known) (n : ℕ) (at : RunAt) → NamesKnown known b → run_at p b n ≡ Some at → IsGroup at.run.group
+run_found_named p b known n at names is = seen_group known (is_new at.run.state) at.run.group (subst (SeenNamed known) (seen_run p b n at is) (names (member.Run n)))
 
 -- a run that may be opened is in no group
 pub opens_outside : EntersOnce → (p : Plan) (b : Board) (groups : Content) (r : ℕ) (at : RunAt) → KeptAsShown groups b → run_at p b r ≡ Some at

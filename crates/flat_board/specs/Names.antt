@@ -1,17 +1,46 @@
 -- The names of groups that stand on a board, beside the groups that know them.
-use Rattle.std.specs.Prelude.{◌≡◌, ℕ, Bool, true, false, List, Option, Some, None, slice_get}
+use Rattle.std.specs.Prelude.{◌≡◌, ◌≢◌, ℕ, Bool, true, false, List, [], Option, Some, None, slice_get}
 use Rattle.board_decisions.specs.Derived.{is_fresh}
 use Rattle.board_decisions.specs.Place.{◌>>=◌}
-use Rattle.board_counters.specs.Names.{IsName}
+use Rattle.expr_reader.specs.Fold.{fold}
 use Rattle.flow_model.specs.Numbers.{board_legs}
+use Rattle.flow_model.specs.Sound.{Each}
 use Rattle.flow_model.specs.declared.board.Board.{Board}
 use Rattle.flow_model.specs.declared.board.Run.{Run}
 use Rattle.flow_model.specs.declared.board.RunState.{RunState}
 use Rattle.flow_model.specs.declared.board.RunState.TheVariants as run_state
+use Rattle.flow_model.specs.declared.board.Job.{Job}
 use Rattle.flow_model.specs.declared.board.Leg.{Leg}
 use Rattle.flow_model.specs.declared.event.Member.{Member}
 use Rattle.flow_model.specs.declared.event.Member.TheVariants as member
 use Rattle.group_admission.specs.Known.{Known, is_known}
+
+-- ---- the names alone
+
+-- A name has no letter A to Z, and is not empty.
+pub record IsName (name : List ℕ) : Type 0 where
+  pub folded : fold name ≡ name
+  pub some : name ≢ []
+
+-- so it is with the name of a group, if there is one
+abbrev pub IsGroup : Option (List ℕ) → Type 0
+IsGroup None = Unit {0}
+IsGroup (Some name) = IsName name
+
+-- with that of each leg of a job
+abbrev pub JobIsNamed : Job → Type 0
+JobIsNamed job = Each (λ (leg : Leg). IsGroup leg.group) job.legs
+
+-- with that of a run, and of each leg of it
+pub record RunIsNamed (run : Run) : Type 0 where
+  pub group : IsGroup run.group
+  pub jobs : Each JobIsNamed run.jobs
+
+-- with those of all members of a board
+abbrev pub IsNamed : Board → Type 0
+IsNamed b = Each RunIsNamed b.runs
+
+-- ---- who is in a group, and whether that is known
 
 -- whether a run was not opened yet
 abbrev pub is_new : RunState → Bool

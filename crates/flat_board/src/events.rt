@@ -6,6 +6,7 @@ ghost use Rattle.std.specs.Prelude.{◌≡◌, ◌≤◌, IfOk, OnOk, Some};
 ghost use Rattle.board_decisions.specs.Place.{job_at, leg_at, run_at};
 ghost use Rattle.board_decisions.specs.Seen.{job_seen};
 ghost use Rattle.flat_board.specs.Index.{Goes};
+ghost use Rattle.flat_board.specs.Names.{NamesKnown};
 ghost use Rattle.flat_board.specs.Undo.{LeadsBack};
 ghost use Rattle.group_admission.specs.Known.{content};
 ghost use Rattle.status_table.specs.Answers.{Answers, Decides};
@@ -162,6 +163,7 @@ pub(crate) fn discard(
     number: u64,
 ) -> Result<(Reply, Option<CellBack>), EventFault>
     requires kept { KeptAsShown (content groups.old) state.old.board }
+    requires names { NamesKnown groups.old state.old.board }
     requires room { 3 ≤ state.old.room }
     ensures plan { state.new.plan ≡ state.old.plan }
     ensures answers { Answers (spec.drop_row state.old.plan state.old.board number)
@@ -303,6 +305,7 @@ pub(crate) fn finish(
     number: u64,
 ) -> Result<(Reply, Option<CellBack>), EventFault>
     requires kept { KeptAsShown (content groups.old) state.old.board }
+    requires names { NamesKnown groups.old state.old.board }
     requires room { 3 ≤ state.old.room }
     ensures plan { state.new.plan ≡ state.old.plan }
     ensures answers { Answers (spec.finish_row state.old.plan state.old.board worker number)
@@ -335,6 +338,7 @@ pub(crate) fn close(
     number: u64,
 ) -> Result<(Reply, Option<CellBack>), EventFault>
     requires kept { KeptAsShown (content groups.old) state.old.board }
+    requires names { NamesKnown groups.old state.old.board }
     requires room { 2 ≤ state.old.room }
     ensures plan { state.new.plan ≡ state.old.plan }
     ensures answers { Answers (spec.close_row state.old.plan state.old.board number)

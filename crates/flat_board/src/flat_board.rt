@@ -3,10 +3,10 @@
 ghost use Rattle.std.specs.Prelude.{◌≡◌, ◌≤◌, true, Ok, Some, None, IfOk, OnOk};
 ghost use Rattle.flat_board.specs.Index.{Follows, FollowsUnasked, most_changes};
 ghost use Rattle.flat_board.specs.Undo.{LeadsBack, board_before, cell_of};
-ghost use Rattle.board_counters.specs.Names.{IsGroup, IsName, IsNamed};
+ghost use Rattle.flat_board.specs.Names.{IsGroup, IsName, IsNamed};
+ghost use Rattle.flat_board.specs.Sound.{IsSound};
 ghost use Rattle.board_counters.specs.Track.{play_of};
 ghost use Rattle.group_admission.specs.Known.{content};
-ghost use Rattle.status_table.specs.Grouped.{KeptAsShown};
 ghost use Rattle.status_table.specs.Groups as spec;
 ghost use Rattle.status_table.specs.InPlay.{InPlay};
 ghost use Rattle.status_table.specs.Reversible.{answer_of, done_of};
@@ -42,8 +42,8 @@ impl Model for FlatBoard {
 
     ghost coded = { Prim.hlevel (codes, coded_plain) };
 
-    ghost use Rattle.flat_board.specs.Sound.{IsSound};
     ghost use Rattle.board_counters.specs.Track.{play_of};
+    ghost use Rattle.flat_board.specs.Sound.{IsSound};
 
     ghost view = { λ f. play_of f.state };
 
@@ -122,8 +122,7 @@ fn apply_event(
     worker: u8,
     event: Event,
 ) -> Result<(Reply, Option<CellBack>), EventFault>
-    requires in_play { InPlay state.old.plan state.old.board }
-    requires kept { KeptAsShown (content groups.old) state.old.board }
+    requires sound { IsSound (play_of state.old) groups.old }
     requires room { most_changes event ≤ state.old.room }
     ensures follows { Follows (play_of state.old) (play_of state.new)
         groups.old groups.new worker event (answer_of result) }
@@ -166,8 +165,7 @@ fn play_event(
     worker: u8,
     event: Event,
 ) -> Result<(Reply, Option<CellBack>), EventFault>
-    requires in_play { InPlay state.old.plan state.old.board }
-    requires kept { KeptAsShown (content groups.old) state.old.board }
+    requires { IsSound (play_of state.old) groups.old }
     ensures follows { Follows (play_of state.old) (play_of state.new)
         groups.old groups.new worker event (answer_of result) }
     ensures back { OnOk result (state.new.back ≡ state.old.board) }
@@ -186,8 +184,7 @@ fn play_asked(
     worker: u8,
     event: Event,
 ) -> Result<Reply, EventFault>
-    requires in_play { InPlay state.old.plan state.old.board }
-    requires kept { KeptAsShown (content groups.old) state.old.board }
+    requires { IsSound (play_of state.old) groups.old }
     ensures follows { Follows (play_of state.old) (play_of state.new)
         groups.old groups.new worker event result }
 {
@@ -204,8 +201,7 @@ fn play_unasked(
     worker: u8,
     event: Event,
 ) -> Result<(), EventFault>
-    requires in_play { InPlay state.old.plan state.old.board }
-    requires kept { KeptAsShown (content groups.old) state.old.board }
+    requires { IsSound (play_of state.old) groups.old }
     ensures follows { FollowsUnasked (play_of state.old) (play_of state.new)
         groups.old groups.new worker event result }
 {
@@ -221,8 +217,7 @@ fn advance_event(
     worker: u8,
     event: Event,
 ) -> Result<(), EventFault>
-    requires in_play { InPlay state.old.plan state.old.board }
-    requires kept { KeptAsShown (content groups.old) state.old.board }
+    requires { IsSound (play_of state.old) groups.old }
     ensures follows { FollowsUnasked (play_of state.old) (play_of state.new)
         groups.old groups.new worker event result }
 {
@@ -242,8 +237,7 @@ fn play_with_undo(
     worker: u8,
     event: Event,
 ) -> Result<(Reply, Undo), EventFault>
-    requires in_play { InPlay state.old.plan state.old.board }
-    requires kept { KeptAsShown (content groups.old) state.old.board }
+    requires { IsSound (play_of state.old) groups.old }
     ensures follows { Follows (play_of state.old) (play_of state.new)
         groups.old groups.new worker event (answer_of result) }
     ensures back { IfOk result (λ both. board_before both.1 state.new.board ≡ state.old.board) }
@@ -263,8 +257,7 @@ fn advance_with_undo(
     worker: u8,
     event: Event,
 ) -> Result<Undo, EventFault>
-    requires in_play { InPlay state.old.plan state.old.board }
-    requires kept { KeptAsShown (content groups.old) state.old.board }
+    requires { IsSound (play_of state.old) groups.old }
     ensures follows { FollowsUnasked (play_of state.old) (play_of state.new)
         groups.old groups.new worker event (done_of result) }
     ensures back { IfOk result (λ undo. board_before undo state.new.board ≡ state.old.board) }

@@ -8,7 +8,6 @@ ghost use Rattle.board_decisions.specs.Numbered.{leg_there};
 ghost use Rattle.board_decisions.specs.Place.{job_at, leg_at};
 ghost use Rattle.board_decisions.specs.Seen.{job_seen, leg_seen};
 ghost use Rattle.board_counters.specs.Counters.{tally_of};
-ghost use Rattle.board_counters.specs.Names.{IsNamed};
 
 use board_counters::counted::job_of;
 use board_counters::{Counted, Tally};
@@ -40,7 +39,6 @@ pub(crate) fn find_job(state: &Counted, number: u64) -> Option<SeenJob<'_>>
 pub(crate) fn find_leg(state: &Counted, number: u64) -> Option<TalliedLeg<'_>>
     ensures found { option_map (λ found. leg_seen found.at) result
         ≡ leg_at state.now.plan state.now.board number }
-    ensures named { IsNamed state.now.board }
     ensures there { IfSome result
         (λ found. leg_there state.now.board found.at.place ≡ Some (leg_seen found.at).leg) }
     ensures run_plan { IfSome result (λ found. slice_get state.now.plan.runs found.at.place.run

@@ -8,11 +8,10 @@ ghost use Rattle.board_decisions.specs.Place.{LegAt};
 ghost use Rattle.board_decisions.specs.declared.entrance.Entrance.{Entrance as EntranceOf};
 ghost use Rattle.expr_value.specs.Answer.{Gives};
 ghost use Rattle.flat_board.specs.Index.{AsksNamed, EntersNamed, Goes, Keeps, entered};
-ghost use Rattle.flat_board.specs.Names.{group_at};
+ghost use Rattle.flat_board.specs.Names.{IsGroup, IsName, group_at};
 ghost use Rattle.flat_board.specs.Stands.{StandsOnlyThere, standing_by};
 ghost use Rattle.flat_board.specs.Undo.{LeadsBack, Leaves};
 ghost use Rattle.flat_board.specs.declared.groups.Stand.{Stand as StandOf};
-ghost use Rattle.board_counters.specs.Names.{IsGroup, IsName, IsNamed};
 ghost use Rattle.flow_model.specs.declared.board.Board.{Board as BoardOf};
 ghost use Rattle.flow_model.specs.declared.board.Leg.{Leg as LegOf};
 ghost use Rattle.flow_model.specs.declared.event.Member.{Member as MemberOf};
@@ -355,8 +354,7 @@ pub(crate) fn next_after(groups: &Groups, stand: Stand, group: &Option<Text>) ->
 /// A member that ended leaves its group, which is found by its name, and what was held of that is told; one that has no
 /// group leaves none.
 pub(crate) fn leave(groups: &mut Groups, who: Member, group: &Option<Text>) -> Option<CellBack>
-    requires { IsGroup group.now }
-    ensures leaves { (b : BoardOf) (stood : StandOf) → group_at b who ≡ group.now
+    ensures leaves { (b : BoardOf) (stood : StandOf) → IsGroup group.now → group_at b who ≡ group.now
         → StandsOnlyThere (content groups.old) who (standing_by stood group.now)
         → Leaves result b who (standing_by stood group.now) (content groups.old) (content groups.new) }
     ensures known { Keeps groups.old groups.new }
@@ -378,8 +376,7 @@ pub(crate) fn leave_leg(
     place: LegPlace,
     number: u64,
 ) -> Option<CellBack>
-    requires { IsNamed board.now }
-    ensures leaves { (b : BoardOf) (leg : LegOf) (stood : StandOf)
+    ensures leaves { (b : BoardOf) (leg : LegOf) (stood : StandOf) → IsGroup leg.group
         → leg_there_of board.now place ≡ Some leg → group_at b (member.Leg number) ≡ leg.group
         → StandsOnlyThere (content groups.old) (member.Leg number) (standing_by stood leg.group)
         → Leaves result b (member.Leg number) (standing_by stood leg.group)

@@ -1,7 +1,6 @@
 //! Changes of one member of a concurrency group, and of the legs that ended, with the counters.
 
 ghost use Rattle.std.specs.Prelude.{◌≡◌, ◌≤◌, ◌+◌, true, Some, OnOk, OnErr};
-ghost use Rattle.board_counters.specs.Names.{IsGroup, IsName, LegComesNamed};
 ghost use Rattle.flow_model.specs.declared.board.Board.{Board as BoardOf};
 ghost use Rattle.flow_model.specs.declared.event.Member.TheVariants as member;
 ghost use Rattle.status_table.specs.Groups as spec;
@@ -17,8 +16,7 @@ use std::alloc::{AllocError, Global};
 
 /// Changes the leg with a number, where there is one.
 fn change_leg(state: &mut Tracked, number: u64, how: LegChange)
-    requires named { LegComesNamed how }
-    requires room { 1 ≤ state.old.room }
+    requires { 1 ≤ state.old.room }
     ensures plan { state.new.plan ≡ state.old.plan }
     ensures board { state.new.board ≡ with_numbered_leg state.old.board number (leg_after how) }
     ensures back { state.new.back ≡ state.old.back }
@@ -43,8 +41,7 @@ fn set_state(state: &mut Tracked, number: u64, to: LegState)
 
 /// Admits a member, in the group with a name or in none.
 pub(crate) fn admit(state: &mut Tracked, name: Option<Text>, who: Member)
-    requires named { IsGroup name }
-    requires room { 1 ≤ state.old.room }
+    requires { 1 ≤ state.old.room }
     ensures plan { state.new.plan ≡ state.old.plan }
     ensures board { state.new.board ≡ spec.admitted state.old.board name who }
     ensures back { state.new.back ≡ state.old.back }
@@ -62,8 +59,7 @@ pub(crate) fn admit(state: &mut Tracked, name: Option<Text>, who: Member)
 
 /// Lets a member wait for a name.
 pub(crate) fn delay(state: &mut Tracked, name: Text, who: Member)
-    requires named { IsName name }
-    requires room { 1 ≤ state.old.room }
+    requires { 1 ≤ state.old.room }
     ensures plan { state.new.plan ≡ state.old.plan }
     ensures board { state.new.board ≡ spec.waits state.old.board name who }
     ensures back { state.new.back ≡ state.old.back }

@@ -14,7 +14,7 @@ ghost use Rattle.why_notes.specs.Changes as spec;
 ghost use Rattle.why_notes.specs.Conditions as causes;
 ghost use Rattle.expr_value.specs.Answer.{Gives};
 ghost use Rattle.flat_board.specs.Index.{AsksNamed};
-ghost use Rattle.board_counters.specs.Names.{IsName};
+ghost use Rattle.flat_board.specs.Names.{IsName};
 ghost use Rattle.flow_model.specs.declared.reply.StepCall.{StepCall as StepCallOf};
 ghost use Rattle.flow_model.specs.declared.reply.ValueFault.{ValueFault as ValueFaultOf};
 ghost use Rattle.status_table.specs.Groups as groups;

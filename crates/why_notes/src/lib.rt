@@ -6,8 +6,8 @@
 //!
 //! The crate stands on `why_facts` for the facts, their causes and what is noted of them, on `flow_model`, on
 //! `board_decisions` and `plan_values` for what texts decide, on `expr_reader` and `expr_value` for what these speak of, on
-//! `status_table` for the table, on `flat_board`, which plays and tells who holds and who waits for a name, and on
-//! `board_counters` for what a name is.
+//! `status_table` for the table, and on `flat_board`, which plays, tells who holds and who waits for a name, and says what a
+//! name is.
 
 #![tactic(auto)]
 

@@ -4,8 +4,15 @@ use Rattle.board_decisions.specs.Seen.{leg_seen}
 use Rattle.status_table.specs.Grouped.{leg_left}
 use Rattle.status_table.specs.Play.{Play}
 use Rattle.flat_board.proofs.Leaving.{dropped_has_left}
+use Rattle.flat_board.proofs.Reached.{leg_found_named}
 use Rattle.group_admission.specs.Known.{content}
 use Rattle.flat_board.proofs.events.discard.Goals as goal
+
+pub next_after-next-requires : goal.next_after-next-requires
+next_after-next-requires c =
+    let at = leg_seen c.in-Some.leg.at in
+    let found = subst (λ (s : Play). leg_at s.plan s.board c.args.number ≡ Some at) c.counted.ensures (sym c.in-Some.ensures.found) in
+    leg_found_named c.args.state.now.plan c.args.state.now.board c.args.groups.now c.args.number at c.requires.names found
 
 pub returns-clause-groups : goal.returns-clause-groups
 returns-clause-groups c =
@@ -13,8 +20,9 @@ returns-clause-groups c =
     let found = subst (λ (s : Play). leg_at s.plan s.board c.args.number ≡ Some at) c.counted.ensures (sym c.in-Some.ensures.found) in
     record {
       held = (dropped_has_left c.args.state.now.plan c.args.state.now.board (content c.args.groups.now) c.args.number at c.requires.kept found
-          c.leg_stand-stand.result c.leg_stand-stand.ensures c.board.result.now c.leave_leg-cell.result (content c.leave_leg-cell.new.groups) (c.leave_leg-cell.ensures.leaves c.args.state.now.board) _
-          (c.board.ensures.board ∙ ap (λ (s : Play). s.board) c.counted-2.ensures ∙ c.in_ok-drop_leg.ensures.ok)).to ∙ ap (leg_left (content c.args.groups.now) c.args.number) (sym found);
+          c.leg_stand-stand.result c.leg_stand-stand.ensures c.board.result.now c.leave_leg-cell.result (content c.leave_leg-cell.new.groups)
+          (leg_found_named c.args.state.now.plan c.args.state.now.board c.args.groups.now c.args.number at c.requires.names found) (c.leave_leg-cell.ensures.leaves c.args.state.now.board) _
+          (c.board.ensures ∙ ap (λ (s : Play). s.board) c.counted-2.ensures ∙ c.in_ok-drop_leg.ensures.ok)).to ∙ ap (leg_left (content c.args.groups.now) c.args.number) (sym found);
       known = c.leave_leg-cell.ensures.known;
     }
 
@@ -23,5 +31,6 @@ returns-clause-cell c =
     let at = leg_seen c.in-Some.leg.at in
     let found = subst (λ (s : Play). leg_at s.plan s.board c.args.number ≡ Some at) c.counted.ensures (sym c.in-Some.ensures.found) in
     (dropped_has_left c.args.state.now.plan c.args.state.now.board (content c.args.groups.now) c.args.number at c.requires.kept found
-    c.leg_stand-stand.result c.leg_stand-stand.ensures c.board.result.now c.leave_leg-cell.result (content c.leave_leg-cell.new.groups) (c.leave_leg-cell.ensures.leaves c.args.state.now.board) _
-    (c.board.ensures.board ∙ ap (λ (s : Play). s.board) c.counted-2.ensures ∙ c.in_ok-drop_leg.ensures.ok)).back
+    c.leg_stand-stand.result c.leg_stand-stand.ensures c.board.result.now c.leave_leg-cell.result (content c.leave_leg-cell.new.groups)
+    (leg_found_named c.args.state.now.plan c.args.state.now.board c.args.groups.now c.args.number at c.requires.names found) (c.leave_leg-cell.ensures.leaves c.args.state.now.board) _
+    (c.board.ensures ∙ ap (λ (s : Play). s.board) c.counted-2.ensures ∙ c.in_ok-drop_leg.ensures.ok)).back

@@ -16,4 +16,4 @@ pub enter_run-requires-clause-outside : goal.enter_run-requires-clause-outside
 enter_run-requires-clause-outside c =
     opens_outside c.who_enters_is_outside.ensures c.args.state.now.plan c.args.state.now.board (content c.args.groups.now) c.args.number (run_seen c.in-Some.at) c.requires.kept
     (subst (λ (s : Play). run_at s.plan s.board c.args.number ≡ Some (run_seen c.in-Some.at)) c.counted-play.ensures
-    ((λ i. run_at (sym c.plan.ensures.same i) (sym c.board.ensures.board i) c.args.number) ∙ sym c.in-Some.ensures)) c.in-New-false.is-0 c.in-New-false.is-1
+    ((λ i. run_at (sym c.plan.ensures.same i) (sym c.board.ensures i) c.args.number) ∙ sym c.in-Some.ensures)) c.in-New-false.is-0 c.in-New-false.is-1

@@ -3,19 +3,19 @@ use Rattle.expr_reader.specs.Fold.{fold}
 use Rattle.flow_model.specs.Mapping.{value_at}
 use Rattle.group_admission.specs.Content.{holder_of, waiter_of}
 use Rattle.flat_board.specs.Stands.{StandsOnlyThere, standing_by}
-use Rattle.board_counters.specs.Names.{IsGroup}
+use Rattle.flat_board.specs.Names.{IsGroup}
 use Rattle.status_table.specs.Admissions.{left}
 use Rattle.flat_board.proofs.Leaving.{name_left, none_left, others_left}
 use Rattle.group_admission.specs.Known.{content}
 use Rattle.flat_board.proofs.groups.leave.Goals as goal
 
 pub returns-in-Some-clause-leaves : goal.returns-in-Some-clause-leaves
-returns-in-Some-clause-leaves c = λ b stood there only.
+returns-in-Some-clause-leaves c = λ b stood named there only.
     let who = c.args.who in
     let groups = content c.args.groups.now in
     let name = c.in-Some.name in
-    let same : fold c.as_str-in-Some.result.now ≡ name = ap fold c.as_str-in-Some.ensures ∙ (subst IsGroup c.in-Some.is c.requires).folded in
-    let same_held : fold c.as_str.result.now ≡ name = ap fold c.as_str.ensures ∙ (subst IsGroup c.in-Some.is c.requires).folded in
+    let same : fold c.as_str-in-Some.result.now ≡ name = ap fold c.as_str-in-Some.ensures ∙ (subst IsGroup c.in-Some.is named).folded in
+    let same_held : fold c.as_str.result.now ≡ name = ap fold c.as_str.ensures ∙ (subst IsGroup c.in-Some.is named).folded in
     let holds = ap (λ n. holder_of n groups) same in
     let waits = ap (λ n. waiter_of n groups) same in
     let left_it = c.leave_name.ensures in
@@ -33,7 +33,7 @@ returns-in-Some-clause-leaves c = λ b stood there only.
     }
 
 pub returns-in-None-clause-leaves : goal.returns-in-None-clause-leaves
-returns-in-None-clause-leaves c = λ b stood there only.
+returns-in-None-clause-leaves c = λ b stood named there only.
     let who = c.args.who in
     let groups = content c.args.groups.now in
     record {

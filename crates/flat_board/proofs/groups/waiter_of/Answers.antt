@@ -1,7 +1,7 @@
 use Rattle.std.proofs.Common.{ap, sym, subst, ◌∙◌}
 use Rattle.expr_reader.specs.Fold.{fold}
 use Rattle.group_admission.specs.Content.{waiter_of}
-use Rattle.board_counters.specs.Names.{IsGroup}
+use Rattle.flat_board.specs.Names.{IsGroup}
 use Rattle.flat_board.proofs.Index.{waiter_told}
 use Rattle.status_table.specs.Groups.{waiter_of as waiter_of_group}
 use Rattle.group_admission.specs.Known.{content}

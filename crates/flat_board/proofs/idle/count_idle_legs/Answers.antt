@@ -10,7 +10,7 @@ use Rattle.board_counters.specs.declared.stopping.RunLegs.{RunLegs}
 pub returns-in-Some-get : goal.returns-in-Some-get
 returns-in-Some-get c =
     let there : slice_get c.args.state.now.board.runs c.in-Some.place.run ≡ Some c.in-Some-get.run'.now =
-    ap (λ (b : Board). slice_get b.runs c.in-Some.place.run) (sym c.board.ensures.board) ∙ ap (λ (runs : List Run). slice_get runs c.in-Some.place.run) (sym c.as_slice.ensures) ∙ slice_get_read c.as_slice.result.now (length c.as_slice.result.now) c.in-Some.place.run c.in-Some-get.run'.now refl c.in-Some-get.ensures.lookup.3.0 c.in-Some-get.ensures.lookup.1 in
+    ap (λ (b : Board). slice_get b.runs c.in-Some.place.run) (sym c.board.ensures) ∙ ap (λ (runs : List Run). slice_get runs c.in-Some.place.run) (sym c.as_slice.ensures) ∙ slice_get_read c.as_slice.result.now (length c.as_slice.result.now) c.in-Some.place.run c.in-Some-get.run'.now refl c.in-Some-get.ensures.lookup.3.0 c.in-Some-get.ensures.lookup.1 in
     let job : c.in-Some.place.job ≡ 0 = search rules in
     let leg : c.in-Some.place.leg ≡ 0 = search rules in
     let idle : is_run_idle c.args.kind c.in-Some-get.run'.now ≡ true = search rules in

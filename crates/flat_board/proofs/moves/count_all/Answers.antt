@@ -8,7 +8,7 @@ use Rattle.flat_board.proofs.moves.count_all.Goals as goal
 pub count_jobs-requires : goal.count_jobs-requires
 count_jobs-requires c =
     let b = c.args.state.now.board in
-    let same = ap (sum_by (λ (run : Run). length run.jobs)) (c.as_slice-runs.ensures ∙ ap (λ (x : Board). x.runs) c.board.ensures.board) in
+    let same = ap (sum_by (λ (run : Run). length run.jobs)) (c.as_slice-runs.ensures ∙ ap (λ (x : Board). x.runs) c.board.ensures) in
     let counted = jobs_counted b in
     let few = few_jobs_in_play c.args.state.now.plan c.plan-plan.result.now b c.plan-plan.ensures.same c.plan-plan.ensures.rules c.requires in
     omega (arith, same, counted, few)
@@ -16,17 +16,17 @@ count_jobs-requires c =
 pub count_legs-requires : goal.count_legs-requires
 count_legs-requires c =
     let b = c.args.state.now.board in
-    let same = ap (sum_by (λ (run : Run). sum_by (λ job. length job.legs) run.jobs)) (c.as_slice-runs.ensures ∙ ap (λ (x : Board). x.runs) c.board.ensures.board) in
+    let same = ap (sum_by (λ (run : Run). sum_by (λ job. length job.legs) run.jobs)) (c.as_slice-runs.ensures ∙ ap (λ (x : Board). x.runs) c.board.ensures) in
     let counted = legs_counted b in
     let few = few_in_play c.args.state.now.plan c.plan-plan.result.now b c.plan-plan.ensures.same c.plan-plan.ensures.rules c.requires in
     omega (arith, same, counted, few)
 
 pub returns-clause-jobs : goal.returns-clause-jobs
 returns-clause-jobs c =
-    let runs_are = c.as_slice-runs.ensures ∙ ap (λ (x : Board). x.runs) c.board.ensures.board in
+    let runs_are = c.as_slice-runs.ensures ∙ ap (λ (x : Board). x.runs) c.board.ensures in
     c.count_jobs.ensures ∙ ap (sum_by (λ (run : Run). length run.jobs)) runs_are ∙ sym (jobs_counted c.args.state.now.board)
 
 pub returns-clause-legs : goal.returns-clause-legs
 returns-clause-legs c =
-    let runs_are = c.as_slice-runs.ensures ∙ ap (λ (x : Board). x.runs) c.board.ensures.board in
+    let runs_are = c.as_slice-runs.ensures ∙ ap (λ (x : Board). x.runs) c.board.ensures in
     c.count_legs.ensures ∙ ap (sum_by (λ (run : Run). sum_by (λ job. length job.legs) run.jobs)) runs_are ∙ sym (legs_counted c.args.state.now.board)

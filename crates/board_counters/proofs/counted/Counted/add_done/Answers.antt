@@ -18,7 +18,7 @@ pub invariant_of-self-2 : goal.invariant_of-self-2
 invariant_of-self-2 c =
     let done : Leg → Leg = λ leg. record leg { state = leg_state.Running c.args.worker false; steps = leg.steps ++ c.args.done ∷ [] } in
     leg_counted c.self.inside.plan c.self.inside.board c.push_step_at.new.board c.args.place done c.in_ok-was.was' _ c.self.inside.counts c.recount_to.new.counts
-    c.recount_to.new.counts.legs c.self.inside.failing c.note_done.new.failing c.self.inside.lasting c.self.invariant (λ leg h. h) c.in_ok-was.ensures.ok
+    c.recount_to.new.counts.legs c.self.inside.failing c.note_done.new.failing c.self.inside.lasting c.self.invariant c.in_ok-was.ensures.ok
     (same_so c.self.inside.board c.push_step_at.new.board c.args.place c.in_ok-was.was' _ c.in_ok-was.ensures.was refl) c.recount_to.ensures
     (leg_told_kept c.self.inside.board c.push_step_at.new.board c.args.place done c.self.inside.counts.legs c.recount_to.new.counts.legs c.self.invariant.counted.told c.in_ok-was.ensures.ok (λ leg. refl) c.recount_to.ensures.legs)
     (failing_done c.self.inside.board c.push_step_at.new.board c.args.place c.args.worker c.args.done c.is_failure-failed.result c.self.inside.failing c.note_done.new.failing c.self.invariant.failed

@@ -6,7 +6,6 @@ use Rattle.board_counters.proofs.Followed.{leg_counted}
 use Rattle.board_counters.proofs.Stops.{told_exchanged}
 use Rattle.board_counters.specs.Stopping.{told_turned}
 use Rattle.board_counters.proofs.Tallies.{exchanged_told}
-use Rattle.board_counters.proofs.Named.{comes_named}
 use Rattle.board_counters.proofs.Undone.{leg_back}
 use Rattle.board_counters.proofs.counted.Counted.change_leg.Goals as goal
 use Rattle.status_table.specs.Change.{changed}
@@ -15,7 +14,7 @@ use Rattle.status_table.specs.Play.{Play}
 pub invariant_of-self : goal.invariant_of-self
 invariant_of-self c =
     leg_counted c.self.inside.plan c.self.inside.board c.exchange_leg_at-how.new.board c.args.place (leg_after c.args.how) c.state_in-was.result c.state_in-is.result c.self.inside.counts c.recount_leg.new.counts
-    c.retell.new.legs c.self.inside.failing c.self.inside.failing c.self.inside.lasting c.self.invariant (comes_named c.args.how c.requires) c.exchange_leg_at-how.ensures.board
+    c.retell.new.legs c.self.inside.failing c.self.inside.failing c.self.inside.lasting c.self.invariant c.exchange_leg_at-how.ensures.board
     (exchanged_told c.self.inside.board c.exchange_leg_at-how.new.board c.args.place c.args.how c.exchange_leg_at-how.result c.state_in-was.result c.state_in-is.result
     c.exchange_leg_at-how.ensures.board c.exchange_leg_at-how.ensures.was c.state_in-was.ensures c.state_in-is.ensures)
     c.recount_leg.ensures

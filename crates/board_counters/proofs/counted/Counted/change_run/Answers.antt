@@ -7,7 +7,7 @@ use Rattle.status_table.specs.Play.{Play}
 pub invariant_of-self : goal.invariant_of-self
 invariant_of-self c =
     run_counted c.self.inside.plan c.self.inside.board c.exchange_run_at-how.new.board c.args.place c.args.how c.self.inside.counts c.self.inside.failing c.self.inside.lasting c.self.invariant
-    c.requires c.exchange_run_at-how.ensures.board
+    c.exchange_run_at-how.ensures.board
 
 pub returns-clause-back : goal.returns-clause-back
 returns-clause-back c =

@@ -2,10 +2,8 @@ use Rattle.std.proofs.Common.{◌≤◌, List, map, sum_by, ap, sym, subst, ◌�
 use Rattle.flow_model.specs.declared.board.Run.{Run}
 use Rattle.board_counters.specs.Counters.{tally_of, needs_of}
 use Rattle.board_counters.specs.Failing.{run_failing}
-use Rattle.board_counters.specs.Names.{IsNamed}
 use Rattle.board_counters.specs.Lasting.{IsLasting}
 use Rattle.board_counters.specs.Standing.{run_tally}
-use Rattle.board_counters.proofs.Named.{new_named}
 use Rattle.board_counters.proofs.Stops.{new_few, new_told}
 use Rattle.board_counters.specs.Stopping.{legs_of_jobs, untold_legs}
 use Rattle.board_counters.proofs.counted.Counted.new.Goals as goal
@@ -25,5 +23,4 @@ invariant_of-result c = record {
   };
   failed = c.in_ok-failing.ensures ∙ ap (map run_failing) c.as_slice-runs.ensures;
   lasts = subst (λ p. IsLasting p c.in_ok-board.board c.in_ok-lasting.lasting) c.plan-4.ensures.same c.in_ok-lasting.ensures;
-  named = subst IsNamed (sym c.in_ok-board.ensures) (new_named c.plan-2.result.now);
 }

@@ -18,7 +18,7 @@ pub invariant_of-self : goal.invariant_of-self
 invariant_of-self c =
     let put : Leg → Leg = λ leg. record leg { state = c.args.to } in
     leg_counted c.self.inside.plan c.self.inside.board c.exchange_state_at-was.new.board c.args.place put c.exchange_state_at-was.result _ c.self.inside.counts c.recount_to.new.counts
-    c.recount_to.new.counts.legs c.self.inside.failing c.self.inside.failing c.self.inside.lasting c.self.invariant (λ leg h. h) c.exchange_state_at-was.ensures.board
+    c.recount_to.new.counts.legs c.self.inside.failing c.self.inside.failing c.self.inside.lasting c.self.invariant c.exchange_state_at-was.ensures.board
     (same_so c.self.inside.board c.exchange_state_at-was.new.board c.args.place c.exchange_state_at-was.result _ c.exchange_state_at-was.ensures.was refl) c.recount_to.ensures
     (leg_told_kept c.self.inside.board c.exchange_state_at-was.new.board c.args.place put c.self.inside.counts.legs c.recount_to.new.counts.legs c.self.invariant.counted.told c.exchange_state_at-was.ensures.board (λ leg. refl) c.recount_to.ensures.legs)
     (c.self.invariant.failed ∙ sym (leg_failing_kept c.self.inside.board c.args.place put (λ leg at. refl)) ∙ ap failing_of (sym c.exchange_state_at-was.ensures.board))

@@ -1,0 +1,8 @@
+use Rattle.std.proofs.Common.{subst}
+use Rattle.flat_board.specs.Names.{IsNamed}
+use Rattle.flat_board.proofs.Known.{board_named}
+use Rattle.status_table.specs.Play.{Play}
+use Rattle.flat_board.proofs.flat_board.FlatBoard.board.Goals as goal
+
+pub returns-clause-named : goal.returns-clause-named
+returns-clause-named c = subst (λ (s : Play). IsNamed s.board) c.self.view_is (board_named c.self.inside.groups c.self.inside.state.board c.self.invariant.names)
