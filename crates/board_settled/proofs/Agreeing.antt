@@ -40,7 +40,7 @@ use Rattle.status_table.proofs.Lawfulness.{new_lawful}
 use Rattle.status_table.proofs.Legal.{new_fits}
 use Rattle.status_table.proofs.Lists.{zip-length, all-get}
 use Rattle.board_decisions.proofs.Lists.{same_some, no_some}
-use Rattle.board_settled.proofs.Ends.{leg_is}
+use Rattle.board_settled.proofs.Ends.{leg_is, leg_item, legs_size, job_finished}
 use Rattle.board_settled.proofs.InPlay.{Stands}
 use Rattle.board_settled.proofs.Kept.{after_stands}
 use Rattle.board_settled.proofs.Lists.{zip-each}
@@ -68,9 +68,6 @@ fresh_played answers spot call = record {
   where
     no : (result : Outcome) (tolerated : Bool) → leg_state.Fresh ≡ leg_state.Ended result tolerated → ⊥
     no result tolerated e = cc
-
-no_calls : ℕ → Option StepCall
-no_calls l = None
 
 new_played : (p : Plan) (answers : Answers) (calls : ℕ → Option StepCall) → Played answers p calls (new_board p).runs
 new_played p answers calls r plan run planned is = subst (RunPlayed answers (before_run r p.runs) plan calls) (mapped new_run p.runs r plan run planned is) (record {
@@ -112,21 +109,6 @@ run_item answers first (x ∷ xs) (suc r) plan is =
 runs_size : (answers : Answers) (first : ℕ) (runs : List RunPlan) → length (runs_from answers first runs) ≡ length runs
 runs_size answers first [] = refl
 runs_size answers first (x ∷ xs) = ap suc (runs_size answers (first + leg_count x.jobs) xs)
-
-module _ (answers : Answers) (run : RunPlan) (plan : JobPlan) (needs : Plain) (first : ℕ) where
-  leg_item : (k : ℕ) (combos : List (List (List ℕ × Plain))) (i : ℕ) (leg : SettledLeg) → slice_get (legs_from answers run plan needs first k combos) i ≡ Some leg
-      → leg_settled answers (spot_at run plan needs first (k + i)) ≡ leg
-  leg_item k [] i leg h = absurd (no_some leg h)
-  leg_item k (c ∷ cs) zero leg h =
-      let none : k + 0 ≡ k = omega arith in
-      ap (λ n. leg_settled answers (spot_at run plan needs first n)) none ∙ same_some (leg_settled answers (spot_at run plan needs first k)) leg h
-  leg_item k (c ∷ cs) (suc i) leg h =
-      let more : k + suc i ≡ suc k + i = omega arith in
-      ap (λ n. leg_settled answers (spot_at run plan needs first n)) more ∙ leg_item (suc k) cs i leg h
-
-  legs_size : (k : ℕ) (combos : List (List (List ℕ × Plain))) → length (legs_from answers run plan needs first k combos) ≡ length combos
-  legs_size k [] = refl
-  legs_size k (c ∷ cs) = ap suc (legs_size (suc k) cs)
 
 -- ---- steps
 
@@ -211,45 +193,6 @@ closed-result run_state.New h = absurd (true≢false (sym h))
 closed-result run_state.Waiting h = absurd (true≢false (sym h))
 closed-result run_state.Going h = absurd (true≢false (sym h))
 closed-result (run_state.Closed result) h = (result, refl)
-
-leg_finished : (answers : Answers) (spot : Spot) (call : Option StepCall) (leg : Leg) → LegPlayed answers spot call leg → is_ended leg.state ≡ true → LegIsSettled (leg_settled answers spot) leg
-leg_finished answers spot call leg played ended = by leg.state refl ended
-  where
-    by : (s : LegState) → leg.state ≡ s → is_ended s ≡ true → LegIsSettled (leg_settled answers spot) leg
-    by leg_state.Fresh is h = absurd (true≢false (sym h))
-    by leg_state.Waiting is h = absurd (true≢false (sym h))
-    by leg_state.Admitted is h = absurd (true≢false (sym h))
-    by (leg_state.Running worker in_call) is h = absurd (true≢false (sym h))
-    by (leg_state.Ended result tolerated) is h =
-        let all = leg_is answers spot call leg result tolerated played is in
-        record {
-          result = result;
-          tolerated = tolerated;
-          state = is;
-          steps = sym (ap (λ (x : SettledLeg). x.steps) all);
-          finish = ap (λ (x : SettledLeg). x.finish) all;
-        }
-
-job_finished : (answers : Answers) (run : RunPlan) (before : List SettledJob) (first : ℕ) (plan : JobPlan) (calls : ℕ → Option StepCall) (job : Job) → length job.legs ≡ length plan.legs
-    → JobPlayed answers run before first plan calls job → JobOver job → JobIsSettled (job_settled answers run first before plan) job.legs job.state
-job_finished answers run before first plan calls job size played over =
-    by job.state played.state over.judged (λ opened k leg is. over.ended opened k leg is)
-  where
-    by : (s : JobState) → StateStands (job_settled answers run first before plan) (legs_settled answers run plan (needs_of run before plan) first) s → is_judged s ≡ true
-        → (is_open s ≡ true → (k : ℕ) (leg : Leg) → slice_get job.legs k ≡ Some leg → is_ended leg.state ≡ true)
-        → JobIsSettled (job_settled answers run first before plan) job.legs s
-    by job_state.Unjudged stands was ended = true≢false (sym was)
-    by (job_state.Shut result) stands was ended = stands
-    by job_state.Open stands was ended = (
-      legs_settled answers run plan (needs_of run before plan) first,
-      stands,
-      zip-each LegIsSettled (legs_settled answers run plan (needs_of run before plan) first) job.legs (legs_size answers run plan (needs_of run before plan) first 0 plan.legs ∙ sym size)
-          (λ i given leg at there.
-          let none : i ≡ 0 + i = omega arith in
-          subst (λ (x : SettledLeg). LegIsSettled x leg)
-          (ap (λ n. leg_settled answers (spot_at run plan (needs_of run before plan) first n)) none ∙ leg_item answers run plan (needs_of run before plan) first 0 plan.legs i given at)
-          (leg_finished answers (spot_at run plan (needs_of run before plan) first i) (calls (first + i)) leg (played.legs i leg there) (ended refl i leg there))),
-    )
 
 run_finished : (answers : Answers) (first : ℕ) (plan : RunPlan) (calls : ℕ → Option StepCall) (run : Run) → AllZip JobShape plan.jobs run.jobs
     → RunPlayed answers first plan calls run → is_closed run.state ≡ true → RunIsSettled (run_settled answers first plan) run

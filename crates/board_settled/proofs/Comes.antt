@@ -31,12 +31,12 @@ use Rattle.status_table.proofs.Lists.{all-get}
 -- ---- the legs of a job that was opened
 
 -- legs that are Ended as settled, and what they come to
-record LegsCome (given : List SettledLeg) (legs : List Leg) : Type 0 where
-  ends : List Finish
-  all : all_given (map (λ leg. leg.finish) given) ≡ Some ends
-  failed : list_any fails ends ≡ list_any (λ leg. has_failed leg.state) legs
-  cancelled : list_any (λ finish. is_cancelled finish.result) ends ≡ list_any (λ leg. was_cancelled leg.state) legs
-  overlays : (below : Env) → overlaid (map (λ leg. given_by leg.finish) given) below ≡ overlaid (map (λ leg. leg.outputs) legs) below
+pub record LegsCome (given : List SettledLeg) (legs : List Leg) : Type 0 where
+  pub ends : List Finish
+  pub all : all_given (map (λ leg. leg.finish) given) ≡ Some ends
+  pub failed : list_any fails ends ≡ list_any (λ leg. has_failed leg.state) legs
+  pub cancelled : list_any (λ finish. is_cancelled finish.result) ends ≡ list_any (λ leg. was_cancelled leg.state) legs
+  pub overlays : (below : Env) → overlaid (map (λ leg. given_by leg.finish) given) below ≡ overlaid (map (λ leg. leg.outputs) legs) below
 
 next_comes : (given : SettledLeg) (more : List SettledLeg) (leg : Leg) (legs : List Leg) → LegIsSettled given leg → LegsCome more legs → LegsCome (given ∷ more) (leg ∷ legs)
 next_comes given more leg legs is later =
@@ -49,7 +49,7 @@ next_comes given more leg legs is later =
       overlays = λ below. ap (λ (o : Option Finish). overlaid (given_by o ∷ map (λ (x : SettledLeg). given_by x.finish) more) below) is.finish ∙ later.overlays (laid_over leg.outputs below);
     }
 
-legs_come : (given : List SettledLeg) (legs : List Leg) → AllZip LegIsSettled given legs → LegsCome given legs
+pub legs_come : (given : List SettledLeg) (legs : List Leg) → AllZip LegIsSettled given legs → LegsCome given legs
 legs_come [] [] h = record { ends = []; all = refl; failed = refl; cancelled = refl; overlays = λ below. refl }
 legs_come [] (leg ∷ legs) h = absurd h
 legs_come (given ∷ more) [] h = absurd h
@@ -61,6 +61,14 @@ legs_come (given ∷ more) (leg ∷ legs) h = next_comes given more leg legs h.0
 pub record JobComes (b : Board) (place : JobPlace) (run : Run) (given : SettledJob) (job : Job) : Type 0 where
   pub result : result_of given ≡ Some (job_result run job)
   pub outputs : outputs_of_job given ≡ job_outputs b place
+
+-- the result of one that was opened
+pub open_result : (run : Run) (given : SettledJob) (job : Job) (all : List SettledLeg) → job.state ≡ job_state.Open → given ≡ opened all → LegsCome all job.legs → result_of given ≡ Some (job_result run job)
+open_result run given job all is stands come =
+    ap result_of stands ∙ ap (option_map legs_come_to) come.all
+    ∙ ap (λ c. Some (worst c (list_any (λ (f : Finish). is_cancelled f.result) come.ends))) come.failed
+    ∙ ap (λ c. Some (worst (list_any (λ (leg : Leg). has_failed leg.state) job.legs) c)) come.cancelled
+    ∙ ap (λ s. Some (result_by run.state s job.legs)) (sym is)
 
 fresh-unended : (s : LegState) → is_fresh s ≡ true → is_ended s ≡ false
 fresh-unended leg_state.Fresh h = refl
@@ -95,10 +103,7 @@ module _ (p : Plan) (b : Board) (place : JobPlace) (run_plan : RunPlan) (run : R
       let ended : (k : ℕ) (leg : Leg) → slice_get job.legs k ≡ Some leg → is_ended leg.state ≡ true = λ k leg there.
       ap is_ended (zip-left LegIsSettled all job.legs k leg there legs).2.state in
       record {
-        result = ap result_of stands ∙ ap (option_map legs_come_to) come.all
-            ∙ ap (λ c. Some (worst c (list_any (λ (f : Finish). is_cancelled f.result) come.ends))) come.failed
-            ∙ ap (λ c. Some (worst (list_any (λ (leg : Leg). has_failed leg.state) job.legs) c)) come.cancelled
-            ∙ ap (λ s. Some (result_by run.state s job.legs)) (sym is);
+        result = open_result run given job all is stands come;
         outputs = ap outputs_of_job stands ∙ come.overlays []
             ∙ sym (all_ended p b place run_plan run job shape ends planned in_board in_run ended);
       }

@@ -37,18 +37,13 @@ use Rattle.status_table.proofs.Lists.{bind-some, zip-get}
 use Rattle.board_decisions.proofs.Lists.{same_some, no_some}
 use Rattle.status_table.proofs.Steps.{Live, going-unclosed}
 use Rattle.status_table.proofs.Turns.{Fits}
-use Rattle.board_settled.proofs.SettledNeeds.{IsOrdered, RunSeen, needs_same}
+use Rattle.board_settled.proofs.Needs.{IsOrdered}
+use Rattle.board_settled.proofs.SettledNeeds.{RunSeen, needs_settled}
 use Rattle.board_settled.proofs.Numbers.{before_run, before_job, number_at}
 use Rattle.board_settled.proofs.Played.{is_judged, LegPlayed, JobPlayed, jobs_of, RunPlayed, Played}
 use Rattle.board_settled.proofs.Seen.{spot_of}
 
 -- ---- the board of what is found
-
-run_board : (p : Plan) (b : Board) (n : ℕ) (at : RunAt) → run_at p b n ≡ Some at → at.board ≡ b
-run_board p b n at h =
-    let plan = bind-some (slice_get p.runs n) (λ plan. slice_get b.runs n >>= λ run. Some (record { board = b; plan = plan; run = run })) at h in
-    let run = bind-some (slice_get b.runs n) (λ run. Some (record { board = b; plan = plan.0; run = run })) at plan.2 in
-    ap (λ (x : RunAt). x.board) (sym (same_some (record { board = b; plan = plan.0; run = run.0 }) at run.2))
 
 abbrev job_seen : Board → JobPlace → RunAt → JobPlan → Job → JobAt
 job_seen b place run plan job = record { board = b; place = place; run_plan = run.plan; plan = plan; run = run.run; job = job }
@@ -205,6 +200,6 @@ module _ (p : Plan) (fit : IsFit p) (answers : Answers) (calls : ℕ → Option 
       let board : job_of at ≡ record { board = b; place = record { run = at.place.run; job = at.place.job }; run_plan = at.run_plan; plan = at.job_plan; run = at.run; job = at.job } =
       ap (λ (x : Board). (let y : JobAt = record { board = x; place = record { run = at.place.run; job = at.place.job }; run_plan = at.run_plan; plan = at.job_plan; run = at.run; job = at.job } in y)) (leg_board p b l at is) in
       let needs : needs_value (job_of at) ≡ needs_of at.run_plan before at.job_plan =
-      ap needs_value board ∙ needs_same p b answers calls at.place.run at.run_plan at.run seen at.place.job at.job_plan here.job_plan ready at.job in
+      ap needs_value board ∙ (needs_settled p b answers calls at.place.run at.run_plan at.run seen at.place.job at.job_plan here.job_plan ready at.job).needs in
       ap (λ n. (let y : Spot = record { number = n; run = at.run_plan; job = at.job_plan; place = at.place.leg; needs = needs_value (job_of at) } in y)) number_is
       ∙ ap (λ (v : Plain). (let y : Spot = record { number = first + at.place.leg; run = at.run_plan; job = at.job_plan; place = at.place.leg; needs = v } in y)) needs

@@ -16,6 +16,7 @@ pub mod LegEvents
 pub mod LegSteps
 pub mod Lists
 pub mod NamedNeeds
+pub mod Needs
 pub mod NamedSteps
 pub mod Numbers
 pub mod Ordered

@@ -37,7 +37,7 @@ use Rattle.board_settled.proofs.Changes.{run_changes, job_put}
 use Rattle.board_settled.proofs.InPlay.{Stands, IsFit, job_board, run_seen}
 use Rattle.board_settled.proofs.LegEvents.{Goes, goes-if}
 use Rattle.board_settled.proofs.Lists.{any-map}
-use Rattle.board_settled.proofs.SettledNeeds.{RunSeen, are_given, needs_same, status_same, each_result, each_over}
+use Rattle.board_settled.proofs.SettledNeeds.{RunSeen, needs_settled, each_given, each_over}
 use Rattle.board_settled.proofs.Numbers.{before_run, before_job}
 use Rattle.board_settled.proofs.Played.{is_judged, StateStands, JobPlayed, jobs_of, RunPlayed}
 use Rattle.board_settled.proofs.Seen.{job_condition_is}
@@ -78,7 +78,7 @@ module _ (p : Plan) (fit : IsFit p) (answers : Answers) (open_calls : ℕ → Op
     comes_to : at.run.state ≡ run_state.Going → jobs_have_ended at.run ≡ true → (run_after (jobs_of answers (before_run r p.runs) at.plan)).result ≡ Some (run_result at.run)
     comes_to going ended =
         let seen = run_seen p fit answers open_calls b stands r at.plan at.run there.plan there.run (ap is_closed going) in
-        ap (option_map jobs_come_to) (each_result p b answers open_calls r at.plan at.run seen ended)
+        ap (option_map jobs_come_to) (each_given p b answers open_calls r at.plan at.run seen ended)
         ∙ ap (λ c. Some (worst c (list_any is_cancelled (job_results at.run)))) (any-map is_failure (job_result at.run) at.run.jobs)
         ∙ ap (λ c. Some (worst (is_any_job_failed at.run) c)) (any-map is_cancelled (job_result at.run) at.run.jobs)
         ∙ ap (λ c. Some (worst (is_any_job_failed at.run) (c || is_any_job_cancelled at.run))) (sym run_played.stop)
@@ -157,14 +157,14 @@ module _ (p : Plan) (fit : IsFit p) (answers : Answers) (open_calls : ℕ → Op
       needs_is : needs_value at ≡ needs
       needs_is =
           ap (λ (x : Board). needs_value (record { board = x; place = at.place; run_plan = at.run_plan; plan = at.plan; run = at.run; job = at.job })) (job_board p b j at is)
-          ∙ needs_same p b answers open_calls at.place.run at.run_plan at.run seen at.place.job at.plan found.plan ready at.job
+          ∙ (needs_settled p b answers open_calls at.place.run at.run_plan at.run seen at.place.job at.plan found.plan ready at.job).needs
 
       status_is : job_status (rows.first_of j at) at ≡ status_after at.run_plan before at.plan
       status_is =
           ap (λ c. if c then status.Cancelled else ancestors_status (rows.first_of j at) at.run_plan.jobs (job_results at.run) at.place.job) run_here.stop
           ∙ ap (λ n. ancestors_status (n - at.place.job) at.run_plan.jobs (job_results at.run) at.place.job) (sym number)
           ∙ ap (λ n. ancestors_status n at.run_plan.jobs (job_results at.run) at.place.job) (seen.ordered.number at.place.job at.plan found.plan)
-          ∙ status_same p b answers open_calls at.place.run at.run_plan at.run seen at.place.job at.plan found.plan ready
+          ∙ (needs_settled p b answers open_calls at.place.run at.run_plan at.run seen at.place.job at.plan found.plan ready at.job).status
 
       condition_is : job_condition at (job_status (rows.first_of j at) at) ≡ condition
       unfolding condition_after
@@ -173,7 +173,7 @@ module _ (p : Plan) (fit : IsFit p) (answers : Answers) (open_calls : ℕ → Op
       settled_is : job_settled answers at.run_plan first before at.plan ≡ judged condition legs
       unfolding job_settled
       settled_is = ap (λ c. if c then judged condition legs else unsettled)
-          (are_given p b answers open_calls at.place.run at.run_plan at.run seen at.place.job at.plan found.plan ready)
+          (needs_settled p b answers open_calls at.place.run at.run_plan at.run seen at.place.job at.plan found.plan ready at.job).given
 
       abbrev new_state : JobState
       new_state = rows.judged_state at.run.stop (job_condition at (job_status (rows.first_of j at) at))

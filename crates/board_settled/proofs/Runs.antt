@@ -22,7 +22,8 @@ use Rattle.board_settled.specs.Alone.{SeesSettled}
 use Rattle.board_settled.specs.Quiet.{quiet_run}
 use Rattle.board_settled.specs.Runs.{RunStands}
 use Rattle.board_settled.proofs.Comes.{job_comes}
-use Rattle.board_settled.proofs.BoardNeeds.{ComesAt, sees_settled, each_result}
+use Rattle.board_settled.proofs.BoardNeeds.{board_sees_settled}
+use Rattle.board_settled.proofs.Needs.{ComesAt, IsOrdered, each_result}
 use Rattle.board_settled.proofs.LegSteps.{item}
 use Rattle.board_settled.specs.Agrees.{JobIsSettled, RunIsSettled}
 use Rattle.board_settled.specs.Settled.{Answers, SettledJob, SettledRun, worst, jobs_come_to, job_settled, run_settled, leg_count, runs_from}
@@ -31,7 +32,6 @@ use Rattle.status_table.specs.Shape.{JobShape, RunShape}
 use Rattle.board_decisions.proofs.Lists.{and-both}
 use Rattle.board_settled.proofs.InPlay.{is_ordered}
 use Rattle.board_settled.proofs.Lists.{get-take, any-map}
-use Rattle.board_settled.proofs.SettledNeeds.{IsOrdered}
 use Rattle.board_settled.proofs.Numbers.{before_job}
 use Rattle.board_settled.proofs.Played.{jobs_of, jobs_size, job_item}
 use Rattle.status_table.proofs.Counts.{zip-left}
@@ -157,9 +157,6 @@ module _ (answers : Answers) (r first : ℕ) (at : RunAt) (stands : RunStands r 
     pub size_job : length x.job.legs ≡ length x.plan.legs
     size_job = (zip-get JobShape at.plan.jobs at.run.jobs j x.plan x.job job_found.planned job_found.there shape_here).legs
 
-    pub goes_job : x.run.stop ≡ false
-    goes_job = ap (λ (y : JobAt). y.run.stop) job_found.is ∙ stands.board.runs r at.run stands.in_board
-
     -- it stands after all that it needs
     pub stands_job : (n : ℕ) → n ≡ x.plan.number - j → StandsAfterNeeds n x
     stands_job n is =
@@ -190,7 +187,7 @@ module _ (answers : Answers) (r first : ℕ) (at : RunAt) (stands : RunStands r 
           let long = sizes in
           let less = within in
           subst (SeesSettled n (take j all)) (sym job_found.is) (subst (λ m. SeesSettled m (take j all) seen) (sym (n_is ∙ ordered.number j x.plan job_found.planned))
-          (sees_settled at.board r (first_job p r) at.plan at.run all ordered j (λ i under. comes_at j so_far i under (omega (arith, under, less)))
+          (board_sees_settled at.board r (first_job p r) at.plan at.run all ordered j (λ i under. comes_at j so_far i under (omega (arith, under, less)))
           x.plan job_found.planned (omega (arith, long, less)) x.job))
 
       same : job_settled answers x.run_plan next (take j all) x.plan ≡ given

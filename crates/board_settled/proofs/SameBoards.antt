@@ -31,7 +31,7 @@ use Rattle.status_table.proofs.Counts.{zip-left}
 use Rattle.status_table.proofs.Lists.{zip-length, all-get, zip-get}
 use Rattle.board_decisions.proofs.Lists.{same_some}
 use Rattle.board_settled.proofs.Agreeing.{closed-result, ends_so}
-use Rattle.board_settled.proofs.Ends.{ended_as}
+use Rattle.board_settled.proofs.Ends.{leg_finished}
 use Rattle.board_settled.proofs.InPlay.{Stands}
 use Rattle.board_settled.proofs.Numbers.{before_run, before_job}
 use Rattle.board_settled.proofs.Played.{is_judged, LegPlayed, StateStands, JobPlayed, JobOver, jobs_of, RunPlayed}
@@ -51,14 +51,13 @@ leg_made state stop group steps outputs = record { state = state; stop = stop; g
 leg_same : (answers : Answers) (spot : Spot) (call other : Option StepCall) (x y : Leg) → LegPlayed answers spot call x → LegPlayed answers spot other y
     → is_ended x.state ≡ true → is_ended y.state ≡ true → x ≡ y
 leg_same answers spot call other x y px py ex ey =
-    let a = ended_as answers spot call x px ex in
-    let b = ended_as answers spot other y py ey in
-    let all = sym a.settled_is ∙ b.settled_is in
-    let steps : x.steps ≡ y.steps = ap (λ (s : SettledLeg). s.steps) all in
+    let a = leg_finished answers spot call x px ex in
+    let b = leg_finished answers spot other y py ey in
+    let steps : x.steps ≡ y.steps = a.steps ∙ sym b.steps in
     let finish = same_some (record { result = a.result; tolerated = a.tolerated; outputs = x.outputs }) (record { result = b.result; tolerated = b.tolerated; outputs = y.outputs })
-    (ap (λ (s : SettledLeg). s.finish) all) in
+    (sym a.finish ∙ b.finish) in
     let state : x.state ≡ y.state =
-    a.state_is ∙ ap (λ (f : Finish). leg_state.Ended f.result f.tolerated) finish ∙ sym b.state_is in
+    a.state ∙ ap (λ (f : Finish). leg_state.Ended f.result f.tolerated) finish ∙ sym b.state in
     ap (λ s. leg_made s x.stop x.group x.steps x.outputs) state
     ∙ ap (λ c. leg_made y.state c x.group x.steps x.outputs) (px.stop ∙ sym py.stop)
     ∙ ap (λ (g : Option (List ℕ)). leg_made y.state y.stop g x.steps x.outputs) (px.group ∙ sym py.group)
