@@ -48,3 +48,11 @@ as_counted b n j l n_is j_is l_is =
     ap (λ m. events_of kind.Close m ++ (events_of kind.Open m ++ (events_of kind.Judge j ++ (events_of kind.Drop l ++ events_of kind.Ask l)))) n_is
     ∙ ap (λ m. events_of kind.Close (length b.runs) ++ (events_of kind.Open (length b.runs) ++ (events_of kind.Judge m ++ (events_of kind.Drop l ++ events_of kind.Ask l)))) j_is
     ∙ ap (λ m. events_of kind.Close (length b.runs) ++ (events_of kind.Open (length b.runs) ++ (events_of kind.Judge (length (board_jobs b)) ++ (events_of kind.Drop m ++ events_of kind.Ask m)))) l_is
+
+-- and none where some more are refused
+pub none_through : {A : Type 0} (t : A → Bool) (f : ℕ → A) (n d : ℕ) → filter t (map f (numbers n)) ≡ [] → ((i : ℕ) → i < d → t (f (n + i)) ≡ false)
+    → filter t (map f (numbers (n + d))) ≡ []
+none_through t f n zero none all = let e : n + zero ≡ n = omega arith in rw e none
+none_through t f n (suc d) none all =
+    let e : n + suc d ≡ (n + d) + 1 = omega arith in
+    rw e (none_yet t f (n + d) (none_through t f n d none (λ i below. all i (omega (arith, below)))) (all d (omega arith)))

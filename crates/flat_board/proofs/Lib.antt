@@ -11,4 +11,3 @@ pub mod PassedOver
 pub mod Playing
 pub mod Reached
 pub mod RunNumbers
-pub mod RunPassedOver

@@ -1,27 +1,40 @@
--- A clerk's events that are refused to all legs of a job.
-use Rattle.std.proofs.Common.{◌≡◌, ℕ, zero, suc, ◌+◌, ◌<◌, ◌≤◌, ◌==◌, Bool, true, false, not, List, [], ◌∷◌, Option, Some, None, length, map, filter, slice_get, count_by, nat_le, ap, sym, refl, ◌∙◌, arith}
+-- A clerk's events that are refused to all jobs or legs of a run.
+use Rattle.std.proofs.Common.{◌≡◌, ℕ, zero, suc, ◌+◌, ◌<◌, ◌≤◌, ◌==◌, ◌&&◌, ◌||◌, Bool, true, false, not, List, [], ◌∷◌, Option, Some, None, length, slice_get, count_by, sum_by, nat_lt, ap, sym, refl, ◌∙◌, arith}
+use Rattle.std.specs.List.{list_any}
 use Rattle.std.proofs.lemmas.Bool.{true≢false}
 use Rattle.std.proofs.lemmas.Bool.Decides.{nat_tests}
 use Rattle.std.proofs.lemmas.List.Sums.{sum_by-cons}
-use Rattle.board_decisions.specs.Derived.{is_ended, is_fresh, is_full, is_untaken, is_under_way as takes_slot}
-use Rattle.board_decisions.specs.Place.{LegAt, leg_at, leg_place}
-use Rattle.board_decisions.proofs.Following.{further, place_further}
-use Rattle.board_decisions.proofs.Lists.{and-left, and-right, same_some, no_some}
-use Rattle.flat_board.specs.Idle.{is_idle, is_under_way}
+use Rattle.board_decisions.specs.Decisions.{is_stopping, stops_anyway}
+use Rattle.board_decisions.specs.Derived.{has_failed, is_ended, is_fresh, is_going, is_open, is_untaken, is_under_way as takes_slot}
+use Rattle.board_decisions.specs.Place.{JobAt, LegAt, job_at, job_place, leg_at, leg_place}
+use Rattle.board_decisions.specs.declared.place.JobPlace.{JobPlace}
+use Rattle.board_decisions.specs.declared.place.LegPlace.{LegPlace}
+use Rattle.board_decisions.proofs.Lists.{and-both, and-left, and-right, same_some, no_some}
+use Rattle.flat_board.specs.Idle.{is_all_judged, is_none_stopping, is_run_idle}
+use Rattle.flat_board.proofs.RunNumbers.{job_further, leg_further}
+use Rattle.board_counters.specs.Counters.{tally_of}
+use Rattle.board_counters.specs.Standing.{is_unjudged, run_tally, standing_of}
+use Rattle.board_counters.specs.Stopping.{legs_of_jobs, run_legs, told_of}
+use Rattle.board_counters.proofs.Lists.{any-counted}
 use Rattle.flow_model.specs.declared.board.Board.{Board}
+use Rattle.flow_model.specs.declared.board.Job.{Job}
+use Rattle.flow_model.specs.declared.board.JobState.{JobState}
+use Rattle.flow_model.specs.declared.board.JobState.TheVariants as job_state
 use Rattle.flow_model.specs.declared.board.Leg.{Leg}
 use Rattle.flow_model.specs.declared.board.LegState.{LegState}
 use Rattle.flow_model.specs.declared.board.LegState.TheVariants as leg_state
+use Rattle.flow_model.specs.declared.board.Run.{Run}
+use Rattle.flow_model.specs.declared.board.RunState.{RunState}
+use Rattle.flow_model.specs.declared.board.RunState.TheVariants as run_state
+use Rattle.flow_model.specs.declared.event.Event.TheVariants as event
 use Rattle.flow_model.specs.declared.plan.Plan.{Plan}
 use Rattle.status_table.specs.Kinds.{event_of}
 use Rattle.status_table.specs.Moves.{accepts, is_accepted}
-use Rattle.status_table.specs.Row.{ask_found, drop_found, may_ask, may_drop}
+use Rattle.status_table.specs.Row.{ask_found, drop_found, judge_found, judge_job, judgement_by, may_ask, may_drop}
 use Rattle.status_table.specs.declared.moves.MoveKind.{MoveKind}
 use Rattle.status_table.specs.declared.moves.MoveKind.TheVariants as kind
-use Rattle.board_decisions.specs.Places.{numbers}
-use Rattle.flat_board.proofs.FirstMove.{none_yet}
-use Rattle.status_table.proofs.Counts.{one}
-use Rattle.status_table.proofs.Found.{LegStands, leg_stands}
+use Rattle.status_table.proofs.Counts.{counted, one}
+use Rattle.status_table.proofs.Found.{job_stands, leg_stands}
 
 -- ---- what the tally of a job says of each of its legs
 
@@ -55,7 +68,7 @@ module _ where
       let later = slots-left xs in
       omega (arith, a, b, here, later)
 
-  pub fresh-left : (legs : List Leg) (i : ℕ) (leg : Leg) → slice_get legs i ≡ Some leg → is_fresh leg.state ≡ true → slots legs < left legs
+  fresh-left : (legs : List Leg) (i : ℕ) (leg : Leg) → slice_get legs i ≡ Some leg → is_fresh leg.state ≡ true → slots legs < left legs
   fresh-left [] i leg at fresh = absurd (no_some leg at)
   fresh-left (x ∷ xs) zero leg at fresh =
       let a = sum_by-cons (λ (y : Leg). one (takes_slot y.state)) x xs in
@@ -77,7 +90,7 @@ untaken-one leg_state.Admitted h = refl
 untaken-one (leg_state.Running worker in_call) h = absurd (true≢false (sym h))
 untaken-one (leg_state.Ended result tolerated) h = absurd (true≢false (sym h))
 
-pub untaken-left : (legs : List Leg) (i : ℕ) (leg : Leg) → slice_get legs i ≡ Some leg → is_untaken leg.state ≡ true → 0 < left legs
+untaken-left : (legs : List Leg) (i : ℕ) (leg : Leg) → slice_get legs i ≡ Some leg → is_untaken leg.state ≡ true → 0 < left legs
 untaken-left [] i leg at h = absurd (no_some leg at)
 untaken-left (x ∷ xs) zero leg at h =
     let b = sum_by-cons (λ (y : Leg). one (not (is_ended y.state))) x xs in
@@ -88,87 +101,168 @@ untaken-left (x ∷ xs) (suc i) leg at h =
     let later = untaken-left xs i leg at h in
     omega (arith, b, later)
 
--- ---- what is refused
+-- ---- counts
 
-ask-refused : (b : Board) (l : ℕ) (at : LegAt) → slice_get at.job.legs at.place.leg ≡ Some at.leg → is_idle kind.Ask at ≡ true → is_accepted (ask_found b l (Some at)) ≡ false
-ask-refused b l at there idle = by (may_ask at) refl (is_full at.job_plan at.job) refl
+-- none is counted where the count is 0
+none-counted : {A : Type 0} (t : A → Bool) (xs : List A) (i : ℕ) (x : A) → slice_get xs i ≡ Some x → (count_by t xs == 0) ≡ true → t x ≡ false
+none-counted t xs i x at none = by (t x) refl
   where
-    by : (c : Bool) → may_ask at ≡ c → (d : Bool) → is_full at.job_plan at.job ≡ d → is_accepted (ask_found b l (Some at)) ≡ false
-    by false may d full = rw may refl
-    by true may true full = rw (may, full) refl
-    by true may false full =
-        let way : is_under_way at ≡ true = and-left (is_under_way at) (is_fresh at.leg.state) may in
-        let fresh = and-right (is_under_way at) (is_fresh at.leg.state) may in
-        let few = fresh-left at.job.legs at.place.leg at.leg there fresh in
-        let none : nat_le (left at.job.legs) (slots at.job.legs) ≡ false = grind (arith, nat_tests, few) in
-        let idle_is : is_idle kind.Ask at ≡ false = rw (way, full, none) refl in
-        absurd (true≢false (sym idle ∙ idle_is))
+    by : (c : Bool) → t x ≡ c → t x ≡ false
+    by false is = is
+    by true is =
+        let some = counted t xs i x at is in
+        let zero_is : count_by t xs ≡ 0 = grind (arith, nat_tests, none) in
+        absurd (omega (arith, some, zero_is))
 
-drop-refused : (b : Board) (l : ℕ) (at : LegAt) → slice_get at.job.legs at.place.leg ≡ Some at.leg → is_idle kind.Drop at ≡ true → is_accepted (drop_found b l (Some at)) ≡ false
-drop-refused b l at there idle = by (may_drop at) refl
+-- and so is none in any of several lists where their sum is 0
+none-in : {A : Type 0} (w : A → ℕ) (xs : List A) (i : ℕ) (x : A) → slice_get xs i ≡ Some x → sum_by w xs ≡ 0 → w x ≡ 0
+none-in w [] i x at none = absurd (no_some x at)
+none-in w (y ∷ ys) zero x at none =
+    let cons = sum_by-cons w y ys in let same = ap w (same_some y x at) in omega (arith, cons, same, none)
+none-in w (y ∷ ys) (suc i) x at none =
+    let cons = sum_by-cons w y ys in none-in w ys i x at (omega (arith, cons, none))
+
+-- one of two that do not both fail
+else-holds : (a b : Bool) → (not a || b) ≡ true → a ≡ true → b ≡ true
+else-holds true b h a_is = h
+else-holds false b h a_is = absurd (true≢false (sym a_is))
+
+-- neither one nor both of two others hold
+neither : (a b c : Bool) → a ≡ false → b ≡ false → (a || (b && c)) ≡ false
+neither a b c a_is b_is = λ i. a_is i || (b_is i && c)
+
+-- ---- a job of a run no job of which may be judged
+
+judge-refused : (b : Board) (n : ℕ) (at : JobAt) → slice_get at.run.jobs at.place.job ≡ Some at.job → is_all_judged at.run ≡ true → is_accepted (judge_found b n (Some at)) ≡ false
+judge-refused b n at there judged = by at.run.state at.job.state refl refl
   where
+    unjudged-none : is_going at.run.state ≡ true → is_unjudged at.job.state ≡ false
+    unjudged-none going = none-counted (λ (job : Job). (standing_of job).is_unjudged) at.run.jobs at.place.job at.job there
+        (else-holds (is_going at.run.state) ((run_tally at.run).unjudged == 0) judged going)
+
+    by : (r : RunState) (j : JobState) → at.run.state ≡ r → at.job.state ≡ j → is_accepted (judge_job b at.place (judgement_by n at r j)) ≡ false
+    by run_state.Going job_state.Unjudged r j = absurd (true≢false (sym (ap is_unjudged j) ∙ unjudged-none (ap is_going r)))
+    by run_state.Going job_state.Open r j = refl
+    by run_state.Going (job_state.Shut how) r j = refl
+    by run_state.New j r is = refl
+    by run_state.Waiting j r is = refl
+    by (run_state.Closed how) j r is = refl
+
+-- the jobs of such a run, from its first on
+pub idle_jobs : (p : Plan) (b : Board) (n : ℕ) (at : JobPlace) (run : Run) → job_place b n ≡ Some at → slice_get b.runs at.run ≡ Some run → at.job ≡ 0 → is_all_judged run ≡ true
+    → (i : ℕ) → i < length run.jobs → accepts p b (event.Judge (n + i)) ≡ false
+idle_jobs p b n at run is there start judged i within = by (job_at p b (n + i)) refl
+  where
+    by : (o : Option JobAt) → job_at p b (n + i) ≡ o → is_accepted (judge_found b (n + i) o) ≡ false
+    by None found = refl
+    by (Some other) found =
+        let stands = job_stands p b (n + i) other found in
+        let further = job_further b n i at run is there (omega (arith, start, within)) in
+        let place = ap (λ (x : JobPlace). x.run) (same_some _ other.place (sym further ∙ stands.place)) in
+        let same : run ≡ other.run = same_some run other.run (sym there ∙ ap (slice_get b.runs) place ∙ stands.in_board) in
+        judge-refused b (n + i) other stands.job (ap is_all_judged (sym same) ∙ judged)
+
+-- ---- a leg of a run to none of whose legs anything may happen
+
+ask-refused : (b : Board) (l : ℕ) (at : LegAt) → slice_get at.run.jobs at.place.job ≡ Some at.job → slice_get at.job.legs at.place.leg ≡ Some at.leg → is_run_idle kind.Ask at.run ≡ true
+    → is_accepted (ask_found b l (Some at)) ≡ false
+ask-refused b l at in_run in_job idle = by (may_ask at) refl
+  where
+    by : (c : Bool) → may_ask at ≡ c → is_accepted (ask_found b l (Some at)) ≡ false
+    by false may = rw may refl
+    by true may =
+        let way = and-left (is_going at.run.state && is_open at.job.state) (is_fresh at.leg.state) may in
+        let fresh = and-right (is_going at.run.state && is_open at.job.state) (is_fresh at.leg.state) may in
+        let going = and-left (is_going at.run.state) (is_open at.job.state) way in
+        let open_is = and-right (is_going at.run.state) (is_open at.job.state) way in
+        let few = fresh-left at.job.legs at.place.leg at.leg in_job fresh in
+        let left : nat_lt (tally_of at.job).used (tally_of at.job).pending ≡ true = grind (arith, nat_tests, few) in
+        let none = none-counted (λ (job : Job). (standing_of job).may_ask) at.run.jobs at.place.job at.job in_run
+        (else-holds (is_going at.run.state) ((run_tally at.run).asking == 0) idle going) in
+        absurd (true≢false (sym (and-both (is_open at.job.state) (nat_lt (tally_of at.job).used (tally_of at.job).pending) open_is left) ∙ none))
+
+-- whether a leg stops whatever its job's condition, of a job none of whose legs is told to, and none has failed
+anyway-false : (at : LegAt) → at.leg.stop ≡ false → list_any (λ leg. has_failed leg.state) at.job.legs ≡ false → stops_anyway at ≡ false
+anyway-false at stop failed = ap (λ c. c || (at.job_plan.fail_fast && list_any (λ leg. has_failed leg.state) at.job.legs)) stop ∙ ap (λ c. at.job_plan.fail_fast && c) failed ∙ and-no at.job_plan.fail_fast
+  where
+    and-no : (c : Bool) → c && false ≡ false
+    and-no true = refl
+    and-no false = refl
+
+drop-refused : (b : Board) (l : ℕ) (at : LegAt) → slice_get at.run.jobs at.place.job ≡ Some at.job → slice_get at.job.legs at.place.leg ≡ Some at.leg → is_run_idle kind.Drop at.run ≡ true
+    → is_accepted (drop_found b l (Some at)) ≡ false
+drop-refused b l at in_run in_job idle = by (may_drop at) refl
+  where
+    told-none : (run_legs at.run).told ≡ 0 → at.leg.stop ≡ false
+    told-none none =
+        let of_job = none-in told_of at.run.jobs at.place.job at.job in_run none in
+        let zero_is : (told_of at.job == 0) ≡ true = grind (arith, nat_tests, of_job) in
+        none-counted (λ (leg : Leg). leg.stop) at.job.legs at.place.leg at.leg in_job zero_is
+
+    failed-none : is_open at.job.state ≡ true → is_untaken at.leg.state ≡ true → ((run_tally at.run).dropping == 0) ≡ true → list_any (λ (leg : Leg). has_failed leg.state) at.job.legs ≡ false
+    failed-none open_is untaken dropping = either (list_any (λ (leg : Leg). has_failed leg.state) at.job.legs) refl
+      where
+        either : (c : Bool) → list_any (λ (leg : Leg). has_failed leg.state) at.job.legs ≡ c → list_any (λ (leg : Leg). has_failed leg.state) at.job.legs ≡ false
+        either false is = is
+        either true is =
+            let some = untaken-left at.job.legs at.place.leg at.leg in_job untaken in
+            let left : nat_lt 0 (tally_of at.job).pending ≡ true = grind (arith, nat_tests, some) in
+            let failed : nat_lt 0 (tally_of at.job).failed ≡ true = sym (any-counted (λ (leg : Leg). has_failed leg.state) at.job.legs) ∙ is in
+            let none = none-counted (λ (job : Job). (standing_of job).may_drop) at.run.jobs at.place.job at.job in_run dropping in
+            let both = and-both (nat_lt 0 (tally_of at.job).failed) (nat_lt 0 (tally_of at.job).pending) failed left in
+            absurd (true≢false (sym (and-both (is_open at.job.state) (nat_lt 0 (tally_of at.job).failed && nat_lt 0 (tally_of at.job).pending) open_is both) ∙ none))
+
     by : (c : Bool) → may_drop at ≡ c → is_accepted (drop_found b l (Some at)) ≡ false
     by false may = rw may refl
     by true may =
-        let way : is_under_way at ≡ true = and-left (is_under_way at) (is_untaken at.leg.state) may in
-        let untaken = and-right (is_under_way at) (is_untaken at.leg.state) may in
-        let some = untaken-left at.job.legs at.place.leg at.leg there untaken in
-        let none : (left at.job.legs == 0) ≡ false = grind (arith, nat_tests, some) in
-        let idle_is : is_idle kind.Drop at ≡ false = rw (way, none) refl in
-        absurd (true≢false (sym idle ∙ idle_is))
+        let way = and-left (is_going at.run.state && is_open at.job.state) (is_untaken at.leg.state) may in
+        let untaken = and-right (is_going at.run.state && is_open at.job.state) (is_untaken at.leg.state) may in
+        let going = and-left (is_going at.run.state) (is_open at.job.state) way in
+        let open_is = and-right (is_going at.run.state) (is_open at.job.state) way in
+        let none = else-holds (is_going at.run.state) (is_none_stopping at.run) idle going in
+        let rest = and-right (not at.run.stop) (((run_legs at.run).told == 0) && ((run_tally at.run).dropping == 0)) none in
+        let untold_is = and-left ((run_legs at.run).told == 0) ((run_tally at.run).dropping == 0) rest in
+        let untold : (run_legs at.run).told ≡ 0 = grind (arith, nat_tests, untold_is) in
+        let dropping = and-right ((run_legs at.run).told == 0) ((run_tally at.run).dropping == 0) rest in
+        let stop = not-false at.run.stop (and-left (not at.run.stop) (((run_legs at.run).told == 0) && ((run_tally at.run).dropping == 0)) none) in
+        let anyway = anyway-false at (told-none untold) (failed-none open_is untaken dropping) in
+        let stays : is_stopping at ≡ false = neither (stops_anyway at) at.run.stop _ anyway stop in
+        rw (may, stays) refl
+      where
+        not-false : (c : Bool) → not c ≡ true → c ≡ false
+        not-false false h = refl
+        not-false true h = absurd (true≢false (sym h))
 
--- ---- the legs of one job
+-- ---- the legs of one run
 
-module _ (p : Plan) (b : Board) (n i : ℕ) (at : LegAt) (found : leg_at p b n ≡ Some at) (within : at.place.leg + i < length at.job.legs) where
-  stands : LegStands p b n at
-  stands = leg_stands p b n at found
+module _ (p : Plan) (b : Board) (n i : ℕ) (at : LegPlace) (run : Run) (is : leg_place b n ≡ Some at) (there : slice_get b.runs at.run ≡ Some run) (job : at.job ≡ 0) (leg : at.leg ≡ 0)
+    (within : i < legs_of_jobs run.jobs) where
+  same-run : (other : LegAt) → leg_at p b (n + i) ≡ Some other → run ≡ other.run
+  same-run other found =
+      let stands = leg_stands p b (n + i) other found in
+      let place = leg_further b n i at other.place run is job leg there within stands.place in
+      same_some run other.run (sym there ∙ ap (slice_get b.runs) place ∙ stands.in_board)
 
-  placed : leg_place b (n + i) ≡ Some (further at.place i)
-  placed = place_further b n i at.place at.run at.job stands.place stands.in_board stands.job within
-
-  -- a leg so many further on is of the same job
-  same-job : (other : LegAt) → leg_at p b (n + i) ≡ Some other → (k : MoveKind) → is_idle k other ≡ is_idle k at
-  same-job other is k =
-      let so = leg_stands p b (n + i) other is in
-      let place : further at.place i ≡ other.place = same_some (further at.place i) other.place (sym placed ∙ so.place) in
-      let run : at.run ≡ other.run = same_some at.run other.run (sym stands.in_board ∙ ap (λ x. slice_get b.runs x.run) place ∙ so.in_board) in
-      let run_plan : at.run_plan ≡ other.run_plan = same_some at.run_plan other.run_plan (sym stands.in_plan ∙ ap (λ x. slice_get p.runs x.run) place ∙ so.in_plan) in
-      let job : at.job ≡ other.job = same_some at.job other.job (sym stands.job ∙ (λ i. slice_get (run i).jobs (place i).job) ∙ so.job) in
-      let job_plan : at.job_plan ≡ other.job_plan = same_some at.job_plan other.job_plan (sym stands.job_plan ∙ (λ i. slice_get (run_plan i).jobs (place i).job) ∙ so.job_plan) in
-      by k run job job_plan
-    where
-      by : (k : MoveKind) → at.run ≡ other.run → at.job ≡ other.job → at.job_plan ≡ other.job_plan → is_idle k other ≡ is_idle k at
-      by kind.Close run job plan = refl
-      by kind.Open run job plan = refl
-      by kind.Judge run job plan = refl
-      by kind.Drop run job plan = rw (run, job) refl
-      by kind.Ask run job plan = rw (run, job, plan) refl
-
-  refused : (k : MoveKind) → is_idle k at ≡ true → accepts p b (event_of k (n + i)) ≡ false
+  refused : (k : MoveKind) → is_run_idle k run ≡ true → accepts p b (event_of k (n + i)) ≡ false
   refused kind.Close idle = absurd (true≢false (sym idle))
   refused kind.Open idle = absurd (true≢false (sym idle))
   refused kind.Judge idle = absurd (true≢false (sym idle))
   refused kind.Drop idle = by (leg_at p b (n + i)) refl
     where
       by : (o : Option LegAt) → leg_at p b (n + i) ≡ o → is_accepted (drop_found b (n + i) o) ≡ false
-      by None is = refl
-      by (Some other) is = drop-refused b (n + i) other (leg_stands p b (n + i) other is).leg (same-job other is kind.Drop ∙ idle)
+      by None found = refl
+      by (Some other) found =
+          let stands = leg_stands p b (n + i) other found in
+          drop-refused b (n + i) other stands.job stands.leg (ap (is_run_idle kind.Drop) (sym (same-run other found)) ∙ idle)
   refused kind.Ask idle = by (leg_at p b (n + i)) refl
     where
       by : (o : Option LegAt) → leg_at p b (n + i) ≡ o → is_accepted (ask_found b (n + i) o) ≡ false
-      by None is = refl
-      by (Some other) is = ask-refused b (n + i) other (leg_stands p b (n + i) other is).leg (same-job other is kind.Ask ∙ idle)
+      by None found = refl
+      by (Some other) found =
+          let stands = leg_stands p b (n + i) other found in
+          ask-refused b (n + i) other stands.job stands.leg (ap (is_run_idle kind.Ask) (sym (same-run other found)) ∙ idle)
 
--- the events of a kind of all legs of a job, from its first on
-pub idle_legs : (p : Plan) (b : Board) (k : MoveKind) (n : ℕ) (at : LegAt) → leg_at p b n ≡ Some at → at.place.leg ≡ 0 → is_idle k at ≡ true
-    → (i : ℕ) → i < length at.job.legs → accepts p b (event_of k (n + i)) ≡ false
-idle_legs p b k n at found start idle i within = refused p b n i at found (omega (arith, start, within)) k idle
-
--- ---- numbers that are passed over
-
-pub none_through : {A : Type 0} (t : A → Bool) (f : ℕ → A) (n d : ℕ) → filter t (map f (numbers n)) ≡ [] → ((i : ℕ) → i < d → t (f (n + i)) ≡ false)
-    → filter t (map f (numbers (n + d))) ≡ []
-none_through t f n zero none all = let e : n + zero ≡ n = omega arith in rw e none
-none_through t f n (suc d) none all =
-    let e : n + suc d ≡ (n + d) + 1 = omega arith in
-    rw e (none_yet t f (n + d) (none_through t f n d none (λ i below. all i (omega (arith, below)))) (all d (omega arith)))
+-- the events of a kind of all legs of a run, from its first on
+pub idle_run : (p : Plan) (b : Board) (k : MoveKind) (n : ℕ) (at : LegPlace) (run : Run) → leg_place b n ≡ Some at → slice_get b.runs at.run ≡ Some run → at.job ≡ 0 → at.leg ≡ 0
+    → is_run_idle k run ≡ true → (i : ℕ) → i < legs_of_jobs run.jobs → accepts p b (event_of k (n + i)) ≡ false
+idle_run p b k n at run is there job leg idle i within = refused p b n i at run is there job leg within k idle

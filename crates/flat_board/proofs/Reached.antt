@@ -1,9 +1,8 @@
 -- What is known of a run or a leg that is found.
-use Rattle.std.proofs.Common.{◌≡◌, ℕ, Bool, true, false, not, Some, Ok, Err, slice_get, if◌then◌else◌, ap, subst, sym, refl, ◌∙◌}
+use Rattle.std.proofs.Common.{◌≡◌, ℕ, Bool, true, false, not, Some, Ok, Err, if◌then◌else◌, ap, subst, sym, refl, ◌∙◌}
 use Rattle.board_decisions.specs.Decisions.{is_stopping, job_condition, run_entrance, leg_entrance}
 use Rattle.board_decisions.specs.Derived.{is_fresh, is_full, job_status, needs_have_ended}
-use Rattle.board_decisions.specs.Numbered.{job_there}
-use Rattle.board_decisions.specs.Place.{◌>>=◌, RunAt, JobAt, LegAt, run_at, job_at, leg_at}
+use Rattle.board_decisions.specs.Place.{RunAt, JobAt, LegAt, run_at, job_at, leg_at}
 use Rattle.flow_model.specs.declared.plan.Plan.{Plan}
 use Rattle.flow_model.specs.declared.board.Board.{Board}
 use Rattle.flow_model.specs.declared.board.JobState.TheVariants as job_state
@@ -12,7 +11,6 @@ use Rattle.flow_model.specs.declared.event.Event.TheVariants as event
 use Rattle.flow_model.specs.declared.event.Member.TheVariants as member
 use Rattle.group_admission.specs.Content.{Content, is_in_group}
 use Rattle.flat_board.specs.Index.{EntersOnce}
-use Rattle.board_counters.specs.Changes.{job_of}
 use Rattle.flat_board.specs.Names.{IsGroup, NamesKnown, SeenNamed, is_new}
 use Rattle.flat_board.proofs.Known.{seen_group}
 use Rattle.flat_board.proofs.Names.{seen_leg, seen_run}
@@ -22,15 +20,8 @@ use Rattle.status_table.specs.Grouped.{KeptAsShown}
 use Rattle.status_table.specs.Moves.{is_accepted, accepts}
 use Rattle.status_table.specs.Row.{open_run, open_found, first_of, judged_state, judgement_by, judgement, judge_job, judge_found, may_ask, ask_found, leg_enters}
 use Rattle.status_table.proofs.Accepting.{run_enters_accepted, leg_enters_accepted}
-use Rattle.status_table.proofs.Found.{leg_stands}
 
--- the job of a leg that is found
-pub job_found : (p : Plan) (b : Board) (n : ℕ) (at : LegAt) → leg_at p b n ≡ Some at → job_there b (job_of at.place) ≡ Some at.job
-job_found p b n at is =
-    let stands = leg_stands p b n at is in
-    ap (λ o. o >>= λ run. slice_get run.jobs at.place.job) stands.in_board ∙ stands.job
-
--- the name of its group
+-- the name of the group of a leg that is found
 pub leg_found_named : (p : Plan) (b : Board) (known : Known) (n : ℕ) (at : LegAt) → NamesKnown known b → leg_at p b n ≡ Some at → IsGroup at.leg.group
 leg_found_named p b known n at names is = seen_group known (is_fresh at.leg.state) at.leg.group (subst (SeenNamed known) (seen_leg p b n at is) (names (member.Leg n)))
 

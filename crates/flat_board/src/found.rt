@@ -1,6 +1,6 @@
 //! Legs as they are found, with the tally of their job, and what is read off it.
 
-ghost use Rattle.std.specs.Prelude.{◌≡◌, ◌==◌, IfOk, IfSome, Some, nat_le, option_map, slice_get};
+ghost use Rattle.std.specs.Prelude.{◌≡◌, IfOk, IfSome, Some, option_map, slice_get};
 ghost use Rattle.board_decisions.specs.Decisions as decision;
 ghost use Rattle.board_decisions.specs.Derived as derived;
 ghost use Rattle.board_decisions.specs.Kept.{IsKeptOf};
@@ -62,21 +62,6 @@ pub(crate) fn is_full(leg: &TalliedLeg) -> bool
         None => false,
         Some(most) => most <= leg.tally.used as u64,
     }
-}
-
-/// Whether all legs of a leg's job are Ended.
-pub(crate) fn have_all_ended(leg: &TalliedLeg) -> bool
-    ensures { result ≡ ((tally_of (leg_seen leg.now.at).job).pending == 0) }
-{
-    leg.tally.pending == 0
-}
-
-/// Whether no leg of a leg's job is Fresh: as many take a slot as are not Ended.
-pub(crate) fn is_none_fresh(leg: &TalliedLeg) -> bool
-    ensures { result ≡ nat_le (tally_of (leg_seen leg.now.at).job).pending
-        (tally_of (leg_seen leg.now.at).job).used }
-{
-    leg.tally.pending <= leg.tally.used
 }
 
 /// Whether a leg is to stop whatever its job's condition:

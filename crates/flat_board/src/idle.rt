@@ -1,17 +1,13 @@
-//! Jobs and legs that a clerk passes over: those of a run in which nothing may happen, and the legs of a job to none of which
-//! anything may, by what is counted of them.
+//! Jobs and legs that a clerk passes over: those of a run in which nothing may happen, by what is counted of them.
 
 ghost use Rattle.std.specs.Prelude.{◌≡◌, ◌+◌, ◌<◌, ℕ, Some, false, slice_get};
-ghost use Rattle.board_decisions.specs.Seen.{leg_seen};
 ghost use Rattle.flat_board.specs.Idle as spec;
 ghost use Rattle.flow_model.specs.declared.event.Event.TheVariants as event;
 ghost use Rattle.status_table.specs.Kinds.{event_of};
 ghost use Rattle.status_table.specs.Moves.{accepts};
 
-use crate::found::{TalliedLeg, find_leg, have_all_ended, is_full, is_none_fresh};
 use board_counters::Counted;
-use board_counters::counted::job_of;
-use flow_model::{JobState, Run, RunState};
+use flow_model::{Run, RunState};
 use status_table::moves::MoveKind;
 
 /// Whether no job of the run at a place may be judged.
@@ -76,62 +72,8 @@ fn count_idle_legs(state: &Counted, kind: MoveKind, number: u64) -> usize
     }
 }
 
-/// Whether the job of a leg is Open, in a run that is Going.
-fn is_under_way(leg: &TalliedLeg) -> bool
-    ensures { result ≡ spec.is_under_way (leg_seen leg.now.at) }
-{
-    matches!(leg.at.run.state, RunState::Going) && matches!(leg.at.job.state, JobState::Open)
-}
-
-/// Whether a clerk's event of a kind is refused to each leg of a leg's job.
-fn is_idle(kind: MoveKind, leg: &TalliedLeg) -> bool
-    ensures { result ≡ spec.is_idle kind (leg_seen leg.now.at) }
-{
-    match kind {
-        MoveKind::Close | MoveKind::Open | MoveKind::Judge => false,
-        MoveKind::Drop => !is_under_way(leg) || have_all_ended(leg),
-        MoveKind::Ask => !is_under_way(leg) || is_full(leg) || is_none_fresh(leg),
-    }
-}
-
-/// Whether a number is that of the first of several legs of a job.
-fn is_first_of_several(state: &Counted, number: u64) -> bool {
-    match state.leg_place(number) {
-        Some(place) => place.leg == 0 && state.tally(job_of(place)).legs > 1,
-        None => false,
-    }
-}
-
-/// How many events of a kind, from a number on, are refused for sure: where that number is the first of a job's legs, those of
-/// all of them, if nothing may happen to any.
-#[tactic(auto, using(crate::proofs::PassedOver::idle_legs))]
-fn count_idle_siblings(state: &Counted, kind: MoveKind, number: u64) -> usize
-    ensures { (i : ℕ) → i < result
-        → accepts state.now.plan state.now.board (event_of kind (number + i)) ≡ false }
-{
-    if !is_first_of_several(state, number) {
-        return 0;
-    }
-    match find_leg(state, number) {
-        Some(leg) if leg.at.place.leg == 0 && is_idle(kind, &leg) => leg.at.job.legs.len(),
-        _ => 0,
-    }
-}
-
-/// How many legs of a run, or else of a job, nothing of a kind may become of, from the one with a number on.
-fn count_idle_from(state: &Counted, kind: MoveKind, number: u64) -> usize
-    ensures { (i : ℕ) → i < result
-        → accepts state.now.plan state.now.board (event_of kind (number + i)) ≡ false }
-{
-    let of_run = count_idle_legs(state, kind, number);
-    if of_run > 0 {
-        return of_run;
-    }
-    count_idle_siblings(state, kind, number)
-}
-
-/// How many events of a kind, from a number on, are refused for sure: where that number is the first of a run's jobs or legs, or of
-/// a job's legs, those of all of them, if nothing may happen to any.
+/// How many events of a kind, from a number on, are refused for sure: where that number is the first of a run's jobs or legs, those
+/// of all of them, if nothing may happen to any.
 pub(crate) fn count_idle(state: &Counted, kind: MoveKind, number: u64) -> usize
     ensures { (i : ℕ) → i < result
         → accepts state.now.plan state.now.board (event_of kind (number + i)) ≡ false }
@@ -139,6 +81,6 @@ pub(crate) fn count_idle(state: &Counted, kind: MoveKind, number: u64) -> usize
     match kind {
         MoveKind::Close | MoveKind::Open => 0,
         MoveKind::Judge => count_idle_jobs(state, number),
-        MoveKind::Drop | MoveKind::Ask => count_idle_from(state, kind, number),
+        MoveKind::Drop | MoveKind::Ask => count_idle_legs(state, kind, number),
     }
 }

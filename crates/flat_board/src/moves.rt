@@ -154,8 +154,8 @@ pub(crate) fn find_moves(alloc: Global, state: &Counted) -> Result<Vec<Event>, A
     add_moves(alloc, state, MoveKind::Ask, counts.legs, dropped)
 }
 
-/// The first event of a kind that the table accepts, by ascending number. Jobs to whose legs nothing may happen are passed over.
-#[tactic(auto, using(crate::proofs::FirstMove::none_yet, crate::proofs::FirstMove::first_there, crate::proofs::PassedOver::none_through))]
+/// The first event of a kind that the table accepts, by ascending number. Runs in which nothing may happen are passed over.
+#[tactic(auto, using(crate::proofs::FirstMove::none_yet, crate::proofs::FirstMove::first_there, crate::proofs::FirstMove::none_through))]
 fn first_of(
     alloc: Global,
     state: &Counted,
