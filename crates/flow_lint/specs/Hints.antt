@@ -13,7 +13,7 @@ use Rattle.flow_lint.specs.Contexts.{Sees}
 use Rattle.flow_lint.specs.Kinds.{IsTemplate}
 use Rattle.flow_lint.specs.Nodes.{place_of}
 use Rattle.flow_lint.specs.Places.{Place, StandsAt, ShowsNeed, below}
-use Rattle.flow_lint.specs.Unknown.{IsJob, IsKey, Suggests, idle_key, unknown_id, unknown_key}
+use Rattle.flow_lint.specs.Unknown.{Suggests, idle_key, job_ids, key_names, unknown_id, unknown_key}
 use Rattle.flow_lint.specs.declared.kind.Kind.TheVariants as kinds
 use Rattle.flow_lint.specs.declared.node.Node.{Node}
 use Rattle.flow_lint.specs.declared.note.Note.{Note}
@@ -22,7 +22,7 @@ use Rattle.flow_lint.specs.declared.note.Note.{Note}
 
 -- The table knows no such key there; it is read and does nothing.
 abbrev pub SaysUnknown : Place → List ℕ → Type 0
-SaysUnknown p said = (p.kind ≡ kinds.Unknown) × Suggests (IsKey p.around) (unknown_key p.last) said
+SaysUnknown p said = (p.kind ≡ kinds.Unknown) × Suggests (key_names p.around) p.last (unknown_key p.last) said
 
 abbrev pub SaysIdle : Place → List ℕ → Type 0
 SaysIdle p said = (p.kind ≡ kinds.Idle) × (said ≡ idle_key p.last)
@@ -34,7 +34,7 @@ SaysEvent p said = (p.kind ≡ kinds.Event) × (said ≡ codes "what stands here
 -- No job has the id that is needed there.
 abbrev pub SaysNeed : Option Data → Place → List ℕ → Type 0
 SaysNeed jobs p said =
-    ShowsNeed jobs p × ((id : List ℕ) × ((as_str p.value ≡ Some id) × Suggests (IsJob jobs) (unknown_id id) said))
+    ShowsNeed jobs p × ((id : List ℕ) × ((as_str p.value ≡ Some id) × Suggests (job_ids jobs) id (unknown_id id) said))
 
 -- The text there is read as these pieces.
 abbrev pub IsReadAs : List Piece → Place → Type 0

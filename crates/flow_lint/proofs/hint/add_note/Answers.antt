@@ -1,4 +1,4 @@
-use Rattle.std.proofs.Common.{◌∙◌, inl, List, ℕ, codes, subst, sym}
+use Rattle.std.proofs.Common.{◌∙◌, inl, codes, subst, sym}
 use Rattle.serde_json.specs.Find.{get}
 use Rattle.serde_json.specs.View.{view}
 use Rattle.flow_lint.specs.Hints.{Says}
