@@ -4,7 +4,7 @@ use Rattle.std.specs.Prelude.{◌≡◌, ℕ, ◌++◌, codes, if◌then◌else�
 use Rattle.std.specs.List.{list_any}
 use Rattle.std.specs.declared.alloc.Global.{Global}
 use Rattle.flow_lint.specs.Hints.{AreHints}
-use Rattle.flow_lint.specs.Notes.{IsFlowPlace, IsPlanPlace}
+use Rattle.flow_lint.specs.Notes.{IsFlowPlace, IsPlanNote}
 use Rattle.flow_model.specs.declared.plan.Plan.{Plan}
 use Rattle.flow_lint.specs.declared.note.Note.{Note}
 use Rattle.flow_reader.specs.Fault.{flow_fault_name}
@@ -56,19 +56,19 @@ fault_text Words = []
 fault_text Io = []
 fault_text Memory = []
 
--- It is told at a place of the file where it is to be seen.
-abbrev pub IsPlace : Content → CommandError → List ℕ → Type 0
-IsPlace file (NoFlow name fault) path = IsFlowPlace file.bytes fault path
-IsPlace file (NotPlanned fault) path = IsPlanPlace file.bytes fault path
-IsPlace file (NoExpression fault) path = ⊥
-IsPlace file (NoValue fault) path = ⊥
-IsPlace file (NoContexts name fault) path = ⊥
-IsPlace file (NoPlan fault) path = ⊥
-IsPlace file (NoEntry n) path = ⊥
-IsPlace file (Refused n fault) path = ⊥
-IsPlace file Words path = ⊥
-IsPlace file Io path = ⊥
-IsPlace file Memory path = ⊥
+-- What is to be known of it in the file is told, at its place.
+abbrev pub IsNoteOf : Content → CommandError → Note → Type 0
+IsNoteOf file (NoFlow name fault) note = IsFlowPlace file.bytes fault note.path
+IsNoteOf file (NotPlanned fault) note = IsPlanNote file.name file.bytes fault note
+IsNoteOf file (NoExpression fault) note = ⊥
+IsNoteOf file (NoValue fault) note = ⊥
+IsNoteOf file (NoContexts name fault) note = ⊥
+IsNoteOf file (NoPlan fault) note = ⊥
+IsNoteOf file (NoEntry n) note = ⊥
+IsNoteOf file (Refused n fault) note = ⊥
+IsNoteOf file Words note = ⊥
+IsNoteOf file Io note = ⊥
+IsNoteOf file Memory note = ⊥
 
 -- ---- what is told of a file
 
@@ -89,7 +89,7 @@ pub record IsRefused (file : Content) (text : List ℕ) : Type 0 where
   pub error : CommandError
   pub comes_to_none : ComesToNone All no_contexts (file ∷ []) error
   pub note : Note
-  pub placed : IsPlace file error note.path
+  pub is_note : IsNoteOf file error note
   pub hints : List Note
   pub are : AreHints file.bytes hints
   pub is : text ≡ refusing_line file.name (fault_text error) note ++ hint_lines file.name hints
@@ -158,7 +158,7 @@ Passes file text = (notes : List Note) × (AreHints file.bytes notes × (text �
 
 abbrev pub Refuses : Content → CommandError → List ℕ → Type 0
 Refuses file error text =
-    (note : Note) × (IsPlace file error note.path
+    (note : Note) × (IsNoteOf file error note
     × ((notes : List Note) × (AreHints file.bytes notes
     × (text ≡ refusing_line file.name (fault_text error) note ++ hint_lines file.name notes))))
 

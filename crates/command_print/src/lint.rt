@@ -99,7 +99,7 @@ fn fault_text(alloc: Global, error: &CommandError) -> Result<String, AllocError>
 
 /// What is to be known of that for which a file comes to no plan.
 fn note_of(alloc: Global, file: &Content, error: &CommandError) -> Result<Note, AllocError>
-    ensures { IfOk result (λ note. spec.IsPlace file.now error.now note.path) }
+    ensures { IfOk result (spec.IsNoteOf file.now error.now) }
 {
     match error {
         CommandError::NoFlow(_, fault) => flow_note(alloc, file.bytes(), fault),

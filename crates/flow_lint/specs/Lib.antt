@@ -1,4 +1,5 @@
 pub mod Contexts
+pub mod Cycles
 pub mod FaultNodes
 pub mod Hints
 pub mod Keys
@@ -8,3 +9,4 @@ pub mod Notes
 pub mod Places
 pub mod Shows
 pub mod Unknown
+pub mod Walks

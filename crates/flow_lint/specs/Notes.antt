@@ -1,14 +1,21 @@
--- At which places of a file its faults are told.
-use Rattle.std.specs.Prelude.{◌≡◌, ℕ, ◌⊎◌, List, [], Option, Some, None, codes}
+-- What is told of a file's faults, and at which places.
+use Rattle.std.specs.Prelude.{◌≡◌, ℕ, ◌⊎◌, List, [], Option, Some, None, Ok, Err, codes}
 use Rattle.serde_json.specs.Data.{Data}
 use Rattle.serde_json.specs.Find.{get}
 use Rattle.flow_model.specs.JsonText.{json_read}
+use Rattle.flow_model.specs.declared.flow.FlowJob.{FlowJob}
+use Rattle.flow_model.specs.declared.flow.Workflow.{Workflow}
+use Rattle.flow_reader.specs.Checked.{Checked}
+use Rattle.flow_reader.specs.Load.{flow_read}
 use Rattle.flow_reader.specs.declared.fault.FlowFault.{FlowFault}
 use Rattle.flow_reader.specs.declared.fault.FlowFault.TheVariants as flow
 use Rattle.plan_assembler.specs.declared.fault.PlanFault.{PlanFault}
 use Rattle.plan_assembler.specs.declared.fault.PlanFault.TheVariants as plan
+use Rattle.flow_lint.specs.Cycles.{TellsCycle}
+use Rattle.flow_lint.specs.Hints.{SaysNeed}
+use Rattle.flow_lint.specs.Places.{Place, StandsAt, IsRepeated}
 use Rattle.flow_lint.specs.Shows.{ShowsFlow, ShowsText}
-use Rattle.flow_lint.specs.Places.{Place, StandsAt, ShowsNeed, IsRepeated}
+use Rattle.flow_lint.specs.declared.note.Note.{Note}
 
 -- The path leads to a place that shows something.
 pub record LeadsTo (root : Data) (path : List ℕ) (Shows : Place → Type 0) : Type 0 where
@@ -32,18 +39,6 @@ FlowPlace root (flow.LeftOut key) path = IsSeen root path (ShowsFlow (flow.LeftO
 FlowPlace root flow.UnknownShell path = IsSeen root path (ShowsFlow flow.UnknownShell)
 FlowPlace root flow.Memory path = Unit {0}
 
--- Where a fault is told for which a workflow comes to no plan: that of a text, and a need that is no job. Of other faults
--- nothing is said.
-abbrev pub PlanPlace : Data → PlanFault → List ℕ → Type 0
-PlanPlace root plan.UnknownNeed path = IsSeen root path (ShowsNeed (get (codes "jobs") root))
-PlanPlace root plan.Cycle path = Unit {0}
-PlanPlace root plan.UnknownJob path = Unit {0}
-PlanPlace root plan.NoWorkflow path = Unit {0}
-PlanPlace root plan.TooMany path = Unit {0}
-PlanPlace root (plan.Expr at fault) path = IsSeen root path (ShowsText fault)
-PlanPlace root (plan.Matrix number fault) path = Unit {0}
-PlanPlace root plan.Memory path = Unit {0}
-
 -- A fact about the value that a file reads as, if there is one.
 abbrev pub OfJson : Option Data → (Data → Type 0) → Type 0
 OfJson None Fact = Unit {0}
@@ -53,5 +48,39 @@ OfJson (Some root) Fact = Fact root
 abbrev pub IsFlowPlace : List ℕ → FlowFault → List ℕ → Type 0
 IsFlowPlace bytes fault path = OfJson (json_read bytes) (λ root. FlowPlace root fault path)
 
-abbrev pub IsPlanPlace : List ℕ → PlanFault → List ℕ → Type 0
-IsPlanPlace bytes fault path = OfJson (json_read bytes) (λ root. PlanPlace root fault path)
+-- A fact about the workflow that a file stands for, if it stands for one.
+abbrev pub OfFlow : Option (Checked Workflow) → (Workflow → Type 0) → Type 0
+OfFlow None Fact = Unit {0}
+OfFlow (Some (Ok workflow)) Fact = Fact workflow
+OfFlow (Some (Err faults)) Fact = Unit {0}
+
+-- A need that is no job is told at its place, with the nearest job.
+abbrev pub TellsNeed : Data → Note → Type 0
+TellsNeed root note = IsSeen root note.path (λ p. SaysNeed (get (codes "jobs") root) p note.sentence)
+
+-- What is told of a fault among jobs: of those that need themselves, one and its way back. Of other faults nothing is said.
+abbrev pub JobsNote : List FlowJob → PlanFault → Note → Type 0
+JobsNote jobs plan.UnknownNeed note = Unit {0}
+JobsNote jobs plan.Cycle note = TellsCycle jobs note
+JobsNote jobs plan.UnknownJob note = Unit {0}
+JobsNote jobs plan.NoWorkflow note = Unit {0}
+JobsNote jobs plan.TooMany note = Unit {0}
+JobsNote jobs (plan.Expr at fault) note = Unit {0}
+JobsNote jobs (plan.Matrix number fault) note = Unit {0}
+JobsNote jobs plan.Memory note = Unit {0}
+
+-- What is told of a fault for which a workflow comes to no plan, at which place of its file: a text that cannot be read, a need that is
+-- no job, or a fault among jobs.
+abbrev pub PlanNote : Option Data → Option (Checked Workflow) → PlanFault → Note → Type 0
+PlanNote json flow plan.UnknownNeed note = OfJson json (λ root. TellsNeed root note)
+PlanNote json flow plan.Cycle note = OfFlow flow (λ workflow. JobsNote workflow.jobs plan.Cycle note)
+PlanNote json flow plan.UnknownJob note = Unit {0}
+PlanNote json flow plan.NoWorkflow note = Unit {0}
+PlanNote json flow plan.TooMany note = Unit {0}
+PlanNote json flow (plan.Expr at fault) note = OfJson json (λ root. IsSeen root note.path (ShowsText fault))
+PlanNote json flow (plan.Matrix number fault) note = Unit {0}
+PlanNote json flow plan.Memory note = Unit {0}
+
+-- The same of the bytes of a file of this name.
+abbrev pub IsPlanNote : List ℕ → List ℕ → PlanFault → Note → Type 0
+IsPlanNote name bytes fault note = PlanNote (json_read bytes) (flow_read name bytes) fault note

@@ -1,6 +1,6 @@
 //! The places of a workflow's file, one after the other.
 
-ghost use Rattle.std.specs.Prelude.{◌≡◌, IfOk, IfSome, OnOk, decimal};
+ghost use Rattle.std.specs.Prelude.{◌≡◌, IfOk, IfSome, OnOk, codes, decimal};
 ghost use Rattle.std.specs.List.{All};
 ghost use Rattle.serde_json.specs.View.{view};
 ghost use Rattle.flow_lint.specs.Places as spec;
@@ -41,6 +41,14 @@ pub fn below(alloc: Global, path: &str, key: &str) -> Result<Text, AllocError>
     text.push_str(".")?;
     text.push_str(key)?;
     Ok(Text::new(text))
+}
+
+/// The path of a key of a job.
+pub fn job_path(alloc: Global, id: &str, key: &str) -> Result<Text, AllocError>
+    ensures { IfOk result (λ path. path ≡ spec.below (spec.below (codes "jobs") id.now) key.now) }
+{
+    let job = below(alloc, "jobs", id)?;
+    below(alloc, job.as_str(), key)
 }
 
 impl<'v> Node<'v> {

@@ -1,24 +1,26 @@
 //! The place of a fault for which a workflow comes to no plan.
 
-ghost use Rattle.std.specs.Prelude.{IsTrue, IfOk, IfSome, codes};
-ghost use Rattle.serde_json.specs.Find.{get};
+ghost use Rattle.std.specs.Prelude.{◌≡◌, IsTrue, IfOk, IfSome, Some, codes};
 ghost use Rattle.std.specs.List.{All};
+ghost use Rattle.serde_json.specs.Find.{as_str, get};
 ghost use Rattle.serde_json.specs.View.{view};
+ghost use Rattle.flow_model.specs.JsonText.{json_read};
+ghost use Rattle.flow_reader.specs.Load.{flow_read};
+ghost use Rattle.flow_lint.specs.Cycles.{TellsCycle};
 ghost use Rattle.flow_lint.specs.FaultNodes.{HasText};
-ghost use Rattle.flow_lint.specs.Notes.{IsPlanPlace, IsSeen, PlanPlace};
-ghost use Rattle.flow_lint.specs.Shows.{ShowsText};
 ghost use Rattle.flow_lint.specs.Nodes.{Fits, HasNeed};
-ghost use Rattle.plan_assembler.specs.declared.fault.PlanFault.TheVariants.{UnknownNeed};
+ghost use Rattle.flow_lint.specs.Notes.{IsPlanNote, IsSeen, JobsNote, OfFlow, OfJson, TellsNeed};
+ghost use Rattle.flow_lint.specs.Shows.{ShowsText};
 
 use crate::cycles::find_cycle;
 use crate::kind::Kind;
-use crate::node::{Node, below, nodes_of};
+use crate::node::{Node, job_path, nodes_of};
 use crate::note::{Note, noted};
-use crate::sentences::{many_sentence, matrix_sentence, text_sentence};
+use crate::sentences::{json_sentence, many_sentence, matrix_sentence, text_sentence};
 use crate::texts::read_text;
 use crate::unknown::{need_sentence, unknown_need};
 use expr_reader::ExprFault;
-use flow_model::{Flow, FlowJob, Text, read_json};
+use flow_model::{FlowJob, read_json};
 use flow_reader::{FlowFault, read_flow};
 use matrix_expand::{MatrixFault, expand};
 use plan_assembler::PlanFault;
@@ -95,86 +97,63 @@ fn text_noted_at(
     noted(alloc, path, text_sentence(alloc, fault)?)
 }
 
-/// What is to be known of a text that cannot be read.
-fn text_note(alloc: Global, root: &Value, fault: ExprFault) -> Result<Note, AllocError>
-    ensures { IfOk result (λ note. IsSeen (view root.now) note.path (ShowsText fault)) }
+/// What is to be known of a text that cannot be read, in a file's bytes.
+fn text_note(alloc: Global, bytes: &[u8], fault: ExprFault) -> Result<Note, AllocError>
+    ensures { IfOk result (λ note. OfJson (json_read bytes.now) (λ root.
+        IsSeen root note.path (ShowsText fault))) }
 {
-    let nodes = nodes_of(alloc, root)?;
-    text_noted_at(
-        alloc,
-        root,
-        find_unread(alloc, root, nodes.as_slice(), fault)?,
-        fault,
-    )
-}
-
-/// Whether a need that is no job stands at a place.
-fn is_unknown_need(root: &Value, node: &Node) -> bool
-    ensures { IsTrue result → HasNeed (get (codes "jobs") (view root.now)) node.now }
-{
-    match unknown_need(node, root) {
-        Some(_) => true,
-        None => false,
+    match read_json(alloc, bytes)? {
+        Some(root) => {
+            let nodes = nodes_of(alloc, &root)?;
+            let found = find_unread(alloc, &root, nodes.as_slice(), fault)?;
+            text_noted_at(alloc, &root, found, fault)
+        },
+        None => noted(alloc, "", json_sentence(alloc)?),
     }
 }
 
-/// The first place that needs what is no job.
-fn find_need<'n, 'v>(root: &Value, nodes: &'n [Node<'v>]) -> Option<&'n Node<'v>>
+/// What is to be known of a place where a need stands that is no job.
+fn need_noted(alloc: Global, root: &Value, node: &Node, id: &str) -> Result<Note, AllocError>
+    requires fits { Fits (view root.now) node.now }
+    requires need { HasNeed (get (codes "jobs") (view root.now)) node.now }
+    requires id { as_str (view node.now.value.now) ≡ Some id.now }
+    ensures { IfOk result (TellsNeed (view root.now)) }
+{
+    noted(alloc, node.path.as_str(), need_sentence(alloc, root, id)?)
+}
+
+/// What is to be known of the first of some places where a need stands that is no job.
+fn need_noted_in(alloc: Global, root: &Value, nodes: &[Node]) -> Result<Note, AllocError>
     requires { All (Fits (view root.now)) nodes.now }
-    ensures { let jobs = get (codes "jobs") (view root.now) in
-        IfSome result (λ node. Fits (view root.now) node.now × HasNeed jobs node.now) }
+    ensures { IfOk result (TellsNeed (view root.now)) }
 {
     for node in nodes {
-        if is_unknown_need(root, node) {
-            return Some(node);
+        if let Some(id) = unknown_need(node, root) {
+            return need_noted(alloc, root, node, id);
         }
     }
-    None
+    noted(alloc, "", String::from_str(alloc, "a need is no job")?)
 }
 
-/// What is said of a need that is no job, which was found at a place, or at none.
-fn need_told(alloc: Global, root: &Value, node: Option<&Node>) -> Result<String, AllocError> {
-    match node {
-        Some(node) => need_sentence(alloc, root, node.value.as_str().unwrap_or("")),
-        None => String::from_str(alloc, "a need is no job"),
+/// What is to be known of a need that is no job, in a file's bytes.
+fn need_note(alloc: Global, bytes: &[u8]) -> Result<Note, AllocError>
+    ensures { IfOk result (λ note. OfJson (json_read bytes.now) (λ root. TellsNeed root note)) }
+{
+    match read_json(alloc, bytes)? {
+        Some(root) => {
+            let nodes = nodes_of(alloc, &root)?;
+            need_noted_in(alloc, &root, nodes.as_slice())
+        },
+        None => noted(alloc, "", json_sentence(alloc)?),
     }
-}
-
-/// What is to be known of a need that is no job, which was found at a place, or at none.
-fn need_noted_at(alloc: Global, root: &Value, node: Option<&Node>) -> Result<Note, AllocError>
-    requires { let jobs = get (codes "jobs") (view root.now) in
-        IfSome node (λ node. Fits (view root.now) node.now × HasNeed jobs node.now) }
-    ensures { IfOk result (λ note. PlanPlace (view root.now) UnknownNeed note.path) }
-{
-    let path = match node {
-        Some(node) => node.path.as_str(),
-        None => "",
-    };
-    noted(alloc, path, need_told(alloc, root, node)?)
-}
-
-/// What is to be known of a need that is no job.
-fn need_note(alloc: Global, root: &Value) -> Result<Note, AllocError>
-    ensures { IfOk result (λ note. PlanPlace (view root.now) UnknownNeed note.path) }
-{
-    let nodes = nodes_of(alloc, root)?;
-    need_noted_at(alloc, root, find_need(root, nodes.as_slice()))
-}
-
-/// The path of a key of a job.
-fn job_path(alloc: Global, id: &str, key: &str) -> Result<Text, AllocError> {
-    let job = below(alloc, "jobs", id)?;
-    below(alloc, job.as_str(), key)
 }
 
 /// What is to be known of jobs that need themselves.
-fn cycle_note(alloc: Global, jobs: &[FlowJob]) -> Result<Note, AllocError> {
+fn cycle_note(alloc: Global, jobs: &[FlowJob]) -> Result<Note, AllocError>
+    ensures { IfOk result (TellsCycle jobs.now) }
+{
     match find_cycle(alloc, jobs)? {
-        Some((id, mut text)) => {
-            text.push_str(": take one of the needs out")?;
-            let path = job_path(alloc, id.as_str(), "needs")?;
-            noted(alloc, path.as_str(), text)
-        },
+        Some(note) => Ok(note),
         None => noted(
             alloc,
             "jobs",
@@ -238,47 +217,35 @@ fn many_note(alloc: Global, jobs: &[FlowJob]) -> Result<Note, AllocError> {
 }
 
 /// What is to be known of a fault among jobs.
-fn jobs_note(alloc: Global, jobs: &[FlowJob], fault: PlanFault) -> Result<Note, AllocError> {
+fn jobs_note(alloc: Global, jobs: &[FlowJob], fault: PlanFault) -> Result<Note, AllocError>
+    ensures { IfOk result (JobsNote jobs.now fault) }
+{
     match fault {
         PlanFault::Cycle => cycle_note(alloc, jobs),
         PlanFault::Matrix(_, fault) => matrix_note(alloc, jobs, fault),
-        _ => many_note(alloc, jobs),
+        PlanFault::Expr(_, _)
+        | PlanFault::UnknownNeed
+        | PlanFault::UnknownJob
+        | PlanFault::NoWorkflow
+        | PlanFault::TooMany
+        | PlanFault::Memory => many_note(alloc, jobs),
     }
 }
 
-/// What is to be known of a fault of a workflow, which is read anew.
+/// What is to be known of a fault of a workflow, in a file's bytes.
 fn flow_jobs_note(
     alloc: Global,
     name: &str,
     bytes: &[u8],
     fault: PlanFault,
-) -> Result<Note, AllocError> {
+) -> Result<Note, AllocError>
+    ensures { IfOk result (λ note. OfFlow (flow_read name.now bytes.now) (λ workflow.
+        JobsNote workflow.jobs fault note)) }
+{
     match read_flow(alloc, name, bytes) {
         Ok(flow) => jobs_note(alloc, flow.workflow().jobs.as_slice(), fault),
         Err(FlowFault::Memory) => Err(AllocError),
         Err(_) => noted(alloc, "jobs", many_sentence(alloc)?),
-    }
-}
-
-/// What is to be known of a fault of a workflow, or of one of the texts in its file.
-fn noted_in(
-    alloc: Global,
-    name: &str,
-    bytes: &[u8],
-    root: &Value,
-    fault: PlanFault,
-) -> Result<Note, AllocError>
-    ensures { IfOk result (λ note. PlanPlace (view root.now) fault note.path) }
-{
-    match fault {
-        PlanFault::Expr(_, fault) => text_note(alloc, root, fault),
-        PlanFault::UnknownNeed => need_note(alloc, root),
-        PlanFault::Cycle
-        | PlanFault::UnknownJob
-        | PlanFault::NoWorkflow
-        | PlanFault::TooMany
-        | PlanFault::Matrix(_, _)
-        | PlanFault::Memory => flow_jobs_note(alloc, name, bytes, fault),
     }
 }
 
@@ -293,10 +260,16 @@ pub fn plan_note(
     bytes: &[u8],
     fault: PlanFault,
 ) -> Result<Note, AllocError>
-    ensures { IfOk result (λ note. IsPlanPlace bytes.now fault note.path) }
+    ensures { IfOk result (IsPlanNote name.now bytes.now fault) }
 {
-    match read_json(alloc, bytes)? {
-        Some(root) => noted_in(alloc, name, bytes, &root, fault),
-        None => noted(alloc, "", many_sentence(alloc)?),
+    match fault {
+        PlanFault::Expr(_, fault) => text_note(alloc, bytes, fault),
+        PlanFault::UnknownNeed => need_note(alloc, bytes),
+        PlanFault::Cycle => flow_jobs_note(alloc, name, bytes, fault),
+        PlanFault::UnknownJob
+        | PlanFault::NoWorkflow
+        | PlanFault::TooMany
+        | PlanFault::Matrix(_, _)
+        | PlanFault::Memory => flow_jobs_note(alloc, name, bytes, fault),
     }
 }
