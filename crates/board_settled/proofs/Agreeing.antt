@@ -4,18 +4,14 @@ use Rattle.std.specs.List.{AllZip}
 use Rattle.std.proofs.Math.Seq.{take-append_seam}
 use Rattle.std.proofs.lemmas.Bool.{true≢false}
 use Rattle.std.proofs.lemmas.Option.{slice_get-map}
-use Rattle.board_decisions.specs.Derived.{is_closed, is_open, is_ended}
+use Rattle.board_decisions.specs.Derived.{is_closed}
 use Rattle.flow_model.specs.Laws.{NeedsPointBack}
-use Rattle.flow_model.specs.Plain.{Plain}
 use Rattle.flow_model.specs.Rules.{IsPlan}
 use Rattle.flow_model.specs.Sound.{SoundPlan}
 use Rattle.flow_model.specs.declared.board.Board.{Board}
 use Rattle.flow_model.specs.declared.board.DoneStep.{DoneStep}
 use Rattle.flow_model.specs.declared.board.Job.{Job}
-use Rattle.flow_model.specs.declared.board.JobState.{JobState}
-use Rattle.flow_model.specs.declared.board.JobState.TheVariants as job_state
 use Rattle.flow_model.specs.declared.board.Leg.{Leg}
-use Rattle.flow_model.specs.declared.board.LegState.{LegState}
 use Rattle.flow_model.specs.declared.board.LegState.TheVariants as leg_state
 use Rattle.flow_model.specs.declared.board.Run.{Run}
 use Rattle.flow_model.specs.declared.board.RunState.{RunState}
@@ -27,11 +23,11 @@ use Rattle.flow_model.specs.declared.plan.Plan.{Plan}
 use Rattle.flow_model.specs.declared.plan.RunPlan.{RunPlan}
 use Rattle.flow_model.specs.declared.plan.StepPlan.{StepPlan}
 use Rattle.flow_model.specs.declared.reply.StepCall.{StepCall}
-use Rattle.board_settled.specs.Agrees.{LegAgrees, JobAgrees, RunAgrees, Agrees, LegIsSettled, JobIsSettled, RunIsSettled, IsSettled, PlaysAsSettled, FinishesAsSettled}
+use Rattle.board_settled.specs.Agrees.{LegAgrees, JobAgrees, RunAgrees, Agrees, JobIsSettled, RunIsSettled, IsSettled, PlaysAsSettled, FinishesAsSettled}
 use Rattle.board_settled.specs.Free.{IsFree}
 use Rattle.board_settled.specs.Histories.{LeadsTo}
 use Rattle.board_settled.specs.Sees.{Spot}
-use Rattle.board_settled.specs.Settled.{Answers, SettledLeg, SettledJob, SettledRun, next_done, steps_from, steps_then, leg_settled, spot_at, legs_from, legs_settled, needs_of, job_settled, run_settled, leg_count, runs_from, settled}
+use Rattle.board_settled.specs.Settled.{Answers, SettledLeg, SettledJob, SettledRun, next_done, steps_from, steps_then, leg_settled, spot_at, legs_settled, needs_of, job_settled, run_settled, leg_count, runs_from, settled}
 use Rattle.status_table.specs.Moves.{finished}
 use Rattle.status_table.specs.Runs.{new_leg, new_job, new_run, new_board}
 use Rattle.status_table.specs.Shape.{JobShape, RunShape}
@@ -45,7 +41,7 @@ use Rattle.board_settled.proofs.InPlay.{Stands}
 use Rattle.board_settled.proofs.Kept.{after_stands}
 use Rattle.board_settled.proofs.Lists.{zip-each}
 use Rattle.board_settled.proofs.Numbers.{before_run, before_job}
-use Rattle.board_settled.proofs.Played.{fresh_leg, is_judged, LegPlayed, StateStands, JobPlayed, JobOver, jobs_of, RunPlayed, Played, jobs_size, job_item}
+use Rattle.board_settled.proofs.Played.{fresh_leg, is_judged, LegPlayed, StateStands, JobPlayed, jobs_of, RunPlayed, Played, jobs_size, job_item}
 
 -- ---- the board on which all is new
 

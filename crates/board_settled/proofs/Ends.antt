@@ -1,6 +1,5 @@
 -- What has ended on a board beside what is settled: legs, and jobs with their results and outputs.
 use Rattle.std.proofs.Common.{◌≡◌, ℕ, zero, suc, ◌+◌, ◌≤◌, ◌==◌, ◌||◌, Bool, true, false, List, [], ◌∷◌, Option, Some, None, length, map, drop, slice_get, if◌then◌else◌, inl, inr, ap, subst, sym, refl, ◌∙◌, arith}
-use Rattle.std.specs.List.{AllZip}
 use Rattle.std.proofs.lemmas.Bool.{true≢false}
 use Rattle.std.proofs.lemmas.Bool.Decides.{nat_tests}
 use Rattle.board_decisions.specs.Contexts.{overlaid, job_outputs}

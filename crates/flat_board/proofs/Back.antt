@@ -23,7 +23,7 @@ use Rattle.group_admission.proofs.Back.{all_put_back, same_content}
 use Rattle.flat_board.specs.Index.{Follows, FollowsUnasked, EventsKeep}
 use Rattle.flat_board.specs.Names.{IsName, IsNamedIn, NamesKnown, Seen, SeenNamed, group_at, group_of, leg_names, run_names, seen_at}
 use Rattle.flat_board.specs.Sound.{IsSound}
-use Rattle.flat_board.specs.Undo.{Fits, IsAt, LeadsBack, NameChanged, board_before, cell_of, groups_put_back, name_put_back}
+use Rattle.flat_board.specs.Undo.{Fits, IsAt, LeadsBack, board_before, cell_of, groups_put_back, name_put_back}
 use Rattle.flat_board.specs.declared.undo.CellBack.{CellBack}
 use Rattle.flat_board.specs.declared.undo.Undo.{Undo}
 use Rattle.flat_board.proofs.Known.{names_before, names_put_back, stays_in}
@@ -33,7 +33,6 @@ use Rattle.status_table.specs.Groups.{Standing, apart, holding, leg_stands, leg_
 use Rattle.status_table.specs.InPlay.{InPlay}
 use Rattle.status_table.specs.Play.{Play}
 use Rattle.status_table.specs.Reversible.{answer_of, done_of}
-use Rattle.status_table.specs.Row.{event_row}
 use Rattle.status_table.specs.Unasked.{without_reply}
 use Rattle.status_table.specs.declared.fault.EventFault.{EventFault}
 use Rattle.status_table.proofs.Steps.{standing}

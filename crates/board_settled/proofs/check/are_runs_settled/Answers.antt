@@ -1,4 +1,4 @@
-use Rattle.std.proofs.Common.{ℕ, ◌+◌, ◌≤◌, List, [], Option, None, Some, option_map, length, drop, ap, subst, refl, sym, ◌∙◌, arith, rules}
+use Rattle.std.proofs.Common.{ℕ, ◌+◌, ◌≤◌, List, [], Option, option_map, length, drop, ap, subst, refl, sym, ◌∙◌, arith, rules}
 use Rattle.std.specs.List.{AllZip}
 use Rattle.std.proofs.lemmas.Bool.{true≢false}
 use Rattle.board_decisions.specs.Seen.{run_seen}

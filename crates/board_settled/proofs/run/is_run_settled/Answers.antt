@@ -1,4 +1,4 @@
-use Rattle.std.proofs.Common.{◌≡◌, ◌+◌, ◌≤◌, Some, None, option_map, length, ap, sym, ◌∙◌, rules}
+use Rattle.std.proofs.Common.{◌≡◌, ◌+◌, ◌≤◌, None, option_map, length, ap, sym, ◌∙◌, rules}
 use Rattle.std.proofs.lemmas.Bool.{true≢false}
 use Rattle.board_decisions.specs.Seen.{job_seen, run_seen}
 use Rattle.flow_model.specs.declared.board.RunState.TheVariants as run_state

@@ -1,4 +1,4 @@
-use Rattle.std.proofs.Common.{◌≡◌, List, ℕ, Option, Some, inl, ap, subst, sym, ◌∙◌, refl}
+use Rattle.std.proofs.Common.{◌≡◌, List, ℕ, Option, inl, ap, subst, sym, ◌∙◌, refl}
 use Rattle.expr_reader.specs.Fold.{fold}
 use Rattle.flow_model.specs.Mapping.{value_at}
 use Rattle.group_admission.specs.Content.{holder_of, waiter_of}

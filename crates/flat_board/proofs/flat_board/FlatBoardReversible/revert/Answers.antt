@@ -1,4 +1,4 @@
-use Rattle.std.proofs.Common.{◌≡◌, Option, ap, subst, sym, ◌∙◌}
+use Rattle.std.proofs.Common.{Option, subst, sym, ◌∙◌}
 use Rattle.board_counters.specs.Track.{play_of}
 use Rattle.flat_board.specs.Undo.{Fits, groups_put_back}
 use Rattle.flat_board.specs.declared.undo.CellBack.{CellBack}
