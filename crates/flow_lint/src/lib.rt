@@ -6,8 +6,9 @@
 //! person should know of one.
 //!
 //! `flow_note` and `plan_note` find a place of the fault, and say what to write there instead; the contract of each says that
-//! the fault is to be seen at its place, that a word suggested is the nearest, and that a cycle told is one. `hints` tells of keys that are not known or do nothing, of contexts that are empty
-//! where they are named, and of needs of no job, place by place.
+//! the fault is to be seen at its place, that a word suggested is the nearest, and that a cycle told is one. `hints` tells of
+//! keys that are not known or do nothing, of contexts that are empty where they are named, and of needs of no job, place by
+//! place.
 //!
 //! It stands on `flow_reader` and `plan_assembler`, whose faults it finds, on `matrix_expand` for the matrix that is at fault,
 //! on `expr_reader` and `expr_value` for the texts, on `flow_model`, on `serde_json`, which reads the file, and on `strsim`, which
