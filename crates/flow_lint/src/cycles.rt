@@ -1,28 +1,15 @@
 //! Jobs that need themselves.
 
-ghost use Rattle.std.specs.Prelude.{ℕ, ◌≡◌, ◌++◌, ◌<◌, true, false, IfOk, IfSome, None, OnOk, Some, [], codes, get_or, map, nat_eq, option_map, string_bytes};
-ghost use Rattle.std.specs.List.{list_any};
+ghost use Rattle.std.specs.Prelude.{ℕ, ◌≡◌, ◌++◌, true, false, IfOk, MatchOption, OnOk, [], get_or, length, map, option_map, replicate, set, string_bytes};
 ghost use Rattle.plan_assembler.specs.Graph.{NeedsBy};
-ghost use Rattle.plan_assembler.specs.Layout.{graph_of, ids_of, place_of};
+ghost use Rattle.plan_assembler.specs.Layout.{graph_of};
 ghost use Rattle.flow_lint.specs.Cycles as spec;
-ghost use Rattle.flow_lint.specs.Walks.{behind, first_other};
+ghost use Rattle.flow_lint.specs.Walks as walks;
 
 use crate::node::job_path;
 use crate::note::{Note, noted};
-use flow_model::{FlowJob, Text};
+use flow_model::{FlowJob, Sequence};
 use std::alloc::{AllocError, Global};
-
-/// The place of the job with this id, or one beyond all.
-fn place_of(jobs: &[FlowJob], id: &str) -> usize
-    ensures { result ≡ place_of (ids_of jobs.now) id.now }
-{
-    for place in 0..jobs.len() {
-        if id == jobs[place].id.as_str() {
-            return place;
-        }
-    }
-    jobs.len()
-}
 
 /// The id of the job at a place.
 fn id_at(jobs: &[FlowJob], place: usize) -> &str
@@ -34,21 +21,35 @@ fn id_at(jobs: &[FlowJob], place: usize) -> &str
     }
 }
 
-/// Whether a place is one of these.
-fn is_in(places: &[usize], place: usize) -> bool
-    ensures { result ≡ list_any (nat_eq place) places.now }
+/// A mark for each job, none of them set.
+fn unmarked(alloc: Global, graph: &Sequence<Sequence<usize>>) -> Result<Vec<bool>, AllocError>
+    ensures { IfOk result (λ marks. marks.items ≡ replicate (length graph.now) false) }
 {
-    for other in places {
-        if place == *other {
-            return true;
-        }
+    vec![in alloc; false; graph.len()]
+}
+
+/// Whether a place was left.
+fn is_left(left: &[bool], place: usize) -> bool
+    ensures { result ≡ walks.is_left left.now place }
+{
+    match left.get(place) {
+        Some(mark) => *mark,
+        None => true,
     }
-    false
+}
+
+/// Marks a place, unless it is beyond all.
+fn mark(marks: &mut Vec<bool>, place: usize)
+    ensures { marks.new.items ≡ set marks.old.items place true }
+{
+    if place < marks.len() {
+        marks[place] = true;
+    }
 }
 
 /// The places behind this one.
 fn behind(places: &[usize], place: usize) -> Option<&[usize]>
-    ensures { option_map (λ rest. rest.now) result ≡ behind place places.now }
+    ensures { option_map (λ rest. rest.now) result ≡ walks.behind place places.now }
 {
     for (at, other) in places.iter().enumerate() {
         if place == *other {
@@ -58,37 +59,36 @@ fn behind(places: &[usize], place: usize) -> Option<&[usize]>
     None
 }
 
-/// The first place of a job that is needed and was not left.
-fn next_of(jobs: &[FlowJob], left: &[usize], needs: &[Text]) -> Option<usize>
-    ensures { result ≡ first_other left.now (map (place_of (ids_of jobs.now)) needs.now) }
+/// The first of some places that was not left.
+fn first_open(left: &[bool], places: &[usize]) -> Option<usize>
+    ensures { result ≡ walks.first_open left.now places.now }
 {
-    for need in needs {
-        let place = place_of(jobs, need.as_str());
-        if !is_in(left, place) {
-            return Some(place);
+    for place in places {
+        if !is_left(left, *place) {
+            return Some(*place);
         }
     }
     None
 }
 
 /// The first place that the job at a place needs and that was not left.
-fn next_need(jobs: &[FlowJob], left: &[usize], place: usize) -> Option<usize>
-    ensures { result ≡ first_other left.now (get_or (graph_of jobs.now) place []) }
+fn next_need(graph: &Sequence<Sequence<usize>>, left: &[bool], place: usize) -> Option<usize>
+    ensures { result ≡ walks.first_open left.now (get_or graph.now place []) }
 {
-    match jobs.get(place) {
-        Some(job) => next_of(jobs, left, job.needs.as_slice()),
+    match graph.as_slice().get(place) {
+        Some(needs) => first_open(left, needs.as_slice()),
         None => None,
     }
 }
 
-/// The first place below a number that was not left.
-fn first_open(count: usize, left: &[usize]) -> Option<usize>
-    ensures within { IfSome result (λ place. place < count) }
-    ensures open { IfSome result (λ place. list_any (nat_eq place) left.now ≡ false) }
-    ensures none { result ≡ None → (place : ℕ) → place < count → list_any (nat_eq place) left.now ≡ true }
+/// A place that was not left.
+fn next_job(left: &[bool]) -> Option<usize>
+    ensures { MatchOption result
+        ((place : ℕ) → walks.is_left left.now place ≡ true)
+        (λ place. walks.is_left left.now place ≡ false) }
 {
-    for place in 0..count {
-        if !is_in(left, place) {
+    for (place, mark) in left.iter().enumerate() {
+        if !*mark {
             return Some(place);
         }
     }
@@ -133,27 +133,36 @@ fn way_note(
 }
 
 /// What is to be known of a job that needs itself: of the first that is met twice, from the first job on from need to need.
-pub(crate) fn find_cycle(alloc: Global, jobs: &[FlowJob]) -> Result<Option<Note>, AllocError>
+pub(crate) fn find_cycle(
+    alloc: Global,
+    jobs: &Sequence<FlowJob>,
+) -> Result<Option<Note>, AllocError>
     ensures { IfOk result (spec.FindsCycle jobs.now) }
 {
-    let mut left = Vec::new(alloc);
+    let graph = plan_assembler::graph(alloc, jobs)?;
+    let mut seen = unmarked(alloc, &graph)?;
+    let mut left = unmarked(alloc, &graph)?;
     let mut way = Vec::new(alloc);
     let mut place = 0;
     loop {
-        match next_need(jobs, left.as_slice(), place) {
+        match next_need(&graph, left.as_slice(), place) {
             Some(next) => {
                 way.push(place)?;
                 if let Some(ways) = behind(way.as_slice(), next) {
-                    return Ok(Some(way_note(alloc, jobs, ways, next)?));
+                    return Ok(Some(way_note(alloc, jobs.as_slice(), ways, next)?));
                 }
+                mark(&mut seen, next);
                 place = next;
             },
             None => {
-                left.push(place)?;
+                mark(&mut left, place);
                 match way.pop() {
                     Some(back) => place = back,
-                    None => match first_open(jobs.len(), left.as_slice()) {
-                        Some(other) => place = other,
+                    None => match next_job(left.as_slice()) {
+                        Some(other) => {
+                            mark(&mut seen, other);
+                            place = other;
+                        },
                         None => return Ok(None),
                     },
                 }

@@ -20,7 +20,7 @@ use crate::sentences::{json_sentence, many_sentence, matrix_sentence, text_sente
 use crate::texts::read_text;
 use crate::unknown::{need_sentence, unknown_need};
 use expr_reader::ExprFault;
-use flow_model::{FlowJob, read_json};
+use flow_model::{FlowJob, Sequence, read_json};
 use flow_reader::{FlowFault, read_flow};
 use matrix_expand::{MatrixFault, expand};
 use plan_assembler::PlanFault;
@@ -149,7 +149,7 @@ fn need_note(alloc: Global, bytes: &[u8]) -> Result<Note, AllocError>
 }
 
 /// What is to be known of jobs that need themselves.
-fn cycle_note(alloc: Global, jobs: &[FlowJob]) -> Result<Note, AllocError>
+fn cycle_note(alloc: Global, jobs: &Sequence<FlowJob>) -> Result<Note, AllocError>
     ensures { IfOk result (TellsCycle jobs.now) }
 {
     match find_cycle(alloc, jobs)? {
@@ -217,18 +217,18 @@ fn many_note(alloc: Global, jobs: &[FlowJob]) -> Result<Note, AllocError> {
 }
 
 /// What is to be known of a fault among jobs.
-fn jobs_note(alloc: Global, jobs: &[FlowJob], fault: PlanFault) -> Result<Note, AllocError>
+fn jobs_note(alloc: Global, jobs: &Sequence<FlowJob>, fault: PlanFault) -> Result<Note, AllocError>
     ensures { IfOk result (JobsNote jobs.now fault) }
 {
     match fault {
         PlanFault::Cycle => cycle_note(alloc, jobs),
-        PlanFault::Matrix(_, fault) => matrix_note(alloc, jobs, fault),
+        PlanFault::Matrix(_, fault) => matrix_note(alloc, jobs.as_slice(), fault),
         PlanFault::Expr(_, _)
         | PlanFault::UnknownNeed
         | PlanFault::UnknownJob
         | PlanFault::NoWorkflow
         | PlanFault::TooMany
-        | PlanFault::Memory => many_note(alloc, jobs),
+        | PlanFault::Memory => many_note(alloc, jobs.as_slice()),
     }
 }
 
@@ -243,7 +243,7 @@ fn flow_jobs_note(
         JobsNote workflow.jobs fault note)) }
 {
     match read_flow(alloc, name, bytes) {
-        Ok(flow) => jobs_note(alloc, flow.workflow().jobs.as_slice(), fault),
+        Ok(flow) => jobs_note(alloc, &flow.workflow().jobs, fault),
         Err(FlowFault::Memory) => Err(AllocError),
         Err(_) => noted(alloc, "jobs", many_sentence(alloc)?),
     }

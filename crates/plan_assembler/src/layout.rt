@@ -11,7 +11,7 @@ ghost use Rattle.plan_assembler.specs.Layout.{AreTaken};
 use crate::choice::Choice;
 use crate::chosen::{alike, chosen_for};
 use crate::fault::PlanFault;
-use crate::index::{is_id, place_of};
+use crate::index::{index_of, is_id, place_of};
 use crate::order::order_of;
 use crate::stages::find_stages;
 use flow_model::{FlowJob, Sequence, Text};
@@ -116,6 +116,17 @@ pub(crate) fn graph_of(
         graph.push(places_of(alloc, index, jobs, &job.needs)?)?;
     }
     Ok(Sequence::new(graph))
+}
+
+/// The places of the jobs that each job needs. A need that is no job has the place beyond all jobs.
+pub fn graph(
+    alloc: Global,
+    jobs: &Sequence<FlowJob>,
+) -> Result<Sequence<Sequence<usize>>, AllocError>
+    ensures { IfOk result (λ graph. graph ≡ spec.graph_of jobs.now) }
+{
+    let index = index_of(alloc, jobs)?;
+    graph_of(alloc, &index, jobs)
 }
 
 /// Every job is taken.

@@ -4,7 +4,8 @@
 //! `plan_job` and `plan_all` answer a plan that assembles (`Assembles`, specs/Plans) and breaks no
 //! rule: one run for each workflow that the choice takes, with the jobs that it takes, by their stage
 //! and then by their id. They refuse by the first test that fails, in the order of specs/Refusals.
-//! `events` gives the names of events (specs/Events). `staging::stages` gives the jobs of a plan by their stages
+//! `events` gives the names of events (specs/Events), and `graph` the places of the jobs that each job
+//! needs (`graph_of`, specs/Layout). `staging::stages` gives the jobs of a plan by their stages
 //! (specs/Staging). The stages of jobs are said by one equation (specs/Stages), and found by passes
 //! over the jobs. What follows from the definitions alone stands in `laws`.
 //!
@@ -31,4 +32,5 @@ mod texts;
 
 pub use choice::Choice;
 pub use fault::{FaultPlace, PlanFault};
+pub use layout::graph;
 pub use planner::Planner;
