@@ -1,9 +1,10 @@
 -- What hints say, and at which places of a file.
-use Rattle.std.specs.Prelude.{◌≡◌, ◌++◌, ℕ, ◌⊎◌, ◌∷◌, List, [], codes, true, Option, Some, is_some}
+use Rattle.std.specs.Prelude.{◌≡◌, ◌++◌, ℕ, ◌⊎◌, ◌∷◌, List, [], codes, true, false, Option, Some, is_some}
 use Rattle.std.specs.List.{All, Contains}
 use Rattle.serde_json.specs.Data.{Data}
 use Rattle.serde_json.specs.Find.{get, as_str}
 use Rattle.expr_reader.specs.Accepts.{template_read, condition_read}
+use Rattle.expr_reader.specs.Bytes.{is_blank}
 use Rattle.expr_reader.specs.Names.{context_name}
 use Rattle.expr_reader.specs.Template.{Piece}
 use Rattle.expr_reader.specs.declared.tree.Context.{Context}
@@ -41,6 +42,12 @@ abbrev pub IsReadAs : List Piece → Place → Type 0
 IsReadAs pieces p =
     (text : List ℕ) × ((as_str p.value ≡ Some text)
     × ((IsTemplate p.kind × (template_read text ≡ Some pieces)) ⊎ ((p.kind ≡ kinds.Condition) × (condition_read text ≡ Some pieces))))
+
+-- A text is evaluated there: as a template, or as a condition that is not blank.
+abbrev pub IsEvaluated : Place → Type 0
+IsEvaluated p =
+    (text : List ℕ) × ((as_str p.value ≡ Some text)
+    × (IsTemplate p.kind ⊎ ((p.kind ≡ kinds.Condition) × (is_blank text ≡ false))))
 
 -- A text names a context that it does not see.
 pub record NamesUnseen (context : Context) (p : Place) : Type 0 where

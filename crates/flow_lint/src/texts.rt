@@ -1,10 +1,11 @@
 //! The texts of a file that are evaluated.
 
-ghost use Rattle.std.specs.Prelude.{◌≡◌, IfErr, IfOk, IfSome, Some};
+ghost use Rattle.std.specs.Prelude.{◌≡◌, true, IfErr, IfOk, IfSome, None, Some};
 ghost use Rattle.expr_reader.specs.Accepts.{condition_read};
+ghost use Rattle.expr_reader.specs.Bytes.{is_blank};
 ghost use Rattle.expr_reader.specs.TemplateStands.{ConditionFaultStands};
 ghost use Rattle.expr_reader.specs.TemplateView.{template_of};
-ghost use Rattle.flow_lint.specs.Hints.{IsReadAs};
+ghost use Rattle.flow_lint.specs.Hints.{IsEvaluated, IsReadAs};
 ghost use Rattle.flow_lint.specs.Nodes.{place_of};
 ghost use Rattle.flow_lint.specs.Places.{IsUnread};
 
@@ -18,6 +19,7 @@ fn condition(alloc: Global, text: &str) -> Option<Result<Template, ExprFault>>
     ensures stands { IfSome result (λ read. IfErr read (ConditionFaultStands text.now)) }
     ensures reads { IfSome result (λ read. IfOk read (λ template.
         condition_read text.now ≡ Some (template_of template))) }
+    ensures none { result ≡ None → is_blank text.now ≡ true }
 {
     if is_blank(text) {
         return None;
@@ -30,6 +32,7 @@ pub fn read_text(alloc: Global, node: &Node) -> Option<Result<Template, ExprFaul
     ensures stands { IfSome result (λ read. IfErr read (λ fault. IsUnread fault (place_of node.now))) }
     ensures reads { IfSome result (λ read. IfOk read (λ template.
         IsReadAs (template_of template) (place_of node.now))) }
+    ensures none { result ≡ None → IsEvaluated (place_of node.now) → ⊥ }
 {
     let Some(text) = node.value.as_str() else {
         return None;
