@@ -207,7 +207,8 @@ pub(crate) fn enter_run(
     ensures plan { state.new.plan ≡ state.old.plan }
     ensures answers { (value : Result (Option EntranceOf) ValueFaultOf)
         → Gives (λ group. group) group value
-        → Answers (run_enters state.old.board number value) state.old.board (answer_of result) state.new.board }
+        → Answers (run_enters state.old.board number value)
+        state.old.board (answer_of result) state.new.board }
     ensures groups { (value : Result (Option EntranceOf) ValueFaultOf)
         → Gives (λ group. group) group value
         → Goes (answer_of result) groups.old (opened (content groups.old) number value) groups.new }
@@ -257,7 +258,8 @@ pub(crate) fn enter_leg(
         state.old.board (answer_of result) state.new.board }
     ensures groups { (value : Result (Option EntranceOf) ValueFaultOf)
         → Gives (λ group. group) group value
-        → Goes (answer_of result) groups.old (asked (content groups.old) asker.leg asker.run value) groups.new }
+        → Goes (answer_of result) groups.old
+        (asked (content groups.old) asker.leg asker.run value) groups.new }
     ensures back { OnOk result (state.new.back ≡ state.old.back) }
     ensures cell { IfOk result (λ both. LeadsBack both.1
         state.old.board (content groups.old) (content groups.new)) }

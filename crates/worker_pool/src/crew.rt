@@ -77,7 +77,8 @@ pub(crate) fn gather<N: Names, H: StepHost>(
     ensures shares { vec_len back.new.shares ≡ vec_len crew }
     ensures logs { vec_len back.new.logs.entries ≡ vec_len crew }
     ensures answered { AreAnswered (H.admits _host.now)
-        (map (λ log. log.items) back.new.logs.entries.items) (map (λ log. log.items) back.new.logs.calls.items) }
+        (map (λ log. log.items) back.new.logs.entries.items)
+        (map (λ log. log.items) back.new.logs.calls.items) }
     ensures pass { IsPassOf queue.now result.0 }
     ensures whole { IsWhole (records_of result.0) }
     ensures halt { IfSome result.1 (HaltsFor (H.declines _host.now)) }
