@@ -1,5 +1,5 @@
 -- Lists with one item changed: what is made of each item, and how many pass a test.
-use Rattle.std.proofs.Common.{◌≡◌, ℕ, zero, suc, ◌+◌, ◌<◌, ◌≤◌, ◌||◌, Bool, true, false, List, [], ◌∷◌, ◌++◌, Some, None, length, map, take, drop, get_or, slice_get, slice_set, nat_lt, count_by, if◌then◌else◌, append_assoc, ap, subst, sym, refl, ◌∙◌, arith}
+use Rattle.std.proofs.Common.{◌≡◌, ℕ, zero, suc, ◌+◌, ◌<◌, ◌≤◌, ◌||◌, Bool, true, false, List, [], ◌∷◌, ◌++◌, Some, None, length, map, drop, get_or, slice_get, slice_set, nat_lt, count_by, if◌then◌else◌, append_assoc, ap, subst, sym, refl, ◌∙◌, arith}
 use Rattle.std.specs.List.{list_any}
 use Rattle.std.proofs.lemmas.Bool.Decides.{nat_tests}
 use Rattle.std.proofs.lemmas.List.{drop_more}
@@ -51,12 +51,6 @@ changed-same (x ∷ xs) (suc i) f same = changed-cons x xs i f ∙ ap (λ ys. x 
 -- where there is no item, nothing is changed
 pub changed-none : {T : Type 0} (xs : List T) (i : ℕ) (f : T → T) → slice_get xs i ≡ None → changed xs i f ≡ xs
 changed-none xs i f at = ap (put xs i f) at
-
--- one item more of those that are changed in their order
-pub changed-more : {T : Type 0} (f : T → T) (xs : List T) (i : ℕ) → i < length xs → changed (map f (take i xs) ++ drop i xs) i f ≡ map f (take (suc i) xs) ++ drop (suc i) xs
-changed-more f [] i h = absurd (omega (arith, h))
-changed-more f (x ∷ xs) zero h = refl
-changed-more f (x ∷ xs) (suc i) h = changed-cons (f x) (map f (take i xs) ++ drop i xs) i f ∙ ap (λ ys. f x ∷ ys) (changed-more f xs i (omega (arith, h)))
 
 -- ---- how many pass a test
 

@@ -1,36 +1,18 @@
 -- What is laid over one item after another.
 use Rattle.std.proofs.Common.{◌≡◌, ℕ, zero, suc, ◌+◌, List, [], ◌∷◌, Option, Some, None, map, drop, slice_get, length, refl, ap, ◌∙◌, ◌≤◌, add-one, arith}
 use Rattle.std.specs.List.{zip, filter_map, cons_option}
-use Rattle.board_decisions.specs.Contexts.{overlaid, step_pair, planned_pair}
+use Rattle.board_decisions.specs.Contexts.{step_pair, planned_pair}
 use Rattle.flow_model.specs.declared.board.DoneStep.{DoneStep}
 use Rattle.flow_model.specs.declared.plan.StepPlan.{StepPlan}
 use Rattle.flow_model.specs.Plain.{Plain}
 use Rattle.plan_values.specs.Env.{laid_over}
-use Rattle.plan_values.specs.Values.{Env}
-
--- levels that some items may have, one item and then the others
-pub overlaid_next : {X A : Type 0} (level : A → Env) (f : X → Option A) (x : X) (xs : List X) (made : Env)
-    → overlaid (map level (filter_map f (x ∷ xs))) made ≡ overlaid (map level (filter_map f xs)) (overlaid (map level (filter_map f (x ∷ []))) made)
-overlaid_next {X} {A} level f x xs made = by (f x)
-  where
-    by : (o : Option A) → overlaid (map level (cons_option o (filter_map f xs))) made ≡ overlaid (map level (filter_map f xs)) (overlaid (map level (cons_option o [])) made)
-    by None = refl
-    by (Some a) = refl
 
 one_laid : {V : Type 0} (o : Option (List ℕ × V)) (others made : List (List ℕ × V)) → laid_over (cons_option o others) made ≡ laid_over others (laid_over (cons_option o []) made)
 unfolding laid_over
 one_laid None others made = refl
 one_laid (Some p) others made = refl
 
--- pairs that some items may have, one item and then the others
-pub laid_next : {X A V : Type 0} (pair : A → List ℕ × V) (f : X → Option A) (x : X) (xs : List X) (made : List (List ℕ × V))
-    → laid_over (map pair (filter_map f (x ∷ xs))) made ≡ laid_over (map pair (filter_map f xs)) (laid_over (map pair (filter_map f (x ∷ []))) made)
 unfolding laid_over
-laid_next {X} {A} pair f x xs made = by (f x)
-  where
-    by : (o : Option A) → laid_over (map pair (cons_option o (filter_map f xs))) made ≡ laid_over (map pair (filter_map f xs)) (laid_over (map pair (cons_option o [])) made)
-    by None = refl
-    by (Some a) = refl
 
 -- nothing stands beside nothing
 pub zip_none : (xs : List StepPlan) → ◌≡◌ {A = List (StepPlan × DoneStep)} (zip xs []) []

@@ -7,7 +7,6 @@ use Rattle.board_decisions.specs.declared.kept.Called.{Called}
 use Rattle.board_decisions.specs.declared.kept.Called.TheVariants.{Yes, No, Unknown}
 use Rattle.board_decisions.specs.declared.kept.Calls.{Calls}
 use Rattle.board_decisions.specs.Place.{LegAt}
-use Rattle.expr_value.specs.Answer.{Gives}
 use Rattle.expr_value.specs.Context.{Contexts}
 use Rattle.expr_value.specs.declared.status.Status.{Status}
 use Rattle.expr_value.specs.declared.status.Status.TheVariants as status
@@ -19,9 +18,7 @@ use Rattle.flow_model.specs.declared.plan.Shell.{Shell}
 use Rattle.flow_model.specs.declared.plan.StepPlan.{StepPlan}
 use Rattle.flow_model.specs.declared.plan.Work.TheVariants as work
 use Rattle.flow_model.specs.declared.reply.CallWork.{CallWork}
-use Rattle.flow_model.specs.declared.reply.StepCall.{StepCall}
 use Rattle.flow_model.specs.declared.reply.ValueFault.{ValueFault}
-use Rattle.flow_model.specs.declared.reply.ValueFault.TheVariants.{NotWhole, NoIdentity, BadFormat, BadJson, TooLarge, Memory}
 use Rattle.flow_model.specs.Plain.{Plain}
 use Rattle.plan_values.specs.Env.{env_value}
 use Rattle.plan_values.specs.Own.{HasNoFault}
@@ -109,14 +106,3 @@ calls_told run job step calls outer own asks succeeds fails cancels l at in_run 
     by_result outcome.Failure is = told calls.failure outcome.Failure is fails
     by_result outcome.Cancelled is = told calls.cancelled outcome.Cancelled is cancels
     by_result outcome.Skipped is = tt
-
--- What is given as a decision is given as whether there is a call.
-pub gives_called : (r d : Result (Option StepCall) ValueFault) → Gives (λ call. call) r d → Gives (λ called. called) (is_called r) (is_called d)
-gives_called (Ok None) d h = ap is_called h
-gives_called (Ok (Some call)) d h = ap is_called h
-gives_called (Err NotWhole) d h = ap is_called h
-gives_called (Err NoIdentity) d h = ap is_called h
-gives_called (Err BadFormat) d h = ap is_called h
-gives_called (Err BadJson) d h = ap is_called h
-gives_called (Err TooLarge) d h = ap is_called h
-gives_called (Err Memory) d h = tt

@@ -11,8 +11,8 @@ use Rattle.board_timeline.specs.Texts.{are_tags, HasTexts, PicturesHaveTheirText
 use Rattle.board_timeline.specs.declared.shape.Font.{Font}
 use Rattle.board_timeline.specs.declared.shape.Font.TheVariants as font
 use Rattle.board_timeline.specs.declared.shape.Frame.{Frame}
-use Rattle.board_timeline.specs.declared.shape.Kind.{Kind}
-use Rattle.board_timeline.specs.declared.shape.Kind.TheVariants.{Bar, Label}
+use Rattle.board_timeline.specs.declared.shape.ShapeKind.{ShapeKind}
+use Rattle.board_timeline.specs.declared.shape.ShapeKind.TheVariants.{Bar, Label}
 use Rattle.board_timeline.specs.declared.shape.Look.{Look}
 use Rattle.board_timeline.specs.declared.shape.Look.TheVariants as look
 use Rattle.board_timeline.specs.declared.shape.Shape.{Shape}
@@ -104,11 +104,6 @@ inside_size width height =
     (inside_both (codes "\" width=\"") (decimal width) (λ rest. refl) (inside_number width))
     (inside_both (codes "\" height=\"") (decimal height) (λ rest. refl) (inside_number height))
 
--- a tag that begins, goes on with a part, and ends
-tags_of : (front part back : List ℕ) → ((rest : List ℕ) → are_tags false (front ++ rest) ≡ are_tags true rest) → Inside part
-    → are_tags true back ≡ true → are_tags false (front ++ (part ++ back)) ≡ true
-tags_of front part back begins inside ends = begins (part ++ back) ∙ inside back ∙ ends
-
 bar_tags : (class : List ℕ) (frame : Frame) → Inside class → are_tags false (bar_begin class frame) ≡ true
 bar_tags class frame inside =
     let place = place_text frame.left frame.top in
@@ -128,7 +123,7 @@ label_tags class frame inside =
     ap (are_tags false) (append_assoc (open_tag ++ class) place close ∙ append_assoc open_tag class (place ++ close))
     ∙ inside (place ++ close) ∙ inside_place frame.left frame.top close
 
-begin_tags : (kind : Kind) (frame : Frame) → are_tags false (begin kind frame) ≡ true
+begin_tags : (kind : ShapeKind) (frame : Frame) → are_tags false (begin kind frame) ≡ true
 begin_tags (Bar l) frame = bar_tags (look_class l) frame (inside_look l)
 begin_tags (Label f) frame = label_tags (font_class f) frame (inside_font f)
 
@@ -148,16 +143,16 @@ follows_tags part closed (t ∷ ts) rest has = record {
   rest = has.rest;
 }
 
-end_follows : (kind : Kind) → Follows (end kind)
+end_follows : (kind : ShapeKind) → Follows (end kind)
 end_follows (Bar l) = follows_tags (end (Bar l)) (λ rest. refl)
 end_follows (Label f) = follows_tags (end (Label f)) (λ rest. refl)
 
 -- the end of a shape without its first byte, which begins a tag
-abbrev end_rest : Kind → List ℕ
+abbrev end_rest : ShapeKind → List ℕ
 end_rest (Bar l) = codes "/title></rect>\n"
 end_rest (Label f) = codes "/text>\n"
 
-end_begins : (kind : Kind) → end kind ≡ 60 ∷ end_rest kind
+end_begins : (kind : ShapeKind) → end kind ≡ 60 ∷ end_rest kind
 end_begins (Bar l) = refl
 end_begins (Label f) = refl
 

@@ -14,8 +14,8 @@ use Rattle.board_timeline.specs.declared.phase.Phase.{Phase}
 use Rattle.board_timeline.specs.declared.phase.Phase.TheVariants.{Fresh, Waiting, Admitted, Going, Taken, Calling, Done, Shut, Ended}
 use Rattle.board_timeline.specs.declared.row.Row.{Row}
 use Rattle.board_timeline.specs.declared.shape.Frame.{Frame}
-use Rattle.board_timeline.specs.declared.shape.Kind.{Kind}
-use Rattle.board_timeline.specs.declared.shape.Kind.TheVariants.{Bar}
+use Rattle.board_timeline.specs.declared.shape.ShapeKind.{ShapeKind}
+use Rattle.board_timeline.specs.declared.shape.ShapeKind.TheVariants.{Bar}
 use Rattle.board_timeline.specs.declared.shape.Look.{Look}
 use Rattle.board_timeline.specs.declared.shape.Look.TheVariants as look
 use Rattle.board_timeline.specs.declared.shape.Shape.{Shape}
@@ -30,7 +30,7 @@ abbrev pub strip_seen : Strip → StripAt
 strip_seen strip = record { lane = strip.lane; name = strip.name.now; steps = strip.steps.now }
 
 -- One shape.
-abbrev pub shape : Kind → Frame → List ℕ → List Shape
+abbrev pub shape : ShapeKind → Frame → List ℕ → List Shape
 shape kind frame text = record { kind = kind; frame = frame; text = text } ∷ []
 
 -- ---- looks

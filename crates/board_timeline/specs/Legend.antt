@@ -6,7 +6,7 @@ use Rattle.board_timeline.specs.Words.{numbered}
 use Rattle.board_timeline.specs.declared.shape.Font.{Font}
 use Rattle.board_timeline.specs.declared.shape.Font.TheVariants as font
 use Rattle.board_timeline.specs.declared.shape.Frame.{Frame}
-use Rattle.board_timeline.specs.declared.shape.Kind.TheVariants.{Bar, Label}
+use Rattle.board_timeline.specs.declared.shape.ShapeKind.TheVariants.{Bar, Label}
 use Rattle.board_timeline.specs.declared.shape.Look.{Look}
 use Rattle.board_timeline.specs.declared.shape.Look.TheVariants as look
 use Rattle.board_timeline.specs.declared.shape.Shape.{Shape}

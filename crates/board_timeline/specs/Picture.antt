@@ -5,8 +5,8 @@ use Rattle.std.specs.List.{flat_map}
 use Rattle.board_timeline.specs.Escaped.{escaped}
 use Rattle.board_timeline.specs.Looks.{font_class, look_class}
 use Rattle.board_timeline.specs.declared.shape.Frame.{Frame}
-use Rattle.board_timeline.specs.declared.shape.Kind.{Kind}
-use Rattle.board_timeline.specs.declared.shape.Kind.TheVariants.{Bar, Label}
+use Rattle.board_timeline.specs.declared.shape.ShapeKind.{ShapeKind}
+use Rattle.board_timeline.specs.declared.shape.ShapeKind.TheVariants.{Bar, Label}
 use Rattle.board_timeline.specs.declared.shape.Shape.{Shape}
 
 -- ---- bars and labels
@@ -29,12 +29,12 @@ abbrev pub label_begin : List ℕ → Frame → List ℕ
 label_begin class frame = (codes "<text class=\"" ++ class) ++ place_text frame.left frame.top ++ codes "\">"
 
 -- What stands before the text of either.
-abbrev pub begin : Kind → Frame → List ℕ
+abbrev pub begin : ShapeKind → Frame → List ℕ
 begin (Bar look) frame = bar_begin (look_class look) frame
 begin (Label font) frame = label_begin (font_class font) frame
 
 -- What stands after it.
-abbrev pub end : Kind → List ℕ
+abbrev pub end : ShapeKind → List ℕ
 end (Bar look) = codes "</title></rect>\n"
 end (Label font) = codes "</text>\n"
 

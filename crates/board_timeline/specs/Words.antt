@@ -1,5 +1,6 @@
 -- What is said of rows, bars and marks.
 use Rattle.std.specs.Prelude.{◌-◌, ◌++◌, ◌&&◌, ◌||◌, ℕ, suc, Bool, true, false, nat_le, nat_lt, if◌then◌else◌, List, [], ◌∷◌, length, codes, decimal, Option, Some, None, slice_get}
+use Rattle.flow_model.specs.Outcome.{outcome_word}
 use Rattle.flow_model.specs.declared.event.Outcome.{Outcome}
 use Rattle.flow_model.specs.declared.event.Outcome.TheVariants as outcome
 use Rattle.flow_model.specs.declared.plan.StepPlan.{StepPlan}
@@ -11,12 +12,6 @@ use Rattle.board_timeline.specs.declared.phase.Phase.TheVariants.{Fresh, Waiting
 use Rattle.board_timeline.specs.declared.row.Row.{Row}
 
 -- ---- words
-
-abbrev pub outcome_word : Outcome → List ℕ
-outcome_word outcome.Success = codes "success"
-outcome_word outcome.Failure = codes "failure"
-outcome_word outcome.Cancelled = codes "cancelled"
-outcome_word outcome.Skipped = codes "skipped"
 
 abbrev pub tolerated_word : Bool → List ℕ
 tolerated_word false = []

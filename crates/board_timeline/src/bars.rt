@@ -7,7 +7,7 @@ use crate::canvas::Canvas;
 use crate::frames::{Lane, bar_frame, lane_frame, mark_frame, sum};
 use crate::phase::{Moment, Phase, is_over};
 use crate::row::Row;
-use crate::shape::{Kind, Look};
+use crate::shape::{Look, ShapeKind};
 use crate::words::{bar_text, last_phase, mark_text, note_text, row_text};
 use flow_model::{Outcome, StepPlan};
 use std::alloc::AllocError;
@@ -136,7 +136,7 @@ fn add_span(
 {
     let frame = bar_frame(strip.lane, span.from.line, span.to)?;
     let text = bar_text(canvas.alloc(), strip.name, strip.steps, span)?;
-    canvas.add(Kind::Bar(look), frame, text)
+    canvas.add(ShapeKind::Bar(look), frame, text)
 }
 
 /// Adds the bar of how something stood from a moment to a line.
@@ -165,7 +165,7 @@ fn add_mark(
     };
     let frame = mark_frame(strip.lane, moment.line, 4)?;
     let text = mark_text(canvas.alloc(), strip.name, strip.steps, moment)?;
-    canvas.add(Kind::Bar(look), frame, text)
+    canvas.add(ShapeKind::Bar(look), frame, text)
 }
 
 /// Adds the bar up to a moment, and the mark of that.
@@ -224,7 +224,7 @@ fn add_note(
     };
     let frame = mark_frame(strip.lane, line, 4)?;
     let text = note_text(canvas.alloc(), strip.name, words, line)?;
-    canvas.add(Kind::Bar(look), frame, text)
+    canvas.add(ShapeKind::Bar(look), frame, text)
 }
 
 /// Adds the bar on which those of a row stand.
@@ -233,7 +233,7 @@ fn add_lane(canvas: &mut Canvas, strip: &Strip<'_>, row: &Row) -> Result<(), All
         ++ spec.lane (spec.strip_seen strip.now) row.now) }
 {
     let text = row_text(canvas.alloc(), strip.name, row)?;
-    canvas.add(Kind::Bar(Look::Lane), lane_frame(strip.lane), text)
+    canvas.add(ShapeKind::Bar(Look::Lane), lane_frame(strip.lane), text)
 }
 
 /// Whether a leg was taken by its worker and has begun no step.

@@ -3,7 +3,7 @@
 ghost use Rattle.std.specs.Prelude.{◌≡◌, ◌++◌, [], OnOk};
 ghost use Rattle.board_timeline.specs.Bars as spec;
 
-use crate::shape::{Frame, Kind, Shape};
+use crate::shape::{Frame, Shape, ShapeKind};
 use flow_model::Sequence;
 use std::alloc::{AllocError, Global};
 use std::marker::Model;
@@ -41,7 +41,12 @@ impl Canvas {
     }
 
     /// Adds a shape.
-    pub(crate) fn add(&mut self, kind: Kind, frame: Frame, text: Vec<u8>) -> Result<(), AllocError>
+    pub(crate) fn add(
+        &mut self,
+        kind: ShapeKind,
+        frame: Frame,
+        text: Vec<u8>,
+    ) -> Result<(), AllocError>
         ensures { OnOk result (self.new ≡ self.old ++ spec.shape kind frame text.items) }
     {
         let text = Sequence::new(text);

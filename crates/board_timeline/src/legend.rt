@@ -5,7 +5,7 @@ ghost use Rattle.board_timeline.specs.Legend as spec;
 
 use crate::canvas::Canvas;
 use crate::frames::{ROWS_TOP, place_of};
-use crate::shape::{Font, Frame, Kind, Look};
+use crate::shape::{Font, Frame, Look, ShapeKind};
 use crate::words::{numbered, worded};
 use std::alloc::AllocError;
 
@@ -26,7 +26,7 @@ pub(crate) fn add_label(
         width: 0,
         height: 0,
     };
-    canvas.add(Kind::Label(font), frame, text)
+    canvas.add(ShapeKind::Label(font), frame, text)
 }
 
 /// Adds the bar of a key.
@@ -48,7 +48,7 @@ fn add_key_bar(
         height: 10,
     };
     let text = worded(canvas.alloc(), words)?;
-    canvas.add(Kind::Bar(look), frame, text)
+    canvas.add(ShapeKind::Bar(look), frame, text)
 }
 
 /// Adds a key: a bar, and what it stands for.
@@ -128,7 +128,7 @@ fn add_line(canvas: &mut Canvas, lines: u64, line: u64, bottom: u64) -> Result<(
         height: bottom.saturating_sub(ROWS_TOP),
     };
     let title = numbered(canvas.alloc(), "line ", line)?;
-    canvas.add(Kind::Bar(Look::Line), frame, title)?;
+    canvas.add(ShapeKind::Bar(Look::Line), frame, title)?;
     let text = numbered(canvas.alloc(), "line ", line)?;
     add_label(canvas, Font::Note, left, 58, text)
 }

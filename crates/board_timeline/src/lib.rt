@@ -35,5 +35,5 @@ pub use noted::{Track, new_track};
 pub use phase::{Moment, Phase};
 pub use played::play_noted;
 pub use row::Row;
-pub use shape::{Font, Frame, Kind, Look, Shape};
+pub use shape::{Font, Frame, Look, Shape, ShapeKind};
 pub use svg::picture;

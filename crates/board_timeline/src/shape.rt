@@ -44,7 +44,7 @@ pub enum Font {
 
 /// What a shape is.
 #[derive(Clone, Copy)]
-pub enum Kind {
+pub enum ShapeKind {
     Bar(Look),
     Label(Font),
 }
@@ -61,7 +61,7 @@ pub struct Frame {
 /// A bar or a label.
 #[derive(Drop)]
 pub struct Shape {
-    pub kind: Kind,
+    pub kind: ShapeKind,
     pub frame: Frame,
     /// What a label says, and what is told of a bar where somebody points at it.
     pub text: Sequence<u8>,

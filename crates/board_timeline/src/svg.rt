@@ -7,7 +7,7 @@ ghost use Rattle.board_timeline.specs.Picture as spec;
 ghost use Rattle.board_timeline.specs.Texts.{HasTextsOf};
 
 use crate::escaped::add_escaped;
-use crate::shape::{Frame, Kind, Shape, font_class, look_class};
+use crate::shape::{Frame, Shape, ShapeKind, font_class, look_class};
 use crate::writing::{add, add_number};
 use std::alloc::{AllocError, Global};
 
@@ -47,22 +47,22 @@ fn begin_label(text: &mut Vec<u8>, class: &str, frame: Frame) -> Result<(), Allo
 }
 
 /// Adds what stands before the text of a shape.
-fn begin(text: &mut Vec<u8>, kind: Kind, frame: Frame) -> Result<(), AllocError>
+fn begin(text: &mut Vec<u8>, kind: ShapeKind, frame: Frame) -> Result<(), AllocError>
     ensures { OnOk result (Adds text.old.items text.new.items (spec.begin kind frame)) }
 {
     match kind {
-        Kind::Bar(look) => begin_bar(text, look_class(look), frame),
-        Kind::Label(font) => begin_label(text, font_class(font), frame),
+        ShapeKind::Bar(look) => begin_bar(text, look_class(look), frame),
+        ShapeKind::Label(font) => begin_label(text, font_class(font), frame),
     }
 }
 
 /// Adds what stands after the text of a shape.
-fn end(text: &mut Vec<u8>, kind: Kind) -> Result<(), AllocError>
+fn end(text: &mut Vec<u8>, kind: ShapeKind) -> Result<(), AllocError>
     ensures { OnOk result (Adds text.old.items text.new.items (spec.end kind)) }
 {
     match kind {
-        Kind::Bar(_) => add(text, &["</title></rect>\n"]),
-        Kind::Label(_) => add(text, &["</text>\n"]),
+        ShapeKind::Bar(_) => add(text, &["</title></rect>\n"]),
+        ShapeKind::Label(_) => add(text, &["</text>\n"]),
     }
 }
 

@@ -58,7 +58,8 @@ fn apply(page: &mut Page<'_>) {
     }
 }
 
-/// The same on the board that the verb names. An entry is played again where there was no memory for it.
+/// The replies to entries and the board after them, on the board that the verb names. An entry is played again where there
+/// was no memory for it.
 fn insist(page: &mut Page<'_>) {
     if let Some((plan, entries)) = record_in(page) {
         if page.word(1) == "flat" {
@@ -71,7 +72,7 @@ fn insist(page: &mut Page<'_>) {
     }
 }
 
-/// The same on a board.
+/// The replies to entries and the board after them, on a board that was made.
 fn insist_on<M: Reversible>(page: &mut Page<'_>, made: Result<M, AllocError>, entries: &[Entry]) {
     if let Some(mut table) = page.have(made) {
         for entry in entries {

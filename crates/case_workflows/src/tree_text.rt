@@ -71,7 +71,7 @@ fn open<'a>(page: &mut Page<'_>, rest: &mut Vec<Part<'a>>, name: &str, parts: &[
     }
 }
 
-/// The same of a node of any number of trees.
+/// Writes the front of a node, and lays any number of trees and its end on what is still to be written.
 fn open_all<'a>(page: &mut Page<'_>, rest: &mut Vec<Part<'a>>, name: &str, trees: &'a [Tree]) {
     open(page, rest, name, &[]);
     for tree in trees.iter().rev() {

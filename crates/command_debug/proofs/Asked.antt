@@ -2,7 +2,7 @@
 use Rattle.std.proofs.Common.{◌≡◌, ◌≢◌, ℕ, ◌+◌, Bool, true, false, cond, List, [], ◌∷◌, ◌++◌, length, take, drop, codes, Option, Some, None, refl, ap, sym, ◌∙◌, subst, arith}
 use Rattle.std.proofs.Math.Seq.{take-append_seam, drop-append_seam}
 use Rattle.std.proofs.lemmas.Bool.{lt-ltb}
-use Rattle.std.proofs.lemmas.List.{append_cancel_left, take-append-drop}
+use Rattle.std.proofs.lemmas.List.{append_cancel_left}
 use Rattle.std.specs.Char.{digit_value, is_digit}
 use Rattle.std.specs.List.{prefix_len}
 use Rattle.std.specs.Str.Parse.{AllDigits}
@@ -35,10 +35,6 @@ digits_end (d ∷ one) other digits =
     let here : is_digit d 10 ≡ true = lt-ltb (digit_value d) 10 digits.0 in
     digits_before (is_digit d 10) (prefix_len (λ b. is_digit b 10) (one ++ (codes " " ++ other))) here
     ∙ omega (arith, digits_end one other digits.1)
-
-pub two_found : (text : List ℕ) (n : ℕ) (x : ℕ × ℕ) → Writes (take n text) x.0 → After Writes (codes " ") (drop n text) x.1 → WritesTwo text x
-two_found text n x first second =
-    (take n text, second.0, sym (take-append-drop n text) ∙ ap (λ (t : List ℕ). take n text ++ t) second.1, first, second.2)
 
 -- where there are two numbers the first ends with the digits that the text begins with
 module _ (text one other : List ℕ) (n : ℕ) (is : text ≡ one ++ (codes " " ++ other)) (digits : AllDigits 10 one) (ends : n ≡ prefix_len (λ b. is_digit b 10) text) where

@@ -84,7 +84,7 @@ abbrev pub OpensRecord : List ℕ → Result Session CommandError → Type 0
 OpensRecord text (Ok s) = OfRecord text (IsAtStart s)
 OpensRecord text (Err error) = UnlessMemory error (IsNotPlayed text error)
 
--- The same of a record that is read first.
+-- A record is read first, and is under the debugger, or why it is not.
 abbrev pub OpensFile : Stream → Stream → Result Session CommandError → Type 0
 OpensFile file file' (Ok s) = OfFile file file' (λ start. s ≡ start)
 OpensFile file file' (Err error) = IsUnopened file file' error

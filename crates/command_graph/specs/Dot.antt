@@ -83,7 +83,7 @@ unfoldable pub cluster_begin : ℕ → List ℕ → List ℕ
 cluster_begin number label =
     (codes "\tsubgraph cluster_" ++ decimal number) ++ codes " {\n\t\tlabel=" ++ quoted label ++ codes ";\n"
 
--- The same, with its label.
+-- The beginning of the cluster of a run, with its label.
 abbrev pub run_begin : Option Run → ℕ → RunPlan → List ℕ
 run_begin state r run = cluster_begin r (run_label r run (stand_of_run state))
 

@@ -10,18 +10,13 @@ use Rattle.flow_model.specs.declared.board.JobState.TheVariants as job_state
 use Rattle.flow_model.specs.declared.board.Leg.{Leg}
 use Rattle.flow_model.specs.declared.board.LegState.{LegState}
 use Rattle.flow_model.specs.declared.board.LegState.TheVariants as leg_state
+use Rattle.flow_model.specs.Outcome.{outcome_word}
 use Rattle.flow_model.specs.declared.event.Outcome.{Outcome}
 use Rattle.flow_model.specs.declared.event.Outcome.TheVariants as outcome
 use Rattle.command_graph.specs.declared.standing.Stand.{Stand}
 use Rattle.command_graph.specs.declared.standing.Stand.TheVariants.{Waiting, Running, Ended}
 
 -- ---- words and colours
-
-abbrev pub outcome_word : Outcome → List ℕ
-outcome_word outcome.Success = codes "success"
-outcome_word outcome.Failure = codes "failure"
-outcome_word outcome.Cancelled = codes "cancelled"
-outcome_word outcome.Skipped = codes "skipped"
 
 abbrev pub outcome_colour : Outcome → List ℕ
 outcome_colour outcome.Success = codes "palegreen"

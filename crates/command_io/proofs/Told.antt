@@ -1,5 +1,5 @@
 -- What was said is told, and a source that failed is told.
-use Rattle.std.proofs.Common.{◌≡◌, ℕ, Bool, true, false, List, Option, Some, None, Result, Ok, Err, inl, inr, refl, subst}
+use Rattle.std.proofs.Common.{◌≡◌, ℕ, Bool, List, Option, Some, None, Result, Ok, Err, refl, subst}
 use Rattle.std.specs.Io.KnownBytes.{Keeps}
 use Rattle.command_io.specs.Stream.{Stream, IsKept, Puts}
 use Rattle.command_io.specs.Tell.{Answer, OrMemory, Says, Tells, TellsOf, TellsSome}
@@ -12,10 +12,6 @@ use Rattle.command_io.specs.declared.error.CommandError.TheVariants.{NoExpressio
 -- the same line under another form
 pub Puts-as : (a b : Stream) (x y : List ℕ) (whole : Bool) → Puts a b x whole → x ≡ y → Puts a b y whole
 Puts-as a b x y whole done is = subst (λ (text : List ℕ). Puts a b text whole) is done
-
-pub Says-puts : (a b : Stream) (text : List ℕ) (whole : Bool) → Puts a b text whole → Says a b text
-Says-puts a b text true done = inl done
-Says-puts a b text false done = inr done
 
 bytes_kept : (known : Option (List ℕ)) → Keeps known known
 bytes_kept None = tt

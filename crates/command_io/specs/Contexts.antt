@@ -68,7 +68,7 @@ document_contexts (string bytes) = Err WrongShape
 document_contexts (array ds) = Err WrongShape
 document_contexts (object ms) = contexts_with [] ms
 
--- The same of bytes that are JSON, or not.
+-- The contexts of bytes that are JSON, or not.
 abbrev pub contexts_read : Option Data → Result Contexts ContextsFault
 contexts_read None = Err NotJson
 contexts_read (Some d) = document_contexts d

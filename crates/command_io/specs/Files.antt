@@ -11,7 +11,7 @@ pub record File : Type 0 where
   pub name : List ℕ
   pub source : Stream
 
--- The same of a source that is named.
+-- What a source that is named shows, with its name.
 abbrev pub file_seen : {S : Type 0} → (S → Stream) → NamedSource S → File
 file_seen seen file = record { name = file.name; source = seen file.source }
 
@@ -71,7 +71,7 @@ abbrev pub ReadsFile : File → File → Result Content SourceFault → Type 0
 ReadsFile old new (Ok content) = IsContent old new content
 ReadsFile old new (Err fault) = IsRead old.source new.source (Err fault)
 
--- The same, where what it holds is added to others.
+-- A file is read to its end, and what it holds is added to others.
 abbrev pub AddsFile : File → File → List Content → List Content → Result (Unit {0}) SourceFault → Type 0
 AddsFile old new contents contents' (Ok done) = (content : Content) × IsContent old new content × (contents' ≡ contents ++ content ∷ [])
 AddsFile old new contents contents' (Err fault) = IsRead old.source new.source (Err fault)

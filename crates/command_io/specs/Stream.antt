@@ -50,7 +50,7 @@ IsRead old new (Ok bytes) = IfSome old.bytes (λ known. bytes ≡ known) × (new
 IsRead old new (Err Failed) = new.failed ≡ true
 IsRead old new (Err Memory) = new.failed ≡ old.failed
 
--- The same of what the code answers.
+-- What the code answers is so.
 abbrev pub ReadsAll : Stream → Stream → Result (Vec ℕ Global) SourceFault → Type 0
 ReadsAll old new (Ok read) = IsRead old new (Ok read.items)
 ReadsAll old new (Err fault) = IsRead old new (Err fault)
@@ -83,7 +83,7 @@ IsLineRead old new (Ok (Some line)) = TakesLine old.bytes new.bytes line × (new
 IsLineRead old new (Err Failed) = LosesPart old.bytes new.bytes × (new.failed ≡ true)
 IsLineRead old new (Err Memory) = LosesPart old.bytes new.bytes × (new.failed ≡ old.failed)
 
--- The same of what the code answers: whether there was a line, and which.
+-- The code answers so whether there was a line, and which.
 abbrev pub ReadsLine : Stream → Stream → List ℕ → Result Bool SourceFault → Type 0
 ReadsLine old new line (Ok true) = IsLineRead old new (Ok (Some line))
 ReadsLine old new line (Ok false) = IsLineRead old new (Ok None)

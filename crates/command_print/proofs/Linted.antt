@@ -1,5 +1,5 @@
 -- Going over the files that are looked at, and telling what comes of them.
-use Rattle.std.proofs.Common.{◌≡◌, ◌<◌, ◌≤◌, ◌+◌, ℕ, List, [], ◌∷◌, ◌++◌, length, drop, get_or, sym, subst, append-nil, append_assoc, true, false, Option, Some, None, Result, Ok, Err, refl}
+use Rattle.std.proofs.Common.{◌≡◌, ◌<◌, ◌≤◌, ◌+◌, ℕ, List, [], ◌∷◌, ◌++◌, length, drop, sym, subst, append-nil, true, false, Option, Some, None, Result, Ok, Err, refl}
 use Rattle.std.proofs.lemmas.Bool.{true≢false}
 use Rattle.std.proofs.lemmas.List.{drop_all}
 use Rattle.command_io.proofs.Told.{IsKept-same}
@@ -10,7 +10,6 @@ use Rattle.command_io.specs.CommandError.{line, source_error, error_status, Unle
 use Rattle.command_io.specs.declared.stream.SourceFault.{SourceFault}
 use Rattle.command_io.specs.declared.stream.SourceFault.TheVariants as source_fault
 use Rattle.command_io.specs.declared.error.CommandError.{CommandError}
-use Rattle.command_print.proofs.Flows.{left_at}
 use Rattle.command_io.proofs.Pictures.{no_lines, lines_of_one, lines_of_all, lines_of_both}
 use Rattle.command_print.specs.Lint.{Told, IsTold, IsToldOf, IsPassed, IsRefused, AreTold, Judges, GivesLint, IsLintAnswer, LintTells, fault_text, hint_lines, lint_text, note_words, refusing_line, refusing_words}
 use Rattle.command_io.specs.Pictures.{HasPlainLines}
@@ -37,14 +36,6 @@ pub record GoingFiles (files : List Content) (i : ℕ) (tolds : List Told) : Typ
 
 pub begin_files : (files : List Content) → GoingFiles files 0 []
 begin_files files = record { made = λ more w. w }
-
-pub told_more : (files : List Content) (i : ℕ) (tolds : List Told) (file : Content) (told : Told) → i < length files → file ≡ get_or files i file
-    → IsTold file told → GoingFiles files i tolds → GoingFiles files (i + 1) (tolds ++ told ∷ [])
-told_more files i tolds file told h at is g = record {
-  made = λ more w.
-      subst (λ (l : List Told). AreTold files l) (sym (append_assoc tolds (told ∷ []) more))
-      (g.made (told ∷ more) (subst (λ (l : List Content). AreTold l (told ∷ more)) (sym (left_at files i file h at)) (is, w)));
-}
 
 pub all_told : (files : List Content) (i : ℕ) (tolds : List Told) → length files ≤ i → GoingFiles files i tolds → AreTold files tolds
 all_told files i tolds past g =

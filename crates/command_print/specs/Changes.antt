@@ -49,7 +49,7 @@ pub record AreTold (shown : List ℕ) (status : ℕ) (plan : Plan) (entries : Li
   pub shows : TellsPlaces plan entries (length entries) shown
   pub tells : status ≡ runs_status board
 
--- The same of a record.
+-- The places of a record are shown so.
 abbrev pub ShowsChanges : List ℕ → List ℕ → ℕ → Type 0
 ShowsChanges text shown status = OfRecord text (AreTold shown status)
 
@@ -68,7 +68,7 @@ ChangesTells = TellsShown ShowsChanges
 abbrev pub AreNew : Plan → Board → Plan → Board → Type 0
 AreNew one board other board' = (one ≡ other) × (board ≡ new_board one) × (board' ≡ new_board other)
 
--- The same where the opening place is told.
+-- Two boards are so, and the opening place is told.
 abbrev pub AreOpening : Plan → Board → Plan → Board → List ℕ → Type 0
 AreOpening one board other board' text = AreNew one board other board' × (text ≡ place_text 0 (new_board other))
 

@@ -102,7 +102,7 @@ abbrev pub IsTold : Content → Told → Type 0
 IsTold file (false, text) = IsPassed file text
 IsTold file (true, text) = IsRefused file text
 
--- The same of each of the files.
+-- What is told of each of the files.
 abbrev pub AreTold : List Content → List Told → Type 0
 AreTold [] [] = Unit {0}
 AreTold [] (told ∷ tolds) = ⊥

@@ -17,7 +17,7 @@ abbrev pub id_in : List JobPlan → ℕ → List ℕ
 id_in [] number = []
 id_in (job ∷ jobs) number = if job.number == number then job.id else id_in jobs number
 
--- The same in a run, where there is one.
+-- The id of the job with this number in a run, where there is one.
 abbrev pub id_of : Option RunPlan → ℕ → List ℕ
 id_of None number = []
 id_of (Some run) number = id_in run.jobs number
@@ -49,7 +49,7 @@ IsListAnswer flows (Err error) = ComesToNone All no_contexts flows error
 abbrev pub ListTells : List File → List File → Stream → Stream → Stream → Stream → ℕ → Type 0
 ListTells flows flows' out out' err err' status = TellsOf IsListAnswer (AreRead flows flows') out out' err err' status
 
--- The same files come to one list at most.
+-- Files come to one list at most.
 abbrev pub OneListing : Type 0
 OneListing = (flows : List Content) (a b : List ℕ) → IsListAnswer flows (Ok a) → IsListAnswer flows (Ok b) → a ≡ b
 

@@ -27,7 +27,7 @@ abbrev pub AnswersPlan : Choice → Content → List Content → Answer → Type
 AnswersPlan choice contexts flows (Ok text) = (plan : Plan) × ComesTo choice contexts flows plan × IsPlanLine plan text
 AnswersPlan choice contexts flows (Err error) = ComesToNone choice contexts flows error
 
--- The same of all files in their order, of which the file of contexts is the first.
+-- An answer to all files in their order, of which the file of contexts is the first.
 abbrev pub IsPlanAnswer : Choice → List Content → Answer → Type 0
 IsPlanAnswer choice [] answer = ⊥
 IsPlanAnswer choice (contexts ∷ flows) answer = AnswersPlan choice contexts flows answer
@@ -37,7 +37,7 @@ abbrev pub PlanTells : Choice → File → File → List File → List File → 
 PlanTells choice contexts contexts' flows flows' out out' err err' status =
     TellsOf (IsPlanAnswer choice) (AreRead (contexts ∷ flows) (contexts' ∷ flows')) out out' err err' status
 
--- The same files come to one text at most.
+-- Files come to one text at most.
 abbrev pub OnePlanText : Type 0
 OnePlanText =
     (choice : Choice) (contexts : Content) (flows : List Content) (a b : List ℕ)

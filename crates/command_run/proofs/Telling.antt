@@ -7,13 +7,12 @@ use Rattle.command_io.proofs.Known.{Appends-kept, Appends-nothing, Appends-then}
 use Rattle.command_io.proofs.Told.{IsKept-same}
 use Rattle.command_io.specs.Stream.{Stream, IsCutOff, IsKept, IsWritten, Puts}
 use Rattle.flow_commands.specs.Logs.{Log, logs_text}
-use Rattle.command_io.specs.declared.stop.PlayStop.{PlayStop}
 use Rattle.flow_model.specs.declared.event.Entry.{Entry}
 use Rattle.flow_model.specs.declared.plan.Plan.{Plan}
 use Rattle.plan_text.specs.Record.{record_text}
 use Rattle.command_run.specs.PlanMasks.{plan_masks}
 use Rattle.command_run.specs.RecordFile.{Keeping, Kept, Writes}
-use Rattle.command_run.specs.Run.{PutsPlayed, ShowsRest, TellsHistory, TellsWritten}
+use Rattle.command_run.specs.Run.{PutsPlayed}
 use Rattle.command_run.specs.StepLogs.{AreAdded, IsBegun, PutsLog, PutsLogs, PutsShown, PutsText, ShowsLog, Written, started_leg}
 use Rattle.step_host.specs.Replay.{recorded}
 
@@ -58,18 +57,6 @@ begun_after a b c before after whole written kept is =
 pub more_behind : (a b c : Stream) (text more : List ℕ) (whole : Bool) → IsWritten a b text → Puts b c more whole → PutsText a c (text ++ more) (Ok whole)
 more_behind a b c text more true written put = (Appends-then _ _ _ text more written.0 put.0, put.1 ∙ written.1)
 more_behind a b c text more false written put = cut_after a b c text more [] (text ++ more) written put (ap (λ (l : List ℕ). text ++ l) (sym (append-nil more)))
-
-pub cut_before : (a b : Stream) (text more : List ℕ) → IsCutOff a b text → PutsText a b (text ++ more) (Ok false)
-cut_before a b text more cut =
-    let (kept, failed) = cut in (
-      record {
-        part = kept.part;
-        rest = kept.rest ++ more;
-        whole = ap (λ (l : List ℕ). l ++ more) kept.whole ∙ append_assoc kept.part kept.rest more;
-        appended = kept.appended;
-      },
-      failed,
-    )
 
 pub begun_before : (a b : Stream) (text more : List ℕ) (e : AllocError) → IsBegun a b text → PutsText a b (text ++ more) (Err e)
 begun_before a b text more e begun =
@@ -246,32 +233,11 @@ played_put p es lines a b c told whole shown is put = record {
   puts = more_behind a b c shown.shown lines whole (subst (PutsText a b shown.shown) is shown.puts) put;
 }
 
--- or they don't
-pub played_cut : (p : Plan) (es : List Entry) (lines : List ℕ) (a b : Stream) (told : Written) → PutsShown p es a b told → told ≡ Ok false
-    → PutsPlayed p es lines a b (Ok false)
-played_cut p es lines a b told shown is =
-    record { shown = shown.shown; shows = shown.shows; puts = cut_before a b shown.shown lines (subst (PutsText a b shown.shown) is shown.puts) }
-
 pub played_begun : (p : Plan) (es : List Entry) (lines : List ℕ) (a b : Stream) (told : Written) (e : AllocError) (how : Written) → PutsShown p es a b told → told ≡ Err e
     → IsErr how → PutsPlayed p es lines a b how
 played_begun p es lines a b told e (Err e') shown is failed =
     record { shown = shown.shown; shows = shown.shows; puts = begun_before a b shown.shown lines e' (subst (PutsText a b shown.shown) is shown.puts) }
 played_begun p es lines a b told e (Ok whole) shown is failed = let no : false ≡ true = failed in absurd (cc)
-
--- what was played is told
-pub history_told : (p : Plan) (entries es : List Entry) (stop : Option PlayStop) (kept : Kept) (lines : List ℕ) (done : ℕ) (a b c d : Stream) (written : Written) (status : ℕ)
-    → entries ≡ es → PutsPlayed p entries lines a b written → ShowsRest p es stop lines done → TellsWritten written stop kept done c d status
-    → TellsHistory p es stop kept a b c d status
-history_told p entries es stop kept lines done a b c d written status same played rest told =
-    let put : PutsPlayed p es lines a b written = subst (λ (l : List Entry). PutsPlayed p l lines a b written) same played in
-    record {
-      text = put.shown ++ lines;
-      done = done;
-      is = record { shown = put.shown; lines = lines; shows = put.shows; rest = rest; is = refl };
-      written = written;
-      puts = put.puts;
-      told = told;
-    }
 
 -- what is kept of entries is kept of the same entries
 pub kept_of : (writes : Writes) (name : Option (List ℕ)) (p : Plan) (out : Stream) (kept : Kept) (entries es : List Entry) → entries ≡ es

@@ -3,7 +3,7 @@ use Rattle.std.specs.Prelude.{ℕ, suc, List, [], ◌∷◌, ◌++◌, codes, de
 use Rattle.flow_model.specs.declared.board.Run.{Run}
 use Rattle.flow_model.specs.declared.board.RunState.{RunState}
 use Rattle.flow_model.specs.declared.board.RunState.TheVariants.{New, Waiting, Going, Closed}
-use Rattle.plan_text.specs.BoardText.{outcome_word}
+use Rattle.flow_model.specs.Outcome.{outcome_word}
 
 -- how a run ended, or that nothing goes on
 abbrev pub state_word : RunState → List ℕ

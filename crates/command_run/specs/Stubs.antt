@@ -42,7 +42,7 @@ document_stubs (string bytes) = Err WrongShape
 document_stubs (array ds) = Err WrongShape
 document_stubs (object ms) = stubs_with [] ms
 
--- The same of bytes that are JSON, or not.
+-- The stubs of bytes that are JSON, or not.
 abbrev pub stubs_read : Option Data → Result Stubs ContextsFault
 stubs_read None = Err NotJson
 stubs_read (Some d) = document_stubs d

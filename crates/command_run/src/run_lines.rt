@@ -3,7 +3,7 @@
 ghost use Rattle.std.specs.Prelude.{◌≡◌, ◌++◌, OnOk, string_bytes};
 ghost use Rattle.command_run.specs.RunLines as spec;
 
-use flow_model::{Outcome, Run, RunState};
+use flow_model::{Run, RunState};
 use std::alloc::AllocError;
 use std::fmt::Write;
 
@@ -15,10 +15,7 @@ fn state_word(state: RunState) -> &'static str
         RunState::New => "stalled",
         RunState::Waiting => "stalled",
         RunState::Going => "stalled",
-        RunState::Closed(Outcome::Success) => "success",
-        RunState::Closed(Outcome::Failure) => "failure",
-        RunState::Closed(Outcome::Cancelled) => "cancelled",
-        RunState::Closed(Outcome::Skipped) => "skipped",
+        RunState::Closed(outcome) => outcome.word(),
     }
 }
 

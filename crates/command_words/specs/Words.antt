@@ -105,7 +105,7 @@ pub record TellsLine (kind : ErrorKind) (out out' err err' : Stream) (status : �
   pub no_text : kind ≡ InvalidData → error ≡ Words
   pub memory : kind ≡ OutOfMemory → error ≡ Memory
 
--- The same of the line on err alone.
+-- Such an error has its line on err alone.
 pub record SaysLine (kind : ErrorKind) (err err' : Stream) (status : ℕ) : Type 0 where
   pub error : CommandError
   pub said : Says err err' (line error)

@@ -7,10 +7,6 @@ use Rattle.expr_reader.specs.declared.tree.Function.{Function}
 use Rattle.expr_reader.specs.View.{view, views}
 use Rattle.expr_reader.specs.declared.tree.Tree.{Tree}
 
-pub views_push : (ts : List Tree) (t : Tree) → views (ts ++ t ∷ []) ≡ views ts ++ view t ∷ []
-views_push [] t = refl
-views_push (u ∷ ts) t = ap (λ es. view u ∷ es) (views_push ts t)
-
 pub deepest_push : (ts : List Tree) (t : Tree) → deepest (exprs_of (views (ts ++ t ∷ []))) ≡ max (deepest (exprs_of (views ts))) (depth (view t))
 deepest_push [] t = omega arith
 deepest_push (u ∷ ts) t = ap (max (depth (view u))) (deepest_push ts t) ∙ omega arith

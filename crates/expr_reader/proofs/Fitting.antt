@@ -97,7 +97,7 @@ token_fits dotted b bs =
     (choose dotted (begins_number b) _ _ (number_fits dotted _ _)
     (choose dotted (begins_name b) _ _ (word_fits dotted _ _) (operator_fits dotted b bs)))
 
--- The same of a token, or none.
+-- A token fits, or there is none.
 abbrev NextFits : Bool → Result (Option Lexed) Fault → Type 0
 NextFits dotted (Ok None) = Unit {0}
 NextFits dotted (Ok (Some x)) = Fits dotted x.0

@@ -2,15 +2,10 @@
 use Rattle.std.proofs.Common.{◌≡◌, ℕ, zero, suc, ◌+◌, ◌-◌, ◌<◌, ◌≤◌, Bool, Result, Ok, Err, Option, Some, None, IfSome, List, [], length, refl, sym, ap, subst, ◌∙◌, arith}
 use Rattle.expr_reader.specs.Bytes.{skip_white}
 use Rattle.expr_reader.specs.Expr.{Expr}
-use Rattle.expr_reader.specs.Faults.{fault_at, refused_at}
 use Rattle.expr_reader.specs.Lexer.{Lexed, next_at, next}
 use Rattle.expr_reader.specs.Machine.{State, want, is_dotted, limits, step, finish}
-use Rattle.expr_reader.specs.Outcome.{Fails}
 use Rattle.expr_reader.specs.Reading.{Failure, placed, after_step, after_token, reads, located, read_tokens}
-use Rattle.expr_reader.specs.declared.fault.ExprFault.{ExprFault}
 use Rattle.expr_reader.specs.declared.fault.Fault.{Fault}
-use Rattle.expr_reader.specs.declared.fault.Refusal.{Refusal}
-use Rattle.expr_reader.specs.declared.fault.Refusal.TheVariants as refusal
 use Rattle.expr_reader.proofs.Lexing.{Comes, next_comes}
 use Rattle.expr_reader.proofs.Readings.{rest_shorter}
 
@@ -50,24 +45,10 @@ at_start rest start st r start_is h =
 whole : (base : ℕ) (text rest start : List ℕ) (st : State) (r : Result (Option Lexed) Fault) → IsReading text rest st → start ≡ skip_white rest → next_at (is_dotted st) start ≡ r → read_tokens base text ≡ located base (length text) (after_token (reads (length rest)) st (length start) r)
 whole base text rest start st r reading start_is h = ap (located base (length text)) (sym reading.same ∙ at_start rest start st r start_is h)
 
--- A refusal that gets its place is the step's fault there.
-pub placed_refusal : {A : Type 0} (e : ExprFault) (why : Refusal) (place : ℕ) (r : Result A Fault) → fault_at e ≡ refused_at why place → Fails why r → IfSome (fault_at e) (λ x. placed place r ≡ Err x)
-placed_refusal e refusal.Memory place r at fails = subst (λ (o : Option Failure). IfSome o (λ x. placed place r ≡ Err x)) (sym at) tt
-placed_refusal e (refusal.Fault f) place r at fails = subst (λ (o : Option Failure). IfSome o (λ x. placed place r ≡ Err x)) (sym at) (ap (placed place) fails)
-
 -- What is given with a place is given.
 pub placed_given : {A : Type 0} (place : ℕ) (r : Result A Fault) (x : A) → placed place r ≡ Ok x → r ≡ Ok x
 placed_given place (Ok y) x h = cc
 placed_given place (Err f) x h = cc
-
-token_fails : (base : ℕ) (text rest start : List ℕ) (st : State) (x : Failure) (r : Result (Option Lexed) Fault) → IsReading text rest st → start ≡ skip_white rest → next_at (is_dotted st) start ≡ r → placed (base + (length text - length start)) r ≡ Err x → read_tokens base text ≡ Err x
-token_fails base text rest start st x (Ok y) reading start_is at h = cc
-token_fails base text rest start st x (Err f) reading start_is at h = whole base text rest start st (Err f) reading start_is at ∙ cc
-
--- No token comes, but a fault.
-pub token_refused : (base : ℕ) (text rest start : List ℕ) (st : State) (o : Option Failure) → IsReading text rest st → start ≡ skip_white rest → IfSome o (λ x. placed (base + (length text - length start)) (next_at (is_dotted st) start) ≡ Err x) → IfSome o (λ x. read_tokens base text ≡ Err x)
-token_refused base text rest start st None reading start_is h = tt
-token_refused base text rest start st (Some x) reading start_is h = token_fails base text rest start st x (next_at (is_dotted st) start) reading start_is refl h
 
 step_fails : (base : ℕ) (text rest start : List ℕ) (st : State) (x : Lexed) (y : Failure) (r : Result State Fault) → IsReading text rest st → start ≡ skip_white rest → next_at (is_dotted st) start ≡ Ok (Some x) → step limits st x.0 ≡ r → placed (base + (length text - length start)) r ≡ Err y → read_tokens base text ≡ Err y
 step_fails base text rest start st x y (Ok after) reading start_is comes at h = cc

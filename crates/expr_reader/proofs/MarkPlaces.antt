@@ -240,7 +240,7 @@ end_boundary bs n utf8 h =
     let first : get_or bs n 0 ≡ 125 = cc (drop-cons bs n 0 inside, same) in
     IsCharBoundary-before_ascii bs n inside (omega (arith, first))
 
--- The same where the text is cut already.
+-- So it is where the text is cut already.
 pub end_past : (bs rest : List ℕ) (n : ℕ) → rest ≡ drop n bs → IsUtf8 rest → end_place false bs ≡ Some n → IsCharBoundary rest 2
 end_past bs rest n at utf8 h =
     let same : rest ≡ 125 ∷ 125 ∷ drop (n + 2) bs = at ∙ end_dropped bs n h in

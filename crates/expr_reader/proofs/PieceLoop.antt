@@ -1,9 +1,8 @@
 -- Reading a text piece by piece.
-use Rattle.std.proofs.Common.{◌≡◌, ◌≢◌, ℕ, suc, ◌+◌, ◌-◌, ◌<◌, ◌≤◌, true, false, Result, Ok, Err, Option, Some, None, IfSome, List, [], ◌∷◌, ◌++◌, length, map, take, drop, refl, sym, ap, ◌∙◌, append_assoc, append-nil, arith}
-use Rattle.std.proofs.lemmas.Bool.{cond-true}
-use Rattle.expr_reader.specs.Reading.{Failure, read_text}
-use Rattle.expr_reader.specs.Template.{Piece, plain, begins_mark, end_place}
-use Rattle.expr_reader.specs.TemplateReading.{mark_place, inside_piece, marked_at, piece_at, with_pieces, after_piece, pieces_of, read_pieces}
+use Rattle.std.proofs.Common.{◌≡◌, ◌≢◌, ℕ, suc, ◌+◌, ◌-◌, ◌<◌, ◌≤◌, Result, Ok, Err, List, [], ◌∷◌, ◌++◌, length, map, refl, sym, ap, ◌∙◌, append_assoc, arith}
+use Rattle.expr_reader.specs.Reading.{Failure}
+use Rattle.expr_reader.specs.Template.{Piece}
+use Rattle.expr_reader.specs.TemplateReading.{piece_at, with_pieces, after_piece, pieces_of, read_pieces}
 use Rattle.expr_reader.specs.TemplateView.{piece_of}
 use Rattle.expr_reader.specs.declared.template.Piece as piece
 use Rattle.expr_reader.proofs.PieceLaws.{piece_shorter, same_pieces}
@@ -40,24 +39,6 @@ gather_more size text (b ∷ bs) done x now h some read last = record {
   short = omega (arith, piece_shorter size b bs x h.short read, h.short);
   same = ap (λ (ps : List Piece). with_pieces ps (read_pieces size x.1)) last ∙ fronts done x.0 (read_pieces size x.1) ∙ ap (with_pieces done) (sym (next_gathered size b bs x h.short read)) ∙ h.same;
 }
-
-gather_err_at : (size : ℕ) (text rest : List ℕ) (done : List Piece) (y : Failure) → IsGathering size text rest done → rest ≢ [] → piece_at size rest ≡ Err y → read_pieces size text ≡ Err y
-gather_err_at size text [] done y h some read = absurd (some refl)
-gather_err_at size text (b ∷ bs) done y h some read = sym h.same ∙ ap (λ (r : Result (Piece × List ℕ) Failure). with_pieces done (after_piece (pieces_of (length (b ∷ bs)) size) r)) read
-
-pub gather_err : (size : ℕ) (text rest : List ℕ) (done : List Piece) (o : Option Failure) → IsGathering size text rest done → rest ≢ [] → IfSome o (λ y. piece_at size rest ≡ Err y) → IfSome o (λ y. read_pieces size text ≡ Err y)
-gather_err size text rest done None h some read = tt
-gather_err size text rest done (Some y) h some read = gather_err_at size text rest done y h some read
-
-pub gather_end : (size : ℕ) (text rest : List ℕ) (done : List Piece) → IsGathering size text rest done → rest ≡ [] → read_pieces size text ≡ Ok done
-gather_end size text rest done h none = sym h.same ∙ ap (λ (z : List ℕ). with_pieces done (read_pieces size z)) none ∙ ap Ok (append-nil done)
-
--- A marked piece, by the parts that its text was cut into.
-pub marked_unclosed : (size : ℕ) (text : List ℕ) → begins_mark text ≡ true → end_place false (drop 3 text) ≡ None → piece_at size text ≡ marked_at size (drop 3 text) None
-marked_unclosed size text mark none = cond-true (begins_mark text) (marked_at size (drop 3 text) (end_place false (drop 3 text))) (Ok (plain (take (mark_place text) text), drop (mark_place text) text)) mark ∙ ap (marked_at size (drop 3 text)) none
-
-pub marked_closed : (size : ℕ) (text : List ℕ) (n : ℕ) → begins_mark text ≡ true → end_place false (drop 3 text) ≡ Some n → piece_at size text ≡ inside_piece (drop (n + 2) (drop 3 text)) (read_text (size - length (drop 3 text)) (take n (drop 3 text)))
-marked_closed size text n mark some = cond-true (begins_mark text) (marked_at size (drop 3 text) (end_place false (drop 3 text))) (Ok (plain (take (mark_place text) text), drop (mark_place text) text)) mark ∙ ap (marked_at size (drop 3 text)) some
 
 pub pieces_push : (ps : List piece.Piece) (p : piece.Piece) → map piece_of (ps ++ p ∷ []) ≡ map piece_of ps ++ piece_of p ∷ []
 pieces_push [] p = refl

@@ -243,7 +243,7 @@ sound_close : (k : ℕ) (read : List Token) (s : List Part) → ClosesSound k re
 sound_close k read [] e tight above shaped shallow good same = record { tight = tight; shaped = shaped; shallow = shallow; good = good; below = omega arith; same = same }
 sound_close k read (p ∷ s) e tight above shaped shallow good same = closed_over k read e p s (nat_le (suc k) (binding p)) refl (sound_close k read s) tight above shaped shallow good same
 
--- The same of an operand after a "post".
+-- An operand after a "post" is closed soundly.
 sound_operand : (k : ℕ) (read : List Token) (e : Expr) (s : List Part) → k ≤ 4 → GoodOperand e s → stack_tokens s ++ tokens e ≡ read → Holds (close limits (suc k) e s) (HeldAt k read) (Amiss read)
 sound_operand k read e s most good same = sound_close k read s e (omega (arith, good.0)) (omega (arith, good.0)) good.1 good.2 good.3 same
 

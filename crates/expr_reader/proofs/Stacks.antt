@@ -1,5 +1,5 @@
 -- What may stand on top of what is open, and what it closes.
-use Rattle.std.proofs.Common.{◌≡◌, ℕ, ◌<◌, ◌≤◌, true, false, min, nat_le, Result, Ok, Err, List, [], ◌∷◌, refl, ap, ◌∙◌, arith}
+use Rattle.std.proofs.Common.{◌≡◌, ℕ, ◌<◌, ◌≤◌, true, false, min, nat_le, Result, Ok, List, [], ◌∷◌, refl, ap, ◌∙◌, arith}
 use Rattle.std.proofs.lemmas.Bool.{cond-true, cond-false}
 use Rattle.std.proofs.lemmas.Bool.Decides.{nat_tests}
 use Rattle.expr_reader.specs.Expr.{Expr}
@@ -32,9 +32,6 @@ close_step lim k e p s tight =
 
 pub close_takes : (lim : Limits) (k : ℕ) (e t : Expr) (p : Part) (s : List Part) → k ≤ binding p → node lim (completed p e) ≡ Ok t → close lim k e (p ∷ s) ≡ close lim k t s
 close_takes lim k e t p s tight made = close_step lim k e p s tight ∙ ap (λ (z : Result Expr Fault). z >>= λ t. close lim k t s) made
-
-pub close_refused : (lim : Limits) (k : ℕ) (e : Expr) (p : Part) (s : List Part) (f : Fault) → k ≤ binding p → node lim (completed p e) ≡ Err f → close lim k e (p ∷ s) ≡ Err f
-close_refused lim k e p s f tight made = close_step lim k e p s tight ∙ ap (λ (z : Result Expr Fault). z >>= λ t. close lim k t s) made
 
 -- A chain that is open goes on, and where none is, one begins.
 pub both_goes_on : (e : Expr) (s : List Part) → top_binding s ≡ 2 → lengthened e s ≡ Ok (want (both_more e s))
@@ -81,7 +78,7 @@ either_begins e (group_of ∷ s) h = refl
 either_begins e (index_of a ∷ s) h = refl
 either_begins e (call_of f es ∷ s) h = refl
 
--- The same of each chain.
+-- Each chain goes on so.
 pub chain_goes_on : (c : Chain) (e : Expr) (s : List Part) → top_binding s ≡ chain_binding c → lengthened e s ≡ Ok (want (chain_more c e s))
 chain_goes_on chain.Either e s h = either_goes_on e s h
 chain_goes_on chain.Both e s h = both_goes_on e s h

@@ -61,7 +61,7 @@ fault_at (expr.UnclosedTemplate n) = Some (UnclosedTemplate, n)
 fault_at (expr.StatusHere n) = Some (StatusHere, n)
 fault_at (expr.Memory n) = None
 
--- The same of a refusal that gets this place.
+-- What a refusal is that gets this place.
 abbrev pub refused_at : Refusal → ℕ → Option Failure
 refused_at (refusal.Fault f) n = Some (f, n)
 refused_at refusal.Memory n = None

@@ -108,7 +108,7 @@ module _ (counts : Function → ℕ → Bool) where
     FormedBy (both es) = IsChain es × AllFormedBy 2 es
     FormedBy (either es) = IsChain es × AllFormedBy 1 es
 
-    -- The same of each of the trees, of which none holds together more loosely than k.
+    -- Each of the trees is formed so, and none holds together more loosely than k.
     pub AllFormedBy : ℕ → Exprs → Type 0
     AllFormedBy k none = Unit {0}
     AllFormedBy k (more e es) = (k ≤ level e) × FormedBy e × AllFormedBy k es

@@ -34,7 +34,7 @@ abbrev mutual
   unquoted [] = None
   unquoted (b ∷ bs) = if b == quote then after_quote bs else with_front (b ∷ []) (unquoted bs)
 
-  -- The same after a quote.
+  -- The text up to its closing quote, after a quote.
   pub after_quote : List ℕ → Option (List ℕ × List ℕ)
   after_quote [] = Some ([], [])
   after_quote (b ∷ bs) = if b == quote then with_front (quote ∷ []) (unquoted bs) else Some ([], b ∷ bs)

@@ -37,7 +37,7 @@ abbrev pub reads : ℕ → State → List ℕ → Result Expr Failure
 reads zero st bs = Err (TooLong, length bs)
 reads (suc n) st bs = after_token (reads n) st (length (skip_white bs)) (next (is_dotted st) bs)
 
--- The same, with a fault's place counted from base on, which is the place of a text of so many bytes.
+-- A reading, with a fault's place counted from base on, which is the place of a text of so many bytes.
 abbrev pub located : ℕ → ℕ → Result Expr Failure → Result Expr Failure
 located base size (Ok e) = Ok e
 located base size (Err x) = Err (x.0, base + (size - x.1))

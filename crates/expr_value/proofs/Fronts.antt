@@ -21,10 +21,6 @@ abbrev pub with_front : {A : Type 0} → List A → Result (List A) ValueFault �
 with_front xs (Ok ys) = Ok (xs ++ ys)
 with_front xs (Err fault) = Err fault
 
-pub with_front-nothing : {A : Type 0} (r : Result (List A) ValueFault) → with_front [] r ≡ r
-with_front-nothing (Ok ys) = refl
-with_front-nothing (Err fault) = refl
-
 pub with_front-twice : {A : Type 0} (xs ys : List A) (r : Result (List A) ValueFault) → with_front (xs ++ ys) r ≡ with_front xs (with_front ys r)
 with_front-twice xs ys (Ok zs) = ap Ok (append_assoc xs ys zs)
 with_front-twice xs ys (Err fault) = refl
@@ -62,7 +58,7 @@ evaluated_more at status trees i tree found grown v all inside here grew is so_f
     ∙ values_step (items_seen found) (value at status (tree_view tree)) (item_seen v) left is
     ∙ ap (λ (ts : List Tree). with_front (items_seen found) (all_values (answers at status (exprs_of (views ts))))) (sym (drop-next trees i tree inside here)) ∙ so_far
 
--- The same of the first value that is so true as is asked for.
+-- The first value that is so true as is asked for, one tree further.
 pub decided_more : (at : Contexts) (status : Status) (trees : List Tree) (i : ℕ) (tree : Tree) (truth b : Bool) (v w : Item) (all : Answer)
     → i < length trees → tree ≡ get_or trees i tree → beq b truth ≡ false → is_truthy (item_seen v) ≡ b → value at status (tree_view tree) ≡ Ok (item_seen w)
     → first_of truth (item_seen v) (answers at status (exprs_of (views (drop i trees)))) ≡ all

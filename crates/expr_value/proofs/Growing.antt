@@ -1,11 +1,8 @@
 -- A text that grows piece by piece.
-use Rattle.std.proofs.Common.{◌≡◌, ℕ, Bool, true, false, nat_le, Some, None, Option, Ok, Err, List, [], ◌++◌, length, refl, sym, ap, ◌∙◌, append_assoc, append-nil, length-append, arith}
+use Rattle.std.proofs.Common.{◌≡◌, ℕ, Bool, true, false, nat_le, Some, None, Option, Ok, Err, List, [], ◌++◌, length, refl, sym, ap, ◌∙◌, append_assoc, length-append, arith}
 use Rattle.std.proofs.lemmas.Bool.Decides.{nat_tests}
 use Rattle.std.proofs.lemmas.Bool.{cond-true, cond-false}
-use Rattle.std.specs.Option.{option_map}
-use Rattle.expr_value.specs.Bounded.{within, grown, grown_value, FitsLimit}
-use Rattle.expr_value.specs.Formatting.{ended}
-use Rattle.expr_value.specs.Functions.{formatted_value}
+use Rattle.expr_value.specs.Bounded.{within, grown, grown_value}
 use Rattle.expr_value.specs.Limit.{most_bytes, limited}
 use Rattle.flow_model.specs.Plain.{text}
 use Rattle.flow_model.specs.declared.reply.ValueFault.TheVariants.{TooLarge}
@@ -29,18 +26,6 @@ pub grown_grown : (b : Option (List ℕ)) (u w : List ℕ) → grown (grown b u)
 grown_grown None u w = refl
 grown_grown (Some t) u w = grown_within (t ++ u) w ∙ ap within (append_assoc t u w)
 
--- What is within the limit is not changed by adding nothing.
-pub grown_nothing : (b : Option (List ℕ)) → FitsLimit b → grown b [] ≡ b
-grown_nothing None fits = refl
-grown_nothing (Some t) fits =
-    let test : nat_le (length t) most_bytes ≡ true = grind (arith, nat_tests) in
-    ap within (append-nil t) ∙ cond-true (nat_le (length t) most_bytes) (Some t) None test
-
--- What is formatted after a piece.
-pub ended_grown : (b : Option (List ℕ)) (u : List ℕ) (rest : Option (List ℕ)) → ended (grown b u) rest ≡ ended b (option_map (λ w. u ++ w) rest)
-ended_grown b u None = refl
-ended_grown b u (Some w) = ap grown_value (grown_grown b u w)
-
 limited_by : (t : List ℕ) (b : Bool) → nat_le (length t) most_bytes ≡ b → grown_value (within t) ≡ limited t
 limited_by t true test = ap grown_value (cond-true (nat_le (length t) most_bytes) (Some t) None test) ∙ sym (cond-true (nat_le (length t) most_bytes) (Ok (text t)) (Err TooLarge) test)
 limited_by t false test = ap grown_value (cond-false (nat_le (length t) most_bytes) (Some t) None test) ∙ sym (cond-false (nat_le (length t) most_bytes) (Ok (text t)) (Err TooLarge) test)
@@ -48,8 +33,3 @@ limited_by t false test = ap grown_value (cond-false (nat_le (length t) most_byt
 -- A whole text that grew is one within the limit.
 pub limited_grown : (t : List ℕ) → grown_value (within t) ≡ limited t
 limited_grown t = limited_by t (nat_le (length t) most_bytes) refl
-
--- What is formatted from the start.
-pub ended_nothing : (rest : Option (List ℕ)) → ended (Some []) rest ≡ formatted_value rest
-ended_nothing None = refl
-ended_nothing (Some w) = limited_grown w

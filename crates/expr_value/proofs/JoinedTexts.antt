@@ -1,12 +1,10 @@
 -- The texts of a template's pieces, one after the other.
-use Rattle.std.proofs.Common.{◌≡◌, ℕ, Bool, true, false, not, nat_le, cond, Some, Option, Result, Ok, Err, List, [], length, refl, sym, ap, ◌∙◌}
-use Rattle.expr_value.proofs.Growing.{grown_grown, grown_nothing, limited_grown}
+use Rattle.std.proofs.Common.{◌≡◌, ℕ, Bool, true, false, not, cond, Some, Option, Result, Ok, Err, List, [], refl, sym, ap, ◌∙◌}
+use Rattle.expr_value.proofs.Growing.{grown_grown, limited_grown}
 use Rattle.expr_value.specs.Answer.{Gives}
-use Rattle.expr_value.specs.Bounded.{grown, grown_value, FitsLimit}
+use Rattle.expr_value.specs.Bounded.{grown, grown_value}
 use Rattle.expr_value.specs.Evaluate.{Answer}
-use Rattle.expr_value.specs.Joined.{grown_answer, is_too_large}
-use Rattle.expr_value.specs.Kind.{kind_of}
-use Rattle.expr_value.specs.Limit.{most_bytes, last_value}
+use Rattle.expr_value.specs.Joined.{grown_answer}
 use Rattle.expr_value.specs.Template.{with_text, limited_text}
 use Rattle.flow_model.specs.Plain as plain
 use Rattle.flow_model.specs.declared.reply.ValueFault.{ValueFault}
@@ -35,35 +33,9 @@ pub joined_first : (r : Result (List ℕ) ValueFault) → joined_onto (Some []) 
 joined_first (Ok w) = limited_grown w
 joined_first (Err fault) = refl
 
--- with nothing left
-pub joined_last : (held : Option (List ℕ)) → FitsLimit held → joined_onto held (Ok []) ≡ grown_value held
-joined_last held fits = ap grown_value (grown_nothing held fits)
-
 by_size : (t : List ℕ) (b : Bool) → not b ≡ true → cond b (Ok (plain.text t)) (Err TooLarge) ≡ Err TooLarge
 by_size t true h = absurd (cc)
 by_size t false h = refl
-
-by_fit : (t : List ℕ) (b : Bool) → not b ≡ false → cond b (Ok (plain.text t)) (Err TooLarge) ≡ Ok (plain.text t)
-by_fit t true h = refl
-by_fit t false h = absurd (cc)
-
--- a text beyond the limit ends no evaluation
-pub last_value-large : (v : plain.Plain) → is_too_large (kind_of v) ≡ true → last_value v ≡ Err TooLarge
-last_value-large plain.null h = absurd (cc)
-last_value-large (plain.truth b) h = absurd (cc)
-last_value-large (plain.whole z) h = absurd (cc)
-last_value-large (plain.text bytes) h = by_size bytes (nat_le (length bytes) most_bytes) h
-last_value-large (plain.list vs) h = absurd (cc)
-last_value-large (plain.map ms) h = absurd (cc)
-
--- every other value does
-pub last_value-small : (v : plain.Plain) → is_too_large (kind_of v) ≡ false → last_value v ≡ Ok v
-last_value-small plain.null h = refl
-last_value-small (plain.truth b) h = refl
-last_value-small (plain.whole z) h = refl
-last_value-small (plain.text bytes) h = by_fit bytes (nat_le (length bytes) most_bytes) h
-last_value-small (plain.list vs) h = refl
-last_value-small (plain.map ms) h = refl
 
 -- the fault of a piece is that of the whole
 pub fault_stands : {X Y : Type 0} (seen : X → Option (List ℕ)) (view : Y → plain.Plain) (held : Option (List ℕ)) (m rest all : Result (List ℕ) ValueFault) (fault : ValueFault)

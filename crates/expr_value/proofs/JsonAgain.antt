@@ -227,9 +227,6 @@ text_again v ordered h = ap value_read (read_again v ordered h) ∙ ap whole_val
 abbrev there_and_back : Status → Answer → Answer
 there_and_back s a = ended (begun (call_value FromJson s (all_values (ended (begun (call_value ToJson s (all_values (a ∷ [])))) ∷ []))))
 
-back_from : Status → Answer → Answer
-back_from s a = ended (begun (call_value FromJson s (all_values (ended (begun a) ∷ []))))
-
 pub from_json_of_to_json : (c : Contexts) (s : Status) (e : Expr) (v : Plain) → AreOrdered c → value c s e ≡ Ok v → IsPrintable v
     → value c s (call FromJson (more (call ToJson (more e none)) none)) ≡ Ok v
 from_json_of_to_json c s e v ordered is h =

@@ -8,7 +8,7 @@ use Rattle.expr_value.specs.Format.{opening, closing, formatted}
 use Rattle.expr_value.specs.Functions.{text_of_value}
 use Rattle.expr_value.specs.Seen.{items_seen, kind_seen}
 use Rattle.expr_value.specs.declared.item.Item.{Item}
-use Rattle.expr_value.specs.declared.kind.Kind.{Kind}
+use Rattle.expr_value.specs.declared.kind.ValueKind.{ValueKind}
 use Rattle.flow_model.specs.Plain.{Plain}
 use Rattle.flow_model.specs.declared.reply.ValueFault.{ValueFault}
 use Rattle.flow_model.specs.declared.reply.ValueFault.TheVariants.{BadFormat}
@@ -32,7 +32,7 @@ ended so_far (Some bytes) = grown_value (grown so_far bytes)
 
 -- What was found at the front of a format text: the kind that has its text, and the rest, which has at most so many
 -- bytes; or it is no format.
-abbrev pub Splits : List (List ℕ) → Option (List ℕ) → ℕ → Option (Kind × Bor (List ℕ)) → Type 0
+abbrev pub Splits : List (List ℕ) → Option (List ℕ) → ℕ → Option (ValueKind × Bor (List ℕ)) → Type 0
 Splits arguments meaning size None = meaning ≡ None
 Splits arguments meaning size (Some (kind, rest)) =
     (meaning ≡ option_map (λ bytes. text_of (kind_seen kind) ++ bytes) (formatted arguments rest.now)) × (length rest.now ≤ size)

@@ -11,7 +11,7 @@ use crate::format::format;
 use crate::item::Item;
 use crate::join::join;
 use crate::json_text::{from_json, to_json};
-use crate::search::{Place, finds};
+use crate::search::{SearchPlace, finds};
 use crate::status::Status;
 use crate::text::text_of_kind;
 use expr_reader::Function;
@@ -19,7 +19,7 @@ use flow_model::{Node, ValueFault};
 use std::alloc::Global;
 
 // A call of `contains`, `startsWith` or `endsWith`.
-fn call_finds(alloc: Global, place: Place, arguments: &[Item<'_>]) -> Result<Node, ValueFault>
+fn call_finds(alloc: Global, place: SearchPlace, arguments: &[Item<'_>]) -> Result<Node, ValueFault>
     ensures { Gives view result (with_two (finds_of place) (map item_seen arguments.now)) }
 {
     match arguments {
@@ -99,9 +99,9 @@ pub(crate) fn call(
     ensures { Gives view result (called function status (map item_seen arguments.now)) }
 {
     match function {
-        Function::Contains => call_finds(alloc, Place::Anywhere, arguments),
-        Function::StartsWith => call_finds(alloc, Place::Front, arguments),
-        Function::EndsWith => call_finds(alloc, Place::End, arguments),
+        Function::Contains => call_finds(alloc, SearchPlace::Anywhere, arguments),
+        Function::StartsWith => call_finds(alloc, SearchPlace::Front, arguments),
+        Function::EndsWith => call_finds(alloc, SearchPlace::End, arguments),
         Function::Format => call_format(alloc, arguments),
         Function::Join => call_join(alloc, arguments),
         Function::ToJson => call_to_json(alloc, arguments),

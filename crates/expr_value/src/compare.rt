@@ -5,7 +5,7 @@ ghost use Rattle.std.specs.Ordering.{is_eq};
 ghost use Rattle.expr_value.specs.Compare as compare;
 ghost use Rattle.expr_value.specs.Seen.{kind_seen};
 
-use crate::kind::Kind;
+use crate::kind::ValueKind;
 use crate::number::number_of;
 use expr_reader::{Equality, Relation};
 use flow_model::ValueFault;
@@ -31,7 +31,10 @@ fn number_order(left: Option<i64>, right: Option<i64>) -> Option<Ordering>
 }
 
 // The order of two values by number.
-fn order_by_number(left: Kind<'_>, right: Kind<'_>) -> Result<Option<Ordering>, ValueFault>
+fn order_by_number(
+    left: ValueKind<'_>,
+    right: ValueKind<'_>,
+) -> Result<Option<Ordering>, ValueFault>
     ensures { result ≡ compare.order_by_number (kind_seen left.entry) (kind_seen right.entry) }
 {
     match number_of(left) {
@@ -44,7 +47,7 @@ fn order_by_number(left: Kind<'_>, right: Kind<'_>) -> Result<Option<Ordering>, 
 }
 
 // Whether two values are equal by number.
-fn equals_by_number(left: Kind<'_>, right: Kind<'_>) -> Result<bool, ValueFault>
+fn equals_by_number(left: ValueKind<'_>, right: ValueKind<'_>) -> Result<bool, ValueFault>
     ensures { result
         ≡ compare.passes is_eq
         (compare.order_by_number (kind_seen left.entry) (kind_seen right.entry)) }
@@ -62,13 +65,15 @@ fn equals_by_number(left: Kind<'_>, right: Kind<'_>) -> Result<bool, ValueFault>
 ///
 /// `NoIdentity`: two lists or two maps are compared. `NotWhole`: a text that is compared by number writes one that
 /// is not whole, or out of range.
-pub(crate) fn equals(left: Kind<'_>, right: Kind<'_>) -> Result<bool, ValueFault>
+pub(crate) fn equals(left: ValueKind<'_>, right: ValueKind<'_>) -> Result<bool, ValueFault>
     ensures { result ≡ compare.equals (kind_seen left.entry) (kind_seen right.entry) }
 {
     match (left, right) {
-        (Kind::Truth(left), Kind::Truth(right)) => Ok(left == right),
-        (Kind::Text(left), Kind::Text(right)) => Ok(text_order(left, right).is_eq()),
-        (Kind::List, Kind::List) | (Kind::Map, Kind::Map) => Err(ValueFault::NoIdentity),
+        (ValueKind::Truth(left), ValueKind::Truth(right)) => Ok(left == right),
+        (ValueKind::Text(left), ValueKind::Text(right)) => Ok(text_order(left, right).is_eq()),
+        (ValueKind::List, ValueKind::List) | (ValueKind::Map, ValueKind::Map) => Err(
+            ValueFault::NoIdentity,
+        ),
         _ => equals_by_number(left, right),
     }
 }
@@ -80,8 +85,8 @@ pub(crate) fn equals(left: Kind<'_>, right: Kind<'_>) -> Result<bool, ValueFault
 /// As of `equals`.
 pub(crate) fn equality(
     equality: Equality,
-    left: Kind<'_>,
-    right: Kind<'_>,
+    left: ValueKind<'_>,
+    right: ValueKind<'_>,
 ) -> Result<bool, ValueFault>
     ensures { result
         ≡ compare.equality_of equality
@@ -111,8 +116,8 @@ fn admits(relation: Relation, order: Ordering) -> bool
 // Whether two values are so related by number.
 fn related_by_number(
     relation: Relation,
-    left: Kind<'_>,
-    right: Kind<'_>,
+    left: ValueKind<'_>,
+    right: ValueKind<'_>,
 ) -> Result<bool, ValueFault>
     ensures { result ≡ compare.passes (compare.admits relation)
         (compare.order_by_number (kind_seen left.entry) (kind_seen right.entry)) }
@@ -131,14 +136,17 @@ fn related_by_number(
 /// `NotWhole`: a text that is compared by number writes one that is not whole, or out of range.
 pub(crate) fn related(
     relation: Relation,
-    left: Kind<'_>,
-    right: Kind<'_>,
+    left: ValueKind<'_>,
+    right: ValueKind<'_>,
 ) -> Result<bool, ValueFault>
     ensures { result ≡ compare.related relation (kind_seen left.entry) (kind_seen right.entry) }
 {
     match (left, right) {
-        (Kind::Text(left), Kind::Text(right)) => Ok(admits(relation, text_order(left, right))),
-        (Kind::List, Kind::List) | (Kind::Map, Kind::Map) => Ok(false),
+        (ValueKind::Text(left), ValueKind::Text(right)) => Ok(admits(
+            relation,
+            text_order(left, right),
+        )),
+        (ValueKind::List, ValueKind::List) | (ValueKind::Map, ValueKind::Map) => Ok(false),
         _ => related_by_number(relation, left, right),
     }
 }

@@ -11,7 +11,7 @@ ghost use Rattle.flow_model.specs.Value.{view, views};
 
 use crate::compare::text_order;
 use crate::item::{Item, item_copies};
-use crate::kind::Kind;
+use crate::kind::ValueKind;
 use crate::number::number_of;
 use crate::text::text_of_kind;
 use flow_model::{Node, ValueFault, copy_node};
@@ -70,7 +70,7 @@ fn item_of(nodes: &[Node], number: Option<i64>) -> Option<&Node>
 }
 
 // What stands at an index in a list: the item at its number.
-fn index_nodes<'n>(nodes: &'n [Node], index: Kind<'_>) -> Result<Option<&'n Node>, ValueFault>
+fn index_nodes<'n>(nodes: &'n [Node], index: ValueKind<'_>) -> Result<Option<&'n Node>, ValueFault>
     ensures { Gives node_seen result
         (item_found (number_of_kind (kind_seen index.entry)) (views nodes.now)) }
 {
@@ -82,12 +82,12 @@ fn index_nodes<'n>(nodes: &'n [Node], index: Kind<'_>) -> Result<Option<&'n Node
 fn index_members<'n>(
     alloc: Global,
     members: &'n BTreeMap<String, Node>,
-    index: Kind<'_>,
+    index: ValueKind<'_>,
 ) -> Result<Option<&'n Node>, ValueFault>
     ensures { Gives node_seen result
         (Ok (property_in (text_of (kind_seen index.entry)) (members_seen members.now.entries))) }
 {
-    if let Kind::Text(name) = index {
+    if let ValueKind::Text(name) = index {
         return Ok(member(members, name));
     }
     let name = text_of_kind(alloc, index)?;
@@ -98,7 +98,7 @@ fn index_members<'n>(
 fn index_of<'n>(
     alloc: Global,
     node: &'n Node,
-    index: Kind<'_>,
+    index: ValueKind<'_>,
 ) -> Result<Option<&'n Node>, ValueFault>
     ensures { Gives node_seen result (index_of_value (kind_seen index.entry) (view node.now)) }
 {
@@ -113,7 +113,7 @@ fn index_of<'n>(
 #[derive(Clone, Copy)]
 pub(crate) enum Step<'s> {
     Property(&'s str),
-    Index(Kind<'s>),
+    Index(ValueKind<'s>),
 }
 
 // What stands at a step from a value.

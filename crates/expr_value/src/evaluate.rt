@@ -18,7 +18,7 @@ use crate::context::Context;
 use crate::dereference::{Found, Step, outside, step_found};
 use crate::filter::all_found;
 use crate::item::Item;
-use crate::kind::Kind;
+use crate::kind::ValueKind;
 use crate::status::Status;
 use crate::truth::truth_of;
 use expr_reader::{Equality, Function, Literal, Relation, Tree};
@@ -94,7 +94,7 @@ struct LeftSide<'a> {
 }
 
 // Whether two values pass a test.
-fn compared(test: Test, left: Kind<'_>, right: Kind<'_>) -> Result<bool, ValueFault>
+fn compared(test: Test, left: ValueKind<'_>, right: ValueKind<'_>) -> Result<bool, ValueFault>
     ensures { truth_answer result ≡ test_kinds test (kind_seen left.entry) (kind_seen right.entry) }
 {
     match test {

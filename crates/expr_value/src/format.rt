@@ -15,7 +15,7 @@ ghost use Rattle.flow_model.specs.Value.{view};
 use crate::bounded::Bounded;
 use crate::digits::digits_length;
 use crate::item::Item;
-use crate::kind::Kind;
+use crate::kind::ValueKind;
 use crate::text::push_kind;
 use flow_model::{Node, ValueFault};
 use std::alloc::Global;
@@ -77,7 +77,7 @@ fn number_of(digits: &str) -> Option<usize>
 }
 
 // The kind of the argument at a number, if there is one.
-fn argument_at<'a>(arguments: &'a [Item<'_>], digits: &str) -> Option<Kind<'a>>
+fn argument_at<'a>(arguments: &'a [Item<'_>], digits: &str) -> Option<ValueKind<'a>>
     requires some { 0 < length digits.now }
     requires digits { list_all is_digit_byte digits.now ≡ true }
     ensures { option_map kind_seen result
@@ -90,7 +90,7 @@ fn argument_at<'a>(arguments: &'a [Item<'_>], digits: &str) -> Option<Kind<'a>>
 }
 
 // The argument whose number stands at the front, after an opening brace, and what follows it.
-fn argument_piece<'a>(text: &'a str, arguments: &'a [Item<'_>]) -> Option<(Kind<'a>, &'a str)>
+fn argument_piece<'a>(text: &'a str, arguments: &'a [Item<'_>]) -> Option<(ValueKind<'a>, &'a str)>
     requires { BeginsOther (codes "{") text.now }
     ensures { Splits (texts_of arguments.now) (opened (texts_of arguments.now) text.now)
         (length text.now) result }
@@ -109,29 +109,29 @@ fn argument_piece<'a>(text: &'a str, arguments: &'a [Item<'_>]) -> Option<(Kind<
 }
 
 // What follows an opening brace: another one, or the number of an argument.
-fn opened_piece<'a>(text: &'a str, arguments: &'a [Item<'_>]) -> Option<(Kind<'a>, &'a str)>
+fn opened_piece<'a>(text: &'a str, arguments: &'a [Item<'_>]) -> Option<(ValueKind<'a>, &'a str)>
     ensures { Splits (texts_of arguments.now) (opened (texts_of arguments.now) text.now)
         (length text.now) result }
 {
     match after_brace(text, '{') {
-        Some(after) => Some((Kind::Text("{"), after)),
+        Some(after) => Some((ValueKind::Text("{"), after)),
         None => argument_piece(text, arguments),
     }
 }
 
 // What follows a closing brace: another one.
-fn closed_piece<'a>(text: &'a str, arguments: &[Item<'_>]) -> Option<(Kind<'a>, &'a str)>
+fn closed_piece<'a>(text: &'a str, arguments: &[Item<'_>]) -> Option<(ValueKind<'a>, &'a str)>
     ensures { Splits (texts_of arguments.now) (closed (texts_of arguments.now) text.now)
         (length text.now) result }
 {
     match after_brace(text, '}') {
-        Some(after) => Some((Kind::Text("}"), after)),
+        Some(after) => Some((ValueKind::Text("}"), after)),
         None => None,
     }
 }
 
 // The text before the first brace.
-fn plain_piece<'a>(text: &'a str, arguments: &[Item<'_>]) -> (Kind<'a>, &'a str)
+fn plain_piece<'a>(text: &'a str, arguments: &[Item<'_>]) -> (ValueKind<'a>, &'a str)
     requires some { 0 < length text.now }
     requires no_opening { BeginsOther (codes "{") text.now }
     requires no_closing { BeginsOther (codes "}") text.now }
@@ -139,12 +139,12 @@ fn plain_piece<'a>(text: &'a str, arguments: &[Item<'_>]) -> (Kind<'a>, &'a str)
         (length text.now - 1) (Some result) }
 {
     let (plain, rest) = split_plain(text);
-    (Kind::Text(plain), rest)
+    (ValueKind::Text(plain), rest)
 }
 
 // What stands at the front, as a kind that has its text, and what follows it: a brace and what belongs to it, or the
 // text before the first brace. None is no format.
-fn piece<'a>(text: &'a str, arguments: &'a [Item<'_>]) -> Option<(Kind<'a>, &'a str)>
+fn piece<'a>(text: &'a str, arguments: &'a [Item<'_>]) -> Option<(ValueKind<'a>, &'a str)>
     requires { 0 < length text.now }
     ensures { Splits (texts_of arguments.now) (formatted (texts_of arguments.now) text.now)
         (length text.now - 1) result }

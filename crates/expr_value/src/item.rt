@@ -6,7 +6,7 @@ ghost use Rattle.expr_value.specs.Kind.{kind_of as kind_of_value};
 ghost use Rattle.expr_value.specs.Seen.{kind_seen, item_seen, items_seen};
 ghost use Rattle.flow_model.specs.Value.{view, views};
 
-use crate::kind::{Kind, kind_of};
+use crate::kind::{ValueKind, kind_of};
 use flow_model::{Node, Value, ValueFault, copy_node};
 use std::alloc::{AllocError, Global};
 
@@ -29,7 +29,7 @@ impl Item<'_> {
     }
 
     /// The value's kind.
-    pub(crate) fn kind(&self) -> Kind<'_>
+    pub(crate) fn kind(&self) -> ValueKind<'_>
         ensures { kind_seen result ≡ kind_of_value (item_seen self.now) }
     {
         kind_of(self.node())

@@ -12,7 +12,7 @@ ghost use Rattle.expr_value.specs.Seen.{kind_seen};
 ghost use Rattle.flow_model.specs.Value.{view, views};
 
 use crate::bounded::{Bounded, limited};
-use crate::kind::{Kind, kind_of};
+use crate::kind::{ValueKind, kind_of};
 use crate::text::{push_kind, text_of_kind};
 use flow_model::{Node, ValueFault};
 use std::alloc::{AllocError, Global};
@@ -23,7 +23,7 @@ fn push_item(
     alloc: Global,
     separator: &str,
     first: bool,
-    kind: Kind<'_>,
+    kind: ValueKind<'_>,
 ) -> Result<(), AllocError>
     ensures { OnOk result (bounded.new
         ≡ grown bounded.old (item_text separator.now first (text_of (kind_seen kind.entry)))) }
@@ -49,7 +49,7 @@ fn join_nodes(alloc: Global, nodes: &[Node], separator: &str) -> Result<Node, Va
 }
 
 // The text of what is no list.
-fn join_kind(alloc: Global, kind: Kind<'_>) -> Result<Node, ValueFault>
+fn join_kind(alloc: Global, kind: ValueKind<'_>) -> Result<Node, ValueFault>
     ensures { Gives view result (limited_of (text_of (kind_seen kind.entry))) }
 {
     limited(text_of_kind(alloc, kind)?)

@@ -9,7 +9,7 @@ use flow_model::Node;
 
 /// A value, but of a list or a map only that it is one.
 #[derive(Clone, Copy)]
-pub(crate) enum Kind<'a> {
+pub(crate) enum ValueKind<'a> {
     Null,
     Truth(bool),
     Whole(i64),
@@ -19,25 +19,25 @@ pub(crate) enum Kind<'a> {
 }
 
 /// The kind of what a node stands for.
-pub(crate) fn kind_of(node: &Node) -> Kind<'_>
+pub(crate) fn kind_of(node: &Node) -> ValueKind<'_>
     ensures { kind_seen result ≡ kind_of_value (view node.now) }
 {
     match node {
-        Node::Null => Kind::Null,
-        Node::Truth(truth) => Kind::Truth(*truth),
-        Node::Whole(number) => Kind::Whole(*number),
-        Node::Text(text) => Kind::Text(text.as_str()),
-        Node::List(_) => Kind::List,
-        Node::Map(_) => Kind::Map,
+        Node::Null => ValueKind::Null,
+        Node::Truth(truth) => ValueKind::Truth(*truth),
+        Node::Whole(number) => ValueKind::Whole(*number),
+        Node::Text(text) => ValueKind::Text(text.as_str()),
+        Node::List(_) => ValueKind::List,
+        Node::Map(_) => ValueKind::Map,
     }
 }
 
 /// Whether it is a list or a map.
-pub(crate) fn is_collection(kind: Kind<'_>) -> bool
+pub(crate) fn is_collection(kind: ValueKind<'_>) -> bool
     ensures { result ≡ is_collection_of (kind_seen kind.entry) }
 {
     match kind {
-        Kind::Null | Kind::Truth(_) | Kind::Whole(_) | Kind::Text(_) => false,
-        Kind::List | Kind::Map => true,
+        ValueKind::Null | ValueKind::Truth(_) | ValueKind::Whole(_) | ValueKind::Text(_) => false,
+        ValueKind::List | ValueKind::Map => true,
     }
 }

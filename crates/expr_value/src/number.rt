@@ -10,7 +10,7 @@ ghost use Rattle.expr_value.specs.Number as number;
 ghost use Rattle.expr_value.specs.Seen.{kind_seen};
 
 use crate::digits::digits_length;
-use crate::kind::Kind;
+use crate::kind::ValueKind;
 use flow_model::ValueFault;
 use flow_model::within::GREATEST;
 
@@ -193,14 +193,14 @@ pub(crate) fn number_of_text(text: &str) -> Result<Option<i64>, ValueFault>
 /// # Errors
 ///
 /// `NotWhole`: a text writes a number that is not whole, or out of range.
-pub(crate) fn number_of(kind: Kind<'_>) -> Result<Option<i64>, ValueFault>
+pub(crate) fn number_of(kind: ValueKind<'_>) -> Result<Option<i64>, ValueFault>
     ensures { result ≡ number_of_kind (kind_seen kind.entry) }
 {
     match kind {
-        Kind::Null => Ok(Some(0)),
-        Kind::Truth(truth) => Ok(Some(if truth { 1 } else { 0 })),
-        Kind::Whole(number) => Ok(Some(number)),
-        Kind::Text(text) => number_of_text(text),
-        Kind::List | Kind::Map => Ok(None),
+        ValueKind::Null => Ok(Some(0)),
+        ValueKind::Truth(truth) => Ok(Some(if truth { 1 } else { 0 })),
+        ValueKind::Whole(number) => Ok(Some(number)),
+        ValueKind::Text(text) => number_of_text(text),
+        ValueKind::List | ValueKind::Map => Ok(None),
     }
 }

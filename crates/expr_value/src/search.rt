@@ -11,32 +11,32 @@ ghost use Rattle.flow_model.specs.Value.{view, views};
 
 use crate::compare::equals;
 use crate::item::Item;
-use crate::kind::{Kind, is_collection, kind_of};
+use crate::kind::{ValueKind, is_collection, kind_of};
 use crate::text::text_of_kind;
 use flow_model::Node;
 use std::alloc::{AllocError, Global};
 
 /// Where a text is looked for in another.
 #[derive(Clone, Copy)]
-pub(crate) enum Place {
+pub(crate) enum SearchPlace {
     Anywhere,
     Front,
     End,
 }
 
 // Whether a part stands at the place in a text.
-fn stands_at(place: Place, text: &str, part: &str) -> bool
+fn stands_at(place: SearchPlace, text: &str, part: &str) -> bool
     ensures { result ≡ stands_at_of place text.now part.now }
 {
     match place {
-        Place::Anywhere => text.contains(part),
-        Place::Front => text.starts_with(part),
-        Place::End => text.ends_with(part),
+        SearchPlace::Anywhere => text.contains(part),
+        SearchPlace::Front => text.starts_with(part),
+        SearchPlace::End => text.ends_with(part),
     }
 }
 
 // The text of a kind, with A to Z replaced by a to z.
-fn folded(alloc: Global, kind: Kind<'_>) -> Result<String, AllocError>
+fn folded(alloc: Global, kind: ValueKind<'_>) -> Result<String, AllocError>
     ensures { IfOk result (λ text. string_bytes text ≡ fold (text_of (kind_seen kind.entry))) }
 {
     let mut text = text_of_kind(alloc, kind)?;
@@ -47,9 +47,9 @@ fn folded(alloc: Global, kind: Kind<'_>) -> Result<String, AllocError>
 // Whether a part's text stands at the place in a text, ignoring case; not where either is a list or a map.
 fn folds_pass(
     alloc: Global,
-    place: Place,
-    text: Kind<'_>,
-    part: Kind<'_>,
+    place: SearchPlace,
+    text: ValueKind<'_>,
+    part: ValueKind<'_>,
 ) -> Result<bool, AllocError>
     ensures { IfOk result (λ b. b
         ≡ folds_pass_of (stands_at_of place) (kind_seen text.entry) (kind_seen part.entry)) }
@@ -63,14 +63,14 @@ fn folds_pass(
 }
 
 // Whether an item equals a value; one for which `==` faults does not.
-fn is_match(value: Kind<'_>, item: &Node) -> bool
+fn is_match(value: ValueKind<'_>, item: &Node) -> bool
     ensures { result ≡ is_match_of (kind_seen value.entry) (view item.now) }
 {
     matches!(equals(kind_of(item), value), Ok(true))
 }
 
 // Whether some item of a list equals a value.
-fn any_match(nodes: &[Node], value: Kind<'_>) -> bool
+fn any_match(nodes: &[Node], value: ValueKind<'_>) -> bool
     ensures { result ≡ list_any (is_match_of (kind_seen value.entry)) (views nodes.now) }
 {
     for node in nodes {
@@ -82,13 +82,13 @@ fn any_match(nodes: &[Node], value: Kind<'_>) -> bool
 }
 
 // Whether an item of a list equals a value, or its text stands in a text.
-fn contains(alloc: Global, node: &Node, value: Kind<'_>) -> Result<bool, AllocError>
+fn contains(alloc: Global, node: &Node, value: ValueKind<'_>) -> Result<bool, AllocError>
     ensures { IfOk result (λ b. b ≡ contains_kind (view node.now) (kind_seen value.entry)) }
 {
     match node {
         Node::List(nodes) => Ok(any_match(nodes.as_slice(), value)),
         Node::Null | Node::Truth(_) | Node::Whole(_) | Node::Text(_) | Node::Map(_) => {
-            folds_pass(alloc, Place::Anywhere, kind_of(node), value)
+            folds_pass(alloc, SearchPlace::Anywhere, kind_of(node), value)
         },
     }
 }
@@ -97,7 +97,7 @@ fn contains(alloc: Global, node: &Node, value: Kind<'_>) -> Result<bool, AllocEr
 /// list.
 pub(crate) fn finds(
     alloc: Global,
-    place: Place,
+    place: SearchPlace,
     item: &Item<'_>,
     value: &Item<'_>,
 ) -> Result<bool, AllocError>
@@ -105,7 +105,12 @@ pub(crate) fn finds(
         (λ b. b ≡ finds_of place (item_seen item.now) (item_seen value.now)) }
 {
     match place {
-        Place::Anywhere => contains(alloc, item.node(), value.kind()),
-        Place::Front | Place::End => folds_pass(alloc, place, item.kind(), value.kind()),
+        SearchPlace::Anywhere => contains(alloc, item.node(), value.kind()),
+        SearchPlace::Front | SearchPlace::End => folds_pass(
+            alloc,
+            place,
+            item.kind(),
+            value.kind(),
+        ),
     }
 }

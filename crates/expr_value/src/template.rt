@@ -18,7 +18,7 @@ use crate::bounded::{Bounded, MOST_BYTES};
 use crate::context::Context;
 use crate::evaluate::evaluate;
 use crate::item::{Item, into_value};
-use crate::kind::Kind;
+use crate::kind::ValueKind;
 use crate::status::Status;
 use crate::text::push_kind;
 use crate::truth::truth_of;
@@ -27,12 +27,16 @@ use flow_model::{Node, Value, ValueFault};
 use std::alloc::Global;
 
 // Whether it is a text beyond the limit.
-fn is_too_large(kind: Kind<'_>) -> bool
+fn is_too_large(kind: ValueKind<'_>) -> bool
     ensures { result ≡ is_too_large_of (kind_seen kind.entry) }
 {
     match kind {
-        Kind::Text(text) => text.len() > MOST_BYTES,
-        Kind::Null | Kind::Truth(_) | Kind::Whole(_) | Kind::List | Kind::Map => false,
+        ValueKind::Text(text) => text.len() > MOST_BYTES,
+        ValueKind::Null
+        | ValueKind::Truth(_)
+        | ValueKind::Whole(_)
+        | ValueKind::List
+        | ValueKind::Map => false,
     }
 }
 

@@ -7,7 +7,7 @@ ghost use Rattle.expr_value.specs.Kind.{kind_of as kind_of_value};
 ghost use Rattle.expr_value.specs.Seen.{kind_seen};
 
 use crate::bounded::Bounded;
-use crate::kind::{Kind, kind_of};
+use crate::kind::{ValueKind, kind_of};
 use flow_model::{Text, Value};
 use std::alloc::{AllocError, Global};
 
@@ -15,36 +15,36 @@ use std::alloc::{AllocError, Global};
 pub(crate) fn push_kind(
     bounded: &mut Bounded,
     alloc: Global,
-    kind: Kind<'_>,
+    kind: ValueKind<'_>,
 ) -> Result<(), AllocError>
     ensures { OnOk result (bounded.new ≡ grown bounded.old (text_of (kind_seen kind.entry))) }
 {
     match kind {
-        Kind::Null => bounded.push_str(""),
-        Kind::Truth(true) => bounded.push_str("true"),
-        Kind::Truth(false) => bounded.push_str("false"),
-        Kind::Whole(number) => {
+        ValueKind::Null => bounded.push_str(""),
+        ValueKind::Truth(true) => bounded.push_str("true"),
+        ValueKind::Truth(false) => bounded.push_str("false"),
+        ValueKind::Whole(number) => {
             let digits = number.to_string(alloc)?;
             bounded.push_str(digits.as_str())
         },
-        Kind::Text(text) => bounded.push_str(text),
-        Kind::List => bounded.push_str("Array"),
-        Kind::Map => bounded.push_str("Object"),
+        ValueKind::Text(text) => bounded.push_str(text),
+        ValueKind::List => bounded.push_str("Array"),
+        ValueKind::Map => bounded.push_str("Object"),
     }
 }
 
 /// The text of a kind, whatever its length.
-pub(crate) fn text_of_kind(alloc: Global, kind: Kind<'_>) -> Result<String, AllocError>
+pub(crate) fn text_of_kind(alloc: Global, kind: ValueKind<'_>) -> Result<String, AllocError>
     ensures { IfOk result (λ text. string_bytes text ≡ text_of (kind_seen kind.entry)) }
 {
     match kind {
-        Kind::Null => Ok(String::new(alloc)),
-        Kind::Truth(true) => String::from_str(alloc, "true"),
-        Kind::Truth(false) => String::from_str(alloc, "false"),
-        Kind::Whole(number) => number.to_string(alloc),
-        Kind::Text(text) => String::from_str(alloc, text),
-        Kind::List => String::from_str(alloc, "Array"),
-        Kind::Map => String::from_str(alloc, "Object"),
+        ValueKind::Null => Ok(String::new(alloc)),
+        ValueKind::Truth(true) => String::from_str(alloc, "true"),
+        ValueKind::Truth(false) => String::from_str(alloc, "false"),
+        ValueKind::Whole(number) => number.to_string(alloc),
+        ValueKind::Text(text) => String::from_str(alloc, text),
+        ValueKind::List => String::from_str(alloc, "Array"),
+        ValueKind::Map => String::from_str(alloc, "Object"),
     }
 }
 

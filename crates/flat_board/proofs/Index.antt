@@ -1,24 +1,17 @@
 -- What the index of groups tells of a board.
-use Rattle.std.proofs.Common.{◌≡◌, ◌⊎◌, ℕ, inl, inr, true, false, List, [], ◌∷◌, Option, Some, None, Result, Ok, Err, option_map, option_and_then, if◌then◌else◌, ap, refl, ◌∙◌}
+use Rattle.std.proofs.Common.{◌≡◌, ◌⊎◌, ℕ, inl, inr, false, List, [], ◌∷◌, Option, Some, None, option_map, option_and_then, if◌then◌else◌, ap, refl, ◌∙◌}
 use Rattle.expr_reader.specs.Fold.{fold}
 use Rattle.flow_model.specs.Mapping.{value_at, with_pair}
 use Rattle.flow_model.specs.declared.board.Board.{Board}
 use Rattle.flow_model.specs.declared.event.Member.{Member}
 use Rattle.flow_model.specs.declared.event.Member.TheVariants as member
 use Rattle.group_admission.specs.Content.{Content, holder_of, waiter_of, after_enter, after_at, is_own as own_run}
-use Rattle.group_admission.specs.Known.{Known, content}
 use Rattle.group_admission.specs.declared.held.Held.{Held}
 use Rattle.status_table.specs.Grouped.{KeptAsShown}
 use Rattle.status_table.specs.Groups.{holder, is_own, waiter}
-use Rattle.flat_board.specs.Index.{Goes}
 use Rattle.flat_board.specs.Undo.{IsAt, NameChanged}
 use Rattle.flow_model.proofs.Lookups.{found_other, found_same}
 use Rattle.flat_board.specs.Names.{IsName}
-
--- an event that asks nothing of the groups leaves them
-pub goes_same : {T E : Type 0} (r : Result T E) (groups : Known) → Goes r groups (content groups) groups
-goes_same (Ok x) groups = record { held = refl; known = λ name h. h }
-goes_same (Err f) groups = refl
 
 -- who holds the name of a group, by the index
 pub holder_told : (groups : Content) (b : Board) (name : List ℕ) → IsName name → KeptAsShown groups b → holder_of (fold name) groups ≡ holder b name
@@ -33,13 +26,6 @@ pub own_same : (own : Option ℕ) (h : Member) → own_run own h ≡ is_own own 
 own_same None h = refl
 own_same (Some r) (member.Run s) = refl
 own_same (Some r) (member.Leg l) = refl
-
--- a leg whose own run holds the name gets no place
-pub own_stays : (groups : Content) (name : List ℕ) (who : Member) (held : Held) (own : Option ℕ) → value_at name groups ≡ Some held → is_own own held.holder ≡ true → after_enter name who own groups ≡ groups
-own_stays groups [] who held own at mine = refl
-own_stays groups (c ∷ cs) who held own at mine =
-    ap (λ o. after_at (c ∷ cs) who own o groups) at
-    ∙ ap (λ d. if d then groups else with_pair (c ∷ cs) (record { holder = held.holder; waiter = Some who }) groups) (own_same own held.holder ∙ mine)
 
 -- ---- what leads back from a member that entered
 

@@ -48,11 +48,6 @@ pub field_last_refused : (done : List (List ℕ × List ℕ)) (text : List ℕ) 
 field_last_refused done text split is =
     ap (λ fields. pairs_onto done (all_pairs fields)) (fields_of-one text split) ∙ ap (λ o. pairs_onto done (then_pairs o (Some []))) is
 
--- none before
-pub pairs_onto-nil : (o : Option (List (List ℕ × List ℕ))) → pairs_onto [] o ≡ o
-pairs_onto-nil None = refl
-pairs_onto-nil (Some pairs) = refl
-
 -- ---- the line that resumes
 
 eq_true : (xs ys : List ℕ) → xs ≡ ys → bytes_eq xs ys ≡ true

@@ -2,11 +2,10 @@
 use Rattle.std.proofs.Common.{◌≡◌, ℕ, Bool, true, false, cond, Option, Some, None, Ok, Err, List, [], ◌∷◌, ◌++◌, refl, sym, ap, subst, ◌∙◌, append_assoc, append-nil}
 use Rattle.std.specs.Str.{bytes_eq, is_utf8, IsUtf8}
 use Rattle.std.proofs.lemmas.Str.{is_utf8-from_IsUtf8, IsUtf8-from_is_utf8}
-use Rattle.flow_model.specs.Mapping.{with_pair}
-use Rattle.flow_commands.specs.PairFiles.{Pair, Reading, block, is_value, is_kept, with_kept, head_of, preceded, joined, before_pairs, then_pairs, headed, pairs_of, pairs_inside, with_pairs, kept, then_with, limited, pairs_in, Refuses, Gives}
+use Rattle.flow_commands.specs.PairFiles.{Pair, Reading, block, head_of, joined, then_pairs, headed, pairs_of, pairs_inside, then_with, limited, pairs_in, Refuses, Gives}
 use Rattle.flow_commands.specs.declared.pair_file.PairFile.{PairFile}
 use Rattle.flow_model.specs.Lines.{lines_of}
-use Rattle.flow_commands.specs.Blocks.{onto_lines, block_lines, added, value_from, block_value, Opens}
+use Rattle.flow_commands.specs.Blocks.{onto_lines, block_lines, value_from, block_value, Opens}
 use Rattle.flow_commands.specs.declared.output_fault.OutputFault.{OutputFault}
 use Rattle.flow_commands.specs.declared.output_fault.OutputFault.TheVariants.{NotUtf8, NoName, OpenBlock, TooMany, Memory}
 
@@ -58,62 +57,12 @@ block_open file name delimiter lines h = inside_is file name delimiter [] lines 
     by_lines None is = refl
     by_lines (Some x) is = cc
 
--- a line more of a block
-pub value_more : (first : Bool) (value line : List ℕ) (o : Option (List (List ℕ) × List (List ℕ)))
-    → value_from false (value ++ added first line) o ≡ value_from first value (onto_lines line o)
-value_more first value line None = refl
-value_more true value line (Some x) = ap (λ v. Some (v, x.1)) (append_assoc value line (preceded x.0))
-value_more false value line (Some x) = ap (λ v. Some (v, x.1)) (append_assoc value (10 ∷ line) (preceded x.0))
-
 -- the line that ends a block, and one that does not
 pub block_ends : (line delimiter : List ℕ) (lines : List (List ℕ)) → bytes_eq line delimiter ≡ true
     → block_lines delimiter (line ∷ lines) ≡ Some ([], lines)
 block_ends line delimiter lines is = ap (λ t. cond t (Some ([], lines)) (onto_lines line (block_lines delimiter lines))) is
 
-pub block_further : (line delimiter : List ℕ) (lines : List (List ℕ)) → bytes_eq line delimiter ≡ false
-    → block_lines delimiter (line ∷ lines) ≡ onto_lines line (block_lines delimiter lines)
-block_further line delimiter lines is = ap (λ t. cond t (Some ([], lines)) (onto_lines line (block_lines delimiter lines))) is
-
--- the value ends
-pub value_ends : (first : Bool) (value : List ℕ) (lines : List (List ℕ)) → value_from first value (Some ([], lines)) ≡ Some (value, lines)
-value_ends true value lines = ap (λ v. Some (v, lines)) (append-nil value)
-value_ends false value lines = ap (λ v. Some (v, lines)) (append-nil value)
-
 -- ---- the map
-
--- what a pair sets, where it is kept
-set_kept : (file : PairFile) (map : List Pair) (p : Pair) (pairs : List Pair)
-    → with_pairs map (kept file (p ∷ pairs)) ≡ with_pairs (with_kept file p map) (kept file pairs)
-set_kept file map p pairs = by_test (is_kept file p.0)
-  where
-    by_test : (t : Bool)
-        → with_pairs map (cond t (p ∷ kept file pairs) (kept file pairs)) ≡ with_pairs (cond t (with_pair p.0 p.1 map) map) (kept file pairs)
-    by_test true = refl
-    by_test false = refl
-
--- a pair that was read and has a value is set, where it is kept
-pub pair_set : (file : PairFile) (map new : List Pair) (p : Pair) → is_value file p.1 ≡ true → new ≡ with_kept file p map
-    → (rest : Reading) → then_with file map (then_pairs file p rest) ≡ then_with file new rest
-pair_set file map new p valued is rest =
-    ap (λ (t : Bool). then_with file map (cond t (before_pairs p rest) (Err NoName))) valued
-    ∙ by_rest rest ∙ ap (λ (m : List Pair). then_with file m rest) (sym is)
-  where
-    by_rest : (r : Reading) → then_with file map (before_pairs p r) ≡ then_with file (with_kept file p map) r
-    by_rest (Ok pairs) = ap (λ (m : List Pair). Ok m) (set_kept file map p pairs)
-    by_rest (Err fault) = refl
-
--- and one that has none is refused
-pub pair_refused : (file : PairFile) (p : Pair) → is_value file p.1 ≡ false → (rest : Reading) → then_pairs file p rest ≡ Err NoName
-pair_refused file p unvalued rest = ap (λ (t : Bool). cond t (before_pairs p rest) (Err NoName)) unvalued
-
--- a refusal of the pairs refuses the map
-pub refused_with : (file : PairFile) (map : List Pair) (fault : OutputFault) (r : Reading) → Refuses fault r
-    → Refuses fault (then_with file map r)
-refused_with file map NotUtf8 r h = ap (then_with file map) h
-refused_with file map NoName r h = ap (then_with file map) h
-refused_with file map OpenBlock r h = ap (then_with file map) h
-refused_with file map TooMany r h = ap (then_with file map) h
-refused_with file map Memory r h = tt
 
 -- ---- the file
 

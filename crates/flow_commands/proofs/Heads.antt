@@ -16,9 +16,6 @@ first_same b c text other h = cc
 bytes_of : (file : PairFile) (name : List ℕ) → is_name file name ≡ true → list_all (names file) name ≡ true
 bytes_of file name h = (both (nat_le 1 (length name)) (list_all (names file) name) h).1
 
-some_of : (file : PairFile) (name : List ℕ) → is_name file name ≡ true → 0 < length name
-some_of file name h = let some = (both (nat_le 1 (length name)) (list_all (names file) name) h).0 in grind (arith, nat_tests, some)
-
 -- one at least
 pub at_least : (n : ℕ) → 0 < n → nat_le 1 n ≡ true
 at_least n some = grind (arith, nat_tests)

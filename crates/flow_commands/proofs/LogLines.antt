@@ -1,8 +1,7 @@
 -- The lines of a log that are told, one more.
-use Rattle.std.proofs.Common.{◌≡◌, ℕ, Bool, true, false, if◌then◌else◌, codes, string_bytes, Option, Some, None, List, [], ◌∷◌, ◌++◌, flat_map, refl, sym, ap, ◌∙◌, append_assoc, append-nil}
+use Rattle.std.proofs.Common.{◌≡◌, ℕ, Bool, true, false, if◌then◌else◌, codes, string_bytes, Option, Some, None, List, [], ◌∷◌, ◌++◌, flat_map, refl, sym, ap, ◌∙◌, append_assoc}
 use Rattle.std.proofs.lemmas.List.Concat.{flat_map-append}
 use Rattle.std.specs.Str.{is_utf8}
-use Rattle.flow_model.specs.Lines.{lines_of}
 use Rattle.flow_commands.specs.CommandTexts.{commands, is_resuming, opened, read_as, read_from, stopped_by}
 use Rattle.flow_commands.specs.Logs.{bytes_told, leg_masks, line_text, lines_text, lines_told, logs_text, no_text, of_leg, told_with}
 use Rattle.flow_commands.specs.Shown.{line_shown, masked_line, masks_added, shown}
@@ -53,24 +52,3 @@ line_told given old new line read reads shows adds lines =
     (text_told given old.masks new.masks (string_bytes old.shown) (string_bytes new.shown) read rest shows adds)
     ∙ ap (λ (ms : List (List ℕ)). (string_bytes new.shown ++ lines_text (shown (given ++ new.masks) rest), ms))
     (sym (append_assoc old.masks (masks_added read) (flat_map masks_added rest)) ∙ ap (λ (ms : List (List ℕ)). ms ++ flat_map masks_added rest) (sym adds))
-
--- a plain line was
-pub plain_told : (given : List (List ℕ)) (old new : LogTeller) (line : List ℕ)
-    → ((stop : Option (List ℕ)) (lines : List (List ℕ)) → read_from stop (line ∷ lines) ≡ Plain line ∷ read_from stop lines)
-    → string_bytes new.shown ≡ string_bytes old.shown ++ lines_text (masked_line (given ++ old.masks) (Some line))
-    → new.masks ≡ old.masks → new.stop ≡ old.stop
-    → (lines : List (List ℕ)) → told_with given old (line ∷ lines) ≡ told_with given new lines
-plain_told given old new line plain shows masks stop =
-    line_told given old new line (Plain line)
-    (λ lines. plain old.stop lines ∙ ap (λ s. Plain line ∷ read_from s lines) (sym stop))
-    shows
-    (masks ∙ sym (append-nil old.masks))
-
--- the next of several lines was
-pub lines_more : (given : List (List ℕ)) (first old new : LogTeller) (text rest line after : List ℕ)
-    → ((lines : List (List ℕ)) → told_with given first (lines_of text ++ lines) ≡ told_with given old (lines_of rest ++ lines))
-    → lines_of rest ≡ line ∷ lines_of after
-    → ((lines : List (List ℕ)) → told_with given old (line ∷ lines) ≡ told_with given new lines)
-    → (lines : List (List ℕ)) → told_with given first (lines_of text ++ lines) ≡ told_with given new (lines_of after ++ lines)
-lines_more given first old new text rest line after sofar cut told lines =
-    sofar lines ∙ ap (λ (ls : List (List ℕ)). told_with given old (ls ++ lines)) cut ∙ told (lines_of after ++ lines)

@@ -5,13 +5,13 @@ use Rattle.serde_json.specs.Find.{get, at}
 use Rattle.flow_lint.specs.Keys.{kind_at}
 use Rattle.flow_lint.specs.Kinds.{level_in}
 use Rattle.flow_lint.specs.Places.{Place, StandsAt, Way, key, item, follow, below, inner, kind_of, level_of, Repeats, IsRepeated}
-use Rattle.flow_lint.specs.declared.kind.Kind.{Kind}
-use Rattle.flow_lint.specs.declared.kind.Kind.TheVariants as kinds
+use Rattle.flow_lint.specs.declared.kind.NodeKind.{NodeKind}
+use Rattle.flow_lint.specs.declared.kind.NodeKind.TheVariants as kinds
 
 level_inside : (name : List ℕ) (p : Place) (ways : List Way) → p.kind ≡ kind_of ways → p.level ≡ level_of ways
     → level_in (kind_at p.kind name) p.level ≡ level_in (kind_at (kind_of ways) name) (level_of ways)
 level_inside name p ways is_kind is_level =
-    ap (λ (k : Kind). level_in (kind_at k name) p.level) is_kind ∙ ap (level_in (kind_at (kind_of ways) name)) is_level
+    ap (λ (k : NodeKind). level_in (kind_at k name) p.level) is_kind ∙ ap (level_in (kind_at (kind_of ways) name)) is_level
 
 member_inside : (root : Data) (path name : List ℕ) (p : Place) (e : Data) → StandsAt root path p → get name p.value ≡ Some e
     → StandsAt root (below path name) (inner p name e)
@@ -19,7 +19,7 @@ member_inside root path name p e s h = record {
   ways = key name ∷ s.ways;
   is_path = ap (λ (front : List ℕ). below front name) s.is_path;
   is_around = s.is_kind;
-  is_kind = ap (λ (k : Kind). kind_at k name) s.is_kind;
+  is_kind = ap (λ (k : NodeKind). kind_at k name) s.is_kind;
   is_level = level_inside name p s.ways s.is_kind s.is_level;
   is_last = refl;
   stands = ap (option_and_then (follow (key name))) s.stands ∙ h;
@@ -39,7 +39,7 @@ item_inside root path place p e s h = record {
   ways = item place ∷ s.ways;
   is_path = ap (λ (front : List ℕ). below front (decimal place)) s.is_path;
   is_around = s.is_kind;
-  is_kind = ap (λ (k : Kind). kind_at k (decimal place)) s.is_kind;
+  is_kind = ap (λ (k : NodeKind). kind_at k (decimal place)) s.is_kind;
   is_level = level_inside (decimal place) p s.ways s.is_kind s.is_level;
   is_last = refl;
   stands = ap (option_and_then (follow (item place))) s.stands ∙ h;

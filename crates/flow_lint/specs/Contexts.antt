@@ -3,7 +3,7 @@ use Rattle.std.specs.Prelude.{◌≡◌, ◌⊎◌}
 use Rattle.expr_reader.specs.declared.tree.Context.{Context}
 use Rattle.expr_reader.specs.declared.tree.Context.TheVariants as contexts
 use Rattle.flow_lint.specs.Places.{Place}
-use Rattle.flow_lint.specs.declared.kind.Kind.TheVariants as kinds
+use Rattle.flow_lint.specs.declared.kind.NodeKind.TheVariants as kinds
 use Rattle.flow_lint.specs.declared.kind.Level.TheVariants as levels
 
 -- A place is of a step, or of the directory that scripts share, which each of them reads.

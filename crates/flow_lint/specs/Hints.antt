@@ -15,7 +15,7 @@ use Rattle.flow_lint.specs.Kinds.{IsTemplate}
 use Rattle.flow_lint.specs.Nodes.{place_of}
 use Rattle.flow_lint.specs.Places.{Place, StandsAt, ShowsNeed, below}
 use Rattle.flow_lint.specs.Unknown.{Suggests, idle_key, job_ids, key_names, unknown_id, unknown_key}
-use Rattle.flow_lint.specs.declared.kind.Kind.TheVariants as kinds
+use Rattle.flow_lint.specs.declared.kind.NodeKind.TheVariants as kinds
 use Rattle.flow_lint.specs.declared.node.Node.{Node}
 use Rattle.flow_lint.specs.declared.note.Note.{Note}
 

@@ -2,12 +2,12 @@
 -- be read.
 use Rattle.std.specs.Prelude.{ℕ, if◌then◌else◌, List, [], ◌∷◌, codes}
 use Rattle.std.specs.Str.{bytes_eq}
-use Rattle.flow_lint.specs.declared.kind.Kind.{Kind}
-use Rattle.flow_lint.specs.declared.kind.Kind.TheVariants.{Workflow, Jobs, Job, Steps, Step, Plain, Id, Needs, Need, Condition, Flag, Env, Variable, With, Input, Outputs, Output, Group, GroupName, Defaults, Scripts, Shell, Directory, SharedDirectory, Run, Strategy, FailFast, MaxParallel, Matrix, Values, Entries, Triggers, Event, Idle, LeftOut, Unknown}
+use Rattle.flow_lint.specs.declared.kind.NodeKind.{NodeKind}
+use Rattle.flow_lint.specs.declared.kind.NodeKind.TheVariants.{Workflow, Jobs, Job, Steps, Step, Plain, Id, Needs, Need, Condition, Flag, Env, Variable, With, Input, Outputs, Output, Group, GroupName, Defaults, Scripts, Shell, Directory, SharedDirectory, Run, Strategy, FailFast, MaxParallel, Matrix, Values, Entries, Triggers, Event, Idle, LeftOut, Unknown}
 
 -- Keys, each with what stands there.
 abbrev pub Keys : Type 0
-Keys = List (List ℕ × Kind)
+Keys = List (List ℕ × NodeKind)
 
 -- Of the workflow. `true` is what YAML 1.1 makes of `on`.
 abbrev pub workflow_keys : Keys
@@ -49,7 +49,7 @@ abbrev pub matrix_keys : Keys
 matrix_keys = (codes "include", Entries) ∷ (codes "exclude", Entries) ∷ []
 
 -- The keys that have a meaning within what is of this kind.
-abbrev pub known_keys : Kind → Keys
+abbrev pub known_keys : NodeKind → Keys
 known_keys Workflow = workflow_keys
 known_keys Jobs = []
 known_keys Job = job_keys
@@ -88,7 +88,7 @@ known_keys LeftOut = []
 known_keys Unknown = []
 
 -- What stands there at any other key, or at a number of a list: a job behind its id, a variable behind its name.
-abbrev pub other_kind : Kind → Kind
+abbrev pub other_kind : NodeKind → NodeKind
 other_kind Workflow = Unknown
 other_kind Jobs = Job
 other_kind Job = Unknown
@@ -127,10 +127,10 @@ other_kind LeftOut = Unknown
 other_kind Unknown = Unknown
 
 -- What stands at a key by a table, or else this.
-abbrev pub kind_in : Keys → Kind → List ℕ → Kind
+abbrev pub kind_in : Keys → NodeKind → List ℕ → NodeKind
 kind_in [] other name = other
 kind_in ((known, kind) ∷ keys) other name = if bytes_eq known name then kind else kind_in keys other name
 
 -- What stands at a key of what is of this kind.
-abbrev pub kind_at : Kind → List ℕ → Kind
+abbrev pub kind_at : NodeKind → List ℕ → NodeKind
 kind_at kind name = kind_in (known_keys kind) (other_kind kind) name

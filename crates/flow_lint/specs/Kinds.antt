@@ -1,39 +1,39 @@
 -- What the places of a kind have in common.
 use Rattle.std.specs.Prelude.{◌≡◌, ℕ, ◌⊎◌, List, codes}
-use Rattle.flow_lint.specs.declared.kind.Kind.{Kind}
-use Rattle.flow_lint.specs.declared.kind.Kind.TheVariants as kinds
+use Rattle.flow_lint.specs.declared.kind.NodeKind.{NodeKind}
+use Rattle.flow_lint.specs.declared.kind.NodeKind.TheVariants as kinds
 use Rattle.flow_lint.specs.declared.kind.Level.{Level}
 use Rattle.flow_lint.specs.declared.kind.Level.TheVariants as levels
 
 -- A value is read there, and each number in it has to be whole.
-abbrev pub WantsWhole : Kind → Type 0
+abbrev pub WantsWhole : NodeKind → Type 0
 WantsWhole k =
     (k ≡ kinds.Variable) ⊎ ((k ≡ kinds.Input) ⊎ ((k ≡ kinds.Values) ⊎ ((k ≡ kinds.Entries) ⊎ (k ≡ kinds.MaxParallel))))
 
 -- A value is written there, and no expression that gives one.
-abbrev pub WantsValue : Kind → Type 0
+abbrev pub WantsValue : NodeKind → Type 0
 WantsValue k =
     (k ≡ kinds.FailFast) ⊎ ((k ≡ kinds.MaxParallel) ⊎ ((k ≡ kinds.Matrix) ⊎ ((k ≡ kinds.Values) ⊎ (k ≡ kinds.Entries))))
 
 -- The text there is evaluated as a template.
-abbrev pub IsTemplate : Kind → Type 0
+abbrev pub IsTemplate : NodeKind → Type 0
 IsTemplate k =
     (k ≡ kinds.Variable) ⊎ ((k ≡ kinds.Input) ⊎ ((k ≡ kinds.Output) ⊎ ((k ≡ kinds.Group) ⊎ ((k ≡ kinds.GroupName)
     ⊎ ((k ≡ kinds.Flag) ⊎ ((k ≡ kinds.Run) ⊎ ((k ≡ kinds.Directory) ⊎ (k ≡ kinds.SharedDirectory))))))))
 
 -- What a job needs stands there: an id alone, or one of a list.
-abbrev pub IsNeed : Kind → Type 0
+abbrev pub IsNeed : NodeKind → Type 0
 IsNeed k = (k ≡ kinds.Needs) ⊎ (k ≡ kinds.Need)
 
 -- The key has to be in what is of this kind.
-abbrev pub Wants : Kind → List ℕ → Type 0
+abbrev pub Wants : NodeKind → List ℕ → Type 0
 Wants k key =
     ((k ≡ kinds.Workflow) × ((key ≡ codes "on") ⊎ (key ≡ codes "jobs")))
     ⊎ (((k ≡ kinds.Job) × (key ≡ codes "steps"))
     ⊎ (((k ≡ kinds.Group) × (key ≡ codes "group")) ⊎ ((k ≡ kinds.Step) × (key ≡ codes "run"))))
 
 -- To what a place of this kind belongs, where what it stands in belongs to this.
-abbrev pub level_in : Kind → Level → Level
+abbrev pub level_in : NodeKind → Level → Level
 level_in kinds.Workflow around = around
 level_in kinds.Jobs around = around
 level_in kinds.Job around = levels.Job

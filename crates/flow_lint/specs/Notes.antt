@@ -44,7 +44,7 @@ abbrev pub OfJson : Option Data → (Data → Type 0) → Type 0
 OfJson None Fact = Unit {0}
 OfJson (Some root) Fact = Fact root
 
--- The same of a file's bytes.
+-- Where a fault is told of a file's bytes.
 abbrev pub IsFlowPlace : List ℕ → FlowFault → List ℕ → Type 0
 IsFlowPlace bytes fault path = OfJson (json_read bytes) (λ root. FlowPlace root fault path)
 
@@ -81,6 +81,6 @@ PlanNote json flow (plan.Expr at fault) note = OfJson json (λ root. IsSeen root
 PlanNote json flow (plan.Matrix number fault) note = Unit {0}
 PlanNote json flow plan.Memory note = Unit {0}
 
--- The same of the bytes of a file of this name.
+-- What is told of a fault in the bytes of a file of this name.
 abbrev pub IsPlanNote : List ℕ → List ℕ → PlanFault → Note → Type 0
 IsPlanNote name bytes fault note = PlanNote (json_read bytes) (flow_read name bytes) fault note

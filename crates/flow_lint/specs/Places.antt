@@ -6,8 +6,8 @@ use Rattle.expr_reader.specs.TemplateStands.{TemplateFaultStands, ConditionFault
 use Rattle.expr_reader.specs.declared.fault.ExprFault.{ExprFault}
 use Rattle.flow_lint.specs.Keys.{kind_at}
 use Rattle.flow_lint.specs.Kinds.{IsNeed, IsTemplate, level_in}
-use Rattle.flow_lint.specs.declared.kind.Kind.{Kind}
-use Rattle.flow_lint.specs.declared.kind.Kind.TheVariants as kinds
+use Rattle.flow_lint.specs.declared.kind.NodeKind.{NodeKind}
+use Rattle.flow_lint.specs.declared.kind.NodeKind.TheVariants as kinds
 use Rattle.flow_lint.specs.declared.kind.Level.{Level}
 use Rattle.flow_lint.specs.declared.kind.Level.TheVariants as levels
 
@@ -47,11 +47,11 @@ last_text [] = []
 last_text (way ∷ ways) = way_text way
 
 -- What the table of keys has at the end of a path, and what it has around that.
-abbrev pub kind_of : List Way → Kind
+abbrev pub kind_of : List Way → NodeKind
 kind_of [] = kinds.Workflow
 kind_of (way ∷ ways) = kind_at (kind_of ways) (way_text way)
 
-abbrev pub kind_around : List Way → Kind
+abbrev pub kind_around : List Way → NodeKind
 kind_around [] = kinds.Workflow
 kind_around (way ∷ ways) = kind_of ways
 
@@ -63,8 +63,8 @@ level_of (way ∷ ways) = level_in (kind_of (way ∷ ways)) (level_of ways)
 -- What is to be seen at a place: what the table of keys has there and around it, to what it belongs, the last key or number, and the
 -- value.
 pub record Place : Type 0 where
-  pub around : Kind
-  pub kind : Kind
+  pub around : NodeKind
+  pub kind : NodeKind
   pub level : Level
   pub last : List ℕ
   pub value : Data

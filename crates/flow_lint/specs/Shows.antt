@@ -11,7 +11,7 @@ use Rattle.flow_model.specs.Name.{is_id}
 use Rattle.flow_model.specs.Rules.{is_variable_name}
 use Rattle.flow_lint.specs.Kinds.{WantsValue, WantsWhole, Wants}
 use Rattle.flow_lint.specs.Places.{Place, IsUnread}
-use Rattle.flow_lint.specs.declared.kind.Kind.TheVariants as kinds
+use Rattle.flow_lint.specs.declared.kind.NodeKind.TheVariants as kinds
 use Rattle.flow_reader.specs.Parts.{shell_named}
 use Rattle.flow_reader.specs.Checked.{bad}
 use Rattle.flow_reader.specs.declared.fault.FlowFault.{FlowFault}

@@ -4,7 +4,7 @@ ghost use Rattle.std.specs.Prelude.{◌↔◌, IsTrue};
 ghost use Rattle.flow_lint.specs.Contexts.{IsOfStep, Sees, SeesSecrets};
 ghost use Rattle.flow_lint.specs.Nodes.{place_of};
 
-use crate::kind::{Kind, Level};
+use crate::kind::{Level, NodeKind};
 use crate::node::Node;
 use expr_reader::Context;
 
@@ -28,7 +28,7 @@ pub(crate) const EVERY_CONTEXT: [Context; 12] = [
 fn is_of_step(node: &Node) -> bool
     ensures { IsTrue result ↔ IsOfStep (place_of node.now) }
 {
-    node.level == Level::Step || node.kind == Kind::SharedDirectory
+    node.level == Level::Step || node.kind == NodeKind::SharedDirectory
 }
 
 /// Whether `secrets` is seen: in environments, in outputs, and in steps but for their conditions.
@@ -36,8 +36,8 @@ fn sees_secrets(node: &Node) -> bool
     ensures { IsTrue result ↔ SeesSecrets (place_of node.now) }
 {
     match node.kind {
-        Kind::Variable | Kind::Output => true,
-        Kind::Condition => false,
+        NodeKind::Variable | NodeKind::Output => true,
+        NodeKind::Condition => false,
         _ => is_of_step(node),
     }
 }
@@ -52,10 +52,10 @@ pub(crate) fn sees(node: &Node, context: Context) -> bool
         Context::Secrets => sees_secrets(node),
         Context::Needs => node.level != Level::Workflow || is_of_step(node),
         Context::Strategy | Context::Matrix => {
-            is_of_step(node) || node.level == Level::Job && node.kind != Kind::Condition
+            is_of_step(node) || node.level == Level::Job && node.kind != NodeKind::Condition
         },
         Context::Env | Context::Job | Context::Steps => {
-            is_of_step(node) || node.kind == Kind::Output
+            is_of_step(node) || node.kind == NodeKind::Output
         },
     }
 }

@@ -12,10 +12,10 @@ ghost use Rattle.flow_lint.specs.Places.{IsRepeated, Repeats, id_at};
 ghost use Rattle.flow_lint.specs.Shows as spec;
 ghost use Rattle.flow_lint.specs.Shows.{HasExpression, ShowsFlow};
 ghost use Rattle.flow_lint.specs.Nodes.{Fits};
-ghost use Rattle.flow_lint.specs.declared.kind.Kind.TheVariants.{Steps};
+ghost use Rattle.flow_lint.specs.declared.kind.NodeKind.TheVariants.{Steps};
 ghost use Rattle.flow_reader.specs.declared.fault.FlowFault.TheVariants.{NotWhole, Missing, BadId, LeftOut, UnknownShell};
 
-use crate::kind::Kind;
+use crate::kind::NodeKind;
 use crate::node::{Node, below, nodes_of, number};
 use crate::note::{Note, noted};
 use crate::sentences::{flow_sentence, json_sentence};
@@ -30,7 +30,11 @@ fn shows_fraction(alloc: Global, node: &Node) -> Result<bool, AllocError>
     ensures { IfOk result (λ is. IsTrue is → HasFlow NotWhole node.now) }
 {
     match node.kind {
-        Kind::Variable | Kind::Input | Kind::Values | Kind::Entries | Kind::MaxParallel => {
+        NodeKind::Variable
+        | NodeKind::Input
+        | NodeKind::Values
+        | NodeKind::Entries
+        | NodeKind::MaxParallel => {
             match value_of(alloc, node.value) {
                 Ok(_) => Ok(false),
                 Err(JsonFault::NotWhole) => Ok(true),
@@ -42,14 +46,14 @@ fn shows_fraction(alloc: Global, node: &Node) -> Result<bool, AllocError>
 }
 
 /// Whether a key has to be there in what is of this kind.
-fn wants(kind: Kind, key: &str) -> bool
+fn wants(kind: NodeKind, key: &str) -> bool
     ensures { IsTrue result → Wants kind key.now }
 {
     match kind {
-        Kind::Workflow => key == "on" || key == "jobs",
-        Kind::Job => key == "steps",
-        Kind::Group => key == "group",
-        Kind::Step => key == "run",
+        NodeKind::Workflow => key == "on" || key == "jobs",
+        NodeKind::Job => key == "steps",
+        NodeKind::Group => key == "group",
+        NodeKind::Step => key == "run",
         _ => false,
     }
 }
@@ -82,9 +86,9 @@ fn shows_name(node: &Node, name: &str) -> bool
     ensures { IsTrue result → HasFlow (BadId name.now) node.now }
 {
     match node.kind {
-        Kind::Job | Kind::Output => node.key.as_str() == name && !is_id(name),
-        Kind::Variable => node.key.as_str() == name && !is_variable_name(name),
-        Kind::Id => is_id_text(node, name) && !is_id(name),
+        NodeKind::Job | NodeKind::Output => node.key.as_str() == name && !is_id(name),
+        NodeKind::Variable => node.key.as_str() == name && !is_variable_name(name),
+        NodeKind::Id => is_id_text(node, name) && !is_id(name),
         _ => false,
     }
 }
@@ -125,10 +129,12 @@ fn shows_left_out(node: &Node, key: &str) -> bool
         return false;
     }
     match node.kind {
-        Kind::LeftOut => true,
-        Kind::FailFast | Kind::MaxParallel | Kind::Matrix | Kind::Values | Kind::Entries => {
-            is_expression(node.value)
-        },
+        NodeKind::LeftOut => true,
+        NodeKind::FailFast
+        | NodeKind::MaxParallel
+        | NodeKind::Matrix
+        | NodeKind::Values
+        | NodeKind::Entries => { is_expression(node.value) },
         _ => false,
     }
 }
@@ -139,7 +145,7 @@ fn shows_shell(node: &Node) -> bool
 {
     match node.value.as_str() {
         Some(name) => node.key.as_str() == "shell"
-            && node.kind == Kind::Shell
+            && node.kind == NodeKind::Shell
             && name != "sh"
             && name != "bash",
         None => false,
@@ -217,7 +223,7 @@ fn repeated_in(node: &Node, name: &str) -> Option<usize>
     ensures kind { IfSome result (λ _. node.now.kind ≡ Steps) }
     ensures repeats { IfSome result (Repeats (view node.now.value.now) name.now) }
 {
-    if node.kind != Kind::Steps {
+    if node.kind != NodeKind::Steps {
         return None;
     }
     repeated_at(node.value, node.value.as_array()?.len(), name)

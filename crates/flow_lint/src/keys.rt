@@ -3,116 +3,119 @@
 ghost use Rattle.std.specs.Prelude.{◌≡◌, map};
 ghost use Rattle.flow_lint.specs.Keys as spec;
 
-use crate::kind::Kind;
+use crate::kind::NodeKind;
 
 /// The keys of a workflow.
-const WORKFLOW: [(&str, Kind); 9] = [
-    ("name", Kind::Plain),
-    ("on", Kind::Triggers),
-    ("true", Kind::Triggers),
-    ("env", Kind::Env),
-    ("defaults", Kind::Defaults),
-    ("concurrency", Kind::Group),
-    ("jobs", Kind::Jobs),
-    ("permissions", Kind::Idle),
-    ("run-name", Kind::Idle),
+const WORKFLOW: [(&str, NodeKind); 9] = [
+    ("name", NodeKind::Plain),
+    ("on", NodeKind::Triggers),
+    ("true", NodeKind::Triggers),
+    ("env", NodeKind::Env),
+    ("defaults", NodeKind::Defaults),
+    ("concurrency", NodeKind::Group),
+    ("jobs", NodeKind::Jobs),
+    ("permissions", NodeKind::Idle),
+    ("run-name", NodeKind::Idle),
 ];
 
 /// The keys of a job.
-const JOB: [(&str, Kind); 19] = [
-    ("name", Kind::Plain),
-    ("needs", Kind::Needs),
-    ("if", Kind::Condition),
-    ("strategy", Kind::Strategy),
-    ("concurrency", Kind::Group),
-    ("continue-on-error", Kind::Flag),
-    ("env", Kind::Env),
-    ("defaults", Kind::Defaults),
-    ("outputs", Kind::Outputs),
-    ("steps", Kind::Steps),
-    ("container", Kind::LeftOut),
-    ("services", Kind::LeftOut),
-    ("uses", Kind::LeftOut),
-    ("runs-on", Kind::Idle),
-    ("permissions", Kind::Idle),
-    ("environment", Kind::Idle),
-    ("timeout-minutes", Kind::Idle),
-    ("with", Kind::Idle),
-    ("secrets", Kind::Idle),
+const JOB: [(&str, NodeKind); 19] = [
+    ("name", NodeKind::Plain),
+    ("needs", NodeKind::Needs),
+    ("if", NodeKind::Condition),
+    ("strategy", NodeKind::Strategy),
+    ("concurrency", NodeKind::Group),
+    ("continue-on-error", NodeKind::Flag),
+    ("env", NodeKind::Env),
+    ("defaults", NodeKind::Defaults),
+    ("outputs", NodeKind::Outputs),
+    ("steps", NodeKind::Steps),
+    ("container", NodeKind::LeftOut),
+    ("services", NodeKind::LeftOut),
+    ("uses", NodeKind::LeftOut),
+    ("runs-on", NodeKind::Idle),
+    ("permissions", NodeKind::Idle),
+    ("environment", NodeKind::Idle),
+    ("timeout-minutes", NodeKind::Idle),
+    ("with", NodeKind::Idle),
+    ("secrets", NodeKind::Idle),
 ];
 
 /// The keys of a step.
-const STEP: [(&str, Kind); 11] = [
-    ("id", Kind::Id),
-    ("name", Kind::Plain),
-    ("if", Kind::Condition),
-    ("env", Kind::Env),
-    ("continue-on-error", Kind::Flag),
-    ("working-directory", Kind::Directory),
-    ("shell", Kind::Shell),
-    ("run", Kind::Run),
-    ("uses", Kind::Plain),
-    ("with", Kind::With),
-    ("timeout-minutes", Kind::Idle),
+const STEP: [(&str, NodeKind); 11] = [
+    ("id", NodeKind::Id),
+    ("name", NodeKind::Plain),
+    ("if", NodeKind::Condition),
+    ("env", NodeKind::Env),
+    ("continue-on-error", NodeKind::Flag),
+    ("working-directory", NodeKind::Directory),
+    ("shell", NodeKind::Shell),
+    ("run", NodeKind::Run),
+    ("uses", NodeKind::Plain),
+    ("with", NodeKind::With),
+    ("timeout-minutes", NodeKind::Idle),
 ];
 
-const STRATEGY: [(&str, Kind); 3] = [
-    ("matrix", Kind::Matrix),
-    ("fail-fast", Kind::FailFast),
-    ("max-parallel", Kind::MaxParallel),
+const STRATEGY: [(&str, NodeKind); 3] = [
+    ("matrix", NodeKind::Matrix),
+    ("fail-fast", NodeKind::FailFast),
+    ("max-parallel", NodeKind::MaxParallel),
 ];
 
-const DEFAULTS: [(&str, Kind); 1] = [("run", Kind::Scripts)];
+const DEFAULTS: [(&str, NodeKind); 1] = [("run", NodeKind::Scripts)];
 
-const SCRIPTS: [(&str, Kind); 2] = [
-    ("shell", Kind::Shell),
-    ("working-directory", Kind::SharedDirectory),
+const SCRIPTS: [(&str, NodeKind); 2] = [
+    ("shell", NodeKind::Shell),
+    ("working-directory", NodeKind::SharedDirectory),
 ];
 
-const GROUP: [(&str, Kind); 2] = [
-    ("group", Kind::GroupName),
-    ("cancel-in-progress", Kind::Flag),
+const GROUP: [(&str, NodeKind); 2] = [
+    ("group", NodeKind::GroupName),
+    ("cancel-in-progress", NodeKind::Flag),
 ];
 
 /// The keys of a matrix that are no variables.
-const MATRIX: [(&str, Kind); 2] = [("include", Kind::Entries), ("exclude", Kind::Entries)];
+const MATRIX: [(&str, NodeKind); 2] = [
+    ("include", NodeKind::Entries),
+    ("exclude", NodeKind::Entries),
+];
 
 /// The keys that are known within what is of this kind.
-pub(crate) fn known_keys(kind: Kind) -> &'static [(&'static str, Kind)]
+pub(crate) fn known_keys(kind: NodeKind) -> &'static [(&'static str, NodeKind)]
     ensures { map (λ entry. (entry.0.now, entry.1)) result.now ≡ spec.known_keys kind }
 {
     match kind {
-        Kind::Workflow => &WORKFLOW,
-        Kind::Job => &JOB,
-        Kind::Step => &STEP,
-        Kind::Strategy => &STRATEGY,
-        Kind::Defaults => &DEFAULTS,
-        Kind::Scripts => &SCRIPTS,
-        Kind::Group => &GROUP,
-        Kind::Matrix => &MATRIX,
+        NodeKind::Workflow => &WORKFLOW,
+        NodeKind::Job => &JOB,
+        NodeKind::Step => &STEP,
+        NodeKind::Strategy => &STRATEGY,
+        NodeKind::Defaults => &DEFAULTS,
+        NodeKind::Scripts => &SCRIPTS,
+        NodeKind::Group => &GROUP,
+        NodeKind::Matrix => &MATRIX,
         _ => &[],
     }
 }
 
 /// What stands at a key that has no meaning of its own.
-fn other_kind(kind: Kind) -> Kind
+fn other_kind(kind: NodeKind) -> NodeKind
     ensures { result ≡ spec.other_kind kind }
 {
     match kind {
-        Kind::Jobs => Kind::Job,
-        Kind::Steps => Kind::Step,
-        Kind::Env => Kind::Variable,
-        Kind::With => Kind::Input,
-        Kind::Outputs => Kind::Output,
-        Kind::Matrix => Kind::Values,
-        Kind::Triggers => Kind::Event,
-        Kind::Needs => Kind::Need,
-        _ => Kind::Unknown,
+        NodeKind::Jobs => NodeKind::Job,
+        NodeKind::Steps => NodeKind::Step,
+        NodeKind::Env => NodeKind::Variable,
+        NodeKind::With => NodeKind::Input,
+        NodeKind::Outputs => NodeKind::Output,
+        NodeKind::Matrix => NodeKind::Values,
+        NodeKind::Triggers => NodeKind::Event,
+        NodeKind::Needs => NodeKind::Need,
+        _ => NodeKind::Unknown,
     }
 }
 
 /// What stands at a key of what is of this kind.
-pub(crate) fn kind_at(kind: Kind, key: &str) -> Kind
+pub(crate) fn kind_at(kind: NodeKind, key: &str) -> NodeKind
     ensures { result ≡ spec.kind_at kind key.now }
 {
     for (name, found) in known_keys(kind) {
@@ -124,11 +127,11 @@ pub(crate) fn kind_at(kind: Kind, key: &str) -> Kind
 }
 
 /// Whether what stands within is looked at.
-pub(crate) fn is_opened(kind: Kind) -> bool {
-    !known_keys(kind).is_empty() || other_kind(kind) != Kind::Unknown
+pub(crate) fn is_opened(kind: NodeKind) -> bool {
+    !known_keys(kind).is_empty() || other_kind(kind) != NodeKind::Unknown
 }
 
 /// Whether it is a list whose items are looked at.
-pub(crate) fn is_list(kind: Kind) -> bool {
-    matches!(kind, Kind::Steps | Kind::Needs)
+pub(crate) fn is_list(kind: NodeKind) -> bool {
+    matches!(kind, NodeKind::Steps | NodeKind::Needs)
 }

@@ -16,7 +16,7 @@ pub enum Level {
 
 /// What stands at a place.
 #[derive(Clone, Copy, PartialEq, Eq)]
-pub enum Kind {
+pub enum NodeKind {
     /// The whole of a file.
     Workflow,
     /// All jobs.
@@ -91,14 +91,14 @@ pub enum Kind {
     Unknown,
 }
 
-impl Kind {
+impl NodeKind {
     /// The level of what stands at a place of this kind, where that around it has another.
     pub(crate) fn level(self, around: Level) -> Level
         ensures { result ≡ level_in self around }
     {
         match self {
-            Kind::Job => Level::Job,
-            Kind::Step => Level::Step,
+            NodeKind::Job => Level::Job,
+            NodeKind::Step => Level::Step,
             _ => around,
         }
     }
@@ -109,15 +109,15 @@ impl Kind {
     {
         matches!(
             self,
-            Kind::Variable
-                | Kind::Input
-                | Kind::Output
-                | Kind::Group
-                | Kind::GroupName
-                | Kind::Flag
-                | Kind::Run
-                | Kind::Directory
-                | Kind::SharedDirectory
+            NodeKind::Variable
+                | NodeKind::Input
+                | NodeKind::Output
+                | NodeKind::Group
+                | NodeKind::GroupName
+                | NodeKind::Flag
+                | NodeKind::Run
+                | NodeKind::Directory
+                | NodeKind::SharedDirectory
         )
     }
 
@@ -125,6 +125,6 @@ impl Kind {
     pub(crate) fn is_need(self) -> bool
         ensures { IsTrue result ↔ IsNeed self }
     {
-        matches!(self, Kind::Needs | Kind::Need)
+        matches!(self, NodeKind::Needs | NodeKind::Need)
     }
 }

@@ -7,7 +7,7 @@ ghost use Rattle.flow_lint.specs.Places as spec;
 ghost use Rattle.flow_lint.specs.Nodes.{Fits, place_of};
 
 use crate::keys::{is_list, is_opened, kind_at};
-use crate::kind::{Kind, Level};
+use crate::kind::{Level, NodeKind};
 use flow_model::Text;
 use serde_json::Value;
 use std::alloc::{AllocError, Global};
@@ -21,9 +21,9 @@ pub struct Node<'v> {
     /// The last of them.
     pub key: Text,
     /// What stands there.
-    pub kind: Kind,
+    pub kind: NodeKind,
     /// What it stands in.
-    pub around: Kind,
+    pub around: NodeKind,
     /// What it belongs to.
     pub level: Level,
     /// The value that stands there.
@@ -59,8 +59,8 @@ impl<'v> Node<'v> {
         Node {
             path: Text::new(String::new(alloc)),
             key: Text::new(String::new(alloc)),
-            kind: Kind::Workflow,
-            around: Kind::Workflow,
+            kind: NodeKind::Workflow,
+            around: NodeKind::Workflow,
             level: Level::Workflow,
             value: root,
         }

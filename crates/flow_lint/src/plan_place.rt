@@ -13,7 +13,7 @@ ghost use Rattle.flow_lint.specs.Notes.{IsPlanNote, IsSeen, JobsNote, OfFlow, Of
 ghost use Rattle.flow_lint.specs.Shows.{ShowsText};
 
 use crate::cycles::find_cycle;
-use crate::kind::Kind;
+use crate::kind::NodeKind;
 use crate::node::{Node, job_path, nodes_of};
 use crate::note::{Note, noted};
 use crate::sentences::{json_sentence, many_sentence, matrix_sentence, text_sentence};
@@ -56,7 +56,7 @@ fn find_text<'n, 'v>(
         Fits (view root.now) node.now × HasText fault node.now)) }
 {
     for node in nodes {
-        if (node.kind == Kind::SharedDirectory) == shared && shows_text(alloc, node, fault)? {
+        if (node.kind == NodeKind::SharedDirectory) == shared && shows_text(alloc, node, fault)? {
             return Ok(Some(node));
         }
     }

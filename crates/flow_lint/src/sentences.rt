@@ -1,6 +1,6 @@
 //! What is said of faults, and what to write instead.
 
-use crate::kind::Kind;
+use crate::kind::NodeKind;
 use crate::node::Node;
 use expr_reader::ExprFault;
 use flow_model::is_id;
@@ -14,30 +14,35 @@ pub(crate) fn json_sentence(alloc: Global) -> Result<String, AllocError> {
 }
 
 /// What may stand at a place.
-fn wanted(kind: Kind) -> &'static str {
+fn wanted(kind: NodeKind) -> &'static str {
     match kind {
-        Kind::Workflow | Kind::Job | Kind::Step | Kind::Strategy | Kind::Matrix => "an object",
-        Kind::Defaults | Kind::Scripts => "an object",
-        Kind::Jobs => "an object of at least one job",
-        Kind::Steps => "a list of steps",
-        Kind::Needs => "an id, or a list of ids",
-        Kind::Triggers => "the name of an event, a list of names, or an object",
-        Kind::Env | Kind::With => "an object of texts, whole numbers, truth values and null",
-        Kind::Variable | Kind::Input => "a text, a whole number, a truth value or null",
-        Kind::Outputs => "an object of texts",
-        Kind::Group => "a text, or an object with `group`",
-        Kind::Flag | Kind::Condition => "a text or a truth value",
-        Kind::FailFast => "`true` or `false`",
-        Kind::MaxParallel => "a whole number from 1",
-        Kind::Values => "a list of values",
-        Kind::Entries => "a list of objects",
+        NodeKind::Workflow
+        | NodeKind::Job
+        | NodeKind::Step
+        | NodeKind::Strategy
+        | NodeKind::Matrix => "an object",
+        NodeKind::Defaults | NodeKind::Scripts => "an object",
+        NodeKind::Jobs => "an object of at least one job",
+        NodeKind::Steps => "a list of steps",
+        NodeKind::Needs => "an id, or a list of ids",
+        NodeKind::Triggers => "the name of an event, a list of names, or an object",
+        NodeKind::Env | NodeKind::With =>
+            "an object of texts, whole numbers, truth values and null",
+        NodeKind::Variable | NodeKind::Input => "a text, a whole number, a truth value or null",
+        NodeKind::Outputs => "an object of texts",
+        NodeKind::Group => "a text, or an object with `group`",
+        NodeKind::Flag | NodeKind::Condition => "a text or a truth value",
+        NodeKind::FailFast => "`true` or `false`",
+        NodeKind::MaxParallel => "a whole number from 1",
+        NodeKind::Values => "a list of values",
+        NodeKind::Entries => "a list of objects",
         _ => "a text",
     }
 }
 
 /// What is said of a step that has more than one thing to do, or of another value of the wrong kind.
 fn shape_sentence(alloc: Global, node: &Node) -> Result<String, AllocError> {
-    if node.kind == Kind::Step && node.value.is_object() {
+    if node.kind == NodeKind::Step && node.value.is_object() {
         return String::from_str(
             alloc,
             "this step has both `run` and `uses`: take one of them out",
@@ -73,7 +78,7 @@ fn missing(alloc: Global, key: &str) -> Result<String, AllocError> {
 
 /// What is said of a name that is none, or stands twice.
 fn misnamed(alloc: Global, node: Option<&Node>, name: &str) -> Result<String, AllocError> {
-    if node.is_some_and(|node| node.kind == Kind::Variable) {
+    if node.is_some_and(|node| node.kind == NodeKind::Variable) {
         return format!(in alloc; "`{name}` names no variable: a name is not empty and has no `=`");
     }
     if is_id(name) {

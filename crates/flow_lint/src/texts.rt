@@ -9,7 +9,7 @@ ghost use Rattle.flow_lint.specs.Hints.{IsEvaluated, IsReadAs};
 ghost use Rattle.flow_lint.specs.Nodes.{place_of};
 ghost use Rattle.flow_lint.specs.Places.{IsUnread};
 
-use crate::kind::Kind;
+use crate::kind::NodeKind;
 use crate::node::Node;
 use expr_reader::{ExprFault, Template, is_blank, read_condition, read_template};
 use std::alloc::Global;
@@ -37,7 +37,7 @@ pub fn read_text(alloc: Global, node: &Node) -> Option<Result<Template, ExprFaul
     let Some(text) = node.value.as_str() else {
         return None;
     };
-    if node.kind == Kind::Condition {
+    if node.kind == NodeKind::Condition {
         return condition(alloc, text);
     }
     if node.kind.is_template() {

@@ -12,7 +12,7 @@ ChecksPlan p (Ok checked) = IsPlan p
 ChecksPlan p (Err (Rule path)) = plan_rules p ≡ Some path
 ChecksPlan p (Err Memory) = Unit {0}
 
--- The same in the rules' own words: a plan is accepted exactly where each rule holds.
+-- In the rules' own words: a plan is accepted exactly where each rule holds.
 abbrev pub AcceptsSound : Plan → Result Plan Broken → Type 0
 AcceptsSound p (Ok checked) = SoundPlan p
 AcceptsSound p (Err (Rule path)) = SoundPlan p → ⊥

@@ -10,6 +10,7 @@ pub mod Lines
 pub mod Mapping
 pub mod Name
 pub mod Numbers
+pub mod Outcome
 pub mod Plain
 pub mod Rules
 pub mod Sound

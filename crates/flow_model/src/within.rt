@@ -40,7 +40,7 @@ pub fn is_within(node: &Node, room: u64) -> bool
     }
 }
 
-/// The same of a list's items.
+/// Whether the items of a list are so.
 #[cycle(within)]
 fn are_within(nodes: &Vec<Node>, room: u64) -> bool
     ensures { result ≡ spec.items_within room (plain.items_of (views nodes.now.items)) }
@@ -53,7 +53,7 @@ fn are_within(nodes: &Vec<Node>, room: u64) -> bool
     true
 }
 
-/// The same of a map's members.
+/// Whether the members of a map are so.
 #[cycle(within)]
 fn are_members_within(members: &BTreeMap<String, Node>, room: u64) -> bool
     ensures { result

@@ -31,11 +31,11 @@ fn no_defaults() -> Defaults
 
 /// What stands at `run` in `defaults`.
 #[derive(Drop)]
-pub(crate) struct Place {
+pub(crate) struct RunDefaults {
     pub(crate) defaults: Defaults,
 }
 
-impl Model for Place {
+impl Model for RunDefaults {
     ghost use Rattle.flow_reader.specs.declared.defaults.Defaults.{Defaults};
 
     ghost Value = { Defaults };
@@ -46,29 +46,29 @@ impl Model for Place {
 /// What an object names of the place of a script.
 type PlaceParts = (Shell, (Option<Text>, ()));
 
-impl FromJson for Place {
+impl FromJson for RunDefaults {
     ghost use Rattle.flow_reader.specs.Defaults.{place_of};
 
     ghost reading = { place_of };
 
     #[tactic(auto, unfolding(crate::specs::Defaults::place_of), using(crate::proofs::Faults::stands_made, crate::proofs::Faults::ok_made))]
-    fn from_json(alloc: Global, json: &Value) -> Result<Place, FlowFault> {
+    fn from_json(alloc: Global, json: &Value) -> Result<RunDefaults, FlowFault> {
         let keys = ["shell", "working-directory"];
         let (shell, (dir, ())) = read_object::<PlaceParts>(alloc, json, &keys)?;
         let defaults = Defaults { dir, shell };
-        Ok(Place { defaults })
+        Ok(RunDefaults { defaults })
     }
 }
 
-impl Part for Place {
+impl Part for RunDefaults {
     ghost use Rattle.flow_reader.specs.Checked.{defaulted};
     ghost use Rattle.flow_reader.specs.Defaults.{no_defaults, place_of};
 
     ghost part = { defaulted no_defaults place_of };
 
-    fn read_at(alloc: Global, object: &Value, key: &str) -> Result<Place, FlowFault> {
+    fn read_at(alloc: Global, object: &Value, key: &str) -> Result<RunDefaults, FlowFault> {
         let defaults = no_defaults();
-        read_or(alloc, object, key, Place { defaults })
+        read_or(alloc, object, key, RunDefaults { defaults })
     }
 }
 
@@ -79,7 +79,7 @@ impl FromJson for Defaults {
 
     #[tactic(auto, unfolding(crate::specs::Defaults::defaults_of), using(crate::proofs::Faults::stands_made, crate::proofs::Faults::ok_made))]
     fn from_json(alloc: Global, json: &Value) -> Result<Defaults, FlowFault> {
-        let (place, ()) = read_object::<(Place, ())>(alloc, json, &["run"])?;
+        let (place, ()) = read_object::<(RunDefaults, ())>(alloc, json, &["run"])?;
         Ok(place.defaults)
     }
 }
@@ -194,7 +194,7 @@ impl Fill for Workflow {
     }
 }
 
-/// The same of each item of a list. Where memory runs out, some of the items are lost.
+/// Fills in each item of a list. Where memory runs out, some of the items are lost.
 pub(crate) fn fill_each<T: Fill + Drop>(
     alloc: Global,
     defaults: &Defaults,

@@ -28,10 +28,6 @@ known_in_with_cell name held (x ∷ xs) = go (slice_cmp nat_cmp name x.name) (kn
     go Equal ih = refl
     go Greater ih = ap (λ (ps : Known). (x.name, x.held) ∷ ps) ih
 
--- nothing new is known
-pub grows_same : (name : List ℕ) (known : Known) → Grows name known known
-grows_same name known = record { kept = λ q h. h; others = λ q differs. refl }
-
 -- a name is another, or it is not
 pub either : (q name : List ℕ) (P : Type 0) → (q ≡ name → P) → (q ≢ name → P) → P
 either q name P same other = by (slice_cmp nat_cmp q name) refl

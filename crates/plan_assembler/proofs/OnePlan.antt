@@ -1,4 +1,4 @@
--- The same workflows, contexts and choice come to one plan at most.
+-- Workflows, contexts and a choice of them come to one plan at most.
 use Rattle.std.proofs.Common.{◌≡◌, ◌∙◌, ◌+◌, ℕ, Bool, true, false, List, [], ◌∷◌, length, refl, ap, sym, subst}
 use Rattle.std.proofs.lemmas.List.{ext_get_or}
 use Rattle.flow_model.specs.declared.flow.FlowJob.{FlowJob}

@@ -35,7 +35,7 @@ NeedsFall = (g : Graph) (ss : List ℕ) → AreStages g ss → (j : ℕ) (ms : L
 abbrev pub NoStagesInCycles : Type 0
 NoStagesInCycles = (g : Graph) (ss : List ℕ) → AreStages g ss → HasCycle g → ⊥
 
--- The same workflows, contexts and choice come to one plan at most.
+-- Workflows, contexts and a choice of them come to one plan at most.
 abbrev pub OnePlan : Type 0
 OnePlan = (ws : List Workflow) (roots : Roots) (choice : Choice) (p q : Plan) → Assembles ws roots choice p → Assembles ws roots choice q → p ≡ q
 

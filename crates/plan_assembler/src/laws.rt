@@ -17,7 +17,7 @@ pub fn no_stages_in_cycles()
     ensures { NoStagesInCycles }
 {}
 
-/// The same workflows, contexts and choice come to one plan at most.
+/// Workflows, contexts and a choice of them come to one plan at most.
 pub fn one_plan()
     ensures { OnePlan }
 {}

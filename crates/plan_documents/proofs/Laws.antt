@@ -28,7 +28,7 @@ pub record ReadsMembers {A : Type 0} (write : A → Members) (read : Members →
   pub low : (a : A) → IsTrue (fits a) → members_depth (write a) ≤ n
   pub exact : (a : A) → members_have_float (write a) ≡ false
 
--- The same of a part that may be written in each of some forms, where the form tells all of it.
+-- A part that may be written in each of some forms, where the form tells all of it, is read again.
 pub record ReadsForms {V A : Type 0} (write : V → A → Data) (read : Data → Reading A) (tells : V → A → Bool) (fits : A → Bool) (n : ℕ) : Type 0 where
   pub again : (v : V) (a : A) → IsTrue (fits a) → IsTrue (tells v a) → read (write v a) ≡ Ok a
   pub only : (d : Data) (a : A) → read d ≡ Ok a → (v : V) × IsTrue (tells v a) × (d ≡ write v a)

@@ -17,16 +17,9 @@ use Rattle.flow_model.specs.declared.board.Leg.{Leg}
 use Rattle.flow_model.specs.declared.board.LegState.{LegState}
 use Rattle.flow_model.specs.declared.board.LegState.TheVariants as leg_state
 use Rattle.flow_model.specs.declared.board.DoneStep.{DoneStep}
-use Rattle.flow_model.specs.declared.event.Outcome.{Outcome}
-use Rattle.flow_model.specs.declared.event.Outcome.TheVariants as outcome
+use Rattle.flow_model.specs.Outcome.{outcome_word}
 
 -- ---- words
-
-abbrev pub outcome_word : Outcome → List ℕ
-outcome_word outcome.Success = codes "success"
-outcome_word outcome.Failure = codes "failure"
-outcome_word outcome.Cancelled = codes "cancelled"
-outcome_word outcome.Skipped = codes "skipped"
 
 abbrev pub run_state_words : RunState → List ℕ
 run_state_words run_state.New = codes "new"

@@ -103,10 +103,6 @@ step_env : (values : Values) (x : Context) (k : Known) (b : Bool) → (cond b (m
 step_env values x k true = one_env values x k
 step_env values x k false = refl
 
-pub all_env : (named : Context → Bool) (values : Values) (xs : List Context) (k : Known) → (made_all named values xs k).env ≡ k.env
-all_env named values [] k = refl
-all_env named values (x ∷ xs) k = all_env named values xs (cond (named x) (made_one values x k) k) ∙ step_env values x k (named x)
-
 step_agrees : (values : Values) (x : Context) (k : Known) (b : Bool) → Agrees values k → Agrees values (cond b (made_one values x k) k)
 step_agrees values x k true h = one_agrees values x k h
 step_agrees values x k false h = h

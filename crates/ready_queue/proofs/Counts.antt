@@ -2,7 +2,7 @@
 use Rattle.std.proofs.Common.{◌≡◌, ℕ, ◌+◌, ◌<◌, ◌^◌, List, [], ◌∷◌, ◌++◌, length, refl, sym, ap, subst, arith, length-append}
 use Rattle.ready_queue.specs.Names.{Name}
 use Rattle.ready_queue.specs.Records.{all_put, all_taken, tickets, IsWhole}
-use Rattle.ready_queue.specs.Steps.{with_put, with_taken, after_split, split_off, joined, Closes}
+use Rattle.ready_queue.specs.Steps.{with_put, with_taken, joined, Closes}
 use Rattle.ready_queue.specs.Tally.{Counts}
 use Rattle.ready_queue.specs.Passes.{IsCountOf}
 use Rattle.ready_queue.specs.declared.record.Record.{Record}
@@ -49,30 +49,6 @@ take_takes (own ∷ rest) x by live =
     let c = length-append (tickets own.taken) (x ∷ []) in
     let d = length-append (tickets own.taken) (all_taken rest) in
     omega arith
-
-pub left_live : (v : List Record) → 0 < length v → 0 < length (after_split v)
-left_live [] live = live
-left_live (own ∷ rest) live = live
-
-pub left_puts : (v : List Record) → all_put (after_split v) ≡ all_put v
-left_puts [] = refl
-left_puts (own ∷ rest) = refl
-
-pub left_takes : (v : List Record) → all_taken (after_split v) ≡ all_taken v
-left_takes [] = refl
-left_takes (own ∷ rest) = refl
-
-pub right_live : (v : List Record) → 0 < length v → 0 < length (split_off v)
-right_live [] live = live
-right_live (own ∷ rest) live = omega arith
-
-pub right_puts : (v : List Record) → all_put (split_off v) ≡ []
-right_puts [] = refl
-right_puts (own ∷ rest) = refl
-
-pub right_takes : (v : List Record) → all_taken (split_off v) ≡ []
-right_takes [] = refl
-right_takes (own ∷ rest) = refl
 
 pub both_live : (v w : List Record) → 0 < length v → 0 < length (joined v w)
 both_live v w live = let a = length-append v w in omega arith

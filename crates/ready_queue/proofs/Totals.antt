@@ -126,7 +126,7 @@ pub each_map : (P Q : Record → Type 0) → ((r : Record) → P r → Q r) → 
 each_map P Q f [] h = tt
 each_map P Q f (r ∷ rs) h = (f r h.0, each_map P Q f rs h.1)
 
--- The same, of records that do not keep a name.
+-- What holds of each that does not keep a name.
 pub each_apart : (P Q : Record → Type 0) (name : Name) → ((r : Record) → keeps r.name r.splits name ≡ 0 → P r → Q r) → (rs : List Record) → keepers name rs ≡ 0 → Each P rs → Each Q rs
 each_apart P Q name f [] none h = tt
 each_apart P Q name f (r ∷ rs) none h = (f r (omega arith) h.0, each_apart P Q name f rs (omega arith) h.1)

@@ -1,9 +1,6 @@
 -- Counts that stop at the greatest word, and differences that wrap.
-use Rattle.std.proofs.Common.{◌≡◌, ℕ, ◌+◌, ◌-◌, ◌%◌, ◌^◌, ◌<◌, min, arith}
-use Rattle.ready_queue.specs.Tally.{counted, IsAhead}
-
-pub counted_more : (n k : ℕ) → min (counted n + counted k) (2 ^ 64 - 1) ≡ counted (n + k)
-counted_more n k = omega arith
+use Rattle.std.proofs.Common.{◌≡◌, ℕ, ◌+◌, ◌-◌, ◌%◌, ◌^◌, ◌<◌, arith}
+use Rattle.ready_queue.specs.Tally.{IsAhead}
 
 pub ahead_put : (puts takes ahead : ℕ) → IsAhead puts takes ahead → IsAhead (puts + 1) takes ((ahead + 1) % 2 ^ 64)
 ahead_put puts takes ahead h = omega arith

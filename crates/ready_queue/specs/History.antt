@@ -23,6 +23,6 @@ pub record IsMoment (rs : List Record) (queued : List Put) : Type 0 where
   pub takes : (name : Name) → taken_by name (rs ++ others) ≡ under name done
   pub bag : SameBag (all_put (rs ++ others)) (all_taken (rs ++ others) ++ tickets queued)
 
--- The same, at which the queue held these tickets.
+-- A moment at which the queue held these tickets.
 abbrev pub GoesWith : List Record → List ℕ → Type 0
 GoesWith rs items = (queued : List Put) × (tickets queued ≡ items) × IsMoment rs queued

@@ -14,7 +14,7 @@ use Rattle.flow_model.specs.declared.reply.Reply.{Reply}
 use Rattle.flow_model.specs.declared.reply.StepCall.{StepCall}
 use Rattle.flow_model.specs.declared.reply.ValueFault.{ValueFault}
 use Rattle.status_table.specs.Answers.{AnswersEntry, Decides, Refuses}
-use Rattle.status_table.specs.Row.{Row, Beginning, calls, skips, faults, decided, begin_leg, calling_owner, ending, ending_by, failed_step, leg_state_set, skipped_step, step_done}
+use Rattle.status_table.specs.Row.{Row, Beginning, decided, calling_owner, ending, ending_by, failed_step, leg_state_set, skipped_step, step_done}
 use Rattle.status_table.specs.Runs.{Plays, then_after}
 use Rattle.status_table.specs.Seen.{ended_step}
 use Rattle.status_table.specs.Unasked.{begins_by, begins_of, begins_called, IsLeftOf, Leads, without_reply}
@@ -82,17 +82,6 @@ begun_board b worker at begins.Faults = step_done b at.place worker (failed_step
 abbrev begun : Board → ℕ → LegAt → Result Begins EventFault → Option Board
 begun b worker at (Ok k) = Some (begun_board b worker at k)
 begun b worker at (Err f) = None
-
-begun_is : (b : Board) (worker : ℕ) (at : LegAt) (x : Result Beginning EventFault) → then_after (begin_leg b worker at x) (λ next. Some next) ≡ begun b worker at (begins_by x)
-begun_is b worker at (Ok (calls call)) = refl
-begun_is b worker at (Ok skips) = refl
-begun_is b worker at (Ok (faults f)) = refl
-begun_is b worker at (Err f) = refl
-
--- A step that is begun so leads to this board.
-pub begun_leads : (b : Board) (worker : ℕ) (at : LegAt) (x : Result Beginning EventFault) (k : Begins) → begins_by x ≡ Ok k
-    → then_after (begin_leg b worker at x) (λ next. Some next) ≡ Some (begun_board b worker at k)
-begun_leads b worker at x k is = begun_is b worker at x ∙ ap (begun b worker at) is
 
 -- What leads to the row's board is left of an answer.
 pub left_of : (r : Row) (old : Board) (result : Result (Unit {0}) EventFault) (new : Board) → Leads r old result new → IsLeftOf r old result new

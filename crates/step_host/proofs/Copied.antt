@@ -16,14 +16,6 @@ last_of_two [] y ys = refl
 last_of_two (x ∷ []) y ys = simp unary_clauses refl
 last_of_two (x ∷ (z ∷ zs)) y ys = simp unary_clauses (simp unary_clauses at (last_of_two (z ∷ zs) y ys))
 
-consumes_nothing : (a : Option (List ℕ)) → Consumes a a []
-consumes_nothing None = tt
-consumes_nothing (Some xs) = refl
-
-appends_nothing : (a : Option (List ℕ)) → Appends a a []
-appends_nothing None = tt
-appends_nothing (Some xs) = sym (append-nil xs)
-
 consumes_more : (a b c : Option (List ℕ)) (xs ys : List ℕ) → Consumes a b xs → Consumes b c ys → Consumes a c (xs ++ ys)
 consumes_more None b c xs ys p q = tt
 consumes_more (Some x) None c xs ys p q = absurd p
@@ -35,9 +27,6 @@ appends_more None b c xs ys p q = tt
 appends_more (Some x) None c xs ys p q = absurd p
 appends_more (Some x) (Some y) None xs ys p q = absurd q
 appends_more (Some x) (Some y) (Some z) xs ys p q = q ∙ ap (λ l. l ++ ys) p ∙ append_assoc x xs ys
-
-pub none_copied : (a w : Option (List ℕ)) → Copied a a w w None
-none_copied a w = record { bytes = []; read = consumes_nothing a; put = appends_nothing w; ends = refl }
 
 -- A piece more that is not empty was read, and written.
 pub piece_copied : (a b c w x y : Option (List ℕ)) (last next : Option ℕ) (piece : List ℕ)
@@ -56,11 +45,6 @@ at_the_end : (a b : Option (List ℕ)) (xs : List ℕ) → Consumes a b xs → I
 at_the_end None b xs p end = tt
 at_the_end (Some x) None xs p end = absurd p
 at_the_end (Some x) (Some y) xs p end = sym (p ∙ ap (λ l. xs ++ l) end ∙ append-nil xs)
-
--- Nothing is left: all was written, and the last byte is the last of all.
-pub all_written : (a b w x : Option (List ℕ)) (last : Option ℕ) → Copied a b w x last → IsAtEnd b → IfSome a (Appends w x)
-all_written None b w x last c end = tt
-all_written (Some xs) b w x last c end = subst (Appends w x) (at_the_end (Some xs) b c.bytes c.read end) c.put
 
 pub all_ended : (a b w x : Option (List ℕ)) (last : Option ℕ) → Copied a b w x last → IsAtEnd b
     → IfSome a (λ bytes. last ≡ slice_get bytes (length bytes - 1))

@@ -16,7 +16,7 @@ use Rattle.step_host.specs.declared.fault.ScriptFault.{ScriptFault}
 use Rattle.step_host.specs.declared.fault.ScriptFault.TheVariants.{BadScript, Memory}
 use Rattle.step_host.specs.Entries.{Kept, step_cmp, kept_for, AreWellFormed, KeepsLine, Keeps}
 use Rattle.step_host.specs.Script.{Line, IsListed, IsScript, Refuses}
-use Rattle.step_host.proofs.Scripts.{AtEnd, at_end, before, last, get-last, get-front, append-none, IsFree, script-last, no_script}
+use Rattle.step_host.proofs.Scripts.{AtEnd, at_end, before, last, get-last, get-front, append-none, IsFree, script-last}
 
 -- ---- the order of steps
 
@@ -39,12 +39,6 @@ at-self x = rw (sym (nat_cmp_is x.0 x.0 Equal refl), sym (nat_cmp_is x.1 x.1 Equ
 pub record Keeping (lines : List Line) (entries : List Kept) : Type 0 where
   pub script : IsScript lines
   pub listed : (leg step : ℕ) (a : Answer) → kept_for entries (leg, step) ≡ Some a ↔ IsListed lines leg step a
-
-pub keeping-none : (entries : List Kept) → entries ≡ [] → Keeping [] entries
-keeping-none entries h = record {
-  script = no_script;
-  listed = λ leg step a. (λ k. absurd (no_some a (ap (λ es. kept_for es (leg, step)) (sym h) ∙ k)), λ k. absurd (no_some (leg, step, a) k.1));
-}
 
 module _ (lines : List Line) (old new : List Kept) (line : Line) (keeping : Keeping lines old) (keeps : KeepsLine old line new) where
   free : IsFree lines line.0 line.1

@@ -61,7 +61,7 @@ pub(crate) fn print_file(alloc: Global, work: &str, call: &StepCall) -> Result<T
     step_file(alloc, work, call.leg, call.step, ".stdout")
 }
 
-/// The same of its standard error.
+/// The name that the file has at first into which the program of a call prints its standard error.
 pub(crate) fn err_file(alloc: Global, work: &str, call: &StepCall) -> Result<Text, AllocError>
     ensures { IfOk result (λ made. made ≡ spec.err_file work.now call.now) }
 {

@@ -67,11 +67,6 @@ at_one : {T : Type 0} (P : ℕ → T → Type 0) (x : T) → ((i : ℕ) → P i 
 at_one P x holds i zero y is = subst (P i) (same_some x y is) (holds i)
 at_one P x holds i (suc k) y is = absurd (no_some y is)
 
-at_map : {S T : Type 0} (P : ℕ → T → Type 0) (x : T) (ss : List S) → ((i : ℕ) → P i x) → (i : ℕ) → At (λ k y. P i y) (map (λ s. x) ss)
-at_map P x [] holds i k y is = absurd (no_some y is)
-at_map P x (s ∷ ss) holds i zero y is = subst (P i) (same_some x y is) (holds i)
-at_map P x (s ∷ ss) holds i (suc k) y is = at_map P x ss holds i k y is
-
 -- what holds of each item follows of each
 at_weaker : {T : Type 0} (P Q : ℕ → T → Type 0) (xs : List T) → ((i : ℕ) (x : T) → P i x → Q i x) → At P xs → At Q xs
 at_weaker P Q xs follows all i x is = follows i x (all i x is)

@@ -3,14 +3,9 @@ use Rattle.std.proofs.Common.{sym, subst, ◌∙◌, refl}
 use Rattle.flow_model.specs.declared.event.Answer.{Answer}
 use Rattle.flow_model.specs.declared.reply.StepCall.{StepCall}
 use Rattle.ready_queue.specs.Passes.{TicketQueue}
-use Rattle.ready_queue.specs.declared.pass.Pass.{Pass}
 use Rattle.worker_pool.specs.Log.{AreAdmitted, answers_of}
-use Rattle.worker_pool.specs.Worker.{KeepsPass, IsFit, StaysFit, LogsNoCall}
+use Rattle.worker_pool.specs.Worker.{IsFit, StaysFit, LogsNoCall}
 use Rattle.worker_pool.specs.declared.worker.Worker.{Worker}
-
--- a pass keeps its names over two steps
-pub keeps_on : (queue : TicketQueue) (old mid new : Pass) → KeepsPass queue old mid → KeepsPass queue mid new → KeepsPass queue old new
-keeps_on queue old mid new h k = record { of_queue = k.of_queue; names = λ name. k.names name ∙ h.names name }
 
 module _ {N : Type 0} where
   -- a worker that is fit stays so where it does nothing

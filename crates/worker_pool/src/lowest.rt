@@ -47,7 +47,7 @@ fn first_leg(legs: &[Leg], before: u64) -> Option<u64>
     None
 }
 
-/// The same of the legs of some jobs; where there is none, the number after the last of them.
+/// The first Admitted leg of some jobs; where there is none, the number after their last leg.
 fn first_of_jobs(jobs: &[Job], before: u64) -> Result<u64, u64>
     requires few { before + length (flat_map (λ job. job.legs) jobs.now) ≤ 4096 }
     ensures found { IfOk result (λ number.
@@ -70,7 +70,7 @@ fn first_of_jobs(jobs: &[Job], before: u64) -> Result<u64, u64>
     Err(number)
 }
 
-/// The same of all legs of a board.
+/// The first Admitted leg of a board.
 fn first_of_board(board: &Board) -> Option<u64>
     requires few { length (board_legs board.now) ≤ 4096 }
     ensures { result ≡ position_from (λ leg. spec.is_admitted leg.state) 0 (board_legs board.now) }
