@@ -12,8 +12,6 @@ unfolding laid_over
 one_laid None others made = refl
 one_laid (Some p) others made = refl
 
-unfolding laid_over
-
 -- nothing stands beside nothing
 pub zip_none : (xs : List StepPlan) → ◌≡◌ {A = List (StepPlan × DoneStep)} (zip xs []) []
 zip_none [] = refl
