@@ -1,29 +1,33 @@
 """Tests of logs of great length: what `run` takes of memory and time to show them.
 
 The environment variable ACTRUN_PROGRAM names a built program; `tools/unit_tests.py` is started with it by `tools/test`.
-Where ACTRUN_ALL_TESTS is set, the logs are ten times as great.
+Where ACTRUN_ALL_TESTS is set, the logs are greater: up to 1 GB.
 """
 from __future__ import annotations
 
 import json
 import os
 import shutil
+import signal
 import subprocess
 import sys
 import tempfile
-import time
 import unittest
 from pathlib import Path
 
 ALL = bool(os.environ.get("ACTRUN_ALL_TESTS"))
 # the most memory that `run` may take beside the greatest line of a log
 MOST_BYTES = 32 << 20
-# executes the words after the first, with what they print at the file that the first names, and prints the most memory that they took
+# executes the words after the first two, with what they print at the file that the second names, and prints the status, the most memory
+# and the seconds of a processor that they took; a program that takes more such seconds than the first says is ended by SIGXCPU
 MEASURE = """
 import resource, subprocess, sys
-with open(sys.argv[1], "wb") as out:
-    status = subprocess.run(sys.argv[2:], stdin=subprocess.DEVNULL, stdout=out, check=False).returncode
-print(status, resource.getrusage(resource.RUSAGE_CHILDREN).ru_maxrss * 1024)
+seconds = int(sys.argv[1])
+resource.setrlimit(resource.RLIMIT_CPU, (seconds, seconds + 1))
+with open(sys.argv[2], "wb") as out:
+    status = subprocess.run(sys.argv[3:], stdin=subprocess.DEVNULL, stdout=out, check=False).returncode
+used = resource.getrusage(resource.RUSAGE_CHILDREN)
+print(status, used.ru_maxrss * 1024, used.ru_utime + used.ru_stime)
 """
 
 
@@ -44,23 +48,23 @@ class LongLogs(unittest.TestCase):
         self.shown = self.room / "shown"
         (self.room / "work").mkdir()
 
-    def execute(self, *scripts: str, legs: int = 1) -> tuple[int, float]:
-        """The most memory, in bytes, and the seconds that `run` takes of a plan of one job with these steps."""
+    def execute(self, *scripts: str, legs: int = 1, seconds: int = 300) -> tuple[int, float]:
+        """The most memory, in bytes, and the seconds of a processor that `run` takes of a plan of one job with these steps."""
         matrix = {"strategy": {"matrix": {"leg": list(range(legs))}}} if legs > 1 else {}
         flow = {"on": "push", "jobs": {"job": {"runs-on": "x", "steps": [{"run": it} for it in scripts], **matrix}}}
         (self.room / "flow.json").write_text(json.dumps(flow), encoding="utf-8")
         planned = subprocess.run([program(), "plan", self.room / "flow.json"], check=True, stdout=subprocess.PIPE)
         (self.room / "plan").write_bytes(planned.stdout)
         words = [program(), "run", "--work", self.room / "work", self.room / "plan"]
-        began = time.monotonic()
-        ran = subprocess.run([sys.executable, "-c", MEASURE, self.shown, *words], stdout=subprocess.PIPE, check=True, text=True)
-        status, most = map(int, ran.stdout.split())
-        self.assertEqual(status, 0)
-        return most, time.monotonic() - began
+        words = [sys.executable, "-c", MEASURE, str(seconds), self.shown, *words]
+        status, most, took = subprocess.run(words, stdout=subprocess.PIPE, check=True, text=True).stdout.split()
+        self.assertNotEqual(int(status), -signal.SIGXCPU, f"more than {seconds} s of a processor")
+        self.assertEqual(int(status), 0)
+        return int(most), float(took)
 
     def test_short_lines(self) -> None:
         """A log is made and shown in pieces, whatever its length."""
-        count = 100_000_000 if ALL else 1_000_000
+        count = 500_000_000 if ALL else 1_000_000
         most, _ = self.execute(f"yes | head -n {count}")
         self.assertEqual(self.shown.stat().st_size, 2 * count + len("run 0 success\n"))
         self.assertLess(most, MOST_BYTES)
@@ -83,16 +87,22 @@ class LongLogs(unittest.TestCase):
         self.execute("yes | head -n 100000; printf '\\377\\n'", "printf '\\377'; echo shown")
         self.assertEqual(self.shown.read_bytes(), b"(output is not UTF-8)\n" * 2 + b"run 0 success\n")
 
-    def test_many_masks(self) -> None:
-        """Ten times the masks and the lines take some ten times as long."""
-        masks = 40_000 if ALL else 4_000
-        most, took = self.execute(f"seq -f '::add-mask::secret-%.0f' 100000 {100_000 + masks - 1}; seq -f 'a secret-%.0f b' 100000 {100_000 + 5 * masks - 1}")
+    def take_masks(self, masks: int, seconds: int) -> float:
+        """The seconds of a processor that `run` takes of a log of so many masks and five times as many lines."""
+        script = f"seq -f '::add-mask::secret-%.0f' 1000000 {999_999 + masks}; seq -f 'a secret-%.0f b' 1000000 {999_999 + 5 * masks}"
+        most, took = self.execute(script, seconds=seconds)
         shown = self.shown.read_text().splitlines()
         self.assertEqual(shown[:masks], ["a *** b"] * masks)
-        self.assertEqual(shown[masks], f"a secret-{100_000 + masks} b")
+        self.assertEqual(shown[masks], f"a secret-{1_000_000 + masks} b")
         self.assertEqual(len(shown), 5 * masks + 1)
-        self.assertLess(took, 120)
         self.assertLess(most, 8 * MOST_BYTES)
+        return took
+
+    def test_many_masks(self) -> None:
+        """Ten times the masks and the lines take some ten times as long, and would take up to a hundred if each line met each mask."""
+        masks = 10_000 if ALL else 1_000
+        most = 25 * self.take_masks(masks, 300)
+        self.assertLess(self.take_masks(10 * masks, int(most) + 1), most)
 
     def test_masks_are_those_of_the_leg(self) -> None:
         """Each of many legs adds masks, which its own later steps are masked by, and no other leg's."""
