@@ -1,13 +1,16 @@
-"""Tests of the record that grows while a plan is executed: what a signal, a full disk and a file that cannot be written leave of it.
+"""Tests of the record of `run`: what signals, full disks, missing folders, many legs and great files make of it.
 
-The environment variable ACTRUN_PROGRAM names a built program; `tools/unit_tests.py` is started with it by `tools/test`.
+The environment variable ACTRUN_PROGRAM names a built program; `tools/unit_tests.py` is started with it by `tools/test`. What takes
+long is tested where ACTRUN_ALL_TESTS is set.
 """
 from __future__ import annotations
 
+import collections
 import concurrent.futures
 import json
 import os
 import random
+import re
 import shutil
 import signal
 import subprocess
@@ -18,6 +21,9 @@ import unittest
 from pathlib import Path
 
 TOP = Path(__file__).resolve().parent.parent
+ALL = bool(os.environ.get("ACTRUN_ALL_TESTS"))
+# starts the words after it with 2 GB of addresses
+LIMITED = ["sh", "-c", 'ulimit -v 2000000 && exec "$@"', "sh"]
 # (a server that a step starts has its number in its command line, so that it is found again)
 UNIQUE = f"{os.getpid()}"
 STARTER = 'set -u; top=$1 program=$2; shift 2; . "$top/tools/dispatch.sh"; answer "$@"'
@@ -58,10 +64,11 @@ class Case(unittest.TestCase):
         self.part = self.room / "r.part"
         self.work.mkdir()
 
-    def plan(self, steps: list[dict], legs: int = 1) -> Path:
-        """The plan of one job with these steps."""
+    def plan(self, steps: list[dict], legs: int = 1, jobs: int = 1) -> Path:
+        """The plan of jobs with these steps, each with so many legs."""
         matrix = {"strategy": {"fail-fast": False, "matrix": {"leg": list(range(legs))}}}
-        flow = {"on": "push", "jobs": {"job": {"runs-on": "x", "steps": steps, **(matrix if legs > 1 else {})}}}
+        job = {"runs-on": "x", "steps": steps, **(matrix if legs > 1 else {})}
+        flow = {"on": "push", "jobs": {f"job-{number}": job for number in range(jobs)}}
         (self.room / "flow.json").write_text(json.dumps(flow), encoding="utf-8")
         plan = self.room / "plan"
         plan.write_bytes(subprocess.run([program(), "plan", self.room / "flow.json"], check=True, stdout=subprocess.PIPE).stdout)
@@ -78,9 +85,10 @@ class Case(unittest.TestCase):
     def run_words(self, words: list[str], **more) -> subprocess.CompletedProcess[str]:
         """What a command answers."""
         more.setdefault("stdin", None if "input" in more else subprocess.DEVNULL)
+        more.setdefault("timeout", 60)
         if "input" in more:
             del more["stdin"]
-        return subprocess.run(words, text=True, capture_output=True, timeout=60, check=False, **more)
+        return subprocess.run(words, text=True, capture_output=True, check=False, **more)
 
     def lines(self, file: Path) -> list[bytes]:
         """The lines of a record that `table` accepts; all of them are whole."""
@@ -88,6 +96,26 @@ class Case(unittest.TestCase):
         answer = subprocess.run([program(), "table"], input=text, capture_output=True, check=False)
         self.assertEqual((answer.returncode, answer.stderr, text[-1:]), (0, b"", b"\n"), text[-300:])
         return text.splitlines(keepends=True)
+
+    def entries(self) -> list[dict]:
+        """The entries of the record that a run left that came to its end."""
+        self.assertFalse(self.part.exists())
+        return [json.loads(line) for line in self.lines(self.record)[1:]]
+
+    def answers(self) -> list[list]:
+        """How the steps of each leg ended: the code, or else the kind."""
+        found = collections.defaultdict(list)
+        for it in self.entries():
+            if it["event"] == "end":
+                found[it["leg"]].append(it["answer"].get("code", it["answer"]["kind"]))
+        return [found[leg] for leg in sorted(found)]
+
+    def mount(self, folder: Path) -> None:
+        """Makes a folder a file system of 64 KiB."""
+        folder.mkdir(exist_ok=True)
+        if subprocess.run(["mount", "-t", "tmpfs", "-o", "size=64k", "tmpfs", str(folder)], capture_output=True, check=False).returncode:
+            self.skipTest("a file system cannot be mounted here")
+        self.addCleanup(subprocess.run, ["umount", "-l", str(folder)], check=False)
 
 
 class Growing(Case):
@@ -155,14 +183,66 @@ class Growing(Case):
     @unittest.skipUnless(os.geteuid() == 0, "only root can mount a small file system")
     def test_a_full_disk_leaves_whole_lines(self) -> None:
         small = self.room / "small"
-        small.mkdir()
-        if subprocess.run(["mount", "-t", "tmpfs", "-o", "size=64k", "tmpfs", str(small)], capture_output=True, check=False).returncode:
-            self.skipTest("a file system cannot be mounted here")
-        self.addCleanup(subprocess.run, ["umount", "-l", str(small)], check=False)
+        self.mount(small)
         plan = self.plan([{"run": "printf 'word=%09000d\\n' 1 >> $GITHUB_OUTPUT"}] * 12)
         answer = self.run_words(self.words(plan, "--record", str(small / "r")))
         self.assertEqual((answer.returncode, answer.stdout, answer.stderr), (3, "run 0 success\n", "actrun: io\n"))
         self.assertGreater(len(self.lines(small / "r.part")), 10)
+
+    def test_many_legs(self) -> None:
+        """The part grows to the record, which has each leg once."""
+        jobs = 16 if ALL else 1
+        legs = 256 * jobs
+        words = [*self.words(self.plan([{"run": "true"}], 256, jobs)), "--workers", "16"]
+        with subprocess.Popen(words, stdout=subprocess.PIPE, stderr=subprocess.PIPE, text=True) as child:
+            while not self.part.exists() and child.poll() is None:
+                time.sleep(0.01)
+            # (an open file can be read after it was removed)
+            with self.part.open("rb") as part:
+                out, err = child.communicate()
+                self.assertEqual((child.returncode, out, err), (0, "run 0 success\n", ""))
+                self.assertEqual(part.read(), self.record.read_bytes())
+        self.assertEqual(collections.Counter(it["event"] for it in self.entries()),
+                         {"open": 1, "judge": jobs, **dict.fromkeys(("ask", "take", "begin", "end", "finish"), legs), "close": 1})
+        self.assertEqual(self.answers(), [[0]] * legs)
+        board = subprocess.run([program(), "table"], input=self.record.read_bytes(), stdout=subprocess.PIPE, check=True).stdout
+        self.assertEqual((board.splitlines()[0], board.count(b" ended success\n")), (b"run 0 closed success", legs))
+
+
+class Disturbed(Case):
+    """What a run answers whose folder is full, or is taken away."""
+
+    def told(self, steps: list[str], legs: int = 1) -> tuple[list[str], str]:
+        """Why steps failed that all may fail, in order, and what is shown."""
+        plan = self.plan([{"run": script, "continue-on-error": True} for script in steps], legs)
+        answer = self.run_words([*self.words(plan), "--progress", "--workers", str(legs)])
+        self.assertEqual(answer.returncode, 0, answer.stderr)
+        why = re.findall(r" refused: (.*)| not started: .* \((.*)\), ", answer.stderr)
+        return ["".join(it) for it in why], answer.stdout
+
+    @unittest.skipUnless(os.geteuid() == 0, "only root can mount a small file system")
+    def test_a_full_disk_of_the_folder(self) -> None:
+        """What a step printed takes its room twice for a while."""
+        self.mount(self.work)
+        why, shown = self.told(["echo before", "head -c 40000 /dev/zero | tr '\\0' x", "head -c 20000 /dev/zero > big; echo fits",
+                                "cat /dev/zero > big", "echo never"])
+        self.assertEqual(self.answers(), [[0, "bad-output", 0, 1, "not-started"]])
+        self.assertEqual(why, ["what it printed cannot be kept: no storage space", "a file for it cannot be written"])
+        self.assertRegex(shown, r"\Abefore\nx*\n?fits\nrun 0 success\n\Z")
+
+    def test_a_folder_that_is_taken_away(self) -> None:
+        """Of two legs one takes the folder away in its second step, while the other's second step goes on."""
+        for verb in ("rm -rf", "mv -t ."):
+            with self.subTest(verb=verb):
+                begun, leg = self.room / verb, "${{ matrix.leg }}"
+                begun.mkdir()
+                self.work.mkdir(exist_ok=True)
+                takes = (f"cd '{begun}'; touch {leg}; while ! [ -e 0 -a -e 1 ]; do sleep 0.02; done; "
+                         f"[ {leg} = 1 ] || {verb} {self.work}; while [ -e {self.work} ]; do sleep 0.02; done")
+                why, shown = self.told(["echo before", takes, "echo never"], 2)
+                self.assertEqual(self.answers(), [[0, "bad-output", "not-started"]] * 2)
+                self.assertEqual(sorted(why), ["its folder is not there"] * 2 + ["what it printed cannot be kept: entity not found"] * 2)
+                self.assertEqual((shown, self.work.exists()), ("run 0 success\n", False))
 
 
 class Refused(Case):
@@ -175,13 +255,29 @@ class Refused(Case):
             "echo =x > $GITHUB_ENV": "its file of variables is refused: NoName",
             "truncate -s 3G $GITHUB_OUTPUT": "its file of outputs cannot be read: file too large",
             "rm $GITHUB_OUTPUT; mkfifo $GITHUB_OUTPUT": "its file of outputs cannot be read: invalid input parameter",
+            "rm $GITHUB_OUTPUT; mkfifo -m 0400 $GITHUB_OUTPUT": "its file of outputs cannot be read: invalid input parameter",
             "rm $GITHUB_ENV": "its file of variables cannot be read: entity not found",
         }
         plan = self.plan([{"run": script, "continue-on-error": True} for script in reasons])
-        answer = self.run_words([*self.words(plan), "--progress"])
+        answer = self.run_words([*LIMITED, *self.words(plan), "--progress"])
         told = [line.partition(" refused: ")[2] for line in answer.stderr.splitlines() if " refused: " in line]
         self.assertEqual((told, answer.returncode), (list(reasons.values()), 0), answer.stderr)
         self.assertEqual(answer.stderr.count(" bad output in "), len(reasons))
+
+    @unittest.skipUnless(ALL, "it takes long")
+    def test_great_files_in_little_memory(self) -> None:
+        """A file that is not too large is read whole, and all ends with `memory` where as many as there are workers do not fit."""
+        for legs in (1, 16):
+            with self.subTest(legs=legs):
+                plan = self.plan([{"run": "truncate -s 60M $GITHUB_OUTPUT", "continue-on-error": True}], legs)
+                answer = self.run_words([*LIMITED, *self.words(plan), "--progress", "--workers", str(legs)], timeout=300)
+                if legs > 1 and answer.returncode == 3:
+                    self.assertEqual((answer.stdout, answer.stderr.splitlines()[-1]), ("", "actrun: memory"))
+                    self.assertNotIn("close", [it["event"] for it in self.entries()])
+                else:
+                    self.assertEqual((answer.returncode, answer.stdout), (0, "run 0 success\n"), answer.stderr)
+                    self.assertEqual(self.answers(), [["bad-output"]] * legs)
+                self.assertEqual(set(re.findall("refused: .*", answer.stderr)), {"refused: its file of outputs is refused: NoName"})
 
 
 class Signalled(Case):
