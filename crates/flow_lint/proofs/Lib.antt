@@ -1,3 +1,4 @@
 pub mod Meant
+pub mod Nodes
 pub mod Standing
 pub mod Walks

@@ -1,6 +1,6 @@
 -- The keys of a workflow's file, level by level, and what stands at each: the table beside which GitHub's page "Workflow syntax" can
 -- be read.
-use Rattle.std.specs.Prelude.{ℕ, if◌then◌else◌, List, [], ◌∷◌, codes}
+use Rattle.std.specs.Prelude.{◌≡◌, ℕ, ◌⊎◌, if◌then◌else◌, List, [], ◌∷◌, codes}
 use Rattle.std.specs.Str.{bytes_eq}
 use Rattle.flow_lint.specs.declared.kind.NodeKind.{NodeKind}
 use Rattle.flow_lint.specs.declared.kind.NodeKind.TheVariants.{Workflow, Jobs, Job, Steps, Step, Plain, Id, Needs, Need, Condition, Flag, Env, Variable, With, Input, Outputs, Output, Group, GroupName, Defaults, Scripts, Shell, Directory, SharedDirectory, Run, Strategy, FailFast, MaxParallel, Matrix, Values, Entries, Triggers, Event, Idle, LeftOut, Unknown}
@@ -134,3 +134,7 @@ kind_in ((known, kind) ∷ keys) other name = if bytes_eq known name then kind e
 -- What stands at a key of what is of this kind.
 abbrev pub kind_at : NodeKind → List ℕ → NodeKind
 kind_at kind name = kind_in (known_keys kind) (other_kind kind) name
+
+-- The table has something to say of what stands behind the keys of what is of this kind, so that each of them is looked at.
+abbrev pub IsOpened : NodeKind → Type 0
+IsOpened kind = (known_keys kind ≡ [] → ⊥) ⊎ (other_kind kind ≡ Unknown → ⊥)

@@ -25,6 +25,10 @@ IsTemplate k =
 abbrev pub IsNeed : NodeKind → Type 0
 IsNeed k = (k ≡ kinds.Needs) ⊎ (k ≡ kinds.Need)
 
+-- A list stands there whose items are looked at: of steps, or of needs.
+abbrev pub IsList : NodeKind → Type 0
+IsList k = (k ≡ kinds.Steps) ⊎ (k ≡ kinds.Needs)
+
 -- The key has to be in what is of this kind.
 abbrev pub Wants : NodeKind → List ℕ → Type 0
 Wants k key =

@@ -4,8 +4,8 @@ use Rattle.serde_json.specs.Data.{Data}
 use Rattle.serde_json.specs.Find.{get, at, as_str}
 use Rattle.expr_reader.specs.TemplateStands.{TemplateFaultStands, ConditionFaultStands}
 use Rattle.expr_reader.specs.declared.fault.ExprFault.{ExprFault}
-use Rattle.flow_lint.specs.Keys.{kind_at}
-use Rattle.flow_lint.specs.Kinds.{IsNeed, IsTemplate, level_in}
+use Rattle.flow_lint.specs.Keys.{IsOpened, kind_at}
+use Rattle.flow_lint.specs.Kinds.{IsList, IsNeed, IsTemplate, level_in}
 use Rattle.flow_lint.specs.declared.kind.NodeKind.{NodeKind}
 use Rattle.flow_lint.specs.declared.kind.NodeKind.TheVariants as kinds
 use Rattle.flow_lint.specs.declared.kind.Level.{Level}
@@ -88,6 +88,34 @@ pub record StandsAt (root : Data) (path : List ℕ) (p : Place) : Type 0 where
   pub is_level : p.level ≡ level_of ways
   pub is_last : p.last ≡ last_text ways
   pub stands : found ways root ≡ Some p.value
+
+-- ---- places that are looked at
+
+-- The whole of a file.
+abbrev pub whole : Data → Place
+whole root = record {
+  around = kinds.Workflow;
+  kind = kinds.Workflow;
+  level = levels.Workflow;
+  last = [];
+  value = root;
+}
+
+-- A step into what is of this kind is taken: by each key where the table has something to say, by each number of a list of steps or
+-- needs.
+abbrev pub IsTaken : NodeKind → Way → Type 0
+IsTaken kind (key name) = IsOpened kind
+IsTaken kind (item place) = IsList kind
+
+-- So is each step of a path.
+abbrev pub AreTaken : List Way → Type 0
+AreTaken [] = Unit {0}
+AreTaken (way ∷ ways) = IsTaken (kind_of ways) way × AreTaken ways
+
+-- What is to be seen at a path of a file is looked at.
+pub record IsLookedAt (root : Data) (path : List ℕ) (p : Place) : Type 0 where
+  pub stands : StandsAt root path p
+  pub are_taken : AreTaken stands.ways
 
 -- ---- texts and needs
 

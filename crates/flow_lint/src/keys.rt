@@ -1,6 +1,7 @@
 //! The keys that are known, level by level, and what stands at each.
 
-ghost use Rattle.std.specs.Prelude.{◌≡◌, map};
+ghost use Rattle.std.specs.Prelude.{◌≡◌, ◌↔◌, IsTrue, map};
+ghost use Rattle.flow_lint.specs.Kinds.{IsList};
 ghost use Rattle.flow_lint.specs.Keys as spec;
 
 use crate::kind::NodeKind;
@@ -127,11 +128,15 @@ pub(crate) fn kind_at(kind: NodeKind, key: &str) -> NodeKind
 }
 
 /// Whether what stands within is looked at.
-pub(crate) fn is_opened(kind: NodeKind) -> bool {
+pub(crate) fn is_opened(kind: NodeKind) -> bool
+    ensures { IsTrue result ↔ spec.IsOpened kind }
+{
     !known_keys(kind).is_empty() || other_kind(kind) != NodeKind::Unknown
 }
 
 /// Whether it is a list whose items are looked at.
-pub(crate) fn is_list(kind: NodeKind) -> bool {
+pub(crate) fn is_list(kind: NodeKind) -> bool
+    ensures { IsTrue result ↔ IsList kind }
+{
     matches!(kind, NodeKind::Steps | NodeKind::Needs)
 }

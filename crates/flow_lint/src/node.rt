@@ -1,10 +1,13 @@
 //! The places of a workflow's file, one after the other.
 
-ghost use Rattle.std.specs.Prelude.{◌≡◌, IfOk, IfSome, OnOk, codes, decimal};
+ghost use Rattle.std.specs.Prelude.{◌≡◌, [], ◌∷◌, ◌++◌, IfOk, IfSome, None, OnOk, codes, decimal};
 ghost use Rattle.std.specs.List.{All};
-ghost use Rattle.serde_json.specs.View.{view};
+ghost use Rattle.std.specs.Option.{option_to_list};
+ghost use Rattle.serde_json.specs.Data.{array, object};
+ghost use Rattle.serde_json.specs.Find.{at, get};
+ghost use Rattle.serde_json.specs.View.{items_view, members_view, view};
 ghost use Rattle.flow_lint.specs.Places as spec;
-ghost use Rattle.flow_lint.specs.Nodes.{Fits, place_of};
+ghost use Rattle.flow_lint.specs.Nodes.{AreAll, Fits, GivesInner, Has, HasInner, HasItems, HasMembers, Keeps, place_of};
 
 use crate::keys::{is_list, is_opened, kind_at};
 use crate::kind::{Level, NodeKind};
@@ -54,7 +57,9 @@ pub fn job_path(alloc: Global, id: &str, key: &str) -> Result<Text, AllocError>
 impl<'v> Node<'v> {
     /// The whole of a file.
     fn whole(alloc: Global, root: &'v Value) -> Node<'v>
-        ensures { Fits (view root.now) result }
+        ensures fits { Fits (view root.now) result }
+        ensures path { result.path ≡ [] }
+        ensures place { place_of result ≡ spec.whole (view root.now) }
     {
         Node {
             path: Text::new(String::new(alloc)),
@@ -91,7 +96,9 @@ impl<'v> Node<'v> {
         key: &str,
     ) -> Result<Option<Node<'v>>, AllocError>
         requires { Fits (view _root.now) self.now }
-        ensures { IfOk result (λ found. IfSome found (Fits (view _root.now))) }
+        ensures fits { IfOk result (λ found. IfSome found (Fits (view _root.now))) }
+        ensures gives { IfOk result (GivesInner self.now key.now
+            (get key.now (view self.now.value.now))) }
     {
         match self.value.get(key) {
             Some(value) => Ok(Some(self.inner(alloc, Text::from_str(alloc, key)?, value)?)),
@@ -107,7 +114,9 @@ impl<'v> Node<'v> {
         place: usize,
     ) -> Result<Option<Node<'v>>, AllocError>
         requires { Fits (view _root.now) self.now }
-        ensures { IfOk result (λ found. IfSome found (Fits (view _root.now))) }
+        ensures fits { IfOk result (λ found. IfSome found (Fits (view _root.now))) }
+        ensures gives { IfOk result (GivesInner self.now (decimal place)
+            (at place (view self.now.value.now))) }
     {
         match self.value.get(place) {
             Some(value) => Ok(Some(self.inner(alloc, number(alloc, place)?, value)?)),
@@ -127,7 +136,8 @@ pub fn number(alloc: Global, place: usize) -> Result<Text, AllocError>
 fn push_node<'v>(_root: &Value, nodes: &mut Vec<Node<'v>>, node: Node<'v>) -> Result<(), AllocError>
     requires nodes { All (Fits (view _root.now)) nodes.old.items }
     requires node { Fits (view _root.now) node }
-    ensures { OnOk result (All (Fits (view _root.now)) nodes.new.items) }
+    ensures fit { OnOk result (All (Fits (view _root.now)) nodes.new.items) }
+    ensures items { OnOk result (nodes.new.items ≡ nodes.old.items ++ node.entry ∷ []) }
 {
     nodes.push(node)?;
     Ok(())
@@ -138,8 +148,28 @@ fn pop_node<'v>(_root: &Value, nodes: &mut Vec<Node<'v>>) -> Option<Node<'v>>
     requires { All (Fits (view _root.now)) nodes.old.items }
     ensures rest { All (Fits (view _root.now)) nodes.new.items }
     ensures last { IfSome result (Fits (view _root.now)) }
+    ensures items { nodes.old.items ≡ nodes.new.items ++ option_to_list result }
+    ensures none { result ≡ None → nodes.old.items ≡ [] }
 {
     nodes.pop()
+}
+
+/// Adds a place that was found.
+fn push_found<'v>(
+    root: &Value,
+    nodes: &mut Vec<Node<'v>>,
+    found: Option<Node<'v>>,
+) -> Result<(), AllocError>
+    requires nodes { All (Fits (view root.now)) nodes.old.items }
+    requires found { IfSome found (Fits (view root.now)) }
+    ensures fit { OnOk result (All (Fits (view root.now)) nodes.new.items) }
+    ensures kept { OnOk result (Keeps nodes.old.items nodes.new.items) }
+    ensures added { OnOk result (IfSome found.entry (λ node. Has nodes.new.items node.path (place_of node))) }
+{
+    match found {
+        Some(node) => push_node(root, nodes, node),
+        None => Ok(()),
+    }
 }
 
 /// Adds the members of a place.
@@ -151,13 +181,13 @@ fn push_members<'v>(
     nodes: &mut Vec<Node<'v>>,
 ) -> Result<(), AllocError>
     requires node { Fits (view root.now) node.now }
+    requires members { view node.now.value.now ≡ object (members_view members.now.entries) }
     requires nodes { All (Fits (view root.now)) nodes.old.items }
-    ensures { OnOk result (All (Fits (view root.now)) nodes.new.items) }
+    ensures fit { OnOk result (All (Fits (view root.now)) nodes.new.items) }
+    ensures all { OnOk result (HasMembers node.now nodes.new.items) }
 {
     for (key, _) in members.iter() {
-        if let Some(found) = node.member(alloc, root, key.as_str())? {
-            push_node(root, nodes, found)?;
-        }
+        push_found(root, nodes, node.member(alloc, root, key.as_str())?)?;
     }
     Ok(())
 }
@@ -167,17 +197,17 @@ fn push_items<'v>(
     alloc: Global,
     root: &Value,
     node: &Node<'v>,
-    count: usize,
+    items: &Vec<Value>,
     nodes: &mut Vec<Node<'v>>,
 ) -> Result<(), AllocError>
     requires node { Fits (view root.now) node.now }
+    requires items { view node.now.value.now ≡ array (items_view items.now.items) }
     requires nodes { All (Fits (view root.now)) nodes.old.items }
-    ensures { OnOk result (All (Fits (view root.now)) nodes.new.items) }
+    ensures fit { OnOk result (All (Fits (view root.now)) nodes.new.items) }
+    ensures all { OnOk result (HasItems node.now nodes.new.items) }
 {
-    for place in 0..count {
-        if let Some(found) = node.item(alloc, root, place)? {
-            push_node(root, nodes, found)?;
-        }
+    for place in 0..items.len() {
+        push_found(root, nodes, node.item(alloc, root, place)?)?;
     }
     Ok(())
 }
@@ -191,14 +221,15 @@ fn push_inner<'v>(
 ) -> Result<(), AllocError>
     requires node { Fits (view root.now) node.now }
     requires nodes { All (Fits (view root.now)) nodes.old.items }
-    ensures { OnOk result (All (Fits (view root.now)) nodes.new.items) }
+    ensures fit { OnOk result (All (Fits (view root.now)) nodes.new.items) }
+    ensures all { OnOk result (HasInner node.now nodes.new.items) }
 {
     match node.value {
         Value::Object(members) => push_members(alloc, root, node, members, nodes),
-        Value::Array(items) if is_list(node.kind) => {
-            push_items(alloc, root, node, items.len(), nodes)
-        },
-        _ => Ok(()),
+        Value::Array(items) if is_list(node.kind) => push_items(alloc, root, node, items, nodes),
+        Value::Array(_) | Value::Null | Value::Bool(_) | Value::Number(_) | Value::String(_) => Ok(
+            (),
+        ),
     }
 }
 
@@ -209,7 +240,8 @@ fn inner_nodes<'v>(
     node: &Node<'v>,
 ) -> Result<Vec<Node<'v>>, AllocError>
     requires { Fits (view root.now) node.now }
-    ensures { IfOk result (λ nodes. All (Fits (view root.now)) nodes.items) }
+    ensures fit { IfOk result (λ nodes. All (Fits (view root.now)) nodes.items) }
+    ensures all { IfOk result (λ nodes. HasInner node.now nodes.items) }
 {
     let mut nodes = Vec::new(alloc);
     if is_opened(node.kind) {
@@ -226,7 +258,9 @@ fn push_turned<'v>(
 ) -> Result<(), AllocError>
     requires waiting { All (Fits (view root.now)) waiting.old.items }
     requires nodes { All (Fits (view root.now)) nodes.items }
-    ensures { OnOk result (All (Fits (view root.now)) waiting.new.items) }
+    ensures fit { OnOk result (All (Fits (view root.now)) waiting.new.items) }
+    ensures kept { OnOk result (Keeps waiting.old.items waiting.new.items) }
+    ensures added { OnOk result (Keeps nodes.entry.items waiting.new.items) }
 {
     for _ in 0..u64::MAX {
         match pop_node(root, &mut nodes) {
@@ -234,12 +268,13 @@ fn push_turned<'v>(
             None => return Ok(()),
         }
     }
-    Ok(())
+    Err(AllocError)
 }
 
-/// The places of a file: each before what stands in it, keys in byte order.
+/// The places of a file that are looked at: each before what stands in it, keys in byte order.
 pub fn nodes_of<'v>(alloc: Global, root: &'v Value) -> Result<Vec<Node<'v>>, AllocError>
-    ensures { IfOk result (λ nodes. All (Fits (view root.now)) nodes.items) }
+    ensures fit { IfOk result (λ nodes. All (Fits (view root.now)) nodes.items) }
+    ensures all { IfOk result (λ nodes. AreAll (view root.now) nodes.items) }
 {
     let mut nodes = Vec::new(alloc);
     let mut waiting = Vec::new(alloc);
@@ -251,5 +286,5 @@ pub fn nodes_of<'v>(alloc: Global, root: &'v Value) -> Result<Vec<Node<'v>>, All
         push_turned(root, &mut waiting, inner_nodes(alloc, root, &node)?)?;
         push_node(root, &mut nodes, node)?;
     }
-    Ok(nodes)
+    Err(AllocError)
 }
