@@ -416,7 +416,7 @@ module _ (p : Plan) (b : Board) (j : ℕ) (at : JobAt) (is : job_at p b j ≡ So
   abbrev here : JobIsThere p b j at
   here = job_stands p b j at is
 
-  job_item : slice_get (board_jobs b) j ≡ Some at.job
+  pub job_item : slice_get (board_jobs b) j ≡ Some at.job
   job_item =
       sym ((jobs_are_numbered b).there j)
       ∙ ap (λ (o : Option JobPlace). o >>= job_there b) here.place

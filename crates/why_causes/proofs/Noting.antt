@@ -38,6 +38,7 @@ use Rattle.status_table.specs.Row.{Row, event_row, row}
 use Rattle.status_table.specs.Runs.{after, new_board, new_job, new_leg, new_run}
 use Rattle.why_causes.proofs.Becoming.{changes_become_so, goes}
 use Rattle.why_causes.proofs.Going.{Tells}
+use Rattle.why_causes.proofs.MetFirst.{contains_at}
 use Rattle.why_causes.proofs.Members.{leg_clash, leg_told, run_clash, run_told, untold_leg, untold_run}
 use Rattle.status_table.proofs.Lists.{changed-cons, zip-append}
 use Rattle.board_decisions.proofs.Lists.{no_some, same_some}
@@ -367,7 +368,7 @@ every_noted P b Free line notes (c ∷ cs) all k =
 
 -- ---- a record
 
-accepted_event : (p : Plan) (b : Board) (e : Entry) (x : Board × Reply) → row p b e.worker e.event ≡ Ok x → event_row p b e.worker e.event ≡ Ok x
+pub accepted_event : (p : Plan) (b : Board) (e : Entry) (x : Board × Reply) → row p b e.worker e.event ≡ Ok x → event_row p b e.worker e.event ≡ Ok x
 accepted_event p b e x h = by (nat_le e.worker 15) h
   where
     by : (few : Bool) → (if few then event_row p b e.worker e.event else Err fault.NoSuch) ≡ Ok x → event_row p b e.worker e.event ≡ Ok x
@@ -387,6 +388,7 @@ made p es before rest line b e x is counted played accepted i c at news = record
   counted = counted;
   played = played;
   accepted = accepted;
+  among = contains_at (changes p b e.event) i c at;
   becomes = changes_become_so p b x.0 e.worker e.event x.1 (accepted_event p b e x accepted) i c at;
   news = news;
 }

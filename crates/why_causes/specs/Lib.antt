@@ -1,6 +1,7 @@
 pub mod Agrees
 pub mod Becomes
 pub mod Causes
+pub mod Endings
 pub mod Made
 pub mod Obstacles
 pub mod Once

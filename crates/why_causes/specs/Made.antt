@@ -1,5 +1,5 @@
 -- What is noted in the account of a record was made so by the entry at the line that is noted, and is so at the end.
-use Rattle.std.specs.Prelude.{◌≡◌, ◌+◌, ◌++◌, ℕ, List, ◌∷◌, length, Some, Ok, IfSome, slice_get}
+use Rattle.std.specs.Prelude.{◌≡◌, ◌+◌, ◌++◌, ℕ, Contains, List, ◌∷◌, length, Some, Ok, IfSome, slice_get}
 use Rattle.why_facts.specs.declared.fact.Change.{Change}
 use Rattle.why_facts.specs.declared.fact.Change.TheVariants as change
 use Rattle.why_facts.specs.declared.notes.JobNotes.{JobNotes}
@@ -8,6 +8,7 @@ use Rattle.why_facts.specs.declared.notes.Notes.{Notes}
 use Rattle.why_facts.specs.declared.notes.RunNotes.{RunNotes}
 use Rattle.why_facts.specs.declared.notes.StepNote.{StepNote}
 use Rattle.why_notes.specs.Account.{Account, account_of}
+use Rattle.why_notes.specs.Changes.{changes}
 use Rattle.why_causes.specs.Agrees.{Agrees}
 use Rattle.why_causes.specs.Becomes.{Becomes}
 use Rattle.why_causes.specs.Stands.{IsTold}
@@ -29,7 +30,7 @@ IsNews old (change.Step l fact) = Unit {0}
 IsNews old (change.Stop who tells) = IsTold old who → ⊥
 
 -- A change is made at a line of a record, whose plan is line 1: the entry there is accepted on the board after those
--- before it, and the change was not so on that board, and is so on the one after it.
+-- before it, the change is among what it makes so, was not so on that board, and is so on the one after it.
 pub record MadeAt (p : Plan) (es : List Entry) (line : ℕ) (c : Change) : Type 0 where
   pub before : List Entry
   pub entry : Entry
@@ -41,6 +42,7 @@ pub record MadeAt (p : Plan) (es : List Entry) (line : ℕ) (c : Change) : Type 
   pub counted : line ≡ length before + 2
   pub played : after p before ≡ Some old
   pub accepted : row p old entry.worker entry.event ≡ Ok (new, reply)
+  pub among : Contains (changes p old entry.event) c
   pub becomes : Becomes old new c
   pub news : IsNews old c
 

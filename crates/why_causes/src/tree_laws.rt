@@ -1,7 +1,10 @@
 //! What holds of a tree of facts, beside its lines.
 
+ghost use Rattle.why_causes.specs.Endings.{EndingsAreNamed};
 ghost use Rattle.why_causes.specs.Obstacles.{ObstaclesAreNamed};
 ghost use Rattle.why_causes.specs.Once.{NothingIsAskedTwice};
+
+use flow_model::laws::{needs_point_back, rules_hold};
 
 /// In a tree each run, job and leg, and that a run was told to stop, is answered once at most.
 #[tactic(auto, using(crate::proofs::AskedOnce::nothing_is_asked_twice))]
@@ -15,3 +18,13 @@ pub fn nothing_is_asked_twice()
 pub fn obstacles_are_named()
     ensures { ObstaclesAreNamed }
 {}
+
+/// Below a run that its Close ended without success stand all its jobs with that result and no others, and that it was told to
+/// stop, where that cancelled it; below a job that waited in vain for success stand all ancestors without success that are met
+/// first, and no others. In both places one stands at least.
+pub fn endings_are_named()
+    ensures { EndingsAreNamed }
+{
+    rules_hold();
+    needs_point_back();
+}

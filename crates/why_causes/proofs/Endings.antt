@@ -1,0 +1,16 @@
+-- Where a run was closed without success, or a job was skipped since what it needs had none, the jobs that brought it there are
+-- named, and no others.
+use Rattle.why_causes.proofs.ClosedRuns.{names_jobs}
+use Rattle.why_causes.proofs.SkippedJobs.{names_first, waited_in_vain}
+use Rattle.why_causes.specs.Endings.{EndingsAreNamed}
+use Rattle.flow_model.specs.Laws.{NeedsPointBack}
+use Rattle.flow_model.specs.Rules.{IsPlan}
+use Rattle.flow_model.specs.Sound.{SoundPlan}
+use Rattle.flow_model.specs.declared.plan.Plan.{Plan}
+
+pub endings_are_named : ((p : Plan) → IsPlan p → SoundPlan p) → NeedsPointBack → EndingsAreNamed
+endings_are_named sound numbers = record {
+  runs = λ p es a r at note result rules account is noted fact apart. names_jobs p es a r at note result rules (sound p rules) numbers account is noted fact apart;
+  jobs = λ p es a j at rules account is skipped waits. names_first p es a j at rules (sound p rules) account is skipped waits;
+  vain = λ p es a j at note rules account is noted fact. waited_in_vain p es a j at rules (sound p rules) account is note noted fact;
+}
