@@ -214,7 +214,7 @@ displaced_agrees b notes (member.Run r) by line = closed_agrees b notes r outcom
 displaced_agrees b notes (member.Leg l) by line = dropped_agrees b notes l outcome.Cancelled (member_fact.Displaced by) line refl
 
 -- the first teller is noted
-first_told : (first : Option StopNote) (note : StopNote) → is_some (spec.first_of first note) ≡ true
+pub first_told : (first : Option StopNote) (note : StopNote) → is_some (spec.first_of first note) ≡ true
 first_told None note = refl
 first_told (Some first) note = refl
 

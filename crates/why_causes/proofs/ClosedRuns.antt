@@ -1,19 +1,16 @@
 -- A run that its Close ended without success names its jobs with that result, and no others.
-use Rattle.std.proofs.Common.{◌≡◌, ◌≢◌, ◌⊎◌, inl, inr, ◌∙◌, ap, sym, refl, subst, ℕ, zero, suc, ◌+◌, arith, Bool, true, false, ◌&&◌, ◌||◌, Contains, IfSome, List, [], ◌∷◌, ◌++◌, Option, Some, None, Ok, Err, slice_get, if◌then◌else◌, true≢false}
+use Rattle.std.proofs.Common.{◌≡◌, ◌≢◌, ◌⊎◌, inl, inr, ◌∙◌, ap, sym, refl, subst, ℕ, suc, ◌+◌, arith, Bool, true, false, ◌&&◌, ◌||◌, Contains, IfSome, List, [], ◌∷◌, ◌++◌, Option, Some, None, Ok, Err, slice_get, if◌then◌else◌, true≢false}
 use Rattle.std.proofs.lemmas.List.Elements.{Contains-append_right}
-use Rattle.board_decisions.specs.Derived.{is_any_job_cancelled, is_any_job_failed, is_cancelled, is_closed, is_failure, is_going, job_has_ended, job_result, jobs_have_ended, run_result}
+use Rattle.board_decisions.specs.Derived.{is_any_job_cancelled, is_any_job_failed, is_cancelled, is_failure, is_going, job_has_ended, job_result, jobs_have_ended, run_result}
 use Rattle.board_decisions.specs.Place.{RunAt, run_at}
-use Rattle.board_decisions.proofs.Lists.{and-left, and-right, no_some, same_some}
+use Rattle.board_decisions.proofs.Lists.{and-left, and-right, no_some}
 use Rattle.why_causes.proofs.Changing.{made_by}
-use Rattle.why_causes.proofs.Going.{board_of}
-use Rattle.why_causes.proofs.Members.{any_leg, kept, run_told}
-use Rattle.why_causes.proofs.MetFirst.{contains_cases, contains_here, contains_later, contains_none}
+use Rattle.why_causes.proofs.MetFirst.{contains_cases, contains_here, contains_none, contains_at}
 use Rattle.why_causes.proofs.Noting.{accepted_event, notes_are_made}
 use Rattle.why_causes.proofs.Staying.{some_passes, stays_unsuccessful}
 use Rattle.why_causes.specs.Causes.{asked, causes, counts, first_job, is_judged, job_sought, jobs_asked, run_asked, run_fact_asked, run_last, run_noted_asked, stop_asked}
 use Rattle.why_causes.specs.Endings.{HasResult, NamesJobsOfResult}
 use Rattle.why_causes.specs.Made.{MadeAt}
-use Rattle.why_causes.specs.Stands.{Has}
 use Rattle.why_causes.specs.declared.question.Question.{Question}
 use Rattle.why_causes.specs.declared.question.Question.TheVariants as question
 use Rattle.why_causes.specs.declared.sought.Sought.TheVariants as sought
@@ -30,19 +27,16 @@ use Rattle.flow_model.specs.declared.board.Board.{Board}
 use Rattle.flow_model.specs.declared.board.Job.{Job}
 use Rattle.flow_model.specs.declared.board.JobState.{JobState}
 use Rattle.flow_model.specs.declared.board.JobState.TheVariants as job_state
-use Rattle.flow_model.specs.declared.board.LegState.TheVariants as leg_state
 use Rattle.flow_model.specs.declared.board.Run.{Run}
 use Rattle.flow_model.specs.declared.board.RunState.{RunState}
 use Rattle.flow_model.specs.declared.board.RunState.TheVariants as run_state
 use Rattle.flow_model.specs.declared.event.Entry.{Entry}
-use Rattle.flow_model.specs.declared.event.Member.{Member}
 use Rattle.flow_model.specs.declared.event.Member.TheVariants as member
 use Rattle.flow_model.specs.declared.event.Outcome.{Outcome}
 use Rattle.flow_model.specs.declared.event.Outcome.TheVariants as outcome
 use Rattle.flow_model.specs.declared.plan.JobPlan.{JobPlan}
 use Rattle.flow_model.specs.declared.plan.Plan.{Plan}
 use Rattle.flow_model.specs.declared.reply.Reply.{Reply}
-use Rattle.status_table.specs.Groups.{closed, next_after, passed_on, run_standing}
 use Rattle.status_table.specs.Lawful.{JobFits, RunFits}
 use Rattle.status_table.specs.Row.{close_found, close_run, close_waiting, event_row, run_closes}
 use Rattle.status_table.specs.Runs.{after, new_board}
@@ -52,26 +46,14 @@ use Rattle.status_table.proofs.Counts.{zip-left}
 use Rattle.status_table.proofs.Found.{RunStands, run_stands}
 use Rattle.status_table.proofs.Lists.{all-get, zip-get}
 use Rattle.why_causes.proofs.Past.{Past, beside, past, same_plan}
+use Rattle.why_causes.proofs.Obstacles.{item_asked}
 
 -- ---- lists of questions
 
 pub some_there : {T : Type 0} (xs : List T) (x : T) → Contains xs x → xs ≢ []
 some_there xs x there e = contains_none x (subst (λ ys. Contains ys x) e there)
 
--- each item that passes is asked about
-item_asked : {A : Type 0} (ask : ℕ → Question) (n : ℕ) (test : A → Bool) (xs : List A) (k : ℕ) (x : A) → slice_get xs k ≡ Some x → test x ≡ true
-    → Contains (asked ask n test xs) (ask (n + k))
-item_asked ask n test [] k x is passes = absurd (no_some x is)
-item_asked {A} ask n test (y ∷ xs) zero x is passes =
-    rw (ap test (same_some y x is) ∙ passes) (subst (λ m. Contains (ask n ∷ asked ask (suc n) test xs) (ask m)) (omega arith) (contains_here (ask n) (asked ask (suc n) test xs)))
-item_asked ask n test (y ∷ xs) (suc k) x is passes =
-    by (test y) (subst (λ m. Contains (asked ask (suc n) test xs) (ask m)) (omega arith) (item_asked ask (suc n) test xs k x is passes))
-  where
-    by : (b : Bool) → Contains (asked ask (suc n) test xs) (ask (n + suc k)) → Contains (if b then ask n ∷ asked ask (suc n) test xs else asked ask (suc n) test xs) (ask (n + suc k))
-    by true there = contains_later (ask n) (asked ask (suc n) test xs) (ask (n + suc k)) there
-    by false there = there
-
--- and no other is
+-- Nothing is asked about but items that pass.
 record AskedOf {A : Type 0} (ask : ℕ → Question) (n : ℕ) (test : A → Bool) (xs : List A) (q : Question) : Type 0 where
   place : ℕ
   item : A
@@ -98,44 +80,27 @@ asked_item {A} ask n test (y ∷ xs) q there = by (test y) refl (λ k. later (as
 
 -- ---- a run that is closed
 
--- what is known of a run that its Close ends with a result
-record Closing (old new : Board) (r : ℕ) (run : Run) (result : Outcome) : Type 0 where
-  board : passed_on (closed old r result) (next_after old (run_standing run)) ≡ new
-  how : ((run.stop ≡ true) × (result ≡ outcome.Cancelled)) ⊎ ((is_going run.state ≡ true) × (jobs_have_ended run ≡ true) × (result ≡ run_result run))
+-- A run is closed that was told to stop before it was Going; or one that was Going, since its jobs have ended.
+abbrev ClosedSo : Run → Outcome → Type 0
+ClosedSo run result = ((run.stop ≡ true) × (result ≡ outcome.Cancelled)) ⊎ ((is_going run.state ≡ true) × (jobs_have_ended run ≡ true) × (result ≡ run_result run))
 
-closes : (old new : Board) (r : ℕ) (run : Run) (reply : Reply) (result : Outcome) → close_run old r run run.state ≡ Ok (new, reply) → result ≡ closing run.state run
-    → Closing old new r run result
-unfolding board_of
-closes old new r run reply result accepted is = by run.state refl accepted is
+closes : (old : Board) (r : ℕ) (run : Run) (x : Board × Reply) (result : Outcome) → close_run old r run run.state ≡ Ok x → result ≡ closing run.state run → ClosedSo run result
+closes old r run x result accepted is = by run.state refl accepted is
   where
-    stopped : (stop : Bool) → run.stop ≡ stop → close_waiting old r run stop ≡ Ok (new, reply) → result ≡ outcome.Cancelled → Closing old new r run result
-    stopped true told k e =
-        record { board = ap (λ x. passed_on (closed old r x) (next_after old (run_standing run))) e ∙ ap (board_of old) k; how = inl (told, e) }
+    stopped : (stop : Bool) → run.stop ≡ stop → close_waiting old r run stop ≡ Ok x → result ≡ outcome.Cancelled → ClosedSo run result
+    stopped true told k e = inl (told, e)
     stopped false told k e = cc
 
-    going : (ended : Bool) → is_going run.state ≡ true → jobs_have_ended run ≡ ended → (if ended then run_closes old r run (run_result run) else Err fault.NeedsOpen) ≡ Ok (new, reply)
-        → result ≡ run_result run → Closing old new r run result
-    going true goes h k e =
-        record { board = ap (λ x. passed_on (closed old r x) (next_after old (run_standing run))) e ∙ ap (board_of old) k; how = inr (goes, h, e) }
+    going : (ended : Bool) → is_going run.state ≡ true → jobs_have_ended run ≡ ended → (if ended then run_closes old r run (run_result run) else Err fault.NeedsOpen) ≡ Ok x
+        → result ≡ run_result run → ClosedSo run result
+    going true goes h k e = inr (goes, h, e)
     going false goes h k e = cc
 
-    by : (s : RunState) → run.state ≡ s → close_run old r run s ≡ Ok (new, reply) → result ≡ closing s run → Closing old new r run result
+    by : (s : RunState) → run.state ≡ s → close_run old r run s ≡ Ok x → result ≡ closing s run → ClosedSo run result
     by run_state.New same k e = stopped run.stop refl k e
     by run_state.Waiting same k e = stopped run.stop refl k e
     by run_state.Going same k e = going (jobs_have_ended run) (ap is_going same) refl k e
-    by (run_state.Closed x) same k e = cc
-
--- a run that was told to stop is told when runs and legs are closed or go on
-told_closed : (b : Board) (r : ℕ) (result : Outcome) (w : Member) → Has b w run_told any_leg → Has (closed b r result) w run_told any_leg
-told_closed b r result w x =
-    kept run_told any_leg b (member.Run r) w (λ run. record run { state = run_state.Closed result }) (λ leg. leg) (λ run. refl) (λ run h. h) (λ leg _. tt) x
-
-told_passed : (b : Board) (next : Option Member) (w : Member) → Has b w run_told any_leg → Has (passed_on b next) w run_told any_leg
-told_passed b None w x = x
-told_passed b (Some (member.Run r)) w x =
-    kept run_told any_leg b (member.Run r) w (λ run. record run { state = run_state.Going }) (λ leg. leg) (λ run. refl) (λ run h. h) (λ leg _. tt) x
-told_passed b (Some (member.Leg l)) w x =
-    kept run_told any_leg b (member.Leg l) w (λ run. run) (λ leg. record leg { state = leg_state.Admitted }) (λ run. refl) (λ run h. h) (λ leg _. tt) x
+    by (run_state.Closed y) same k e = cc
 
 -- the numbers of a run's jobs follow the first
 follows_first : (jobs : List JobPlan) (n k : ℕ) (job : JobPlan) → ((i : ℕ) (x : JobPlan) → slice_get jobs i ≡ Some x → x.number ≡ n + i) → slice_get jobs k ≡ Some job
@@ -210,8 +175,8 @@ module _ (p : Plan) (es : List Entry) (a : Account) (r : ℕ) (at : RunAt) (note
   record WasRun : Type 0 where
     run : Run
     there : slice_get made.old.runs r ≡ Some run
-    closing : Closing made.old made.new r run result
-    past : Past p made.old made.new a.board
+    closed_so : ClosedSo run result
+    past : Past p made.old a.board
     stays : RunStays run at.run
     old : RunFits at.plan run
     new : RunFits at.plan at.run
@@ -227,7 +192,7 @@ module _ (p : Plan) (es : List Entry) (a : Account) (r : ℕ) (at : RunAt) (note
       record {
         run = by.0.run;
         there = stood.run;
-        closing = closes made.old made.new r by.0.run made.reply result closed_by by.3;
+        closed_so = closes made.old r by.0.run (made.new, made.reply) result closed_by by.3;
         past = boards;
         stays = zip-get RunStays made.old.runs a.board.runs r by.0.run at.run stood.run stands.run boards.since;
         old = zip-get RunFits p.runs made.old.runs r at.plan by.0.run stands.plan stood.run boards.before.laws.fits;
@@ -235,19 +200,18 @@ module _ (p : Plan) (es : List Entry) (a : Account) (r : ℕ) (at : RunAt) (note
       }
 
   unskipped : result ≢ outcome.Skipped
-  unskipped = by was_run.closing.how
+  unskipped = by was_run.closed_so
     where
-      by : ((was_run.run.stop ≡ true) × (result ≡ outcome.Cancelled)) ⊎ ((is_going was_run.run.state ≡ true) × (jobs_have_ended was_run.run ≡ true) × (result ≡ run_result was_run.run))
-          → result ≢ outcome.Skipped
+      by : ClosedSo was_run.run result → result ≢ outcome.Skipped
       by (inl told) = λ e. never_skipped false true false (sym told.1 ∙ e)
       by (inr ended) = λ e. never_skipped (is_any_job_failed was_run.run) was_run.run.stop (is_any_job_cancelled was_run.run) (sym ended.2 ∙ e)
 
   all : (j : ℕ) → HasResult at result j → Contains jobs (question.Job j)
   all j h =
       let number = follows_first at.plan.jobs _ h.place h.plan (λ i x there. (numbers p rules r i at.plan x stands.plan there).0) h.planned in
-      subst (λ n. Contains jobs (question.Job n)) (sym number ∙ h.numbered)
-      (item_asked question.Job (first_job at.plan.jobs) (job_sought (sought.Counting result) at.run) at.run.jobs h.place h.job h.there
-      (rw (is_judged_of h.job.state h.judged) (counts_of result (job_result at.run h.job) apart unskipped h.came_to)))
+      let there = item_asked question.Job (first_job at.plan.jobs) (job_sought (sought.Counting result) at.run) at.run.jobs h.place h.job h.there
+      (rw (is_judged_of h.job.state h.judged) (counts_of result (job_result at.run h.job) apart unskipped h.came_to)) in
+      subst (λ n. Contains jobs (question.Job n)) (sym number ∙ h.numbered) (contains_at jobs there.0 (question.Job (first_job at.plan.jobs + h.place)) there.1)
 
   alone : (q : Question) → Contains jobs q → (j : ℕ) × HasResult at result j × (q ≡ question.Job j)
   alone q there =
@@ -267,17 +231,6 @@ module _ (p : Plan) (es : List Entry) (a : Account) (r : ℕ) (at : RunAt) (note
         },
         x.is ∙ ap question.Job (sym number),
       )
-
-  -- a run that was told to stop still is
-  told_still : was_run.run.stop ≡ true → at.run.stop ≡ true
-  told_still told =
-      let now = subst (λ (b : Board). Has b (member.Run r) run_told any_leg) was_run.closing.board
-      (told_passed (closed made.old r result) (next_after made.old (run_standing was_run.run)) (member.Run r)
-      (told_closed made.old r result (member.Run r) (was_run.run, was_run.there, told))) in
-      let became = made.becomes.1 in
-      let state = ap (λ (run : Run). run.state) (same_some now.0 became.0 (sym now.1 ∙ became.1)) ∙ became.2 in
-      let same = (zip-get RunStays made.new.runs a.board.runs r now.0 at.run now.1 stands.run was_run.past.after).closed (ap is_closed state) in
-      ap (λ (run : Run). run.stop) same ∙ now.2
 
   -- a job that had the result has it
   has_result : (k : ℕ) (x : Job) → slice_get was_run.run.jobs k ≡ Some x → is_going was_run.run.state ≡ true → jobs_have_ended was_run.run ≡ true
@@ -299,7 +252,7 @@ module _ (p : Plan) (es : List Entry) (a : Account) (r : ℕ) (at : RunAt) (note
       )
 
   some : causes a (question.Run r) ≢ []
-  some = by was_run.closing.how
+  some = by was_run.closed_so
     where
       stop : List Question
       stop = stop_asked (member.Run r) (at.run.stop && is_cancelled result)
@@ -307,7 +260,7 @@ module _ (p : Plan) (es : List Entry) (a : Account) (r : ℕ) (at : RunAt) (note
       stopped : was_run.run.stop ≡ true → result ≡ outcome.Cancelled → causes a (question.Run r) ≢ []
       stopped told cancelled =
           let asks : stop_asked (member.Run r) (at.run.stop && is_cancelled result) ≡ question.Stop (member.Run r) ∷ [] =
-          ap (λ s. stop_asked (member.Run r) (s && is_cancelled result)) (told_still told)
+          ap (λ s. stop_asked (member.Run r) (s && is_cancelled result)) (was_run.past.told r was_run.run at.run was_run.there stands.run told)
           ∙ ap (λ x. stop_asked (member.Run r) (true && is_cancelled x)) cancelled in
           subst (λ qs. qs ≢ []) (sym (below ∙ ap (λ qs. qs ++ jobs) asks)) (some_there (question.Stop (member.Run r) ∷ jobs) (question.Stop (member.Run r)) (contains_here (question.Stop (member.Run r)) jobs))
 
@@ -328,8 +281,7 @@ module _ (p : Plan) (es : List Entry) (a : Account) (r : ℕ) (at : RunAt) (note
           named (has_result x.place x.item x.is going ended (a_cancellation (job_result was_run.run x.item) x.passes ∙ sym e))
       by_jobs going ended false false false f t c e = absurd (apart e)
 
-      by : ((was_run.run.stop ≡ true) × (result ≡ outcome.Cancelled)) ⊎ ((is_going was_run.run.state ≡ true) × (jobs_have_ended was_run.run ≡ true) × (result ≡ run_result was_run.run))
-          → causes a (question.Run r) ≢ []
+      by : ClosedSo was_run.run result → causes a (question.Run r) ≢ []
       by (inl told) = stopped told.0 told.1
       by (inr ended) =
           by_jobs ended.0 ended.1 (is_any_job_failed was_run.run) was_run.run.stop (is_any_job_cancelled was_run.run) refl refl refl ended.2

@@ -1,7 +1,7 @@
--- Where a run was closed without success, or a job was skipped since what it needs had none, the jobs that brought it there are
--- named, and no others.
+-- Where a run was closed without success, or a job was skipped or cancelled in place of being opened, what brought it there is
+-- named, and nothing else.
 use Rattle.why_causes.proofs.ClosedRuns.{names_jobs}
-use Rattle.why_causes.proofs.SkippedJobs.{names_first, waited_in_vain}
+use Rattle.why_causes.proofs.SkippedJobs.{names_first, names_stop, waited_in_vain}
 use Rattle.why_causes.specs.Endings.{EndingsAreNamed}
 use Rattle.flow_model.specs.Laws.{NeedsPointBack}
 use Rattle.flow_model.specs.Rules.{IsPlan}
@@ -13,4 +13,5 @@ endings_are_named sound numbers = record {
   runs = λ p es a r at note result rules account is noted fact apart. names_jobs p es a r at note result rules (sound p rules) numbers account is noted fact apart;
   jobs = λ p es a j at rules account is skipped waits. names_first p es a j at rules (sound p rules) account is skipped waits;
   vain = λ p es a j at note rules account is noted fact. waited_in_vain p es a j at rules (sound p rules) account is note noted fact;
+  cancelled = λ p es a j at rules account is cancelled. names_stop p es a j at rules (sound p rules) account is cancelled;
 }

@@ -13,4 +13,5 @@ pub mod Obstacles
 mod Past
 mod SkippedJobs
 mod Staying
+mod Telling
 pub mod Trees

@@ -157,7 +157,7 @@ no_success outcome.Skipped apart = refl
 is_apart : (x : Outcome) → is_success x ≡ false → x ≢ outcome.Success
 is_apart x h e = true≢false (sym (ap is_success e) ∙ h)
 
-a_success : (x : Outcome) → is_success x ≡ true → x ≡ outcome.Success
+pub a_success : (x : Outcome) → is_success x ≡ true → x ≡ outcome.Success
 a_success outcome.Success h = refl
 a_success outcome.Failure h = absurd (true≢false (sym h))
 a_success outcome.Cancelled h = absurd (true≢false (sym h))

@@ -75,7 +75,7 @@ same_any s t [] same = refl
 same_any s t (x ∷ xs) same = (λ i. same x i || list_any s xs) ∙ ap (λ b. t x || b) (same_any s t xs same)
 
 -- Each item that passes is asked about.
-item_asked : {A : Type 0} (ask : ℕ → Question) (n : ℕ) (test : A → Bool) (xs : List A) (k : ℕ) (x : A) → slice_get xs k ≡ Some x → test x ≡ true
+pub item_asked : {A : Type 0} (ask : ℕ → Question) (n : ℕ) (test : A → Bool) (xs : List A) (k : ℕ) (x : A) → slice_get xs k ≡ Some x → test x ≡ true
     → (i : ℕ) × (slice_get (asked ask n test xs) i ≡ Some (ask (n + k)))
 item_asked ask n test [] k x at is = absurd (no_some x at)
 item_asked {A} ask n test (y ∷ xs) zero x at is =

@@ -1,8 +1,9 @@
 -- The boards about an entry of a record, and how a job stands on both.
-use Rattle.std.proofs.Common.{◌≡◌, ◌∙◌, ap, sym, ℕ, suc, arith, List, [], ◌∷◌, ◌++◌, Some, Ok, Err, slice_get}
+use Rattle.std.proofs.Common.{◌≡◌, ◌∙◌, ap, sym, true, ℕ, suc, arith, List, [], ◌∷◌, Some, Ok, Err, slice_get}
 use Rattle.std.proofs.lemmas.Option.{slice_get_within}
 use Rattle.board_decisions.proofs.Lists.{same_some}
 use Rattle.why_causes.proofs.MetFirst.{get_within}
+use Rattle.why_causes.proofs.Telling.{told_still}
 use Rattle.why_causes.specs.Made.{MadeAt}
 use Rattle.why_facts.specs.declared.fact.Change.{Change}
 use Rattle.why_facts.specs.declared.notes.Notes.{Notes}
@@ -20,13 +21,13 @@ use Rattle.flow_model.specs.declared.plan.RunPlan.{RunPlan}
 use Rattle.status_table.specs.InPlay.{InPlay}
 use Rattle.status_table.specs.Lawful.{JobFits, RunFits}
 use Rattle.status_table.specs.Row.{Row, row}
-use Rattle.status_table.specs.Runs.{after, after_from, new_board, then_after}
+use Rattle.status_table.specs.Runs.{after, after_from, new_board}
 use Rattle.status_table.specs.Stays.{JobStays, RunStays, Stays}
 use Rattle.status_table.proofs.Counts.{zip-left}
 use Rattle.status_table.proofs.Lawfulness.{after_reaches, legal_lawful}
 use Rattle.status_table.proofs.Legal.{after_fits}
 use Rattle.status_table.proofs.Lists.{zip-get, zip-length}
-use Rattle.status_table.proofs.RunsLemmas.{after_from-append, after_from-last}
+use Rattle.status_table.proofs.RunsLemmas.{after_from-append}
 
 pub same_plan : (line : ℕ) (p : Plan) (b : Board) (notes : Notes) (es : List Entry) (a : Account) → account_from line p b notes es ≡ Some a → a.plan ≡ p
 same_plan line p b notes [] a h = ap (λ (x : Account). x.plan) (sym (same_some (record { plan = p; board = b; notes = notes }) a h))
@@ -37,22 +38,21 @@ same_plan line p b notes (e ∷ es) a h = step (row p b e.worker e.event) (λ ne
     step (Ok x) later k = later x.0 k
     step (Err f) later k = cc
 
--- the board before an entry, and what has ended on it and on the one after it
-pub record Past (p : Plan) (old new last : Board) : Type 0 where
+-- the board before an entry beside the last one
+pub record Past (p : Plan) (old last : Board) : Type 0 where
   pub before : InPlay p old
   pub now : InPlay p last
   pub since : Stays old last
-  pub after : Stays new last
+  pub told : (r : ℕ) (run late : Run) → slice_get old.runs r ≡ Some run → slice_get last.runs r ≡ Some late → run.stop ≡ true → late.stop ≡ true
 
 pub past : (p : Plan) (es : List Entry) (a : Account) (line : ℕ) (c : Change) → IsPlan p → SoundPlan p → account_of p es ≡ Some a → (m : MadeAt p es line c)
-    → Past p m.old m.new a.board
+    → Past p m.old a.board
 past p es a line c rules sound account m =
-    let next = after_from-last p (new_board p) m.old m.new m.before m.entry m.reply m.played m.accepted in
     record {
       before = in_play m.before m.old m.played;
       now = in_play es a.board played;
       since = (after_reaches p m.old a.board (m.entry ∷ m.rest) (after_fits p m.before m.old m.played) (legal_lawful p sound m.before m.old m.played) goes_on).stays;
-      after = (after_reaches p m.new a.board m.rest (after_fits p (m.before ++ m.entry ∷ []) m.new next) (legal_lawful p sound (m.before ++ m.entry ∷ []) m.new next) onward).stays;
+      told = told_still p es a line c account m;
     }
   where
     in_play : (before : List Entry) (b : Board) → after p before ≡ Some b → InPlay p b
@@ -65,13 +65,6 @@ past p es a line c rules sound account m =
     goes_on : after_from p m.old (m.entry ∷ m.rest) ≡ Some a.board
     goes_on =
         sym (after_from-append p (new_board p) m.old m.before (m.entry ∷ m.rest) m.played)
-        ∙ ap (λ (xs : List Entry). after_from p (new_board p) xs) (sym m.there)
-        ∙ accounts_follow_the_table p es a account
-
-    onward : after_from p m.new m.rest ≡ Some a.board
-    onward =
-        sym (ap (λ (r : Row). then_after r (λ next. after_from p next m.rest)) m.accepted)
-        ∙ sym (after_from-append p (new_board p) m.old m.before (m.entry ∷ m.rest) m.played)
         ∙ ap (λ (xs : List Entry). after_from p (new_board p) xs) (sym m.there)
         ∙ accounts_follow_the_table p es a account
 

@@ -14,11 +14,11 @@ use Rattle.expr_value.specs.declared.status.Status.{Status}
 use Rattle.expr_value.specs.declared.status.Status.TheVariants as status
 use Rattle.why_causes.proofs.Becoming.{job_item}
 use Rattle.why_causes.proofs.Changing.{made_by}
-use Rattle.why_causes.proofs.MetFirst.{contains_cases, contains_map, contains_none, first_found, found_first, get_within, mapped_from}
+use Rattle.why_causes.proofs.MetFirst.{contains_cases, contains_map, contains_none, first_found, found_first, get_within, mapped_from, a_success}
 use Rattle.why_causes.proofs.Noting.{accepted_event, notes_are_made}
 use Rattle.why_causes.proofs.Staying.{stays_unsuccessful}
 use Rattle.why_causes.specs.Agrees.{JobAgrees, JobNow}
-use Rattle.why_causes.specs.Causes.{asked, causes, job_asked, job_last, job_state_asked, shut_asked}
+use Rattle.why_causes.specs.Causes.{causes, job_asked, job_last, job_state_asked, shut_asked}
 use Rattle.why_causes.specs.Made.{MadeAt}
 use Rattle.why_causes.specs.declared.question.Question.TheVariants as question
 use Rattle.why_facts.specs.Ancestors.{first_unsuccessful}
@@ -50,7 +50,7 @@ use Rattle.flow_model.specs.declared.plan.RunPlan.{RunPlan}
 use Rattle.flow_model.specs.declared.reply.Reply.{Reply}
 use Rattle.flow_model.specs.declared.reply.ValueFault.{ValueFault}
 use Rattle.status_table.specs.Lawful.{RunFits}
-use Rattle.status_table.specs.Row.{event_row, first_of, judge_found, judge_job, judgement, judgement_by, row}
+use Rattle.status_table.specs.Row.{event_row, first_of, judge_found, judge_job, judgement, judgement_by}
 use Rattle.status_table.specs.Runs.{new_board}
 use Rattle.status_table.specs.Shape.{JobShape, RunShape}
 use Rattle.status_table.specs.Stays.{RunStays}
@@ -63,8 +63,9 @@ use Rattle.status_table.proofs.Sound.{is_numbered_in, stands_after_needs}
 use Rattle.std.proofs.lemmas.Bool.{false_from_ne_true, le-leb, leb-true}
 use Rattle.why_causes.proofs.ClosedRuns.{some_there}
 use Rattle.why_causes.proofs.Past.{Beside, Past, beside, past, same_plan}
-use Rattle.why_causes.specs.Endings.{IsMetFirst, NamesFirstAbove, WaitedInVain, needed, of_needed}
+use Rattle.why_causes.specs.Endings.{IsMetFirst, NamesFirstAbove, WaitedInVain, needed, of_needed, NamesStop}
 use Rattle.status_table.proofs.Numbers.{jobs_before, number_of_job}
+use Rattle.status_table.proofs.Steps.{going-unclosed}
 
 -- ---- ancestors on a board
 
@@ -137,12 +138,6 @@ all_needs_ended : (first : ℕ) (run : Run) (jobs : List JobPlan) (n : ℕ) (pla
     → Contains (needs_at first jobs n) k → EndedAt run k
 all_needs_ended first run jobs n plan is ended k there =
     needs_ended first run plan.needs k ended (subst (λ (o : Option JobPlan). Contains (places_needed first o) k) is there)
-
-a_success : (x : Outcome) → is_success x ≡ true → x ≡ outcome.Success
-a_success outcome.Success h = refl
-a_success outcome.Failure h = absurd (true≢false (sym h))
-a_success outcome.Cancelled h = absurd (true≢false (sym h))
-a_success outcome.Skipped h = absurd (true≢false (sym h))
 
 -- Where all ancestors had success as far as they had ended, none is met later that has none.
 module _ (first : ℕ) (plan : RunPlan) (a b : Run) (stays : RunStays a b) (unclosed : is_closed a.state ≡ false) (old : RunFits plan a) (new : RunFits plan b)
@@ -229,6 +224,14 @@ not_vain false true (Ok false) h = cc
 not_vain false false (Ok false) h = (refl, refl)
 not_vain stop waits (Err f) h = cc
 
+-- a job of a run that was told to stop
+run_stopped : (stop waits : Bool) (holds : Result Bool ValueFault) → judged stop waits holds ≡ job_fact.RunStopped → stop ≡ true
+run_stopped stop waits (Ok true) h = cc
+run_stopped true waits (Ok false) h = refl
+run_stopped false true (Ok false) h = cc
+run_stopped false false (Ok false) h = cc
+run_stopped stop waits (Err f) h = cc
+
 -- what the row looks at where it judges a job
 record Judging (j : ℕ) (at : JobAt) : Type 0 where
   going : is_going at.run.state ≡ true
@@ -282,12 +285,6 @@ never_shut job_fact.Unsuccessful h = cc
 never_shut job_fact.Untrue h = cc
 never_shut (job_fact.Faulted f) h = cc
 
-going_unclosed : (s : RunState) → is_going s ≡ true → is_closed s ≡ false
-going_unclosed run_state.New h = refl
-going_unclosed run_state.Waiting h = refl
-going_unclosed run_state.Going h = refl
-going_unclosed (run_state.Closed result) h = absurd (true≢false (sym h))
-
 module _ (p : Plan) (es : List Entry) (a : Account) (j : ℕ) (at : JobAt) (rules : IsPlan p) (sound : SoundPlan p) (account : account_of p es ≡ Some a)
     (is_found : job_at a.plan a.board j ≡ Some at) where
   abbrev first : ℕ
@@ -325,7 +322,7 @@ module _ (p : Plan) (es : List Entry) (a : Account) (j : ℕ) (at : JobAt) (rule
             subst (λ f. MadeAt p es note.line (change.Job j f)) same
             (subst (λ (o : Option JobNote). IfSome o (λ note. MadeAt p es note.line (change.Job j note.fact))) h ((notes_are_made p es a account).notes.jobs j n there))
 
-    boards : Past p made.old made.new a.board
+    boards : Past p made.old a.board
     boards = past p es a note.line (change.Job j fact) rules sound account made
 
     was : WasJob p made.old j at
@@ -413,7 +410,7 @@ module _ (p : Plan) (es : List Entry) (a : Account) (j : ℕ) (at : JobAt) (rule
     -- where it was success, nobody is
     nobody_met : is_success_status s ≡ true → (k : ℕ) → Met k → ⊥
     nobody_met success k met =
-        none_met first at.run_plan was.run at.run was.stays (going_unclosed was.run.state judges.going) old new opened unshut met
+        none_met first at.run_plan was.run at.run was.stays (going-unclosed was.run.state judges.going) old new opened unshut met
         (all_needs_ended first was.run at.run_plan.jobs at.place.job at.plan here.plan judges.ended) (all_succeed first then_at s says success)
       where
         opened : (m : ℕ) (x : Job) (planned : JobPlan) → slice_get was.run.jobs m ≡ Some x → slice_get at.run_plan.jobs m ≡ Some planned → is_open x.state ≡ true
@@ -475,5 +472,26 @@ module _ (p : Plan) (es : List Entry) (a : Account) (j : ℕ) (at : JobAt) (rule
       by_fact note (job_fact.Faulted f) noted same e = cc
 
       by_last : (last : Option JobNote) → job_last (slice_get a.notes.jobs j) ≡ last → JobNow last (job_state.Shut outcome.Skipped) → NamesFirstAbove a j at
+      by_last None noted e = cc
+      by_last (Some note) noted e = by_fact note note.fact noted refl e
+
+  pub names_stop : at.job.state ≡ job_state.Shut outcome.Cancelled → NamesStop a j at
+  names_stop cancelled =
+      let x = as_noted j at is in
+      by_last x.notes.last (ap job_last x.there) (subst (JobNow x.notes.last) cancelled x.now)
+    where
+      by_fact : (note : JobNote) (fact : JobFact) → job_last (slice_get a.notes.jobs j) ≡ Some note → note.fact ≡ fact → job_state.Shut outcome.Cancelled ≡ judged_to fact → NamesStop a j at
+      by_fact note job_fact.Opened noted same e = cc
+      by_fact note job_fact.RunStopped noted same e =
+          let stop = run_stopped _ (waits_in_vain at.plan.condition (s note job_fact.RunStopped noted same)) _ (told note job_fact.RunStopped noted same) in
+          record {
+            told = (boards note job_fact.RunStopped noted same).told at.place.run (was note job_fact.RunStopped noted same).run at.run (in_run note job_fact.RunStopped noted same) here.in_board stop;
+            named = asked_is note job_fact.RunStopped noted same outcome.Cancelled cancelled;
+          }
+      by_fact note job_fact.Unsuccessful noted same e = cc
+      by_fact note job_fact.Untrue noted same e = cc
+      by_fact note (job_fact.Faulted f) noted same e = cc
+
+      by_last : (last : Option JobNote) → job_last (slice_get a.notes.jobs j) ≡ last → JobNow last (job_state.Shut outcome.Cancelled) → NamesStop a j at
       by_last None noted e = cc
       by_last (Some note) noted e = by_fact note note.fact noted refl e

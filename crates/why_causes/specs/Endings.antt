@@ -1,6 +1,6 @@
--- Where a run was closed without success, or a job was shut since what it needs had no success, the jobs that brought it there
--- are named, and no others.
-use Rattle.std.specs.Prelude.{◌≡◌, ◌≢◌, ◌+◌, ◌++◌, ◌&&◌, ℕ, true, List, [], Some, Contains, slice_get}
+-- Where a run was closed without success, or a job was skipped or cancelled in place of being opened, what brought it there is
+-- named, and nothing else.
+use Rattle.std.specs.Prelude.{◌≡◌, ◌≢◌, ◌+◌, ◌++◌, ◌&&◌, ℕ, true, List, [], ◌∷◌, Some, Contains, slice_get}
 use Rattle.board_decisions.specs.Derived.{is_cancelled, job_result, job_results, needs_at}
 use Rattle.board_decisions.specs.Place.{JobAt, RunAt, job_at, run_at}
 use Rattle.why_causes.specs.Causes.{causes, job_last, run_last, stop_asked}
@@ -91,8 +91,19 @@ VainJobsNameSome =
     → job_at a.plan a.board j ≡ Some at → job_last (slice_get a.notes.jobs j) ≡ Some note
     → note.fact ≡ job_fact.Unsuccessful → WaitedInVain a j at
 
--- Runs and jobs that did not succeed name the jobs that brought them there.
+-- A job that was cancelled in place of being opened names that its run was told to stop, which it was, and nothing else.
+pub record NamesStop (a : Account) (j : ℕ) (at : JobAt) : Type 0 where
+  pub told : at.run.stop ≡ true
+  pub named : causes a (question.Job j) ≡ question.Stop (member.Run at.place.run) ∷ []
+
+abbrev pub CancelledJobsNameTheStop : Type 0
+CancelledJobsNameTheStop =
+    (p : Plan) (es : List Entry) (a : Account) (j : ℕ) (at : JobAt) → IsPlan p → account_of p es ≡ Some a
+    → job_at a.plan a.board j ≡ Some at → at.job.state ≡ job_state.Shut outcome.Cancelled → NamesStop a j at
+
+-- Runs and jobs that did not succeed name what brought them there.
 pub record EndingsAreNamed : Type 0 where
   pub runs : ClosedRunsNameJobs
   pub jobs : SkippedJobsNameAncestors
   pub vain : VainJobsNameSome
+  pub cancelled : CancelledJobsNameTheStop

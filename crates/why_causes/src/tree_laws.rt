@@ -20,8 +20,9 @@ pub fn obstacles_are_named()
 {}
 
 /// Below a run that its Close ended without success stand all its jobs with that result and no others, and that it was told to
-/// stop, where that cancelled it; below a job that waited in vain for success stand all ancestors without success that are met
-/// first, and no others. In both places one stands at least.
+/// stop, where that cancelled it; one of these at least. Below a skipped job whose condition waits for success stand all
+/// ancestors without success that are met first, and no others; one at least, where it is told to have waited in vain. Below a
+/// job that was cancelled in place of being opened stands that its run was told to stop.
 pub fn endings_are_named()
     ensures { EndingsAreNamed }
 {
