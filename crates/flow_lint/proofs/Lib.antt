@@ -1,4 +1,5 @@
 pub mod Meant
 pub mod Nodes
+pub mod Seen
 pub mod Standing
 pub mod Walks

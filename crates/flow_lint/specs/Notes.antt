@@ -13,7 +13,7 @@ use Rattle.plan_assembler.specs.declared.fault.PlanFault.{PlanFault}
 use Rattle.plan_assembler.specs.declared.fault.PlanFault.TheVariants as plan
 use Rattle.flow_lint.specs.Cycles.{TellsCycle}
 use Rattle.flow_lint.specs.Hints.{SaysNeed}
-use Rattle.flow_lint.specs.Places.{Place, StandsAt, IsRepeated}
+use Rattle.flow_lint.specs.Places.{Place, StandsAt, IsLookedAt, ShowsNeed, HasTwice, IsRepeated}
 use Rattle.flow_lint.specs.Shows.{ShowsFlow, ShowsText}
 use Rattle.flow_lint.specs.declared.note.Note.{Note}
 
@@ -23,18 +23,31 @@ pub record LeadsTo (root : Data) (path : List ℕ) (Shows : Place → Type 0) : 
   pub stands : StandsAt root path place
   pub shows : Shows place
 
--- The whole file, or a place of it where something is to be seen.
+-- It is to be seen at no place that is looked at.
+abbrev pub IsNowhere : Data → (Place → Type 0) → Type 0
+IsNowhere root Shows = (path : List ℕ) (p : Place) → IsLookedAt root path p → Shows p → ⊥
+
+-- A place of a file where something is to be seen, or the whole file, where it is to be seen nowhere.
 abbrev pub IsSeen : Data → List ℕ → (Place → Type 0) → Type 0
-IsSeen root path Shows = (path ≡ []) ⊎ LeadsTo root path Shows
+IsSeen root path Shows = LeadsTo root path Shows ⊎ ((path ≡ []) × IsNowhere root Shows)
+
+-- A place of a file where something is to be seen, or the whole file.
+abbrev pub IsSeenOrWhole : Data → List ℕ → (Place → Type 0) → Type 0
+IsSeenOrWhole root path Shows = (path ≡ []) ⊎ LeadsTo root path Shows
+
+-- No name is none, and an id stands twice, at the second of its places; or the whole file, where none does.
+abbrev pub IsSeenTwice : Data → List ℕ → List ℕ → Type 0
+IsSeenTwice root name path =
+    IsNowhere root (ShowsFlow (flow.BadId name)) × (IsRepeated root name path ⊎ ((path ≡ []) × IsNowhere root (HasTwice name)))
 
 -- Where a fault is told for which a value stands for no workflow: at a place that shows it, at the second of two equal ids, or at the
--- fault's own path, where something has the wrong shape.
+-- fault's own path, where something has the wrong shape. The whole file is told where no place shows the fault.
 abbrev pub FlowPlace : Data → FlowFault → List ℕ → Type 0
 FlowPlace root flow.NotJson path = Unit {0}
 FlowPlace root flow.NotWhole path = IsSeen root path (ShowsFlow flow.NotWhole)
 FlowPlace root (flow.Missing key) path = IsSeen root path (ShowsFlow (flow.Missing key))
 FlowPlace root (flow.WrongShape shape) path = path ≡ shape
-FlowPlace root (flow.BadId name) path = IsSeen root path (ShowsFlow (flow.BadId name)) ⊎ IsRepeated root name path
+FlowPlace root (flow.BadId name) path = LeadsTo root path (ShowsFlow (flow.BadId name)) ⊎ IsSeenTwice root name path
 FlowPlace root (flow.LeftOut key) path = IsSeen root path (ShowsFlow (flow.LeftOut key))
 FlowPlace root flow.UnknownShell path = IsSeen root path (ShowsFlow flow.UnknownShell)
 FlowPlace root flow.Memory path = Unit {0}
@@ -54,9 +67,11 @@ OfFlow None Fact = Unit {0}
 OfFlow (Some (Ok workflow)) Fact = Fact workflow
 OfFlow (Some (Err faults)) Fact = Unit {0}
 
--- A need that is no job is told at its place, with the nearest job.
+-- A need that is no job is told at its place, with the nearest job; or the whole file, where each need is a job.
 abbrev pub TellsNeed : Data → Note → Type 0
-TellsNeed root note = IsSeen root note.path (λ p. SaysNeed (get (codes "jobs") root) p note.sentence)
+TellsNeed root note =
+    LeadsTo root note.path (λ p. SaysNeed (get (codes "jobs") root) p note.sentence)
+    ⊎ ((note.path ≡ []) × IsNowhere root (ShowsNeed (get (codes "jobs") root)))
 
 -- What is told of a fault among jobs: of those that need themselves, one and its way back. Of other faults nothing is said.
 abbrev pub JobsNote : List FlowJob → PlanFault → Note → Type 0
@@ -77,7 +92,7 @@ PlanNote json flow plan.Cycle note = OfFlow flow (λ workflow. JobsNote workflow
 PlanNote json flow plan.UnknownJob note = Unit {0}
 PlanNote json flow plan.NoWorkflow note = Unit {0}
 PlanNote json flow plan.TooMany note = Unit {0}
-PlanNote json flow (plan.Expr at fault) note = OfJson json (λ root. IsSeen root note.path (ShowsText fault))
+PlanNote json flow (plan.Expr at fault) note = OfJson json (λ root. IsSeenOrWhole root note.path (ShowsText fault))
 PlanNote json flow (plan.Matrix number fault) note = Unit {0}
 PlanNote json flow plan.Memory note = Unit {0}
 

@@ -140,6 +140,10 @@ abbrev pub Repeats : Data → List ℕ → ℕ → Type 0
 Repeats steps name later =
     (id_at later steps ≡ Some name) × ((earlier : ℕ) × ((earlier < later) × (id_at earlier steps ≡ Some name)))
 
+-- Two steps of a job have this id.
+abbrev pub HasTwice : List ℕ → Place → Type 0
+HasTwice name p = (p.kind ≡ kinds.Steps) × ((later : ℕ) × Repeats p.value name later)
+
 -- The path leads to the id of a step, which an earlier step of the same job has.
 pub record IsRepeated (root : Data) (name path : List ℕ) : Type 0 where
   pub ways : List Way

@@ -1,18 +1,20 @@
 //! The place of a fault for which a file stands for no workflow.
 
-ghost use Rattle.std.specs.Prelude.{◌≡◌, ◌↔◌, IsTrue, Some, IfOk, IfSome, codes, decimal, option_map};
+ghost use Rattle.std.specs.Prelude.{◌≡◌, ◌↔◌, ◌≤◌, ℕ, [], IsTrue, Some, None, IfOk, IfSome, codes, decimal, option_map};
 ghost use Rattle.std.specs.List.{All};
 ghost use Rattle.serde_json.specs.Find.{as_str};
 ghost use Rattle.serde_json.specs.View.{view};
-ghost use Rattle.flow_lint.specs.FaultNodes.{HasFlow};
+ghost use Rattle.flow_lint.specs.FaultNodes.{FindsFlow, HasFlow};
 ghost use Rattle.flow_lint.specs.Kinds.{WantsValue, WantsWhole, Wants};
-ghost use Rattle.flow_lint.specs.Notes.{FlowPlace, IsFlowPlace, IsSeen};
+ghost use Rattle.flow_lint.specs.Notes.{FlowPlace, IsFlowPlace, IsNowhere, IsSeen, IsSeenTwice, LeadsTo};
 ghost use Rattle.flow_lint.specs.Places as places;
-ghost use Rattle.flow_lint.specs.Places.{IsRepeated, Repeats, id_at};
+ghost use Rattle.flow_lint.specs.Places.{HasTwice, IsRepeated, Repeats, id_at};
 ghost use Rattle.flow_lint.specs.Shows as spec;
 ghost use Rattle.flow_lint.specs.Shows.{HasExpression, ShowsFlow};
-ghost use Rattle.flow_lint.specs.Nodes.{Fits};
+ghost use Rattle.flow_lint.specs.Nodes.{AreAll, Fits, place_of};
 ghost use Rattle.flow_lint.specs.declared.kind.NodeKind.TheVariants.{Steps};
+ghost use Rattle.flow_reader.specs.Checked.{bad};
+ghost use Rattle.flow_reader.specs.Parts.{shell_named};
 ghost use Rattle.flow_reader.specs.declared.fault.FlowFault.TheVariants.{NotWhole, Missing, BadId, LeftOut, UnknownShell};
 
 use crate::kind::NodeKind;
@@ -27,7 +29,7 @@ use std::alloc::{AllocError, Global};
 
 /// Whether a number in a part that is read is not held as whole.
 fn shows_fraction(alloc: Global, node: &Node) -> Result<bool, AllocError>
-    ensures { IfOk result (λ is. IsTrue is → HasFlow NotWhole node.now) }
+    ensures { IfOk result (λ is. IsTrue is ↔ HasFlow NotWhole node.now) }
 {
     match node.kind {
         NodeKind::Variable
@@ -47,7 +49,7 @@ fn shows_fraction(alloc: Global, node: &Node) -> Result<bool, AllocError>
 
 /// Whether a key has to be there in what is of this kind.
 fn wants(kind: NodeKind, key: &str) -> bool
-    ensures { IsTrue result → Wants kind key.now }
+    ensures { IsTrue result ↔ Wants kind key.now }
 {
     match kind {
         NodeKind::Workflow => key == "on" || key == "jobs",
@@ -73,7 +75,7 @@ fn other_key(key: &str) -> &str
 
 /// Whether a key is missing at a place.
 fn shows_missing(node: &Node, key: &str) -> bool
-    ensures { IsTrue result → HasFlow (Missing key.now) node.now }
+    ensures { IsTrue result ↔ HasFlow (Missing key.now) node.now }
 {
     wants(node.kind, key)
         && node.value.is_object()
@@ -83,7 +85,7 @@ fn shows_missing(node: &Node, key: &str) -> bool
 
 /// Whether a name at a place is none.
 fn shows_name(node: &Node, name: &str) -> bool
-    ensures { IsTrue result → HasFlow (BadId name.now) node.now }
+    ensures { IsTrue result ↔ HasFlow (BadId name.now) node.now }
 {
     match node.kind {
         NodeKind::Job | NodeKind::Output => node.key.as_str() == name && !is_id(name),
@@ -95,7 +97,7 @@ fn shows_name(node: &Node, name: &str) -> bool
 
 /// Whether a value is this text.
 fn is_text(value: &Value, text: &str) -> bool
-    ensures { IsTrue result → as_str (view value.now) ≡ Some text.now }
+    ensures { IsTrue result ↔ (as_str (view value.now) ≡ Some text.now) }
 {
     match value.as_str() {
         Some(found) => found == text,
@@ -105,15 +107,15 @@ fn is_text(value: &Value, text: &str) -> bool
 
 /// Whether a place is `id`, with this text.
 fn is_id_text(node: &Node, text: &str) -> bool
-    ensures key { IsTrue result → node.now.key ≡ codes "id" }
-    ensures text { IsTrue result → as_str (view node.now.value.now) ≡ Some text.now }
+    ensures { IsTrue result
+        ↔ ((node.now.key ≡ codes "id") × (as_str (view node.now.value.now) ≡ Some text.now)) }
 {
     node.key.as_str() == "id" && is_text(node.value, text)
 }
 
 /// Whether an expression stands at a place.
 fn is_expression(value: &Value) -> bool
-    ensures { IsTrue result → HasExpression (view value.now) }
+    ensures { IsTrue result ↔ HasExpression (view value.now) }
 {
     match value.as_str() {
         Some(text) => has_marker(text),
@@ -123,7 +125,7 @@ fn is_expression(value: &Value) -> bool
 
 /// Whether what stands at a key is left out.
 fn shows_left_out(node: &Node, key: &str) -> bool
-    ensures { IsTrue result → HasFlow (LeftOut key.now) node.now }
+    ensures { IsTrue result ↔ HasFlow (LeftOut key.now) node.now }
 {
     if node.key.as_str() != key {
         return false;
@@ -139,22 +141,28 @@ fn shows_left_out(node: &Node, key: &str) -> bool
     }
 }
 
+/// Whether a name is that of no shell.
+fn is_no_shell(name: &str) -> bool
+    ensures { IsTrue result ↔ (shell_named name.now ≡ bad UnknownShell) }
+{
+    name != "sh" && name != "bash"
+}
+
 /// Whether a shell at a place is not known.
 fn shows_shell(node: &Node) -> bool
-    ensures { IsTrue result → HasFlow UnknownShell node.now }
+    ensures { IsTrue result ↔ HasFlow UnknownShell node.now }
 {
     match node.value.as_str() {
         Some(name) => node.key.as_str() == "shell"
             && node.kind == NodeKind::Shell
-            && name != "sh"
-            && name != "bash",
+            && is_no_shell(name),
         None => false,
     }
 }
 
 /// Whether a fault is to be seen at a place.
 fn shows(alloc: Global, node: &Node, fault: &FlowFault) -> Result<bool, AllocError>
-    ensures { IfOk result (λ is. IsTrue is → HasFlow fault.now node.now) }
+    ensures { IfOk result (λ is. IsTrue is ↔ HasFlow fault.now node.now) }
 {
     match fault {
         FlowFault::NotWhole => shows_fraction(alloc, node),
@@ -173,9 +181,9 @@ fn find<'n, 'v>(
     nodes: &'n [Node<'v>],
     fault: &FlowFault,
 ) -> Result<Option<&'n Node<'v>>, AllocError>
-    requires { All (Fits (view root.now)) nodes.now }
-    ensures { IfOk result (λ found. IfSome found (λ node.
-        Fits (view root.now) node.now × HasFlow fault.now node.now)) }
+    requires fit { All (Fits (view root.now)) nodes.now }
+    requires all { AreAll (view root.now) nodes.now }
+    ensures { IfOk result (FindsFlow (view root.now) fault.now) }
 {
     for node in nodes {
         if shows(alloc, node, fault)? {
@@ -194,7 +202,7 @@ fn step_id(steps: &Value, place: usize) -> Option<&str>
 
 /// Whether the step at a place of a list has this id.
 fn has_id(steps: &Value, place: usize, name: &str) -> bool
-    ensures { IsTrue result → id_at place (view steps.now) ≡ Some name.now }
+    ensures { IsTrue result ↔ (id_at place (view steps.now) ≡ Some name.now) }
 {
     match step_id(steps, place) {
         Some(id) => id == name,
@@ -204,7 +212,9 @@ fn has_id(steps: &Value, place: usize, name: &str) -> bool
 
 /// The place of the second step of a list that has this id.
 fn repeated_at(steps: &Value, count: usize, name: &str) -> Option<usize>
-    ensures { IfSome result (Repeats (view steps.now) name.now) }
+    requires { (place : ℕ) → count ≤ place → id_at place (view steps.now) ≡ None }
+    ensures found { IfSome result (Repeats (view steps.now) name.now) }
+    ensures none { result ≡ None → (later : ℕ) → Repeats (view steps.now) name.now later → ⊥ }
 {
     let mut first = None;
     for place in 0..count {
@@ -222,6 +232,7 @@ fn repeated_at(steps: &Value, count: usize, name: &str) -> Option<usize>
 fn repeated_in(node: &Node, name: &str) -> Option<usize>
     ensures kind { IfSome result (λ _. node.now.kind ≡ Steps) }
     ensures repeats { IfSome result (Repeats (view node.now.value.now) name.now) }
+    ensures none { result ≡ None → HasTwice name.now (place_of node.now) → ⊥ }
 {
     if node.kind != NodeKind::Steps {
         return None;
@@ -246,7 +257,8 @@ fn repeated_path(
     name: &str,
 ) -> Result<Option<Text>, AllocError>
     requires { Fits (view _root.now) node.now }
-    ensures { IfOk result (λ found. IfSome found (IsRepeated (view _root.now) name.now)) }
+    ensures found { IfOk result (λ found. IfSome found (IsRepeated (view _root.now) name.now)) }
+    ensures none { IfOk result (λ found. found ≡ None → HasTwice name.now (place_of node.now) → ⊥) }
 {
     match repeated_in(node, name) {
         Some(place) => Ok(Some(id_path(alloc, node.path.as_str(), place)?)),
@@ -261,8 +273,10 @@ fn find_repeated(
     nodes: &[Node],
     name: &str,
 ) -> Result<Option<Text>, AllocError>
-    requires { All (Fits (view root.now)) nodes.now }
-    ensures { IfOk result (λ found. IfSome found (IsRepeated (view root.now) name.now)) }
+    requires fit { All (Fits (view root.now)) nodes.now }
+    requires all { AreAll (view root.now) nodes.now }
+    ensures found { IfOk result (λ found. IfSome found (IsRepeated (view root.now) name.now)) }
+    ensures none { IfOk result (λ found. found ≡ None → IsNowhere (view root.now) (HasTwice name.now)) }
 {
     for node in nodes {
         if let Some(path) = repeated_path(alloc, root, node, name)? {
@@ -277,21 +291,43 @@ fn find_path<'n, 'v>(nodes: &'n [Node<'v>], path: &str) -> Option<&'n Node<'v>> 
     nodes.iter().find(|node| node.path.as_str() == path)
 }
 
-/// What is to be known of a fault that was found at a place, or at none.
+/// What is to be known of a fault that is to be seen at a place.
+fn noted_there(
+    alloc: Global,
+    _root: &Value,
+    node: &Node,
+    fault: &FlowFault,
+) -> Result<Note, AllocError>
+    requires fits { Fits (view _root.now) node.now }
+    requires shows { HasFlow fault.now node.now }
+    ensures { IfOk result (λ note. LeadsTo (view _root.now) note.path (ShowsFlow fault.now)) }
+{
+    let sentence = flow_sentence(alloc, Some(node), fault)?;
+    noted(alloc, node.path.as_str(), sentence)
+}
+
+/// What is to be known of a fault that is to be seen at no place.
+fn noted_whole(alloc: Global, fault: &FlowFault) -> Result<Note, AllocError>
+    ensures { IfOk result (λ note. note.path ≡ []) }
+{
+    noted(alloc, "", flow_sentence(alloc, None, fault)?)
+}
+
+/// What is to be known of a fault at the first place at which it is to be seen, or of the whole.
 fn noted_at(
     alloc: Global,
     root: &Value,
-    node: Option<&Node>,
+    nodes: &[Node],
     fault: &FlowFault,
 ) -> Result<Note, AllocError>
-    requires { IfSome node (λ node. Fits (view root.now) node.now × HasFlow fault.now node.now) }
+    requires fit { All (Fits (view root.now)) nodes.now }
+    requires all { AreAll (view root.now) nodes.now }
     ensures { IfOk result (λ note. IsSeen (view root.now) note.path (ShowsFlow fault.now)) }
 {
-    let path = match node {
-        Some(node) => node.path.as_str(),
-        None => "",
-    };
-    noted(alloc, path, flow_sentence(alloc, node, fault)?)
+    match find(alloc, root, nodes, fault)? {
+        Some(node) => noted_there(alloc, root, node, fault),
+        None => noted_whole(alloc, fault),
+    }
 }
 
 /// What is to be known of an id that stands twice, or at no place that is found.
@@ -302,13 +338,14 @@ fn repeated_note(
     name: &str,
     fault: &FlowFault,
 ) -> Result<Note, AllocError>
-    requires nodes { All (Fits (view root.now)) nodes.now }
-    requires fault { fault.now ≡ BadId name.now }
-    ensures { IfOk result (λ note. FlowPlace (view root.now) (BadId name.now) note.path) }
+    requires fit { All (Fits (view root.now)) nodes.now }
+    requires all { AreAll (view root.now) nodes.now }
+    requires none { IsNowhere (view root.now) (ShowsFlow (BadId name.now)) }
+    ensures { IfOk result (λ note. IsSeenTwice (view root.now) name.now note.path) }
 {
     match find_repeated(alloc, root, nodes, name)? {
         Some(path) => noted(alloc, path.as_str(), flow_sentence(alloc, None, fault)?),
-        None => noted_at(alloc, root, None, fault),
+        None => noted_whole(alloc, fault),
     }
 }
 
@@ -320,12 +357,13 @@ fn name_note(
     name: &str,
     fault: &FlowFault,
 ) -> Result<Note, AllocError>
-    requires nodes { All (Fits (view root.now)) nodes.now }
+    requires fit { All (Fits (view root.now)) nodes.now }
+    requires all { AreAll (view root.now) nodes.now }
     requires fault { fault.now ≡ BadId name.now }
     ensures { IfOk result (λ note. FlowPlace (view root.now) (BadId name.now) note.path) }
 {
     match find(alloc, root, nodes, fault)? {
-        Some(node) => noted_at(alloc, root, Some(node), fault),
+        Some(node) => noted_there(alloc, root, node, fault),
         None => repeated_note(alloc, root, nodes, name, fault),
     }
 }
@@ -347,7 +385,7 @@ fn noted_in(alloc: Global, root: &Value, fault: &FlowFault) -> Result<Note, Allo
         | FlowFault::Missing(_)
         | FlowFault::LeftOut(_)
         | FlowFault::UnknownShell
-        | FlowFault::Memory => noted_at(alloc, root, find(alloc, root, nodes, fault)?, fault),
+        | FlowFault::Memory => noted_at(alloc, root, nodes, fault),
     }
 }
 

@@ -8,8 +8,8 @@ ghost use Rattle.flow_model.specs.JsonText.{json_read};
 ghost use Rattle.flow_reader.specs.Load.{flow_read};
 ghost use Rattle.flow_lint.specs.Cycles.{TellsCycle};
 ghost use Rattle.flow_lint.specs.FaultNodes.{HasText};
-ghost use Rattle.flow_lint.specs.Nodes.{Fits, HasNeed};
-ghost use Rattle.flow_lint.specs.Notes.{IsPlanNote, IsSeen, JobsNote, OfFlow, OfJson, TellsNeed};
+ghost use Rattle.flow_lint.specs.Nodes.{AreAll, Fits, HasNeed};
+ghost use Rattle.flow_lint.specs.Notes.{IsPlanNote, IsSeenOrWhole, JobsNote, OfFlow, OfJson, TellsNeed};
 ghost use Rattle.flow_lint.specs.Shows.{ShowsText};
 
 use crate::cycles::find_cycle;
@@ -88,7 +88,7 @@ fn text_noted_at(
     fault: ExprFault,
 ) -> Result<Note, AllocError>
     requires { IfSome node (λ node. Fits (view root.now) node.now × HasText fault node.now) }
-    ensures { IfOk result (λ note. IsSeen (view root.now) note.path (ShowsText fault)) }
+    ensures { IfOk result (λ note. IsSeenOrWhole (view root.now) note.path (ShowsText fault)) }
 {
     let path = match node {
         Some(node) => node.path.as_str(),
@@ -100,7 +100,7 @@ fn text_noted_at(
 /// What is to be known of a text that cannot be read, in a file's bytes.
 fn text_note(alloc: Global, bytes: &[u8], fault: ExprFault) -> Result<Note, AllocError>
     ensures { IfOk result (λ note. OfJson (json_read bytes.now) (λ root.
-        IsSeen root note.path (ShowsText fault))) }
+        IsSeenOrWhole root note.path (ShowsText fault))) }
 {
     match read_json(alloc, bytes)? {
         Some(root) => {
@@ -124,7 +124,8 @@ fn need_noted(alloc: Global, root: &Value, node: &Node, id: &str) -> Result<Note
 
 /// What is to be known of the first of some places where a need stands that is no job.
 fn need_noted_in(alloc: Global, root: &Value, nodes: &[Node]) -> Result<Note, AllocError>
-    requires { All (Fits (view root.now)) nodes.now }
+    requires fit { All (Fits (view root.now)) nodes.now }
+    requires all { AreAll (view root.now) nodes.now }
     ensures { IfOk result (TellsNeed (view root.now)) }
 {
     for node in nodes {
