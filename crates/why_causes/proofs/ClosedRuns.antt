@@ -9,7 +9,7 @@ use Rattle.why_causes.proofs.MetFirst.{contains_cases, contains_here, contains_n
 use Rattle.why_causes.proofs.Noting.{accepted_event, notes_are_made}
 use Rattle.why_causes.proofs.Staying.{some_passes, stays_unsuccessful}
 use Rattle.why_causes.specs.Causes.{asked, causes, counts, first_job, is_judged, job_sought, jobs_asked, run_asked, run_fact_asked, run_last, run_noted_asked, stop_asked}
-use Rattle.why_causes.specs.Endings.{HasResult, NamesJobsOfResult}
+use Rattle.why_causes.specs.Endings.{HasResult, NamesJobsOfResult, ClosedFor}
 use Rattle.why_causes.specs.Made.{MadeAt}
 use Rattle.why_causes.specs.declared.question.Question.{Question}
 use Rattle.why_causes.specs.declared.question.Question.TheVariants as question
@@ -47,6 +47,9 @@ use Rattle.status_table.proofs.Found.{RunStands, run_stands}
 use Rattle.status_table.proofs.Lists.{all-get, zip-get}
 use Rattle.why_causes.proofs.Past.{Past, beside, past, same_plan}
 use Rattle.why_causes.proofs.Obstacles.{item_asked}
+use Rattle.why_causes.specs.Agrees.{RunAgrees, RunNow}
+use Rattle.why_causes.specs.Stands.{RunIs}
+use Rattle.why_facts.specs.declared.fact.MemberFact.{MemberFact}
 
 -- ---- lists of questions
 
@@ -286,5 +289,38 @@ module _ (p : Plan) (es : List Entry) (a : Account) (r : ℕ) (at : RunAt) (note
       by (inr ended) =
           by_jobs ended.0 ended.1 (is_any_job_failed was_run.run) was_run.run.stop (is_any_job_cancelled was_run.run) refl refl refl ended.2
 
-  pub names_jobs : NamesJobsOfResult a r at result
+  names_jobs : NamesJobsOfResult a r at result
   names_jobs = record { jobs = jobs; below = below; all = all; alone = alone; some = some }
+
+-- ---- all runs that are closed
+
+same_closed : (x y : Outcome) → run_state.Closed x ≡ run_state.Closed y → x ≡ y
+same_closed x y e = cc
+
+module _ (p : Plan) (es : List Entry) (a : Account) (r : ℕ) (at : RunAt) (result : Outcome) (rules : IsPlan p) (sound : SoundPlan p) (numbers : NeedsPointBack)
+    (account : account_of p es ≡ Some a) (is : run_at a.plan a.board r ≡ Some at) (ended : at.run.state ≡ run_state.Closed result) (apart : result ≢ outcome.Success) where
+  for_fact : (note : MemberNote) (fact : MemberFact) → run_last (slice_get a.notes.runs r) ≡ Some note → note.fact ≡ fact → RunIs fact at.run.state
+      → ClosedFor fact result (NamesJobsOfResult a r at result)
+  for_fact note member_fact.Admitted noted same so = cc
+  for_fact note (member_fact.Waits holder) noted same so = cc
+  for_fact note (member_fact.Follows before) noted same so = cc
+  for_fact note (member_fact.Displaced by) noted same so = same_closed result outcome.Cancelled (sym ended ∙ so)
+  for_fact note member_fact.OwnRun noted same so = absurd so
+  for_fact note (member_fact.NoGroup f) noted same so = same_closed result outcome.Failure (sym ended ∙ so)
+  for_fact note (member_fact.Closed how) noted same so =
+      let is_how = same_closed how result (sym so ∙ ended) in
+      (is_how, names_jobs p es a r at note result rules sound numbers account is noted (same ∙ ap member_fact.Closed is_how) apart)
+  for_fact note member_fact.Taken noted same so = absurd so
+  for_fact note (member_fact.Finished how) noted same so = absurd so
+  for_fact note (member_fact.Stopped cause) noted same so = absurd so
+
+  pub closed_for : (note : MemberNote) × (run_last (slice_get a.notes.runs r) ≡ Some note) × ClosedFor note.fact result (NamesJobsOfResult a r at result)
+  closed_for =
+      let there = (run_stands a.plan a.board r at is).run in
+      let x = zip-left RunAgrees a.notes.runs a.board.runs r at.run there (notes_are_made p es a account).agrees.runs in
+      by x.0.last (ap run_last x.1) x.2.state
+    where
+      by : (last : Option MemberNote) → run_last (slice_get a.notes.runs r) ≡ last → RunNow last at.run.state
+          → (note : MemberNote) × (run_last (slice_get a.notes.runs r) ≡ Some note) × ClosedFor note.fact result (NamesJobsOfResult a r at result)
+      by None noted so = cc
+      by (Some note) noted so = (note, noted, for_fact note note.fact noted refl so)

@@ -7,6 +7,7 @@ use Rattle.why_causes.specs.Causes.{causes, job_last, run_last, stop_asked}
 use Rattle.why_causes.specs.declared.question.Question.{Question}
 use Rattle.why_causes.specs.declared.question.Question.TheVariants as question
 use Rattle.why_facts.specs.declared.fact.JobFact.TheVariants as job_fact
+use Rattle.why_facts.specs.declared.fact.MemberFact.{MemberFact}
 use Rattle.why_facts.specs.declared.fact.MemberFact.TheVariants as member_fact
 use Rattle.why_facts.specs.declared.notes.JobNote.{JobNote}
 use Rattle.why_facts.specs.declared.notes.MemberNote.{MemberNote}
@@ -15,6 +16,7 @@ use Rattle.why_notes.specs.Conditions.{waits_for_success}
 use Rattle.flow_model.specs.Rules.{IsPlan}
 use Rattle.flow_model.specs.declared.board.Job.{Job}
 use Rattle.flow_model.specs.declared.board.JobState.TheVariants as job_state
+use Rattle.flow_model.specs.declared.board.RunState.TheVariants as run_state
 use Rattle.flow_model.specs.declared.event.Entry.{Entry}
 use Rattle.flow_model.specs.declared.event.Member.TheVariants as member
 use Rattle.flow_model.specs.declared.event.Outcome.{Outcome}
@@ -45,12 +47,27 @@ pub record NamesJobsOfResult (a : Account) (r : ℕ) (at : RunAt) (result : Outc
   pub alone : (q : Question) → Contains jobs q → (j : ℕ) × HasResult at result j × (q ≡ question.Job j)
   pub some : causes a (question.Run r) ≢ []
 
+-- What is told last of a run that was closed with a result: that its Close ended it, and then causes are named; or, which says
+-- why by itself, that another took its place, or that the text of its group has no value.
+abbrev pub ClosedFor : MemberFact → Outcome → Type 0 → Type 0
+ClosedFor (member_fact.Closed how) result Named = (how ≡ result) × Named
+ClosedFor (member_fact.Displaced by) result Named = result ≡ outcome.Cancelled
+ClosedFor (member_fact.NoGroup fault) result Named = result ≡ outcome.Failure
+ClosedFor member_fact.Admitted result Named = ⊥
+ClosedFor (member_fact.Waits holder) result Named = ⊥
+ClosedFor (member_fact.Follows before) result Named = ⊥
+ClosedFor member_fact.OwnRun result Named = ⊥
+ClosedFor member_fact.Taken result Named = ⊥
+ClosedFor (member_fact.Finished how) result Named = ⊥
+ClosedFor (member_fact.Stopped cause) result Named = ⊥
+
 -- So it is after each record whose plan breaks no rule.
 abbrev pub ClosedRunsNameJobs : Type 0
 ClosedRunsNameJobs =
-    (p : Plan) (es : List Entry) (a : Account) (r : ℕ) (at : RunAt) (note : MemberNote) (result : Outcome) → IsPlan p
-    → account_of p es ≡ Some a → run_at a.plan a.board r ≡ Some at → run_last (slice_get a.notes.runs r) ≡ Some note
-    → note.fact ≡ member_fact.Closed result → result ≢ outcome.Success → NamesJobsOfResult a r at result
+    (p : Plan) (es : List Entry) (a : Account) (r : ℕ) (at : RunAt) (result : Outcome) → IsPlan p → account_of p es ≡ Some a
+    → run_at a.plan a.board r ≡ Some at → at.run.state ≡ run_state.Closed result → result ≢ outcome.Success
+    → (note : MemberNote) × (run_last (slice_get a.notes.runs r) ≡ Some note)
+    × ClosedFor note.fact result (NamesJobsOfResult a r at result)
 
 -- ---- a job that waits in vain for the success of what it needs
 
