@@ -81,7 +81,7 @@ pub record IsPassed (file : Content) (text : List ℕ) : Type 0 where
   pub plan : Plan
   pub comes : ComesTo All no_contexts (file ∷ []) plan
   pub hints : List Note
-  pub are : AreHints file.bytes hints
+  pub are : AreHints file.bytes [] hints
   pub is : text ≡ hint_lines file.name hints
 
 -- The file alone comes to none, and the first line says why, at its place.
@@ -91,7 +91,7 @@ pub record IsRefused (file : Content) (text : List ℕ) : Type 0 where
   pub note : Note
   pub is_note : IsNoteOf file error note
   pub hints : List Note
-  pub are : AreHints file.bytes hints
+  pub are : AreHints file.bytes note.path hints
   pub is : text ≡ refusing_line file.name (fault_text error) note ++ hint_lines file.name hints
 
 -- Whether a file is refused, and the lines that are told of it.
@@ -149,17 +149,17 @@ Judges file (Ok (Some error)) = ComesToNone All no_contexts (file ∷ []) error
 Judges file (Err error) = error ≡ Memory
 
 -- Hints of a file are added to a text.
-abbrev pub AddsHints : Content → String Global → String Global → Type 0
-AddsHints file old new = (notes : List Note) × (AreHints file.bytes notes × Adds old new (hint_lines file.name notes))
+abbrev pub AddsHints : Content → List ℕ → String Global → String Global → Type 0
+AddsHints file told old new = (notes : List Note) × (AreHints file.bytes told notes × Adds old new (hint_lines file.name notes))
 
 -- The lines of a file that passes, and of one that is refused for this error.
 abbrev pub Passes : Content → List ℕ → Type 0
-Passes file text = (notes : List Note) × (AreHints file.bytes notes × (text ≡ hint_lines file.name notes))
+Passes file text = (notes : List Note) × (AreHints file.bytes [] notes × (text ≡ hint_lines file.name notes))
 
 abbrev pub Refuses : Content → CommandError → List ℕ → Type 0
 Refuses file error text =
     (note : Note) × (IsNoteOf file error note
-    × ((notes : List Note) × (AreHints file.bytes notes
+    × ((notes : List Note) × (AreHints file.bytes note.path notes
     × (text ≡ refusing_line file.name (fault_text error) note ++ hint_lines file.name notes))))
 
 abbrev pub IsToldOf : Content → Option CommandError → Told → Type 0

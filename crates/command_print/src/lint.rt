@@ -72,7 +72,7 @@ fn add_notes(alloc: Global, text: &mut String, file: &str, notes: &[Note]) -> Re
 
 /// Adds what refuses nothing, but for the place of which something is told already.
 fn add_hints(alloc: Global, text: &mut String, file: &Content, told: &str) -> Result<(), AllocError>
-    ensures { OnOk result (spec.AddsHints file.now text.old text.new) }
+    ensures { OnOk result (spec.AddsHints file.now told.now text.old text.new) }
 {
     let notes = hints(alloc, file.bytes(), told)?;
     add_notes(alloc, text, file.name(), notes.as_slice())

@@ -1,3 +1,4 @@
+pub mod Hinted
 pub mod Meant
 pub mod Nodes
 pub mod Seen

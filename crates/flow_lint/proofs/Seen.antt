@@ -1,5 +1,5 @@
 -- What no node shows is to be seen nowhere.
-use Rattle.std.proofs.Common.{refl, ◌≡◌, ◌∙◌, ◌≤◌, ◌<◌, ◌+◌, ◌⊎◌, ℕ, List, get_or, length, take, ap, inl, inr, ⊎_elim, sym, subst, Option, Some, None, codes, option_and_then, arith}
+use Rattle.std.proofs.Common.{refl, ◌≡◌, ◌∙◌, ◌≤◌, ◌<◌, ◌+◌, ◌⊎◌, ℕ, List, get_or, length, take, ap, ⊎_elim, sym, subst, Option, Some, None, codes, option_and_then, arith}
 use Rattle.std.proofs.lemmas.List.{take_all}
 use Rattle.std.proofs.lemmas.List.Elements.{All-contains, All-more}
 use Rattle.std.specs.List.{All}

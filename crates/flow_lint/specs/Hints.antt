@@ -13,7 +13,7 @@ use Rattle.flow_model.specs.JsonText.{json_read}
 use Rattle.flow_lint.specs.Contexts.{Sees}
 use Rattle.flow_lint.specs.Kinds.{IsTemplate}
 use Rattle.flow_lint.specs.Nodes.{place_of}
-use Rattle.flow_lint.specs.Places.{Place, StandsAt, ShowsNeed, below}
+use Rattle.flow_lint.specs.Places.{IsLookedAt, Place, StandsAt, ShowsNeed, below}
 use Rattle.flow_lint.specs.Unknown.{Suggests, idle_key, job_ids, key_names, unknown_id, unknown_key}
 use Rattle.flow_lint.specs.declared.kind.NodeKind.TheVariants as kinds
 use Rattle.flow_lint.specs.declared.node.Node.{Node}
@@ -104,6 +104,32 @@ pub record IsHintOf (root : Data) (note : Note) : Type 0 where
 abbrev pub AreHintsOf : Data → List Note → Type 0
 AreHintsOf root notes = All (IsHintOf root) notes
 
--- The hints of a file's bytes, which has none where it is no JSON.
-abbrev pub AreHints : List ℕ → List Note → Type 0
-AreHints bytes notes = All (λ note. (root : Data) × ((json_read bytes ≡ Some root) × IsHintOf root note)) notes
+-- ---- what is left out
+
+-- One of some notes says this at a path.
+abbrev pub HasNote : List Note → List ℕ → (List ℕ → Type 0) → Type 0
+HasNote notes path Said = (note : Note) × (Contains notes note × ((note.path ≡ path) × Said note.sentence))
+
+-- What is among some notes is among others.
+abbrev pub KeepsNotes : List Note → List Note → Type 0
+KeepsNotes notes others = (note : Note) → Contains notes note → Contains others note
+
+-- What a person should know of what is to be seen at a path is among some notes: that a key is not known or does nothing, that a need
+-- is of no job.
+pub record IsHinted (jobs : Option Data) (notes : List Note) (path : List ℕ) (p : Place) : Type 0 where
+  pub unknown : p.kind ≡ kinds.Unknown → HasNote notes path (SaysUnknown p)
+  pub idle : p.kind ≡ kinds.Idle → HasNote notes path (SaysIdle p)
+  pub need : ShowsNeed jobs p → HasNote notes path (SaysNeed jobs p)
+
+abbrev pub HasHints : Data → List ℕ → List Note → Node → Type 0
+HasHints root told notes node = (node.path ≡ told → ⊥) → IsHinted (get (codes "jobs") root) notes node.path (place_of node)
+
+-- So it is of each place that is looked at, but for the one of which something is told already.
+abbrev pub AreAllHints : Data → List ℕ → List Note → Type 0
+AreAllHints root told notes =
+    (path : List ℕ) (p : Place) → IsLookedAt root path p → (path ≡ told → ⊥) → IsHinted (get (codes "jobs") root) notes path p
+
+-- The hints of a file's bytes, which has none where it is no JSON, but for those on the place of which something is told already.
+pub record AreHints (bytes told : List ℕ) (notes : List Note) : Type 0 where
+  pub each : All (λ note. (root : Data) × ((json_read bytes ≡ Some root) × IsHintOf root note)) notes
+  pub all : (root : Data) → json_read bytes ≡ Some root → AreAllHints root told notes

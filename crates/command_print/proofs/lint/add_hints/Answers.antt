@@ -14,7 +14,7 @@ returns c =
     (λ h. (
       notes,
       (
-        subst (λ (b : List ℕ). AreHints b notes) c.bytes.ensures c.in_ok-notes.ensures,
+        subst (λ (b : List ℕ). AreHints b c.args.told.now notes) c.bytes.ensures c.in_ok-notes.ensures,
         subst (λ (f : List ℕ). adds (hint_lines f notes)) c.name.ensures (subst (λ (ns : List Note). adds (hint_lines c.name.result.now ns)) c.as_slice.ensures h),
       ),
     ))

@@ -5,8 +5,8 @@ use Rattle.flow_lint.specs.Hints.{AreHintsOf, IsHintOf}
 use Rattle.flow_lint.specs.Nodes.{place_of}
 use Rattle.flow_lint.proofs.hint.push_note.Goals as goal
 
-pub returns : goal.returns
-returns c =
+pub returns-clause-are : goal.returns-clause-are
+returns-clause-are c =
     let root = view c.args.root.now in
     let made : IsHintOf root c.args.note =
     record {
