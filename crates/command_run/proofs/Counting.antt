@@ -1,13 +1,12 @@
 -- The steps for which a program was started, counted in a history.
-use Rattle.std.proofs.Common.{◌≡◌, ℕ, ◌+◌, ◌-◌, ◌<◌, Bool, true, false, List, [], ◌∷◌, ◌++◌, flat_map, map, length, take, get_or, if◌then◌else◌, refl, ap, sym, ◌∙◌}
+use Rattle.std.proofs.Common.{◌≡◌, ℕ, ◌+◌, ◌-◌, ◌<◌, List, [], ◌∷◌, ◌++◌, flat_map, length, take, get_or, refl, ap, sym, ◌∙◌}
 use Rattle.std.proofs.lemmas.List.Concat.{flat_map-append}
 use Rattle.flow_model.specs.declared.event.Entry.{Entry}
 use Rattle.flow_model.specs.declared.event.Event.{Event}
 use Rattle.flow_model.specs.declared.event.Event.TheVariants as event
 use Rattle.step_host.specs.Counted.{begun, answer_counted, counted}
-use Rattle.step_host.specs.Script.{Line}
 use Rattle.step_host.proofs.Counted.{counted-next}
-use Rattle.command_run.specs.StepLogs.{was_started, started_leg, started_step, started_by}
+use Rattle.command_run.specs.StepLogs.{started_step, started_by}
 
 -- where as many steps are begun, the same step ends
 same_by : (f g : ℕ → ℕ) (e : Event) → ((l : ℕ) → f l ≡ g l) → started_by f e ≡ started_by g e
@@ -32,20 +31,3 @@ started_on many es k e steps more within is counts lists added =
     ∙ ap (λ (ss : List (ℕ × ℕ)). flat_map started_step (counted (take k es)) ++ ss) (same_by many (λ l. begun l (take k es)) e.event counts)
     ∙ sym (flat_map-append started_step (counted (take k es)) (answer_counted (λ l. begun l (take k es)) e.event))
     ∙ ap (flat_map started_step) (sym (counted-next es k e within is))
-
--- ---- the legs of the steps
-
-map-append : (xs ys : List (ℕ × ℕ)) → map (λ (step : ℕ × ℕ). step.0) (xs ++ ys) ≡ map (λ (step : ℕ × ℕ). step.0) xs ++ map (λ (step : ℕ × ℕ). step.0) ys
-map-append [] ys = refl
-map-append (x ∷ xs) ys = ap (λ (zs : List ℕ). x.0 ∷ zs) (map-append xs ys)
-
-pub started_legs : (lines : List Line) → map (λ (step : ℕ × ℕ). step.0) (flat_map started_step lines) ≡ flat_map started_leg lines
-started_legs [] = refl
-started_legs (line ∷ lines) =
-    map-append (started_step line) (flat_map started_step lines)
-    ∙ ap (λ (ls : List ℕ). ls ++ map (λ (step : ℕ × ℕ). step.0) (flat_map started_step lines)) (one (was_started line.2))
-    ∙ ap (λ (ls : List ℕ). started_leg line ++ ls) (started_legs lines)
-  where
-    one : (c : Bool) → map (λ (step : ℕ × ℕ). step.0) (if c then (line.0, line.1) ∷ [] else []) ≡ (if c then line.0 ∷ [] else [])
-    one true = refl
-    one false = refl

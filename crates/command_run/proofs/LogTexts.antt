@@ -1,21 +1,26 @@
 -- What is shown of the lines of a log, told and written piece by piece.
-use Rattle.std.proofs.Common.{◌≡◌, ℕ, ◌==◌, Bool, true, false, if◌then◌else◌, string_bytes, Option, Some, None, Ok, Err, List, [], ◌∷◌, ◌++◌, flat_map, refl, sym, ap, subst, ◌∙◌, append_assoc, append-nil, arith}
+use Rattle.std.proofs.Common.{◌≡◌, ℕ, ◌==◌, Bool, true, false, not, ◌&&◌, IsTrue, if◌then◌else◌, string_bytes, Option, Some, None, Result, Ok, Err, IfOk, inl, inr, List, [], ◌∷◌, ◌++◌, flat_map, refl, sym, ap, subst, ◌∙◌, append_assoc, append-nil, arith}
 use Rattle.std.proofs.lemmas.Bool.Decides.{nat_tests}
 use Rattle.std.proofs.lemmas.List.Concat.{flat_map-append}
+use Rattle.std.proofs.lemmas.Result.{IfOk-weaker}
 use Rattle.std.proofs.lemmas.Str.{IsUtf8-append, IsUtf8-from_is_utf8, is_utf8-from_IsUtf8}
 use Rattle.std.specs.Prelude.{IsErr}
 use Rattle.std.specs.Str.{IsUtf8, is_utf8}
 use Rattle.std.specs.declared.alloc.AllocError.{AllocError}
 use Rattle.command_io.proofs.Known.{Appends-nothing, Appends-then, puts_more}
 use Rattle.command_io.proofs.Told.{IsKept-same, Puts-as}
-use Rattle.command_io.specs.Stream.{Stream, IsCutOff, IsWritten, Puts}
-use Rattle.flow_model.specs.Lines.{lines_of, newline, onto_first}
+use Rattle.command_io.specs.Stream.{Stream, IsCutOff, IsWritten, Puts, TakesLine, TakesLines}
+use Rattle.flow_model.proofs.LineLemmas.{lines_of-line}
+use Rattle.flow_model.proofs.Tests.{pair}
+use Rattle.flow_model.specs.Lines.{is_line, lines_of, newline, onto_first}
 use Rattle.flow_commands.specs.CommandTexts.{commands, read_from}
 use Rattle.flow_commands.specs.Logs.{Told, bytes_told, leg_masks, line_text, lines_text, lines_told, logs_text, mask_for, no_text, of_leg, told_with}
 use Rattle.flow_commands.specs.Shown.{masks_added, shown}
 use Rattle.flow_commands.specs.declared.logs.LogTeller.{LogTeller}
 use Rattle.command_run.proofs.Telling.{begun_after}
-use Rattle.command_run.specs.StepLogs.{AreAdded, HandsOn, IsTextLine, PutsLines, PutsLog, PutsText, ShowsLog, Written}
+use Rattle.command_run.specs.StepLogs.{AreAdded, BeginsWith, EndsAs, FileGives, FileIs, GetsLine, HandsOn, IsOfKind, PutsLines, PutsLog, PutsText, ShowsLog, Written, files_of}
+use Rattle.command_run.specs.declared.log_files.LogKind.{LogKind}
+use Rattle.command_run.specs.declared.log_files.LogKind.TheVariants.{Unread, NoText, Text}
 
 -- ---- whole lines
 
@@ -50,6 +55,91 @@ whole_more a b first next more =
     ∙ sym (append_assoc (lines_of a) (lines_of b) (lines_of more))
     ∙ ap (λ (xs : List (List ℕ)). xs ++ lines_of more) (sym (first b))
 
+-- ---- lines that are read
+
+-- a line of a text has no newline
+first_line : (text line : List ℕ) (lines : List (List ℕ)) → lines_of text ≡ line ∷ lines → IsTrue (is_line line)
+first_line [] line lines is = absurd (cc)
+first_line (b ∷ text) line lines is = by_test (b == newline) refl (first_line text) is
+  where
+    onto : (b == newline) ≡ false → ((l : List ℕ) (ls : List (List ℕ)) → lines_of text ≡ l ∷ ls → IsTrue (is_line l)) → (ls : List (List ℕ)) → lines_of text ≡ ls
+        → onto_first b ls ≡ line ∷ lines → IsTrue (is_line line)
+    onto other rest [] of front =
+        let is : b ∷ [] ≡ line = cc in
+        subst (λ (l : List ℕ). IsTrue (is_line l)) is (ap (λ (c : Bool). not c && true) other)
+    onto other rest (l ∷ ls) of front =
+        let is : b ∷ l ≡ line = cc in
+        subst (λ (x : List ℕ). IsTrue (is_line x)) is (pair (not (b == newline)) (is_line l) (ap not other) (rest l ls of))
+
+    by_test : (c : Bool) → (b == newline) ≡ c → ((l : List ℕ) (ls : List (List ℕ)) → lines_of text ≡ l ∷ ls → IsTrue (is_line l))
+        → (if c then [] ∷ lines_of text else onto_first b (lines_of text)) ≡ line ∷ lines → IsTrue (is_line line)
+    by_test true of rest front =
+        let is : [] ≡ line = cc in
+        subst (λ (l : List ℕ). IsTrue (is_line l)) is refl
+    by_test false of rest front = onto of rest (lines_of text) refl front
+
+take_none : (known : Option (List ℕ)) → TakesLines known known []
+take_none None = tt
+take_none (Some held) = refl
+
+-- one more is taken, with its newline
+take_more : (known left rest : Option (List ℕ)) (text line : List ℕ) → AreWhole text → TakesLines known left (lines_of text) → TakesLine left rest line
+    → TakesLines known rest (lines_of (text ++ (line ++ newline ∷ [])))
+take_more None left rest text line whole before one = tt
+take_more (Some held) None rest text line whole before one = absurd before
+take_more (Some held) (Some more) None text line whole before one = absurd one
+take_more (Some held) (Some more) (Some less) text line whole before one =
+    before ∙ ap (λ (ls : List (List ℕ)). lines_of text ++ ls) one
+    ∙ sym (append_assoc (lines_of text) (line ∷ []) (lines_of less))
+    ∙ ap (λ (ls : List (List ℕ)). (lines_of text ++ ls) ++ lines_of less) (sym (lines_of-line line [] (first_line more line (lines_of less) one)))
+    ∙ ap (λ (ls : List (List ℕ)). ls ++ lines_of less) (sym (whole (line ++ newline ∷ [])))
+
+-- Whole lines of a log were read.
+pub record ReadSoFar (first now : Stream) : Type 0 where
+  pub text : List ℕ
+  pub whole : AreWhole text
+  pub begins : BeginsWith first text now
+
+pub none_read : (log : Stream) → ReadSoFar log log
+none_read log = record {
+  text = [];
+  whole = λ more. refl;
+  begins = record { utf8 = ([], (refl, refl)); taken = take_none log.bytes; sound = refl };
+}
+
+pub read_more : (first now next : Stream) (piece : List ℕ) → ReadSoFar first now → GetsLine now next piece → IsUtf8 piece → ReadSoFar first next
+read_more first now next piece read gets utf8 = record {
+  text = read.text ++ piece;
+  whole = whole_more read.text piece read.whole (subst AreWhole (sym gets.is) (whole_line gets.line));
+  begins = record {
+    utf8 = IsUtf8-append read.text piece read.begins.utf8 utf8;
+    taken = subst (λ (p : List ℕ). TakesLines first.bytes next.bytes (lines_of (read.text ++ p))) (sym gets.is)
+        (take_more first.bytes now.bytes next.bytes read.text gets.line read.whole read.begins.taken gets.read.0);
+    sound = gets.read.1 ∙ read.begins.sound;
+  };
+}
+
+pub all_read : (first now : Stream) (kind : LogKind) → ReadSoFar first now → EndsAs now kind → IsOfKind first kind
+all_read first now kind read ends = (read.text, now, read.begins, ends)
+
+-- a line that is no text ends what is read
+pub ends_no_text : (log after : Stream) (text : List ℕ) → GetsLine log after text → (IsUtf8 text → ⊥) → EndsAs log NoText
+ends_no_text log after text gets unread = (gets.line, after, gets.read, λ utf8. unread (subst IsUtf8 (sym gets.is) utf8))
+
+-- what a log is, its file is
+file_is : {L : Type 0} (logs : Option L → List ℕ → Type 0) (seen : L → Stream) (name : List ℕ) (log : L) → logs (Some log) name → (kind : LogKind)
+    → IsOfKind (seen log) kind → FileIs logs seen name kind
+file_is logs seen name log opened Unread (text, left, begins, ends) =
+    inr (text, record { log = log; opened = opened; left = left; begins = begins; ends = ends })
+file_is logs seen name log opened NoText (text, left, begins, ends) =
+    (text, record { log = log; opened = opened; left = left; begins = begins; ends = ends })
+file_is logs seen name log opened Text (text, left, begins, ends) =
+    (text, record { log = log; opened = opened; left = left; begins = begins; ends = ends })
+
+pub kind_is : {L : Type 0} (logs : Option L → List ℕ → Type 0) (seen : L → Stream) (name : List ℕ) (log : L) → logs (Some log) name
+    → (answer : Result LogKind AllocError) → IfOk answer (IsOfKind (seen log)) → IfOk answer (FileIs logs seen name)
+kind_is logs seen name log opened answer is = IfOk-weaker answer _ _ (λ kind. file_is logs seen name log opened kind) is
+
 -- ---- lines that are told and written
 
 abbrev told_by : List (List ℕ) → List ℕ → List (List ℕ) → Option (List ℕ) → List (List ℕ) → List ℕ × List (List ℕ)
@@ -61,45 +151,40 @@ abbrev behind : List ℕ → List ℕ × List (List ℕ) → List ℕ × List (L
 behind text told = (text ++ told.0, told.1)
 
 -- Whole lines of a log were told, and of what is shown of them a beginning was written.
-pub record ToldLines (given : List (List ℕ)) (first log : LogTeller) (out out' : Stream) : Type 0 where
-  pub bytes : List ℕ
-  pub utf8 : IsUtf8 bytes
-  pub whole : AreWhole bytes
+pub record ToldLines (given : List (List ℕ)) (first log : LogTeller) (from to out out' : Stream) : Type 0 where
+  pub read : ReadSoFar from to
   pub text : List ℕ
   pub written : IsWritten out out' text
-  pub is : (lines : List (List ℕ)) → told_with given first (lines_of bytes ++ lines) ≡ behind text (told_with given log lines)
+  pub is : (lines : List (List ℕ)) → told_with given first (lines_of read.text ++ lines) ≡ behind text (told_with given log lines)
 
-pub no_lines : (given : List (List ℕ)) (log : LogTeller) (out : Stream) → ToldLines given log log out out
-no_lines given log out = record {
-  bytes = [];
-  utf8 = ([], (refl, refl));
-  whole = λ more. refl;
+pub no_lines : (given : List (List ℕ)) (log : LogTeller) (from out : Stream) → ToldLines given log log from from out out
+unfolding none_read
+no_lines given log from out = record {
+  read = none_read from;
   text = [];
   written = (Appends-nothing out.bytes, refl);
   is = λ lines. refl;
 }
 
 -- a line more was told
-pub line_more : (given : List (List ℕ)) (first log log' : LogTeller) (a b : Stream) (piece : List ℕ) → ToldLines given first log a b → IsTextLine piece
-    → ((lines : List (List ℕ)) → told_with given log (lines_of piece ++ lines) ≡ told_with given log' lines) → ToldLines given first log' a b
-line_more given first log log' a b piece told line more = record {
-  bytes = told.bytes ++ piece;
-  utf8 = IsUtf8-append told.bytes piece told.utf8 line.1;
-  whole = whole_more told.bytes piece told.whole (subst AreWhole (sym line.0.is) (whole_line line.0.line));
+pub line_more : (given : List (List ℕ)) (first log log' : LogTeller) (from to to' a b : Stream) (piece : List ℕ) → ToldLines given first log from to a b
+    → GetsLine to to' piece → IsUtf8 piece → ((lines : List (List ℕ)) → told_with given log (lines_of piece ++ lines) ≡ told_with given log' lines)
+    → ToldLines given first log' from to' a b
+unfolding read_more
+line_more given first log log' from to to' a b piece told gets utf8 more = record {
+  read = read_more from to to' piece told.read gets utf8;
   text = told.text;
   written = told.written;
-  is = λ lines. ap (λ (xs : List (List ℕ)). told_with given first (xs ++ lines)) (told.whole piece)
-      ∙ ap (told_with given first) (append_assoc (lines_of told.bytes) (lines_of piece) lines)
+  is = λ lines. ap (λ (xs : List (List ℕ)). told_with given first (xs ++ lines)) (told.read.whole piece)
+      ∙ ap (told_with given first) (append_assoc (lines_of told.read.text) (lines_of piece) lines)
       ∙ told.is (lines_of piece ++ lines) ∙ ap (behind told.text) (more lines);
 }
 
 -- what is shown was written, or is still gathered
-pub handed_on : (given : List (List ℕ)) (first log log' : LogTeller) (a b c : Stream) → ToldLines given first log a b → HandsOn log log' b c true
-    → ToldLines given first log' a c
-handed_on given first log log' a b c told (part, put, text, masks, stop) = record {
-  bytes = told.bytes;
-  utf8 = told.utf8;
-  whole = told.whole;
+pub handed_on : (given : List (List ℕ)) (first log log' : LogTeller) (from to a b c : Stream) → ToldLines given first log from to a b → HandsOn log log' b c true
+    → ToldLines given first log' from to a c
+handed_on given first log log' from to a b c told (part, put, text, masks, stop) = record {
+  read = told.read;
   text = told.text ++ part;
   written = (Appends-then _ _ _ told.text part told.written.0 put.0, put.1 ∙ told.written.1);
   is = λ lines. told.is lines
@@ -113,65 +198,77 @@ handed_on given first log log' a b c told (part, put, text, masks, stop) = recor
 }
 
 -- all that is shown of the lines that were told, and the masks that they add
-all_told : (given : List (List ℕ)) (first log : LogTeller) (a b : Stream) → (told : ToldLines given first log a b) → string_bytes first.shown ≡ [] → first.stop ≡ None
-    → told_by given [] first.masks None (lines_of told.bytes) ≡ (told.text ++ string_bytes log.shown, log.masks)
-all_told given first log a b told fresh going =
-    ap (λ (ls : List (List ℕ)). told_by given [] first.masks None ls) (sym (append-nil (lines_of told.bytes)))
-    ∙ ap (λ (t : List ℕ). told_by given t first.masks None (lines_of told.bytes ++ [])) (sym fresh)
-    ∙ ap (λ (s : Option (List ℕ)). told_by given (string_bytes first.shown) first.masks s (lines_of told.bytes ++ [])) (sym going)
+all_told : (given : List (List ℕ)) (first log : LogTeller) (from to a b : Stream) → (told : ToldLines given first log from to a b) → string_bytes first.shown ≡ [] → first.stop ≡ None
+    → told_by given [] first.masks None (lines_of told.read.text) ≡ (told.text ++ string_bytes log.shown, log.masks)
+all_told given first log from to a b told fresh going =
+    ap (λ (ls : List (List ℕ)). told_by given [] first.masks None ls) (sym (append-nil (lines_of told.read.text)))
+    ∙ ap (λ (t : List ℕ). told_by given t first.masks None (lines_of told.read.text ++ [])) (sym fresh)
+    ∙ ap (λ (s : Option (List ℕ)). told_by given (string_bytes first.shown) first.masks s (lines_of told.read.text ++ [])) (sym going)
     ∙ told.is []
     ∙ ap (λ (ms : List (List ℕ)). (told.text ++ (string_bytes log.shown ++ []), ms)) (append-nil log.masks)
     ∙ ap (λ (t : List ℕ). (told.text ++ t, log.masks)) (append-nil (string_bytes log.shown))
 
 -- the rest of what is shown was written, or a beginning of it
-pub lines_put : (given : List (List ℕ)) (first log log' : LogTeller) (a b c : Stream) (whole : Bool) → ToldLines given first log a b → string_bytes first.shown ≡ [] → first.stop ≡ None
-    → Puts b c (string_bytes log.shown) whole → log'.masks ≡ log.masks → PutsLines given first.masks log'.masks a c (Ok whole)
-lines_put given first log log' a b c whole told fresh going put kept =
-    let all = all_told given first log a b told fresh going in
+pub lines_put : (given : List (List ℕ)) (first log log' : LogTeller) (from to a b c : Stream) (whole : Bool) → ToldLines given first log from to a b
+    → string_bytes first.shown ≡ [] → first.stop ≡ None → (kind : LogKind) → EndsAs to kind → Puts b c (string_bytes log.shown) whole → log'.masks ≡ log.masks
+    → PutsLines from given first.masks log'.masks a c (Ok whole)
+lines_put given first log log' from to a b c whole told fresh going kind ends put kept =
+    let all = all_told given first log from to a b told fresh going in
     record {
-      bytes = told.bytes;
-      utf8 = told.utf8;
+      text = told.read.text;
+      left = to;
+      begins = told.read.begins;
+      ends = λ _. (kind, ends);
       adds = λ _. kept ∙ sym (ap (λ (t : List ℕ × List (List ℕ)). t.1) all);
       puts = Puts-as a c (told.text ++ string_bytes log.shown) _ whole (puts_more a b c told.text (string_bytes log.shown) whole told.written put)
           (sym (ap (λ (t : List ℕ × List (List ℕ)). t.0) all));
     }
 
 -- it was cut off
-pub lines_cut : (given : List (List ℕ)) (first log log' : LogTeller) (a b c : Stream) → ToldLines given first log a b → string_bytes first.shown ≡ [] → first.stop ≡ None
-    → IsCutOff b c (string_bytes log.shown) → PutsLines given first.masks log'.masks a c (Ok false)
-lines_cut given first log log' a b c told fresh going cut =
-    let put = lines_put given first log log a b c false told fresh going cut refl in
-    record { bytes = put.bytes; utf8 = put.utf8; adds = λ no. absurd (cc); puts = put.puts }
+pub lines_cut : (given : List (List ℕ)) (first log log' : LogTeller) (from to a b c : Stream) → ToldLines given first log from to a b → string_bytes first.shown ≡ []
+    → first.stop ≡ None → IsCutOff b c (string_bytes log.shown) → PutsLines from given first.masks log'.masks a c (Ok false)
+lines_cut given first log log' from to a b c told fresh going cut = record {
+  text = told.read.text;
+  left = to;
+  begins = told.read.begins;
+  ends = λ no. absurd (cc);
+  adds = λ no. absurd (cc);
+  puts = Puts-as a c (told.text ++ string_bytes log.shown) _ false (puts_more a b c told.text (string_bytes log.shown) false told.written cut)
+      (sym (ap (λ (t : List ℕ × List (List ℕ)). t.0) (all_told given first log from to a b told fresh going)));
+}
 
 -- there was no memory for more
-pub lines_begun : (given : List (List ℕ)) (first log log' : LogTeller) (a b : Stream) (e : AllocError) → ToldLines given first log a b → string_bytes first.shown ≡ []
-    → first.stop ≡ None → PutsLines given first.masks log'.masks a b (Err e)
-lines_begun given first log log' a b e told fresh going = record {
-  bytes = told.bytes;
-  utf8 = told.utf8;
+lines_begun : (given : List (List ℕ)) (first log log' : LogTeller) (from to a b : Stream) (e : AllocError) → ToldLines given first log from to a b
+    → string_bytes first.shown ≡ [] → first.stop ≡ None → PutsLines from given first.masks log'.masks a b (Err e)
+lines_begun given first log log' from to a b e told fresh going = record {
+  text = told.read.text;
+  left = to;
+  begins = told.read.begins;
+  ends = λ no. absurd (cc);
   adds = λ no. absurd (cc);
   puts = begun_after a b b told.text (string_bytes log.shown) _ told.written (IsKept-same b)
-      (ap (λ (t : List ℕ × List (List ℕ)). t.0) (all_told given first log a b told fresh going));
+      (ap (λ (t : List ℕ × List (List ℕ)). t.0) (all_told given first log from to a b told fresh going));
 }
 
 -- the same of what is answered
-pub lines_stopped : (given : List (List ℕ)) (first log log' : LogTeller) (a b : Stream) (how : Written) → ToldLines given first log a b → string_bytes first.shown ≡ []
-    → first.stop ≡ None → IsErr how → PutsLines given first.masks log'.masks a b how
-lines_stopped given first log log' a b (Err e) told fresh going failed = lines_begun given first log log' a b e told fresh going
-lines_stopped given first log log' a b (Ok whole) told fresh going failed = let no : false ≡ true = failed in absurd (cc)
+pub lines_stopped : (given : List (List ℕ)) (first log log' : LogTeller) (from to a b : Stream) (how : Written) → ToldLines given first log from to a b
+    → string_bytes first.shown ≡ [] → first.stop ≡ None → IsErr how → PutsLines from given first.masks log'.masks a b how
+lines_stopped given first log log' from to a b (Err e) told fresh going failed = lines_begun given first log log' from to a b e told fresh going
+lines_stopped given first log log' from to a b (Ok whole) told fresh going failed = let no : false ≡ true = failed in absurd (cc)
 
 -- ---- one log
 
 -- a log that is not read
-unread_log : (given : List (List ℕ)) (leg : ℕ) (added : List (ℕ × List ℕ)) → ShowsLog given leg added added []
-unread_log given leg added =
-    record { log = (leg, None); of = refl; is = λ logs. ap (λ (a : List (ℕ × List ℕ)). logs_text given a logs) (append-nil added) }
+unread_log : (gives : Option (List ℕ) → Type 0) (given : List (List ℕ)) (leg : ℕ) (added : List (ℕ × List ℕ)) → gives None → ShowsLog gives given leg added added []
+unread_log gives given leg added none =
+    record { bytes = None; of = none; is = λ logs. ap (λ (a : List (ℕ × List ℕ)). logs_text given a logs) (append-nil added) }
 
 -- a log that is no text
-no_text_log : (given : List (List ℕ)) (leg : ℕ) (added : List (ℕ × List ℕ)) (bytes : List ℕ) → (IsUtf8 bytes → ⊥) → ShowsLog given leg added added (line_text no_text)
-no_text_log given leg added bytes unread = record {
-  log = (leg, Some bytes);
-  of = refl;
+no_text_log : (gives : Option (List ℕ) → Type 0) (given : List (List ℕ)) (leg : ℕ) (added : List (ℕ × List ℕ)) (bytes : List ℕ) → gives (Some bytes) → (IsUtf8 bytes → ⊥)
+    → ShowsLog gives given leg added added (line_text no_text)
+no_text_log gives given leg added bytes of unread = record {
+  bytes = Some bytes;
+  of = of;
   is = λ logs. ap (λ (t : Told). lines_text t.0 ++ logs_text given (added ++ of_leg leg t.1) logs) (told (is_utf8 bytes) refl)
       ∙ ap (λ (a : List (ℕ × List ℕ)). line_text no_text ++ logs_text given a logs) (append-nil added);
 }
@@ -189,11 +286,12 @@ utf8_told masks bytes utf8 = by_test (is_utf8 bytes) (is_utf8-from_IsUtf8 bytes 
     by_test false h = absurd (cc)
 
 -- a log that is text
-text_log : (given : List (List ℕ)) (leg : ℕ) (by : ℕ → List (List ℕ)) (added : List (ℕ × List ℕ)) (bytes : List ℕ) → AreAdded by added → IsUtf8 bytes
-    → ShowsLog given leg added (added ++ of_leg leg (flat_map masks_added (commands bytes))) (lines_text (shown (given ++ by leg) (commands bytes)))
-text_log given leg by added bytes kept utf8 = record {
-  log = (leg, Some bytes);
-  of = refl;
+text_log : (gives : Option (List ℕ) → Type 0) (given : List (List ℕ)) (leg : ℕ) (by : ℕ → List (List ℕ)) (added : List (ℕ × List ℕ)) (bytes : List ℕ) → gives (Some bytes)
+    → AreAdded by added → IsUtf8 bytes
+    → ShowsLog gives given leg added (added ++ of_leg leg (flat_map masks_added (commands bytes))) (lines_text (shown (given ++ by leg) (commands bytes)))
+text_log gives given leg by added bytes of kept utf8 = record {
+  bytes = Some bytes;
+  of = of;
   is = λ logs. ap (λ (t : Told). lines_text t.0 ++ logs_text given (added ++ of_leg leg t.1) logs) (utf8_told (leg_masks given added leg) bytes utf8)
       ∙ ap (λ (ms : List (List ℕ)). lines_text (shown (given ++ ms) (commands bytes)) ++ logs_text given (added ++ of_leg leg (flat_map masks_added (commands bytes))) logs)
       (sym (kept leg));
@@ -228,72 +326,105 @@ added_more by rest by' leg added masks more kept taken keeps are l = by_test (l 
 
 -- ---- what was put of one log
 
-pub nothing_put : (given : List (List ℕ)) (leg : ℕ) (by : ℕ → List (List ℕ)) (a : Stream) → PutsLog given leg by by a a (Ok true)
-nothing_put given leg by a added kept = (added, kept, [], unread_log given leg added, (Appends-nothing a.bytes, refl))
+-- what is known of a log
+abbrev Log_gives : Type 1
+Log_gives = Bool → Option (List ℕ) → Type 0
 
-pub nothing_begun : (given : List (List ℕ)) (leg : ℕ) (by by' : ℕ → List (List ℕ)) (a : Stream) (e : AllocError) → PutsLog given leg by by' a a (Err e)
-nothing_begun given leg by by' a e added kept =
-    (added, [], unread_log given leg added, begun_after a a a [] [] [] (Appends-nothing a.bytes, refl) (IsKept-same a) refl)
+pub nothing_put : (gives : Log_gives) (given : List (List ℕ)) (leg : ℕ) (by : ℕ → List (List ℕ)) (a : Stream) → gives true None → PutsLog gives given leg by by a a (Ok true)
+nothing_put gives given leg by a none added kept = (added, kept, [], unread_log (gives true) given leg added none, (Appends-nothing a.bytes, refl))
+
+nothing_begun : (gives : Log_gives) (given : List (List ℕ)) (leg : ℕ) (by by' : ℕ → List (List ℕ)) (a : Stream) (e : AllocError) → gives false None
+    → PutsLog gives given leg by by' a a (Err e)
+nothing_begun gives given leg by by' a e none added kept =
+    (added, [], unread_log (gives false) given leg added none, begun_after a a a [] [] [] (Appends-nothing a.bytes, refl) (IsKept-same a) refl)
 
 -- the same of what is answered
-pub nothing_stopped : (given : List (List ℕ)) (leg : ℕ) (by by' : ℕ → List (List ℕ)) (a : Stream) (how : Written) → IsErr how → PutsLog given leg by by' a a how
-nothing_stopped given leg by by' a (Err e) failed = nothing_begun given leg by by' a e
-nothing_stopped given leg by by' a (Ok whole) failed = let no : false ≡ true = failed in absurd (cc)
+pub nothing_stopped : (gives : Log_gives) (given : List (List ℕ)) (leg : ℕ) (by by' : ℕ → List (List ℕ)) (a : Stream) (how : Written) → gives false None → IsErr how
+    → PutsLog gives given leg by by' a a how
+nothing_stopped gives given leg by by' a (Err e) none failed = nothing_begun gives given leg by by' a e none
+nothing_stopped gives given leg by by' a (Ok whole) none failed = let no : false ≡ true = failed in absurd (cc)
 
-pub no_text_put : (given : List (List ℕ)) (leg : ℕ) (by : ℕ → List (List ℕ)) (a b : Stream) (whole : Bool) (bytes : List ℕ) → (IsUtf8 bytes → ⊥)
-    → Puts a b (line_text no_text) whole → PutsLog given leg by by a b (Ok whole)
-no_text_put given leg by a b true bytes unread put = λ added kept. (added, kept, line_text no_text, no_text_log given leg added bytes unread, put)
-no_text_put given leg by a b false bytes unread put = λ added kept. (added, line_text no_text, no_text_log given leg added bytes unread, put)
+no_text_put : (gives : Log_gives) (given : List (List ℕ)) (leg : ℕ) (by : ℕ → List (List ℕ)) (a b : Stream) (whole : Bool) (bytes : List ℕ)
+    → gives true (Some bytes) → gives false (Some bytes) → (IsUtf8 bytes → ⊥) → Puts a b (line_text no_text) whole → PutsLog gives given leg by by a b (Ok whole)
+no_text_put gives given leg by a b true bytes of part unread put = λ added kept. (added, kept, line_text no_text, no_text_log (gives true) given leg added bytes of unread, put)
+no_text_put gives given leg by a b false bytes of part unread put = λ added kept. (added, line_text no_text, no_text_log (gives false) given leg added bytes part unread, put)
+
+-- a file in which a line is no text
+pub file_no_text : {L : Type 0} (logs : Option L → List ℕ → Type 0) (seen : L → Stream) (name : List ℕ) (given : List (List ℕ)) (leg : ℕ) (by : ℕ → List (List ℕ))
+    (a b : Stream) (whole : Bool) → FileIs logs seen name NoText → Puts a b (line_text no_text) whole
+    → PutsLog (files_of logs seen name) given leg by by a b (Ok whole)
+file_no_text {L} logs seen name given leg by a b whole (text, is) put =
+    let (line, after, read, unread) = is.ends in
+    let gives : FileGives logs seen name (Some (line ++ newline ∷ [])) = inl (text, is, unread) in
+    no_text_put (files_of logs seen name) given leg by a b whole (line ++ newline ∷ []) gives (inl gives) unread put
+
+-- what is known of the text that was read of a log
+pub file_part : {L : Type 0} (logs : Option L → List ℕ → Type 0) (seen : L → Stream) (name : List ℕ) (log : L) (given masks masks' : List (List ℕ)) (a b : Stream)
+    (how : Written) → logs (Some log) name → (put : PutsLines (seen log) given masks masks' a b how) → files_of logs seen name false (Some put.text)
+file_part logs seen name log given masks masks' a b how opened put = inr (log, opened, put.left, put.begins)
+
+pub file_whole : {L : Type 0} (logs : Option L → List ℕ → Type 0) (seen : L → Stream) (name : List ℕ) (log : L) (given masks masks' : List (List ℕ)) (a b : Stream)
+    (how : Written) → logs (Some log) name → FileIs logs seen name Text → how ≡ Ok true → (put : PutsLines (seen log) given masks masks' a b how)
+    → files_of logs seen name true (Some put.text)
+file_whole logs seen name log given masks masks' a b how opened (text, is) whole put =
+    let (kind, ends) = put.ends whole in
+    inr (text, is, kind, record { log = log; opened = opened; left = put.left; begins = put.begins; ends = ends })
 
 -- what is shown by the masks that the leg has
-text_of : (given masks masks' : List (List ℕ)) (leg : ℕ) (by : ℕ → List (List ℕ)) (added : List (ℕ × List ℕ)) (a b : Stream) (how : Written) → AreAdded by added → masks ≡ by leg
-    → (put : PutsLines given masks masks' a b how)
-    → ShowsLog given leg added (added ++ of_leg leg (flat_map masks_added (commands put.bytes))) (lines_text (shown (given ++ masks) (commands put.bytes)))
-text_of given masks masks' leg by added a b how kept are put =
-    subst (λ (ms : List (List ℕ)). ShowsLog given leg added (added ++ of_leg leg (flat_map masks_added (commands put.bytes))) (lines_text (shown (given ++ ms) (commands put.bytes))))
-    (sym are) (text_log given leg by added put.bytes kept put.utf8)
+text_of : (gives : Option (List ℕ) → Type 0) (lines : Stream) (given masks masks' : List (List ℕ)) (leg : ℕ) (by : ℕ → List (List ℕ)) (added : List (ℕ × List ℕ)) (a b : Stream)
+    (how : Written) → AreAdded by added → masks ≡ by leg → (put : PutsLines lines given masks masks' a b how) → gives (Some put.text)
+    → ShowsLog gives given leg added (added ++ of_leg leg (flat_map masks_added (commands put.text))) (lines_text (shown (given ++ masks) (commands put.text)))
+text_of gives lines given masks masks' leg by added a b how kept are put of =
+    subst (λ (ms : List (List ℕ)).
+    ShowsLog gives given leg added (added ++ of_leg leg (flat_map masks_added (commands put.text))) (lines_text (shown (given ++ ms) (commands put.text))))
+    (sym are) (text_log gives given leg by added put.text of kept put.begins.utf8)
 
-pub text_cut : (given masks masks' : List (List ℕ)) (leg : ℕ) (by by' : ℕ → List (List ℕ)) (a b : Stream) (how : Written) → masks ≡ by leg → PutsLines given masks masks' a b how
-    → how ≡ Ok false → PutsLog given leg by by' a b (Ok false)
-text_cut given masks masks' leg by by' a b how are put is added kept =
-    (_, _, text_of given masks masks' leg by added a b how kept are put, subst (PutsText a b (lines_text (shown (given ++ masks) (commands put.bytes)))) is put.puts)
-
-pub text_begun : (given masks masks' : List (List ℕ)) (leg : ℕ) (by by' : ℕ → List (List ℕ)) (a b : Stream) (how : Written) (e : AllocError) → masks ≡ by leg
-    → PutsLines given masks masks' a b how → how ≡ Err e → PutsLog given leg by by' a b (Err e)
-text_begun given masks masks' leg by by' a b how e are put is added kept =
-    (_, _, text_of given masks masks' leg by added a b how kept are put, subst (PutsText a b (lines_text (shown (given ++ masks) (commands put.bytes)))) is put.puts)
-
--- it was written whole, and its masks are kept, or there was no memory for them
-pub text_put : (given masks masks' : List (List ℕ)) (leg : ℕ) (by rest by' : ℕ → List (List ℕ)) (a b : Stream) (how : Written) → masks ≡ by leg
-    → ((l : ℕ) → rest l ≡ (if l == leg then [] else by l)) → ((l : ℕ) → by' l ≡ (if l == leg then masks' else rest l))
-    → PutsLines given masks masks' a b how → how ≡ Ok true → PutsLog given leg by by' a b (Ok true)
-text_put given masks masks' leg by rest by' a b how are taken keeps put is added kept = (
+pub text_cut : (gives : Log_gives) (lines : Stream) (given masks masks' : List (List ℕ)) (leg : ℕ) (by by' : ℕ → List (List ℕ)) (a b : Stream) (how : Written) → masks ≡ by leg
+    → (put : PutsLines lines given masks masks' a b how) → gives false (Some put.text) → how ≡ Ok false → PutsLog gives given leg by by' a b (Ok false)
+text_cut gives lines given masks masks' leg by by' a b how are put of is added kept = (
   _,
-  added_more by rest by' leg added masks' (flat_map masks_added (commands put.bytes)) kept taken keeps
-      (put.adds is ∙ ap (λ (ms : List (List ℕ)). ms ++ flat_map masks_added (commands put.bytes)) are),
   _,
-  text_of given masks masks' leg by added a b how kept are put,
-  subst (PutsText a b (lines_text (shown (given ++ masks) (commands put.bytes)))) is put.puts,
+  text_of (gives false) lines given masks masks' leg by added a b how kept are put of,
+  subst (PutsText a b (lines_text (shown (given ++ masks) (commands put.text)))) is put.puts,
 )
 
-pub text_unkept : (given masks masks' : List (List ℕ)) (leg : ℕ) (by by' : ℕ → List (List ℕ)) (a b : Stream) (how : Written) (e : AllocError) → masks ≡ by leg
-    → PutsLines given masks masks' a b how → how ≡ Ok true → PutsLog given leg by by' a b (Err e)
-text_unkept given masks masks' leg by by' a b how e are put is added kept =
-    let text = lines_text (shown (given ++ masks) (commands put.bytes)) in
-    let written : PutsText a b text (Ok true) = subst (PutsText a b text) is put.puts in
-    (_, text, text_of given masks masks' leg by added a b how kept are put, begun_after a b b text [] text written (IsKept-same b) (sym (append-nil text)))
+-- it was written whole, and its masks are kept, or there was no memory for them
+pub text_put : (gives : Log_gives) (lines : Stream) (given masks masks' : List (List ℕ)) (leg : ℕ) (by rest by' : ℕ → List (List ℕ)) (a b : Stream) (how : Written) → masks ≡ by leg
+    → ((l : ℕ) → rest l ≡ (if l == leg then [] else by l)) → ((l : ℕ) → by' l ≡ (if l == leg then masks' else rest l))
+    → (put : PutsLines lines given masks masks' a b how) → gives true (Some put.text) → how ≡ Ok true → PutsLog gives given leg by by' a b (Ok true)
+text_put gives lines given masks masks' leg by rest by' a b how are taken keeps put of is added kept = (
+  _,
+  added_more by rest by' leg added masks' (flat_map masks_added (commands put.text)) kept taken keeps
+      (put.adds is ∙ ap (λ (ms : List (List ℕ)). ms ++ flat_map masks_added (commands put.text)) are),
+  _,
+  text_of (gives true) lines given masks masks' leg by added a b how kept are put of,
+  subst (PutsText a b (lines_text (shown (given ++ masks) (commands put.text)))) is put.puts,
+)
+
+-- what is begun of it, where there was no memory for the rest, or for its masks
+text_begun : (gives : Log_gives) (lines : Stream) (given masks masks' : List (List ℕ)) (leg : ℕ) (by by' : ℕ → List (List ℕ)) (a b : Stream) (how : Written) (e : AllocError)
+    → masks ≡ by leg → (put : PutsLines lines given masks masks' a b how) → gives false (Some put.text)
+    → PutsText a b (lines_text (shown (given ++ masks) (commands put.text))) (Err e) → PutsLog gives given leg by by' a b (Err e)
+text_begun gives lines given masks masks' leg by by' a b how e are put of begun added kept =
+    (_, _, text_of (gives false) lines given masks masks' leg by added a b how kept are put of, begun)
 
 -- the same of what is answered
-pub text_stopped : (given masks masks' : List (List ℕ)) (leg : ℕ) (by by' : ℕ → List (List ℕ)) (a b : Stream) (put how : Written) (e : AllocError) → masks ≡ by leg
-    → PutsLines given masks masks' a b put → put ≡ Err e → IsErr how → PutsLog given leg by by' a b how
-text_stopped given masks masks' leg by by' a b put (Err e') e are lines is failed =
-    text_begun given masks masks' leg by by' a b (Err e') e' are (subst (λ (w : Written). PutsLines given masks masks' a b w) (is ∙ ap Err (one e e')) lines) refl
+pub text_stopped : (gives : Log_gives) (lines : Stream) (given masks masks' : List (List ℕ)) (leg : ℕ) (by by' : ℕ → List (List ℕ)) (a b : Stream) (how answer : Written)
+    (e : AllocError) → masks ≡ by leg → (put : PutsLines lines given masks masks' a b how) → gives false (Some put.text) → how ≡ Err e → IsErr answer
+    → PutsLog gives given leg by by' a b answer
+text_stopped gives lines given masks masks' leg by by' a b how (Err e') e are put of is failed =
+    text_begun gives lines given masks masks' leg by by' a b how e' are put of
+    (subst (PutsText a b (lines_text (shown (given ++ masks) (commands put.text)))) (is ∙ ap Err (one e e')) put.puts)
   where
     one : (x y : AllocError) → x ≡ y
     one x y = refl
-text_stopped given masks masks' leg by by' a b put (Ok whole) e are lines is failed = let no : false ≡ true = failed in absurd (cc)
+text_stopped gives lines given masks masks' leg by by' a b how (Ok whole) e are put of is failed = let no : false ≡ true = failed in absurd (cc)
 
-pub text_kept_not : (given masks masks' : List (List ℕ)) (leg : ℕ) (by by' : ℕ → List (List ℕ)) (a b : Stream) (put how : Written) → masks ≡ by leg
-    → PutsLines given masks masks' a b put → put ≡ Ok true → IsErr how → PutsLog given leg by by' a b how
-text_kept_not given masks masks' leg by by' a b put (Err e) are lines is failed = text_unkept given masks masks' leg by by' a b put e are lines is
-text_kept_not given masks masks' leg by by' a b put (Ok whole) are lines is failed = let no : false ≡ true = failed in absurd (cc)
+pub text_kept_not : (gives : Log_gives) (lines : Stream) (given masks masks' : List (List ℕ)) (leg : ℕ) (by by' : ℕ → List (List ℕ)) (a b : Stream) (how answer : Written)
+    → masks ≡ by leg → (put : PutsLines lines given masks masks' a b how) → gives false (Some put.text) → how ≡ Ok true → IsErr answer
+    → PutsLog gives given leg by by' a b answer
+text_kept_not gives lines given masks masks' leg by by' a b how (Err e) are put of is failed =
+    let text = lines_text (shown (given ++ masks) (commands put.text)) in
+    text_begun gives lines given masks masks' leg by by' a b how e are put of
+    (begun_after a b b text [] text (subst (PutsText a b text) is put.puts) (IsKept-same b) (sym (append-nil text)))
+text_kept_not gives lines given masks masks' leg by by' a b how (Ok whole) are put of is failed = let no : false ≡ true = failed in absurd (cc)

@@ -1,5 +1,5 @@
 -- What `actrun run` tells: what was shown of the steps that it played, how the runs ended, and why it stopped.
-use Rattle.std.specs.Prelude.{◌≡◌, ℕ, true, false, ◌⊎◌, codes, List, [], ◌++◌, Option, Some, None, Result, Ok, Err, Vec}
+use Rattle.std.specs.Prelude.{◌≡◌, ℕ, Bool, true, false, ◌⊎◌, codes, List, [], ◌++◌, Option, Some, None, Result, Ok, Err, Vec}
 use Rattle.std.specs.declared.alloc.Global.{Global}
 use Rattle.command_io.specs.Files.{Content, File, IsContent}
 use Rattle.command_io.specs.Runs.{runs_status}
@@ -22,7 +22,7 @@ use Rattle.plan_text.specs.Record.{record_text}
 use Rattle.command_run.specs.Playing.{IsPlayed, Leaves}
 use Rattle.command_run.specs.RecordFile.{Kept}
 use Rattle.command_run.specs.RunLines.{run_lines}
-use Rattle.command_run.specs.StepLogs.{PutsText, ShowsLogs, Written}
+use Rattle.command_run.specs.StepLogs.{Files, Gives, PutsText, ShowsLogs, Written, in_folder, is_whole}
 use Rattle.command_run.specs.Stubs.{Stubs, file_stubs}
 use Rattle.status_table.specs.Runs.{after}
 use Rattle.worker_pool.specs.Many.{AreNoWorkers}
@@ -46,10 +46,10 @@ ShowsRest plan history (Some stop) lines done = lines ≡ []
 ShowsRest plan history None lines done = ShowsEnd plan history lines done
 
 -- The text of a history, what is shown of its logs and then those lines, and the status that goes with it where all goes well.
-pub record IsRunText (plan : Plan) (history : List Entry) (stop : Option PlayStop) (text : List ℕ) (done : ℕ) : Type 0 where
+pub record IsRunText (gives : Gives) (whole : Bool) (plan : Plan) (history : List Entry) (stop : Option PlayStop) (text : List ℕ) (done : ℕ) : Type 0 where
   pub shown : List ℕ
   pub lines : List ℕ
-  pub shows : ShowsLogs plan history shown
+  pub shows : ShowsLogs gives whole plan history shown
   pub rest : ShowsRest plan history stop lines done
   pub is : text ≡ shown ++ lines
 
@@ -78,11 +78,11 @@ TellsWritten (Ok false) stop kept done err err' status = SaysError Io err err' s
 TellsWritten (Err memory) stop kept done err err' status = SaysError Memory err err' status
 
 -- What is told of a history.
-pub record TellsHistory (plan : Plan) (history : List Entry) (stop : Option PlayStop) (kept : Kept) (out out' err err' : Stream) (status : ℕ) : Type 0 where
+pub record TellsHistory (gives : Gives) (plan : Plan) (history : List Entry) (stop : Option PlayStop) (kept : Kept) (out out' err err' : Stream) (status : ℕ) : Type 0 where
   pub text : List ℕ
   pub done : ℕ
-  pub is : IsRunText plan history stop text done
   pub written : Written
+  pub is : IsRunText gives (is_whole written) plan history stop text done
   pub puts : PutsText out out' text written
   pub told : TellsWritten written stop kept done err err' status
 
@@ -92,27 +92,27 @@ TellsMemory = TellsError Memory
 
 -- What is told of what was played, and kept of it: the text of the history, or that there is no memory for what ends it; and in both
 -- cases the record is written when `out` already shows what it shows in the end.
-pub record TellsPlaying (keep : Keeps) (plan : Plan) (history : List Entry) (stop : Option PlayStop) (out out' err err' : Stream) (status : ℕ) : Type 0 where
+pub record TellsPlaying (keep : Keeps) (gives : Gives) (plan : Plan) (history : List Entry) (stop : Option PlayStop) (out out' err err' : Stream) (status : ℕ) : Type 0 where
   pub kept : Kept
   pub keeping : keep (record_text plan history) out' kept
-  pub told : TellsHistory plan history stop kept out out' err err' status ⊎ TellsMemory out out' err err' status
+  pub told : TellsHistory gives plan history stop kept out out' err err' status ⊎ TellsMemory out out' err err' status
 
 -- What is told of some play of a plan by so many workers.
-pub record TellsPlay (keep : Keeps) (plan : Plan) (workers : ℕ) (out out' err err' : Stream) (status : ℕ) : Type 0 where
+pub record TellsPlay (keep : Keeps) (gives : Gives) (plan : Plan) (workers : ℕ) (out out' err err' : Stream) (status : ℕ) : Type 0 where
   pub history : List Entry
   pub stop : Option PlayStop
   pub played : IsPlayed plan workers history
   pub leaves : Leaves plan history stop
-  pub told : TellsPlaying keep plan history stop out out' err err' status
+  pub told : TellsPlaying keep gives plan history stop out out' err err' status
 
 -- Nothing is played, since there are not so many workers.
 abbrev pub TellsWorkers : ℕ → Stream → Stream → Stream → Stream → ℕ → Type 0
 TellsWorkers workers out out' err err' status = AreNoWorkers workers × IsKept out out' × SaysStop Workers err err' status
 
 -- What `run` tells of a plan.
-abbrev pub RunsPlan : Keeps → Plan → ℕ → Stream → Stream → Stream → Stream → ℕ → Type 0
-RunsPlan keep plan workers out out' err err' status =
-    TellsPlay keep plan workers out out' err err' status ⊎ TellsWorkers workers out out' err err' status
+abbrev pub RunsPlan : Keeps → Gives → Plan → ℕ → Stream → Stream → Stream → Stream → ℕ → Type 0
+RunsPlan keep gives plan workers out out' err err' status =
+    TellsPlay keep gives plan workers out out' err err' status ⊎ TellsWorkers workers out out' err err' status
 
 -- The texts are a file of stubs and a plan.
 pub record AreTexts (stubs : Content) (bytes : List ℕ) (plan : Plan) : Type 0 where
@@ -126,37 +126,43 @@ pub record IsNoPlan (stubs : Content) (bytes : List ℕ) (fault : LoadFault) : T
   pub has : file_stubs stubs.bytes ≡ Ok programs
   pub fails : load bytes ≡ Err fault
 
--- Why nothing is played of texts: the first is no file of stubs; it is one, and the other is no plan; or they are both, and the
--- machine has no whole path of the folder. Want of memory may be told of all of them. (`load` refuses no text for a line of an entry.)
-abbrev pub AreNotPlayed : Type 0 → Content → List ℕ → CommandError → Type 0
-AreNotPlayed lacks stubs bytes (NoContexts file fault) = (file_stubs stubs.bytes ≡ Err fault) × (file ≡ stubs.name)
-AreNotPlayed lacks stubs bytes (NoPlan fault) = IsNoPlan stubs bytes fault
-AreNotPlayed lacks stubs bytes (NoEntry n) = IsNoPlan stubs bytes (load_fault.NotEntry n)
-AreNotPlayed lacks stubs bytes Io = ((plan : Plan) × AreTexts stubs bytes plan) × lacks
-AreNotPlayed lacks stubs bytes Memory = Unit {0}
-AreNotPlayed lacks stubs bytes (NoExpression fault) = ⊥
-AreNotPlayed lacks stubs bytes (NoValue fault) = ⊥
-AreNotPlayed lacks stubs bytes (NoFlow file fault) = ⊥
-AreNotPlayed lacks stubs bytes (NotPlanned fault) = ⊥
-AreNotPlayed lacks stubs bytes (Refused n fault) = ⊥
-AreNotPlayed lacks stubs bytes Words = ⊥
+-- What is known of the folder for programs: that this is its whole path, or that it has none.
+abbrev pub Paths : Type 1
+Paths = Option (List ℕ) → Type 0
 
--- What is told of a plan and stubs that texts are.
-pub record RunsLoaded (keep : Keeps) (stubs : Content) (bytes : List ℕ) (workers : ℕ) (out out' err err' : Stream) (status : ℕ) : Type 0 where
+-- Why nothing is played of texts: the first is no file of stubs; it is one, and the other is no plan; or they are both, and the
+-- folder has no whole path. Want of memory may be told of all of them. (`load` refuses no text for a line of an entry.)
+abbrev pub AreNotPlayed : Paths → Content → List ℕ → CommandError → Type 0
+AreNotPlayed paths stubs bytes (NoContexts file fault) = (file_stubs stubs.bytes ≡ Err fault) × (file ≡ stubs.name)
+AreNotPlayed paths stubs bytes (NoPlan fault) = IsNoPlan stubs bytes fault
+AreNotPlayed paths stubs bytes (NoEntry n) = IsNoPlan stubs bytes (load_fault.NotEntry n)
+AreNotPlayed paths stubs bytes Io = ((plan : Plan) × AreTexts stubs bytes plan) × paths None
+AreNotPlayed paths stubs bytes Memory = Unit {0}
+AreNotPlayed paths stubs bytes (NoExpression fault) = ⊥
+AreNotPlayed paths stubs bytes (NoValue fault) = ⊥
+AreNotPlayed paths stubs bytes (NoFlow file fault) = ⊥
+AreNotPlayed paths stubs bytes (NotPlanned fault) = ⊥
+AreNotPlayed paths stubs bytes (Refused n fault) = ⊥
+AreNotPlayed paths stubs bytes Words = ⊥
+
+-- What is told of a plan and stubs that texts are, where programs start in the folder of this path.
+pub record RunsLoaded (keep : Keeps) (files : Files) (paths : Paths) (stubs : Content) (bytes : List ℕ) (workers : ℕ) (out out' err err' : Stream) (status : ℕ) : Type 0 where
   pub plan : Plan
   pub texts : AreTexts stubs bytes plan
-  pub runs : RunsPlan keep plan workers out out' err err' status
+  pub work : List ℕ
+  pub path : paths (Some work)
+  pub runs : RunsPlan keep (in_folder files work) plan workers out out' err err' status
 
 -- Texts are not played, and why is told.
-pub record RefusesTexts (lacks : Type 0) (stubs : Content) (bytes : List ℕ) (out out' err err' : Stream) (status : ℕ) : Type 0 where
+pub record RefusesTexts (paths : Paths) (stubs : Content) (bytes : List ℕ) (out out' err err' : Stream) (status : ℕ) : Type 0 where
   pub error : CommandError
-  pub why : AreNotPlayed lacks stubs bytes error
+  pub why : AreNotPlayed paths stubs bytes error
   pub told : TellsError error out out' err err' status
 
 -- What is told of texts.
-abbrev pub RunsTexts : Keeps → Type 0 → Content → List ℕ → ℕ → Stream → Stream → Stream → Stream → ℕ → Type 0
-RunsTexts keep lacks stubs bytes workers out out' err err' status =
-    RunsLoaded keep stubs bytes workers out out' err err' status ⊎ RefusesTexts lacks stubs bytes out out' err err' status
+abbrev pub RunsTexts : Keeps → Files → Paths → Content → List ℕ → ℕ → Stream → Stream → Stream → Stream → ℕ → Type 0
+RunsTexts keep files paths stubs bytes workers out out' err err' status =
+    RunsLoaded keep files paths stubs bytes workers out out' err err' status ⊎ RefusesTexts paths stubs bytes out out' err err' status
 
 -- The file of stubs is read to its end, and then the plan; or one of them is not.
 abbrev pub AreBothRead : File → File → Stream → Stream → Result (Content × List ℕ) SourceFault → Type 0
@@ -165,10 +171,10 @@ AreBothRead stubs stubs' input input' (Err why) =
     IsRead stubs.source stubs'.source (Err why) ⊎ ((content : Content) × IsContent stubs stubs' content × IsRead input input' (Err why))
 
 -- Both were read, and this is told of them.
-pub record TellsRead (keep : Keeps) (lacks : Type 0) (workers : ℕ) (stubs stubs' : File) (input input' out out' err err' : Stream) (status : ℕ) : Type 0 where
+pub record TellsRead (keep : Keeps) (files : Files) (paths : Paths) (workers : ℕ) (stubs stubs' : File) (input input' out out' err err' : Stream) (status : ℕ) : Type 0 where
   pub both : Content × List ℕ
   pub read : AreBothRead stubs stubs' input input' (Ok both)
-  pub told : RunsTexts keep lacks both.0 both.1 workers out out' err err' status
+  pub told : RunsTexts keep files paths both.0 both.1 workers out out' err err' status
 
 -- One of them was not, and why is told.
 pub record TellsUnread (stubs stubs' : File) (input input' out out' err err' : Stream) (status : ℕ) : Type 0 where
@@ -176,11 +182,12 @@ pub record TellsUnread (stubs stubs' : File) (input input' out out' err err' : S
   pub unread : AreBothRead stubs stubs' input input' (Err why)
   pub told : TellsError (source_error why) out out' err err' status
 
--- What `run` leaves, by so many workers, where keeping a record does this, and where it stands for this that the machine has no whole
--- path of the folder for programs: it reads the file of stubs and the plan to their ends, and tells of them.
-abbrev pub RunTells : Keeps → Type 0 → ℕ → File → File → Stream → Stream → Stream → Stream → Stream → Stream → ℕ → Type 0
-RunTells keep lacks workers stubs stubs' input input' out out' err err' status =
-    TellsRead keep lacks workers stubs stubs' input input' out out' err err' status ⊎ TellsUnread stubs stubs' input input' out out' err err' status
+-- What `run` leaves, by so many workers, where keeping a record does this, the files of logs give this, and this is known of the
+-- folder for programs: it reads the file of stubs and the plan to their ends, and tells of them.
+abbrev pub RunTells : Keeps → Files → Paths → ℕ → File → File → Stream → Stream → Stream → Stream → Stream → Stream → ℕ → Type 0
+RunTells keep files paths workers stubs stubs' input input' out out' err err' status =
+    TellsRead keep files paths workers stubs stubs' input input' out out' err err' status
+    ⊎ TellsUnread stubs stubs' input input' out out' err err' status
 
 -- ---- what the code answers on the way
 
@@ -190,8 +197,8 @@ ReadsBoth stubs stubs' input input' (Ok both) = AreBothRead stubs stubs' input i
 ReadsBoth stubs stubs' input input' (Err why) = AreBothRead stubs stubs' input input' (Err why)
 
 -- Why a machine cannot give a folder's whole path: it has none of it, or no memory.
-abbrev pub IsOfMachine : Type 0 → CommandError → Type 0
-IsOfMachine lacks error = ((error ≡ Io) × lacks) ⊎ (error ≡ Memory)
+abbrev pub IsOfMachine : Paths → CommandError → Type 0
+IsOfMachine paths error = ((error ≡ Io) × paths None) ⊎ (error ≡ Memory)
 
 -- the folder in which programs start: the one that is named, or the one in which this program is
 abbrev pub work_folder : Option (List ℕ) → List ℕ
@@ -199,7 +206,7 @@ work_folder None = codes "."
 work_folder (Some folder) = folder
 
 -- What is shown of the logs of a history, and then these lines, were written so.
-pub record PutsPlayed (plan : Plan) (history : List Entry) (lines : List ℕ) (out out' : Stream) (written : Written) : Type 0 where
+pub record PutsPlayed (gives : Gives) (plan : Plan) (history : List Entry) (lines : List ℕ) (out out' : Stream) (written : Written) : Type 0 where
   pub shown : List ℕ
-  pub shows : ShowsLogs plan history shown
+  pub shows : ShowsLogs gives (is_whole written) plan history shown
   pub puts : PutsText out out' (shown ++ lines) written

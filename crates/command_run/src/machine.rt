@@ -1,6 +1,7 @@
 //! What starts programs.
 
-ghost use Rattle.std.specs.Prelude.{◌≡◌, [], Bool, IfErr, IfOk, IfSome, List, ℕ};
+ghost use Rattle.std.specs.Prelude.{◌≡◌, [], Bool, IfErr, IfOk, IfSome, List, Option, Some, string_bytes, ℕ};
+ghost use Rattle.std.specs.Path.{IsAbsoluteOf};
 ghost use Rattle.command_io.specs.Stream.{Stream};
 ghost use Rattle.command_run.specs.Playing.{MasksAnswers};
 ghost use Rattle.command_run.specs.Run.{IsOfMachine};
@@ -67,8 +68,8 @@ pub trait Machine: Files {
     /// A log of a step, which is read line by line.
     type Log: LineSource + Drop;
 
-    /// That this is the log that the file of this name holds.
-    ghost logs: { Self.Log → List ℕ → Type 0 };
+    /// That opening the file of this name gave this log, or none.
+    ghost logs: { Option Self.Log → List ℕ → Type 0 };
 
     /// The log that the file of that name holds, if it can be opened.
     ///
@@ -76,7 +77,7 @@ pub trait Machine: Files {
     ///
     /// There is no memory.
     fn open_log(&self, alloc: Global, name: &str) -> Result<Option<Self::Log>, AllocError>
-        ensures { IfOk result (λ found. IfSome found (λ log. logs log name.now)) };
+        ensures { IfOk result (λ found. logs found name.now) };
 
     /// That it wrote a file of this name with this text, whole or not, at a time when `out` showed this.
     ghost writes: { List ℕ → List ℕ → Stream → Bool → Type 0 };
@@ -86,8 +87,8 @@ pub trait Machine: Files {
     fn write_file<O: Sink>(&self, name: &str, text: &[u8], out: &O) -> bool
         ensures { writes name.now text.now (O.seen out.now) result };
 
-    /// That it has no whole path of the folder of this name.
-    ghost lacks: { List ℕ → Type 0 };
+    /// That this is the whole path of the folder of this name, or that there is none.
+    ghost paths: { List ℕ → Option (List ℕ) → Type 0 };
 
     /// The whole path of a folder.
     ///
@@ -95,7 +96,8 @@ pub trait Machine: Files {
     ///
     /// `CommandError::Io` where there is none, and `CommandError::Memory`.
     fn whole_path(&self, folder: &str) -> Result<String, CommandError>
-        ensures { IfErr result (IsOfMachine (lacks folder.now)) };
+        ensures path { IfOk result (λ path. paths folder.now (Some (string_bytes path))) }
+        ensures none { IfErr result (IsOfMachine (paths folder.now)) };
 
     /// That a host starts programs in this folder or below, each action by the program that these stubs have for it.
     ghost starts: { Self.Host → List ℕ → Stubs → Type 0 };
@@ -123,7 +125,7 @@ impl Machine for HostRuntime {
 
     ghost writes = { λ _ _ _ _. Unit {0} };
 
-    ghost lacks = { λ _. Unit {0} };
+    ghost paths = { λ folder path. IfSome path (IsAbsoluteOf folder) };
 
     ghost starts = { λ host work stubs. (host.host.host.work ≡ work) × (host.host.host.stubs ≡ stubs) };
 

@@ -1,8 +1,9 @@
 //! What is shown of the logs of the steps that were started.
 
-ghost use Rattle.std.specs.Prelude.{◌≡◌, [], ◌==◌, ℕ, None, if◌then◌else◌, map, nat_eq, OnOk, string_bytes};
+ghost use Rattle.std.specs.Prelude.{◌≡◌, [], ◌==◌, ℕ, None, if◌then◌else◌, nat_eq, OnOk, string_bytes};
 ghost use Rattle.std.specs.HashMap.{get};
 ghost use Rattle.status_table.specs.Runs.{IsLegal};
+ghost use Rattle.step_host.specs.Program.{log_file as log_name};
 ghost use Rattle.command_run.specs.StepLogs as spec;
 
 use crate::log_files::{LogKind, log_kind, next_text, open_log};
@@ -72,10 +73,11 @@ fn put_lines<S: LineSource, O: Sink>(
 ) -> Result<bool, AllocError>
     requires shown { string_bytes log.old.shown ≡ [] }
     requires stop { log.old.stop ≡ None }
-    ensures { spec.PutsLines given.now log.old.masks log.new.masks (O.seen out.old) (O.seen out.new) result }
+    ensures { spec.PutsLines (S.seen lines.old) given.now log.old.masks log.new.masks
+        (O.seen out.old) (O.seen out.new) result }
 {
     let mut line = Vec::new(alloc);
-    while let Some(text) = next_text(lines, &mut line)? {
+    while let Ok(text) = next_text(lines, &mut line)? {
         log.add_lines(given, text)?;
         if !hand_on(log, out) {
             return Ok(false);
@@ -84,7 +86,7 @@ fn put_lines<S: LineSource, O: Sink>(
     Ok(out.put(log.shown().as_bytes()))
 }
 
-/// Writes what is shown of the log of a step that is text, and keeps the masks that it adds.
+/// Writes what is shown of the log of a step that was text when it was read, and keeps the masks that it adds.
 fn put_text<M: Machine, O: Sink>(
     workspace: &Workspace<'_, M>,
     given: &Masks,
@@ -92,8 +94,12 @@ fn put_text<M: Machine, O: Sink>(
     added: &mut Added,
     out: &mut O,
 ) -> Result<bool, AllocError>
-    ensures { spec.PutsLog given.now step.0 (spec.added_by (get nat_eq added.old))
-        (spec.added_by (get nat_eq added.new)) (O.seen out.old) (O.seen out.new) result }
+    requires { spec.FileIs M.logs M.Log.seen
+        (log_name workspace.now.work.now step.0 step.1) LogKind.Text }
+    ensures { spec.PutsLog
+        (spec.in_folder (spec.files_of M.logs M.Log.seen) workspace.now.work.now step) given.now step.0
+        (spec.added_by (get nat_eq added.old)) (spec.added_by (get nat_eq added.new))
+        (O.seen out.old) (O.seen out.new) result }
 {
     let Some(mut lines) = open_log(workspace, step)? else {
         return Ok(true);
@@ -114,8 +120,10 @@ fn put_log<M: Machine, O: Sink>(
     added: &mut Added,
     out: &mut O,
 ) -> Result<bool, AllocError>
-    ensures { spec.PutsLog given.now step.0 (spec.added_by (get nat_eq added.old))
-        (spec.added_by (get nat_eq added.new)) (O.seen out.old) (O.seen out.new) result }
+    ensures { spec.PutsLog
+        (spec.in_folder (spec.files_of M.logs M.Log.seen) workspace.now.work.now step) given.now step.0
+        (spec.added_by (get nat_eq added.old)) (spec.added_by (get nat_eq added.new))
+        (O.seen out.old) (O.seen out.new) result }
 {
     match log_kind(workspace, step)? {
         LogKind::Unread => Ok(true),
@@ -131,8 +139,8 @@ fn put_each<M: Machine, O: Sink>(
     steps: &[(u64, u64)],
     out: &mut O,
 ) -> Result<bool, AllocError>
-    ensures { spec.PutsLogs given.now (map (λ step. step.0) steps.now)
-        (O.seen out.old) (O.seen out.new) result }
+    ensures { spec.PutsLogs (spec.in_folder (spec.files_of M.logs M.Log.seen) workspace.now.work.now)
+        given.now steps.now (O.seen out.old) (O.seen out.new) result }
 {
     let mut added = HashMap::new(workspace.alloc);
     for step in steps {
@@ -156,7 +164,8 @@ pub(crate) fn put_logs<M: Machine, O: Sink>(
     out: &mut O,
 ) -> Result<bool, AllocError>
     requires { IsLegal plan.now history.now }
-    ensures { spec.PutsShown plan.now history.now (O.seen out.old) (O.seen out.new) result }
+    ensures { spec.PutsShown (spec.in_folder (spec.files_of M.logs M.Log.seen) workspace.now.work.now)
+        plan.now history.now (O.seen out.old) (O.seen out.new) result }
 {
     records_are_counted();
     let masks = masks_of(workspace.alloc, plan.plan())?;

@@ -17,6 +17,7 @@ use Rattle.command_timeline.specs.Timeline.{TimelineTells}
 use Rattle.command_why.specs.Why.{WhyTells}
 use Rattle.command_run.specs.RecordFile.{Keeping, Writes}
 use Rattle.command_run.specs.Run as run
+use Rattle.command_run.specs.StepLogs.{Files}
 use Rattle.command_io.specs.Stream.{Stream}
 use Rattle.command_print.specs.Table.{TableTells}
 use Rattle.command_io.specs.Tell.{Says, TellsSome, TellsError}
@@ -70,12 +71,12 @@ RunsWhy out out' err err' status =
     ((asked : Option Question) × (input input' : Stream) × WhyTells asked input input' out out' err err' status)
     ⊎ TellsSome out out' err err' status
 
--- What `run` tells of some plan, and keeps of it in some file, where a machine writes files so and lacks whole paths so; or an error
--- is told.
-abbrev pub RunsRun : Writes → (List ℕ → Type 0) → Stream → Stream → Stream → Stream → ℕ → Type 0
-RunsRun writes lacks out out' err err' status =
+-- What `run` tells of some plan, and keeps of it in some file, where a machine writes files so, the files of logs give this, and
+-- folders have these whole paths; or an error is told.
+abbrev pub RunsRun : Writes → Files → (List ℕ → run.Paths) → Stream → Stream → Stream → Stream → ℕ → Type 0
+RunsRun writes files paths out out' err err' status =
     ((named work : Option (List ℕ)) × (workers : ℕ) × (stubs stubs' : File) × (input input' : Stream)
-    × run.RunTells (Keeping writes named) (lacks (run.work_folder work)) workers stubs stubs' input input' out out' err err' status)
+    × run.RunTells (Keeping writes named) files (paths (run.work_folder work)) workers stubs stubs' input input' out out' err err' status)
     ⊎ TellsSome out out' err err' status
 
 -- What `debug` tells of some record and of the input; or an error is told.
@@ -85,8 +86,8 @@ RunsDebug input input' out out' err err' status =
 
 -- What `table` or `debug` tells of the input, or what `eval`, `plan`, `list`, `lint`, `replay`, `graph`, `timeline`, `why` or
 -- `run` tells, or an error.
-abbrev pub RunTells : Writes → (List ℕ → Type 0) → Stream → Stream → Stream → Stream → Stream → Stream → ℕ → Type 0
-RunTells writes lacks input input' out out' err err' status =
+abbrev pub RunTells : Writes → Files → (List ℕ → run.Paths) → Stream → Stream → Stream → Stream → Stream → Stream → ℕ → Type 0
+RunTells writes files paths input input' out out' err err' status =
     TableTells input input' out out' err err' status
     ⊎ (RunsEval out out' err err' status
     ⊎ (RunsPlan out out' err err' status
@@ -96,7 +97,7 @@ RunTells writes lacks input input' out out' err err' status =
     ⊎ (RunsGraph out out' err err' status
     ⊎ (RunsTimeline out out' err err' status
     ⊎ (RunsWhy out out' err err' status
-    ⊎ (RunsRun writes lacks out out' err err' status ⊎ RunsDebug input input' out out' err err' status)))))))))
+    ⊎ (RunsRun writes files paths out out' err err' status ⊎ RunsDebug input input' out out' err err' status)))))))))
 
 -- A command line that cannot be had is told by its kind: one that is no UTF-8 asks for no command.
 pub record TellsLine (kind : ErrorKind) (out out' err err' : Stream) (status : ℕ) : Type 0 where
