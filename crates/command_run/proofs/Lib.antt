@@ -4,3 +4,4 @@ pub mod Grown
 pub mod LogTexts
 pub mod Played
 pub mod Telling
+pub mod Variables

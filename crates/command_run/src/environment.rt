@@ -1,6 +1,6 @@
 //! The variables of this program, which programs have too.
 
-ghost use Rattle.std.specs.Prelude.{◌≡◌, OnOk};
+ghost use Rattle.std.specs.Prelude.{◌≡◌, IfOk, List, OnOk, Option, ℕ};
 ghost use Rattle.std.specs.Option.{option_map};
 ghost use Rattle.command_run.specs.Environment as spec;
 
@@ -66,26 +66,51 @@ fn short_entry<R: Env>(
     }
 }
 
-/// The entry of that number, unless the environment ends before it.
-fn entry_at<R: Env>(rt: &R, alloc: Global, number: usize) -> Result<Option<Vec<u8>>, AllocError> {
-    let mut room = 256usize;
-    for _ in 0..usize::BITS {
-        if let Some(found) = short_entry(rt, alloc, number, room)? {
-            return Ok(found);
-        }
-        room = room.saturating_add(room);
-    }
-    Err(AllocError)
+/// What has an environment.
+pub trait Environment {
+    /// That its entry of this number is this, or that it has none of this number or above.
+    ghost holds: { Self → ℕ → Option (List ℕ) → Type 0 };
+
+    /// The entry of that number, unless the environment ends before it.
+    ///
+    /// # Errors
+    ///
+    /// There is no memory.
+    fn entry_at(&self, alloc: Global, number: usize) -> Result<Option<Vec<u8>>, AllocError>
+        ensures { IfOk result (λ found. holds self.now number (option_map (λ entry. entry.items) found)) };
 }
 
-/// The variables of this program. An entry that is no text or has no name is left out.
-pub(crate) fn variables<R: Env>(rt: &R, alloc: Global) -> Result<Mapping<Text>, AllocError> {
+impl Environment for HostRuntime {
+    // nothing is known of an environment
+    ghost holds = { λ _ _ _. Unit {0} };
+
+    fn entry_at(&self, alloc: Global, number: usize) -> Result<Option<Vec<u8>>, AllocError> {
+        let mut room = 256usize;
+        for _ in 0..usize::BITS {
+            if let Some(found) = short_entry(self, alloc, number, room)? {
+                return Ok(found);
+            }
+            room = room.saturating_add(room);
+        }
+        Err(AllocError)
+    }
+}
+
+/// The variables of an environment. An entry that is no text or has no name is left out.
+///
+/// # Errors
+///
+/// There is no memory.
+pub(crate) fn variables<R: Environment>(rt: &R, alloc: Global) -> Result<Mapping<Text>, AllocError>
+    ensures { IfOk result (spec.AreVariables (R.holds rt.now)) }
+{
     let mut variables = Mapping::empty(alloc);
     for number in 0..usize::MAX {
-        let Some(entry) = entry_at(rt, alloc, number)? else {
+        let Some(entry) = rt.entry_at(alloc, number)? else {
             return Ok(variables);
         };
         add_entry(alloc, entry.as_slice(), &mut variables)?;
     }
-    Ok(variables)
+    // there is no memory for so many
+    Err(AllocError)
 }

@@ -9,7 +9,7 @@
 
 #![tactic(auto)]
 
-mod environment;
+pub mod environment;
 pub mod growing;
 pub mod growing_files;
 mod log_files;

@@ -3,11 +3,13 @@
 ghost use Rattle.std.specs.Prelude.{◌≡◌, [], Bool, IfErr, IfOk, IfSome, List, Option, Some, string_bytes, ℕ};
 ghost use Rattle.std.specs.Path.{IsAbsoluteOf};
 ghost use Rattle.command_io.specs.Stream.{Stream};
+ghost use Rattle.flow_commands.specs.PairFiles.{Pair};
+ghost use Rattle.command_run.specs.Environment.{AreVariables, StartsOver};
 ghost use Rattle.command_run.specs.Playing.{MasksAnswers};
 ghost use Rattle.command_run.specs.Run.{IsOfMachine};
 ghost use Rattle.command_run.specs.Stubs.{Stubs};
 
-use crate::environment::variables;
+use crate::environment::{Environment, variables};
 use crate::growing::GrowingFile;
 use crate::growing_files::{GrowingFiles, GrowingNames, part_name};
 use crate::progress::Progress;
@@ -20,6 +22,7 @@ use flow_model::{Duplicate, Mapping, Text};
 use std::alloc::{AllocError, Global};
 use std::fs::{File, Files};
 use std::io::{BufReader, ErrorKind, Take};
+use std::process::Processes;
 use std::{fs, io, path};
 use step_host::{Masked, ProgramHost, StepHost, Watched, open_regular};
 
@@ -49,8 +52,24 @@ fn open_lines<F: Files<File = File>>(
     Ok(Input::new(BufReader::new(alloc, Bounded::new(file))?))
 }
 
+/// The host that starts programs by a runtime, over the variables of its environment that are texts.
+fn programs_of<R: Environment + Processes + Files<File = File> + Sync + Copy>(
+    alloc: Global,
+    rt: &R,
+    work: &str,
+    stubs: Mapping<Text>,
+) -> Result<ProgramHost<R>, AllocError>
+    ensures work { IfOk result (λ host. host.work ≡ work.now) }
+    ensures stubs { IfOk result (λ host. host.stubs ≡ stubs) }
+    ensures base { IfOk result (λ host. AreVariables (R.holds rt.now) host.base) }
+{
+    let base = variables(rt, alloc)?;
+    let work = Text::from_str(alloc, work)?;
+    Ok(ProgramHost::new(alloc, *rt, work, base, stubs))
+}
+
 /// Where programs run.
-pub trait Machine: Files {
+pub trait Machine: Files + Environment {
     /// What plays steps by programs.
     type Host: StepHost + Drop;
 
@@ -99,10 +118,11 @@ pub trait Machine: Files {
         ensures path { IfOk result (λ path. paths folder.now (Some (string_bytes path))) }
         ensures none { IfErr result (IsOfMachine (paths folder.now)) };
 
-    /// That a host starts programs in this folder or below, each action by the program that these stubs have for it.
-    ghost starts: { Self.Host → List ℕ → Stubs → Type 0 };
+    /// That a host starts programs in this folder or below, each action by the program that these stubs have for it, over these
+    /// variables.
+    ghost starts: { Self.Host → List ℕ → Stubs → List Pair → Type 0 };
 
-    /// The host that starts programs, with those variables of this program that are texts. It masks the values of
+    /// The host that starts programs, over those variables of the environment that are texts. It masks the values of
     /// outputs and of variables that steps set.
     ///
     /// # Errors
@@ -110,7 +130,8 @@ pub trait Machine: Files {
     /// There is no memory.
     fn host(&self, alloc: Global, setup: HostSetup<'_>) -> Result<Self::Host, AllocError>
         ensures masks { IfOk result (λ host. MasksAnswers setup.entry.masks (Self.Host.admits host)) }
-        ensures starts { IfOk result (λ host. starts host setup.entry.work.now setup.entry.stubs) };
+        ensures starts { IfOk result (λ host. StartsOver (Self.holds self.now)
+            (starts host setup.entry.work.now setup.entry.stubs)) };
 }
 
 impl Machine for HostRuntime {
@@ -127,7 +148,8 @@ impl Machine for HostRuntime {
 
     ghost paths = { λ folder path. IfSome path (IsAbsoluteOf folder) };
 
-    ghost starts = { λ host work stubs. (host.host.host.work ≡ work) × (host.host.host.stubs ≡ stubs) };
+    ghost starts = { λ host work stubs base. (host.host.host.work ≡ work)
+        × (host.host.host.stubs ≡ stubs) × (host.host.host.base ≡ base) };
 
     fn grow(&self, alloc: Global, names: &GrowingNames<'_>) -> GrowingFiles {
         GrowingFiles::new(*self, alloc, names)
@@ -181,9 +203,7 @@ impl Machine for HostRuntime {
             masks,
             progress,
         } = setup;
-        let base = variables(self, alloc)?;
-        let work = Text::from_str(alloc, work)?;
-        let programs = ProgramHost::new(alloc, *self, work, base, stubs);
+        let programs = programs_of(alloc, self, work, stubs)?;
         let progress = Progress::new(alloc, *self, progress, masks.copy(alloc)?);
         Ok(Watched::new(Masked::new(alloc, programs, masks), progress))
     }
