@@ -58,6 +58,18 @@ pub more_behind : (a b c : Stream) (text more : List ℕ) (whole : Bool) → IsW
 more_behind a b c text more true written put = (Appends-then _ _ _ text more written.0 put.0, put.1 ∙ written.1)
 more_behind a b c text more false written put = cut_after a b c text more [] (text ++ more) written put (ap (λ (l : List ℕ). text ++ l) (sym (append-nil more)))
 
+cut_before : (a b : Stream) (text more : List ℕ) → IsCutOff a b text → PutsText a b (text ++ more) (Ok false)
+cut_before a b text more cut =
+    let (kept, failed) = cut in (
+      record {
+        part = kept.part;
+        rest = kept.rest ++ more;
+        whole = ap (λ (l : List ℕ). l ++ more) kept.whole ∙ append_assoc kept.part kept.rest more;
+        appended = kept.appended;
+      },
+      failed,
+    )
+
 pub begun_before : (a b : Stream) (text more : List ℕ) (e : AllocError) → IsBegun a b text → PutsText a b (text ++ more) (Err e)
 begun_before a b text more e begun =
     let (kept, failed) = begun in (
@@ -258,6 +270,15 @@ played_put gives p es lines a b c told whole begun shown is put = record {
   shown = shown.shown;
   shows = shows_part gives p es shown.shown whole begun (subst (λ (w : Written). ShowsLogs gives (is_whole w) p es shown.shown) is shown.shows);
   puts = more_behind a b c shown.shown lines whole (subst (PutsText a b shown.shown) is shown.puts) put;
+}
+
+-- or they don't
+pub played_cut : (gives : Gives) (p : Plan) (es : List Entry) (lines : List ℕ) (a b : Stream) (told : Written) → PutsShown gives p es a b told → told ≡ Ok false
+    → PutsPlayed gives p es lines a b (Ok false)
+played_cut gives p es lines a b told shown is = record {
+  shown = shown.shown;
+  shows = subst (λ (w : Written). ShowsLogs gives (is_whole w) p es shown.shown) is shown.shows;
+  puts = cut_before a b shown.shown lines (subst (PutsText a b shown.shown) is shown.puts);
 }
 
 pub played_begun : (gives : Gives) (p : Plan) (es : List Entry) (lines : List ℕ) (a b : Stream) (told : Written) (e : AllocError) (how : Written) → PutsShown gives p es a b told
