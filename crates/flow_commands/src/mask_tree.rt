@@ -112,7 +112,8 @@ impl MaskTree {
     /// The node that a text leads to, which is added where there is none. The masks stay the same, also where memory runs
     /// out.
     pub(crate) fn path(&mut self, text: &[u8]) -> Result<usize, AllocError>
-        ensures { (masks : List (List ℕ)) → IsTreeOf masks self.old → Leads masks self.new text.now result }
+        ensures { (masks : List (List ℕ)) → IsTreeOf masks self.old
+            → Leads masks self.new text.now result }
     {
         let mut node = 0;
         for byte in text {

@@ -164,7 +164,8 @@ fn push_found<'v>(
     requires found { IfSome found (Fits (view root.now)) }
     ensures fit { OnOk result (All (Fits (view root.now)) nodes.new.items) }
     ensures kept { OnOk result (Keeps nodes.old.items nodes.new.items) }
-    ensures added { OnOk result (IfSome found.entry (λ node. Has nodes.new.items node.path (place_of node))) }
+    ensures added { OnOk result (IfSome found.entry
+        (λ node. Has nodes.new.items node.path (place_of node))) }
 {
     match found {
         Some(node) => push_node(root, nodes, node),
