@@ -13,7 +13,7 @@ use Rattle.flow_model.specs.declared.board.JobState.{JobState}
 use Rattle.flow_model.specs.declared.board.Leg.{Leg}
 use Rattle.flow_model.specs.declared.board.LegState.{LegState}
 use Rattle.flow_model.specs.declared.board.LegState.TheVariants as leg_state
-use Rattle.board_counters.specs.Changes.{front, job_state_of, job_state_there, leg_before, leg_was, noted_last, run_after, run_before, run_was, state_of, state_there, step_taken, unnoted}
+use Rattle.board_counters.specs.Changes.{front, job_state_of, job_state_there, leg_before, leg_was, run_after, run_before, run_was, state_of, state_there, step_taken}
 use Rattle.status_table.specs.Seen.{leg_after}
 use Rattle.board_counters.specs.Undo.{board_before, undone}
 use Rattle.status_table.specs.declared.change.LegChange.{LegChange}

@@ -20,8 +20,8 @@ board_before change.End b = unnoted b
 
 -- the board before a change that was the only one
 abbrev pub only_before : OnlyChange → Board → Board
-only_before (only_change.State place state) b = leg_state_set b place state
-only_before (only_change.Step place state) b = with_leg b place (step_taken state)
+only_before (only_change.State state place) b = leg_state_set b place state
+only_before (only_change.Step state place) b = with_leg b place (step_taken state)
 
 -- The board before all of some changes: they are taken back in the opposite order, the last one first.
 abbrev pub undone : List Change → Board → Board

@@ -47,7 +47,7 @@ fn state_back(place: LegPlace, how: &LegChange) -> Option<OnlyChange>
         → with_leg b place (leg_after how.now) ≡ only_before only b) }
 {
     match how {
-        LegChange::State(state) => Some(OnlyChange::State(place, *state)),
+        LegChange::State(state) => Some(OnlyChange::State(*state, place)),
         LegChange::Group(..) | LegChange::Outputs(..) | LegChange::Stop(_) => None,
     }
 }
@@ -58,7 +58,7 @@ fn only_of(changes: &[Change]) -> Option<OnlyChange>
 {
     match changes {
         [Change::Leg(place, how)] => state_back(*place, how),
-        [Change::Step(place, state)] => Some(OnlyChange::Step(*place, *state)),
+        [Change::Step(place, state)] => Some(OnlyChange::Step(*state, *place)),
         [Change::Job(..) | Change::Run(..) | Change::End] => None,
         [] | [_, _, ..] => None,
     }
@@ -156,10 +156,10 @@ impl Tracked {
         ensures board { self.new.board ≡ only_before only self.old.board }
     {
         match only {
-            OnlyChange::State(place, state) => {
+            OnlyChange::State(state, place) => {
                 let _was = self.counted.set_leg_state(place, state);
             },
-            OnlyChange::Step(place, state) => self.counted.take_done(alloc, place, state),
+            OnlyChange::Step(state, place) => self.counted.take_done(alloc, place, state),
         }
     }
 
@@ -226,34 +226,34 @@ impl Tracked {
         Ok(())
     }
 
-    /// Puts the leg at a place, where there is one, into a state, as the only change of an entry, and gives that in which it
-    /// was. It is for the caller to keep it: where all leads back to is another board from here on.
+    /// Puts the leg at a place, where there is one, into a state, as the only change of an entry, and gives what takes that
+    /// back. It is for the caller to keep it: where all leads back to is another board from here on.
     #[inline(always)]
-    pub fn set_state_alone(&mut self, place: LegPlace, to: LegState) -> LegState
+    pub fn set_state_alone(&mut self, place: LegPlace, to: LegState) -> OnlyChange
         ensures plan { self.new.plan ≡ self.old.plan }
         ensures board { self.new.board ≡ row.leg_state_set self.old.board place to }
-        ensures back { only_before (OnlyChange.State place result) self.new.board ≡ self.old.board }
+        ensures back { only_before result self.new.board ≡ self.old.board }
     {
-        self.counted.set_leg_state(place, to)
+        OnlyChange::State(self.counted.set_leg_state(place, to), place)
     }
 
     /// Adds a done step to the leg at a place, where there is one, which is idle again, as the only change of an entry, and
-    /// gives the state in which it was, likewise; where memory runs out, nothing is changed.
+    /// gives what takes that back, likewise; where memory runs out, nothing is changed.
     #[inline(always)]
     pub fn add_done_alone(
         &mut self,
         place: LegPlace,
         worker: u8,
         done: DoneStep,
-    ) -> Result<LegState, AllocError>
+    ) -> Result<OnlyChange, AllocError>
         ensures plan { self.new.plan ≡ self.old.plan }
         ensures ok { OnOk result
             (self.new.board ≡ row.step_done self.old.board place worker done) }
         ensures err { OnErr result (self.new.board ≡ self.old.board) }
-        ensures back { IfOk result
-            (λ was. only_before (OnlyChange.Step place was) self.new.board ≡ self.old.board) }
+        ensures back { IfOk result (λ only. only_before only self.new.board ≡ self.old.board) }
     {
-        self.counted.add_done(place, worker, done)
+        let was = self.counted.add_done(place, worker, done)?;
+        Ok(OnlyChange::Step(was, place))
     }
 
     /// Changes a run, but not its jobs.

@@ -6,13 +6,14 @@ use flow_model::{JobState, LegState};
 use smallvec::SmallVec;
 use status_table::change::LegChange;
 
-/// What takes back the only change of an entry, where that is a leg's state or a step that is done.
+/// What takes back the only change of an entry, where that is a leg's state or a step that is done. It has no memory of
+/// its own. The state stands first: it fits beside the tag.
 #[derive(Clone, Copy)]
 pub enum OnlyChange {
     /// A leg comes into a state.
-    State(LegPlace, LegState),
+    State(LegState, LegPlace),
     /// The last step of a leg is taken off, and the leg comes into a state.
-    Step(LegPlace, LegState),
+    Step(LegState, LegPlace),
 }
 
 /// What takes a change of a board back.

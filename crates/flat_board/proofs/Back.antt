@@ -23,7 +23,8 @@ use Rattle.group_admission.proofs.Back.{all_put_back, same_content}
 use Rattle.flat_board.specs.Index.{Follows, FollowsUnasked, EventsKeep}
 use Rattle.flat_board.specs.Names.{IsName, IsNamedIn, NamesKnown, Seen, SeenNamed, group_at, group_of, leg_names, run_names, seen_at}
 use Rattle.flat_board.specs.Sound.{IsSound}
-use Rattle.flat_board.specs.Undo.{Fits, IsAt, LeadsBack, board_before, cell_of, groups_put_back, name_put_back}
+use Rattle.flat_board.specs.Undo.{Fits, IsAt, RestoresGroups, board_before, cell_of, groups_put_back, name_put_back}
+use Rattle.flat_board.specs.declared.grouped_board.GroupedBoard.{GroupedBoard}
 use Rattle.flat_board.specs.declared.undo.CellBack.{CellBack}
 use Rattle.flat_board.specs.declared.undo.Undo.{Undo}
 use Rattle.flat_board.proofs.Known.{names_before, names_put_back, stays_in}
@@ -31,7 +32,6 @@ use Rattle.flat_board.proofs.Playing.{sound_after}
 use Rattle.status_table.specs.Grouped.{KeptAsShown}
 use Rattle.status_table.specs.Groups.{Standing, apart, holding, leg_stands, leg_standing, run_stands, run_standing, waiting}
 use Rattle.status_table.specs.InPlay.{InPlay}
-use Rattle.status_table.specs.Play.{Play}
 use Rattle.status_table.specs.Reversible.{answer_of, done_of}
 use Rattle.status_table.specs.Unasked.{without_reply}
 use Rattle.status_table.specs.declared.fault.EventFault.{EventFault}
@@ -118,70 +118,70 @@ in_group known (Some (false, g)) name h is = ap (λ (o : Option (List ℕ)). Som
 
 -- ---- an event
 
-module _ (law : EventsKeep) (old new : Play) (groups after : Known) (worker : ℕ) (e : Event) (few : worker ≤ 15) (sound : IsSound old groups)
-    (reply : Reply) (follows : Follows old new groups after worker e (Ok reply)) where
-  now_sound : IsSound new after
-  now_sound = sound_after law old new groups after worker e few sound (Ok reply) follows
+module _ (law : EventsKeep) (old new : GroupedBoard) (worker : ℕ) (e : Event) (few : worker ≤ 15) (sound : IsSound old)
+    (reply : Reply) (follows : Follows old new worker e (Ok reply)) where
+  now_sound : IsSound new
+  now_sound = sound_after law old new worker e few sound (Ok reply) follows
 
   -- the member that asked for a name is in its group after the event
-  asked_for : (m : Member) (name : List ℕ) → (group_at old.board m ≡ Some name) ⊎ IsAt m name (content after) → group_at new.board m ≡ Some name
+  asked_for : (m : Member) (name : List ℕ) → (group_at old.state.board m ≡ Some name) ⊎ IsAt m name (content new.groups) → group_at new.state.board m ≡ Some name
   asked_for m name (inl was) =
-      ap group_of (stays_in old.plan old.board worker e (new.board, reply) m (Some name) follows.answers (in_group groups (seen_at old.board m) name (sound.names m) was))
-  asked_for m name (inr is) = at_group new.board (content after) m name now_sound.kept is
+      ap group_of (stays_in old.state.plan old.state.board worker e (new.state.board, reply) m (Some name) follows.answers (in_group old.groups (seen_at old.state.board m) name (sound.names m) was))
+  asked_for m name (inr is) = at_group new.state.board (content new.groups) m name now_sound.kept is
 
   -- the names that are held are put back
-  restored : (cell : Option CellBack) → LeadsBack cell old.board (content groups) (content after) → (known : Known) → Ascends known → content known ≡ content after → NamesKnown known new.board
-      → content (groups_put_back cell new.board known) ≡ content groups
+  restored : (cell : Option CellBack) → RestoresGroups cell old new → (known : Known) → Ascends known → content known ≡ content new.groups → NamesKnown known new.state.board
+      → content (groups_put_back cell new.state.board known) ≡ content old.groups
   restored None back known up same names = same ∙ back
   restored (Some cell) back known up same names =
       let group = asked_for cell.who back.name back.of_who in
-      let named = named_group known (seen_at new.board cell.who) back.name (names cell.who) group in
+      let named = named_group known (seen_at new.state.board cell.who) back.name (names cell.who) group in
       ap (λ (g : Option (List ℕ)). content (name_put_back g cell.held known)) group
       ∙ ap (λ (n : List ℕ). content (put_known n cell.held known)) named.0.folded
-      ∙ all_put_back back.name cell.held known (content groups) up named.1 sound.kept.ordered back.held (λ q differs. ap (value_at q) same ∙ back.others q differs)
+      ∙ all_put_back back.name cell.held known (content old.groups) up named.1 sound.kept.ordered back.held (λ q differs. ap (value_at q) same ∙ back.others q differs)
 
   -- what takes an event back fits the board that the event led to
-  pub fits_back : (undo : Undo) → board_before undo new.board ≡ old.board → LeadsBack (cell_of undo) old.board (content groups) (content after) → Fits undo new.plan new.board
+  pub fits_back : (undo : Undo) → board_before undo new.state.board ≡ old.state.board → RestoresGroups (cell_of undo) old new → Fits undo new.state.plan new.state.board
   fits_back undo back cell = record {
-    in_play = subst (InPlay new.plan) (sym back) (subst (λ (p : Plan). InPlay p old.board) (sym follows.plan) sound.in_play);
+    in_play = subst (InPlay new.state.plan) (sym back) (subst (λ (p : Plan). InPlay p old.state.board) (sym follows.plan) sound.in_play);
     kept = λ known up shows names.
-        let held = restored (cell_of undo) cell known up (shown_same (content known) (content after) new.board shows now_sound.kept) names in
-        subst (KeptAsShown (content (groups_put_back (cell_of undo) new.board known))) (sym back) (subst (λ (g : Content). KeptAsShown g old.board) (sym held) sound.kept);
+        let held = restored (cell_of undo) cell known up (shown_same (content known) (content new.groups) new.state.board shows now_sound.kept) names in
+        subst (KeptAsShown (content (groups_put_back (cell_of undo) new.state.board known))) (sym back) (subst (λ (g : Content). KeptAsShown g old.state.board) (sym held) sound.kept);
     names = λ known up shows names.
-        subst (NamesKnown (groups_put_back (cell_of undo) new.board known)) (sym back)
-        (names_put_back (cell_of undo) new.board old.board known (names_before old.plan old.board worker e (new.board, reply) groups known follows.answers sound.names names));
+        subst (NamesKnown (groups_put_back (cell_of undo) new.state.board known)) (sym back)
+        (names_put_back (cell_of undo) new.state.board old.state.board known (names_before old.state.plan old.state.board worker e (new.state.board, reply) old.groups known follows.answers sound.names names));
   }
 
 -- so it is with each answer
-pub fits_all : EventsKeep → (old new : Play) (groups after : Known) (worker : ℕ) (e : Event) → worker ≤ 15 → IsSound old groups
-    → (result : Result (Reply × Undo) EventFault) → Follows old new groups after worker e (answer_of result)
-    → IfOk result (λ both. board_before both.1 new.board ≡ old.board)
-    → IfOk result (λ both. LeadsBack (cell_of both.1) old.board (content groups) (content after))
-    → IfOk result (λ both. Fits both.1 new.plan new.board)
-fits_all law old new groups after worker e few sound (Ok both) follows back cell =
-    fits_back law old new groups after worker e few sound both.0 follows both.1 back cell
-fits_all law old new groups after worker e few sound (Err f) follows back cell = tt
+pub fits_all : EventsKeep → (old new : GroupedBoard) (worker : ℕ) (e : Event) → worker ≤ 15 → IsSound old
+    → (result : Result (Reply × Undo) EventFault) → Follows old new worker e (answer_of result)
+    → IfOk result (λ both. board_before both.1 new.state.board ≡ old.state.board)
+    → IfOk result (λ both. RestoresGroups (cell_of both.1) old new)
+    → IfOk result (λ both. Fits both.1 new.state.plan new.state.board)
+fits_all law old new worker e few sound (Ok both) follows back cell =
+    fits_back law old new worker e few sound both.0 follows both.1 back cell
+fits_all law old new worker e few sound (Err f) follows back cell = tt
 
 -- and with each that came without a reply
-pub fits_unasked : EventsKeep → (old new : Play) (groups after : Known) (worker : ℕ) (e : Event) → worker ≤ 15 → IsSound old groups
-    → (result : Result Undo EventFault) → FollowsUnasked old new groups after worker e (done_of result)
-    → IfOk result (λ undo. board_before undo new.board ≡ old.board)
-    → IfOk result (λ undo. LeadsBack (cell_of undo) old.board (content groups) (content after))
-    → IfOk result (λ undo. Fits undo new.plan new.board)
-fits_unasked law old new groups after worker e few sound (Ok undo) follows back cell = by_answer follows.answer follows.follows follows.same
+pub fits_unasked : EventsKeep → (old new : GroupedBoard) (worker : ℕ) (e : Event) → worker ≤ 15 → IsSound old
+    → (result : Result Undo EventFault) → FollowsUnasked old new worker e (done_of result)
+    → IfOk result (λ undo. board_before undo new.state.board ≡ old.state.board)
+    → IfOk result (λ undo. RestoresGroups (cell_of undo) old new)
+    → IfOk result (λ undo. Fits undo new.state.plan new.state.board)
+fits_unasked law old new worker e few sound (Ok undo) follows back cell = by_answer follows.answer follows.follows follows.same
   where
-    by_answer : (answer : Result Reply EventFault) → Follows old new groups after worker e answer → Ok tt ≡ without_reply answer → Fits undo new.plan new.board
-    by_answer (Ok reply) told is = fits_back law old new groups after worker e few sound reply told undo back cell
+    by_answer : (answer : Result Reply EventFault) → Follows old new worker e answer → Ok tt ≡ without_reply answer → Fits undo new.state.plan new.state.board
+    by_answer (Ok reply) told is = fits_back law old new worker e few sound reply told undo back cell
     by_answer (Err f) told is = absurd (cc)
-fits_unasked law old new groups after worker e few sound (Err f) follows back cell = tt
+fits_unasked law old new worker e few sound (Err f) follows back cell = tt
 
 -- the board before is as sound
-pub sound_before : (old new : Play) (groups after : Known) (undo : Undo) → Ascends groups → IsSound old groups → Fits undo old.plan old.board
-    → new.plan ≡ old.plan → new.board ≡ board_before undo old.board → after ≡ groups_put_back (cell_of undo) old.board groups → IsSound new after
-sound_before old new groups after undo up sound fits plan_is board_is groups_are = record {
-  in_play = subst (λ (p : Plan). InPlay p new.board) (sym plan_is) (subst (InPlay old.plan) (sym board_is) fits.in_play);
-  kept = subst (λ (g : Known). KeptAsShown (content g) new.board) (sym groups_are)
-      (subst (KeptAsShown (content (groups_put_back (cell_of undo) old.board groups))) (sym board_is) (fits.kept groups up sound.kept sound.names));
-  names = subst (λ (g : Known). NamesKnown g new.board) (sym groups_are)
-      (subst (NamesKnown (groups_put_back (cell_of undo) old.board groups)) (sym board_is) (fits.names groups up sound.kept sound.names));
+pub sound_before : (old new : GroupedBoard) (undo : Undo) → Ascends old.groups → IsSound old → Fits undo old.state.plan old.state.board
+    → new.state.plan ≡ old.state.plan → new.state.board ≡ board_before undo old.state.board → new.groups ≡ groups_put_back (cell_of undo) old.state.board old.groups → IsSound new
+sound_before old new undo up sound fits plan_is board_is groups_are = record {
+  in_play = subst (λ (p : Plan). InPlay p new.state.board) (sym plan_is) (subst (InPlay old.state.plan) (sym board_is) fits.in_play);
+  kept = subst (λ (g : Known). KeptAsShown (content g) new.state.board) (sym groups_are)
+      (subst (KeptAsShown (content (groups_put_back (cell_of undo) old.state.board old.groups))) (sym board_is) (fits.kept old.groups up sound.kept sound.names));
+  names = subst (λ (g : Known). NamesKnown g new.state.board) (sym groups_are)
+      (subst (NamesKnown (groups_put_back (cell_of undo) old.state.board old.groups)) (sym board_is) (fits.names old.groups up sound.kept sound.names));
 }

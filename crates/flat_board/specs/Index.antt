@@ -3,6 +3,7 @@
 use Rattle.std.specs.Prelude.{◌≡◌, ℕ, true, List, Option, Some, None, Result, Ok, Err}
 use Rattle.board_decisions.specs.declared.entrance.Entrance.{Entrance}
 use Rattle.flat_board.specs.Names.{IsName}
+use Rattle.flat_board.specs.declared.grouped_board.GroupedBoard.{GroupedBoard}
 use Rattle.flow_model.specs.declared.board.Board.{Board}
 use Rattle.flow_model.specs.declared.event.Event.{Event}
 use Rattle.flow_model.specs.declared.event.Event.TheVariants as event
@@ -15,7 +16,6 @@ use Rattle.group_admission.specs.Known.{Known, content, is_known}
 use Rattle.status_table.specs.Answers.{Answers}
 use Rattle.status_table.specs.Grouped.{KeptAsShown, EntersFromOutside, after_event}
 use Rattle.status_table.specs.Lawful.{Lawful}
-use Rattle.status_table.specs.Play.{Play}
 use Rattle.status_table.specs.Row.{row, event_row}
 use Rattle.status_table.specs.Unasked.{without_reply}
 use Rattle.status_table.specs.declared.fault.EventFault.{EventFault}
@@ -69,17 +69,19 @@ most_changes (event.Cancel r) = 1
 
 -- An event that a worker from 0 to 15 reports is answered as its row, the plan stays, and the groups are
 -- after it what the event asks of them.
-pub record Follows (old new : Play) (before after : Known) (worker : ℕ) (e : Event)
+pub record Follows (old new : GroupedBoard) (worker : ℕ) (e : Event)
     (result : Result Reply EventFault) : Type 0 where
-  pub plan : new.plan ≡ old.plan
-  pub answers : Answers (event_row old.plan old.board worker e) old.board result new.board
-  pub groups : Goes result before (after_event old.plan old.board (content before) e) after
+  pub plan : new.state.plan ≡ old.state.plan
+  pub answers : Answers (event_row old.state.plan old.state.board worker e)
+      old.state.board result new.state.board
+  pub groups : Goes result old.groups
+      (after_event old.state.plan old.state.board (content old.groups) e) new.groups
 
 -- An event follows its row, the plan and the groups, where nobody asks for the reply: some answer goes with it.
-pub record FollowsUnasked (old new : Play) (before after : Known) (worker : ℕ) (e : Event)
+pub record FollowsUnasked (old new : GroupedBoard) (worker : ℕ) (e : Event)
     (result : Result (Unit {0}) EventFault) : Type 0 where
   pub answer : Result Reply EventFault
-  pub follows : Follows old new before after worker e answer
+  pub follows : Follows old new worker e answer
   pub same : result ≡ without_reply answer
 
 -- ---- laws

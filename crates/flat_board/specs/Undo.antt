@@ -2,11 +2,11 @@
 use Rattle.std.specs.Prelude.{◌≡◌, ◌≢◌, ◌⊎◌, ℕ, List, Option, Some, None}
 use Rattle.expr_reader.specs.Fold.{fold}
 use Rattle.flat_board.specs.Names.{NamesKnown, group_at}
+use Rattle.flat_board.specs.declared.grouped_board.GroupedBoard.{GroupedBoard}
 use Rattle.flat_board.specs.declared.undo.CellBack.{CellBack}
 use Rattle.flat_board.specs.declared.undo.Undo.{Undo}
 use Rattle.flat_board.specs.declared.undo.Undo.TheVariants as takes
 use Rattle.board_counters.specs.Undo.{only_before, undone}
-use Rattle.board_counters.specs.declared.undo.OnlyChange.TheVariants as only_change
 use Rattle.flow_model.specs.Mapping.{Ascends, value_at}
 use Rattle.flow_model.specs.declared.board.Board.{Board}
 use Rattle.flow_model.specs.declared.event.Member.{Member}
@@ -21,14 +21,12 @@ use Rattle.status_table.specs.InPlay.{InPlay}
 
 -- the board before an entry: its changes are taken back, the last one first
 abbrev pub board_before : Undo → Board → Board
-board_before (takes.State place state) b = only_before (only_change.State place state) b
-board_before (takes.Step place state) b = only_before (only_change.Step place state) b
+board_before (takes.Only only) b = only_before only b
 board_before (takes.Entry back) b = undone back.value.changes.items b
 
 -- what was held before it of the name that it asked for, if it asked for one
 abbrev pub cell_of : Undo → Option CellBack
-cell_of (takes.State place state) = None
-cell_of (takes.Step place state) = None
+cell_of (takes.Only only) = None
 cell_of (takes.Entry back) = back.value.cell
 
 -- a name, if there is one, is held again as it was
@@ -67,6 +65,10 @@ pub record NameChanged (cell : CellBack) (b : Board) (was now : Content) : Type 
 abbrev pub LeadsBack : Option CellBack → Board → Content → Content → Type 0
 LeadsBack None b was now = now ≡ was
 LeadsBack (Some cell) b was now = NameChanged cell b was now
+
+-- so it is from a board with its groups to the one before
+abbrev pub RestoresGroups : Option CellBack → GroupedBoard → GroupedBoard → Type 0
+RestoresGroups cell old new = LeadsBack cell old.state.board (content old.groups) (content new.groups)
 
 -- A member that stood so to its group left that, and this leads back.
 pub record Leaves (cell : Option CellBack) (b : Board) (m : Member) (s : Standing) (was now : Content) : Type 0 where

@@ -7,7 +7,7 @@ ghost use Rattle.board_decisions.specs.Place.{job_at, leg_at, run_at};
 ghost use Rattle.board_decisions.specs.Seen.{job_seen};
 ghost use Rattle.flat_board.specs.Index.{Goes};
 ghost use Rattle.flat_board.specs.Names.{NamesKnown};
-ghost use Rattle.flat_board.specs.Undo.{LeadsBack};
+ghost use Rattle.flat_board.specs.Undo.{RestoresGroups};
 ghost use Rattle.group_admission.specs.Known.{content};
 ghost use Rattle.status_table.specs.Answers.{Answers, Decides};
 ghost use Rattle.status_table.specs.Grouped.{KeptAsShown, leg_asked, leg_left, run_left, run_opened};
@@ -16,19 +16,17 @@ ghost use Rattle.status_table.specs.Reversible.{answer_of};
 ghost use Rattle.status_table.specs.Row as spec;
 
 use crate::found::{find_job, find_leg, is_full, is_stopping, keep};
-use crate::groups::{
-    Asker, enter_leg, enter_run, leave, leave_leg, leg_stand, next_after, run_stand,
-};
+use crate::grouped_board::GroupedBoard;
+use crate::groups::{Asker, leave, leave_leg, leg_stand, next_after, run_stand};
 use crate::laws::who_enters_is_outside;
 use crate::members::{close_run, drop_leg, pass_on, set_ended, stop_run};
 use crate::undo::CellBack;
-use board_counters::{Counted, Tracked};
+use board_counters::Counted;
 use board_decisions::ancestors::job_status_kept;
 use board_decisions::decisions::{job_condition, leg_entrance, leg_outputs, run_entrance};
 use board_decisions::derived::is_closed;
 use board_decisions::place::{SeenJob, find_run};
 use flow_model::{Answer, JobState, LegState, Member, Outcome, Reply, RunState, What};
-use group_admission::Groups;
 use status_table::EventFault;
 use status_table::change::LegChange;
 use status_table::events::{
@@ -37,40 +35,6 @@ use status_table::events::{
 };
 use status_table::groups::{moved, told};
 use std::alloc::Global;
-
-/// Starts a run that is new.
-pub(crate) fn open(
-    alloc: Global,
-    state: &mut Tracked,
-    groups: &mut Groups,
-    number: u64,
-) -> Result<(Reply, Option<CellBack>), EventFault>
-    requires kept { KeptAsShown (content groups.old) state.old.board }
-    requires room { 4 ≤ state.old.room }
-    ensures plan { state.new.plan ≡ state.old.plan }
-    ensures answers { Answers (spec.open_row state.old.plan state.old.board number)
-        state.old.board (answer_of result) state.new.board }
-    ensures groups { Goes (answer_of result) groups.old
-        (run_opened (content groups.old) number (run_at state.old.plan state.old.board number)) groups.new }
-    ensures back { OnOk result (state.new.back ≡ state.old.back) }
-    ensures cell { IfOk result (λ both. LeadsBack both.1
-        state.old.board (content groups.old) (content groups.new)) }
-{
-    who_enters_is_outside();
-    let play = state.counted();
-    let Some(at) = find_run(play.plan(), play.board(), number as usize) else {
-        return Err(EventFault::NoSuch);
-    };
-    match (at.run.state, at.run.stop) {
-        (RunState::New, false) => {},
-        (RunState::New, true) => return Err(EventFault::Stopping),
-        (RunState::Waiting, _) => return Err(EventFault::WrongState),
-        (RunState::Going, _) => return Err(EventFault::WrongState),
-        (RunState::Closed(_), _) => return Err(EventFault::WrongState),
-    }
-    let group = run_entrance(alloc, &at);
-    enter_run(alloc, state, groups, number, group)
-}
 
 /// The state into which a job is judged, or why it is not.
 fn judgement(
@@ -100,297 +64,312 @@ fn judgement(
     Ok(judged_state(at.run.stop, job_condition(alloc, at, status))?)
 }
 
-/// Opens or shuts a job whose needs have ended.
-pub(crate) fn judge(alloc: Global, state: &mut Tracked, number: u64) -> Result<Reply, EventFault>
-    requires play { InPlay state.old.plan state.old.board }
-    requires room { 1 ≤ state.old.room }
-    ensures plan { state.new.plan ≡ state.old.plan }
-    ensures answers { Answers (spec.judge_row state.old.plan state.old.board number)
-        state.old.board result state.new.board }
-    ensures back { OnOk result (state.new.back ≡ state.old.back) }
-{
-    let play = state.counted();
-    let Some(at) = find_job(play, number) else {
-        return Err(EventFault::NoSuch);
-    };
-    let to = judgement(alloc, play, number, &at)?;
-    let place = at.place;
-    state.set_job(place, to);
-    Ok(moved())
-}
+impl GroupedBoard {
+    /// Starts a run that is new.
+    pub(crate) fn open(&mut self, number: u64) -> Result<(Reply, Option<CellBack>), EventFault>
+        requires kept { KeptAsShown (content self.old.groups) self.old.state.board }
+        requires room { 4 ≤ self.old.state.room }
+        ensures plan { self.new.state.plan ≡ self.old.state.plan }
+        ensures answers { Answers (spec.open_row self.old.state.plan self.old.state.board number)
+            self.old.state.board (answer_of result) self.new.state.board }
+        ensures groups { Goes (answer_of result) self.old.groups (run_opened (content self.old.groups) number
+            (run_at self.old.state.plan self.old.state.board number)) self.new.groups }
+        ensures back { OnOk result (self.new.state.back ≡ self.old.state.back) }
+        ensures cell { IfOk result (λ both. RestoresGroups both.1 self.old self.new) }
+    {
+        who_enters_is_outside();
+        let play = self.state.counted();
+        let Some(at) = find_run(play.plan(), play.board(), number as usize) else {
+            return Err(EventFault::NoSuch);
+        };
+        match (at.run.state, at.run.stop) {
+            (RunState::New, false) => {},
+            (RunState::New, true) => return Err(EventFault::Stopping),
+            (RunState::Waiting, _) => return Err(EventFault::WrongState),
+            (RunState::Going, _) => return Err(EventFault::WrongState),
+            (RunState::Closed(_), _) => return Err(EventFault::WrongState),
+        }
+        let group = run_entrance(self.alloc, &at);
+        self.enter_run(number, group)
+    }
 
-/// A leg asks to be admitted.
-pub(crate) fn ask(
-    alloc: Global,
-    state: &mut Tracked,
-    groups: &mut Groups,
-    number: u64,
-) -> Result<(Reply, Option<CellBack>), EventFault>
-    requires kept { KeptAsShown (content groups.old) state.old.board }
-    requires room { 4 ≤ state.old.room }
-    ensures plan { state.new.plan ≡ state.old.plan }
-    ensures answers { Answers (spec.ask_row state.old.plan state.old.board number)
-        state.old.board (answer_of result) state.new.board }
-    ensures groups { Goes (answer_of result) groups.old
-        (leg_asked (content groups.old) number (leg_at state.old.plan state.old.board number)) groups.new }
-    ensures back { OnOk result (state.new.back ≡ state.old.back) }
-    ensures cell { IfOk result (λ both. LeadsBack both.1
-        state.old.board (content groups.old) (content groups.new)) }
-{
-    who_enters_is_outside();
-    let Some(leg) = find_leg(state.counted(), number) else {
-        return Err(EventFault::NoSuch);
-    };
-    if !may_ask(&leg.at) {
-        return Err(EventFault::WrongState);
+    /// Opens or shuts a job whose needs have ended.
+    pub(crate) fn judge(&mut self, number: u64) -> Result<Reply, EventFault>
+        requires play { InPlay self.old.state.plan self.old.state.board }
+        requires room { 1 ≤ self.old.state.room }
+        ensures plan { self.new.state.plan ≡ self.old.state.plan }
+        ensures answers { Answers (spec.judge_row self.old.state.plan self.old.state.board number)
+            self.old.state.board result self.new.state.board }
+        ensures groups { self.new.groups ≡ self.old.groups }
+        ensures back { OnOk result (self.new.state.back ≡ self.old.state.back) }
+    {
+        let play = self.state.counted();
+        let Some(at) = find_job(play, number) else {
+            return Err(EventFault::NoSuch);
+        };
+        let to = judgement(self.alloc, play, number, &at)?;
+        let place = at.place;
+        self.state.set_job(place, to);
+        Ok(moved())
     }
-    if is_full(&leg) {
-        return Err(EventFault::SlotsFull);
-    }
-    if is_stopping(alloc, &leg)? {
-        return Err(EventFault::Stopping);
-    }
-    let run = leg.at.place.run as u64;
-    let group = leg_entrance(alloc, &leg.at);
-    enter_leg(alloc, state, groups, Asker { leg: number, run }, group)
-}
 
-/// Drops a leg that is to stop before a worker took it.
-pub(crate) fn discard(
-    alloc: Global,
-    state: &mut Tracked,
-    groups: &mut Groups,
-    number: u64,
-) -> Result<(Reply, Option<CellBack>), EventFault>
-    requires kept { KeptAsShown (content groups.old) state.old.board }
-    requires names { NamesKnown groups.old state.old.board }
-    requires room { 3 ≤ state.old.room }
-    ensures plan { state.new.plan ≡ state.old.plan }
-    ensures answers { Answers (spec.drop_row state.old.plan state.old.board number)
-        state.old.board (answer_of result) state.new.board }
-    ensures groups { Goes (answer_of result) groups.old
-        (leg_left (content groups.old) number (leg_at state.old.plan state.old.board number)) groups.new }
-    ensures back { OnOk result (state.new.back ≡ state.old.back) }
-    ensures cell { IfOk result (λ both. LeadsBack both.1
-        state.old.board (content groups.old) (content groups.new)) }
-{
-    let Some(leg) = find_leg(state.counted(), number) else {
-        return Err(EventFault::NoSuch);
-    };
-    if !may_drop(&leg.at) {
-        return Err(EventFault::WrongState);
+    /// A leg asks to be admitted.
+    pub(crate) fn ask(&mut self, number: u64) -> Result<(Reply, Option<CellBack>), EventFault>
+        requires kept { KeptAsShown (content self.old.groups) self.old.state.board }
+        requires room { 4 ≤ self.old.state.room }
+        ensures plan { self.new.state.plan ≡ self.old.state.plan }
+        ensures answers { Answers (spec.ask_row self.old.state.plan self.old.state.board number)
+            self.old.state.board (answer_of result) self.new.state.board }
+        ensures groups { Goes (answer_of result) self.old.groups (leg_asked (content self.old.groups) number
+            (leg_at self.old.state.plan self.old.state.board number)) self.new.groups }
+        ensures back { OnOk result (self.new.state.back ≡ self.old.state.back) }
+        ensures cell { IfOk result (λ both. RestoresGroups both.1 self.old self.new) }
+    {
+        who_enters_is_outside();
+        let Some(leg) = find_leg(self.state.counted(), number) else {
+            return Err(EventFault::NoSuch);
+        };
+        if !may_ask(&leg.at) {
+            return Err(EventFault::WrongState);
+        }
+        if is_full(&leg) {
+            return Err(EventFault::SlotsFull);
+        }
+        if is_stopping(self.alloc, &leg)? {
+            return Err(EventFault::Stopping);
+        }
+        let run = leg.at.place.run as u64;
+        let group = leg_entrance(self.alloc, &leg.at);
+        self.enter_leg(Asker { leg: number, run }, group)
     }
-    if !is_stopping(alloc, &leg)? {
-        return Err(EventFault::NotStopping);
+
+    /// Drops a leg that is to stop before a worker took it.
+    pub(crate) fn discard(&mut self, number: u64) -> Result<(Reply, Option<CellBack>), EventFault>
+        requires kept { KeptAsShown (content self.old.groups) self.old.state.board }
+        requires names { NamesKnown self.old.groups self.old.state.board }
+        requires room { 3 ≤ self.old.state.room }
+        ensures plan { self.new.state.plan ≡ self.old.state.plan }
+        ensures answers { Answers (spec.drop_row self.old.state.plan self.old.state.board number)
+            self.old.state.board (answer_of result) self.new.state.board }
+        ensures groups { Goes (answer_of result) self.old.groups (leg_left (content self.old.groups) number
+            (leg_at self.old.state.plan self.old.state.board number)) self.new.groups }
+        ensures back { OnOk result (self.new.state.back ≡ self.old.state.back) }
+        ensures cell { IfOk result (λ both. RestoresGroups both.1 self.old self.new) }
+    {
+        let Some(leg) = find_leg(self.state.counted(), number) else {
+            return Err(EventFault::NoSuch);
+        };
+        if !may_drop(&leg.at) {
+            return Err(EventFault::WrongState);
+        }
+        if !is_stopping(self.alloc, &leg)? {
+            return Err(EventFault::NotStopping);
+        }
+        let place = leg.at.place;
+        let stand = leg_stand(leg.at.leg.state);
+        let next = next_after(&self.groups, stand, &leg.at.leg.group);
+        drop_leg(&mut self.state, number, Outcome::Cancelled)?;
+        let cell = leave_leg(
+            &mut self.groups,
+            self.state.counted().board(),
+            place,
+            number,
+        );
+        pass_on(&mut self.state, next);
+        Ok((told(next, None, None), cell))
     }
-    let place = leg.at.place;
-    let stand = leg_stand(leg.at.leg.state);
-    let next = next_after(groups, stand, &leg.at.leg.group);
-    drop_leg(state, number, Outcome::Cancelled)?;
-    let cell = leave_leg(groups, state.counted().board(), place, number);
-    pass_on(state, next);
-    Ok((told(next, None, None), cell))
-}
 
-/// Gives a leg that is admitted to a worker.
-pub(crate) fn take(
-    alloc: Global,
-    state: &mut Tracked,
-    worker: u8,
-    number: u64,
-) -> Result<Reply, EventFault>
-    requires { 1 ≤ state.old.room }
-    ensures plan { state.new.plan ≡ state.old.plan }
-    ensures answers { Answers (spec.take_row state.old.plan state.old.board worker number)
-        state.old.board result state.new.board }
-    ensures back { OnOk result (state.new.back ≡ state.old.back) }
-{
-    let Some(leg) = find_leg(state.counted(), number) else {
-        return Err(EventFault::NoSuch);
-    };
-    match leg.at.leg.state {
-        LegState::Admitted => {},
-        LegState::Fresh => return Err(EventFault::WrongState),
-        LegState::Waiting => return Err(EventFault::WrongState),
-        LegState::Running { .. } => return Err(EventFault::WrongState),
-        LegState::Ended { .. } => return Err(EventFault::WrongState),
+    /// Gives a leg that is admitted to a worker.
+    pub(crate) fn take(&mut self, worker: u8, number: u64) -> Result<Reply, EventFault>
+        requires { 1 ≤ self.old.state.room }
+        ensures plan { self.new.state.plan ≡ self.old.state.plan }
+        ensures answers { Answers (spec.take_row self.old.state.plan self.old.state.board worker number)
+            self.old.state.board result self.new.state.board }
+        ensures groups { self.new.groups ≡ self.old.groups }
+        ensures back { OnOk result (self.new.state.back ≡ self.old.state.back) }
+    {
+        let Some(leg) = find_leg(self.state.counted(), number) else {
+            return Err(EventFault::NoSuch);
+        };
+        match leg.at.leg.state {
+            LegState::Admitted => {},
+            LegState::Fresh => return Err(EventFault::WrongState),
+            LegState::Waiting => return Err(EventFault::WrongState),
+            LegState::Running { .. } => return Err(EventFault::WrongState),
+            LegState::Ended { .. } => return Err(EventFault::WrongState),
+        }
+        if is_stopping(self.alloc, &leg)? {
+            return Err(EventFault::Stopping);
+        }
+        let place = leg.at.place;
+        // a list that grows step by step would end up with up to twice the room
+        let steps = leg.at.job_plan.steps.len();
+        self.state.make_room(self.alloc, place, steps)?;
+        self.state.change_leg(
+            place,
+            LegChange::State(LegState::Running {
+                worker,
+                in_call: false,
+            }),
+        );
+        Ok(moved())
     }
-    if is_stopping(alloc, &leg)? {
-        return Err(EventFault::Stopping);
+
+    /// Begins the next step of a leg: its call, that it is skipped, or that it failed.
+    pub(crate) fn begin(&mut self, worker: u8, number: u64) -> Result<Reply, EventFault>
+        requires { 1 ≤ self.old.state.room }
+        ensures plan { self.new.state.plan ≡ self.old.state.plan }
+        ensures answers { Answers (spec.begin_row self.old.state.plan self.old.state.board worker number)
+            self.old.state.board result self.new.state.board }
+        ensures groups { self.new.groups ≡ self.old.groups }
+        ensures back { OnOk result (self.new.state.back ≡ self.old.state.back) }
+    {
+        let Some(leg) = find_leg(self.state.counted(), number) else {
+            return Err(EventFault::NoSuch);
+        };
+        let place = leg.at.place;
+        match beginning(self.alloc, worker, number, &leg.at)? {
+            Begun::Call(call) => {
+                self.state.change_leg(
+                    place,
+                    LegChange::State(LegState::Running {
+                        worker,
+                        in_call: true,
+                    }),
+                );
+                Ok(reply(What::Call(call)))
+            },
+            Begun::Skips => {
+                self.state
+                    .add_done(place, worker, skipped_step(self.alloc))?;
+                Ok(reply(What::Skipped))
+            },
+            Begun::Faults(fault) => {
+                let done = failed_step(self.alloc, &leg.at)?;
+                self.state.add_done(place, worker, done)?;
+                Ok(reply(What::Faulted(fault)))
+            },
+        }
     }
-    let place = leg.at.place;
-    // a list that grows step by step would end up with up to twice the room
-    let steps = leg.at.job_plan.steps.len();
-    state.make_room(alloc, place, steps)?;
-    state.change_leg(
-        place,
-        LegChange::State(LegState::Running {
-            worker,
-            in_call: false,
-        }),
-    );
-    Ok(moved())
-}
 
-/// Begins the next step of a leg: its call, that it is skipped, or that it failed.
-pub(crate) fn begin(
-    alloc: Global,
-    state: &mut Tracked,
-    worker: u8,
-    number: u64,
-) -> Result<Reply, EventFault>
-    requires { 1 ≤ state.old.room }
-    ensures plan { state.new.plan ≡ state.old.plan }
-    ensures answers { Answers (spec.begin_row state.old.plan state.old.board worker number)
-        state.old.board result state.new.board }
-    ensures back { OnOk result (state.new.back ≡ state.old.back) }
-{
-    let Some(leg) = find_leg(state.counted(), number) else {
-        return Err(EventFault::NoSuch);
-    };
-    let place = leg.at.place;
-    match beginning(alloc, worker, number, &leg.at)? {
-        Begun::Call(call) => {
-            state.change_leg(
-                place,
-                LegChange::State(LegState::Running {
-                    worker,
-                    in_call: true,
-                }),
-            );
-            Ok(reply(What::Call(call)))
-        },
-        Begun::Skips => {
-            state.add_done(place, worker, skipped_step(alloc))?;
-            Ok(reply(What::Skipped))
-        },
-        Begun::Faults(fault) => {
-            let done = failed_step(alloc, &leg.at)?;
-            state.add_done(place, worker, done)?;
-            Ok(reply(What::Faulted(fault)))
-        },
+    /// Ends the step of a leg that is in a call.
+    pub(crate) fn end(
+        &mut self,
+        worker: u8,
+        number: u64,
+        answer: Answer,
+    ) -> Result<Reply, EventFault>
+        requires { 1 ≤ self.old.state.room }
+        ensures plan { self.new.state.plan ≡ self.old.state.plan }
+        ensures answers { Answers (spec.end_row self.old.state.plan self.old.state.board worker number answer)
+            self.old.state.board result self.new.state.board }
+        ensures groups { self.new.groups ≡ self.old.groups }
+        ensures back { OnOk result (self.new.state.back ≡ self.old.state.back) }
+    {
+        let Some(leg) = find_leg(self.state.counted(), number) else {
+            return Err(EventFault::NoSuch);
+        };
+        let place = leg.at.place;
+        let (outcome, conclusion) = ending(self.alloc, worker, &leg.at, &answer)?;
+        let done = ended_step(self.alloc, outcome, conclusion, answer);
+        self.state.add_done(place, worker, done)?;
+        Ok(moved())
     }
-}
 
-/// Ends the step of a leg that is in a call.
-pub(crate) fn end(
-    alloc: Global,
-    state: &mut Tracked,
-    worker: u8,
-    number: u64,
-    answer: Answer,
-) -> Result<Reply, EventFault>
-    requires { 1 ≤ state.old.room }
-    ensures plan { state.new.plan ≡ state.old.plan }
-    ensures answers { Answers (spec.end_row state.old.plan state.old.board worker number answer)
-        state.old.board result state.new.board }
-    ensures back { OnOk result (state.new.back ≡ state.old.back) }
-{
-    let Some(leg) = find_leg(state.counted(), number) else {
-        return Err(EventFault::NoSuch);
-    };
-    let place = leg.at.place;
-    let (outcome, conclusion) = ending(alloc, worker, &leg.at, &answer)?;
-    let done = ended_step(alloc, outcome, conclusion, answer);
-    state.add_done(place, worker, done)?;
-    Ok(moved())
-}
-
-/// Ends a leg whose steps are done.
-pub(crate) fn finish(
-    alloc: Global,
-    state: &mut Tracked,
-    groups: &mut Groups,
-    worker: u8,
-    number: u64,
-) -> Result<(Reply, Option<CellBack>), EventFault>
-    requires kept { KeptAsShown (content groups.old) state.old.board }
-    requires names { NamesKnown groups.old state.old.board }
-    requires room { 3 ≤ state.old.room }
-    ensures plan { state.new.plan ≡ state.old.plan }
-    ensures answers { Answers (spec.finish_row state.old.plan state.old.board worker number)
-        state.old.board (answer_of result) state.new.board }
-    ensures groups { Goes (answer_of result) groups.old
-        (leg_left (content groups.old) number (leg_at state.old.plan state.old.board number)) groups.new }
-    ensures back { OnOk result (state.new.back ≡ state.old.back) }
-    ensures cell { IfOk result (λ both. LeadsBack both.1
-        state.old.board (content groups.old) (content groups.new)) }
-{
-    let play = state.counted();
-    let Some(leg) = find_leg(play, number) else {
-        return Err(EventFault::NoSuch);
-    };
-    let place = leg.at.place;
-    let to = finishing_kept(alloc, worker, &leg.at, keep(play, &leg))?;
-    let outputs = leg_outputs(alloc, &leg.at)?;
-    let stand = leg_stand(leg.at.leg.state);
-    let next = next_after(groups, stand, &leg.at.leg.group);
-    set_ended(state, place, number, to, outputs)?;
-    let cell = leave_leg(groups, state.counted().board(), place, number);
-    pass_on(state, next);
-    Ok((told(next, None, None), cell))
-}
-
-/// Ends a run whose jobs have ended, or that never went.
-pub(crate) fn close(
-    state: &mut Tracked,
-    groups: &mut Groups,
-    number: u64,
-) -> Result<(Reply, Option<CellBack>), EventFault>
-    requires kept { KeptAsShown (content groups.old) state.old.board }
-    requires names { NamesKnown groups.old state.old.board }
-    requires room { 2 ≤ state.old.room }
-    ensures plan { state.new.plan ≡ state.old.plan }
-    ensures answers { Answers (spec.close_row state.old.plan state.old.board number)
-        state.old.board (answer_of result) state.new.board }
-    ensures groups { Goes (answer_of result) groups.old
-        (run_left (content groups.old) number (run_at state.old.plan state.old.board number)) groups.new }
-    ensures back { OnOk result (state.new.back ≡ state.old.back) }
-    ensures cell { IfOk result (λ both. LeadsBack both.1
-        state.old.board (content groups.old) (content groups.new)) }
-{
-    let play = state.counted();
-    let Some(at) = find_run(play.plan(), play.board(), number as usize) else {
-        return Err(EventFault::NoSuch);
-    };
-    let how = match at.run.state {
-        RunState::New | RunState::Waiting => {
-            if !at.run.stop {
-                return Err(EventFault::NotStopping);
-            }
-            Outcome::Cancelled
-        },
-        RunState::Going => {
-            if !play.have_jobs_ended(number as usize) {
-                return Err(EventFault::NeedsOpen);
-            }
-            play.run_result(number as usize, at.run.stop)
-        },
-        RunState::Closed(_) => return Err(EventFault::WrongState),
-    };
-    let stand = run_stand(at.run.state);
-    let next = next_after(groups, stand, &at.run.group);
-    let cell = leave(groups, Member::Run(number), &at.run.group);
-    close_run(state, number, how);
-    pass_on(state, next);
-    Ok((told(next, None, None), cell))
-}
-
-/// Tells a run to stop.
-pub(crate) fn cancel(state: &mut Tracked, number: u64) -> Result<Reply, EventFault>
-    requires { 1 ≤ state.old.room }
-    ensures plan { state.new.plan ≡ state.old.plan }
-    ensures answers { Answers (spec.cancel_row state.old.plan state.old.board number)
-        state.old.board result state.new.board }
-    ensures back { OnOk result (state.new.back ≡ state.old.back) }
-{
-    let play = state.counted();
-    let Some(at) = find_run(play.plan(), play.board(), number as usize) else {
-        return Err(EventFault::NoSuch);
-    };
-    if is_closed(at.run.state) || at.run.stop {
-        return Err(EventFault::WrongState);
+    /// Ends a leg whose steps are done.
+    pub(crate) fn finish(
+        &mut self,
+        worker: u8,
+        number: u64,
+    ) -> Result<(Reply, Option<CellBack>), EventFault>
+        requires kept { KeptAsShown (content self.old.groups) self.old.state.board }
+        requires names { NamesKnown self.old.groups self.old.state.board }
+        requires room { 3 ≤ self.old.state.room }
+        ensures plan { self.new.state.plan ≡ self.old.state.plan }
+        ensures answers { Answers (spec.finish_row self.old.state.plan self.old.state.board worker number)
+            self.old.state.board (answer_of result) self.new.state.board }
+        ensures groups { Goes (answer_of result) self.old.groups (leg_left (content self.old.groups) number
+            (leg_at self.old.state.plan self.old.state.board number)) self.new.groups }
+        ensures back { OnOk result (self.new.state.back ≡ self.old.state.back) }
+        ensures cell { IfOk result (λ both. RestoresGroups both.1 self.old self.new) }
+    {
+        let play = self.state.counted();
+        let Some(leg) = find_leg(play, number) else {
+            return Err(EventFault::NoSuch);
+        };
+        let place = leg.at.place;
+        let to = finishing_kept(self.alloc, worker, &leg.at, keep(play, &leg))?;
+        let outputs = leg_outputs(self.alloc, &leg.at)?;
+        let stand = leg_stand(leg.at.leg.state);
+        let next = next_after(&self.groups, stand, &leg.at.leg.group);
+        set_ended(&mut self.state, place, number, to, outputs)?;
+        let cell = leave_leg(
+            &mut self.groups,
+            self.state.counted().board(),
+            place,
+            number,
+        );
+        pass_on(&mut self.state, next);
+        Ok((told(next, None, None), cell))
     }
-    stop_run(state, number);
-    Ok(moved())
+
+    /// Ends a run whose jobs have ended, or that never went.
+    pub(crate) fn close(&mut self, number: u64) -> Result<(Reply, Option<CellBack>), EventFault>
+        requires kept { KeptAsShown (content self.old.groups) self.old.state.board }
+        requires names { NamesKnown self.old.groups self.old.state.board }
+        requires room { 2 ≤ self.old.state.room }
+        ensures plan { self.new.state.plan ≡ self.old.state.plan }
+        ensures answers { Answers (spec.close_row self.old.state.plan self.old.state.board number)
+            self.old.state.board (answer_of result) self.new.state.board }
+        ensures groups { Goes (answer_of result) self.old.groups (run_left (content self.old.groups) number
+            (run_at self.old.state.plan self.old.state.board number)) self.new.groups }
+        ensures back { OnOk result (self.new.state.back ≡ self.old.state.back) }
+        ensures cell { IfOk result (λ both. RestoresGroups both.1 self.old self.new) }
+    {
+        let play = self.state.counted();
+        let Some(at) = find_run(play.plan(), play.board(), number as usize) else {
+            return Err(EventFault::NoSuch);
+        };
+        let how = match at.run.state {
+            RunState::New | RunState::Waiting => {
+                if !at.run.stop {
+                    return Err(EventFault::NotStopping);
+                }
+                Outcome::Cancelled
+            },
+            RunState::Going => {
+                if !play.have_jobs_ended(number as usize) {
+                    return Err(EventFault::NeedsOpen);
+                }
+                play.run_result(number as usize, at.run.stop)
+            },
+            RunState::Closed(_) => return Err(EventFault::WrongState),
+        };
+        let stand = run_stand(at.run.state);
+        let next = next_after(&self.groups, stand, &at.run.group);
+        let cell = leave(&mut self.groups, Member::Run(number), &at.run.group);
+        close_run(&mut self.state, number, how);
+        pass_on(&mut self.state, next);
+        Ok((told(next, None, None), cell))
+    }
+
+    /// Tells a run to stop.
+    pub(crate) fn cancel(&mut self, number: u64) -> Result<Reply, EventFault>
+        requires { 1 ≤ self.old.state.room }
+        ensures plan { self.new.state.plan ≡ self.old.state.plan }
+        ensures answers { Answers (spec.cancel_row self.old.state.plan self.old.state.board number)
+            self.old.state.board result self.new.state.board }
+        ensures groups { self.new.groups ≡ self.old.groups }
+        ensures back { OnOk result (self.new.state.back ≡ self.old.state.back) }
+    {
+        let play = self.state.counted();
+        let Some(at) = find_run(play.plan(), play.board(), number as usize) else {
+            return Err(EventFault::NoSuch);
+        };
+        if is_closed(at.run.state) || at.run.stop {
+            return Err(EventFault::WrongState);
+        }
+        stop_run(&mut self.state, number);
+        Ok(moved())
+    }
 }

@@ -10,7 +10,7 @@ ghost use Rattle.expr_value.specs.Answer.{Gives};
 ghost use Rattle.flat_board.specs.Index.{AsksNamed, EntersNamed, Goes, Keeps, entered};
 ghost use Rattle.flat_board.specs.Names.{IsGroup, IsName, group_at};
 ghost use Rattle.flat_board.specs.Stands.{StandsOnlyThere, standing_by};
-ghost use Rattle.flat_board.specs.Undo.{LeadsBack, Leaves};
+ghost use Rattle.flat_board.specs.Undo.{Leaves, RestoresGroups};
 ghost use Rattle.flat_board.specs.declared.groups.Stand.{Stand as StandOf};
 ghost use Rattle.flow_model.specs.declared.board.Board.{Board as BoardOf};
 ghost use Rattle.flow_model.specs.declared.board.Leg.{Leg as LegOf};
@@ -27,6 +27,7 @@ ghost use Rattle.status_table.specs.Groups as spec;
 ghost use Rattle.status_table.specs.Reversible.{answer_of};
 ghost use Rattle.status_table.specs.Row.{leg_enters, run_enters};
 
+use crate::grouped_board::GroupedBoard;
 use crate::members::{admit, close_run, delay, drop_leg, forget_end, note_end, put_out, stop};
 use crate::undo::CellBack;
 use board_counters::Tracked;
@@ -36,7 +37,6 @@ use flow_model::{Board, LegState, Member, Outcome, Reply, RunState, Text, ValueF
 use group_admission::{Groups, Held};
 use status_table::EventFault;
 use status_table::groups::{is_own, moved, stop_told, told};
-use std::alloc::Global;
 
 /// Ends a member cancelled.
 fn cancel(state: &mut Tracked, who: Member) -> Result<Reply, EventFault>
@@ -60,178 +60,6 @@ struct Asked {
     group: Entrance,
 }
 
-/// Lets a member wait for a name that is held, in the place of one that waited.
-#[tactic(auto, using(crate::proofs::Kept::put_out_noted))]
-fn queue(
-    alloc: Global,
-    state: &mut Tracked,
-    groups: &mut Groups,
-    asked: Asked,
-    held: Held,
-) -> Result<(Reply, Option<CellBack>), EventFault>
-    requires named { IsName asked.group.name }
-    requires outside { is_in_group asked.entrant.who (content groups.old) ≡ false }
-    requires held { value_at asked.group.name (content groups.old) ≡ Some held }
-    requires other { spec.is_own asked.entrant.own held.holder ≡ false }
-    requires room { 4 ≤ state.old.room }
-    ensures plan { state.new.plan ≡ state.old.plan }
-    ensures answers { Answers
-        (Ok (spec.queued state.old.board asked.entrant.who asked.group held.holder held.waiter))
-        state.old.board (answer_of result) state.new.board }
-    ensures groups { Goes (answer_of result) groups.old
-        (after_enter asked.group.name asked.entrant.who asked.entrant.own (content groups.old)) groups.new }
-    ensures back { OnOk result (state.new.back ≡ state.old.back) }
-    ensures cell { IfOk result (λ both. LeadsBack both.1
-        state.old.board (content groups.old) (content groups.new)) }
-{
-    let Asked { entrant, group } = asked;
-    note_end(state, held.waiter)?;
-    if groups
-        .enter(group.name.as_str(), entrant.who, entrant.own, group.cancel)
-        .is_err()
-    {
-        forget_end(alloc, state, held.waiter);
-        return Err(EventFault::Memory);
-    }
-    let cancel = group.cancel;
-    delay(state, group.name, entrant.who);
-    put_out(state, held.waiter);
-    stop(state, cancel, held.holder);
-    let reply = told(None, held.waiter, stop_told(cancel, held.holder));
-    let who = entrant.who;
-    let held = Some(held);
-    Ok((reply, Some(CellBack { who, held })))
-}
-
-/// What comes of a member that enters a group, whose name is held so.
-fn enter_held(
-    alloc: Global,
-    state: &mut Tracked,
-    groups: &mut Groups,
-    asked: Asked,
-    held: Held,
-) -> Result<(Reply, Option<CellBack>), EventFault>
-    requires named { IsName asked.group.name }
-    requires outside { is_in_group asked.entrant.who (content groups.old) ≡ false }
-    requires held { value_at asked.group.name (content groups.old) ≡ Some held }
-    requires room { 4 ≤ state.old.room }
-    ensures plan { state.new.plan ≡ state.old.plan }
-    ensures answers { Answers (Ok (spec.enters_held state.old.board asked.entrant.who
-        asked.entrant.own asked.group (Some held.holder) held.waiter))
-        state.old.board (answer_of result) state.new.board }
-    ensures groups { Goes (answer_of result) groups.old
-        (after_enter asked.group.name asked.entrant.who asked.entrant.own (content groups.old)) groups.new }
-    ensures back { OnOk result (state.new.back ≡ state.old.back) }
-    ensures cell { IfOk result (λ both. LeadsBack both.1
-        state.old.board (content groups.old) (content groups.new)) }
-{
-    if is_own(asked.entrant.own, held.holder) {
-        return Ok((cancel(state, asked.entrant.who)?, None));
-    }
-    queue(alloc, state, groups, asked, held)
-}
-
-/// A member enters a group whose name nobody holds.
-fn enter_free(
-    state: &mut Tracked,
-    groups: &mut Groups,
-    asked: Asked,
-) -> Result<(Reply, Option<CellBack>), EventFault>
-    requires named { IsName asked.group.name }
-    requires outside { is_in_group asked.entrant.who (content groups.old) ≡ false }
-    requires free { value_at asked.group.name (content groups.old) ≡ None }
-    requires room { 4 ≤ state.old.room }
-    ensures plan { state.new.plan ≡ state.old.plan }
-    ensures answers { (waited : Option MemberOf) → Answers (Ok (spec.enters_held state.old.board
-        asked.entrant.who asked.entrant.own asked.group None waited))
-        state.old.board (answer_of result) state.new.board }
-    ensures groups { Goes (answer_of result) groups.old
-        (after_enter asked.group.name asked.entrant.who asked.entrant.own (content groups.old)) groups.new }
-    ensures back { OnOk result (state.new.back ≡ state.old.back) }
-    ensures cell { IfOk result (λ both. LeadsBack both.1
-        state.old.board (content groups.old) (content groups.new)) }
-{
-    let Asked { entrant, group } = asked;
-    groups.enter(group.name.as_str(), entrant.who, entrant.own, group.cancel)?;
-    let who = entrant.who;
-    admit(state, Some(group.name), who);
-    Ok((
-        told(Some(who), None, None),
-        Some(CellBack { who, held: None }),
-    ))
-}
-
-/// A member enters its group, or none.
-pub(crate) fn enter(
-    alloc: Global,
-    state: &mut Tracked,
-    groups: &mut Groups,
-    entrant: Entrant,
-    group: Option<Entrance>,
-) -> Result<(Reply, Option<CellBack>), EventFault>
-    requires named { EntersNamed group }
-    requires outside { is_in_group entrant.who (content groups.old) ≡ false }
-    requires kept { KeptAsShown (content groups.old) state.old.board }
-    requires room { 4 ≤ state.old.room }
-    ensures plan { state.new.plan ≡ state.old.plan }
-    ensures answers { Answers (Ok (spec.enters state.old.board entrant.who entrant.own group))
-        state.old.board (answer_of result) state.new.board }
-    ensures groups { Goes (answer_of result) groups.old
-        (entered entrant.who entrant.own group (content groups.old)) groups.new }
-    ensures back { OnOk result (state.new.back ≡ state.old.back) }
-    ensures cell { IfOk result (λ both. LeadsBack both.1
-        state.old.board (content groups.old) (content groups.new)) }
-{
-    let Some(group) = group else {
-        admit(state, None, entrant.who);
-        return Ok((told(Some(entrant.who), None, None), None));
-    };
-    match groups.held(group.name.as_str()) {
-        Some(held) => enter_held(alloc, state, groups, Asked { entrant, group }, held),
-        None => enter_free(state, groups, Asked { entrant, group }),
-    }
-}
-
-/// A run enters its group; a fault of the group's text ends it.
-pub(crate) fn enter_run(
-    alloc: Global,
-    state: &mut Tracked,
-    groups: &mut Groups,
-    number: u64,
-    group: Result<Option<Entrance>, ValueFault>,
-) -> Result<(Reply, Option<CellBack>), EventFault>
-    requires named { AsksNamed group }
-    requires outside { is_in_group (member.Run number) (content groups.old) ≡ false }
-    requires kept { KeptAsShown (content groups.old) state.old.board }
-    requires room { 4 ≤ state.old.room }
-    ensures plan { state.new.plan ≡ state.old.plan }
-    ensures answers { (value : Result (Option EntranceOf) ValueFaultOf)
-        → Gives (λ group. group) group value
-        → Answers (run_enters state.old.board number value)
-        state.old.board (answer_of result) state.new.board }
-    ensures groups { (value : Result (Option EntranceOf) ValueFaultOf)
-        → Gives (λ group. group) group value
-        → Goes (answer_of result) groups.old (opened (content groups.old) number value) groups.new }
-    ensures back { OnOk result (state.new.back ≡ state.old.back) }
-    ensures cell { IfOk result (λ both. LeadsBack both.1
-        state.old.board (content groups.old) (content groups.new)) }
-{
-    match group {
-        Ok(group) => {
-            let entrant = Entrant {
-                who: Member::Run(number),
-                own: None,
-            };
-            enter(alloc, state, groups, entrant, group)
-        },
-        Err(ValueFault::Memory) => Err(EventFault::Memory),
-        Err(faulted!()) => {
-            close_run(state, number, Outcome::Failure);
-            Ok((moved(), None))
-        },
-    }
-}
-
 /// A leg that asks, and the run that it is one of, by their numbers.
 #[derive(Clone, Copy)]
 pub(crate) struct Asker {
@@ -239,44 +67,196 @@ pub(crate) struct Asker {
     pub(crate) run: u64,
 }
 
-/// A leg enters its group; a fault of the group's text ends it with a failure that is not tolerated.
-pub(crate) fn enter_leg(
-    alloc: Global,
-    state: &mut Tracked,
-    groups: &mut Groups,
-    asker: Asker,
-    group: Result<Option<Entrance>, ValueFault>,
-) -> Result<(Reply, Option<CellBack>), EventFault>
-    requires named { AsksNamed group }
-    requires outside { is_in_group (member.Leg asker.leg) (content groups.old) ≡ false }
-    requires kept { KeptAsShown (content groups.old) state.old.board }
-    requires room { 4 ≤ state.old.room }
-    ensures plan { state.new.plan ≡ state.old.plan }
-    ensures answers { (at : LegAt) (value : Result (Option EntranceOf) ValueFaultOf)
-        → at.place.run ≡ asker.run → Gives (λ group. group) group value
-        → Answers (leg_enters state.old.board asker.leg at value)
-        state.old.board (answer_of result) state.new.board }
-    ensures groups { (value : Result (Option EntranceOf) ValueFaultOf)
-        → Gives (λ group. group) group value
-        → Goes (answer_of result) groups.old
-        (asked (content groups.old) asker.leg asker.run value) groups.new }
-    ensures back { OnOk result (state.new.back ≡ state.old.back) }
-    ensures cell { IfOk result (λ both. LeadsBack both.1
-        state.old.board (content groups.old) (content groups.new)) }
-{
-    match group {
-        Ok(group) => {
-            let entrant = Entrant {
-                who: Member::Leg(asker.leg),
-                own: Some(asker.run),
-            };
-            enter(alloc, state, groups, entrant, group)
-        },
-        Err(ValueFault::Memory) => Err(EventFault::Memory),
-        Err(faulted!()) => {
-            drop_leg(state, asker.leg, Outcome::Failure)?;
-            Ok((moved(), None))
-        },
+impl GroupedBoard {
+    /// Lets a member wait for a name that is held, in the place of one that waited.
+    #[tactic(auto, using(crate::proofs::Kept::put_out_noted))]
+    fn queue(&mut self, asked: Asked, held: Held) -> Result<(Reply, Option<CellBack>), EventFault>
+        requires named { IsName asked.group.name }
+        requires outside { is_in_group asked.entrant.who (content self.old.groups) ≡ false }
+        requires held { value_at asked.group.name (content self.old.groups) ≡ Some held }
+        requires other { spec.is_own asked.entrant.own held.holder ≡ false }
+        requires room { 4 ≤ self.old.state.room }
+        ensures plan { self.new.state.plan ≡ self.old.state.plan }
+        ensures answers { Answers
+            (Ok (spec.queued self.old.state.board asked.entrant.who asked.group held.holder held.waiter))
+            self.old.state.board (answer_of result) self.new.state.board }
+        ensures groups { Goes (answer_of result) self.old.groups (after_enter asked.group.name
+            asked.entrant.who asked.entrant.own (content self.old.groups)) self.new.groups }
+        ensures back { OnOk result (self.new.state.back ≡ self.old.state.back) }
+        ensures cell { IfOk result (λ both. RestoresGroups both.1 self.old self.new) }
+    {
+        let Asked { entrant, group } = asked;
+        note_end(&mut self.state, held.waiter)?;
+        if self
+            .groups
+            .enter(group.name.as_str(), entrant.who, entrant.own, group.cancel)
+            .is_err()
+        {
+            forget_end(self.alloc, &mut self.state, held.waiter);
+            return Err(EventFault::Memory);
+        }
+        let cancel = group.cancel;
+        delay(&mut self.state, group.name, entrant.who);
+        put_out(&mut self.state, held.waiter);
+        stop(&mut self.state, cancel, held.holder);
+        let reply = told(None, held.waiter, stop_told(cancel, held.holder));
+        let who = entrant.who;
+        let held = Some(held);
+        Ok((reply, Some(CellBack { who, held })))
+    }
+
+    /// What comes of a member that enters a group, whose name is held so.
+    fn enter_held(
+        &mut self,
+        asked: Asked,
+        held: Held,
+    ) -> Result<(Reply, Option<CellBack>), EventFault>
+        requires named { IsName asked.group.name }
+        requires outside { is_in_group asked.entrant.who (content self.old.groups) ≡ false }
+        requires held { value_at asked.group.name (content self.old.groups) ≡ Some held }
+        requires room { 4 ≤ self.old.state.room }
+        ensures plan { self.new.state.plan ≡ self.old.state.plan }
+        ensures answers { Answers (Ok (spec.enters_held self.old.state.board asked.entrant.who
+            asked.entrant.own asked.group (Some held.holder) held.waiter))
+            self.old.state.board (answer_of result) self.new.state.board }
+        ensures groups { Goes (answer_of result) self.old.groups (after_enter asked.group.name
+            asked.entrant.who asked.entrant.own (content self.old.groups)) self.new.groups }
+        ensures back { OnOk result (self.new.state.back ≡ self.old.state.back) }
+        ensures cell { IfOk result (λ both. RestoresGroups both.1 self.old self.new) }
+    {
+        if is_own(asked.entrant.own, held.holder) {
+            return Ok((cancel(&mut self.state, asked.entrant.who)?, None));
+        }
+        self.queue(asked, held)
+    }
+
+    /// A member enters a group whose name nobody holds.
+    fn enter_free(&mut self, asked: Asked) -> Result<(Reply, Option<CellBack>), EventFault>
+        requires named { IsName asked.group.name }
+        requires outside { is_in_group asked.entrant.who (content self.old.groups) ≡ false }
+        requires free { value_at asked.group.name (content self.old.groups) ≡ None }
+        requires room { 4 ≤ self.old.state.room }
+        ensures plan { self.new.state.plan ≡ self.old.state.plan }
+        ensures answers { (waited : Option MemberOf) → Answers (Ok (spec.enters_held self.old.state.board
+            asked.entrant.who asked.entrant.own asked.group None waited))
+            self.old.state.board (answer_of result) self.new.state.board }
+        ensures groups { Goes (answer_of result) self.old.groups (after_enter asked.group.name
+            asked.entrant.who asked.entrant.own (content self.old.groups)) self.new.groups }
+        ensures back { OnOk result (self.new.state.back ≡ self.old.state.back) }
+        ensures cell { IfOk result (λ both. RestoresGroups both.1 self.old self.new) }
+    {
+        let Asked { entrant, group } = asked;
+        self.groups.enter(group.name.as_str(), entrant.who, entrant.own, group.cancel)?;
+        let who = entrant.who;
+        admit(&mut self.state, Some(group.name), who);
+        Ok((
+            told(Some(who), None, None),
+            Some(CellBack { who, held: None }),
+        ))
+    }
+
+    /// A member enters its group, or none.
+    pub(crate) fn enter(
+        &mut self,
+        entrant: Entrant,
+        group: Option<Entrance>,
+    ) -> Result<(Reply, Option<CellBack>), EventFault>
+        requires named { EntersNamed group }
+        requires outside { is_in_group entrant.who (content self.old.groups) ≡ false }
+        requires kept { KeptAsShown (content self.old.groups) self.old.state.board }
+        requires room { 4 ≤ self.old.state.room }
+        ensures plan { self.new.state.plan ≡ self.old.state.plan }
+        ensures answers { Answers (Ok (spec.enters self.old.state.board entrant.who entrant.own group))
+            self.old.state.board (answer_of result) self.new.state.board }
+        ensures groups { Goes (answer_of result) self.old.groups
+            (entered entrant.who entrant.own group (content self.old.groups)) self.new.groups }
+        ensures back { OnOk result (self.new.state.back ≡ self.old.state.back) }
+        ensures cell { IfOk result (λ both. RestoresGroups both.1 self.old self.new) }
+    {
+        let Some(group) = group else {
+            admit(&mut self.state, None, entrant.who);
+            return Ok((told(Some(entrant.who), None, None), None));
+        };
+        match self.groups.held(group.name.as_str()) {
+            Some(held) => self.enter_held(Asked { entrant, group }, held),
+            None => self.enter_free(Asked { entrant, group }),
+        }
+    }
+
+    /// A run enters its group; a fault of the group's text ends it.
+    pub(crate) fn enter_run(
+        &mut self,
+        number: u64,
+        group: Result<Option<Entrance>, ValueFault>,
+    ) -> Result<(Reply, Option<CellBack>), EventFault>
+        requires named { AsksNamed group }
+        requires outside { is_in_group (member.Run number) (content self.old.groups) ≡ false }
+        requires kept { KeptAsShown (content self.old.groups) self.old.state.board }
+        requires room { 4 ≤ self.old.state.room }
+        ensures plan { self.new.state.plan ≡ self.old.state.plan }
+        ensures answers { (value : Result (Option EntranceOf) ValueFaultOf)
+            → Gives (λ group. group) group value
+            → Answers (run_enters self.old.state.board number value)
+            self.old.state.board (answer_of result) self.new.state.board }
+        ensures groups { (value : Result (Option EntranceOf) ValueFaultOf)
+            → Gives (λ group. group) group value
+            → Goes (answer_of result) self.old.groups
+            (opened (content self.old.groups) number value) self.new.groups }
+        ensures back { OnOk result (self.new.state.back ≡ self.old.state.back) }
+        ensures cell { IfOk result (λ both. RestoresGroups both.1 self.old self.new) }
+    {
+        match group {
+            Ok(group) => {
+                let entrant = Entrant {
+                    who: Member::Run(number),
+                    own: None,
+                };
+                self.enter(entrant, group)
+            },
+            Err(ValueFault::Memory) => Err(EventFault::Memory),
+            Err(faulted!()) => {
+                close_run(&mut self.state, number, Outcome::Failure);
+                Ok((moved(), None))
+            },
+        }
+    }
+
+    /// A leg enters its group; a fault of the group's text ends it with a failure that is not tolerated.
+    pub(crate) fn enter_leg(
+        &mut self,
+        asker: Asker,
+        group: Result<Option<Entrance>, ValueFault>,
+    ) -> Result<(Reply, Option<CellBack>), EventFault>
+        requires named { AsksNamed group }
+        requires outside { is_in_group (member.Leg asker.leg) (content self.old.groups) ≡ false }
+        requires kept { KeptAsShown (content self.old.groups) self.old.state.board }
+        requires room { 4 ≤ self.old.state.room }
+        ensures plan { self.new.state.plan ≡ self.old.state.plan }
+        ensures answers { (at : LegAt) (value : Result (Option EntranceOf) ValueFaultOf)
+            → at.place.run ≡ asker.run → Gives (λ group. group) group value
+            → Answers (leg_enters self.old.state.board asker.leg at value)
+            self.old.state.board (answer_of result) self.new.state.board }
+        ensures groups { (value : Result (Option EntranceOf) ValueFaultOf)
+            → Gives (λ group. group) group value
+            → Goes (answer_of result) self.old.groups
+            (asked (content self.old.groups) asker.leg asker.run value) self.new.groups }
+        ensures back { OnOk result (self.new.state.back ≡ self.old.state.back) }
+        ensures cell { IfOk result (λ both. RestoresGroups both.1 self.old self.new) }
+    {
+        match group {
+            Ok(group) => {
+                let entrant = Entrant {
+                    who: Member::Leg(asker.leg),
+                    own: Some(asker.run),
+                };
+                self.enter(entrant, group)
+            },
+            Err(ValueFault::Memory) => Err(EventFault::Memory),
+            Err(faulted!()) => {
+                drop_leg(&mut self.state, asker.leg, Outcome::Failure)?;
+                Ok((moved(), None))
+            },
+        }
     }
 }
 

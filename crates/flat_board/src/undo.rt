@@ -8,9 +8,10 @@ ghost use Rattle.flow_model.specs.declared.event.Member.TheVariants as member;
 ghost use Rattle.group_admission.specs.Content.{EachOnce};
 ghost use Rattle.group_admission.specs.Known.{content};
 
-use board_counters::{Changes, Counted, OnlyChange, Tracked};
+use crate::grouped_board::GroupedBoard;
+use board_counters::{Changes, Counted, OnlyChange};
 use board_decisions::place::{LegPlace, leg_there};
-use flow_model::{Board, LegState, Member, Text};
+use flow_model::{Board, Member, Text};
 use group_admission::{Groups, Held};
 use std::alloc::{AllocError, Global};
 
@@ -35,10 +36,8 @@ pub struct EntryBack {
 /// What takes one entry back.
 #[derive(Drop)]
 pub enum Undo {
-    /// A leg comes into a state. This has no memory of its own.
-    State(LegPlace, LegState),
-    /// The last step of a leg is taken off, and the leg comes into a state. This has none either.
-    Step(LegPlace, LegState),
+    /// The only change of an entry.
+    Only(OnlyChange),
     /// All that an entry changed.
     Entry(Box<EntryBack>),
 }
@@ -53,49 +52,6 @@ pub(crate) fn make_back(alloc: Global) -> Result<Box<EntryBack>, AllocError> {
             cell: None,
         },
     )?)
-}
-
-/// All that was changed since the board last began, with what was held of the name that was asked for.
-fn undo_all(
-    alloc: Global,
-    state: &mut Tracked,
-    back: Box<EntryBack>,
-    cell: Option<CellBack>,
-) -> Undo
-    ensures plan { state.new.plan ≡ state.old.plan }
-    ensures board { state.new.board ≡ state.old.board }
-    ensures back { board_before result state.new.board ≡ state.old.back }
-    ensures cell { cell_of result ≡ cell }
-{
-    let mut back = back;
-    *back = EntryBack {
-        changes: state.take_changes(alloc),
-        cell,
-    };
-    Undo::Entry(back)
-}
-
-/// What takes back what was played since the board last began, in the room that is there: by itself, where that is one
-/// change of a leg, and no name was asked for.
-pub(crate) fn undo_of(
-    alloc: Global,
-    state: &mut Tracked,
-    back: Box<EntryBack>,
-    cell: Option<CellBack>,
-) -> Undo
-    ensures plan { state.new.plan ≡ state.old.plan }
-    ensures board { state.new.board ≡ state.old.board }
-    ensures back { board_before result state.new.board ≡ state.old.back }
-    ensures cell { cell_of result ≡ cell }
-{
-    if let Some(cell) = cell {
-        return undo_all(alloc, state, back, Some(cell));
-    }
-    match state.take_only() {
-        Some(OnlyChange::State(place, leg_state)) => Undo::State(place, leg_state),
-        Some(OnlyChange::Step(place, leg_state)) => Undo::Step(place, leg_state),
-        None => undo_all(alloc, state, back, None),
-    }
 }
 
 /// The name of a group, if it has one.
@@ -143,7 +99,7 @@ fn name_at(state: &Counted, who: Member) -> Option<&str>
 }
 
 /// Puts a name back, where one was asked for: it stands on the board after the entry.
-pub(crate) fn put_back(groups: &mut Groups, state: &Counted, cell: Option<CellBack>)
+fn put_back(groups: &mut Groups, state: &Counted, cell: Option<CellBack>)
     requires { EachOnce (content (groups_put_back cell state.now.board groups.old)) }
     ensures { groups.new ≡ groups_put_back cell state.now.board groups.old }
 {
@@ -155,27 +111,62 @@ pub(crate) fn put_back(groups: &mut Groups, state: &Counted, cell: Option<CellBa
 }
 
 /// What was held before an entry of the name that it asked for.
-pub(crate) fn cell_back(undo: &Undo) -> Option<CellBack>
+fn cell_back(undo: &Undo) -> Option<CellBack>
     ensures { result ≡ cell_of undo.now }
 {
     match undo {
-        Undo::State(..) | Undo::Step(..) => None,
+        Undo::Only(_) => None,
         Undo::Entry(back) => back.cell,
     }
 }
 
-/// Takes the changes of an entry back.
-pub(crate) fn take_back(alloc: Global, state: &mut Tracked, undo: Undo)
-    ensures plan { state.new.plan ≡ state.old.plan }
-    ensures board { state.new.board ≡ board_before undo state.old.board }
-{
-    match undo {
-        Undo::State(place, leg_state) => {
-            state.revert_only(alloc, OnlyChange::State(place, leg_state));
-        },
-        Undo::Step(place, leg_state) => {
-            state.revert_only(alloc, OnlyChange::Step(place, leg_state));
-        },
-        Undo::Entry(back) => state.revert(alloc, Box::into_inner(back).changes),
+impl GroupedBoard {
+    /// All that was changed since the board last began, with what was held of the name that was asked for.
+    fn undo_all(&mut self, back: Box<EntryBack>, cell: Option<CellBack>) -> Undo
+        ensures plan { self.new.state.plan ≡ self.old.state.plan }
+        ensures board { self.new.state.board ≡ self.old.state.board }
+        ensures groups { self.new.groups ≡ self.old.groups }
+        ensures back { board_before result self.new.state.board ≡ self.old.state.back }
+        ensures cell { cell_of result ≡ cell }
+    {
+        let mut back = back;
+        *back = EntryBack {
+            changes: self.state.take_changes(self.alloc),
+            cell,
+        };
+        Undo::Entry(back)
+    }
+
+    /// What takes back what was played since the board last began, in the room that is there: by itself, where
+    /// that is one change of a leg, and no name was asked for.
+    pub(crate) fn undo_of(&mut self, back: Box<EntryBack>, cell: Option<CellBack>) -> Undo
+        ensures plan { self.new.state.plan ≡ self.old.state.plan }
+        ensures board { self.new.state.board ≡ self.old.state.board }
+        ensures groups { self.new.groups ≡ self.old.groups }
+        ensures back { board_before result self.new.state.board ≡ self.old.state.back }
+        ensures cell { cell_of result ≡ cell }
+    {
+        if let Some(cell) = cell {
+            return self.undo_all(back, Some(cell));
+        }
+        match self.state.take_only() {
+            Some(only) => Undo::Only(only),
+            None => self.undo_all(back, None),
+        }
+    }
+
+    /// Takes an entry back.
+    pub(crate) fn take_back(&mut self, undo: Undo)
+        requires { EachOnce (content (groups_put_back (cell_of undo) self.old.state.board self.old.groups)) }
+        ensures plan { self.new.state.plan ≡ self.old.state.plan }
+        ensures board { self.new.state.board ≡ board_before undo self.old.state.board }
+        ensures groups { self.new.groups
+            ≡ groups_put_back (cell_of undo) self.old.state.board self.old.groups }
+    {
+        put_back(&mut self.groups, self.state.counted(), cell_back(&undo));
+        match undo {
+            Undo::Only(only) => self.state.revert_only(self.alloc, only),
+            Undo::Entry(back) => self.state.revert(self.alloc, Box::into_inner(back).changes),
+        }
     }
 }

@@ -5,4 +5,4 @@ use Rattle.status_table.specs.Play.{Play}
 use Rattle.flat_board.proofs.flat_board.FlatBoard.board.Goals as goal
 
 pub returns-clause-named : goal.returns-clause-named
-returns-clause-named c = subst (λ (s : Play). IsNamed s.board) c.self.view_is (board_named c.self.inside.groups c.self.inside.state.board c.self.invariant.names)
+returns-clause-named c = subst (λ (s : Play). IsNamed s.board) c.self.view_is (board_named c.self.inside.play.groups c.self.inside.play.state.board c.self.invariant.names)

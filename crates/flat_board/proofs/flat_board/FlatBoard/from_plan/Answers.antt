@@ -1,7 +1,6 @@
 use Rattle.std.proofs.Common.{ap, subst, ◌∙◌}
 use Rattle.flow_model.specs.Rules.{IsPlan}
 use Rattle.flow_model.specs.Sound.{SoundPlan}
-use Rattle.board_counters.specs.Track.{play_of}
 use Rattle.flat_board.proofs.Playing.{new_sound}
 use Rattle.status_table.specs.Play.{Play}
 use Rattle.flat_board.proofs.flat_board.FlatBoard.from_plan.Goals as goal
@@ -9,5 +8,5 @@ use Rattle.flat_board.proofs.flat_board.FlatBoard.from_plan.Goals as goal
 pub invariant_of-result : goal.invariant_of-result
 invariant_of-result c =
     let same = c.plan-plan.ensures.same ∙ ap (λ (s : Play). s.plan) (c.counted.ensures ∙ c.in_ok-state.ensures) in
-    new_sound c.args.plan (play_of c.in_ok-state.state) c.new-groups.result (subst IsPlan same c.plan-plan.ensures.sound) (subst SoundPlan same c.plan-plan.ensures.rules)
+    new_sound c.args.plan (record { state = c.in_ok-state.state; groups = c.new-groups.result; alloc = c.args.alloc }) (subst IsPlan same c.plan-plan.ensures.sound) (subst SoundPlan same c.plan-plan.ensures.rules)
     c.in_ok-state.ensures c.new-groups.ensures

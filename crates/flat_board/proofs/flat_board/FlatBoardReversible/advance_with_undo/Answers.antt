@@ -1,6 +1,5 @@
 use Rattle.std.proofs.Common.{◌≡◌, subst}
 use Rattle.std.specs.Prelude.{IfOk}
-use Rattle.board_counters.specs.Track.{play_of}
 use Rattle.flat_board.proofs.Back.{fits_unasked}
 use Rattle.flat_board.proofs.Playing.{plays_unasked, sound_after, stays_after}
 use Rattle.flat_board.proofs.flat_board.FlatBoardReversible.advance_with_undo.Goals as goal
@@ -14,37 +13,33 @@ use Rattle.status_table.proofs.Ended.{stays-same}
 pub invariant_of-self : goal.invariant_of-self
 invariant_of-self c =
     let follows = c.advance_with_undo.ensures.follows in
-    sound_after c.events_keep_the_groups.ensures (play_of c.self.inside.state) (play_of c.advance_with_undo.new.state) c.self.inside.groups c.advance_with_undo.new.groups
-    c.args.entry.worker c.args.entry.event c.if-entry-gt15.false c.self.invariant follows.answer follows.follows
+    sound_after c.events_keep_the_groups.ensures c.self.inside.play c.advance_with_undo.new.self c.args.entry.worker c.args.entry.event c.if-entry-gt15.false c.self.invariant follows.answer follows.follows
 
 pub returns-clause-plays : goal.returns-clause-plays
 returns-clause-plays c =
-    subst (λ (s : Play). Plays s.plan s.board c.args.entry (done_of c.advance_with_undo.result) c.advance_with_undo.new.state.board) c.self.view_is
-    (plays_unasked (play_of c.self.inside.state) (play_of c.advance_with_undo.new.state) c.self.inside.groups c.advance_with_undo.new.groups c.args.entry
+    subst (λ (s : Play). Plays s.plan s.board c.args.entry (done_of c.advance_with_undo.result) c.advance_with_undo.new.self.state.board) c.self.view_is
+    (plays_unasked c.self.inside.play c.advance_with_undo.new.self c.args.entry
     (done_of c.advance_with_undo.result) c.if-entry-gt15.false c.advance_with_undo.ensures.follows)
 
 pub returns-clause-in_play : goal.returns-clause-in_play
 returns-clause-in_play c =
     let follows = c.advance_with_undo.ensures.follows in
-    (sound_after c.events_keep_the_groups.ensures (play_of c.self.inside.state) (play_of c.advance_with_undo.new.state) c.self.inside.groups c.advance_with_undo.new.groups
-    c.args.entry.worker c.args.entry.event c.if-entry-gt15.false c.self.invariant follows.answer follows.follows).in_play
+    (sound_after c.events_keep_the_groups.ensures c.self.inside.play c.advance_with_undo.new.self c.args.entry.worker c.args.entry.event c.if-entry-gt15.false c.self.invariant follows.answer follows.follows).in_play
 
 pub returns-clause-ended_stays : goal.returns-clause-ended_stays
 returns-clause-ended_stays c =
     let follows = c.advance_with_undo.ensures.follows in
-    subst (λ (s : Play). Stays s.board c.advance_with_undo.new.state.board) c.self.view_is
-    (stays_after c.events_keep_the_groups.ensures (play_of c.self.inside.state) (play_of c.advance_with_undo.new.state) c.self.inside.groups c.advance_with_undo.new.groups
-    c.args.entry.worker c.args.entry.event c.if-entry-gt15.false c.self.invariant follows.answer follows.follows)
+    subst (λ (s : Play). Stays s.board c.advance_with_undo.new.self.state.board) c.self.view_is
+    (stays_after c.events_keep_the_groups.ensures c.self.inside.play c.advance_with_undo.new.self c.args.entry.worker c.args.entry.event c.if-entry-gt15.false c.self.invariant follows.answer follows.follows)
 
 pub returns-clause-fits : goal.returns-clause-fits
 returns-clause-fits c =
-    fits_unasked c.events_keep_the_groups.ensures (play_of c.self.inside.state) (play_of c.advance_with_undo.new.state) c.self.inside.groups c.advance_with_undo.new.groups
-    c.args.entry.worker c.args.entry.event c.if-entry-gt15.false c.self.invariant c.advance_with_undo.result c.advance_with_undo.ensures.follows
+    fits_unasked c.events_keep_the_groups.ensures c.self.inside.play c.advance_with_undo.new.self c.args.entry.worker c.args.entry.event c.if-entry-gt15.false c.self.invariant c.advance_with_undo.result c.advance_with_undo.ensures.follows
     c.advance_with_undo.ensures.back c.advance_with_undo.ensures.cell
 
 pub returns-clause-before : goal.returns-clause-before
 returns-clause-before c =
-    subst (λ (s : Play). IfOk c.advance_with_undo.result (λ undo. board_before undo c.advance_with_undo.new.state.board ≡ s.board)) c.self.view_is c.advance_with_undo.ensures.back
+    subst (λ (s : Play). IfOk c.advance_with_undo.result (λ undo. board_before undo c.advance_with_undo.new.self.state.board ≡ s.board)) c.self.view_is c.advance_with_undo.ensures.back
 
 pub returns-then-entry-gt15-clause-ended_stays : goal.returns-then-entry-gt15-clause-ended_stays
 returns-then-entry-gt15-clause-ended_stays c = stays-same c.args.self.now.board

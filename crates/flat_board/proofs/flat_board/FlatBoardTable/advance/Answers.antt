@@ -1,5 +1,4 @@
 use Rattle.std.proofs.Common.{subst}
-use Rattle.board_counters.specs.Track.{play_of}
 use Rattle.flat_board.proofs.Playing.{plays_unasked, sound_after, stays_after}
 use Rattle.status_table.specs.Play.{Play}
 use Rattle.status_table.specs.Runs.{Plays}
@@ -10,27 +9,24 @@ use Rattle.flat_board.proofs.flat_board.FlatBoardTable.advance.Goals as goal
 pub invariant_of-self : goal.invariant_of-self
 invariant_of-self c =
     let follows = c.advance_event.ensures.follows in
-    sound_after c.events_keep_the_groups.ensures (play_of c.self.inside.state) (play_of c.advance_event.new.state) c.self.inside.groups c.advance_event.new.groups c.args.entry.worker
-    c.args.entry.event c.if-entry-gt15.false c.self.invariant follows.answer follows.follows
+    sound_after c.events_keep_the_groups.ensures c.self.inside.play c.advance_event.new.self c.args.entry.worker c.args.entry.event c.if-entry-gt15.false c.self.invariant follows.answer follows.follows
 
 pub returns-clause-plays : goal.returns-clause-plays
 returns-clause-plays c =
-    subst (λ (s : Play). Plays s.plan s.board c.args.entry c.advance_event.result c.advance_event.new.state.board) c.self.view_is
-    (plays_unasked (play_of c.self.inside.state) (play_of c.advance_event.new.state) c.self.inside.groups c.advance_event.new.groups c.args.entry
+    subst (λ (s : Play). Plays s.plan s.board c.args.entry c.advance_event.result c.advance_event.new.self.state.board) c.self.view_is
+    (plays_unasked c.self.inside.play c.advance_event.new.self c.args.entry
     c.advance_event.result c.if-entry-gt15.false c.advance_event.ensures.follows)
 
 pub returns-clause-in_play : goal.returns-clause-in_play
 returns-clause-in_play c =
     let follows = c.advance_event.ensures.follows in
-    (sound_after c.events_keep_the_groups.ensures (play_of c.self.inside.state) (play_of c.advance_event.new.state) c.self.inside.groups c.advance_event.new.groups c.args.entry.worker
-    c.args.entry.event c.if-entry-gt15.false c.self.invariant follows.answer follows.follows).in_play
+    (sound_after c.events_keep_the_groups.ensures c.self.inside.play c.advance_event.new.self c.args.entry.worker c.args.entry.event c.if-entry-gt15.false c.self.invariant follows.answer follows.follows).in_play
 
 pub returns-clause-ended_stays : goal.returns-clause-ended_stays
 returns-clause-ended_stays c =
     let follows = c.advance_event.ensures.follows in
-    subst (λ (s : Play). Stays s.board c.advance_event.new.state.board) c.self.view_is
-    (stays_after c.events_keep_the_groups.ensures (play_of c.self.inside.state) (play_of c.advance_event.new.state) c.self.inside.groups c.advance_event.new.groups c.args.entry.worker
-    c.args.entry.event c.if-entry-gt15.false c.self.invariant follows.answer follows.follows)
+    subst (λ (s : Play). Stays s.board c.advance_event.new.self.state.board) c.self.view_is
+    (stays_after c.events_keep_the_groups.ensures c.self.inside.play c.advance_event.new.self c.args.entry.worker c.args.entry.event c.if-entry-gt15.false c.self.invariant follows.answer follows.follows)
 
 pub returns-then-entry-gt15-clause-ended_stays : goal.returns-then-entry-gt15-clause-ended_stays
 returns-then-entry-gt15-clause-ended_stays c = stays-same c.args.self.now.board

@@ -6,7 +6,7 @@ use Rattle.status_table.specs.Play.{Play}
 use Rattle.flat_board.proofs.Named.{given_named, run_asks}
 use Rattle.flat_board.proofs.Reached.{opens_outside}
 use Rattle.group_admission.specs.Known.{content}
-use Rattle.flat_board.proofs.events.open.Goals as goal
+use Rattle.flat_board.proofs.grouped_board.GroupedBoard.open.Goals as goal
 
 pub enter_run-requires-clause-named : goal.enter_run-requires-clause-named
 enter_run-requires-clause-named c =
@@ -14,6 +14,6 @@ enter_run-requires-clause-named c =
 
 pub enter_run-requires-clause-outside : goal.enter_run-requires-clause-outside
 enter_run-requires-clause-outside c =
-    opens_outside c.who_enters_is_outside.ensures c.args.state.now.plan c.args.state.now.board (content c.args.groups.now) c.args.number (run_seen c.in-Some.at) c.requires.kept
+    opens_outside c.who_enters_is_outside.ensures c.args.self.now.state.plan c.args.self.now.state.board (content c.args.self.now.groups) c.args.number (run_seen c.in-Some.at) c.requires.kept
     (subst (λ (s : Play). run_at s.plan s.board c.args.number ≡ Some (run_seen c.in-Some.at)) c.counted-play.ensures
     ((λ i. run_at (sym c.plan.ensures.same i) (sym c.board.ensures i) c.args.number) ∙ sym c.in-Some.ensures)) c.in-New-false.is-0 c.in-New-false.is-1

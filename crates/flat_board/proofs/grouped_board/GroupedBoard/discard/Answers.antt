@@ -6,23 +6,23 @@ use Rattle.status_table.specs.Play.{Play}
 use Rattle.flat_board.proofs.Leaving.{dropped_has_left}
 use Rattle.flat_board.proofs.Reached.{leg_found_named}
 use Rattle.group_admission.specs.Known.{content}
-use Rattle.flat_board.proofs.events.discard.Goals as goal
+use Rattle.flat_board.proofs.grouped_board.GroupedBoard.discard.Goals as goal
 
 pub next_after-next-requires : goal.next_after-next-requires
 next_after-next-requires c =
     let at = leg_seen c.in-Some.leg.at in
     let found = subst (λ (s : Play). leg_at s.plan s.board c.args.number ≡ Some at) c.counted.ensures (sym c.in-Some.ensures.found) in
-    leg_found_named c.args.state.now.plan c.args.state.now.board c.args.groups.now c.args.number at c.requires.names found
+    leg_found_named c.args.self.now.state.plan c.args.self.now.state.board c.args.self.now.groups c.args.number at c.requires.names found
 
 pub returns-clause-groups : goal.returns-clause-groups
 returns-clause-groups c =
     let at = leg_seen c.in-Some.leg.at in
     let found = subst (λ (s : Play). leg_at s.plan s.board c.args.number ≡ Some at) c.counted.ensures (sym c.in-Some.ensures.found) in
     record {
-      held = (dropped_has_left c.args.state.now.plan c.args.state.now.board (content c.args.groups.now) c.args.number at c.requires.kept found
+      held = (dropped_has_left c.args.self.now.state.plan c.args.self.now.state.board (content c.args.self.now.groups) c.args.number at c.requires.kept found
           c.leg_stand-stand.result c.leg_stand-stand.ensures c.board.result.now c.leave_leg-cell.result (content c.leave_leg-cell.new.groups)
-          (leg_found_named c.args.state.now.plan c.args.state.now.board c.args.groups.now c.args.number at c.requires.names found) (c.leave_leg-cell.ensures.leaves c.args.state.now.board) _
-          (c.board.ensures ∙ ap (λ (s : Play). s.board) c.counted-2.ensures ∙ c.in_ok-drop_leg.ensures.ok)).to ∙ ap (leg_left (content c.args.groups.now) c.args.number) (sym found);
+          (leg_found_named c.args.self.now.state.plan c.args.self.now.state.board c.args.self.now.groups c.args.number at c.requires.names found) (c.leave_leg-cell.ensures.leaves c.args.self.now.state.board) _
+          (c.board.ensures ∙ ap (λ (s : Play). s.board) c.counted-2.ensures ∙ c.in_ok-drop_leg.ensures.ok)).to ∙ ap (leg_left (content c.args.self.now.groups) c.args.number) (sym found);
       known = c.leave_leg-cell.ensures.known;
     }
 
@@ -30,7 +30,7 @@ pub returns-clause-cell : goal.returns-clause-cell
 returns-clause-cell c =
     let at = leg_seen c.in-Some.leg.at in
     let found = subst (λ (s : Play). leg_at s.plan s.board c.args.number ≡ Some at) c.counted.ensures (sym c.in-Some.ensures.found) in
-    (dropped_has_left c.args.state.now.plan c.args.state.now.board (content c.args.groups.now) c.args.number at c.requires.kept found
+    (dropped_has_left c.args.self.now.state.plan c.args.self.now.state.board (content c.args.self.now.groups) c.args.number at c.requires.kept found
     c.leg_stand-stand.result c.leg_stand-stand.ensures c.board.result.now c.leave_leg-cell.result (content c.leave_leg-cell.new.groups)
-    (leg_found_named c.args.state.now.plan c.args.state.now.board c.args.groups.now c.args.number at c.requires.names found) (c.leave_leg-cell.ensures.leaves c.args.state.now.board) _
+    (leg_found_named c.args.self.now.state.plan c.args.self.now.state.board c.args.self.now.groups c.args.number at c.requires.names found) (c.leave_leg-cell.ensures.leaves c.args.self.now.state.board) _
     (c.board.ensures ∙ ap (λ (s : Play). s.board) c.counted-2.ensures ∙ c.in_ok-drop_leg.ensures.ok)).back

@@ -3,12 +3,12 @@ use Rattle.expr_reader.specs.Fold.{fold}
 use Rattle.flat_board.proofs.Index.{free_back}
 use Rattle.group_admission.specs.Content.{after_enter}
 use Rattle.group_admission.specs.Known.{content}
-use Rattle.flat_board.proofs.groups.enter_free.Goals as goal
+use Rattle.flat_board.proofs.grouped_board.GroupedBoard.enter_free.Goals as goal
 
 pub returns-clause-cell : goal.returns-clause-cell
 returns-clause-cell c =
     let entrant = c.args.asked.entrant in
-    let groups = content c.args.groups.now in
+    let groups = content c.args.self.now.groups in
     let named = c.requires.named in
-    free_back c.args.state.now.board c.args.asked.group.name entrant.who entrant.own groups (content c.enter.new.self) named c.requires.free
+    free_back c.args.self.now.state.board c.args.asked.group.name entrant.who entrant.own groups (content c.enter.new.self) named c.requires.free
     (c.in_ok-enter.ensures.ok ∙ ap (λ n. after_enter n entrant.who entrant.own groups) (ap fold c.as_str.ensures ∙ named.folded))

@@ -9,24 +9,24 @@ use Rattle.status_table.specs.Answers.{Answers}
 use Rattle.status_table.specs.Groups.{Done, holder, waiter, enters_held, enters}
 use Rattle.status_table.specs.Reversible.{answer_of}
 use Rattle.group_admission.specs.Known.{content}
-use Rattle.flat_board.proofs.groups.enter.Goals as goal
+use Rattle.flat_board.proofs.grouped_board.GroupedBoard.enter.Goals as goal
 
 pub enter_held-requires-clause-held : goal.enter_held-requires-clause-held
 enter_held-requires-clause-held c =
-    let groups = content c.args.groups.now in
+    let groups = content c.args.self.now.groups in
     let named = subst EntersNamed c.in-Some.is c.requires.named in
     ap (λ n. value_at n groups) (sym (ap fold c.as_str.ensures ∙ named.folded)) ∙ sym c.held.ensures ∙ c.in-Some-held.is
 
 pub enter_free-requires-clause-free : goal.enter_free-requires-clause-free
 enter_free-requires-clause-free c =
-    let groups = content c.args.groups.now in
+    let groups = content c.args.self.now.groups in
     let named = subst EntersNamed c.in-Some.is c.requires.named in
     ap (λ n. value_at n groups) (sym (ap fold c.as_str.ensures ∙ named.folded)) ∙ sym c.held.ensures ∙ c.in-None.is
 
 pub returns-in-Some-held-clause-answers : goal.returns-in-Some-held-clause-answers
 returns-in-Some-held-clause-answers c =
-    let b = c.args.state.now.board in
-    let groups = content c.args.groups.now in
+    let b = c.args.self.now.state.board in
+    let groups = content c.args.self.now.groups in
     let group = c.in-Some.group in
     let named = subst EntersNamed c.in-Some.is c.requires.named in
     let there : Some c.in-Some-held.held ≡ value_at group.name groups =
@@ -37,12 +37,12 @@ returns-in-Some-held-clause-answers c =
     ap (option_and_then (λ (h : Held). h.waiter)) there ∙ c.requires.kept.shown.waiter group.name named.some in
     let same : ◌≡◌ {A = Done} (enters_held b c.args.entrant.who c.args.entrant.own group (Some c.in-Some-held.held.holder) c.in-Some-held.held.waiter) (enters b c.args.entrant.who c.args.entrant.own c.args.group) =
     (λ i. enters_held b c.args.entrant.who c.args.entrant.own group (held i) (waited i)) ∙ ap (enters b c.args.entrant.who c.args.entrant.own) (sym c.in-Some.is) in
-    subst (λ (d : Done). Answers (Ok d) b (answer_of c.enter_held.result) c.enter_held.new.state.board) same c.enter_held.ensures.answers
+    subst (λ (d : Done). Answers (Ok d) b (answer_of c.enter_held.result) c.enter_held.new.self.state.board) same c.enter_held.ensures.answers
 
 pub returns-in-None-clause-answers : goal.returns-in-None-clause-answers
 returns-in-None-clause-answers c =
-    let b = c.args.state.now.board in
-    let groups = content c.args.groups.now in
+    let b = c.args.self.now.state.board in
+    let groups = content c.args.self.now.groups in
     let group = c.in-Some.group in
     let named = subst EntersNamed c.in-Some.is c.requires.named in
     let there : ◌≡◌ {A = Option Held} None (value_at group.name groups) =
@@ -51,4 +51,4 @@ returns-in-None-clause-answers c =
     ap (option_map (λ (h : Held). h.holder)) there ∙ c.requires.kept.shown.holder group.name named.some in
     let same : ◌≡◌ {A = Done} (enters_held b c.args.entrant.who c.args.entrant.own group None (waiter b group.name)) (enters b c.args.entrant.who c.args.entrant.own c.args.group) =
     (λ i. enters_held b c.args.entrant.who c.args.entrant.own group (held i) (waiter b group.name)) ∙ ap (enters b c.args.entrant.who c.args.entrant.own) (sym c.in-Some.is) in
-    subst (λ (d : Done). Answers (Ok d) b (answer_of c.enter_free.result) c.enter_free.new.state.board) same (c.enter_free.ensures.answers (waiter b group.name))
+    subst (λ (d : Done). Answers (Ok d) b (answer_of c.enter_free.result) c.enter_free.new.self.state.board) same (c.enter_free.ensures.answers (waiter b group.name))
