@@ -3,6 +3,7 @@
 use denote.Param.Send.{IsSend, sendable}
 use Rattle.board_decisions.proofs.kept.Calls.TheSendSync as calls
 use Rattle.flat_board.specs.contracts.flat_board.FlatBoard as FlatBoard
+use Rattle.flat_board.specs.contracts.grouped_board.GroupedBoard as GroupedBoard
 use Rattle.board_counters.proofs.need.Need.TheSendSync as need
 use Rattle.board_counters.proofs.standing.RunTally.TheSendSync as run_tally
 use Rattle.board_counters.proofs.stopping.RunLegs.TheSendSync as run_legs
@@ -72,5 +73,8 @@ counted_crosses = search (checked_plan_crosses, counts_crosses, lasting_crosses,
 pub tracked_crosses : IsSend Tracked.the_row
 tracked_crosses = search (counted_crosses, change.the_field_send, std.crosses, sendable) depth 60 fits 20000
 
+pub grouped_board_crosses : IsSend GroupedBoard.the_field.row
+grouped_board_crosses = search (tracked_crosses, groups.the_send, std.crosses, sendable) depth 60 fits 20000
+
 pub flat_board_crosses : IsSend FlatBoard.the_row
-flat_board_crosses = search (tracked_crosses, groups.the_send, std.crosses, sendable) depth 60 fits 20000
+flat_board_crosses = search (grouped_board_crosses, sendable) depth 60 fits 20000
