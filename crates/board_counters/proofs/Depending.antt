@@ -1,9 +1,9 @@
 -- The jobs that need another, noted one after the other.
-use Rattle.std.proofs.Common.{◌≡◌, ◌≢◌, ℕ, zero, suc, ◌-◌, ◌+◌, ◌==◌, Bool, true, false, List, [], ◌∷◌, ◌++◌, Option, Some, None, length, slice_get, map, option_map, replicate, append_assoc, ap, sym, refl, ◌∙◌, arith}
+use Rattle.std.proofs.Common.{◌≡◌, ◌≢◌, ℕ, zero, suc, ◌-◌, ◌+◌, ◌==◌, Bool, true, false, List, [], ◌∷◌, ◌++◌, Option, Some, None, length, slice_get, map, option_map, replicate, append-nil, append_assoc, ap, sym, refl, ◌∙◌, arith}
 use Rattle.std.proofs.lemmas.Bool.Decides.{nat_tests}
 use Rattle.std.proofs.lemmas.List.Sums.{sum_by-cons}
 use Rattle.std.proofs.lemmas.Option.{slice_get-map}
-use Rattle.board_decisions.proofs.Lists.{same_some, no_some}
+use Rattle.board_decisions.proofs.Lists.{same_some}
 use Rattle.board_decisions.specs.Places.{sizes}
 use Rattle.board_counters.specs.Counters.{first_number}
 use Rattle.board_counters.specs.Dependents.{all_noted, dependents_each, dependents_from, dependents_of, noted, times_named}
@@ -22,11 +22,7 @@ with more o = option_map (λ list. list ++ more) o
 
 with-nothing : (o : Option (List ℕ)) → o ≡ with [] o
 with-nothing None = refl
-with-nothing (Some list) = ap (λ xs. Some xs) (nothing list)
-  where
-    nothing : (xs : List ℕ) → xs ≡ xs ++ []
-    nothing [] = refl
-    nothing (x ∷ xs) = ap (λ ys. x ∷ ys) (nothing xs)
+with-nothing (Some list) = ap (λ xs. Some xs) (sym (append-nil list))
 
 with-both : (xs ys : List ℕ) (o : Option (List ℕ)) → with ys (with xs o) ≡ with (xs ++ ys) o
 with-both xs ys None = refl
@@ -83,9 +79,8 @@ dependents_there plans counts i =
 -- lists are equal that have the same item at each place
 each-same : {A : Type 0} (xs ys : List A) → ((i : ℕ) → slice_get xs i ≡ slice_get ys i) → xs ≡ ys
 each-same [] [] same = refl
-each-same [] (y ∷ ys) same = absurd (no_some y (same 0))
-each-same (x ∷ xs) [] same = absurd (no_some x (sym (same 0)))
 each-same {A} (x ∷ xs) (y ∷ ys) same = ap (λ (z : A). z ∷ xs) (same_some x y (same 0)) ∙ ap (λ (zs : List A). y ∷ zs) (each-same xs ys (λ i. same (suc i)))
+each-same xs ys same = absurd (cc (same 0))
 
 -- the places after all jobs were noted, where none was before
 pub noted_all : (plans : List JobPlan) (jobs : List Job) → all_noted (first_number plans) 0 plans (map (λ job. []) jobs) ≡ dependents_each plans 0 (sizes jobs)

@@ -1,5 +1,5 @@
 -- What has ended, by the counters.
-use Rattle.std.proofs.Common.{◌≡◌, ℕ, zero, suc, ◌+◌, ◌-◌, ◌==◌, ◌||◌, ◌&&◌, Bool, true, false, not, List, [], ◌∷◌, Option, Some, slice_get, count_by, ap, sym, refl, ◌∙◌, arith}
+use Rattle.std.proofs.Common.{◌≡◌, ℕ, zero, suc, ◌+◌, ◌-◌, ◌==◌, ◌||◌, ◌&&◌, Bool, true, false, not, List, [], ◌∷◌, Option, Some, slice_get, map, count_by, ap, sym, refl, ◌∙◌, arith}
 use Rattle.std.specs.List.{list_all}
 use Rattle.std.proofs.lemmas.Bool.{true≢false}
 use Rattle.std.proofs.lemmas.Bool.Decides.{nat_tests}
@@ -13,13 +13,10 @@ use Rattle.flow_model.specs.declared.plan.RunPlan.{RunPlan}
 use Rattle.flow_model.specs.declared.plan.JobPlan.{JobPlan}
 use Rattle.flow_model.specs.declared.board.Board.{Board}
 use Rattle.flow_model.specs.declared.board.Run.{Run}
-use Rattle.flow_model.specs.declared.board.RunState.{RunState}
-use Rattle.flow_model.specs.declared.board.RunState.TheVariants as run_state
 use Rattle.flow_model.specs.declared.board.Job.{Job}
 use Rattle.flow_model.specs.declared.board.Leg.{Leg}
 use Rattle.board_counters.specs.Counters.{is_settled, settled_jobs, first_number, need_of, run_needs, needs_of, needs_none}
 use Rattle.board_counters.specs.declared.need.Need.{Need}
-use Rattle.board_counters.proofs.Lists.{map-each}
 use Rattle.board_decisions.proofs.Lists.{map-get}
 use Rattle.status_table.specs.InPlay.{InPlay}
 use Rattle.status_table.specs.Row.{first_of}
@@ -27,14 +24,9 @@ use Rattle.status_table.proofs.Counts.{one}
 use Rattle.status_table.proofs.Found.{JobStands, job_stands}
 use Rattle.board_decisions.proofs.Lists.{same_some, no_some}
 use Rattle.status_table.proofs.Sound.{is_numbered_in}
+use Rattle.status_table.proofs.Steps.{going-unclosed}
 
 -- ---- a job of a run that is Going has ended where it is settled
-
-going-not_closed : (s : RunState) → is_going s ≡ true → is_closed s ≡ false
-going-not_closed run_state.New h = refl
-going-not_closed run_state.Waiting h = refl
-going-not_closed run_state.Going h = refl
-going-not_closed (run_state.Closed result) h = absurd (true≢false (sym h))
 
 -- all pass a test where none is counted that does not
 pub all-counted : {A : Type 0} (t : A → Bool) (xs : List A) → list_all t xs ≡ (count_by (λ x. not (t x)) xs == 0)
@@ -64,14 +56,10 @@ ended-by false true is (x ∷ xs) = ended-by false true is xs
 ended-by false false is legs = all-counted (λ (leg : Leg). is_ended leg.state) legs
 
 settled-ended : (run : Run) (job : Job) → is_going run.state ≡ true → is_settled job ≡ job_has_ended run job
-settled-ended run job going = sym (ended-by (is_closed run.state) (is_shut job.state) (going-not_closed run.state going) job.legs)
-
-all-each : {A : Type 0} (s t : A → Bool) (xs : List A) → ((x : A) → s x ≡ t x) → list_all s xs ≡ list_all t xs
-all-each s t [] step = refl
-all-each s t (x ∷ xs) step = (λ i. step x i && list_all s xs) ∙ ap (λ c. t x && c) (all-each s t xs step)
+settled-ended run job going = sym (ended-by (is_closed run.state) (is_shut job.state) (going-unclosed run.state going) job.legs)
 
 pub jobs_ended : (run : Run) → is_going run.state ≡ true → list_all is_settled run.jobs ≡ jobs_have_ended run
-jobs_ended run going = all-each is_settled (job_has_ended run) run.jobs (λ job. settled-ended run job going)
+jobs_ended run going = λ i. list_all (λ job. settled-ended run job going i) run.jobs
 
 -- ---- needs
 
@@ -110,8 +98,7 @@ needs_told law p b j at play is going =
     let row = needs-at p.runs b.runs at.place.run at.run_plan at.run stands.in_plan stands.in_board in
     let item = map-get (need_of (first_number at.run_plan.jobs) (settled_jobs at.run)) at.run_plan.jobs at.place.job at.plan stands.plan in
     let first = first-is law p b j at play is in
-    let flags = map-each is_settled (job_has_ended at.run) at.run.jobs (λ job. settled-ended at.run job going) in
     ap (λ (o : Option (List Need)). needs_none (o >>= λ row. slice_get row at.place.job)) row
     ∙ ap needs_none item
     ∙ sym (all-counted (λ need. holds_at (settled_jobs at.run) (need - first_number at.run_plan.jobs)) at.plan.needs)
-    ∙ (λ i. list_all (λ need. holds_at (flags i) (need - first i)) at.plan.needs)
+    ∙ (λ i. list_all (λ need. holds_at (map (λ job. settled-ended at.run job going i) at.run.jobs) (need - first i)) at.plan.needs)

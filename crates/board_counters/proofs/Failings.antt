@@ -1,5 +1,5 @@
 -- Which legs have a failed step after a change.
-use Rattle.std.proofs.Common.{◌≡◌, ℕ, suc, zero, ◌-◌, ◌||◌, Bool, true, false, List, [], ◌∷◌, ◌++◌, Option, Some, None, map, option_map, slice_get, length, take, if◌then◌else◌, ap, sym, refl, ◌∙◌}
+use Rattle.std.proofs.Common.{◌≡◌, ℕ, suc, ◌-◌, ◌||◌, Bool, true, false, List, [], ◌∷◌, ◌++◌, Option, Some, None, map, option_map, slice_get, length, take, if◌then◌else◌, ap, sym, refl, ◌∙◌}
 use Rattle.std.proofs.lemmas.Bool.{true≢false}
 use Rattle.std.proofs.lemmas.List.Folds.{list_any-append}
 use Rattle.board_decisions.specs.Derived.{is_failure}
@@ -21,7 +21,7 @@ use Rattle.status_table.specs.declared.change.LegChange.{LegChange}
 use Rattle.status_table.specs.declared.change.LegChange.TheVariants as leg_change
 use Rattle.board_counters.proofs.Lists.{map-changed, map-same}
 use Rattle.board_decisions.proofs.Lists.{map-get, map-past}
-use Rattle.board_counters.proofs.Tallies.{leg_there_changed, there}
+use Rattle.board_counters.proofs.Tallies.{in_job, in_run, leg_there_changed, there}
 use Rattle.status_table.specs.Change.{changed, with_job, with_leg, with_run}
 use Rattle.status_table.specs.Row.{step_done}
 
@@ -50,30 +50,22 @@ failing_there b place = by_run (slice_get b.runs place.run) refl
 -- ---- changes
 
 module _ (b : Board) (place : LegPlace) (f : Leg → Leg) where
-  abbrev in_job : Job → Job
-  in_job job = record job { legs = changed job.legs place.leg f }
-
-  abbrev in_run : Run → Run
-  in_run run = record run { jobs = changed run.jobs place.job in_job }
-
   -- they stay where as many steps of the leg failed
   pub leg_failing_kept : ((leg : Leg) → leg_there b place ≡ Some leg → any_failed (f leg).steps ≡ any_failed leg.steps) → failing_of (with_leg b place f) ≡ failing_of b
-  leg_failing_kept keeps = map-same run_failing b.runs place.run in_run (λ run in_runs. map-same job_failing run.jobs place.job in_job (λ job in_jobs.
+  leg_failing_kept keeps = map-same run_failing b.runs place.run (in_run place f) (λ run in_runs. map-same job_failing run.jobs place.job (in_job place f) (λ job in_jobs.
       map-same leg_failing job.legs place.leg f (λ leg in_legs. keeps leg (there b place run job in_runs in_jobs ∙ in_legs))))
 
   -- the truth at the place is that of the leg that is there then
   pub leg_failing_set : (holds : Bool) → ((leg : Leg) → leg_there b place ≡ Some leg → any_failed (f leg).steps ≡ holds) → failing_set place holds (failing_of b) ≡ failing_of (with_leg b place f)
-  leg_failing_set holds is = sym (map-changed run_failing b.runs place.run in_run (λ row. changed row place.job (λ legs. changed legs place.leg (λ before. holds)))
-      (λ run in_runs. map-changed job_failing run.jobs place.job in_job (λ legs. changed legs place.leg (λ before. holds))
+  leg_failing_set holds is = sym (map-changed run_failing b.runs place.run (in_run place f) (λ row. changed row place.job (λ legs. changed legs place.leg (λ before. holds)))
+      (λ run in_runs. map-changed job_failing run.jobs place.job (in_job place f) (λ legs. changed legs place.leg (λ before. holds))
       (λ job in_jobs. map-changed leg_failing job.legs place.leg f (λ before. holds)
       (λ leg in_legs. is leg (there b place run job in_runs in_jobs ∙ in_legs)))))
 
 -- no change of a leg's state, group, outputs or flag changes its steps
 pub steps_stay : (how : LegChange) (leg : Leg) → (leg_after how leg).steps ≡ leg.steps
 steps_stay (leg_change.State state) leg = refl
-steps_stay (leg_change.Group state group) leg = refl
-steps_stay (leg_change.Outputs state outputs) leg = refl
-steps_stay (leg_change.Stop stop) leg = refl
+steps_stay how leg = refl
 
 or-none : (c : Bool) → c || false ≡ c
 or-none true = refl
@@ -97,14 +89,13 @@ failing_done b new place worker done failed old made old_is new_is failed_is mad
     by false is = sym (leg_failing_kept b place _ (λ leg at. one-more leg.steps done ∙ ap (λ c. any_failed leg.steps || c) is ∙ or-none (any_failed leg.steps)))
 
 none-left : (steps : List DoneStep) (n : ℕ) → any_failed steps ≡ false → any_failed (take n steps) ≡ false
-none-left [] zero none = refl
-none-left [] (suc n) none = refl
-none-left (step ∷ steps) zero none = refl
 none-left (step ∷ steps) (suc n) none = by (none-left steps n) (is_failure step.conclusion) refl
   where
     by : (any_failed steps ≡ false → any_failed (take n steps) ≡ false) → (c : Bool) → is_failure step.conclusion ≡ c → any_failed (take (suc n) (step ∷ steps)) ≡ false
     by later true is = absurd (true≢false (sym (ap (λ d. d || any_failed steps) is) ∙ none))
     by later false is = ap (λ d. d || any_failed (take n steps)) is ∙ later (sym (ap (λ d. d || any_failed steps) is) ∙ none)
+none-left [] (suc n) none = refl
+none-left steps n none = refl
 
 -- the last step taken off
 pub failing_off : (b new : Board) (place : LegPlace) (state : LegState) (old made : List (List (List Bool))) → old ≡ failing_of b → new ≡ with_leg b place (step_taken state)

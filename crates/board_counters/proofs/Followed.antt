@@ -140,8 +140,7 @@ job_counted p b new place state was is old made fs ls counted new_is was_is is_i
 
 jobs_stay : (how : RunChange) (run : Run) → (run_after how run).jobs ≡ run.jobs
 jobs_stay (run_change.State state) run = refl
-jobs_stay (run_change.Group state group) run = refl
-jobs_stay (run_change.Stop stop) run = refl
+jobs_stay how run = refl
 
 -- where a run was changed, but not its jobs
 pub run_counted : (p : Plan) (b new : Board) (r : ℕ) (how : RunChange) (counts : Counts) (fs : List (List (List Bool))) (ls : Lasting) → IsCounted p b counts fs ls

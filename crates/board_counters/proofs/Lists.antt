@@ -3,11 +3,11 @@ use Rattle.std.proofs.Common.{◌≡◌, ℕ, zero, suc, ◌+◌, ◌<◌, ◌�
 use Rattle.std.specs.List.{list_any}
 use Rattle.std.proofs.lemmas.Bool.Decides.{nat_tests}
 use Rattle.std.proofs.lemmas.List.{drop_more}
-use Rattle.std.proofs.lemmas.List.Sums.{sum_by-cons}
+use Rattle.std.proofs.lemmas.List.Sums.{sum_by-cons, count_by-le-length}
 use Rattle.board_counters.specs.Counters.{turned}
 use Rattle.status_table.specs.Change.{put, changed}
 use Rattle.status_table.proofs.Counts.{one, sum-changed}
-use Rattle.status_table.proofs.Lists.{changed-cons}
+use Rattle.status_table.proofs.Lists.{changed-cons, length-changed}
 use Rattle.board_decisions.proofs.Lists.{same_some, no_some}
 
 -- ---- what is made of each item
@@ -27,10 +27,6 @@ map-same g (x ∷ xs) (suc i) f step = ap (map g) (changed-cons x xs i f) ∙ ap
 pub map-twice : {A B C : Type 0} (f : A → B) (g : B → C) (h : A → C) (xs : List A) → ((x : A) → g (f x) ≡ h x) → map g (map f xs) ≡ map h xs
 map-twice f g h [] step = refl
 map-twice {A} {B} {C} f g h (x ∷ xs) step = ap (λ (y : C). y ∷ map g (map f xs)) (step x) ∙ ap (λ (ys : List C). h x ∷ ys) (map-twice f g h xs step)
-
-pub map-each : {A B : Type 0} (f g : A → B) (xs : List A) → ((x : A) → f x ≡ g x) → map f xs ≡ map g xs
-map-each f g [] step = refl
-map-each {A} {B} f g (x ∷ xs) step = ap (λ (y : B). y ∷ map f xs) (step x) ∙ ap (λ (ys : List B). g x ∷ ys) (map-each f g xs step)
 
 -- what is made of one item more of those that are gone through
 pub made-more : {A B : Type 0} (f : A → B) (xs : List A) (i : ℕ) (x : A) (y : B) (ys made : List B) → i < length xs → x ≡ get_or xs i x → y ≡ f x → made ≡ ys ++ y ∷ []
@@ -54,53 +50,22 @@ changed-none xs i f at = ap (put xs i f) at
 
 -- ---- how many pass a test
 
-pub not-counted : {T : Type 0} (t : T → Bool) (xs : List T) → count_by t xs ≤ length xs
-not-counted t [] = omega arith
-not-counted t (x ∷ xs) =
-    let cons = sum_by-cons (λ y. one (t y)) x xs in
-    let later = not-counted t xs in
-    let here = at_most (t x) in
-    omega (arith, cons, later, here)
-  where
-    at_most : (c : Bool) → one c ≤ 1
-    at_most true = omega arith
-    at_most false = omega arith
-
-pub left-out : {T : Type 0} (t : T → Bool) (xs : List T) (i : ℕ) (x : T) → slice_get xs i ≡ Some x → t x ≡ false → count_by t xs < length xs
-left-out t [] i x at h = absurd (no_some x at)
-left-out t (y ∷ ys) zero x at h =
-    let cons = sum_by-cons (λ z. one (t z)) y ys in
-    let later = not-counted t ys in
-    let here = ap (λ z. one (t z)) (same_some y x at) ∙ ap one h in
-    omega (arith, cons, later, here)
-left-out t (y ∷ ys) (suc i) x at h =
-    let cons = sum_by-cons (λ z. one (t z)) y ys in
-    let later = left-out t ys i x at h in
-    let here = at_most (t y) in
-    omega (arith, cons, later, here)
-  where
-    at_most : (c : Bool) → one c ≤ 1
-    at_most true = omega arith
-    at_most false = omega arith
+-- a count that is one more, one less or the same
+pub turned-by : (all n m : ℕ) (was is : Bool) → m + one was ≡ n + one is → m ≤ all → m ≡ turned all n was is
+turned-by all n m false true sums below =
+    let more : nat_lt n all ≡ true = grind (arith, nat_tests, sums, below) in
+    let next : m ≡ suc n = omega (arith, sums) in
+    next ∙ sym (ap (λ c. if c then suc n else n) more)
+turned-by all n m true false sums below = omega (arith, sums)
+turned-by all n m was is sums below = omega (arith, sums)
 
 -- the count after an item was changed
 pub count-changed : {T : Type 0} (t : T → Bool) (xs : List T) (i : ℕ) (f : T → T) (x : T) → slice_get xs i ≡ Some x
     → count_by t (changed xs i f) ≡ turned (length xs) (count_by t xs) (t x) (t (f x))
-count-changed t xs i f x at = by (t x) (t (f x)) refl refl
-  where
-    sums : count_by t (changed xs i f) + one (t x) ≡ count_by t xs + one (t (f x))
-    sums = sum-changed (λ y. one (t y)) xs i f x at
-
-    by : (was is : Bool) → t x ≡ was → t (f x) ≡ is → count_by t (changed xs i f) ≡ turned (length xs) (count_by t xs) was is
-    by false false was is = let a = ap one was in let b = ap one is in let s = sums in omega (arith, a, b, s)
-    by true true was is = let a = ap one was in let b = ap one is in let s = sums in omega (arith, a, b, s)
-    by true false was is = let a = ap one was in let b = ap one is in let s = sums in omega (arith, a, b, s)
-    by false true was is =
-        let a = ap one was in let b = ap one is in let s = sums in
-        let room = left-out t xs i x at was in
-        let more : nat_lt (count_by t xs) (length xs) ≡ true = grind (arith, nat_tests, room) in
-        let next : count_by t (changed xs i f) ≡ suc (count_by t xs) = omega (arith, a, b, s) in
-        next ∙ sym (ap (λ c. if c then suc (count_by t xs) else count_by t xs) more)
+count-changed t xs i f x at =
+    let most = count_by-le-length t (changed xs i f) in
+    let size = length-changed xs i f in
+    turned-by (length xs) (count_by t xs) (count_by t (changed xs i f)) (t x) (t (f x)) (sum-changed (λ y. one (t y)) xs i f x at) (omega (arith, most, size))
 
 -- some item passes a test where one is counted
 pub any-counted : {T : Type 0} (t : T → Bool) (xs : List T) → list_any t xs ≡ nat_lt 0 (count_by t xs)

@@ -42,16 +42,14 @@ truths-kept jobs j g same = map-same is_settled jobs j g (λ job at.
 
 -- the needs of one run, and so those of all
 abbrev run_resettled : Bool → Bool → List ℕ → List Need → List Need
-run_resettled false false places needs = needs
 run_resettled false true places needs = needs_turned true false places needs
 run_resettled true false places needs = needs_turned false true places needs
-run_resettled true true places needs = needs
+run_resettled was is places needs = needs
 
 in-run : (was is : Bool) (r : ℕ) (places : List ℕ) (needs : List (List Need)) → resettled was is r places needs ≡ changed needs r (run_resettled was is places)
-in-run false false r places needs = sym (changed-same needs r (λ row. row) (λ row. refl))
 in-run false true r places needs = refl
 in-run true false r places needs = refl
-in-run true true r places needs = sym (changed-same needs r (λ row. row) (λ row. refl))
+in-run was is r places needs = sym (changed-same needs r (λ row. row) (λ row. refl))
 
 module _ (j : ℕ) (g : Job → Job) where
   abbrev in_run : Run → Run
@@ -73,16 +71,14 @@ module _ (j : ℕ) (g : Job → Job) where
 
   one-run : (plan : RunPlan) (run : Run) (was is : Bool) → settled_in (Some run) j ≡ was → settled_in (Some (in_run run)) j ≡ is
       → run_resettled was is (or_nobody (slice_get (dependents_each plan.jobs 0 (sizes run.jobs)) j)) (run_needs plan run) ≡ run_needs plan (in_run run)
-  one-run plan run false false was is =
-      sym (ap (λ (settled : List Bool). map (need_of (first_number plan.jobs) settled) plan.jobs) (truths-kept run.jobs j g (is ∙ sym was)))
-  one-run plan run true true was is =
-      sym (ap (λ (settled : List Bool). map (need_of (first_number plan.jobs) settled) plan.jobs) (truths-kept run.jobs j g (is ∙ sym was)))
   one-run plan run false true was is =
       ap (λ places. run_resettled false true places (run_needs plan run)) (kept-there plan run.jobs (changed run.jobs j g) (changed-none run.jobs j g) is)
       ∙ needs_fall plan.jobs j (settled_jobs run) (settled_jobs (in_run run)) (record { was = was; is = is; others = others-stay run.jobs })
   one-run plan run true false was is =
       ap (λ places. run_resettled true false places (run_needs plan run)) (kept-there plan run.jobs run.jobs (λ at. refl) was)
       ∙ needs_rise plan.jobs j (settled_jobs run) (settled_jobs (in_run run)) (record { was = is; is = was; others = λ i other. sym (others-stay run.jobs i other) })
+  one-run plan run before after was is =
+      sym (ap (λ (settled : List Bool). map (need_of (first_number plan.jobs) settled) plan.jobs) (truths-kept run.jobs j g (is ∙ sym was)))
 
   follow : (plans : List RunPlan) (runs : List Run) (r : ℕ)
       → changed (needs_of plans runs) r (run_resettled (settled_in (slice_get runs r) j) (settled_in (option_map in_run (slice_get runs r)) j) (dependents_at (all_dependents plans (run_sizes runs)) (record { run = r; job = j })))

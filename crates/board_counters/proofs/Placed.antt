@@ -60,9 +60,7 @@ nothing_told run job step l at in_run in_job = by_result (leg_result at)
   where
     by_result : (how : Outcome) → Tells (called_as (or_unknown None) how) (is_called (step_decision l at step))
     by_result outcome.Success = tt
-    by_result outcome.Failure = tt
-    by_result outcome.Cancelled = tt
-    by_result outcome.Skipped = tt
+    by_result how = tt
 
 -- what is told of a step of the job at a place
 pub calls_told : (runs : List RunPlan) (calls : List (List (List Calls))) (place : JobPlace) (n : ℕ) (run : RunPlan) (job : JobPlan) (step : StepPlan) → TellsRuns runs calls

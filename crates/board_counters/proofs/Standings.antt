@@ -24,7 +24,7 @@ use Rattle.board_counters.proofs.Ended.{all-counted, jobs_ended}
 use Rattle.board_counters.proofs.Lists.{any-counted, changed-none, count-changed, map-changed, map-same}
 use Rattle.board_decisions.proofs.Lists.{map-get, map-past}
 use Rattle.board_counters.proofs.Needs.{settled_in}
-use Rattle.board_counters.proofs.Tallies.{get_changed, turned_same}
+use Rattle.board_counters.proofs.Tallies.{get_changed, in_job, in_run, turned_same}
 use Rattle.status_table.specs.Change.{changed, with_leg}
 use Rattle.status_table.proofs.Lists.{changed-there, length-changed}
 
@@ -90,20 +90,14 @@ read_in b r j = by (slice_get b.runs r) refl
 -- and also where a leg of it was changed since they were counted
 pub read_before : (b : Board) (place : LegPlace) (f : Leg → Leg)
     → standing_read (slice_get (with_leg b place f).runs place.run) (slice_get (tallies_of b) place.run) place.job ≡ standing_in (slice_get b.runs place.run) place.job
-read_before b place f = ap (λ o. standing_read o (slice_get (tallies_of b) place.run) place.job) (get_changed b.runs place.run in_run) ∙ by (slice_get b.runs place.run) refl
+read_before b place f = ap (λ o. standing_read o (slice_get (tallies_of b) place.run) place.job) (get_changed b.runs place.run (in_run place f)) ∙ by (slice_get b.runs place.run) refl
   where
-    in_job : Job → Job
-    in_job job = record job { legs = changed job.legs place.leg f }
-
-    in_run : Run → Run
-    in_run run = record run { jobs = changed run.jobs place.job in_job }
-
-    by : (o : Option Run) → slice_get b.runs place.run ≡ o → standing_read (option_map in_run o) (slice_get (tallies_of b) place.run) place.job ≡ standing_in o place.job
+    by : (o : Option Run) → slice_get b.runs place.run ≡ o → standing_read (option_map (in_run place f) o) (slice_get (tallies_of b) place.run) place.job ≡ standing_in o place.job
     by None at = refl
     by (Some run) at =
-        ap (λ row. standing_read (Some (in_run run)) row place.job) (map-get (λ (x : Run). map tally_of x.jobs) b.runs place.run run at)
-        ∙ ap (λ o. standing_given o (slice_get (map tally_of run.jobs) place.job)) (get_changed run.jobs place.job in_job)
-        ∙ given run.jobs place.job in_job (λ job. refl) (slice_get run.jobs place.job) refl
+        ap (λ row. standing_read (Some (in_run place f run)) row place.job) (map-get (λ (x : Run). map tally_of x.jobs) b.runs place.run run at)
+        ∙ ap (λ o. standing_given o (slice_get (map tally_of run.jobs) place.job)) (get_changed run.jobs place.job (in_job place f))
+        ∙ given run.jobs place.job (in_job place f) (λ job. refl) (slice_get run.jobs place.job) refl
 
 -- whether it has ended by itself is said too
 pub standing_settles : (o : Option Run) (j : ℕ) → (standing_in o j).is_settled ≡ settled_in o j
@@ -182,9 +176,7 @@ run_tallies_kept runs r f keeps = map-same run_tally runs r f (λ run at. ap cou
 
 going-by : (s : RunState) → is_going s ≡ true → (state : JobState) (legs : List Leg) → result_by s state legs ≡ result_by run_state.Going state legs
 going-by run_state.Going h state legs = refl
-going-by run_state.New h state legs = absurd (true≢false (sym h))
-going-by run_state.Waiting h state legs = absurd (true≢false (sym h))
-going-by (run_state.Closed how) h state legs = absurd (true≢false (sym h))
+going-by s h state legs = absurd (true≢false (sym h))
 
 standing-result : (run : Run) → is_going run.state ≡ true → (job : Job) → (standing_of job).result ≡ job_result run job
 standing-result run going job = sym (going-by run.state going job.state job.legs)
@@ -193,11 +185,6 @@ all-results : (run : Run) (t : Outcome → Bool) (jobs : List Job) → ((job : J
     → list_all (λ job. t (standing_of job).result) jobs ≡ list_all t (map (job_result run) jobs)
 all-results run t [] same = refl
 all-results run t (job ∷ jobs) same = (λ i. t (same job i) && list_all (λ x. t (standing_of x).result) jobs) ∙ ap (λ c. t (job_result run job) && c) (all-results run t jobs same)
-
-any-results : (run : Run) (t : Outcome → Bool) (jobs : List Job) → ((job : Job) → (standing_of job).result ≡ job_result run job)
-    → list_any (λ job. t (standing_of job).result) jobs ≡ list_any (λ job. t (job_result run job)) jobs
-any-results run t [] same = refl
-any-results run t (job ∷ jobs) same = (λ i. t (same job i) || list_any (λ x. t (standing_of x).result) jobs) ∙ ap (λ c. t (job_result run job) || c) (any-results run t jobs same)
 
 -- how the jobs of a run stand, by what is kept of it
 pub told_tally : (runs : List RunTally) (all : List Run) (r : ℕ) (run : Run) → runs ≡ map run_tally all → slice_get all r ≡ Some run → run_tally_there (slice_get runs r) ≡ run_tally run
@@ -220,13 +207,13 @@ module _ (runs : List RunTally) (all : List Run) (r : ℕ) (run : Run) (stand : 
   told_failed =
       ap (λ (t : RunTally). nat_lt 0 t.failed) tally_is
       ∙ sym (any-counted (λ job. is_failure (standing_of job).result) run.jobs)
-      ∙ any-results run is_failure run.jobs (standing-result run going)
+      ∙ (λ i. list_any (λ job. is_failure (standing-result run going job i)) run.jobs)
 
   told_cancelled : nat_lt 0 (run_tally_there (slice_get runs r)).cancelled ≡ is_any_job_cancelled run
   told_cancelled =
       ap (λ (t : RunTally). nat_lt 0 t.cancelled) tally_is
       ∙ sym (any-counted (λ job. is_cancelled (standing_of job).result) run.jobs)
-      ∙ any-results run is_cancelled run.jobs (standing-result run going)
+      ∙ (λ i. list_any (λ job. is_cancelled (standing-result run going job i)) run.jobs)
 
   pub run_told : (stop : Bool) → stop ≡ run.stop → told_result stop (run_tally_there (slice_get runs r)) ≡ run_result run
   run_told stop stop_is = λ i. if told_failed i then outcome.Failure else (if stop_is i || told_cancelled i then outcome.Cancelled else outcome.Success)

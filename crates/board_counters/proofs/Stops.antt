@@ -1,7 +1,6 @@
 -- How many legs of a run are told to stop, after a change.
-use Rattle.std.proofs.Common.{◌≡◌, ℕ, suc, ◌+◌, ◌<◌, ◌≤◌, Bool, true, false, List, Option, Some, None, length, map, option_map, slice_get, get_or, nat_lt, count_by, sum_by, if◌then◌else◌, ap, sym, refl, ◌∙◌, arith}
-use Rattle.std.proofs.lemmas.Bool.Decides.{nat_tests}
-use Rattle.std.proofs.lemmas.List.Sums.{get_or-le-sum_by, sum_by-le-sum_by}
+use Rattle.std.proofs.Common.{◌≡◌, ℕ, ◌+◌, ◌<◌, ◌≤◌, Bool, false, List, Option, Some, None, length, map, option_map, slice_get, get_or, count_by, sum_by, ap, sym, refl, ◌∙◌, arith}
+use Rattle.std.proofs.lemmas.List.Sums.{count_by-le-length, get_or-le-sum_by, sum_by-le-sum_by}
 use Rattle.board_decisions.proofs.Lists.{map-get}
 use Rattle.board_decisions.specs.Numbered.{leg_there}
 use Rattle.board_decisions.specs.Place.{◌>>=◌}
@@ -13,8 +12,8 @@ use Rattle.board_counters.specs.Stopping.{is_told, legs_of_jobs, run_legs, run_l
 use Rattle.status_table.specs.declared.change.LegChange.{LegChange}
 use Rattle.status_table.specs.declared.change.LegChange.TheVariants as leg_change
 use Rattle.board_counters.specs.declared.stopping.RunLegs.{RunLegs}
-use Rattle.board_counters.proofs.Lists.{changed-none, map-changed, map-same, map-twice, not-counted}
-use Rattle.board_counters.proofs.Tallies.{there, turned_same}
+use Rattle.board_counters.proofs.Lists.{changed-none, map-changed, map-same, map-twice, turned-by}
+use Rattle.board_counters.proofs.Tallies.{in_job, in_run, there, turned_same}
 use Rattle.flow_model.specs.declared.board.Board.{Board}
 use Rattle.flow_model.specs.declared.board.Job.{Job}
 use Rattle.flow_model.specs.declared.board.Leg.{Leg}
@@ -37,67 +36,51 @@ one_within f xs i d within = get_or-le-sum_by f xs i d within
 
 -- ---- one leg of a run
 
--- a count that is one more, one less or the same
-turned-by : (all n m : ℕ) (was is : Bool) → m + one was ≡ n + one is → m ≤ all → m ≡ turned all n was is
-turned-by all n m false false sums below = omega (arith, sums)
-turned-by all n m true true sums below = omega (arith, sums)
-turned-by all n m true false sums below = omega (arith, sums)
-turned-by all n m false true sums below =
-    let more : nat_lt n all ≡ true = grind (arith, nat_tests, sums, below) in
-    let next : m ≡ suc n = omega (arith, sums) in
-    next ∙ sym (ap (λ c. if c then suc n else n) more)
-
 told-same : (c : Bool) (t : RunLegs) → told_turned c c t ≡ t
 told-same c t = λ i. record { all = t.all; told = turned_same t.all t.told c i }
 
 module _ (b : Board) (place : LegPlace) (f : Leg → Leg) where
-  abbrev in_job : Job → Job
-  in_job job = record job { legs = changed job.legs place.leg f }
+  all-kept : (run : Run) → legs_of_jobs (in_run place f run).jobs ≡ legs_of_jobs run.jobs
+  all-kept run = sum-kept (λ (job : Job). length job.legs) run.jobs place.job (in_job place f) (λ job. length-changed job.legs place.leg f)
 
-  abbrev in_run : Run → Run
-  in_run run = record run { jobs = changed run.jobs place.job in_job }
-
-  all-kept : (run : Run) → legs_of_jobs (in_run run).jobs ≡ legs_of_jobs run.jobs
-  all-kept run = sum-kept (λ (job : Job). length job.legs) run.jobs place.job in_job (λ job. length-changed job.legs place.leg f)
-
-  none-changed : (run : Run) → changed run.jobs place.job in_job ≡ run.jobs → run_legs (in_run run) ≡ run_legs run
+  none-changed : (run : Run) → changed run.jobs place.job (in_job place f) ≡ run.jobs → run_legs (in_run place f run) ≡ run_legs run
   none-changed run same = ap (λ (jobs : List Job). run_legs (record run { jobs = jobs })) same
 
   one-job : (run : Run) (job : Job) → slice_get run.jobs place.job ≡ Some job → (o : Option Leg) → slice_get job.legs place.leg ≡ o
-      → run_legs (in_run run) ≡ told_turned (is_told o) (is_told (option_map f o)) (run_legs run)
+      → run_legs (in_run place f run) ≡ told_turned (is_told o) (is_told (option_map f o)) (run_legs run)
   one-job run job in_jobs None at = λ i. record { all = all-kept run i; told = told-kept i }
     where
-      told-kept : sum_by told_of (changed run.jobs place.job in_job) ≡ sum_by told_of run.jobs
+      told-kept : sum_by told_of (changed run.jobs place.job (in_job place f)) ≡ sum_by told_of run.jobs
       told-kept =
-          let sums = sum-changed told_of run.jobs place.job in_job job in_jobs in
-          let same : told_of (in_job job) ≡ told_of job = ap (λ (legs : List Leg). count_by (λ (leg : Leg). leg.stop) legs) (changed-none job.legs place.leg f at) in
+          let sums = sum-changed told_of run.jobs place.job (in_job place f) job in_jobs in
+          let same : told_of (in_job place f job) ≡ told_of job = ap (λ (legs : List Leg). count_by (λ (leg : Leg). leg.stop) legs) (changed-none job.legs place.leg f at) in
           omega (arith, sums, same)
   one-job run job in_jobs (Some leg) at = λ i. record { all = all-kept run i; told = told-changed i }
     where
-      told-changed : sum_by told_of (changed run.jobs place.job in_job) ≡ turned (legs_of_jobs run.jobs) (sum_by told_of run.jobs) leg.stop (f leg).stop
+      told-changed : sum_by told_of (changed run.jobs place.job (in_job place f)) ≡ turned (legs_of_jobs run.jobs) (sum_by told_of run.jobs) leg.stop (f leg).stop
       told-changed =
-          let jobs = sum-changed told_of run.jobs place.job in_job job in_jobs in
-          let legs : told_of (in_job job) + one leg.stop ≡ told_of job + one (f leg).stop = sum-changed (λ (x : Leg). one x.stop) job.legs place.leg f leg at in
-          let most : sum_by told_of (changed run.jobs place.job in_job) ≤ legs_of_jobs (changed run.jobs place.job in_job) = sum_by-le-sum_by told_of (λ (x : Job). length x.legs) (changed run.jobs place.job in_job) (λ x. not-counted (λ (y : Leg). y.stop) x.legs) in
+          let jobs = sum-changed told_of run.jobs place.job (in_job place f) job in_jobs in
+          let legs : told_of (in_job place f job) + one leg.stop ≡ told_of job + one (f leg).stop = sum-changed (λ (x : Leg). one x.stop) job.legs place.leg f leg at in
+          let most : sum_by told_of (changed run.jobs place.job (in_job place f)) ≤ legs_of_jobs (changed run.jobs place.job (in_job place f)) = sum_by-le-sum_by told_of (λ (x : Job). length x.legs) (changed run.jobs place.job (in_job place f)) (λ x. count_by-le-length (λ (y : Leg). y.stop) x.legs) in
           let size = all-kept run in
-          turned-by (legs_of_jobs run.jobs) (sum_by told_of run.jobs) (sum_by told_of (changed run.jobs place.job in_job)) leg.stop (f leg).stop
+          turned-by (legs_of_jobs run.jobs) (sum_by told_of run.jobs) (sum_by told_of (changed run.jobs place.job (in_job place f))) leg.stop (f leg).stop
           (omega (arith, jobs, legs)) (omega (arith, most, size))
 
   one-run : (run : Run) → slice_get b.runs place.run ≡ Some run
-      → run_legs (in_run run) ≡ told_turned (is_told (leg_there b place)) (is_told (option_map f (leg_there b place))) (run_legs run)
+      → run_legs (in_run place f run) ≡ told_turned (is_told (leg_there b place)) (is_told (option_map f (leg_there b place))) (run_legs run)
   one-run run in_runs = by (slice_get run.jobs place.job) refl
     where
-      by : (o : Option Job) → slice_get run.jobs place.job ≡ o → run_legs (in_run run) ≡ told_turned (is_told (leg_there b place)) (is_told (option_map f (leg_there b place))) (run_legs run)
+      by : (o : Option Job) → slice_get run.jobs place.job ≡ o → run_legs (in_run place f run) ≡ told_turned (is_told (leg_there b place)) (is_told (option_map f (leg_there b place))) (run_legs run)
       by None at =
           let nowhere : leg_there b place ≡ None =
           ap (λ (o : Option Run). o >>= λ x. slice_get x.jobs place.job >>= λ job. slice_get job.legs place.leg) in_runs ∙ ap (λ (o : Option Job). o >>= λ job. slice_get job.legs place.leg) at in
-          none-changed run (changed-none run.jobs place.job in_job at) ∙ sym (λ i. told_turned (is_told (nowhere i)) (is_told (option_map f (nowhere i))) (run_legs run))
+          none-changed run (changed-none run.jobs place.job (in_job place f) at) ∙ sym (λ i. told_turned (is_told (nowhere i)) (is_told (option_map f (nowhere i))) (run_legs run))
       by (Some job) at =
           let legs = there b place run job in_runs at in
           one-job run job at (slice_get job.legs place.leg) refl ∙ sym (λ i. told_turned (is_told (legs i)) (is_told (option_map f (legs i))) (run_legs run))
 
   pub told_follow : changed (map run_legs b.runs) place.run (told_turned (is_told (leg_there b place)) (is_told (option_map f (leg_there b place)))) ≡ map run_legs (with_leg b place f).runs
-  told_follow = sym (map-changed run_legs b.runs place.run in_run (told_turned (is_told (leg_there b place)) (is_told (option_map f (leg_there b place)))) one-run)
+  told_follow = sym (map-changed run_legs b.runs place.run (in_run place f) (told_turned (is_told (leg_there b place)) (is_told (option_map f (leg_there b place)))) one-run)
 
 -- ---- the counts of a board after a change
 
@@ -113,10 +96,8 @@ told_exchanged b new place how back was is old made counted new_is back_is was_i
   where
     by : (o : Option Leg) (how : LegChange) (x : RunLegs) → told_turned (stop_in (leg_was how o)) (stop_in how) x ≡ told_turned (is_told o) (is_told (option_map (leg_after how) o)) x
     by None how x = told-same (stop_in how) x ∙ sym (told-same false x)
-    by (Some leg) (leg_change.State state) x = told-same false x ∙ sym (told-same leg.stop x)
-    by (Some leg) (leg_change.Group state group) x = told-same false x ∙ sym (told-same leg.stop x)
-    by (Some leg) (leg_change.Outputs state outputs) x = told-same false x ∙ sym (told-same leg.stop x)
     by (Some leg) (leg_change.Stop stop) x = refl
+    by (Some leg) how x = told-same false x ∙ sym (told-same leg.stop x)
 
 -- they stay where each leg of a job is told to stop as before
 module _ (runs : List Run) (r j : ℕ) (g : Job → Job) (same_all : (job : Job) → length (g job).legs ≡ length job.legs) (same_told : (job : Job) → told_of (g job) ≡ told_of job) where

@@ -45,43 +45,37 @@ pub there : (b : Board) (place : LegPlace) (run : Run) (job : Job) → slice_get
 there b place run job in_runs in_jobs =
     ap (λ o. o >>= λ x. slice_get x.jobs place.job >>= λ y. slice_get y.legs place.leg) in_runs ∙ ap (λ o. o >>= λ y. slice_get y.legs place.leg) in_jobs
 
-module _ (b : Board) (place : LegPlace) (f : Leg → Leg) where
-  abbrev in_job : Job → Job
-  in_job job = record job { legs = changed job.legs place.leg f }
+-- a job and a run, where the leg at a place is changed
+abbrev pub in_job : LegPlace → (Leg → Leg) → Job → Job
+in_job place f job = record job { legs = changed job.legs place.leg f }
 
-  abbrev in_run : Run → Run
-  in_run run = record run { jobs = changed run.jobs place.job in_job }
+abbrev pub in_run : LegPlace → (Leg → Leg) → Run → Run
+in_run place f run = record run { jobs = changed run.jobs place.job (in_job place f) }
 
-  was : LegState
-  was = state_there b place
+module _ (b : Board) (place : LegPlace) (f : Leg → Leg) (run : Run) (job : Job) (in_runs : slice_get b.runs place.run ≡ Some run) (in_jobs : slice_get run.jobs place.job ≡ Some job) where
+  old_there : leg_there b place ≡ slice_get job.legs place.leg
+  old_there = there b place run job in_runs in_jobs
 
-  is : LegState
-  is = state_there (with_leg b place f) place
+  new_there : leg_there (with_leg b place f) place ≡ slice_get (changed job.legs place.leg f) place.leg
+  new_there = there (with_leg b place f) place (in_run place f run) (in_job place f job) (changed-there b.runs place.run (in_run place f) run in_runs) (changed-there run.jobs place.job (in_job place f) job in_jobs)
 
-  module _ (run : Run) (job : Job) (in_runs : slice_get b.runs place.run ≡ Some run) (in_jobs : slice_get run.jobs place.job ≡ Some job) where
-    old_there : leg_there b place ≡ slice_get job.legs place.leg
-    old_there = there b place run job in_runs in_jobs
-
-    new_there : leg_there (with_leg b place f) place ≡ slice_get (changed job.legs place.leg f) place.leg
-    new_there = there (with_leg b place f) place (in_run run) (in_job job) (changed-there b.runs place.run in_run run in_runs) (changed-there run.jobs place.job in_job job in_jobs)
-
-    one_job : (o : Option Leg) → slice_get job.legs place.leg ≡ o → tally_of (in_job job) ≡ moved (state_there b place) (state_there (with_leg b place f) place) (tally_of job)
-    one_job None at =
-        let same = changed-none job.legs place.leg f at in
-        let old : state_there b place ≡ state_of None = ap state_of (old_there ∙ at) in
-        let new : state_there (with_leg b place f) place ≡ state_of None = ap state_of (new_there ∙ ap (λ ls. slice_get ls place.leg) same ∙ at) in
-        ap (λ (ls : List Leg). tally_of (record job { legs = ls })) same ∙ sym (λ i. moved (old i) (new i) (tally_of job))
-    one_job (Some leg) at =
-        let old : state_there b place ≡ leg.state = ap state_of (old_there ∙ at) in
-        let new : state_there (with_leg b place f) place ≡ (f leg).state = ap state_of (new_there ∙ changed-there job.legs place.leg f leg at) in
-        tally-changed job place.leg f leg at ∙ sym (λ i. moved (old i) (new i) (tally_of job))
+  one_job : (o : Option Leg) → slice_get job.legs place.leg ≡ o → tally_of (in_job place f job) ≡ moved (state_there b place) (state_there (with_leg b place f) place) (tally_of job)
+  one_job None at =
+      let same = changed-none job.legs place.leg f at in
+      let old : state_there b place ≡ state_of None = ap state_of (old_there ∙ at) in
+      let new : state_there (with_leg b place f) place ≡ state_of None = ap state_of (new_there ∙ ap (λ ls. slice_get ls place.leg) same ∙ at) in
+      ap (λ (ls : List Leg). tally_of (record job { legs = ls })) same ∙ sym (λ i. moved (old i) (new i) (tally_of job))
+  one_job (Some leg) at =
+      let old : state_there b place ≡ leg.state = ap state_of (old_there ∙ at) in
+      let new : state_there (with_leg b place f) place ≡ (f leg).state = ap state_of (new_there ∙ changed-there job.legs place.leg f leg at) in
+      tally-changed job place.leg f leg at ∙ sym (λ i. moved (old i) (new i) (tally_of job))
 
 -- the tallies after a leg was changed
 pub leg_tallies : (b : Board) (place : LegPlace) (f : Leg → Leg)
     → retallied place (state_there b place) (state_there (with_leg b place f) place) (tallies_of b) ≡ tallies_of (with_leg b place f)
-leg_tallies b place f = sym (map-changed (λ (run : Run). map tally_of run.jobs) b.runs place.run (in_run b place f)
+leg_tallies b place f = sym (map-changed (λ (run : Run). map tally_of run.jobs) b.runs place.run (in_run place f)
     (λ row. changed row place.job (moved (state_there b place) (state_there (with_leg b place f) place)))
-    (λ run in_runs. map-changed tally_of run.jobs place.job (in_job b place f) (moved (state_there b place) (state_there (with_leg b place f) place))
+    (λ run in_runs. map-changed tally_of run.jobs place.job (in_job place f) (moved (state_there b place) (state_there (with_leg b place f) place))
     (λ job in_jobs. one_job b place f run job in_runs in_jobs (slice_get job.legs place.leg) refl)))
 
 -- where it is counted alike, they stay
@@ -123,18 +117,18 @@ get_changed (x ∷ xs) (suc i) f = ap (λ ys. slice_get ys (suc i)) (changed-con
 
 pub leg_there_changed : (b : Board) (place : LegPlace) (f : Leg → Leg) → leg_there (with_leg b place f) place ≡ option_map f (leg_there b place)
 leg_there_changed b place f =
-    ap (λ (o : Option Run). o >>= λ run. slice_get run.jobs place.job >>= λ job. slice_get job.legs place.leg) (get_changed b.runs place.run (in_run b place f))
+    ap (λ (o : Option Run). o >>= λ run. slice_get run.jobs place.job >>= λ job. slice_get job.legs place.leg) (get_changed b.runs place.run (in_run place f))
     ∙ by_run (slice_get b.runs place.run)
   where
-    by_job : (o : Option Job) → (option_map (in_job b place f) o >>= λ job. slice_get job.legs place.leg) ≡ option_map f (o >>= λ job. slice_get job.legs place.leg)
+    by_job : (o : Option Job) → (option_map (in_job place f) o >>= λ job. slice_get job.legs place.leg) ≡ option_map f (o >>= λ job. slice_get job.legs place.leg)
     by_job None = refl
     by_job (Some job) = get_changed job.legs place.leg f
 
-    by_run : (o : Option Run) → (option_map (in_run b place f) o >>= λ run. slice_get run.jobs place.job >>= λ job. slice_get job.legs place.leg)
+    by_run : (o : Option Run) → (option_map (in_run place f) o >>= λ run. slice_get run.jobs place.job >>= λ job. slice_get job.legs place.leg)
         ≡ option_map f (o >>= λ run. slice_get run.jobs place.job >>= λ job. slice_get job.legs place.leg)
     by_run None = refl
     by_run (Some run) =
-        ap (λ (o : Option Job). o >>= λ job. slice_get job.legs place.leg) (get_changed run.jobs place.job (in_job b place f)) ∙ by_job (slice_get run.jobs place.job)
+        ap (λ (o : Option Job). o >>= λ job. slice_get job.legs place.leg) (get_changed run.jobs place.job (in_job place f)) ∙ by_job (slice_get run.jobs place.job)
 
 -- what is exchanged tells how the leg is counted
 exchanged_so : (b new : Board) (place : LegPlace) (how back : LegChange) → new ≡ with_leg b place (leg_after how) → back ≡ leg_was how (leg_there b place)
@@ -147,10 +141,8 @@ exchanged_so b new place how back new_is back_is = λ t.
   where
     by : (o : Option Leg) (how : LegChange) (t : Tally) → moved (state_in (leg_was how o)) (state_in how) t ≡ moved (state_of o) (state_of (option_map (leg_after how) o)) t
     by None how t = moved_same (state_in how) t ∙ sym (moved_same leg_state.Fresh t)
-    by (Some leg) (leg_change.State state) t = refl
-    by (Some leg) (leg_change.Group state group) t = refl
-    by (Some leg) (leg_change.Outputs state outputs) t = refl
     by (Some leg) (leg_change.Stop stop) t = moved_same leg_state.Fresh t ∙ sym (moved_same leg.state t)
+    by (Some leg) how t = refl
 
 pub exchanged_told : (b new : Board) (place : LegPlace) (how back : LegChange) (before after : LegState) → new ≡ with_leg b place (leg_after how) → back ≡ leg_was how (leg_there b place)
     → before ≡ state_in back → after ≡ state_in how → ComesSo b new place before after

@@ -8,7 +8,7 @@ use Rattle.board_counters.specs.Changes.{needs_turned}
 use Rattle.board_counters.specs.Counters.{first_number, need_of, need_turned, open_among, turned}
 use Rattle.board_counters.specs.Dependents.{dependents_from, dependents_of, times_named}
 use Rattle.board_counters.specs.declared.need.Need.{Need}
-use Rattle.board_counters.proofs.Lists.{not-counted}
+use Rattle.std.proofs.lemmas.List.Sums.{count_by-le-length}
 use Rattle.flow_model.specs.declared.plan.JobPlan.{JobPlan}
 use Rattle.status_table.specs.Change.{changed}
 use Rattle.status_table.proofs.Counts.{one}
@@ -98,7 +98,7 @@ need-rises : (first j : ℕ) (before after : List Bool) (plan : JobPlan) → Set
 need-rises first j before after plan settles =
     let n = times_named first j plan.needs in
     let counted = open-falls first j after before plan.needs settles in
-    let most = not-counted (λ need. not (holds_at after (need - first))) plan.needs in
+    let most = count_by-le-length (λ need. not (holds_at after (need - first))) plan.needs in
     let room : open_among first before plan.needs + n ≤ length plan.needs = omega (arith, counted, most) in
     turned-times false true n (need_of first before plan)
     ∙ ap (λ (k : ℕ). record { all = length plan.needs; pending = k }) (rise (length plan.needs) n (open_among first before plan.needs) room ∙ counted)

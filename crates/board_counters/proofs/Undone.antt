@@ -21,7 +21,7 @@ use Rattle.status_table.specs.declared.change.LegChange.TheVariants as leg_chang
 use Rattle.board_counters.specs.declared.change.RunChange.{RunChange}
 use Rattle.board_counters.specs.declared.change.RunChange.TheVariants as run_change
 use Rattle.board_counters.specs.declared.undo.Change.{Change}
-use Rattle.board_counters.proofs.Tallies.{there}
+use Rattle.board_counters.proofs.Tallies.{in_job, in_run, there}
 use Rattle.status_table.specs.Change.{changed, with_run, with_job, with_leg}
 use Rattle.status_table.specs.Row.{job_state_set, leg_state_set, step_done}
 use Rattle.status_table.proofs.Lists.{changed-cons}
@@ -44,14 +44,11 @@ changed-back {T} (x ∷ xs) (suc i) f g step =
 
 run-back : (how : RunChange) (run : Run) → run_after (run_before how run) (run_after how run) ≡ run
 run-back (run_change.State state) run = refl
-run-back (run_change.Group state group) run = refl
-run-back (run_change.Stop stop) run = refl
+run-back how run = refl
 
 leg-back : (how : LegChange) (leg : Leg) → leg_after (leg_before how leg) (leg_after how leg) ≡ leg
 leg-back (leg_change.State state) leg = refl
-leg-back (leg_change.Group state group) leg = refl
-leg-back (leg_change.Outputs state outputs) leg = refl
-leg-back (leg_change.Stop stop) leg = refl
+leg-back how leg = refl
 
 run-there : (b : Board) (r : ℕ) (f g : Run → Run) → ((run : Run) → slice_get b.runs r ≡ Some run → g (f run) ≡ run) → with_run (with_run b r f) r g ≡ b
 run-there b r f g step = ap (λ (runs : List Run). record b { runs = runs }) (changed-back b.runs r f g step)
@@ -62,16 +59,10 @@ job-there b place f g step = run-there b place.run (λ run. record run { jobs = 
     step job (ap (λ o. o >>= λ (x : Run). slice_get x.jobs place.job) in_runs ∙ in_jobs))))
 
 leg-there : (b : Board) (place : LegPlace) (f g : Leg → Leg) → ((leg : Leg) → leg_there b place ≡ Some leg → g (f leg) ≡ leg) → with_leg (with_leg b place f) place g ≡ b
-leg-there b place f g step = run-there b place.run (in_run f) (in_run g) (λ run in_runs.
-    ap (λ (jobs : List Job). record run { jobs = jobs }) (changed-back run.jobs place.job (in_job f) (in_job g) (λ job in_jobs.
+leg-there b place f g step = run-there b place.run (in_run place f) (in_run place g) (λ run in_runs.
+    ap (λ (jobs : List Job). record run { jobs = jobs }) (changed-back run.jobs place.job (in_job place f) (in_job place g) (λ job in_jobs.
     ap (λ (legs : List Leg). record job { legs = legs }) (changed-back job.legs place.leg f g (λ leg in_legs.
     step leg (there b place run job in_runs in_jobs ∙ in_legs))))))
-  where
-    in_job : (Leg → Leg) → Job → Job
-    in_job h job = record job { legs = changed job.legs place.leg h }
-
-    in_run : (Leg → Leg) → Run → Run
-    in_run h run = record run { jobs = changed run.jobs place.job (in_job h) }
 
 -- ---- each change of a board
 
