@@ -20,7 +20,7 @@ any-same s t k (n ∷ ns) h same =
     let later = any-same s t k ns (and-right (nat_lt n k) (list_all (λ m. nat_lt m k) ns) h) same in
     ap (λ c. c || list_any s ns) here ∙ ap (λ c. t n || c) later
 
-any-never : (ns : List ℕ) → list_any (λ n. false) ns ≡ false
+pub any-never : (ns : List ℕ) → list_any (λ n. false) ns ≡ false
 any-never [] = refl
 any-never (n ∷ ns) = any-never ns
 

@@ -1,6 +1,6 @@
 -- The legs of a job have numbers that follow each other.
-use Rattle.std.proofs.Common.{◌≡◌, ℕ, suc, ◌+◌, ◌-◌, ◌<◌, ◌≤◌, Bool, true, false, List, [], ◌∷◌, Some, Result, Ok, Err, length, nat_lt, if◌then◌else◌, ap, sym, refl, ◌∙◌, arith}
-use Rattle.board_decisions.specs.Place.{leg_in_jobs, leg_place, leg_place_from, else_from}
+use Rattle.std.proofs.Common.{◌≡◌, ℕ, suc, ◌+◌, ◌-◌, ◌≤◌, Bool, true, false, List, [], ◌∷◌, Some, Result, Ok, Err, length, nat_lt, if◌then◌else◌, ap, refl, arith}
+use Rattle.board_decisions.specs.Place.{leg_in_jobs, leg_place_from, else_from}
 use Rattle.board_decisions.specs.declared.place.LegPlace.{LegPlace}
 use Rattle.board_decisions.proofs.Lists.{same_some, no_some}
 use Rattle.flow_model.specs.declared.board.Run.{Run}
@@ -13,15 +13,6 @@ further at i = record { run = at.run; job = at.job; leg = at.leg + i }
 abbrev first : ℕ → ℕ → ℕ → LegPlace
 first r k n = record { run = r; job = k; leg = n }
 
-abbrev found_at : LegPlace → Result LegPlace ℕ
-found_at at = Ok at
-
-abbrev left_of : ℕ → Result LegPlace ℕ
-left_of n = Err n
-
-same-ok : (x y : LegPlace) → found_at x ≡ found_at y → x ≡ y
-same-ok x y h = cc
-
 -- what is found in runs from one on stands there or later
 run-of : (r k : ℕ) (jobs : List Job) (n : ℕ) (at : LegPlace) → leg_in_jobs r k jobs n ≡ Ok at → at.run ≡ r
 run-of r k [] n at is = cc
@@ -29,7 +20,7 @@ run-of r k (job ∷ jobs) n at is = by (nat_lt n (length job.legs)) (run-of r (s
   where
     by : (c : Bool) → (leg_in_jobs r (suc k) jobs (n - length job.legs) ≡ Ok at → at.run ≡ r)
         → (if c then Ok (first r k n) else leg_in_jobs r (suc k) jobs (n - length job.legs)) ≡ Ok at → at.run ≡ r
-    by true later found = sym (ap (λ (x : LegPlace). x.run) (same-ok (first r k n) at found))
+    by true later found = let same : at ≡ first r k n = cc found in ap (λ (x : LegPlace). x.run) same
     by false later found = later found
 
 from-run : (k : ℕ) (runs : List Run) (n : ℕ) (at : LegPlace) → leg_place_from k runs n ≡ Some at → k ≤ at.run

@@ -1,6 +1,7 @@
 -- What is laid over one item after another.
-use Rattle.std.proofs.Common.{◌≡◌, ℕ, zero, suc, ◌+◌, List, [], ◌∷◌, Option, Some, None, map, drop, slice_get, length, refl, ap, ◌∙◌, ◌≤◌, add-one, arith}
+use Rattle.std.proofs.Common.{◌≡◌, ℕ, zero, suc, ◌+◌, List, [], ◌∷◌, Option, Some, None, drop, slice_get, length, refl, ap, ◌∙◌, ◌≤◌, add-one}
 use Rattle.std.specs.List.{zip, filter_map, cons_option}
+use Rattle.std.proofs.lemmas.List.{drop_all}
 use Rattle.board_decisions.specs.Contexts.{step_pair, planned_pair}
 use Rattle.flow_model.specs.declared.board.DoneStep.{DoneStep}
 use Rattle.flow_model.specs.declared.plan.StepPlan.{StepPlan}
@@ -38,16 +39,10 @@ pub steps_next : (plans : List StepPlan) (i : ℕ) (done : DoneStep) (steps : Li
     ≡ laid_over (filter_map step_pair (zip (drop (i + 1) plans) steps)) (laid_over (cons_option (planned_pair (slice_get plans i) done) []) made)
 steps_next plans i done steps made = rw add-one (steps_after plans i done steps made)
 
-past : {A : Type 0} (xs : List A) (i : ℕ) → length xs ≤ i → drop i xs ≡ []
-past [] zero h = refl
-past [] (suc i) h = refl
-past (x ∷ xs) zero h = absurd (omega (arith, h))
-past (x ∷ xs) (suc i) h = past xs i (omega (arith, h))
-
 -- where no step is left, nothing is laid over
 pub steps_end : (plans : List StepPlan) (i : ℕ) (steps : List DoneStep) (made : List (List ℕ × Plain)) → length steps ≤ i
     → laid_over (filter_map step_pair (zip (drop i plans) (drop i steps))) made ≡ made
 unfolding laid_over
 steps_end plans i steps made h =
-    ap (λ (ss : List DoneStep). laid_over (filter_map step_pair (zip (drop i plans) ss)) made) (past steps i h)
+    ap (λ (ss : List DoneStep). laid_over (filter_map step_pair (zip (drop i plans) ss)) made) (drop_all i steps h)
     ∙ ap (λ (ps : List (StepPlan × DoneStep)). laid_over (filter_map step_pair ps) made) (zip_none (drop i plans))

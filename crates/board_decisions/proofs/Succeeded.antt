@@ -9,6 +9,7 @@ use Rattle.flow_model.specs.declared.plan.JobPlan.{JobPlan}
 use Rattle.flow_model.specs.declared.event.Outcome.{Outcome}
 use Rattle.flow_model.specs.declared.event.Outcome.TheVariants as outcome
 use Rattle.board_decisions.proofs.Lists.{and-left, and-right}
+use Rattle.board_decisions.proofs.Backwards.{any-never}
 
 no-test : (t : Outcome → Bool) → ((how : Outcome) → is_success how ≡ true → t how ≡ false) → (results : List Outcome) → list_all is_success results ≡ true
     → (k : ℕ) → holds_at (map t results) k ≡ false
@@ -17,8 +18,7 @@ no-test t step (how ∷ results) all zero = step how (and-left (is_success how) 
 no-test t step (how ∷ results) all (suc k) = no-test t step results (and-right (is_success how) (list_all is_success results) all) k
 
 never : (s : ℕ → Bool) (ns : List ℕ) → ((n : ℕ) → s n ≡ false) → list_any s ns ≡ false
-never s [] none = refl
-never s (n ∷ ns) none = ap (λ c. c || list_any s ns) (none n) ∙ never s ns none
+never s ns none = (λ i. list_any (λ n. none n i) ns) ∙ any-never ns
 
 no-ancestor : (first : ℕ) (jobs : List JobPlan) (tests : List Bool) → ((k : ℕ) → holds_at tests k ≡ false) → (n k : ℕ) → some_ancestor first jobs tests n k ≡ false
 no-ancestor first jobs tests none zero k = refl
@@ -26,10 +26,8 @@ no-ancestor first jobs tests none (suc n) k = never (λ need. holds_at tests nee
     (λ need. ap (λ c. c || some_ancestor first jobs tests n need) (none need) ∙ no-ancestor first jobs tests none n need)
 
 not-failed : (how : Outcome) → is_success how ≡ true → is_failure how ≡ false
-not-failed outcome.Success h = refl
 not-failed outcome.Failure h = absurd (true≢false (sym h))
-not-failed outcome.Cancelled h = refl
-not-failed outcome.Skipped h = refl
+not-failed how h = refl
 
 not-unsuccessful : (how : Outcome) → is_success how ≡ true → not (is_success how) ≡ false
 not-unsuccessful how h = ap not h

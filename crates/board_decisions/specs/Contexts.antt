@@ -110,31 +110,14 @@ run_values plan context.Github = github_value plan
 run_values plan context.Inputs = object plan.roots.inputs
 run_values plan context.Vars = object plan.roots.vars
 run_values plan context.Secrets = object plan.roots.secrets
-run_values plan context.Needs = object []
-run_values plan context.Env = object []
-run_values plan context.Job = object []
-run_values plan context.Jobs = object []
-run_values plan context.Steps = object []
-run_values plan context.Runner = object []
-run_values plan context.Strategy = object []
-run_values plan context.Matrix = object []
+run_values plan other = object []
 
 -- ---- what a job sees
 
 -- The value of each context, seen from a job.
 unfoldable pub job_values : JobAt → Values
 job_values at context.Needs = needs_value at
-job_values at context.Github = run_values at.run_plan context.Github
-job_values at context.Inputs = run_values at.run_plan context.Inputs
-job_values at context.Vars = run_values at.run_plan context.Vars
-job_values at context.Secrets = run_values at.run_plan context.Secrets
-job_values at context.Env = run_values at.run_plan context.Env
-job_values at context.Job = run_values at.run_plan context.Job
-job_values at context.Jobs = run_values at.run_plan context.Jobs
-job_values at context.Steps = run_values at.run_plan context.Steps
-job_values at context.Runner = run_values at.run_plan context.Runner
-job_values at context.Strategy = run_values at.run_plan context.Strategy
-job_values at context.Matrix = run_values at.run_plan context.Matrix
+job_values at other = run_values at.run_plan other
 
 -- ---- what a leg sees
 
@@ -216,11 +199,7 @@ leg_values_by result at context.Strategy = strategy_value at
 leg_values_by result at context.Matrix = matrix_value at
 leg_values_by result at context.Job = job_value result
 leg_values_by result at context.Steps = steps_value at
-leg_values_by result at context.Github = job_values (job_of at) context.Github
-leg_values_by result at context.Inputs = job_values (job_of at) context.Inputs
-leg_values_by result at context.Vars = job_values (job_of at) context.Vars
-leg_values_by result at context.Secrets = job_values (job_of at) context.Secrets
-leg_values_by result at context.Needs = job_values (job_of at) context.Needs
 leg_values_by result at context.Env = object []
 leg_values_by result at context.Jobs = object []
 leg_values_by result at context.Runner = object []
+leg_values_by result at other = job_values (job_of at) other

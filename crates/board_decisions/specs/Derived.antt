@@ -21,98 +21,70 @@ use Rattle.flow_model.specs.declared.event.Outcome.TheVariants as outcome
 
 -- a run that is Going
 abbrev pub is_going : RunState → Bool
-is_going run_state.New = false
-is_going run_state.Waiting = false
 is_going run_state.Going = true
-is_going (run_state.Closed result) = false
+is_going other = false
 
 -- a run that has ended
 abbrev pub is_closed : RunState → Bool
-is_closed run_state.New = false
-is_closed run_state.Waiting = false
-is_closed run_state.Going = false
 is_closed (run_state.Closed result) = true
+is_closed other = false
 
 -- a job that was opened
 abbrev pub is_open : JobState → Bool
-is_open job_state.Unjudged = false
 is_open job_state.Open = true
-is_open (job_state.Shut result) = false
+is_open other = false
 
 -- a job that was shut in place of being opened
 abbrev pub is_shut : JobState → Bool
-is_shut job_state.Unjudged = false
-is_shut job_state.Open = false
 is_shut (job_state.Shut result) = true
+is_shut other = false
 
 -- a leg that has not asked yet
 abbrev pub is_fresh : LegState → Bool
 is_fresh leg_state.Fresh = true
-is_fresh leg_state.Waiting = false
-is_fresh leg_state.Admitted = false
-is_fresh (leg_state.Running worker in_call) = false
-is_fresh (leg_state.Ended result tolerated) = false
+is_fresh other = false
 
 -- a leg that no worker took, and that has not ended
 abbrev pub is_untaken : LegState → Bool
-is_untaken leg_state.Fresh = true
-is_untaken leg_state.Waiting = true
-is_untaken leg_state.Admitted = true
 is_untaken (leg_state.Running worker in_call) = false
 is_untaken (leg_state.Ended result tolerated) = false
+is_untaken other = true
 
 -- a leg that is Ended
 abbrev pub is_ended : LegState → Bool
-is_ended leg_state.Fresh = false
-is_ended leg_state.Waiting = false
-is_ended leg_state.Admitted = false
-is_ended (leg_state.Running worker in_call) = false
 is_ended (leg_state.Ended result tolerated) = true
+is_ended other = false
 
 -- waiting, admitted or running: it takes one of the slots that `max_parallel` gives its job
 abbrev pub is_under_way : LegState → Bool
 is_under_way leg_state.Fresh = false
-is_under_way leg_state.Waiting = true
-is_under_way leg_state.Admitted = true
-is_under_way (leg_state.Running worker in_call) = true
 is_under_way (leg_state.Ended result tolerated) = false
+is_under_way other = true
 
 -- a success
 abbrev pub is_success : Outcome → Bool
 is_success outcome.Success = true
-is_success outcome.Failure = false
-is_success outcome.Cancelled = false
-is_success outcome.Skipped = false
+is_success other = false
 
 -- a failure
 abbrev pub is_failure : Outcome → Bool
-is_failure outcome.Success = false
 is_failure outcome.Failure = true
-is_failure outcome.Cancelled = false
-is_failure outcome.Skipped = false
+is_failure other = false
 
 -- a cancellation
 abbrev pub is_cancelled : Outcome → Bool
-is_cancelled outcome.Success = false
-is_cancelled outcome.Failure = false
 is_cancelled outcome.Cancelled = true
-is_cancelled outcome.Skipped = false
+is_cancelled other = false
 
 -- ended with a failure that is not tolerated
 abbrev pub has_failed : LegState → Bool
-has_failed leg_state.Fresh = false
-has_failed leg_state.Waiting = false
-has_failed leg_state.Admitted = false
-has_failed (leg_state.Running worker in_call) = false
 has_failed (leg_state.Ended result tolerated) = is_failure result && not tolerated
+has_failed other = false
 
 -- ended cancelled
 abbrev pub was_cancelled : LegState → Bool
-was_cancelled leg_state.Fresh = false
-was_cancelled leg_state.Waiting = false
-was_cancelled leg_state.Admitted = false
-was_cancelled (leg_state.Running worker in_call) = false
 was_cancelled (leg_state.Ended result tolerated) = is_cancelled result
+was_cancelled other = false
 
 -- ---- what has ended
 
@@ -141,10 +113,8 @@ legs_result legs =
 abbrev pub result_by : RunState → JobState → List Leg → Outcome
 result_by run (job_state.Shut result) legs = result
 result_by run job_state.Open legs = legs_result legs
-result_by run_state.New job_state.Unjudged legs = legs_result legs
-result_by run_state.Waiting job_state.Unjudged legs = legs_result legs
-result_by run_state.Going job_state.Unjudged legs = legs_result legs
 result_by (run_state.Closed result) job_state.Unjudged legs = result
+result_by run job_state.Unjudged legs = legs_result legs
 
 -- the result of a job of a run
 abbrev pub job_result : Run → Job → Outcome

@@ -72,32 +72,26 @@ pub fn is_cancelled(outcome: Outcome) -> bool
 pub fn has_failed(state: LegState) -> bool
     ensures { result ≡ spec.has_failed state }
 {
-    match state {
-        LegState::Fresh => false,
-        LegState::Waiting => false,
-        LegState::Admitted => false,
-        LegState::Running { .. } => false,
+    matches!(
+        state,
         LegState::Ended {
-            result: how,
-            tolerated,
-        } => is_failure(how) && !tolerated,
-    }
+            result: Outcome::Failure,
+            tolerated: false,
+        }
+    )
 }
 
 /// Whether a leg ended cancelled.
 pub fn was_cancelled(state: LegState) -> bool
     ensures { result ≡ spec.was_cancelled state }
 {
-    match state {
-        LegState::Fresh => false,
-        LegState::Waiting => false,
-        LegState::Admitted => false,
-        LegState::Running { .. } => false,
+    matches!(
+        state,
         LegState::Ended {
-            result: how,
+            result: Outcome::Cancelled,
             tolerated: _,
-        } => is_cancelled(how),
-    }
+        }
+    )
 }
 
 /// Whether a leg has ended: it is Ended, its job Shut or its run Closed.
@@ -162,9 +156,9 @@ pub fn job_result(run: &Run, job: &Job) -> Outcome
         (JobState::Shut(how), _) => how,
         (JobState::Open, _) => legs_result(job.legs.as_slice()),
         (JobState::Unjudged, RunState::Closed(how)) => how,
-        (JobState::Unjudged, RunState::New) => legs_result(job.legs.as_slice()),
-        (JobState::Unjudged, RunState::Waiting) => legs_result(job.legs.as_slice()),
-        (JobState::Unjudged, RunState::Going) => legs_result(job.legs.as_slice()),
+        (JobState::Unjudged, RunState::New | RunState::Waiting | RunState::Going) => {
+            legs_result(job.legs.as_slice())
+        },
     }
 }
 
