@@ -70,11 +70,8 @@ unjudged-fresh : (s : RunState) (g : Option (List ℕ)) (leg : Leg) → leg_stan
 unjudged-fresh s g leg h = by leg.state h
   where
     by : (t : LegState) → is_fresh t || false ≡ true → is_ended t ≡ false
-    by leg_state.Fresh k = refl
-    by leg_state.Waiting k = refl
-    by leg_state.Admitted k = refl
-    by (leg_state.Running worker in_call) k = refl
     by (leg_state.Ended result tolerated) k = absurd (true≢false (sym k))
+    by t k = refl
 
 -- some leg of it has not ended
 pub not_ended : (s : RunState) (g : Option (List ℕ)) (legs : List Leg) (closed : Bool) → closed ≡ false → 1 ≤ length legs
@@ -99,8 +96,7 @@ or-later c false e f h k = sym (ap (λ x. x || e || f) h) ∙ k
 
 same-result : (s t : RunState) (state : JobState) (legs : List Leg) → is_closed s ≡ false → (state ≡ job_state.Unjudged → ⊥) → result_by t state legs ≡ result_by s state legs
 same-result s t job_state.Unjudged legs unclosed judged = absurd (judged refl)
-same-result s t job_state.Open legs unclosed judged = refl
-same-result s t (job_state.Shut result) legs unclosed judged = refl
+same-result s t state legs unclosed judged = refl
 
 abbrev LegEnded : Run → Job → Leg → Bool
 LegEnded run job leg = is_closed run.state || is_shut job.state || is_ended leg.state

@@ -102,10 +102,7 @@ opener_apart p b worker r = by_test (ApartThen b (member.Run r)) (nat_le worker 
 
 fresh_apart : (s : LegState) (group : Option (List ℕ)) → is_fresh s ≡ true → leg_stands s group ≡ apart
 fresh_apart leg_state.Fresh group h = refl
-fresh_apart leg_state.Waiting group h = absurd (true≢false (sym h))
-fresh_apart leg_state.Admitted group h = absurd (true≢false (sym h))
-fresh_apart (leg_state.Running worker in_call) group h = absurd (true≢false (sym h))
-fresh_apart (leg_state.Ended result tolerated) group h = absurd (true≢false (sym h))
+fresh_apart s group h = absurd (true≢false (sym h))
 
 asker_apart : (p : Plan) (b : Board) (worker l : ℕ) → ApartThen b (member.Leg l) (row p b worker (event.Ask l))
 asker_apart p b worker l = by_test (ApartThen b (member.Leg l)) (nat_le worker 15) (ask_found b l (leg_at p b l)) (Err fault.NoSuch) (found (leg_at p b l) refl) tt
@@ -178,14 +175,12 @@ entered_sound laws groups m name own sound outside = record {
 }
 
 opened_sound : GroupLaws → (groups : Content) (r : ℕ) → Sound groups → is_in_group (member.Run r) groups ≡ false → (x : Result (Option Entrance) ValueFault) → Sound (opened groups r x)
-opened_sound laws groups r sound outside (Ok None) = sound
 opened_sound laws groups r sound outside (Ok (Some group)) = entered_sound laws groups (member.Run r) group.name None sound outside
-opened_sound laws groups r sound outside (Err f) = sound
+opened_sound laws groups r sound outside x = sound
 
 asked_sound : GroupLaws → (groups : Content) (l own : ℕ) → Sound groups → is_in_group (member.Leg l) groups ≡ false → (x : Result (Option Entrance) ValueFault) → Sound (asked groups l own x)
-asked_sound laws groups l own sound outside (Ok None) = sound
 asked_sound laws groups l own sound outside (Ok (Some group)) = entered_sound laws groups (member.Leg l) group.name (Some own) sound outside
-asked_sound laws groups l own sound outside (Err f) = sound
+asked_sound laws groups l own sound outside x = sound
 
 left_sound : GroupLaws → (groups : Content) (m : Member) → Sound groups → (s : Standing) → Sound (left groups m s)
 left_sound laws groups m sound apart = sound
@@ -286,15 +281,11 @@ module _ (laws : GroupLaws) (p : Plan) (b : Board) (worker : ℕ) (groups : Cont
 
   event_sound : (e : Event) → is_accepted (row p b worker e) ≡ true → Sound (after_event p b groups e)
   event_sound (event.Open r) may = open_sound r (run_at p b r) may
-  event_sound (event.Judge j) may = sound_now
   event_sound (event.Ask l) may = ask_sound l (leg_at p b l) may
   event_sound (event.Drop l) may = leg_left_sound l (leg_at p b l)
-  event_sound (event.Take l) may = sound_now
-  event_sound (event.Begin l) may = sound_now
-  event_sound (event.End l a) may = sound_now
   event_sound (event.Finish l) may = leg_left_sound l (leg_at p b l)
   event_sound (event.Close r) may = run_left_sound r (run_at p b r)
-  event_sound (event.Cancel r) may = sound_now
+  event_sound e may = sound_now
 
   pub event_kept : (e : Event) (x : Board × Reply) → row p b worker e ≡ Ok x → KeptAsShown (after_event p b groups e) x.0
   event_kept e x is =

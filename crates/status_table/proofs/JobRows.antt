@@ -47,10 +47,7 @@ unjudged-right s t g h j leg right = by leg.state right
   where
     by : (u : LegState) → is_fresh u || false ≡ true → is_fresh u || (is_open j && (not (is_under_way u) || (is_going t && not (is_waiting u && share_name h leg.group)))) ≡ true
     by leg_state.Fresh k = refl
-    by leg_state.Waiting k = absurd (true≢false (sym k))
-    by leg_state.Admitted k = absurd (true≢false (sym k))
-    by (leg_state.Running worker in_call) k = absurd (true≢false (sym k))
-    by (leg_state.Ended result tolerated) k = absurd (true≢false (sym k))
+    by u k = absurd (true≢false (sym k))
 
 module _ (p : Plan) (b : Board) (j : ℕ) (at : JobAt) (is : job_at p b j ≡ Some at) (going : at.run.state ≡ run_state.Going) (unjudged : at.job.state ≡ job_state.Unjudged)
     (ready : needs_have_ended (rows.first_of j at) at.run at.plan ≡ true) (state : JobState) (judged : job_rank state ≡ 0) where

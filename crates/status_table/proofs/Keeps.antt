@@ -174,12 +174,11 @@ close_keeps p b r (Some at) = by_state at.run.state
     waiting false = tt
 
     by_state : (state : RunState) → Keeps p b (close_run b r at.run state)
-    by_state run_state.New = waiting at.run.stop
-    by_state run_state.Waiting = waiting at.run.stop
     by_state run_state.Going =
         keeps_if p b (jobs_have_ended at.run) (run_closes b r at.run (run_result at.run)) (Err fault.NeedsOpen)
         (λ _. closes (run_result at.run)) (λ _. tt)
     by_state (run_state.Closed result) = tt
+    by_state state = waiting at.run.stop
 
 cancel_keeps : (p : Plan) (b : Board) (r : ℕ) (at : Option RunAt) → Keeps p b (cancel_found b r at)
 cancel_keeps p b r None = tt
@@ -196,11 +195,8 @@ quiet_kept p b l at state stands before now quiet =
     leg_kept p b l at (λ leg. record leg { state = state }) stands before now (room_kept at.job_plan at.leg (record at.leg { state = state }) (omega (arith, quiet)))
 
 fresh_unended : (s : LegState) → is_fresh s ≡ true → is_ended s ≡ false
-fresh_unended leg_state.Fresh h = refl
-fresh_unended leg_state.Waiting h = refl
-fresh_unended leg_state.Admitted h = refl
-fresh_unended (leg_state.Running worker in_call) h = refl
 fresh_unended (leg_state.Ended result tolerated) h = sym h
+fresh_unended s h = refl
 
 not_not : (c : Bool) → not c ≡ false → c ≡ true
 not_not true h = refl
@@ -230,11 +226,8 @@ ask_keeps p b l (Some at) is =
     entered (Err f) before = drop_fits p b l outcome.Failure before
 
 untaken_unended : (s : LegState) → is_untaken s ≡ true → is_ended s ≡ false
-untaken_unended leg_state.Fresh h = refl
-untaken_unended leg_state.Waiting h = refl
-untaken_unended leg_state.Admitted h = refl
-untaken_unended (leg_state.Running worker in_call) h = refl
 untaken_unended (leg_state.Ended result tolerated) h = sym h
+untaken_unended s h = refl
 
 drop_keeps : (p : Plan) (b : Board) (l : ℕ) (at : Option LegAt) → leg_at p b l ≡ at → Keeps p b (drop_found b l at)
 drop_keeps p b l None is = tt
@@ -256,20 +249,14 @@ take_keeps p b worker l None is = tt
 take_keeps p b worker l (Some at) is = by_state at.leg.state refl
   where
     by_state : (state : LegState) → at.leg.state ≡ state → Keeps p b (take_leg b worker at state)
-    by_state leg_state.Fresh was = tt
-    by_state leg_state.Waiting was = tt
     by_state leg_state.Admitted was =
         keeps_if p b (is_stopping at) (Err fault.Stopping) (Ok (leg_state_set b at.place (leg_state.Running worker false), moved)) (λ _. tt)
         (λ _. quiet_kept p b l at (leg_state.Running worker false) (leg_stands p b l at is) (ap is_ended was) refl refl)
-    by_state (leg_state.Running other in_call) was = tt
-    by_state (leg_state.Ended result tolerated) was = tt
+    by_state state was = tt
 
 idle_unended : (s : LegState) (owner : ℕ) → idle_owner s ≡ Some owner → is_ended s ≡ false
-idle_unended leg_state.Fresh owner h = refl
-idle_unended leg_state.Waiting owner h = refl
-idle_unended leg_state.Admitted owner h = refl
-idle_unended (leg_state.Running worker in_call) owner h = refl
 idle_unended (leg_state.Ended result tolerated) owner h = absurd (no_some owner h)
+idle_unended s owner h = refl
 
 -- a leg with one more step done, where one was left
 step_kept : (p : Plan) (b : Board) (worker l : ℕ) (at : LegAt) (done : DoneStep) → LegStands p b l at → is_ended at.leg.state ≡ false
@@ -306,12 +293,8 @@ begin_keeps p b worker l (Some at) is = by_owner (idle_owner at.leg.state) refl 
         by_beginning (beginning_by worker l at (Some owner) (Some step)) (idle_unended at.leg.state owner was) (slice_get_within at.job_plan.steps (length at.leg.steps) step next)
 
 calling_state : (s : LegState) (owner : ℕ) → calling_owner s ≡ Some owner → (is_ended s ≡ false) × (open_calls s ≡ 1)
-calling_state leg_state.Fresh owner h = absurd (no_some owner h)
-calling_state leg_state.Waiting owner h = absurd (no_some owner h)
-calling_state leg_state.Admitted owner h = absurd (no_some owner h)
 calling_state (leg_state.Running worker true) owner h = (refl, refl)
-calling_state (leg_state.Running worker false) owner h = absurd (no_some owner h)
-calling_state (leg_state.Ended result tolerated) owner h = absurd (no_some owner h)
+calling_state s owner h = absurd (no_some owner h)
 
 end_keeps : (p : Plan) (b : Board) (worker l : ℕ) (a : Answer) (at : Option LegAt) → leg_at p b l ≡ at → Keeps p b (end_found b worker a at)
 end_keeps p b worker l a None is = tt

@@ -74,10 +74,8 @@ not_own-name : (b : Board) (r : ℕ) (n : List ℕ) (run : Run) (h : Member) →
 not_own-name b r n run h one' at going held not_own = by (is_named n run.group) refl
   where
     holds : (s : RunState) → is_going s ≡ true → is_named n run.group ≡ true → holds_name n (run_stands s run.group) ≡ true
-    holds run_state.New g is = absurd (true≢false (sym g))
-    holds run_state.Waiting g is = absurd (true≢false (sym g))
     holds run_state.Going g is = is
-    holds (run_state.Closed result) g is = absurd (true≢false (sym g))
+    holds s g is = absurd (true≢false (sym g))
 
     by : (c : Bool) → is_named n run.group ≡ c → c ≡ false
     by false is = refl
@@ -113,25 +111,17 @@ not_full plan job free = by plan.max_parallel refl
         grind (arith, nat_tests, e)
 
 untaken-rank : (s : LegState) (left : ℕ) → is_untaken s ≡ true → 2 ≤ leg_rank s left
-untaken-rank leg_state.Fresh left h = omega arith
-untaken-rank leg_state.Waiting left h = omega arith
-untaken-rank leg_state.Admitted left h = omega arith
 untaken-rank (leg_state.Running worker in_call) left h = absurd (true≢false (sym h))
 untaken-rank (leg_state.Ended result tolerated) left h = absurd (true≢false (sym h))
+untaken-rank s left h = omega arith
 
 untaken-running : (s : LegState) → is_untaken s ≡ true → is_ended s ≡ false
-untaken-running leg_state.Fresh h = refl
-untaken-running leg_state.Waiting h = refl
-untaken-running leg_state.Admitted h = refl
-untaken-running (leg_state.Running worker in_call) h = refl
 untaken-running (leg_state.Ended result tolerated) h = absurd (true≢false (sym h))
+untaken-running s h = refl
 
 is-fresh : (s : LegState) → is_fresh s ≡ true → s ≡ leg_state.Fresh
 is-fresh leg_state.Fresh h = refl
-is-fresh leg_state.Waiting h = absurd (true≢false (sym h))
-is-fresh leg_state.Admitted h = absurd (true≢false (sym h))
-is-fresh (leg_state.Running worker in_call) h = absurd (true≢false (sym h))
-is-fresh (leg_state.Ended result tolerated) h = absurd (true≢false (sym h))
+is-fresh s h = absurd (true≢false (sym h))
 
 pub record Holds (s : LegState) : Type 0 where
   pub under : is_under_way s ≡ true
@@ -146,28 +136,16 @@ running-holds : (worker : ℕ) (in_call : Bool) → Holds (leg_state.Running wor
 running-holds worker in_call = record { under = refl; running = refl; quiet = refl; stands = λ group. refl }
 
 pub idle-holds : (s : LegState) (owner : ℕ) → rows.idle_owner s ≡ Some owner → Holds s
-idle-holds leg_state.Fresh owner h = absurd (no_some owner h)
-idle-holds leg_state.Waiting owner h = absurd (no_some owner h)
-idle-holds leg_state.Admitted owner h = absurd (no_some owner h)
-idle-holds (leg_state.Running worker true) owner h = absurd (no_some owner h)
 idle-holds (leg_state.Running worker false) owner h = running-holds worker false
-idle-holds (leg_state.Ended result tolerated) owner h = absurd (no_some owner h)
+idle-holds s owner h = absurd (no_some owner h)
 
 pub idle-rank : (s : LegState) (owner left : ℕ) → rows.idle_owner s ≡ Some owner → leg_rank s left ≡ 1 + 2 * left
-idle-rank leg_state.Fresh owner left h = absurd (no_some owner h)
-idle-rank leg_state.Waiting owner left h = absurd (no_some owner h)
-idle-rank leg_state.Admitted owner left h = absurd (no_some owner h)
-idle-rank (leg_state.Running worker true) owner left h = absurd (no_some owner h)
 idle-rank (leg_state.Running worker false) owner left h = refl
-idle-rank (leg_state.Ended result tolerated) owner left h = absurd (no_some owner h)
+idle-rank s owner left h = absurd (no_some owner h)
 
 calling-holds : (s : LegState) (owner left : ℕ) → rows.calling_owner s ≡ Some owner → Holds s × (open_calls s ≡ 1) × (leg_rank s left ≡ 2 * left)
-calling-holds leg_state.Fresh owner left h = absurd (no_some owner h)
-calling-holds leg_state.Waiting owner left h = absurd (no_some owner h)
-calling-holds leg_state.Admitted owner left h = absurd (no_some owner h)
 calling-holds (leg_state.Running worker true) owner left h = (running-holds worker true, refl, refl)
-calling-holds (leg_state.Running worker false) owner left h = absurd (no_some owner h)
-calling-holds (leg_state.Ended result tolerated) owner left h = absurd (no_some owner h)
+calling-holds s owner left h = absurd (no_some owner h)
 
 module _ (p : Plan) (b : Board) (l : ℕ) (at : LegAt) (stands : LegStands p b l at) where
   -- a leg that no worker took has ended
@@ -256,13 +234,10 @@ module _ (p : Plan) (b : Board) (l : ℕ) (at : LegAt) (stands : LegStands p b l
   take_leads worker = by at.leg.state refl
     where
       by : (s : LegState) → at.leg.state ≡ s → Leads p b (rows.take_leg b worker at s)
-      by leg_state.Fresh is = tt
-      by leg_state.Waiting is = tt
       by leg_state.Admitted is = leads-if p b (is_stopping at) (Err fault.Stopping) (Ok (rows.leg_state_set b at.place (leg_state.Running worker false), moved)) (λ _. tt)
           (λ _. let rank = ap (λ s. leg_rank s (256 - length at.leg.steps)) is in
           goes_on (λ x. record x { state = leg_state.Running worker false }) (subst Holds (sym is) admitted-holds) refl (running-holds worker false) (omega (arith, rank)))
-      by (leg_state.Running other in_call) is = tt
-      by (leg_state.Ended result tolerated) is = tt
+      by s is = tt
 
   -- the leg has one more step done
   step_leads : (worker : ℕ) (done : DoneStep) (told : Reply) → Holds at.leg.state → length at.leg.steps < 256 → 2 * (256 - length at.leg.steps) ≤ rank_of_leg at.leg

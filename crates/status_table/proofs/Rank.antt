@@ -15,24 +15,21 @@ use Rattle.flow_model.specs.declared.board.LegState.TheVariants as leg_state
 -- of a run: Open, Close, and Cancel if it was not told to stop
 abbrev pub run_rank : RunState → Bool → ℕ
 run_rank run_state.New stop = 2 + cond stop 0 1
-run_rank run_state.Waiting stop = 1 + cond stop 0 1
-run_rank run_state.Going stop = 1 + cond stop 0 1
 run_rank (run_state.Closed result) stop = 0
+run_rank other stop = 1 + cond stop 0 1
 
 -- of a job: Judge
 abbrev pub job_rank : JobState → ℕ
 job_rank job_state.Unjudged = 1
-job_rank job_state.Open = 0
-job_rank (job_state.Shut result) = 0
+job_rank other = 0
 
 -- of a leg with so many steps left: Ask, Take, Begin and End of each, and Finish
 abbrev pub leg_rank : LegState → ℕ → ℕ
 leg_rank leg_state.Fresh left = 3 + 2 * left
-leg_rank leg_state.Waiting left = 2 + 2 * left
-leg_rank leg_state.Admitted left = 2 + 2 * left
 leg_rank (leg_state.Running worker true) left = 2 * left
 leg_rank (leg_state.Running worker false) left = 1 + 2 * left
 leg_rank (leg_state.Ended result tolerated) left = 0
+leg_rank other left = 2 + 2 * left
 
 -- of a run
 abbrev pub rank_of_run : Run → ℕ

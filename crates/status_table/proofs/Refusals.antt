@@ -26,13 +26,5 @@ only_memory r fault.Memory held h = refl
 
 -- any other refusal is the row's
 pub refused : (r : Row) (f : EventFault) → is_memory f ≡ false → Refuses r f → r ≡ Err f
-refused r fault.NoSuch other h = h
-refused r fault.WrongState other h = h
-refused r fault.OtherWorker other h = h
-refused r fault.NeedsOpen other h = h
-refused r fault.SlotsFull other h = h
-refused r fault.Stopping other h = h
-refused r fault.NotStopping other h = h
-refused r fault.StepsLeft other h = h
-refused r fault.BadAnswer other h = h
 refused r fault.Memory other h = absurd (true≢false other)
+refused r f other h = h

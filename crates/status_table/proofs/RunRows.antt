@@ -89,10 +89,8 @@ module _ (p : Plan) (b : Board) (r : ℕ) (at : RunAt) (stands : RunStands p b r
   close_leads = by at.run.state refl
     where
       some-left : (s : RunState) (stop : Bool) → is_closed s ≡ false → 1 ≤ run_rank s stop
-      some-left run_state.New stop h = omega arith
-      some-left run_state.Waiting stop h = omega arith
-      some-left run_state.Going stop h = omega arith
       some-left (run_state.Closed result) stop h = absurd (true≢false h)
+      some-left s stop h = omega arith
 
       idle : (stop : Bool) → is_closed at.run.state ≡ false → is_going at.run.state ≡ false → Leads p b (rows.close_waiting b r at.run stop)
       idle true unclosed waits = run_ends outcome.Cancelled unclosed (some-left at.run.state at.run.stop unclosed)
@@ -100,13 +98,12 @@ module _ (p : Plan) (b : Board) (r : ℕ) (at : RunAt) (stands : RunStands p b r
       idle false unclosed waits = tt
 
       by : (s : RunState) → at.run.state ≡ s → Leads p b (rows.close_run b r at.run s)
-      by run_state.New is = idle at.run.stop (ap is_closed is) (ap is_going is)
-      by run_state.Waiting is = idle at.run.stop (ap is_closed is) (ap is_going is)
       by run_state.Going is = leads-if p b (jobs_have_ended at.run) (rows.run_closes b r at.run (run_result at.run)) (Err fault.NeedsOpen)
           (λ ended. run_ends (run_result at.run) (ap is_closed is) (some-left at.run.state at.run.stop (ap is_closed is))
           (λ plan all. ended-run at.run (run_state.Closed (run_result at.run)) plan.jobs at.run.jobs (ap is_closed is) ended all))
           (λ _. tt)
       by (run_state.Closed result) is = tt
+      by s is = idle at.run.stop (ap is_closed is) (ap is_going is)
 
   -- ---- Cancel
 

@@ -476,10 +476,8 @@ closes_as_left release withdraw p b worker r at groups ordered lawful is shows =
     stands = run_found p b r at is
 
     some-left : (s : RunState) (stop : Bool) → is_closed s ≡ false → 1 ≤ run_rank s stop
-    some-left run_state.New stop h = omega arith
-    some-left run_state.Waiting stop h = omega arith
-    some-left run_state.Going stop h = omega arith
     some-left (run_state.Closed result) stop h = absurd (true≢false h)
+    some-left s stop h = omega arith
 
     ends : (result : Outcome) → is_closed at.run.state ≡ false
         → ((plan : RunPlan) → RunFits plan at.run → AllZip (JobFits (run_state.Closed result) at.run.group) plan.jobs at.run.jobs) → ShowsThen after (run_closes b r at.run result)
@@ -494,12 +492,11 @@ closes_as_left release withdraw p b worker r at groups ordered lawful is shows =
     idle false unclosed quiet = tt
 
     by : (s : RunState) → at.run.state ≡ s → ShowsThen after (close_run b r at.run s)
-    by run_state.New state = idle at.run.stop (ap is_closed state) (ap is_going state)
-    by run_state.Waiting state = idle at.run.stop (ap is_closed state) (ap is_going state)
     by run_state.Going state = shows-if after (jobs_have_ended at.run) (run_closes b r at.run (run_result at.run)) (Err fault.NeedsOpen)
         (λ ended. ends (run_result at.run) (ap is_closed state) (λ plan all. ended-run at.run (run_state.Closed (run_result at.run)) plan.jobs at.run.jobs (ap is_closed state) ended all))
         (λ _. tt)
     by (run_state.Closed result) state = tt
+    by s state = idle at.run.stop (ap is_closed state) (ap is_going state)
 
 -- ---- Drop
 
@@ -556,10 +553,7 @@ module _ (first : FirstHolds) (next : NextDisplaces) (same : OwnRunChangesNothin
 
 is-fresh : (s : LegState) → is_fresh s ≡ true → s ≡ leg_state.Fresh
 is-fresh leg_state.Fresh h = refl
-is-fresh leg_state.Waiting h = absurd (true≢false (sym h))
-is-fresh leg_state.Admitted h = absurd (true≢false (sym h))
-is-fresh (leg_state.Running worker in_call) h = absurd (true≢false (sym h))
-is-fresh (leg_state.Ended result tolerated) h = absurd (true≢false (sym h))
+is-fresh s h = absurd (true≢false (sym h))
 
 pub asks_as_entered : FirstHolds → NextDisplaces → OwnRunChangesNothing → AsksAsEntered
 asks_as_entered first next same p b worker l at groups lawful is shows =

@@ -10,7 +10,7 @@ use Rattle.flow_model.specs.declared.board.LegState.{LegState}
 use Rattle.flow_model.specs.declared.board.LegState.TheVariants as leg_state
 use Rattle.flow_model.specs.declared.event.Member.{Member}
 use Rattle.flow_model.specs.declared.event.Member.TheVariants as member
-use Rattle.status_table.specs.Groups.{Standing, apart, holding, waiting, run_standing, leg_standing, leg_stands, waits_name, first_place, run_or_leg, first_member, waiter, next_after}
+use Rattle.status_table.specs.Groups.{Standing, holding, run_standing, leg_standing, leg_stands, waits_name, first_place, run_or_leg, first_member, waiter, next_after}
 use Rattle.board_decisions.proofs.Lists.{same_some, no_some}
 use Rattle.status_table.proofs.Numbers.{legs_are_numbered}
 
@@ -108,11 +108,8 @@ Unended b (member.Run r) = Unit {0}
 Unended b (member.Leg l) = (leg : Leg) × (slice_get (board_legs b) l ≡ Some leg) × (is_ended leg.state ≡ false)
 
 waits_unended : (s : LegState) (group : Option (List ℕ)) (name : List ℕ) → waits_name name (leg_stands s group) ≡ true → is_ended s ≡ false
-waits_unended leg_state.Fresh group name h = refl
-waits_unended leg_state.Waiting group name h = refl
-waits_unended leg_state.Admitted group name h = refl
-waits_unended (leg_state.Running worker in_call) group name h = refl
 waits_unended (leg_state.Ended result tolerated) group name h = absurd (true≢false (sym h))
+waits_unended s group name h = refl
 
 pub waiter_unended : (b : Board) (name : List ℕ) (w : Member) → waiter b name ≡ Some w → Unended b w
 waiter_unended b name (member.Run r) h = tt
@@ -126,9 +123,6 @@ pub next_other : (b : Board) (l : ℕ) (leg : Leg) → slice_get (board_legs b) 
 next_other b l leg there k next = by_standing (leg_standing leg) refl next
   where
     by_standing : (s : Standing) → leg_standing leg ≡ s → next_after b s ≡ Some (member.Leg k) → Unended b (member.Leg k) × (k ≢ l)
-    by_standing apart is h = absurd (no_some (member.Leg k) h)
-    by_standing (waiting name) is h = absurd (no_some (member.Leg k) h)
-    by_standing (holding None) is h = absurd (no_some (member.Leg k) h)
     by_standing (holding (Some name)) is h =
         let found = leg_found b (waits_name name) k h in (
           waiter_unended b name (member.Leg k) h,
@@ -136,10 +130,9 @@ next_other b l leg there k next = by_standing (leg_standing leg) refl next
               let one : found.leg ≡ leg = same_some found.leg leg (sym found.there ∙ ap (slice_get (board_legs b)) same ∙ there) in
               true≢false (sym found.passes ∙ ap (λ x. waits_name name (leg_standing x)) one ∙ ap (waits_name name) is),
         )
+    by_standing s is h = absurd (no_some (member.Leg k) h)
 
 -- who is next after a run has not ended
 pub next_unended : (b : Board) (s : Standing) (w : Member) → next_after b s ≡ Some w → Unended b w
-next_unended b apart w h = absurd (no_some w h)
-next_unended b (waiting name) w h = absurd (no_some w h)
-next_unended b (holding None) w h = absurd (no_some w h)
 next_unended b (holding (Some name)) w h = waiter_unended b name w h
+next_unended b s w h = absurd (no_some w h)

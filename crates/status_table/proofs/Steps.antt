@@ -127,15 +127,12 @@ pub record Live (p : Plan) (b : Board) (l : ℕ) (at : LegAt) : Type 0 where
   pub opened : is_open at.job.state ≡ true
 
 pub going-unclosed : (s : RunState) → is_going s ≡ true → is_closed s ≡ false
-going-unclosed run_state.New h = refl
-going-unclosed run_state.Waiting h = refl
-going-unclosed run_state.Going h = refl
 going-unclosed (run_state.Closed x) h = sym h
+going-unclosed s h = refl
 
 open-unshut : (s : JobState) → is_open s ≡ true → is_shut s ≡ false
-open-unshut job_state.Unjudged h = refl
-open-unshut job_state.Open h = refl
 open-unshut (job_state.Shut x) h = sym h
+open-unshut s h = refl
 
 module _ (p : Plan) (b : Board) (l : ℕ) (at : LegAt) (f : Leg → Leg) (live : Live p b l at) (new : Board) (new_is : new.runs ≡ (with_leg b at.place f).runs) where
   abbrev in_job : Job → Job

@@ -24,7 +24,7 @@ use Rattle.status_table.specs.declared.fault.EventFault.TheVariants as fault
 use Rattle.status_table.specs.Admissions.{Shows, ShowsThen, StaysShown}
 use Rattle.status_table.specs.Change.{changed, with_leg}
 use Rattle.status_table.specs.Groups.{Standing, holding, run_standing, leg_stands, leg_standing, holds_name, waits_name, first_place, run_or_leg, first_member, stopped, moved}
-use Rattle.status_table.specs.Row.{Beginning, calls, skips, faults, job_state_set, leg_state_set, step_done, judge_job, judge_found, judgement, take_leg, take_found, idle_owner, next_step, beginning_by, begin_leg, begin_found, calling_owner, ending_by, end_leg, end_found, cancel_found}
+use Rattle.status_table.specs.Row.{Beginning, calls, job_state_set, leg_state_set, step_done, judge_job, judge_found, judgement, take_leg, take_found, idle_owner, next_step, beginning_by, begin_leg, begin_found, calling_owner, ending_by, end_leg, end_found, cancel_found}
 use Rattle.status_table.proofs.Decided.{by_test}
 use Rattle.status_table.proofs.Found.{LegStands, leg_stands as leg_found, leg_item}
 use Rattle.status_table.proofs.LegRows.{idle-holds}
@@ -87,14 +87,11 @@ pub take_shows : (l : ℕ) → StaysShown (event.Take l)
 take_shows l p b worker groups shows = by_test (ShowsThen groups) (nat_le worker 15) (take_found b worker (leg_at p b l)) (Err fault.NoSuch) (found (leg_at p b l) refl) tt
   where
     taken : (at : LegAt) → leg_at p b l ≡ Some at → (s : LegState) → at.leg.state ≡ s → ShowsThen groups (take_leg b worker at s)
-    taken at is leg_state.Fresh state = tt
-    taken at is leg_state.Waiting state = tt
     taken at is leg_state.Admitted state =
         by_test (ShowsThen groups) (is_stopping at) (Err fault.Stopping) (Ok (leg_state_set b at.place (leg_state.Running worker false), moved)) tt
         (shows_same groups b (leg_state_set b at.place (leg_state.Running worker false))
         (leg_still p b l at (leg_found p b l at is) (λ leg. record leg { state = leg_state.Running worker false }) (sym (ap (λ s. leg_stands s at.leg.group) state))) shows)
-    taken at is (leg_state.Running other in_call) state = tt
-    taken at is (leg_state.Ended result tolerated) state = tt
+    taken at is s state = tt
 
     found : (o : Option LegAt) → leg_at p b l ≡ o → ShowsThen groups (take_found b worker o)
     found None is = tt
@@ -113,9 +110,8 @@ begin_shows l p b worker groups shows = by_test (ShowsThen groups) (nat_le worke
     begun at is stood (Ok (calls call)) =
         shows_same groups b (leg_state_set b at.place (leg_state.Running worker true))
         (leg_still p b l at (leg_found p b l at is) (λ leg. record leg { state = leg_state.Running worker true }) (sym stood)) shows
-    begun at is stood (Ok skips) = stepped p b worker l at groups _ is stood shows
-    begun at is stood (Ok (faults f)) = stepped p b worker l at groups _ is stood shows
     begun at is stood (Err f) = tt
+    begun at is stood x = stepped p b worker l at groups _ is stood shows
 
     by_owner : (at : LegAt) → leg_at p b l ≡ Some at → (owner : Option ℕ) → idle_owner at.leg.state ≡ owner → ShowsThen groups (begin_leg b worker at (beginning_by worker l at owner (next_step at)))
     by_owner at is None was = tt
@@ -126,11 +122,8 @@ begin_shows l p b worker groups shows = by_test (ShowsThen groups) (nat_le worke
     found (Some at) is = by_owner at is (idle_owner at.leg.state) refl
 
 calling-stands : (s : LegState) (owner : ℕ) (group : Option (List ℕ)) → calling_owner s ≡ Some owner → leg_stands s group ≡ holding group
-calling-stands leg_state.Fresh owner group h = absurd (no_some owner h)
-calling-stands leg_state.Waiting owner group h = absurd (no_some owner h)
-calling-stands leg_state.Admitted owner group h = absurd (no_some owner h)
 calling-stands (leg_state.Running worker in_call) owner group h = refl
-calling-stands (leg_state.Ended result tolerated) owner group h = absurd (no_some owner h)
+calling-stands s owner group h = absurd (no_some owner h)
 
 pub end_shows : (l : ℕ) (a : Answer) → StaysShown (event.End l a)
 end_shows l a p b worker groups shows = by_test (ShowsThen groups) (nat_le worker 15) (end_found b worker a (leg_at p b l)) (Err fault.NoSuch) (found (leg_at p b l) refl) tt

@@ -47,11 +47,10 @@ under-context s g j leg right under = by leg.state right under
 
     by : (t : LegState) → is_fresh t || (is_open j && (not (is_under_way t) || (is_going s && not (is_waiting t && share_name g leg.group)))) ≡ true → is_under_way t ≡ true
         → (is_going s ≡ true) × (is_open j ≡ true)
-    by leg_state.Fresh h u = absurd (true≢false (sym u))
     by leg_state.Waiting h u = both (not (share_name g leg.group)) h
     by leg_state.Admitted h u = both true h
     by (leg_state.Running worker in_call) h u = both true h
-    by (leg_state.Ended result tolerated) h u = absurd (true≢false (sym u))
+    by t h u = absurd (true≢false (sym u))
 
 -- there a leg that does not wait stands rightly
 pub right-there : (s : RunState) (g : Option (List ℕ)) (j : JobState) (leg : Leg) → is_going s ≡ true → is_open j ≡ true → is_waiting leg.state ≡ false
@@ -61,9 +60,8 @@ right-there s g j leg going opened quiet = by leg.state quiet
     by : (t : LegState) → is_waiting t ≡ false → is_fresh t || (is_open j && (not (is_under_way t) || (is_going s && not (is_waiting t && share_name g leg.group)))) ≡ true
     by leg_state.Fresh h = refl
     by leg_state.Waiting h = absurd (true≢false h)
-    by leg_state.Admitted h = and-both (is_open j) (is_going s && true) opened (and-both (is_going s) true going refl)
-    by (leg_state.Running worker in_call) h = and-both (is_open j) (is_going s && true) opened (and-both (is_going s) true going refl)
     by (leg_state.Ended result tolerated) h = and-both (is_open j) true opened refl
+    by t h = and-both (is_open j) (is_going s && true) opened (and-both (is_going s) true going refl)
 
 -- and so does one that waits, if not for its own run
 pub right-waiting : (s : RunState) (g : Option (List ℕ)) (j : JobState) (leg : Leg) → is_going s ≡ true → is_open j ≡ true → leg.state ≡ leg_state.Waiting
@@ -81,9 +79,8 @@ idle-right s t g h j leg idle right = by leg.state right
         → is_fresh u || (is_open j && (not (is_under_way u) || (is_going t && not (is_waiting u && share_name h leg.group)))) ≡ true
     by leg_state.Fresh k = refl
     by leg_state.Waiting k = never (not (share_name g leg.group)) (is_open j && (is_going t && not (share_name h leg.group))) k
-    by leg_state.Admitted k = never true (is_open j && (is_going t && true)) k
-    by (leg_state.Running worker in_call) k = never true (is_open j && (is_going t && true)) k
     by (leg_state.Ended result tolerated) k = k
+    by u k = never true (is_open j && (is_going t && true)) k
 
 pub idle-run : (s t : RunState) (g h : Option (List ℕ)) (plans : List JobPlan) (jobs : List Job) → is_going s ≡ false → AllZip (JobFits s g) plans jobs → AllZip (JobFits t h) plans jobs
 idle-run s t g h plans jobs idle all = zip-weaker (JobFits s g) (JobFits t h) (λ q job fits. record {
@@ -99,9 +96,8 @@ ended-right : (s t : RunState) (g : Option (List ℕ)) (j : JobState) (leg : Leg
 ended-right s t g j leg unclosed right ended = by leg.state right (sym (ap (λ c. c || is_shut j || is_ended leg.state) unclosed) ∙ ended)
   where
     open-or-shut : (state : JobState) → is_open state ≡ true → is_shut state || false ≡ true → ⊥
-    open-or-shut job_state.Unjudged h k = true≢false (sym h)
     open-or-shut job_state.Open h k = true≢false (sym k)
-    open-or-shut (job_state.Shut result) h k = true≢false (sym h)
+    open-or-shut state h k = true≢false (sym h)
 
     never : (w : Bool) (c : Bool) → is_open j && w ≡ true → is_shut j || false ≡ true → c ≡ true
     never w c k e = absurd (open-or-shut j (and-left (is_open j) w k) e)
@@ -110,9 +106,8 @@ ended-right s t g j leg unclosed right ended = by leg.state right (sym (ap (λ c
         → is_shut j || is_ended u ≡ true → is_fresh u || (is_open j && (not (is_under_way u) || (is_going t && not (is_waiting u && share_name g leg.group)))) ≡ true
     by leg_state.Fresh k e = refl
     by leg_state.Waiting k e = never (is_going s && not (share_name g leg.group)) (is_open j && (is_going t && not (share_name g leg.group))) k e
-    by leg_state.Admitted k e = never (is_going s && true) (is_open j && (is_going t && true)) k e
-    by (leg_state.Running worker in_call) k e = never (is_going s && true) (is_open j && (is_going t && true)) k e
     by (leg_state.Ended result tolerated) k e = k
+    by u k e = never (is_going s && true) (is_open j && (is_going t && true)) k e
 
 both-weaker : {A : Type 0} (s u t : A → Bool) → ((x : A) → s x ≡ true → u x ≡ true → t x ≡ true) → (xs : List A) → list_all s xs ≡ true → list_all u xs ≡ true → list_all t xs ≡ true
 both-weaker s u t f [] h k = refl
@@ -179,13 +174,11 @@ leg-waits (leg_state.Ended result tolerated) g name h = absurd (no h)
     no e = cc
 
 run-holds : (s : RunState) (g name : Option (List ℕ)) → run_stands s g ≡ holding name → is_closed s ≡ false
-run-holds run_state.New g name h = refl
-run-holds run_state.Waiting g name h = refl
-run-holds run_state.Going g name h = refl
 run-holds (run_state.Closed result) g name h = absurd (no h)
   where
     no : apart ≡ holding name → ⊥
     no e = cc
+run-holds s g name h = refl
 
 record Holds (s : LegState) : Type 0 where
   under : is_under_way s ≡ true
@@ -201,12 +194,11 @@ leg-holds leg_state.Waiting g name h = absurd (no h)
   where
     no : waiting g ≡ holding name → ⊥
     no e = cc
-leg-holds leg_state.Admitted g name h = record { under = refl; running = refl; quiet = refl }
-leg-holds (leg_state.Running worker in_call) g name h = record { under = refl; running = refl; quiet = refl }
 leg-holds (leg_state.Ended result tolerated) g name h = absurd (no h)
   where
     no : apart ≡ holding name → ⊥
     no e = cc
+leg-holds s g name h = record { under = refl; running = refl; quiet = refl }
 
 -- ---- where a leg under way is
 
@@ -358,14 +350,12 @@ named n None h = absurd (true≢false (sym h))
 named n (Some m) h = let e : n ≡ m = (bytes_eq-Decides n m).0 h in ap (λ x. Some x) (sym e)
 
 holds-is : (n : List ℕ) (s : Standing) → holds_name n s ≡ true → s ≡ holding (Some n)
-holds-is n apart h = absurd (true≢false (sym h))
 holds-is n (holding name) h = ap holding (named n name h)
-holds-is n (waiting name) h = absurd (true≢false (sym h))
+holds-is n s h = absurd (true≢false (sym h))
 
 waits-is : (n : List ℕ) (s : Standing) → waits_name n s ≡ true → s ≡ waiting (Some n)
-waits-is n apart h = absurd (true≢false (sym h))
 waits-is n (waiting name) h = ap waiting (named n name h)
-waits-is n (holding name) h = absurd (true≢false (sym h))
+waits-is n s h = absurd (true≢false (sym h))
 
 pub no_holder : (b : Board) (n : List ℕ) → holder b n ≡ None → holders b n ≡ 0
 unfolding FoundBy

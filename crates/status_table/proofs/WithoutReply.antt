@@ -61,16 +61,8 @@ bare_ends worker at a in_call is =
 
 -- What is refused is refused without a reply.
 pub refused_unasked : (x : Result Beginning EventFault) (f : EventFault) → Refuses x f → Refuses (begins_by x) f
-refused_unasked x fault.NoSuch h = ap begins_by h
-refused_unasked x fault.WrongState h = ap begins_by h
-refused_unasked x fault.OtherWorker h = ap begins_by h
-refused_unasked x fault.NeedsOpen h = ap begins_by h
-refused_unasked x fault.SlotsFull h = ap begins_by h
-refused_unasked x fault.Stopping h = ap begins_by h
-refused_unasked x fault.NotStopping h = ap begins_by h
-refused_unasked x fault.StepsLeft h = ap begins_by h
-refused_unasked x fault.BadAnswer h = ap begins_by h
 refused_unasked x fault.Memory h = tt
+refused_unasked x f h = ap begins_by h
 
 -- the board after a step of a leg was begun by its worker
 abbrev pub begun_board : Board → ℕ → LegAt → Begins → Board
