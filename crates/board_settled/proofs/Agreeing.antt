@@ -1,5 +1,5 @@
 -- A board that is played as settled agrees with what is settled.
-use Rattle.std.proofs.Common.{◌≡◌, ℕ, zero, suc, ◌+◌, Bool, true, List, [], ◌∷◌, ◌++◌, Option, Some, None, option_map, length, map, take, drop, slice_get, ap, subst, sym, refl, ◌∙◌, arith}
+use Rattle.std.proofs.Common.{◌≡◌, ℕ, zero, suc, ◌+◌, Bool, true, List, [], ◌∷◌, ◌++◌, Option, Some, None, option_map, length, map, take, drop, slice_get, ap, subst, sym, refl, ◌∙◌, arith, append-nil, append_assoc}
 use Rattle.std.specs.List.{AllZip}
 use Rattle.std.proofs.Math.Seq.{take-append_seam}
 use Rattle.std.proofs.lemmas.Bool.{true≢false}
@@ -39,7 +39,7 @@ use Rattle.board_decisions.proofs.Lists.{same_some, no_some}
 use Rattle.board_settled.proofs.Ends.{leg_is, leg_item, legs_size, job_finished}
 use Rattle.board_settled.proofs.InPlay.{Stands}
 use Rattle.board_settled.proofs.Kept.{after_stands}
-use Rattle.board_settled.proofs.Lists.{zip-each}
+use Rattle.board_settled.proofs.Lists.{zip-each, mapped_from}
 use Rattle.board_settled.proofs.Numbers.{before_run, before_job}
 use Rattle.board_settled.proofs.Played.{fresh_leg, is_judged, LegPlayed, StateStands, JobPlayed, jobs_of, RunPlayed, Played, jobs_size, job_item}
 
@@ -47,11 +47,6 @@ use Rattle.board_settled.proofs.Played.{fresh_leg, is_judged, LegPlayed, StateSt
 
 mapped : {A B : Type 0} (f : A → B) (xs : List A) (i : ℕ) (x : A) (y : B) → slice_get xs i ≡ Some x → slice_get (map f xs) i ≡ Some y → f x ≡ y
 mapped f xs i x y is there = same_some (f x) y (sym (slice_get-map f xs i ∙ ap (option_map f) is) ∙ there)
-
-some_mapped : {A B : Type 0} (f : A → B) (xs : List A) (i : ℕ) (y : B) → slice_get (map f xs) i ≡ Some y → (x : A) × (f x ≡ y)
-some_mapped f [] i y h = absurd (no_some y h)
-some_mapped f (x ∷ xs) zero y h = (x, same_some (f x) y h)
-some_mapped f (x ∷ xs) (suc i) y h = some_mapped f xs i y h
 
 fresh_played : (answers : Answers) (spot : Spot) (call : Option StepCall) → LegPlayed answers spot call fresh_leg
 fresh_played answers spot call = record {
@@ -73,10 +68,10 @@ new_played p answers calls r plan run planned is = subst (RunPlayed answers (bef
       (JobPlayed answers plan (take j (jobs_of answers (before_run r p.runs) plan)) (before_run r p.runs + before_job j plan.jobs) job_plan calls)
       (mapped new_job plan.jobs j job_plan job at there) (record {
         state = tt;
-        untouched = λ _ k leg here. sym (some_mapped new_leg job_plan.legs k leg here).1;
+        untouched = λ _ k leg here. sym (mapped_from new_leg job_plan.legs k leg here).2;
         legs = λ k leg here. subst (LegPlayed answers
             (spot_at plan job_plan (needs_of plan (take j (jobs_of answers (before_run r p.runs) plan)) job_plan) (before_run r p.runs + before_job j plan.jobs) k)
-            (calls (before_run r p.runs + before_job j plan.jobs + k))) (some_mapped new_leg job_plan.legs k leg here).1
+            (calls (before_run r p.runs + before_job j plan.jobs + k))) (mapped_from new_leg job_plan.legs k leg here).2
             (fresh_played answers
             (spot_at plan job_plan (needs_of plan (take j (jobs_of answers (before_run r p.runs) plan)) job_plan) (before_run r p.runs + before_job j plan.jobs) k)
             (calls (before_run r p.runs + before_job j plan.jobs + k)));
@@ -108,23 +103,15 @@ runs_size answers first (x ∷ xs) = ap suc (runs_size answers (first + leg_coun
 
 -- ---- steps
 
-append-none : (xs : List DoneStep) → xs ++ [] ≡ xs
-append-none [] = refl
-append-none (x ∷ xs) = ap (λ (ys : List DoneStep). x ∷ ys) (append-none xs)
-
-append-assoc : (xs : List DoneStep) (y : DoneStep) (zs : List DoneStep) → (xs ++ y ∷ []) ++ zs ≡ xs ++ y ∷ zs
-append-assoc [] y zs = refl
-append-assoc (x ∷ xs) y zs = ap (λ (ys : List DoneStep). x ∷ ys) (append-assoc xs y zs)
-
 -- what is done stays in front
 front : (answers : Answers) (spot : Spot) (done : List DoneStep) (steps : List StepPlan) → (more : List DoneStep) × (steps_from answers spot done steps ≡ done ++ more)
-front answers spot done [] = ([], sym (append-none done))
+front answers spot done [] = ([], sym (append-nil done))
 front answers spot done (step ∷ steps) = by (next_done answers spot done step) (λ next. front answers spot (done ++ next ∷ []) steps)
   where
     by : (o : Option DoneStep) → ((next : DoneStep) → (more : List DoneStep) × (steps_from answers spot (done ++ next ∷ []) steps ≡ (done ++ next ∷ []) ++ more))
         → (more : List DoneStep) × (steps_then done o (λ next. steps_from answers spot (done ++ next ∷ []) steps) ≡ done ++ more)
-    by None later = ([], sym (append-none done))
-    by (Some next) later = let x = later next in (next ∷ x.0, x.1 ∙ append-assoc done next x.0)
+    by None later = ([], sym (append-nil done))
+    by (Some next) later = let x = later next in (next ∷ x.0, x.1 ∙ append_assoc done (next ∷ []) x.0)
 
 -- ---- how each part agrees
 
@@ -185,10 +172,8 @@ stands_agrees p answers calls b stands =
 -- ---- a board that is finished
 
 pub closed-result : (s : RunState) → is_closed s ≡ true → (result : Outcome) × (s ≡ run_state.Closed result)
-closed-result run_state.New h = absurd (true≢false (sym h))
-closed-result run_state.Waiting h = absurd (true≢false (sym h))
-closed-result run_state.Going h = absurd (true≢false (sym h))
 closed-result (run_state.Closed result) h = (result, refl)
+closed-result s h = absurd (true≢false (sym h))
 
 run_finished : (answers : Answers) (first : ℕ) (plan : RunPlan) (calls : ℕ → Option StepCall) (run : Run) → AllZip JobShape plan.jobs run.jobs
     → RunPlayed answers first plan calls run → is_closed run.state ≡ true → RunIsSettled (run_settled answers first plan) run

@@ -1,6 +1,5 @@
 -- What the call of a step is made of.
 use Rattle.std.proofs.Common.{◌≡◌, ℕ, suc, ◌==◌, Bool, true, false, List, [], ◌∷◌, map, Option, Some, None, Result, Ok, Err, length, nat_le, if◌then◌else◌, refl, sym, ap, subst, ◌∙◌}
-use Rattle.std.specs.List.Sorted.{IsStrictlySortedBy}
 use Rattle.board_decisions.specs.Decisions.{then_value, seen_from, flow_env, job_env, set_over, leg_env, step_env, directory_value, work_value, called_if, leg_status, step_decision}
 use Rattle.board_decisions.specs.Contexts.{overlaid}
 use Rattle.board_decisions.specs.Place.{LegAt, leg_at}
@@ -21,25 +20,20 @@ use Rattle.board_settled.specs.CallLaws.{last_set, SetInOrder, StepInOrder, Work
 use Rattle.status_table.specs.Calls.{IfCalled}
 use Rattle.status_table.specs.Row.{decided, next_step, idle_owner, beginning_by, begin_leg, begin_found}
 use Rattle.plan_values.specs.Env.{env_value, laid_over, or_below}
-use Rattle.plan_values.specs.Laws.{EnvHasItsNames, LevelsStayInOrder, MostSpecificWins}
 use Rattle.plan_values.specs.Texts.{text_text, condition_value}
 use Rattle.plan_values.specs.Values.{Env}
 use Rattle.plan_values.specs.declared.place.TextPlace.TheVariants as place
 use Rattle.status_table.proofs.Decided.{by_test}
 use Rattle.status_table.proofs.Found.{leg_stands}
 use Rattle.board_decisions.proofs.Lists.{same_some}
+use Rattle.board_settled.proofs.Pairs.{below_through, one_found}
+use Rattle.plan_values.specs.Laws.{EnvHasItsNames, LevelsStayInOrder}
 
 -- ---- answers that are made of others
 
-same-ok : {A : Type 0} (x y : A) (r : Result A ValueFault) → r ≡ Ok x → r ≡ Ok y → x ≡ y
-same-ok x y r h g = cc
-
-no-ok : {A : Type 0} (f : ValueFault) (y : A) → (let r : Result A ValueFault = Err f in r ≡ Ok y) → ⊥
-no-ok f y h = cc
-
 then-ok : {A B : Type 0} (r : Result A ValueFault) (next : A → Result B ValueFault) (y : B) → then_value r next ≡ Ok y → (x : A) × (r ≡ Ok x) × (next x ≡ Ok y)
 then-ok (Ok x) next y h = (x, refl, h)
-then-ok (Err f) next y h = absurd (no-ok f y h)
+then-ok (Err f) next y h = absurd (cc)
 
 -- ---- the levels of variables
 
@@ -60,9 +54,9 @@ levels at step env h =
     let of_job = then-ok (job_env at) (λ under. Ok (set_over at.leg.steps under)) below.0 below.1 in
     let flow = then-ok (flow_env at) (λ under. then_value (env_value (seen_from at place.JobEnv []) at.job_plan.env) (λ above. Ok (laid_over above under))) of_job.0 of_job.1 in
     let job = then-ok (env_value (seen_from at place.JobEnv []) at.job_plan.env) (λ above. Ok (laid_over above flow.0)) of_job.0 flow.2 in
-    let under : laid_over job.0 flow.0 ≡ of_job.0 = same-ok (laid_over job.0 flow.0) of_job.0 (Ok (laid_over job.0 flow.0)) refl job.2 in
-    let two : set_over at.leg.steps (laid_over job.0 flow.0) ≡ below.0 = ap (set_over at.leg.steps) under ∙ same-ok (set_over at.leg.steps of_job.0) below.0 (Ok (set_over at.leg.steps of_job.0)) refl of_job.2 in
-    let all : laid_over own.0 below.0 ≡ env = same-ok (laid_over own.0 below.0) env (Ok (laid_over own.0 below.0)) refl own.2 in
+    let under : laid_over job.0 flow.0 ≡ of_job.0 = cc job.2 in
+    let two : set_over at.leg.steps (laid_over job.0 flow.0) ≡ below.0 = cc (under, of_job.2) in
+    let all : laid_over own.0 below.0 ≡ env = cc own.2 in
     record {
       workflow = flow.0;
       job = job.0;
@@ -89,18 +83,12 @@ asked l at step call h =
     made : (env : Env) (given : CallWork) → StepCall
     made env given = record { leg = l; step = length at.leg.steps; work = given; env = env }
 
-    turned : (x : StepCall) → x ≡ call → Asked at step x → Asked at step call
-    turned x e = subst (Asked at step) e
-
     called : (env : Env) → step_env at step ≡ Ok env → (c : Bool) → called_if l at step env c ≡ Ok (Some call) → Asked at step call
     called env is true g =
         let given = then-ok (work_value (seen_from at place.StepText env) step.work) (λ asked. Ok (Some (made env asked))) (Some call) g in
-        let same : Some (made env given.0) ≡ Some call = same-ok (Some (made env given.0)) (Some call) (Ok (Some (made env given.0))) refl given.2 in
-        turned (made env given.0) (same_some (made env given.0) call same) (record { env = is; work = given.1 })
-    called env is false g = absurd (no_call g)
-      where
-        no_call : (let r : Result (Option StepCall) ValueFault = Ok None in r ≡ Ok (Some call)) → ⊥
-        no_call e = cc
+        let same : made env given.0 ≡ call = cc given.2 in
+        subst (Asked at step) same (record { env = is; work = given.1 })
+    called env is false g = absurd (cc)
 
 -- ---- order
 
@@ -109,11 +97,11 @@ unfolding work_value
 asked_in_order law c (work.Run dir run shell) given ordered h =
     let script = then-ok (text_text c run) (λ script. then_value (directory_value c dir) (λ there. Ok (call_work.Script script shell there))) given h in
     let there = then-ok (directory_value c dir) (λ there. Ok (call_work.Script script.0 shell there)) given script.2 in
-    let same = same-ok (call_work.Script script.0 shell there.0) given (Ok (call_work.Script script.0 shell there.0)) refl there.2 in
+    let same : call_work.Script script.0 shell there.0 ≡ given = cc there.2 in
     subst AskedInOrder same tt
 asked_in_order law c (work.Uses uses given') given ordered h =
     let inputs = then-ok (env_value c given') (λ inputs. Ok (call_work.Uses uses inputs)) given h in
-    let same = same-ok (call_work.Uses uses inputs.0) given (Ok (call_work.Uses uses inputs.0)) refl inputs.2 in
+    let same : call_work.Uses uses inputs.0 ≡ given = cc inputs.2 in
     subst AskedInOrder same (law c given' inputs.0 ordered inputs.1).1
 
 -- the maps that a step sees are in order
@@ -135,24 +123,15 @@ set_in_order : LevelsStayInOrder → (levels : List Env) (below : Env) → Ascen
 set_in_order stay [] below h = h
 set_in_order stay (level ∷ levels) below h = set_in_order stay levels (laid_over level below) (stay below level h)
 
-below_through : (x y z : Option (List ℕ)) → or_below x (or_below y z) ≡ or_below (or_below x y) z
-below_through None y z = refl
-below_through (Some v) y z = refl
-
--- one level over another, as the law says it of three
-one_found : MostSpecificWins → (level below : Env) (name : List ℕ) → Ascends level → value_at name (laid_over level below) ≡ or_below (value_at name level) (value_at name below)
-unfolding laid_over IsStrictlySortedBy
-one_found wins level below name h = wins below [] level name tt h
-
 abbrev levels_of : List DoneStep → List Env
 levels_of steps = map (λ done. done.env) steps
 
-set_found : MostSpecificWins → (steps : List DoneStep) (below : Env) (name : List ℕ) → SetInOrder steps
+set_found : (steps : List DoneStep) (below : Env) (name : List ℕ) → SetInOrder steps
     → value_at name (overlaid (levels_of steps) below) ≡ or_below (last_set name steps) (value_at name below)
-set_found wins [] below name h = refl
-set_found wins (done ∷ later) below name h =
-    set_found wins later (laid_over done.env below) name (λ i x at. h (suc i) x at)
-    ∙ ap (or_below (last_set name later)) (one_found wins done.env below name (h 0 done refl))
+set_found [] below name h = refl
+set_found (done ∷ later) below name h =
+    set_found later (laid_over done.env below) name (λ i x at. h (suc i) x at)
+    ∙ ap (or_below (last_set name later)) (one_found done.env below name (h 0 done refl))
     ∙ below_through (last_set name later) (value_at name done.env) (value_at name below)
 
 call_in_order : EnvHasItsNames → LevelsStayInOrder → (at : LegAt) (step : StepPlan) (call : StepCall) → OrderedHere at step → Asked at step call → CallInOrder call
@@ -165,8 +144,8 @@ call_in_order names stay at step call ordered made =
       work = asked_in_order names (seen_from at place.StepText call.env) step.work call.work ordered.own.work made.work;
     }
 
-call_most_specific : EnvHasItsNames → MostSpecificWins → (at : LegAt) (step : StepPlan) (call : StepCall) → OrderedHere at step → SetInOrder at.leg.steps → Asked at step call → MostSpecificIsGiven at step call
-call_most_specific names wins at step call ordered set made =
+call_most_specific : EnvHasItsNames → (at : LegAt) (step : StepPlan) (call : StepCall) → OrderedHere at step → SetInOrder at.leg.steps → Asked at step call → MostSpecificIsGiven at step call
+call_most_specific names at step call ordered set made =
     let three = levels at step call.env made.env in
     let job = (names (seen_from at place.JobEnv []) at.job_plan.env three.job ordered.job three.job_is).1 in
     let own = (names (seen_from at place.StepEnv (set_over at.leg.steps (laid_over three.job three.workflow))) step.env three.own ordered.own.env three.own_is).1 in
@@ -179,28 +158,26 @@ call_most_specific names wins at step call ordered set made =
       own_is = three.own_is;
       given = λ name.
           ap (λ (e : Env). value_at name e) (sym three.laid)
-          ∙ one_found wins three.own (set_over at.leg.steps (laid_over three.job three.workflow)) name own
-          ∙ ap (or_below (value_at name three.own)) (set_found wins at.leg.steps (laid_over three.job three.workflow) name set
-          ∙ ap (or_below (last_set name at.leg.steps)) (one_found wins three.job three.workflow name job));
+          ∙ one_found three.own (set_over at.leg.steps (laid_over three.job three.workflow)) name own
+          ∙ ap (or_below (value_at name three.own)) (set_found at.leg.steps (laid_over three.job three.workflow) name set
+          ∙ ap (or_below (last_set name at.leg.steps)) (one_found three.job three.workflow name job));
     }
 
 -- ---- the row
 
 if_decided : (P : StepCall → Type 0) (b : Board) (worker : ℕ) (at : LegAt) (d : Result (Option StepCall) ValueFault)
     → ((call : StepCall) → d ≡ Ok (Some call) → P call) → IfCalled P (begin_leg b worker at (Ok (decided d)))
-if_decided P b worker at (Ok None) h = tt
 if_decided P b worker at (Ok (Some call)) h = h call refl
-if_decided P b worker at (Err f) h = tt
+if_decided P b worker at d h = tt
 
 if_begun : (P : StepCall → Type 0) (b : Board) (worker l : ℕ) (at : LegAt) (owner : Option ℕ) (step : Option StepPlan)
     → ((s : StepPlan) → step ≡ Some s → (call : StepCall) → step_decision l at s ≡ Ok (Some call) → P call) → IfCalled P (begin_leg b worker at (beginning_by worker l at owner step))
-if_begun P b worker l at None step h = tt
-if_begun P b worker l at (Some owner) None h = tt
 if_begun P b worker l at (Some owner) (Some s) h = by (worker == owner)
   where
     by : (c : Bool) → IfCalled P (begin_leg b worker at (if c then Ok (decided (step_decision l at s)) else Err fault.OtherWorker))
     by true = if_decided P b worker at (step_decision l at s) (h s refl)
     by false = tt
+if_begun P b worker l at owner step h = tt
 
 pub calls_are_in_order : EnvHasItsNames → LevelsStayInOrder → CallsAreInOrder
 calls_are_in_order names stay p b worker l ordered =
@@ -211,12 +188,12 @@ calls_are_in_order names stay p b worker l ordered =
     found (Some at) is = if_begun CallInOrder b worker l at (idle_owner at.leg.state) (next_step at) (λ s next call h.
         call_in_order names stay at s call (ordered_here p b l at s ordered is next) (asked l at s call h))
 
-pub calls_are_most_specific : EnvHasItsNames → MostSpecificWins → CallsAreMostSpecific
-calls_are_most_specific names wins p b worker l at step ordered set is next =
+pub calls_are_most_specific : EnvHasItsNames → CallsAreMostSpecific
+calls_are_most_specific names p b worker l at step ordered set is next =
     by_test (IfCalled (MostSpecificIsGiven at step)) (nat_le worker 15) (begin_found b worker l (leg_at p b l)) (Err fault.NoSuch)
     (subst (λ (o : Option LegAt). IfCalled (MostSpecificIsGiven at step) (begin_found b worker l o)) (sym is)
     (if_begun (MostSpecificIsGiven at step) b worker l at (idle_owner at.leg.state) (next_step at) (λ s at_s call h.
     let same : s ≡ step = same_some s step (sym at_s ∙ next) in
-    call_most_specific names wins at step call (ordered_here p b l at step ordered is next) set
+    call_most_specific names at step call (ordered_here p b l at step ordered is next) set
     (asked l at step call (ap (λ z. step_decision l at z) (sym same) ∙ h)))))
     tt

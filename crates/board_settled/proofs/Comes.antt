@@ -1,5 +1,5 @@
 -- What a job comes to that is settled on a board: the result and the outputs that it shows are those that are settled.
-use Rattle.std.proofs.Common.{◌≡◌, ℕ, ◌&&◌, ◌||◌, Bool, true, false, not, List, [], ◌∷◌, Option, Some, option_map, map, slice_get, ap, sym, refl, ◌∙◌}
+use Rattle.std.proofs.Common.{◌≡◌, ℕ, ◌&&◌, ◌||◌, Bool, true, false, not, List, [], ◌∷◌, Option, Some, option_map, map, slice_get, ap, sym, subst, refl, ◌∙◌}
 use Rattle.std.specs.List.{list_any, AllZip}
 use Rattle.std.proofs.lemmas.Bool.{true≢false}
 use Rattle.board_decisions.specs.Contexts.{overlaid, job_outputs}
@@ -13,14 +13,13 @@ use Rattle.flow_model.specs.declared.board.Leg.{Leg}
 use Rattle.flow_model.specs.declared.board.LegState.{LegState}
 use Rattle.flow_model.specs.declared.board.LegState.TheVariants as leg_state
 use Rattle.flow_model.specs.declared.board.Run.{Run}
-use Rattle.flow_model.specs.declared.event.Outcome.{Outcome}
 use Rattle.flow_model.specs.declared.plan.JobPlan.{JobPlan}
 use Rattle.flow_model.specs.declared.plan.Plan.{Plan}
 use Rattle.flow_model.specs.declared.plan.RunPlan.{RunPlan}
 use Rattle.board_settled.proofs.Ordered.{none_ended, all_ended}
 use Rattle.board_settled.specs.Quiet.{ended_in_order}
 use Rattle.board_settled.specs.Agrees.{LegIsSettled, JobIsSettled}
-use Rattle.board_settled.specs.Settled.{Finish, SettledLeg, SettledJob, shut, opened, all_given, fails, worst, legs_come_to, result_of, given_by, outputs_of_job}
+use Rattle.board_settled.specs.Settled.{Finish, SettledLeg, SettledJob, opened, all_given, fails, worst, legs_come_to, result_of, given_by, outputs_of_job}
 use Rattle.status_table.specs.Lawful.{JobFits, goes_rightly}
 use Rattle.status_table.specs.Shape.{HasShape}
 use Rattle.plan_values.specs.Env.{laid_over}
@@ -51,9 +50,8 @@ next_comes given more leg legs is later =
 
 pub legs_come : (given : List SettledLeg) (legs : List Leg) → AllZip LegIsSettled given legs → LegsCome given legs
 legs_come [] [] h = record { ends = []; all = refl; failed = refl; cancelled = refl; overlays = λ below. refl }
-legs_come [] (leg ∷ legs) h = absurd h
-legs_come (given ∷ more) [] h = absurd h
 legs_come (given ∷ more) (leg ∷ legs) h = next_comes given more leg legs h.0 (legs_come more legs h.1)
+legs_come given legs h = absurd h
 
 -- ---- a job
 
@@ -63,19 +61,32 @@ pub record JobComes (b : Board) (place : JobPlace) (run : Run) (given : SettledJ
   pub outputs : outputs_of_job given ≡ job_outputs b place
 
 -- the result of one that was opened
-pub open_result : (run : Run) (given : SettledJob) (job : Job) (all : List SettledLeg) → job.state ≡ job_state.Open → given ≡ opened all → LegsCome all job.legs → result_of given ≡ Some (job_result run job)
+open_result : (run : Run) (given : SettledJob) (job : Job) (all : List SettledLeg) → job.state ≡ job_state.Open → given ≡ opened all → LegsCome all job.legs → result_of given ≡ Some (job_result run job)
 open_result run given job all is stands come =
     ap result_of stands ∙ ap (option_map legs_come_to) come.all
     ∙ ap (λ c. Some (worst c (list_any (λ (f : Finish). is_cancelled f.result) come.ends))) come.failed
     ∙ ap (λ c. Some (worst (list_any (λ (leg : Leg). has_failed leg.state) job.legs) c)) come.cancelled
     ∙ ap (λ s. Some (result_by run.state s job.legs)) (sym is)
 
+-- where it gives the outputs of its legs if it is Open, and else none
+pub comes_by : (b : Board) (place : JobPlace) (run : Run) (given : SettledJob) (job : Job) → JobIsSettled given job.legs job.state
+    → (job.state ≡ job_state.Open → job_outputs b place ≡ overlaid (map (λ leg. leg.outputs) job.legs) []) → (is_open job.state ≡ false → job_outputs b place ≡ [])
+    → JobComes b place run given job
+comes_by b place run given job settled opened_so else_none = by job.state refl settled
+  where
+    by : (s : JobState) → job.state ≡ s → JobIsSettled given job.legs s → JobComes b place run given job
+    by job_state.Unjudged is h = absurd h
+    by job_state.Open is h =
+        let come = legs_come h.0 job.legs h.2 in
+        record { result = open_result run given job h.0 is h.1 come; outputs = ap outputs_of_job h.1 ∙ come.overlays [] ∙ sym (opened_so is) }
+    by (job_state.Shut result) is h = record {
+      result = ap result_of h ∙ ap (λ s. Some (result_by run.state s job.legs)) (sym is);
+      outputs = ap outputs_of_job h ∙ sym (else_none (ap is_open is));
+    }
+
 fresh-unended : (s : LegState) → is_fresh s ≡ true → is_ended s ≡ false
 fresh-unended leg_state.Fresh h = refl
-fresh-unended leg_state.Waiting h = absurd (true≢false (sym h))
-fresh-unended leg_state.Admitted h = absurd (true≢false (sym h))
-fresh-unended (leg_state.Running worker in_call) h = absurd (true≢false (sym h))
-fresh-unended (leg_state.Ended result tolerated) h = absurd (true≢false (sym h))
+fresh-unended s h = absurd (true≢false (sym h))
 
 or-left : (a b c : Bool) → a ≡ false → (c || (a && b)) ≡ true → c ≡ true
 or-left true b c closed h = absurd (true≢false closed)
@@ -91,27 +102,8 @@ module _ (p : Plan) (b : Board) (place : JobPlace) (run_plan : RunPlan) (run : R
       fresh-unended leg.state (or-left (is_open job.state) (goes_rightly run.state run.group leg) (is_fresh leg.state) closed
       (all-get (λ (x : Leg). is_fresh x.state || (is_open job.state && goes_rightly run.state run.group x)) job.legs k leg is fits.legs))
 
-  shut_comes : (result : Outcome) → job.state ≡ job_state.Shut result → given ≡ shut result → JobComes b place run given job
-  shut_comes result is stands = record {
-    result = ap result_of stands ∙ ap (λ s. Some (result_by run.state s job.legs)) (sym is);
-    outputs = ap outputs_of_job stands ∙ sym (none_ended p b place run_plan run job shape ends planned in_board in_run (unended (ap is_open is)));
-  }
-
-  open_comes : (all : List SettledLeg) → job.state ≡ job_state.Open → given ≡ opened all → AllZip LegIsSettled all job.legs → JobComes b place run given job
-  open_comes all is stands legs =
-      let come = legs_come all job.legs legs in
-      let ended : (k : ℕ) (leg : Leg) → slice_get job.legs k ≡ Some leg → is_ended leg.state ≡ true = λ k leg there.
-      ap is_ended (zip-left LegIsSettled all job.legs k leg there legs).2.state in
-      record {
-        result = open_result run given job all is stands come;
-        outputs = ap outputs_of_job stands ∙ come.overlays []
-            ∙ sym (all_ended p b place run_plan run job shape ends planned in_board in_run ended);
-      }
-
   pub job_comes : JobIsSettled given job.legs job.state → JobComes b place run given job
-  job_comes = by job.state refl
-    where
-      by : (s : JobState) → job.state ≡ s → JobIsSettled given job.legs s → JobComes b place run given job
-      by job_state.Unjudged is h = absurd h
-      by job_state.Open is h = open_comes h.0 is h.1 h.2
-      by (job_state.Shut result) is h = shut_comes result is h
+  job_comes settled = comes_by b place run given job settled
+      (λ is. all_ended p b place run_plan run job shape ends planned in_board in_run (λ k leg there.
+      let all = subst (JobIsSettled given job.legs) is settled in ap is_ended (zip-left LegIsSettled all.0 job.legs k leg there all.2).2.state))
+      (λ unopened. none_ended p b place run_plan run job shape ends planned in_board in_run (unended unopened))

@@ -34,9 +34,8 @@ fails at h = not_success (is_stopping at) (list_any (λ step. is_failure step.co
 
 -- a decision that is no call
 abbrev NoCall : Result (Option StepCall) ValueFault → Type 0
-NoCall (Ok None) = Unit {0}
 NoCall (Ok (Some call)) = ⊥
-NoCall (Err f) = Unit {0}
+NoCall other = Unit {0}
 
 waits : WaitsForSuccess → (at : LegAt) (env : Env) (condition : Option (List ℕ)) → is_success (leg_status at) ≡ false → NamesNoStatus condition
     → condition_value (seen_from at place.StepCondition env) (leg_status at) condition ≡ Ok false
@@ -54,9 +53,8 @@ never_called law l at step plain failed = by_env (step_env at step)
     by_env (Err f) = tt
 
 uncalled : (b : Board) (worker : ℕ) (at : LegAt) (d : Result (Option StepCall) ValueFault) → NoCall d → CallsNothing (begin_leg b worker at (Ok (decided d)))
-uncalled b worker at (Ok None) h = tt
 uncalled b worker at (Ok (Some call)) h = absurd h
-uncalled b worker at (Err f) h = tt
+uncalled b worker at d h = tt
 
 begun_quietly : (b : Board) (worker l : ℕ) (at : LegAt) (step : StepPlan) (owner : Option ℕ) → NoCall (step_decision l at step)
     → CallsNothing (begin_leg b worker at (beginning_by worker l at owner (Some step)))
@@ -89,10 +87,8 @@ passed at (Some step) is differs = by (step_tolerates at step) refl differs
     by false h d = absurd (d refl)
 
 concluded : (at : LegAt) (o : Outcome) → (conclusion_of at o ≡ o → ⊥) → (o ≡ outcome.Failure) × Passed at
-concluded at outcome.Success d = absurd (d refl)
 concluded at outcome.Failure d = (refl, passed at (next_step at) refl d)
-concluded at outcome.Cancelled d = absurd (d refl)
-concluded at outcome.Skipped d = absurd (d refl)
+concluded at o d = absurd (d refl)
 
 passed_over : (at : LegAt) (done : DoneStep) → (done.outcome ≡ outcome.Failure) × Passed at → IsPassedOver at done
 passed_over at done h = record { failed = h.0; step = h.1.0; next = h.1.1; passed = h.1.2 }
@@ -103,22 +99,20 @@ begun_concludes b worker at skips = (skipped_step, refl, λ d. absurd (d refl))
 begun_concludes b worker at (faults f) = (failed_step at, refl, λ d. passed_over at (failed_step at) (concluded at outcome.Failure d))
 
 begin_concludes : (b : Board) (worker l : ℕ) (at : LegAt) (owner : Option ℕ) (step : Option StepPlan) → Concludes b worker at (begin_leg b worker at (beginning_by worker l at owner step))
-begin_concludes b worker l at None step = tt
-begin_concludes b worker l at (Some owner) None = tt
 begin_concludes b worker l at (Some owner) (Some step) = by (worker == owner)
   where
     by : (c : Bool) → Concludes b worker at (begin_leg b worker at (if c then Ok (decided (step_decision l at step)) else Err fault.OtherWorker))
     by true = begun_concludes b worker at (decided (step_decision l at step))
     by false = tt
+begin_concludes b worker l at owner step = tt
 
 end_concludes : (b : Board) (worker : ℕ) (at : LegAt) (a : Answer) (owner : Option ℕ) → Concludes b worker at (end_leg b worker at (ending_by worker at a owner))
 end_concludes b worker at a None = tt
 end_concludes b worker at a (Some owner) = by (not (worker == owner)) (not (is_well_formed a))
   where
     by : (other bad : Bool) → Concludes b worker at (end_leg b worker at (if other then Err fault.OtherWorker else (if bad then Err fault.BadAnswer else Ok (answered_step at a))))
-    by true bad = tt
-    by false true = tt
     by false false = (answered_step at a, refl, λ d. passed_over at (answered_step at a) (concluded at (outcome_of a) d))
+    by other bad = tt
 
 pub only_failures_are_passed_over : OnlyFailuresArePassedOver
 only_failures_are_passed_over p b worker l at is = (

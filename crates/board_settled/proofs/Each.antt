@@ -4,9 +4,6 @@ use Rattle.std.proofs.Math.Seq.{take-suc}
 use Rattle.flow_model.specs.Sound.{Each}
 use Rattle.board_settled.proofs.Pairs.{no_some, same_some}
 
-pub none_each : {T : Type 0} (P : T → Type 0) → Each P []
-none_each P i x there = absurd (no_some there)
-
 each_append : {T : Type 0} (P : T → Type 0) (xs : List T) (x : T) → Each P xs → P x → Each P (xs ++ x ∷ [])
 each_append P [] x all one zero y there = subst P (same_some there) one
 each_append P [] x all one (suc i) y there = absurd (no_some there)

@@ -1,10 +1,10 @@
 -- What has ended on a board beside what is settled: legs, and jobs with their results and outputs.
-use Rattle.std.proofs.Common.{◌≡◌, ℕ, zero, suc, ◌+◌, ◌≤◌, ◌==◌, ◌||◌, Bool, true, false, List, [], ◌∷◌, Option, Some, None, length, map, drop, slice_get, if◌then◌else◌, inl, inr, ap, subst, sym, refl, ◌∙◌, arith}
+use Rattle.std.proofs.Common.{◌≡◌, ℕ, zero, suc, ◌+◌, ◌≤◌, ◌||◌, Bool, true, false, List, [], ◌∷◌, Option, Some, length, map, slice_get, inl, inr, ap, subst, sym, refl, ◌∙◌, arith}
 use Rattle.std.proofs.lemmas.Bool.{true≢false}
-use Rattle.std.proofs.lemmas.Bool.Decides.{nat_tests}
+use Rattle.std.proofs.lemmas.List.{drop_all}
 use Rattle.board_decisions.specs.Contexts.{overlaid, job_outputs}
 use Rattle.board_decisions.specs.Decisions.{or_none}
-use Rattle.board_decisions.specs.Derived.{is_closed, is_open, is_shut, is_ended, leg_has_ended, job_has_ended, result_by}
+use Rattle.board_decisions.specs.Derived.{is_closed, is_open, is_shut, is_ended, leg_has_ended, job_has_ended}
 use Rattle.board_decisions.specs.declared.place.JobPlace.{JobPlace}
 use Rattle.board_decisions.proofs.Lists.{same_some, no_some}
 use Rattle.flow_model.specs.Plain.{Plain}
@@ -21,45 +21,34 @@ use Rattle.flow_model.specs.declared.event.Outcome.{Outcome}
 use Rattle.flow_model.specs.declared.plan.JobPlan.{JobPlan}
 use Rattle.flow_model.specs.declared.plan.Plan.{Plan}
 use Rattle.flow_model.specs.declared.plan.RunPlan.{RunPlan}
-use Rattle.flow_model.specs.declared.plan.StepPlan.{StepPlan}
 use Rattle.flow_model.specs.declared.reply.StepCall.{StepCall}
 use Rattle.board_settled.specs.Agrees.{LegIsSettled, JobIsSettled}
 use Rattle.board_settled.specs.Decided.{leg_variables, outputs_of_leg}
 use Rattle.board_settled.specs.Free.{JobIsFree}
 use Rattle.board_settled.specs.Sees.{Spot, Sight}
-use Rattle.board_settled.specs.Settled.{Answers, Finish, SettledLeg, SettledJob, seen_after, result_of, outputs_of_job, steps_from, finish_of, leg_after, leg_settled, spot_at, legs_from, legs_settled, needs_of, job_settled}
+use Rattle.board_settled.specs.Settled.{Answers, Finish, SettledLeg, SettledJob, seen_after, steps_from, finish_of, leg_settled, spot_at, legs_from, legs_settled, needs_of, job_settled}
 use Rattle.status_table.specs.Ends.{EndOnce}
 use Rattle.status_table.specs.Shape.{HasShape}
-use Rattle.plan_values.specs.Env.{laid_over}
 use Rattle.plan_values.specs.Outputs.{outputs_value}
-use Rattle.plan_values.specs.Values.{Env}
 use Rattle.plan_values.specs.declared.place.TextPlace.TheVariants as place_name
 use Rattle.status_table.proofs.Lists.{all-get}
-use Rattle.board_settled.proofs.Comes.{JobComes, legs_come, open_result}
+use Rattle.board_settled.proofs.Comes.{JobComes, comes_by}
+use Rattle.board_settled.proofs.LegSteps.{ended_leg}
 use Rattle.board_settled.proofs.Lists.{zip-each}
 use Rattle.board_settled.proofs.Outputs.{no_outputs, one_outputs}
+use Rattle.board_settled.proofs.Pairs.{nothing-laid}
 use Rattle.board_settled.proofs.Played.{is_judged, LegPlayed, StateStands, JobPlayed, JobOver, judged-or}
 
 -- ---- legs
-
-past : {A : Type 0} (xs : List A) (n : ℕ) → n ≡ length xs → drop n xs ≡ []
-past [] zero h = refl
-past [] (suc n) h = refl
-past (x ∷ xs) zero h = absurd (omega (arith, h))
-past (x ∷ xs) (suc n) h = past xs n (omega (arith, h))
 
 -- what is settled of a leg that is Ended
 pub leg_is : (answers : Answers) (spot : Spot) (call : Option StepCall) (leg : Leg) (result : Outcome) (tolerated : Bool) → LegPlayed answers spot call leg
     → leg.state ≡ leg_state.Ended result tolerated
     → leg_settled answers spot ≡ record { steps = leg.steps; finish = Some (record { result = result; tolerated = tolerated; outputs = leg.outputs }) }
-unfolding leg_settled
 leg_is answers spot call leg result tolerated played is =
     let rightly = played.ended result tolerated is in
-    let steps : steps_from answers spot [] spot.job.steps ≡ leg.steps =
-    sym played.goes_on ∙ ap (λ (rest : List StepPlan). steps_from answers spot leg.steps rest) (past spot.job.steps (length leg.steps) rightly.all) in
-    let full : (length leg.steps == length spot.job.steps) ≡ true = let e = rightly.all in grind (arith, nat_tests, e) in
-    ap (leg_after spot) steps
-    ∙ ap (λ c. (let x : SettledLeg = record { steps = leg.steps; finish = if c then Some (finish_of spot leg.steps) else None } in x)) full
+    let all = rightly.all in
+    ended_leg answers spot leg.steps (sym (ap (steps_from answers spot leg.steps) (drop_all (length leg.steps) spot.job.steps (omega (arith, all)))) ∙ played.goes_on) all
     ∙ ap (λ (f : Finish). (let x : SettledLeg = record { steps = leg.steps; finish = Some f } in x)) rightly.finish
 
 empty_outputs : (sees : Sight) (run : RunPlan) (job : JobPlan) (done : List DoneStep) → job.outputs ≡ [] → outputs_of_leg sees run job done ≡ []
@@ -71,10 +60,6 @@ pub leg_finished : (answers : Answers) (spot : Spot) (call : Option StepCall) (l
 leg_finished answers spot call leg played ended = by leg.state refl ended
   where
     by : (s : LegState) → leg.state ≡ s → is_ended s ≡ true → LegIsSettled (leg_settled answers spot) leg
-    by leg_state.Fresh is h = absurd (true≢false (sym h))
-    by leg_state.Waiting is h = absurd (true≢false (sym h))
-    by leg_state.Admitted is h = absurd (true≢false (sym h))
-    by (leg_state.Running worker in_call) is h = absurd (true≢false (sym h))
     by (leg_state.Ended result tolerated) is h =
         let all = leg_is answers spot call leg result tolerated played is in
         record {
@@ -84,6 +69,7 @@ leg_finished answers spot call leg played ended = by leg.state refl ended
           steps = sym (ap (λ (x : SettledLeg). x.steps) all);
           finish = ap (λ (x : SettledLeg). x.finish) all;
         }
+    by s is h = absurd (true≢false (sym h))
 
 -- ---- the legs of a job
 
@@ -126,16 +112,9 @@ job_finished answers run before first plan calls job size played over =
           (leg_finished answers (spot_at run plan (needs_of run before plan) first i) (calls (first + i)) leg (played.legs i leg there) (ended refl i leg there))),
     )
 
-overlaid-none : (legs : List Leg) → ((k : ℕ) (leg : Leg) → slice_get legs k ≡ Some leg → leg.outputs ≡ []) → overlaid (map (λ leg. leg.outputs) legs) [] ≡ []
-unfolding laid_over
-overlaid-none [] h = refl
-overlaid-none (leg ∷ legs) h =
-    ap (λ (level : Env). overlaid (map (λ (x : Leg). x.outputs) legs) (laid_over level [])) (h 0 leg refl) ∙ overlaid-none legs (λ k x is. h (suc k) x is)
-
 single : (legs : List Leg) → length legs ≡ 1 → (leg : Leg) × (legs ≡ leg ∷ [])
-single [] h = absurd (omega (arith, h))
 single (leg ∷ []) h = (leg, refl)
-single (leg ∷ x ∷ xs) h = absurd (omega (arith, h))
+single legs h = absurd (omega (arith, h))
 
 some_leg : (legs : List Leg) → 1 ≤ length legs → (leg : Leg) × (slice_get legs 0 ≡ Some leg)
 some_leg [] h = absurd (omega (arith, h))
@@ -169,9 +148,8 @@ module _ (p : Plan) (b : Board) (answers : Answers) (place : JobPlace) (run_plan
   is_over = record { judged = judged-or job.state was_judged; ended = λ opened. each_ended (unshut job.state opened) }
     where
       unshut : (s : JobState) → is_open s ≡ true → is_shut s ≡ false
-      unshut job_state.Unjudged h = refl
-      unshut job_state.Open h = refl
       unshut (job_state.Shut result) h = absurd (true≢false (sym h))
+      unshut s h = refl
 
   -- where a job gives no outputs, its legs have none
   no_leg_outputs : plan.outputs ≡ [] → (k : ℕ) (leg : Leg) → slice_get job.legs k ≡ Some leg → is_ended leg.state ≡ true → leg.outputs ≡ []
@@ -182,28 +160,18 @@ module _ (p : Plan) (b : Board) (answers : Answers) (place : JobPlace) (run_plan
       let it = leg_finished answers spot (calls (first + k)) leg played_leg over in
       ap (λ (x : Finish). x.outputs) (sym (played_leg.ended it.result it.tolerated it.state).finish) ∙ empty_outputs (seen_after spot leg.steps) run_plan plan leg.steps none
 
-  open_outputs : job.state ≡ job_state.Open → overlaid (map (λ leg. leg.outputs) job.legs) [] ≡ job_outputs b place
-  open_outputs is = elim free.outputs as (λ _. overlaid (map (λ (leg : Leg). leg.outputs) job.legs) [] ≡ job_outputs b place) [
+  open_outputs : job.state ≡ job_state.Open → job_outputs b place ≡ overlaid (map (λ leg. leg.outputs) job.legs) []
+  open_outputs is = elim free.outputs as (λ _. job_outputs b place ≡ overlaid (map (λ (leg : Leg). leg.outputs) job.legs) []) [
     | inl none ↦
         let empty : (k : ℕ) (leg : Leg) → slice_get job.legs k ≡ Some leg → leg.outputs ≡ [] = λ k leg there. no_leg_outputs none k leg there (each_ended (ap is_shut is) k leg there) in
-        overlaid-none job.legs empty ∙ sym (no_outputs b place run job in_board in_run empty)
+        no_outputs b place run job in_board in_run empty ∙ sym (nothing-laid (λ leg. leg.outputs) job.legs [] empty)
     | inr one ↦
         let only = single job.legs (size ∙ one) in
-        ap (λ (legs : List Leg). overlaid (map (λ (leg : Leg). leg.outputs) legs) []) only.1
-        ∙ sym (one_outputs b place run job in_board in_run p run_plan only.0 shape ends planned only.1
-        (each_ended (ap is_shut is) 0 only.0 (ap (λ legs. slice_get legs 0) only.1)))
+        one_outputs p b place run_plan run job shape planned in_board in_run only.0 ends only.1 (each_ended (ap is_shut is) 0 only.0 (ap (λ legs. slice_get legs 0) only.1))
+        ∙ sym (ap (λ (legs : List Leg). overlaid (map (λ (leg : Leg). leg.outputs) legs) []) only.1)
   ]
 
   -- the settled job comes to what the board shows
   pub job_ended : JobComes b place run given job
-  job_ended = by job.state refl (job_finished answers run_plan before first plan calls job size played is_over)
-    where
-      by : (s : JobState) → job.state ≡ s → JobIsSettled given job.legs s → JobComes b place run given job
-      by job_state.Unjudged is h = absurd h
-      by job_state.Open is h =
-          let come = legs_come h.0 job.legs h.2 in
-          record { result = open_result run given job h.0 is h.1 come; outputs = ap outputs_of_job h.1 ∙ come.overlays [] ∙ open_outputs is }
-      by (job_state.Shut result) is h = record {
-        result = ap result_of h ∙ ap (λ s. Some (result_by run.state s job.legs)) (sym is);
-        outputs = ap outputs_of_job h ∙ sym (no_outputs b place run job in_board in_run (λ k leg there. ap (λ (x : Leg). x.outputs) (played.untouched (ap is_open is) k leg there)));
-      }
+  job_ended = comes_by b place run given job (job_finished answers run_plan before first plan calls job size played is_over) open_outputs
+      (λ unopened. no_outputs b place run job in_board in_run (λ k leg there. ap (λ (x : Leg). x.outputs) (played.untouched unopened k leg there)))

@@ -64,14 +64,12 @@ each_folded f (pair ∷ pairs) h = by (f pair.1) (each_folded f pairs h.1)
     by (Some held) others = (h.0, others)
 
 opened_folded : (groups : Content) (r : ℕ) (value : Result (Option Entrance) ValueFault) → AsksNamed value → Folded groups → Folded (opened groups r value)
-opened_folded groups r (Ok None) named h = h
 opened_folded groups r (Ok (Some group)) named h = enter_folded group.name (member.Run r) None groups named.folded h
-opened_folded groups r (Err f) named h = h
+opened_folded groups r value named h = h
 
 asked_folded : (groups : Content) (l own : ℕ) (value : Result (Option Entrance) ValueFault) → AsksNamed value → Folded groups → Folded (asked groups l own value)
-asked_folded groups l own (Ok None) named h = h
 asked_folded groups l own (Ok (Some group)) named h = enter_folded group.name (member.Leg l) (Some own) groups named.folded h
-asked_folded groups l own (Err f) named h = h
+asked_folded groups l own value named h = h
 
 left_folded : (groups : Content) (m : Member) (standing : Standing) → Folded groups → Folded (left groups m standing)
 left_folded groups m apart h = h
@@ -96,15 +94,11 @@ leg_left_folded groups l (Some at) h = left_folded groups (member.Leg l) (leg_st
 
 event_folded : (p : Plan) (b : Board) (groups : Content) (e : Event) → Folded groups → Folded (after_event p b groups e)
 event_folded p b groups (event.Open r) h = run_opened_folded groups r (run_at p b r) h
-event_folded p b groups (event.Judge j) h = h
 event_folded p b groups (event.Ask l) h = leg_asked_folded groups l (leg_at p b l) h
 event_folded p b groups (event.Drop l) h = leg_left_folded groups l (leg_at p b l) h
-event_folded p b groups (event.Take l) h = h
-event_folded p b groups (event.Begin l) h = h
-event_folded p b groups (event.End l a) h = h
 event_folded p b groups (event.Finish l) h = leg_left_folded groups l (leg_at p b l) h
 event_folded p b groups (event.Close r) h = run_left_folded groups r (run_at p b r) h
-event_folded p b groups (event.Cancel r) h = h
+event_folded p b groups e h = h
 
 from_folded : (p : Plan) (b : Board) (groups : Content) (es : List Entry) → Folded groups → Folded (groups_from p b groups es)
 from_folded p b groups [] h = h

@@ -1,22 +1,14 @@
 -- The outputs of legs, one over another.
-use Rattle.std.proofs.Common.{◌≡◌, ℕ, Option, Some, None, List, [], ◌∷◌, map, refl, ap, ◌∙◌}
+use Rattle.std.proofs.Common.{◌≡◌, ℕ, List, [], ◌∷◌, map, refl, ap, ◌∙◌}
 use Rattle.std.specs.List.{AllByRecursion}
 use Rattle.board_decisions.specs.Contexts.{ended_legs, job_outputs, overlaid}
 use Rattle.board_settled.specs.Contexts.{LastLegWins}
 use Rattle.board_settled.specs.Pairs.{last_giving}
 use Rattle.flow_model.specs.Mapping.{value_at, Ascends}
 use Rattle.flow_model.specs.declared.board.Leg.{Leg}
-use Rattle.board_settled.proofs.Pairs.{ascending_last, last_found}
+use Rattle.board_settled.proofs.Pairs.{below_through, none_below, one_found}
 use Rattle.plan_values.specs.Env.{laid_over, or_below}
 use Rattle.plan_values.specs.Values.{Env}
-
-turned : {V : Type 0} (a b c : Option V) → or_below a (or_below b c) ≡ or_below (or_below a b) c
-turned None b c = refl
-turned (Some v) b c = refl
-
-none_below : {V : Type 0} (o : Option V) → or_below o None ≡ o
-none_below None = refl
-none_below (Some v) = refl
 
 -- the last level that has a name gives it, else what was below
 giving : (name : List ℕ) (legs : List Leg) (below : Env) → AllByRecursion (λ leg. Ascends leg.outputs) legs
@@ -25,8 +17,8 @@ giving name [] below h = refl
 giving name (leg ∷ legs) below h =
     giving name legs (laid_over leg.outputs below) h.1
     ∙ ap (or_below (last_giving name (map (λ leg. leg.outputs) legs)))
-    (last_found name leg.outputs below ∙ ap (λ (o : Option (List ℕ)). or_below o (value_at name below)) (ascending_last name leg.outputs h.0))
-    ∙ turned (last_giving name (map (λ leg. leg.outputs) legs)) (value_at name leg.outputs) (value_at name below)
+    (one_found leg.outputs below name h.0)
+    ∙ below_through (last_giving name (map (λ leg. leg.outputs) legs)) (value_at name leg.outputs) (value_at name below)
 
 pub last_leg_wins : LastLegWins
 unfolding job_outputs

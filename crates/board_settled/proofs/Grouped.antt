@@ -4,7 +4,12 @@ use Rattle.flow_model.specs.Sound.{SoundPlan}
 use Rattle.flow_model.specs.declared.board.Board.{Board}
 use Rattle.flow_model.specs.declared.event.Entry.{Entry}
 use Rattle.flow_model.specs.declared.plan.Plan.{Plan}
-use Rattle.group_admission.specs.Content.{Content}
+use Rattle.group_admission.specs.Content.{Content, released, withdrawn}
+use Rattle.group_admission.proofs.Entering.{first_holds, next_displaces, own_run_changes_nothing, Ascends-after_enter}
+use Rattle.group_admission.proofs.Leaving.{release_passes_on, withdraw_leaves_holder}
+use Rattle.group_admission.proofs.Lookups.{Ascends-each_held}
+use Rattle.group_admission.proofs.Nowhere.{nowhere_is_no_group}
+use Rattle.group_admission.proofs.Once.{once_stays}
 use Rattle.board_settled.specs.Grouped.{then_groups, groups_from, groups_after}
 use Rattle.status_table.specs.Grouped.{after_event, KeptAsShown, EntersFromOutside}
 use Rattle.status_table.specs.Lawful.{Lawful}
@@ -19,21 +24,38 @@ use Rattle.status_table.proofs.Legal.{new_fits}
 use Rattle.status_table.proofs.Rows.{row_leads}
 use Rattle.status_table.proofs.Turns.{Fits}
 
-entries_kept : GroupLaws → (p : Plan) (b c : Board) (groups : Content) (es : List Entry) → Fits p b → Lawful p b → KeptAsShown groups b → after_from p b es ≡ Some c
+-- the laws of the groups by names
+group_laws : GroupLaws
+group_laws = record {
+  first = first_holds;
+  next = next_displaces;
+  same = own_run_changes_nothing;
+  release = release_passes_on;
+  withdraw = withdraw_leaves_holder;
+  order = λ groups m sorted. record {
+    entered = λ name own. Ascends-after_enter name m own groups sorted;
+    released = Ascends-each_held (released m) groups sorted;
+    withdrawn = Ascends-each_held (withdrawn m) groups sorted;
+  };
+  once = once_stays;
+  nowhere = nowhere_is_no_group;
+}
+
+entries_kept : (p : Plan) (b c : Board) (groups : Content) (es : List Entry) → Fits p b → Lawful p b → KeptAsShown groups b → after_from p b es ≡ Some c
     → KeptAsShown (groups_from p b groups es) c
-entries_kept laws p b c groups [] fits lawful kept h = subst (KeptAsShown groups) (same_some b c h) kept
-entries_kept laws p b c groups (e ∷ es) fits lawful kept h =
-    step (λ d g f l k a. entries_kept laws p d c g es f l k a) (row p b e.worker e.event) refl (row_keeps p b e.worker e.event) (row_leads p b e.worker e.event fits.shape) h
+entries_kept p b c groups [] fits lawful kept h = subst (KeptAsShown groups) (same_some b c h) kept
+entries_kept p b c groups (e ∷ es) fits lawful kept h =
+    step (λ d g f l k a. entries_kept p d c g es f l k a) (row p b e.worker e.event) refl (row_keeps p b e.worker e.event) (row_leads p b e.worker e.event fits.shape) h
   where
     step : ((d : Board) (g : Content) → Fits p d → Lawful p d → KeptAsShown g d → after_from p d es ≡ Some c → KeptAsShown (groups_from p d g es) c)
         → (r : Row) → row p b e.worker e.event ≡ r → Keeps p b r → Leads p b r → then_after r (λ next. after_from p next es) ≡ Some c
         → KeptAsShown (then_groups r groups (λ next. groups_from p next (after_event p b groups e.event) es)) c
     step later (Ok x) is keeps leads k =
-        later x.0 (after_event p b groups e.event) (keeps fits) (leads lawful).lawful (event_kept laws p b e.worker groups lawful kept e.event x is) k
+        later x.0 (after_event p b groups e.event) (keeps fits) (leads lawful).lawful (event_kept group_laws p b e.worker groups lawful kept e.event x is) k
     step later (Err f) is keeps leads k = absurd (no_some c k)
 
-pub legal_kept : GroupLaws → (p : Plan) → SoundPlan p → (es : List Entry) (b : Board) → after p es ≡ Some b → KeptAsShown (groups_after p es) b
-legal_kept laws p sound es b h = entries_kept laws p (new_board p) b [] es (new_fits p) (new_lawful p sound) (new_kept p) h
+pub legal_kept : (p : Plan) → SoundPlan p → (es : List Entry) (b : Board) → after p es ≡ Some b → KeptAsShown (groups_after p es) b
+legal_kept p sound es b h = entries_kept p (new_board p) b [] es (new_fits p) (new_lawful p sound) (new_kept p) h
 
-pub legal_outside : GroupLaws → (p : Plan) → SoundPlan p → (es : List Entry) (b : Board) → after p es ≡ Some b → EntersFromOutside p b (groups_after p es)
-legal_outside laws p sound es b h = enters_from_outside laws p b (groups_after p es) (legal_kept laws p sound es b h)
+pub legal_outside : (p : Plan) → SoundPlan p → (es : List Entry) (b : Board) → after p es ≡ Some b → EntersFromOutside p b (groups_after p es)
+legal_outside p sound es b h = enters_from_outside group_laws p b (groups_after p es) (legal_kept p sound es b h)

@@ -1,20 +1,17 @@
 -- A leg in play, seen beside what is settled of it.
 use Rattle.std.proofs.Common.{◌≡◌, ℕ, zero, suc, nat_lt, ◌+◌, ◌-◌, ◌&&◌, ◌||◌, Bool, true, false, not, List, [], ◌∷◌, Option, Some, length, take, slice_get, if◌then◌else◌, inl, inr, ap, sym, refl, ◌∙◌, arith}
-use Rattle.std.specs.List.{list_all, list_any}
+use Rattle.std.specs.List.{list_any}
 use Rattle.std.proofs.lemmas.Bool.{true≢false, le-leb}
 use Rattle.board_decisions.specs.Contexts.{job_of, needs_value}
 use Rattle.board_decisions.specs.Decisions.{is_true, job_condition, is_stopping, leg_result}
 use Rattle.board_decisions.specs.Derived.{is_closed, is_open, is_ended, is_failure, has_failed}
-use Rattle.board_decisions.specs.Place.{◌>>=◌, RunAt, JobAt, LegAt, run_at, job_placed, job_at, leg_at, job_place, leg_place}
-use Rattle.board_decisions.specs.declared.place.JobPlace.{JobPlace}
-use Rattle.board_decisions.specs.declared.place.LegPlace.{LegPlace}
+use Rattle.board_decisions.specs.Place.{JobAt, LegAt, job_at, leg_at}
 use Rattle.expr_value.specs.declared.status.Status.TheVariants as status
 use Rattle.flow_model.specs.Laws.{NeedsPointBack}
 use Rattle.flow_model.specs.Numbers.{first_job}
 use Rattle.flow_model.specs.Plain.{Plain}
 use Rattle.flow_model.specs.Rules.{IsPlan}
 use Rattle.flow_model.specs.declared.board.Board.{Board}
-use Rattle.flow_model.specs.declared.board.Job.{Job}
 use Rattle.flow_model.specs.declared.board.JobState.{JobState}
 use Rattle.flow_model.specs.declared.board.JobState.TheVariants as job_state
 use Rattle.flow_model.specs.declared.board.Leg.{Leg}
@@ -22,7 +19,6 @@ use Rattle.flow_model.specs.declared.board.LegState.{LegState}
 use Rattle.flow_model.specs.declared.board.LegState.TheVariants as leg_state
 use Rattle.flow_model.specs.declared.board.Run.{Run}
 use Rattle.flow_model.specs.declared.event.Outcome.TheVariants as outcome
-use Rattle.flow_model.specs.declared.plan.JobPlan.{JobPlan}
 use Rattle.flow_model.specs.declared.plan.Plan.{Plan}
 use Rattle.flow_model.specs.declared.plan.RunPlan.{RunPlan}
 use Rattle.flow_model.specs.declared.reply.StepCall.{StepCall}
@@ -31,12 +27,12 @@ use Rattle.board_settled.specs.Sees.{Spot}
 use Rattle.board_settled.specs.Settled.{Answers, SettledJob, counts, spot_at, needs_of}
 use Rattle.status_table.specs.Lawful.{RunFits, Lawful}
 use Rattle.status_table.specs.Shape.{JobShape, RunShape}
-use Rattle.board_decisions.proofs.Lists.{and-both}
-use Rattle.status_table.proofs.Found.{LegStands, leg_stands}
-use Rattle.status_table.proofs.Lists.{bind-some, zip-get}
+use Rattle.status_table.proofs.Found.{LegStands, job_stands, leg_stands}
+use Rattle.status_table.proofs.Lists.{zip-get}
 use Rattle.board_decisions.proofs.Lists.{same_some, no_some}
 use Rattle.status_table.proofs.Steps.{Live, going-unclosed}
 use Rattle.status_table.proofs.Turns.{Fits}
+use Rattle.board_settled.proofs.Lists.{all-of}
 use Rattle.board_settled.proofs.Needs.{IsOrdered}
 use Rattle.board_settled.proofs.SettledNeeds.{RunSeen, needs_settled}
 use Rattle.board_settled.proofs.Numbers.{before_run, before_job, number_at}
@@ -45,40 +41,21 @@ use Rattle.board_settled.proofs.Seen.{spot_of}
 
 -- ---- the board of what is found
 
-abbrev job_seen : Board → JobPlace → RunAt → JobPlan → Job → JobAt
-job_seen b place run plan job = record { board = b; place = place; run_plan = run.plan; plan = plan; run = run.run; job = job }
-
-placed_board : (p : Plan) (b : Board) (place : JobPlace) (at : JobAt) → job_placed p b place ≡ Some at → at.board ≡ b
-placed_board p b place at h =
-    let run = bind-some (run_at p b place.run)
-    (λ run. slice_get run.plan.jobs place.job >>= λ plan. slice_get run.run.jobs place.job >>= λ job. Some (job_seen b place run plan job)) at h in
-    let plan = bind-some (slice_get run.0.plan.jobs place.job) (λ plan. slice_get run.0.run.jobs place.job >>= λ job. Some (job_seen b place run.0 plan job)) at run.2 in
-    let job = bind-some (slice_get run.0.run.jobs place.job) (λ job. Some (job_seen b place run.0 plan.0 job)) at plan.2 in
-    ap (λ (x : JobAt). x.board) (sym (same_some (job_seen b place run.0 plan.0 job.0) at job.2))
-
 pub job_board : (p : Plan) (b : Board) (n : ℕ) (at : JobAt) → job_at p b n ≡ Some at → at.board ≡ b
 job_board p b n at h =
-    let place = bind-some (job_place b n) (λ place. job_placed p b place) at h in
-    placed_board p b place.0 at place.2
-
-abbrev leg_seen : Board → LegPlace → JobAt → Leg → LegAt
-leg_seen b place at leg = record { board = b; place = place; run_plan = at.run_plan; job_plan = at.plan; run = at.run; job = at.job; leg = leg }
-
-abbrev job_spot : LegPlace → JobPlace
-job_spot place = record { run = place.run; job = place.job }
+    let s = job_stands p b n at h in
+    let on : JobAt = record { board = b; place = at.place; run_plan = at.run_plan; plan = at.plan; run = at.run; job = at.job } in
+    let found : job_at p b n ≡ Some on = rw (s.place, s.in_plan, s.in_board, s.plan, s.job) refl in
+    ap (λ (x : JobAt). x.board) (same_some at on (sym h ∙ found))
 
 pub leg_board : (p : Plan) (b : Board) (n : ℕ) (at : LegAt) → leg_at p b n ≡ Some at → at.board ≡ b
 leg_board p b n at h =
-    let place = bind-some (leg_place b n) (λ place. job_placed p b (job_spot place) >>= λ job. slice_get job.job.legs place.leg >>= λ leg. Some (leg_seen b place job leg)) at h in
-    let job = bind-some (job_placed p b (job_spot place.0)) (λ job. slice_get job.job.legs place.0.leg >>= λ leg. Some (leg_seen b place.0 job leg)) at place.2 in
-    let leg = bind-some (slice_get job.0.job.legs place.0.leg) (λ leg. Some (leg_seen b place.0 job.0 leg)) at job.2 in
-    ap (λ (x : LegAt). x.board) (sym (same_some (leg_seen b place.0 job.0 leg.0) at leg.2))
+    let s = leg_stands p b n at h in
+    let on : LegAt = record { board = b; place = at.place; run_plan = at.run_plan; job_plan = at.job_plan; run = at.run; job = at.job; leg = at.leg } in
+    let found : leg_at p b n ≡ Some on = rw (s.place, s.in_plan, s.in_board, s.job_plan, s.job, s.leg) refl in
+    ap (λ (x : LegAt). x.board) (same_some at on (sym h ∙ found))
 
 -- ---- the order of jobs
-
-all-of : (t : ℕ → Bool) (ns : List ℕ) → ((i n : ℕ) → slice_get ns i ≡ Some n → t n ≡ true) → list_all t ns ≡ true
-all-of t [] h = refl
-all-of t (n ∷ ns) h = and-both (t n) (list_all t ns) (h 0 n refl) (all-of t ns (λ i m is. h (suc i) m is))
 
 pub is_ordered : NeedsPointBack → (p : Plan) → IsPlan p → (r : ℕ) (run : RunPlan) → slice_get p.runs r ≡ Some run → IsOrdered (first_job p r) run.jobs
 is_ordered law p rules r run planned = record {
@@ -122,11 +99,8 @@ judged-open job_state.Open h = refl
 judged-open (job_state.Shut result) h = absurd (true≢false (sym h))
 
 failed-ended : (s : LegState) → is_ended s ≡ false → has_failed s ≡ false
-failed-ended leg_state.Fresh h = refl
-failed-ended leg_state.Waiting h = refl
-failed-ended leg_state.Admitted h = refl
-failed-ended (leg_state.Running worker in_call) h = refl
 failed-ended (leg_state.Ended result tolerated) h = absurd (true≢false h)
+failed-ended s h = refl
 
 -- a leg that has not ended, of a job whose legs do not stop one another, by its place
 module _ (p : Plan) (fit : IsFit p) (answers : Answers) (calls : ℕ → Option StepCall) (b : Board) (stands : Stands p answers calls b) (l : ℕ) (at : LegAt)
@@ -167,10 +141,9 @@ module _ (p : Plan) (fit : IsFit p) (answers : Answers) (calls : ℕ → Option 
   alone one unended = by at.job.legs one at.place.leg here.leg
     where
       by : (legs : List Leg) → length legs ≡ 1 → (k : ℕ) → slice_get legs k ≡ Some at.leg → list_any (λ leg. has_failed leg.state) legs ≡ false
-      by [] h k e = absurd (omega (arith, h))
       by (leg ∷ []) h zero e = ap (λ (x : Leg). has_failed x.state || false) (same_some leg at.leg e) ∙ ap (λ c. c || false) (failed-ended at.leg.state unended)
       by (leg ∷ []) h (suc k) e = absurd (no_some at.leg e)
-      by (leg ∷ x ∷ xs) h k e = absurd (omega (arith, h))
+      by legs h k e = absurd (omega (arith, h))
 
   -- it is not to stop
   pub not_stopping : is_ended at.leg.state ≡ false → is_stopping at ≡ false

@@ -1,5 +1,5 @@
 -- A job and its legs on a board beside what is settled of them.
-use Rattle.std.proofs.Common.{◌≡◌, ◌↔◌, ℕ, suc, ◌+◌, ◌<◌, Bool, true, false, List, ◌∷◌, Result, Ok, Err, length, drop, if◌then◌else◌, ap, subst, sym, refl, ◌∙◌, arith}
+use Rattle.std.proofs.Common.{◌≡◌, ◌↔◌, ℕ, suc, ◌+◌, ◌<◌, Bool, true, false, List, ◌∷◌, Result, Ok, length, drop, if◌then◌else◌, ap, subst, sym, refl, ◌∙◌, arith}
 use Rattle.std.specs.List.{AllZip}
 use Rattle.board_decisions.specs.Contexts.{needs_value}
 use Rattle.board_decisions.specs.Decisions.{job_condition}
@@ -12,12 +12,11 @@ use Rattle.flow_model.specs.declared.board.JobState.{JobState}
 use Rattle.flow_model.specs.declared.board.JobState.TheVariants as job_state
 use Rattle.flow_model.specs.declared.board.Leg.{Leg}
 use Rattle.flow_model.specs.declared.event.Outcome.{Outcome}
-use Rattle.flow_model.specs.declared.event.Outcome.TheVariants as outcome
 use Rattle.flow_model.specs.declared.plan.JobPlan.{JobPlan}
 use Rattle.flow_model.specs.declared.plan.RunPlan.{RunPlan}
 use Rattle.flow_model.specs.declared.reply.ValueFault.{ValueFault}
 use Rattle.board_settled.specs.Alone.{SeesSettled, IsOpened}
-use Rattle.board_settled.proofs.LegSteps.{item}
+use Rattle.board_settled.proofs.Lists.{item}
 use Rattle.board_settled.specs.Agrees.{LegIsSettled, JobIsSettled}
 use Rattle.board_settled.specs.Settled.{Answers, SettledLeg, SettledJob, unsettled, shut, opened, spot_at, leg_settled, legs_from, legs_settled, needs_of, status_after, condition_after, judged, job_settled}
 use Rattle.status_table.specs.Row.{judged_state}
@@ -58,23 +57,14 @@ module _ (answers : Answers) (run : RunPlan) (plan : JobPlan) (needs : Plain) (f
 
 -- ---- a job
 
-opened-same : (xs ys : List SettledLeg) → opened xs ≡ opened ys → xs ≡ ys
-opened-same xs ys h = cc
-
-opened-shut : (legs : List SettledLeg) (result : Outcome) → opened legs ≡ shut result → ⊥
-opened-shut legs result h = cc
-
-shut-same : (r s : Outcome) → shut r ≡ shut s → r ≡ s
-shut-same r s h = cc
-
 -- a job that was opened, by what is settled of it
 pub open_settled : (given : SettledJob) (all : List SettledLeg) (job : Job) → given ≡ opened all → IsOpened all job ↔ JobIsSettled given job.legs job.state
 open_settled given all job is = (λ h. subst (JobIsSettled given job.legs) (sym h.state) (all, is, h.legs), λ h. by job.state refl h)
   where
     by : (s : JobState) → job.state ≡ s → JobIsSettled given job.legs s → IsOpened all job
     by job_state.Unjudged e h = absurd h
-    by job_state.Open e h = record { state = e; legs = subst (λ (xs : List SettledLeg). AllZip LegIsSettled xs job.legs) (opened-same h.0 all (sym h.1 ∙ is)) h.2 }
-    by (job_state.Shut result) e h = absurd (opened-shut all result (sym is ∙ h))
+    by job_state.Open e h = record { state = e; legs = let same : h.0 ≡ all = cc (h.1, is) in subst (λ (xs : List SettledLeg). AllZip LegIsSettled xs job.legs) same h.2 }
+    by (job_state.Shut result) e h = absurd (cc (is, h))
 
 -- a job that was shut
 pub shut_settled : (given : SettledJob) (how : Outcome) (job : Job) → given ≡ shut how → (job.state ≡ job_state.Shut how) ↔ JobIsSettled given job.legs job.state
@@ -82,21 +72,16 @@ shut_settled given how job is = (λ h. subst (JobIsSettled given job.legs) (sym 
   where
     by : (s : JobState) → job.state ≡ s → JobIsSettled given job.legs s → job.state ≡ job_state.Shut how
     by job_state.Unjudged e h = absurd h
-    by job_state.Open e h = absurd (opened-shut h.0 how (sym h.1 ∙ is))
-    by (job_state.Shut result) e h = e ∙ ap (λ r. job_state.Shut r) (shut-same result how (sym h ∙ is))
+    by job_state.Open e h = absurd (cc (h.1, is))
+    by (job_state.Shut result) e h = cc (e, h, is)
 
 opens : (x : Result Bool ValueFault) (legs : List SettledLeg) → judged_state false x ≡ job_state.Open → judged x legs ≡ opened legs
 opens (Ok true) legs h = refl
-opens (Ok false) legs h = cc
-opens (Err fault) legs h = cc
-
-shut_so : (r s : Outcome) → job_state.Shut r ≡ job_state.Shut s → shut r ≡ shut s
-shut_so r s h = cc
+opens x legs h = cc
 
 shuts : (x : Result Bool ValueFault) (legs : List SettledLeg) (how : Outcome) → judged_state false x ≡ job_state.Shut how → judged x legs ≡ shut how
 shuts (Ok true) legs how h = cc
-shuts (Ok false) legs how h = shut_so outcome.Skipped how h
-shuts (Err fault) legs how h = shut_so outcome.Failure how h
+shuts x legs how h = cc
 
 module _ (answers : Answers) (first_job first_leg : ℕ) (before : List SettledJob) (at : JobAt) (sees : SeesSettled first_job before at) (goes : at.run.stop ≡ false) where
   abbrev condition : Result Bool ValueFault

@@ -1,6 +1,6 @@
 -- Each list of entries leads to a board that is played as settled.
 use Rattle.std.proofs.Common.{◌≡◌, ℕ, suc, List, [], ◌∷◌, Option, Some, None, Ok, Err, take, slice_get, nat_le, subst, refl}
-use Rattle.board_decisions.specs.Place.{RunAt, JobAt, LegAt, run_at, job_at, leg_at}
+use Rattle.board_decisions.specs.Place.{run_at, job_at, leg_at}
 use Rattle.flow_model.specs.declared.board.Board.{Board}
 use Rattle.flow_model.specs.declared.event.Entry.{Entry}
 use Rattle.flow_model.specs.declared.event.Event.{Event}
@@ -24,53 +24,32 @@ use Rattle.board_settled.proofs.RunEvents.{open_goes, close_goes, judge_goes}
 
 -- ---- one entry
 
+-- where what an event names is found, its row goes on; else the event is refused
+found-goes : (p : Plan) (answers : Answers) (calls : ℕ → Option StepCall) (b : Board) (e : Event) {At : Type 0} (f : Option At → Row) (o : Option At)
+    → Goes p answers calls b e (f None) → ((at : At) → o ≡ Some at → Goes p answers calls b e (f (Some at))) → Goes p answers calls b e (f o)
+found-goes p answers calls b e f None none some = none
+found-goes p answers calls b e f (Some at) none some = some at refl
+
 event_goes : (p : Plan) (fit : IsFit p) (answers : Answers) (calls : ℕ → Option StepCall) (b : Board) (stands : Stands p answers calls b) (worker : ℕ) (e : Event)
     → IsAnswered answers calls e → Goes p answers calls b e (event_row p b worker e)
-event_goes p fit answers calls b stands worker (event.Open r) ok = found (run_at p b r) refl
-  where
-    found : (o : Option RunAt) → run_at p b r ≡ o → Goes p answers calls b (event.Open r) (rows.open_found b r o)
-    found None is = tt
-    found (Some at) is = open_goes p fit answers calls b stands r at is
-event_goes p fit answers calls b stands worker (event.Judge j) ok = found (job_at p b j) refl
-  where
-    found : (o : Option JobAt) → job_at p b j ≡ o → Goes p answers calls b (event.Judge j) (rows.judge_found b j o)
-    found None is = tt
-    found (Some at) is = judge_goes p fit answers calls b stands j at is
-event_goes p fit answers calls b stands worker (event.Ask l) ok = found (leg_at p b l) refl
-  where
-    found : (o : Option LegAt) → leg_at p b l ≡ o → Goes p answers calls b (event.Ask l) (rows.ask_found b l o)
-    found None is = tt
-    found (Some at) is = ask_goes p fit answers calls b stands l at is
-event_goes p fit answers calls b stands worker (event.Drop l) ok = found (leg_at p b l) refl
-  where
-    found : (o : Option LegAt) → leg_at p b l ≡ o → Goes p answers calls b (event.Drop l) (rows.drop_found b l o)
-    found None is = tt
-    found (Some at) is = drop_goes p fit answers calls b stands l at is
-event_goes p fit answers calls b stands worker (event.Take l) ok = found (leg_at p b l) refl
-  where
-    found : (o : Option LegAt) → leg_at p b l ≡ o → Goes p answers calls b (event.Take l) (rows.take_found b worker o)
-    found None is = tt
-    found (Some at) is = take_goes p fit answers calls b stands l at is worker
-event_goes p fit answers calls b stands worker (event.Begin l) ok = found (leg_at p b l) refl
-  where
-    found : (o : Option LegAt) → leg_at p b l ≡ o → Goes p answers calls b (event.Begin l) (rows.begin_found b worker l o)
-    found None is = tt
-    found (Some at) is = begin_goes p fit answers calls b stands l at is worker
-event_goes p fit answers calls b stands worker (event.End l a) ok = found (leg_at p b l) refl
-  where
-    found : (o : Option LegAt) → leg_at p b l ≡ o → Goes p answers calls b (event.End l a) (rows.end_found b worker a o)
-    found None is = tt
-    found (Some at) is = end_goes p fit answers calls b stands l at is worker a ok
-event_goes p fit answers calls b stands worker (event.Finish l) ok = found (leg_at p b l) refl
-  where
-    found : (o : Option LegAt) → leg_at p b l ≡ o → Goes p answers calls b (event.Finish l) (rows.finish_found b worker l o)
-    found None is = tt
-    found (Some at) is = finish_goes p fit answers calls b stands l at is worker
-event_goes p fit answers calls b stands worker (event.Close r) ok = found (run_at p b r) refl
-  where
-    found : (o : Option RunAt) → run_at p b r ≡ o → Goes p answers calls b (event.Close r) (rows.close_found b r o)
-    found None is = tt
-    found (Some at) is = close_goes p fit answers calls b stands r at is
+event_goes p fit answers calls b stands worker (event.Open r) ok =
+    found-goes p answers calls b (event.Open r) (rows.open_found b r) (run_at p b r) tt (open_goes p fit answers calls b stands r)
+event_goes p fit answers calls b stands worker (event.Judge j) ok =
+    found-goes p answers calls b (event.Judge j) (rows.judge_found b j) (job_at p b j) tt (judge_goes p fit answers calls b stands j)
+event_goes p fit answers calls b stands worker (event.Ask l) ok =
+    found-goes p answers calls b (event.Ask l) (rows.ask_found b l) (leg_at p b l) tt (ask_goes p fit answers calls b stands l)
+event_goes p fit answers calls b stands worker (event.Drop l) ok =
+    found-goes p answers calls b (event.Drop l) (rows.drop_found b l) (leg_at p b l) tt (drop_goes p fit answers calls b stands l)
+event_goes p fit answers calls b stands worker (event.Take l) ok =
+    found-goes p answers calls b (event.Take l) (rows.take_found b worker) (leg_at p b l) tt (λ at is. take_goes p fit answers calls b stands l at is worker)
+event_goes p fit answers calls b stands worker (event.Begin l) ok =
+    found-goes p answers calls b (event.Begin l) (rows.begin_found b worker l) (leg_at p b l) tt (λ at is. begin_goes p fit answers calls b stands l at is worker)
+event_goes p fit answers calls b stands worker (event.End l a) ok =
+    found-goes p answers calls b (event.End l a) (rows.end_found b worker a) (leg_at p b l) tt (λ at is. end_goes p fit answers calls b stands l at is worker a ok)
+event_goes p fit answers calls b stands worker (event.Finish l) ok =
+    found-goes p answers calls b (event.Finish l) (rows.finish_found b worker l) (leg_at p b l) tt (λ at is. finish_goes p fit answers calls b stands l at is worker)
+event_goes p fit answers calls b stands worker (event.Close r) ok =
+    found-goes p answers calls b (event.Close r) (rows.close_found b r) (run_at p b r) tt (close_goes p fit answers calls b stands r)
 event_goes p fit answers calls b stands worker (event.Cancel r) ok = absurd ok
 
 row_goes : (p : Plan) (fit : IsFit p) (answers : Answers) (calls : ℕ → Option StepCall) (b : Board) (stands : Stands p answers calls b) (worker : ℕ) (e : Event)

@@ -1,5 +1,5 @@
 -- The events of legs keep what is played as settled.
-use Rattle.std.proofs.Common.{◌≡◌, ◌≢◌, ℕ, zero, suc, ◌+◌, ◌≤◌, ◌==◌, ◌&&◌, ◌++◌, Bool, true, false, not, List, [], ◌∷◌, Option, Some, None, Result, Ok, Err, option_map, length, take, drop, slice_get, nat_lt, if◌then◌else◌, ap, subst, sym, refl, ◌∙◌, arith}
+use Rattle.std.proofs.Common.{◌≡◌, ◌≢◌, ℕ, ◌+◌, ◌≤◌, ◌==◌, ◌&&◌, ◌++◌, Bool, true, false, not, List, [], ◌∷◌, Option, Some, None, Result, Ok, Err, option_map, length, take, drop, slice_get, nat_lt, if◌then◌else◌, ap, subst, sym, refl, ◌∙◌, arith}
 use Rattle.std.proofs.lemmas.Bool.{true≢false, leb-true}
 use Rattle.std.proofs.lemmas.Bool.Decides.{nat_tests}
 use Rattle.std.proofs.lemmas.List.{length-append}
@@ -19,7 +19,6 @@ use Rattle.flow_model.specs.declared.event.Answer.{Answer}
 use Rattle.flow_model.specs.declared.event.Event.{Event}
 use Rattle.flow_model.specs.declared.event.Event.TheVariants as event
 use Rattle.flow_model.specs.declared.event.Member.TheVariants as member
-use Rattle.flow_model.specs.declared.event.Outcome.{Outcome}
 use Rattle.flow_model.specs.declared.event.Outcome.TheVariants as outcome
 use Rattle.flow_model.specs.declared.plan.JobPlan.{JobPlan}
 use Rattle.flow_model.specs.declared.plan.Plan.{Plan}
@@ -29,9 +28,9 @@ use Rattle.flow_model.specs.declared.reply.Reply.{Reply}
 use Rattle.flow_model.specs.declared.reply.StepCall.{StepCall}
 use Rattle.flow_model.specs.declared.reply.ValueFault.{ValueFault}
 use Rattle.flow_model.specs.declared.reply.What.TheVariants as what
-use Rattle.board_settled.specs.Decided.{failure_counts, leg_passes}
+use Rattle.board_settled.specs.Alone.{step_comes}
 use Rattle.board_settled.specs.Sees.{Spot}
-use Rattle.board_settled.specs.Settled.{Answers, Finish, counts, seen_after, next_call, concludes, ends_so, answered, step_by, next_done, steps_from, steps_then, finish_of, spot_at, needs_of}
+use Rattle.board_settled.specs.Settled.{Answers, counts, next_call, next_done, steps_from, steps_then, finish_of, spot_at, needs_of}
 use Rattle.status_table.specs.declared.fault.EventFault.TheVariants as fault
 use Rattle.status_table.specs.Calls.{call_after}
 use Rattle.status_table.specs.Change.{with_leg}
@@ -40,19 +39,19 @@ use Rattle.status_table.specs.Row.{Row}
 use Rattle.status_table.specs.Row as rows
 use Rattle.status_table.specs.Shape.{has_room, open_calls, JobShape, RunShape}
 use Rattle.status_table.specs.Stays.{Stays}
-use Rattle.plan_values.specs.Values.{Env}
-use Rattle.board_decisions.proofs.Lists.{and-left, and-right}
 use Rattle.status_table.proofs.Found.{LegStands}
 use Rattle.status_table.proofs.LegRows.{holding-live, idle-holds}
 use Rattle.status_table.proofs.Lists.{all-get, zip-get}
-use Rattle.board_decisions.proofs.Lists.{same_some, no_some}
+use Rattle.board_decisions.proofs.Lists.{and-left, and-right, same_some, no_some}
+use Rattle.status_table.proofs.Standings.{drop_at}
 use Rattle.status_table.proofs.Steps.{Live, going-unclosed}
 use Rattle.status_table.proofs.Turnover.{numbered}
 use Rattle.board_settled.proofs.Changes.{leg_put}
 use Rattle.board_settled.proofs.InPlay.{Stands, IsFit, here, first, spot, leg_played, number_is, not_stopping, quiet, spot_is}
+use Rattle.board_settled.proofs.LegSteps.{comes_next}
 use Rattle.board_settled.proofs.Numbers.{before_run, before_job}
 use Rattle.board_settled.proofs.Played.{CallStands, InCall, LegPlayed, jobs_of, Played}
-use Rattle.board_settled.proofs.Seen.{spot_of, call_is, failure_is, tolerated_is, outputs_are}
+use Rattle.board_settled.proofs.Seen.{spot_of, call_is, finish_is}
 
 -- A row that is accepted keeps what is played as settled, by the calls that are open after it.
 abbrev pub Goes : Plan → Answers → (ℕ → Option StepCall) → Board → Event → Row → Type 0
@@ -70,20 +69,12 @@ not-not false h = sym h
 
 -- ---- one more step of a leg
 
-next-drop : (xs : List StepPlan) (n : ℕ) (x : StepPlan) → slice_get xs n ≡ Some x → drop n xs ≡ x ∷ drop (suc n) xs
-next-drop [] n x h = absurd (no_some x h)
-next-drop (y ∷ ys) zero x h = ap (λ (z : StepPlan). z ∷ ys) (same_some y x h)
-next-drop (y ∷ ys) (suc n) x h = next-drop ys n x h
-
 one_more : (answers : Answers) (spot : Spot) (done : List DoneStep) (step : StepPlan) (next : DoneStep) → slice_get spot.job.steps (length done) ≡ Some step
     → next_done answers spot done step ≡ Some next → steps_from answers spot done (drop (length done) spot.job.steps) ≡ steps_from answers spot [] spot.job.steps
     → steps_from answers spot (done ++ next ∷ []) (drop (length (done ++ next ∷ [])) spot.job.steps) ≡ steps_from answers spot [] spot.job.steps
 one_more answers spot done step next planned given so_far =
-    let more = length-append done (next ∷ []) in
-    let size : length (done ++ next ∷ []) ≡ suc (length done) = omega (arith, more) in
-    let rest : drop (length done) spot.job.steps ≡ step ∷ drop (suc (length done)) spot.job.steps = next-drop spot.job.steps (length done) step planned in
-    ap (λ n. steps_from answers spot (done ++ next ∷ []) (drop n spot.job.steps)) size
-    ∙ sym (ap (λ (steps : List StepPlan). steps_from answers spot done steps) rest ∙ ap (λ (o : Option DoneStep). steps_then done o (λ x. steps_from answers spot (done ++ x ∷ []) (drop (suc (length done)) spot.job.steps))) given)
+    ap (λ n. steps_from answers spot (done ++ next ∷ []) (drop n spot.job.steps)) (length-append done (next ∷ []))
+    ∙ sym (ap (λ (steps : List StepPlan). steps_from answers spot done steps) (drop_at spot.job.steps (length done) step planned) ∙ ap (λ (o : Option DoneStep). steps_then done o (λ x. steps_from answers spot (done ++ x ∷ []) (drop (length done + 1) spot.job.steps))) given)
     ∙ so_far
 
 module _ (p : Plan) (fit : IsFit p) (answers : Answers) (open_calls' : ℕ → Option StepCall) (b : Board) (stands : Stands p answers open_calls' b) (l : ℕ) (at : LegAt)
@@ -165,11 +156,9 @@ module _ (p : Plan) (fit : IsFit p) (answers : Answers) (open_calls' : ℕ → O
       (λ _. tt))
     where
       untaken : (s : LegState) → is_untaken s ≡ true → is_ended s ≡ false
-      untaken leg_state.Fresh h = refl
-      untaken leg_state.Waiting h = refl
-      untaken leg_state.Admitted h = refl
       untaken (leg_state.Running worker in_call) h = absurd (true≢false (sym h))
       untaken (leg_state.Ended result tolerated) h = absurd (true≢false (sym h))
+      untaken s h = refl
 
   -- ---- Take
 
@@ -181,14 +170,11 @@ module _ (p : Plan) (fit : IsFit p) (answers : Answers) (open_calls' : ℕ → O
   take_goes worker = by at.leg.state refl
     where
       by : (s : LegState) → at.leg.state ≡ s → Goes p answers open_calls' b (event.Take l) (rows.take_leg b worker at s)
-      by leg_state.Fresh e = tt
-      by leg_state.Waiting e = tt
       by leg_state.Admitted e = goes-if p answers open_calls' b (event.Take l) (is_stopping at) (Err fault.Stopping) (Ok (rows.leg_state_set b at.place (leg_state.Running worker false), moved)) (λ _. tt)
           (λ _. put open_calls' (λ x. record x { state = leg_state.Running worker false }) (rows.leg_state_set b at.place (leg_state.Running worker false)) refl (λ n _. refl)
           (live (ap is_under_way e))
           (still (open_calls' l) (record at.leg { state = leg_state.Running worker false }) refl played.group refl tt refl))
-      by (leg_state.Running other in_call) e = tt
-      by (leg_state.Ended result tolerated) e = tt
+      by s e = tt
 
   -- ---- Begin and End
 
@@ -212,11 +198,8 @@ module _ (p : Plan) (fit : IsFit p) (answers : Answers) (open_calls' : ℕ → O
       })
 
   unended : (s : LegState) → is_under_way s ≡ true → is_ended s ≡ false
-  unended leg_state.Fresh h = refl
-  unended leg_state.Waiting h = refl
-  unended leg_state.Admitted h = refl
-  unended (leg_state.Running worker in_call) h = refl
   unended (leg_state.Ended result tolerated) h = absurd (true≢false (sym h))
+  unended s h = refl
 
   calm : is_under_way at.leg.state ≡ true → leg_result at ≡ counts at.leg.steps
   calm under = quiet p fit answers open_calls' b stands l at is (unended at.leg.state under)
@@ -228,33 +211,18 @@ module _ (p : Plan) (fit : IsFit p) (answers : Answers) (open_calls' : ℕ → O
     decision : step_decision l at step ≡ next_call mine at.leg.steps step
     decision = call_is l at (calm under) step ∙ ap (λ (x : Spot). next_call x at.leg.steps step) (seen_so under)
 
-    failure : rows.failure_of at (rows.next_step at) ≡ failure_counts (seen_after mine at.leg.steps) at.run_plan at.job_plan at.leg.steps step
-    failure = ap (rows.failure_of at) planned ∙ failure_is l at (calm under) step ∙ ap (λ (x : Spot). failure_counts (seen_after x at.leg.steps) at.run_plan at.job_plan at.leg.steps step) (seen_so under)
-
-    failed : rows.failed_step at ≡ ends_so mine at.leg.steps step outcome.Failure [] []
-    failed = ap (λ c. (let x : DoneStep = record { outcome = outcome.Failure; conclusion = c; outputs = []; env = [] } in x)) failure
-
-    concluded : (result : Outcome) → rows.conclusion_of at result ≡ concludes mine at.leg.steps step result
-    concluded outcome.Success = refl
-    concluded outcome.Failure = failure
-    concluded outcome.Cancelled = refl
-    concluded outcome.Skipped = refl
-
-    ended_so : (a : Answer) → rows.answered_step at a ≡ answered mine at.leg.steps step a
-    ended_so a = ap (λ c. (let x : DoneStep = record { outcome = rows.outcome_of a; conclusion = c; outputs = rows.outputs_of a; env = rows.set_by a } in x)) (concluded (rows.outcome_of a))
-
     -- what a step comes to by its call
-    by_call : (d : Result (Option StepCall) ValueFault) (next : DoneStep) → step_decision l at step ≡ d → step_by answers mine at.leg.steps step d ≡ Some next → next_done answers mine at.leg.steps step ≡ Some next
-    unfolding next_done
-    by_call d next e given = ap (step_by answers mine at.leg.steps step) (sym decision ∙ e) ∙ given
+    given_next : (d : Result (Option StepCall) ValueFault) (next : DoneStep) → step_decision l at step ≡ d → step_comes answers at d ≡ Some next → next_done answers mine at.leg.steps step ≡ Some next
+    given_next d next e given =
+        ap (λ (x : Spot). next_done answers x at.leg.steps step) (sym (seen_so under)) ∙ sym (comes_next answers l at (calm under) step planned) ∙ ap (step_comes answers at) e ∙ given
 
     begun : (worker : ℕ) (d : Result (Option StepCall) ValueFault) → step_decision l at step ≡ d → Goes p answers open_calls' b (event.Begin l) (rows.begin_leg b worker at (Ok (rows.decided d)))
     begun worker (Ok None) e =
         done_more (λ n. call_after n (open_calls' n) (event.Begin l) what.Skipped) (λ n differs. sym (ap (λ c. if c then None else open_calls' n) (other_number n differs))) worker step rows.skipped_step under planned
-        (by_call (Ok None) rows.skipped_step e refl)
+        (given_next (Ok None) rows.skipped_step e refl)
     begun worker (Err f) e =
         done_more (λ n. call_after n (open_calls' n) (event.Begin l) (what.Faulted f)) (λ n differs. sym (ap (λ c. if c then None else open_calls' n) (other_number n differs))) worker step (rows.failed_step at) under planned
-        (by_call (Err f) (rows.failed_step at) e (ap (λ (x : DoneStep). Some x) (sym failed)))
+        (given_next (Err f) (rows.failed_step at) e refl)
     begun worker (Ok (Some call)) e =
         put (λ n. call_after n (open_calls' n) (event.Begin l) (what.Call call)) (λ x. record x { state = leg_state.Running worker true }) (rows.leg_state_set b at.place (leg_state.Running worker true)) refl
         (λ n differs. sym (ap (λ c. if c then Some call else open_calls' n) (other_number n differs))) (live under)
@@ -271,27 +239,16 @@ module _ (p : Plan) (fit : IsFit p) (answers : Answers) (open_calls' : ℕ → O
     where
       by_owner : (owner : Option ℕ) → rows.idle_owner at.leg.state ≡ owner → (step : Option StepPlan) → rows.next_step at ≡ step
           → Goes p answers open_calls' b (event.Begin l) (rows.begin_leg b worker at (rows.beginning_by worker l at owner step))
-      by_owner None was step next = tt
-      by_owner (Some owner) was None next = tt
       by_owner (Some owner) was (Some step) next = by (worker == owner)
         where
           by : (c : Bool) → Goes p answers open_calls' b (event.Begin l) (rows.begin_leg b worker at (if c then Ok (rows.decided (step_decision l at step)) else Err fault.OtherWorker))
           by true = begun (idle-holds at.leg.state owner was).under step next worker (step_decision l at step) refl
           by false = tt
+      by_owner owner was step next = tt
 
   in_call : (s : LegState) (owner : ℕ) (call : Option StepCall) → rows.calling_owner s ≡ Some owner → CallStands mine at.leg.steps call s → InCall mine at.leg.steps call × (is_under_way s ≡ true)
-  in_call leg_state.Fresh owner call h calling = absurd (no_some owner h)
-  in_call leg_state.Waiting owner call h calling = absurd (no_some owner h)
-  in_call leg_state.Admitted owner call h calling = absurd (no_some owner h)
   in_call (leg_state.Running worker true) owner call h calling = (calling, refl)
-  in_call (leg_state.Running worker false) owner call h calling = absurd (no_some owner h)
-  in_call (leg_state.Ended result tolerated) owner call h calling = absurd (no_some owner h)
-
-  next_is : (a : Answer) (step : StepPlan) (call : StepCall) → next_call mine at.leg.steps step ≡ Ok (Some call) → (next : DoneStep) → answers call ≡ Some a
-      → answered mine at.leg.steps step a ≡ next → next_done answers mine at.leg.steps step ≡ Some next
-  unfolding next_done
-  next_is a step call e next given same =
-      ap (step_by answers mine at.leg.steps step) e ∙ ap (option_map (answered mine at.leg.steps step)) given ∙ ap (λ (x : DoneStep). Some x) same
+  in_call s owner call h calling = absurd (no_some owner h)
 
   pub end_goes : (worker : ℕ) (a : Answer) → ((call : StepCall) → open_calls' l ≡ Some call → answers call ≡ Some a)
       → Goes p answers open_calls' b (event.End l a) (rows.end_leg b worker at (rows.ending worker at a))
@@ -303,32 +260,20 @@ module _ (p : Plan) (fit : IsFit p) (answers : Answers) (open_calls' : ℕ → O
           let call = calling.0 in
           let number = number_is p fit answers open_calls' b stands l at is in
           let given = answer call.asked (ap open_calls' number ∙ call.is_open) in
-          let same : answered mine at.leg.steps call.step a ≡ rows.answered_step at a = sym (ended_so calling.1 call.step call.planned a) in
+          let called = decision calling.1 call.step call.planned ∙ call.is_next in
           done_more (λ n. call_after n (open_calls' n) (event.End l a) what.Moved) (λ n differs. sym (ap (λ c. if c then None else open_calls' n) (other_number n differs))) worker call.step
           (rows.answered_step at a) calling.1 call.planned
-          (next_is a call.step call.asked call.is_next (rows.answered_step at a) given same)
+          (given_next calling.1 call.step call.planned (Ok (Some call.asked)) (rows.answered_step at a) called (ap (option_map (rows.answered_step at)) given))
 
       by_owner : (owner : Option ℕ) → rows.calling_owner at.leg.state ≡ owner → Goes p answers open_calls' b (event.End l a) (rows.end_leg b worker at (rows.ending_by worker at a owner))
       by_owner None was = tt
       by_owner (Some owner) was = by (not (worker == owner)) (not (is_well_formed a))
         where
           by : (other bad : Bool) → Goes p answers open_calls' b (event.End l a) (rows.end_leg b worker at (if other then Err fault.OtherWorker else (if bad then Err fault.BadAnswer else Ok (rows.answered_step at a))))
-          by true bad = tt
-          by false true = tt
           by false false = ends owner was
+          by other bad = tt
 
   -- ---- Finish
-
-  abbrev made : Outcome → Bool → Env → Finish
-  made result tolerated outputs = record { result = result; tolerated = tolerated; outputs = outputs }
-
-  finished : is_under_way at.leg.state ≡ true → made (leg_result at) (is_failure (leg_result at) && job_tolerates at) (leg_outputs at) ≡ finish_of mine at.leg.steps
-  unfolding finish_of
-  finished under =
-      ap (λ r. made r (is_failure r && job_tolerates at) (leg_outputs at)) (calm under)
-      ∙ ap (λ t. made (counts at.leg.steps) t (leg_outputs at)) (tolerated_is l at (calm under) (counts at.leg.steps))
-      ∙ ap (λ (o : Env). made (counts at.leg.steps) (leg_passes (seen_after (spot_of l at) at.leg.steps) at.job_plan (counts at.leg.steps)) o) (outputs_are l at (calm under))
-      ∙ ap (λ (x : Spot). finish_of x at.leg.steps) (seen_so under)
 
   pub finish_goes : (worker : ℕ) → Goes p answers open_calls' b (event.Finish l) (rows.finish_leg b l at (rows.finishing worker at))
   finish_goes worker = by_owner (rows.idle_owner at.leg.state) refl
@@ -344,9 +289,6 @@ module _ (p : Plan) (fit : IsFit p) (answers : Answers) (open_calls' : ℕ → O
           let few = leb-true (length at.leg.steps + open_calls at.leg.state) (length at.job_plan.steps) had in
           omega (arith, few)
 
-      same_ends : (r s : Outcome) (t u : Bool) → leg_state.Ended r t ≡ leg_state.Ended s u → (r ≡ s) × (t ≡ u)
-      same_ends r s t u h = (cc, cc)
-
       ends : (owner : ℕ) → rows.idle_owner at.leg.state ≡ Some owner → nat_lt (length at.leg.steps) (length at.job_plan.steps) ≡ false
           → Goes p answers open_calls' b (event.Finish l) (rows.finish_leg b l at (Ok (rows.ended_state at (leg_result at))))
       ends owner was all =
@@ -355,7 +297,8 @@ module _ (p : Plan) (fit : IsFit p) (answers : Answers) (open_calls' : ℕ → O
           let left : length at.job_plan.steps ≤ length at.leg.steps = grind (arith, nat_tests, all) in
           let had = room in
           let whole : length at.leg.steps ≡ length at.job_plan.steps = omega (arith, left, had) in
-          let finish : finish_of mine at.leg.steps ≡ record { result = leg_result at; tolerated = is_failure (leg_result at) && job_tolerates at; outputs = leg_outputs at } = sym (finished (idle-holds at.leg.state owner was).under) in
+          let finish : finish_of mine at.leg.steps ≡ record { result = leg_result at; tolerated = is_failure (leg_result at) && job_tolerates at; outputs = leg_outputs at } =
+          ap (λ (x : Spot). finish_of x at.leg.steps) (sym (seen_so (idle-holds at.leg.state owner was).under)) ∙ finish_is l at (calm (idle-holds at.leg.state owner was).under) in
           subst (λ (x : Board × Reply). Goes p answers open_calls' b (event.Finish l) (Ok x)) (sym (alone new owner was))
           (put open_calls' (λ x. record x { state = state; outputs = leg_outputs at }) new refl (λ n _. refl) (live (idle-holds at.leg.state owner was).under) (record {
             stop = played.stop;
@@ -363,12 +306,8 @@ module _ (p : Plan) (fit : IsFit p) (answers : Answers) (open_calls' : ℕ → O
             goes_on = played.goes_on;
             calling = tt;
             ended = λ result tolerated e.
-                let both = same_ends (leg_result at) result (is_failure (leg_result at) && job_tolerates at) tolerated e in
-                record {
-                  all = whole;
-                  finish = finish ∙ ap (λ r. (let x : Finish = record { result = r; tolerated = is_failure (leg_result at) && job_tolerates at; outputs = leg_outputs at } in x)) both.0
-                      ∙ ap (λ t. (let x : Finish = record { result = result; tolerated = t; outputs = leg_outputs at } in x)) both.1;
-                };
+                let is : leg_state.Ended (leg_result at) (is_failure (leg_result at) && job_tolerates at) ≡ leg_state.Ended result tolerated = e in
+                record { all = whole; finish = cc (finish, is) };
           }))
 
       by_owner : (owner : Option ℕ) → rows.idle_owner at.leg.state ≡ owner → Goes p answers open_calls' b (event.Finish l) (rows.finish_leg b l at (rows.finishing_by worker at owner))
@@ -377,6 +316,5 @@ module _ (p : Plan) (fit : IsFit p) (answers : Answers) (open_calls' : ℕ → O
         where
           by : (other more : Bool) → nat_lt (length at.leg.steps) (length at.job_plan.steps) ≡ more
               → Goes p answers open_calls' b (event.Finish l) (rows.finish_leg b l at (if other then Err fault.OtherWorker else (if more then Err fault.StepsLeft else Ok (rows.ended_state at (leg_result at)))))
-          by true more e = tt
-          by false true e = tt
           by false false e = ends owner was e
+          by other more e = tt

@@ -1,5 +1,5 @@
 -- The next step of a leg by itself, and its end, are those that are settled.
-use Rattle.std.proofs.Common.{◌≡◌, ◌↔◌, ℕ, zero, suc, ◌+◌, ◌<◌, ◌≤◌, ◌==◌, ◌&&◌, ◌||◌, Bool, true, false, not, List, [], ◌∷◌, ◌++◌, Option, Some, None, Result, Ok, Err, option_map, length, drop, slice_get, if◌then◌else◌, ap, sym, subst, refl, ◌∙◌, arith}
+use Rattle.std.proofs.Common.{◌≡◌, ◌↔◌, ℕ, ◌+◌, ◌<◌, ◌==◌, ◌&&◌, ◌||◌, Bool, true, false, not, List, [], ◌∷◌, ◌++◌, Option, Some, None, Result, Ok, Err, option_map, length, drop, slice_get, if◌then◌else◌, ap, sym, subst, refl, ◌∙◌, arith}
 use Rattle.std.specs.List.{list_any}
 use Rattle.std.proofs.lemmas.Bool.Decides.{nat_tests}
 use Rattle.board_decisions.specs.Decisions.{is_true, job_condition, is_stopping, leg_result, step_decision, job_tolerates, leg_outputs}
@@ -22,9 +22,10 @@ use Rattle.board_settled.specs.Sees.{Spot}
 use Rattle.board_settled.specs.Settled.{Answers, Finish, SettledLeg, counts, concludes, answered, ends_so, step_by, next_done, steps_then, steps_from, finish_of, leg_after, leg_settled}
 use Rattle.status_table.specs.Row.{next_step, failure_of, conclusion_of, answered_step, outcome_of, outputs_of, set_by}
 use Rattle.plan_values.specs.Values.{Env}
-use Rattle.board_settled.proofs.Seen.{spot_of, call_is, failure_is, tolerated_is, outputs_are}
+use Rattle.board_settled.proofs.Seen.{spot_of, call_is, failure_is, finish_is}
 use Rattle.board_decisions.proofs.Lists.{same_some, no_some}
 use Rattle.status_table.proofs.Standings.{drop_at}
+use Rattle.board_settled.proofs.Lists.{item}
 
 -- ---- a leg that is alone
 
@@ -53,10 +54,8 @@ module _ (answers : Answers) (l : ℕ) (at : LegAt) (quiet : leg_result at ≡ c
   spot = spot_of l at
 
   concluded : (result : Outcome) → conclusion_of at result ≡ concludes spot at.leg.steps step result
-  concluded outcome.Success = refl
   concluded outcome.Failure = ap (failure_of at) is ∙ failure_is l at quiet step
-  concluded outcome.Cancelled = refl
-  concluded outcome.Skipped = refl
+  concluded result = refl
 
   ended : (result : Outcome) (outputs env : Env) → record { outcome = result; conclusion = conclusion_of at result; outputs = outputs; env = env } ≡ ends_so spot at.leg.steps step result outputs env
   ended result outputs env = ap (λ (c : Outcome). (let x : DoneStep = record { outcome = result; conclusion = c; outputs = outputs; env = env } in x)) (concluded result)
@@ -105,78 +104,34 @@ ended_leg answers spot steps is many =
     ap (leg_after spot) (sym is)
     ∙ ap (λ c. (let x : SettledLeg = record { steps = steps; finish = if c then Some (finish_of spot steps) else None } in x)) full
 
--- how a leg ends that is alone
-pub finish_alone : (l : ℕ) (at : JobAt) (k : ℕ) (leg : Leg) → IsAlone at → leg.stop ≡ false
-    → finish_of (planned l at k) leg.steps
-    ≡ record {
-      result = leg_result (leg_on at k leg);
-      tolerated = is_failure (leg_result (leg_on at k leg)) && job_tolerates (leg_on at k leg);
-      outputs = leg_outputs (leg_on at k leg);
-    }
-unfolding finish_of
-finish_alone l at k leg alone goes =
-    let quiet = counts_alone at k leg alone goes in
-    let passes = tolerated_is l (leg_on at k leg) quiet (leg_result (leg_on at k leg)) in
-    let outputs = outputs_are l (leg_on at k leg) quiet in
-    rw (passes, outputs, quiet) refl
-
--- a leg is settled where it is Ended so, with these steps and outputs
-pub settled_so : (answers : Answers) (spot : Spot) (leg : Leg) (how : Outcome) (passed : Bool) (steps : List DoneStep) (outputs : Env)
-    → leg_settled answers spot ≡ record { steps = steps; finish = Some (record { result = how; tolerated = passed; outputs = outputs }) }
-    → leg.state ≡ leg_state.Ended how passed → steps ≡ leg.steps → outputs ≡ leg.outputs → LegIsSettled (leg_settled answers spot) leg
-settled_so answers place leg how passed steps outputs is state same given =
-    subst (λ (x : SettledLeg). LegIsSettled x leg) (sym is) (record {
-      result = how;
-      tolerated = passed;
-      state = state;
-      steps = sym same;
-      finish = ap (λ (o : Env). Some (let x : Finish = record { result = how; tolerated = passed; outputs = o } in x)) given;
-    })
-
--- and only there
-pub only_so : (answers : Answers) (spot : Spot) (leg : Leg) (how : Outcome) (passed : Bool) (steps : List DoneStep) (outputs : Env)
-    → leg_settled answers spot ≡ record { steps = steps; finish = Some (record { result = how; tolerated = passed; outputs = outputs }) }
-    → LegIsSettled (leg_settled answers spot) leg → (leg.state ≡ leg_state.Ended how passed) × (steps ≡ leg.steps) × (outputs ≡ leg.outputs)
-only_so answers place leg how passed steps outputs is settled =
-    let h = subst (λ (x : SettledLeg). LegIsSettled x leg) is settled in
-    let finish = same_some (record { result = how; tolerated = passed; outputs = outputs }) (record { result = h.result; tolerated = h.tolerated; outputs = leg.outputs }) h.finish in (
-      h.state ∙ sym (ap (λ (f : Finish). leg_state.Ended f.result f.tolerated) finish),
-      sym h.steps,
-      ap (λ (f : Finish). f.outputs) finish,
-    )
-
 -- a leg that is alone, with all its steps, ends as settled
 module _ (answers : Answers) (l : ℕ) (at : JobAt) (k : ℕ) (played : Leg) (alone : IsAlone at) (come : StepsCome answers (planned l at k) (Some played)) where
-  settled_is : leg_settled answers (planned l at k)
-      ≡ record {
-        steps = played.steps;
-        finish = Some (record {
-          result = leg_result (leg_on at k played);
-          tolerated = is_failure (leg_result (leg_on at k played)) && job_tolerates (leg_on at k played);
-          outputs = leg_outputs (leg_on at k played);
-        });
-      }
+  abbrev on : LegAt
+  on = leg_on at k played
+
+  abbrev end : Finish
+  end = record { result = leg_result on; tolerated = is_failure (leg_result on) && job_tolerates on; outputs = leg_outputs on }
+
+  settled_is : leg_settled answers (planned l at k) ≡ record { steps = played.steps; finish = Some end }
   settled_is =
       ended_leg answers (planned l at k) played.steps come.1 come.2
-      ∙ ap (λ (f : Finish). (let x : SettledLeg = record { steps = played.steps; finish = Some f } in x)) (finish_alone l at k played alone come.0.goes)
+      ∙ ap (λ (f : Finish). (let x : SettledLeg = record { steps = played.steps; finish = Some f } in x)) (finish_is l on (counts_alone at k played alone come.0.goes))
 
-  pub ends_settled : (leg : Leg) → EndsAs (leg_on at k played) leg ↔ LegIsSettled (leg_settled answers (planned l at k)) leg
-  ends_settled leg = (
-    (λ h. settled_so answers (planned l at k) leg (leg_result (leg_on at k played)) (is_failure (leg_result (leg_on at k played)) && job_tolerates (leg_on at k played))
-        played.steps (leg_outputs (leg_on at k played)) settled_is h.state h.steps h.outputs),
+  pub ends_settled : (leg : Leg) → EndsAs on leg ↔ LegIsSettled (leg_settled answers (planned l at k)) leg
+  ends_settled leg = subst (λ (x : SettledLeg). EndsAs on leg ↔ LegIsSettled x leg) (sym settled_is) (
+    (λ h. record {
+      result = end.result;
+      tolerated = end.tolerated;
+      state = h.state;
+      steps = sym h.steps;
+      finish = ap (λ (o : Env). Some (let x : Finish = record end { outputs = o } in x)) h.outputs;
+    }),
     (λ h.
-        let so = only_so answers (planned l at k) leg (leg_result (leg_on at k played)) (is_failure (leg_result (leg_on at k played)) && job_tolerates (leg_on at k played))
-        played.steps (leg_outputs (leg_on at k played)) settled_is h in
-        record { state = so.0; steps = so.1; outputs = so.2 }),
+        let finish = same_some end (record { result = h.result; tolerated = h.tolerated; outputs = leg.outputs }) h.finish in
+        record { state = h.state ∙ sym (ap (λ (f : Finish). leg_state.Ended f.result f.tolerated) finish); steps = sym h.steps; outputs = ap (λ (f : Finish). f.outputs) finish }),
   )
 
 -- ---- one step after the other
-
--- the item at a place
-pub item : {A : Type 0} (xs : List A) (i : ℕ) → i < length xs → (x : A) × (slice_get xs i ≡ Some x)
-item [] i h = absurd (omega (arith, h))
-item (x ∷ xs) zero h = (x, refl)
-item (x ∷ xs) (suc i) h = item xs i (omega (arith, h))
 
 module _ (answers : Answers) (l : ℕ) (at : JobAt) (k : ℕ) (leg : Leg) (alone : IsAlone at) (idle : IsIdle leg) (n : ℕ) (many : length leg.steps ≡ n) (left : n < length at.plan.steps)
     (next : Option DoneStep) (come : (step : StepPlan) → next_step (leg_on at k leg) ≡ Some step → next ≡ next_comes answers l (leg_on at k leg) step)
@@ -202,10 +157,3 @@ module _ (answers : Answers) (l : ℕ) (at : JobAt) (k : ℕ) (leg : Leg) (alone
   no_more is all =
       let same = ap length (sym rest ∙ goes_nowhere answers (planned l at k) leg.steps here.0 (drop (n + 1) at.plan.steps) (sym done_next ∙ is)) in
       omega (arith, same, all, many, left)
-
--- all steps are done
-pub past : {A : Type 0} (xs : List A) (n : ℕ) → length xs ≤ n → drop n xs ≡ []
-past [] zero h = refl
-past [] (suc n) h = refl
-past (x ∷ xs) zero h = absurd (omega (arith, h))
-past (x ∷ xs) (suc n) h = past xs n (omega (arith, h))

@@ -1,5 +1,4 @@
 pub mod Agreeing
-pub mod BoardNeeds
 pub mod Called
 pub mod Changes
 pub mod Comes

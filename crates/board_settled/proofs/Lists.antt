@@ -4,10 +4,11 @@ use Rattle.std.specs.List.{list_all, list_any, filter_map, cons_option, AllZip}
 use Rattle.std.proofs.lemmas.Bool.{cases_eq}
 use Rattle.std.proofs.lemmas.Bool.Decides.{nat_tests}
 use Rattle.std.proofs.lemmas.List.Sums.{sum_by-cons}
-use Rattle.board_decisions.proofs.Lists.{and-left, and-right, and-both}
+use Rattle.std.proofs.lemmas.Option.{slice_get-map}
 use Rattle.status_table.specs.Change.{put, changed}
+use Rattle.status_table.proofs.Counts.{map-some}
 use Rattle.status_table.proofs.Lists.{changed-there, changed-elsewhere}
-use Rattle.board_decisions.proofs.Lists.{same_some, no_some}
+use Rattle.board_decisions.proofs.Lists.{and-left, and-right, and-both, same_some, no_some}
 
 -- ---- a list with one item changed
 
@@ -38,9 +39,8 @@ each-changed {T} P xs i f here others k x is = elim (cases_eq k i) as (λ _. P k
 pub zip-each : {A B : Type 0} (R : A → B → Type 0) (xs : List A) (ys : List B) → length xs ≡ length ys
     → ((i : ℕ) (x : A) (y : B) → slice_get xs i ≡ Some x → slice_get ys i ≡ Some y → R x y) → AllZip R xs ys
 zip-each R [] [] same h = tt
-zip-each R [] (y ∷ ys) same h = absurd (omega (arith, same))
-zip-each R (x ∷ xs) [] same h = absurd (omega (arith, same))
 zip-each R (x ∷ xs) (y ∷ ys) same h = (h 0 x y refl refl, zip-each R xs ys (omega (arith, same)) (λ i a b p q. h (suc i) a b p q))
+zip-each R xs ys same h = absurd (omega (arith, same))
 
 -- ---- the front of a list
 
@@ -50,7 +50,21 @@ get-take [] (suc n) i h = refl
 get-take (x ∷ xs) (suc n) zero h = refl
 get-take (x ∷ xs) (suc n) (suc i) h = get-take xs n i (omega (arith, h))
 
+-- there is an item within a list
+pub item : {A : Type 0} (xs : List A) (i : ℕ) → i < length xs → (x : A) × (slice_get xs i ≡ Some x)
+item [] i h = absurd (omega (arith, h))
+item (x ∷ xs) zero h = (x, refl)
+item (x ∷ xs) (suc i) h = item xs i (omega (arith, h))
+
+-- an item of what is made of each item
+pub mapped_from : {A B : Type 0} (f : A → B) (xs : List A) (i : ℕ) (y : B) → slice_get (map f xs) i ≡ Some y → (x : A) × (slice_get xs i ≡ Some x) × (f x ≡ y)
+mapped_from f xs i y h = map-some f (slice_get xs i) y (sym (slice_get-map f xs i) ∙ h)
+
 -- ---- tests of all items
+
+pub all-of : {A : Type 0} (t : A → Bool) (xs : List A) → ((i : ℕ) (x : A) → slice_get xs i ≡ Some x → t x ≡ true) → list_all t xs ≡ true
+all-of t [] h = refl
+all-of t (x ∷ xs) h = and-both (t x) (list_all t xs) (h 0 x refl) (all-of t xs (λ i y is. h (suc i) y is))
 
 -- tests of two lists of numbers that agree wherever the first passes
 pub all-by : {A : Type 0} (s t : A → Bool) (xs : List A) → ((x : A) → s x ≡ true → t x ≡ true) → list_all s xs ≡ true → list_all t xs ≡ true

@@ -1,5 +1,5 @@
 -- The jobs that a job needs, by their ids.
-use Rattle.std.proofs.Common.{◌≡◌, ◌-◌, ℕ, zero, suc, ◌∷◌, Option, Some, None, List, [], map, refl, sym, ap, ◌∙◌}
+use Rattle.std.proofs.Common.{◌≡◌, ◌-◌, ℕ, Option, Some, List, [], map, refl, sym, ap, ◌∙◌}
 use Rattle.std.specs.List.{filter_map, slice_get}
 use Rattle.board_decisions.specs.Contexts.{first_number, job_beside, need_pair, need_value, needed_job, needs_value, with_needs}
 use Rattle.board_decisions.specs.Place.{◌>>=◌, JobAt}
@@ -13,14 +13,15 @@ use Rattle.flow_model.specs.declared.board.Job.{Job}
 use Rattle.flow_model.specs.declared.board.Run.{Run}
 use Rattle.flow_model.specs.declared.plan.JobPlan.{JobPlan}
 use Rattle.flow_model.specs.declared.plan.RunPlan.{RunPlan}
+use Rattle.board_decisions.proofs.Lists.{map-get}
+use Rattle.board_settled.proofs.Lists.{mapped_from}
 use Rattle.board_settled.proofs.Pairs.{IsIn, found_in, in_found, in_kept, kept_in, laid_alone, no_some, same_some}
 
 -- the job at a place is planned there
 planned_by : (b : Board) (run_plan : RunPlan) (run : Run) (place : JobPlace) (o : Option JobPlan) (q : Option Job) (at : JobAt)
     → (o >>= (λ plan. q >>= (λ job. Some (record { board = b; place = place; run_plan = run_plan; plan = plan; run = run; job = job })))) ≡ Some at → o ≡ Some at.plan
-planned_by b run_plan run place None q at h = absurd (no_some h)
-planned_by b run_plan run place (Some plan) None at h = absurd (no_some h)
 planned_by b run_plan run place (Some plan) (Some job) at h = ap (λ (x : JobAt). Some x.plan) (same_some h)
+planned_by b run_plan run place o q at h = absurd (no_some h)
 
 needed_planned : (at need : JobAt) (number : ℕ) → needed_job at number ≡ Some need → slice_get at.run_plan.jobs (number - first_number at) ≡ Some need.plan
 needed_planned at need number h =
@@ -39,33 +40,20 @@ needed_once at a b m n distinct is_a is_b same =
 pair_of : (at : JobAt) (i : ℕ) (id : List ℕ) (v : Plain) → slice_get (map need_pair (filter_map (needed_job at) at.plan.needs)) i ≡ Some (id, v)
     → (need : JobAt) × IsNeeded at need × (need.plan.id ≡ id) × (need_value need ≡ v)
 pair_of at i id v there =
-    let (need, listed, is) = mapped need_pair (filter_map (needed_job at) at.plan.needs) i (id, v) there in
+    let (need, listed, is) = mapped_from need_pair (filter_map (needed_job at) at.plan.needs) i (id, v) there in
     let (k, number, named, has) = in_kept (needed_job at) at.plan.needs i need listed in
     (need, record { place = k; number = number; named = named; there = has }, ap (λ (p : List ℕ × Plain). p.0) is, ap (λ (p : List ℕ × Plain). p.1) is)
-  where
-    mapped : {X Y : Type 0} (f : X → Y) (xs : List X) (i : ℕ) (y : Y) → slice_get (map f xs) i ≡ Some y → (x : X) × (slice_get xs i ≡ Some x) × (f x ≡ y)
-    mapped f [] i y h = absurd (no_some h)
-    mapped f (x ∷ xs) zero y h = (x, refl, same_some h)
-    mapped f (x ∷ xs) (suc i) y h = mapped f xs i y h
 
 needed_pair : (at : JobAt) (id : List ℕ) (v : Plain) → (need : JobAt) × IsNeeded at need × (need.plan.id ≡ id) × (need_value need ≡ v)
     → IsIn (id, v) (map need_pair (filter_map (needed_job at) at.plan.needs))
 needed_pair at id v (need, needed, named, has) =
     let (i, there) = kept_in (needed_job at) at.plan.needs needed.place needed.number need needed.named needed.there in
-    (i, mapped need_pair (filter_map (needed_job at) at.plan.needs) i need there ∙ ap (λ n. Some (n, need_value need)) named ∙ ap (λ w. Some (id, w)) has)
-  where
-    mapped : {X Y : Type 0} (f : X → Y) (xs : List X) (i : ℕ) (x : X) → slice_get xs i ≡ Some x → slice_get (map f xs) i ≡ Some (f x)
-    mapped f [] i x h = absurd (no_some h)
-    mapped f (y ∷ xs) zero x h = ap (λ z. Some (f z)) (same_some h)
-    mapped f (y ∷ xs) (suc i) x h = mapped f xs i x h
+    (i, map-get need_pair (filter_map (needed_job at) at.plan.needs) i need there ∙ ap (λ n. Some (n, need_value need)) named ∙ ap (λ w. Some (id, w)) has)
 
 pub needs_are_direct : NeedsAreDirect
 unfolding needs_value
 needs_are_direct at distinct = (refl, λ id v. (found id v, given id v))
   where
-    pairs : List (List ℕ × Plain)
-    pairs = map need_pair (filter_map (needed_job at) at.plan.needs)
-
     found : (id : List ℕ) (v : Plain) → value_at id (with_needs at at.plan.needs []) ≡ Some v → (need : JobAt) × IsNeeded at need × (need.plan.id ≡ id) × (need_value need ≡ v)
     found id v is = let (i, there) = found_in id (map need_pair (filter_map (needed_job at) at.plan.needs)) v (sym (laid_alone id (map need_pair (filter_map (needed_job at) at.plan.needs))) ∙ is) in
         pair_of at i id v there

@@ -14,10 +14,9 @@ use Rattle.board_settled.proofs.Pairs.{IsIn, found_in, in_found, in_kept, kept_i
 -- what stands beside what
 beside : (xs : List StepPlan) (ys : List DoneStep) (k : ℕ) (x : StepPlan) (y : DoneStep) → slice_get (zip xs ys) k ≡ Some (x, y)
     → (slice_get xs k ≡ Some x) × (slice_get ys k ≡ Some y)
-beside [] ys k x y h = absurd (no_some h)
-beside (a ∷ xs) [] k x y h = absurd (no_some h)
 beside (a ∷ xs) (b ∷ ys) zero x y h = let is = same_some h in (ap (λ (p : StepPlan × DoneStep). Some p.0) is, ap (λ (p : StepPlan × DoneStep). Some p.1) is)
 beside (a ∷ xs) (b ∷ ys) (suc k) x y h = beside xs ys k x y h
+beside xs ys k x y h = absurd (no_some h)
 
 both_beside : (xs : List StepPlan) (ys : List DoneStep) (k : ℕ) (x : StepPlan) (y : DoneStep) → slice_get xs k ≡ Some x → slice_get ys k ≡ Some y
     → slice_get (zip xs ys) k ≡ Some (x, y)

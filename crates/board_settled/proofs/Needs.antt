@@ -2,6 +2,7 @@
 -- and its status are as settled.
 use Rattle.std.proofs.Common.{◌≡◌, ℕ, zero, suc, ◌-◌, ◌<◌, ◌≤◌, ◌||◌, Bool, true, not, List, [], ◌∷◌, Option, Some, None, option_map, length, map, take, slice_get, nat_lt, is_some, ap, sym, ◌∙◌, refl, arith}
 use Rattle.std.specs.List.{list_all, list_any}
+use Rattle.std.proofs.lemmas.Bool.{leb-true}
 use Rattle.std.proofs.lemmas.List.{length-take-le, length-map}
 use Rattle.std.proofs.lemmas.Option.{slice_get-map, slice_get_within}
 use Rattle.board_decisions.specs.Contexts.{object, needed_job, need_pair, needs_value}
@@ -144,15 +145,30 @@ module _ (b : Board) (r first : ℕ) (plan : RunPlan) (run : Run) (all : List Se
     pub sees_settled : (x : Job) → SeesSettled first before (at x)
     sees_settled x = record { given = are_given; needs = needs_same x; status = status_same }
 
+-- ---- a job all before which come to what is settled
+
+module _ (b : Board) (r first : ℕ) (plan : RunPlan) (run : Run) (all : List SettledJob) (ordered : IsOrdered first plan.jobs) (j : ℕ)
+    (each : (i : ℕ) → i < j → ComesAt b r plan run all i) where
+  abbrev earlier : ℕ → ℕ → Bool
+  earlier k need = nat_lt (need - first) k
+
+  reached : (k need : ℕ) → k ≤ j → earlier k need ≡ true → Reached b r first plan run all earlier k need
+  reached k need le ok =
+      let less : need - first < k = leb-true (suc (need - first)) k ok in
+      record { less = less; at = each (need - first) (omega (arith, le, less)); further = ordered.needs (need - first) }
+
+  pub board_sees_settled : (job : JobPlan) → slice_get plan.jobs j ≡ Some job → j ≤ length all → (x : Job)
+      → SeesSettled first (take j all) (record { board = b; place = record { run = r; job = j }; run_plan = plan; plan = job; run = run; job = x })
+  board_sees_settled job is long x = sees_settled b r first plan run all j earlier reached job is long (ordered.number j job is) (ordered.needs j job is) x
+
 -- ---- a run all of whose jobs come to what is settled
 
 all-given : {A : Type 0} (xs : List (Option A)) (ys : List A) → length xs ≡ length ys → ((i : ℕ) (y : A) → slice_get ys i ≡ Some y → slice_get xs i ≡ Some (Some y)) → all_given xs ≡ Some ys
 all-given [] [] same h = refl
-all-given [] (y ∷ ys) same h = absurd (omega (arith, same))
-all-given (x ∷ xs) [] same h = absurd (omega (arith, same))
 all-given {A} (x ∷ xs) (y ∷ ys) same h =
     let here : x ≡ Some y = same_some x (Some y) (h 0 y refl) in
     ap (λ (o : Option A). all_given (o ∷ xs)) here ∙ ap (option_map (λ (zs : List A). y ∷ zs)) (all-given xs ys (omega (arith, same)) (λ i z is. h (suc i) z is))
+all-given xs ys same h = absurd (omega (arith, same))
 
 pub each_result : (b : Board) (r : ℕ) (plan : RunPlan) (run : Run) (all : List SettledJob) → length all ≡ length run.jobs
     → ((i : ℕ) → i < length run.jobs → ComesAt b r plan run all i) → all_given (map result_of all) ≡ Some (job_results run)

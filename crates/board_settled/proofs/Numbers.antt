@@ -17,15 +17,13 @@ use Rattle.board_decisions.proofs.Lists.{same_some, no_some}
 
 -- how many legs stand in the first jobs
 abbrev pub before_job : ℕ → List JobPlan → ℕ
-before_job zero jobs = 0
-before_job (suc i) [] = 0
 before_job (suc i) (job ∷ jobs) = length job.legs + before_job i jobs
+before_job i jobs = 0
 
 -- how many legs stand in the first runs
 abbrev pub before_run : ℕ → List RunPlan → ℕ
-before_run zero runs = 0
-before_run (suc i) [] = 0
 before_run (suc i) (run ∷ runs) = leg_count run.jobs + before_run i runs
+before_run i runs = 0
 
 count-cons : (job : JobPlan) (jobs : List JobPlan) → leg_count (job ∷ jobs) ≡ length job.legs + leg_count jobs
 count-cons job jobs = length-append job.legs (flat_map (λ (j : JobPlan). j.legs) jobs)
@@ -45,8 +43,6 @@ later_in_jobs r k plan plans n (Err m) le h = let all = count-cons plan plans in
 in_jobs : (r k : ℕ) (plans : List JobPlan) (jobs : List Job) (n : ℕ) → AllZip JobShape plans jobs → InJobs r k plans n (leg_in_jobs r k jobs n)
 unfolding InJobs
 in_jobs r k [] [] n shape = omega arith
-in_jobs r k [] (job ∷ jobs) n shape = absurd shape
-in_jobs r k (plan ∷ plans) [] n shape = absurd shape
 in_jobs r k (plan ∷ plans) (job ∷ jobs) n shape = step (in_jobs r (suc k) plans jobs (n - length job.legs) shape.1) (nat_lt n (length job.legs)) refl
   where
     step : InJobs r (suc k) plans (n - length job.legs) (leg_in_jobs r (suc k) jobs (n - length job.legs)) → (c : Bool) → nat_lt n (length job.legs) ≡ c
@@ -57,6 +53,7 @@ in_jobs r k (plan ∷ plans) (job ∷ jobs) n shape = step (in_jobs r (suc k) pl
         let past : length job.legs ≤ n = grind (arith, is) in
         later_in_jobs r k plan plans n (leg_in_jobs r (suc k) jobs (n - length job.legs)) (omega (arith, past, as_many))
         (subst (λ (len : ℕ). InJobs r (suc k) plans (n - len) (leg_in_jobs r (suc k) jobs (n - length job.legs))) as_many later)
+in_jobs r k plans jobs n shape = absurd shape
 
 InRuns : ℕ → List RunPlan → ℕ → Option LegPlace → Type 0
 InRuns k plans n (Some at) = (i : ℕ) × (at.run ≡ k + i) × ((plan : RunPlan) → slice_get plans i ≡ Some plan → n ≡ before_run i plans + (before_job at.job plan.jobs + at.leg))
@@ -71,8 +68,6 @@ later_in_runs k plan plans n None le h = tt
 in_runs : (k : ℕ) (plans : List RunPlan) (runs : List Run) (n : ℕ) → AllZip RunShape plans runs → InRuns k plans n (leg_place_from k runs n)
 unfolding InRuns InJobs
 in_runs k [] [] n shape = tt
-in_runs k [] (run ∷ runs) n shape = absurd shape
-in_runs k (plan ∷ plans) [] n shape = absurd shape
 in_runs k (plan ∷ plans) (run ∷ runs) n shape =
     step (λ m. in_runs (suc k) plans runs m shape.1) (leg_in_jobs k 0 run.jobs n) (in_jobs k 0 plan.jobs run.jobs n shape.0)
   where
@@ -89,6 +84,7 @@ in_runs k (plan ∷ plans) (run ∷ runs) n shape =
     step later (Err m) h =
         let is : m ≡ n - leg_count plan.jobs = omega (arith, h) in
         later_in_runs k plan plans n (leg_place_from (suc k) runs m) (omega (arith, h)) (subst (λ (i : ℕ). InRuns (suc k) plans i (leg_place_from (suc k) runs m)) is (later m))
+in_runs k plans runs n shape = absurd shape
 
 -- the number of a leg, by its place
 pub number_at : (p : Plan) (b : Board) (l : ℕ) (at : LegPlace) (plan : RunPlan) → HasShape p b → leg_place b l ≡ Some at → slice_get p.runs at.run ≡ Some plan

@@ -1,13 +1,11 @@
 -- The outputs of a job on a board whose legs stand among the ends in the order of their numbers.
-use Rattle.std.proofs.Common.{◌≡◌, ℕ, zero, suc, ◌+◌, ◌<◌, ◌≤◌, ◌==◌, ◌&&◌, Bool, true, false, List, [], ◌∷◌, ◌++◌, Option, Some, None, option_map, length, map, slice_get, if◌then◌else◌, ap, sym, refl, ◌∙◌, arith}
+use Rattle.std.proofs.Common.{◌≡◌, ℕ, zero, suc, ◌+◌, ◌<◌, ◌≤◌, Bool, true, false, List, [], ◌∷◌, ◌++◌, Option, Some, None, option_map, length, map, slice_get, if◌then◌else◌, ap, refl, ◌∙◌, arith}
 use Rattle.std.specs.List.{filter, filter_map, flat_map, cons_option}
-use Rattle.std.proofs.lemmas.Bool.Decides.{nat_tests}
 use Rattle.std.proofs.lemmas.List.Elements.{filter-append}
 use Rattle.std.proofs.lemmas.Option.{slice_get_within}
-use Rattle.board_decisions.specs.Contexts.{leg_of_job, job_leg, overlaid, job_outputs}
+use Rattle.board_decisions.specs.Contexts.{job_leg, overlaid, job_outputs}
 use Rattle.board_decisions.specs.Derived.{holds, is_ended}
-use Rattle.board_decisions.specs.Numbered.{leg_there, numbered_leg}
-use Rattle.board_decisions.specs.Place.{◌>>=◌, leg_place}
+use Rattle.board_decisions.specs.Numbered.{numbered_leg}
 use Rattle.board_decisions.specs.declared.place.JobPlace.{JobPlace}
 use Rattle.flow_model.specs.Numbers.{board_legs}
 use Rattle.flow_model.specs.declared.board.Board.{Board}
@@ -17,10 +15,9 @@ use Rattle.flow_model.specs.declared.board.Run.{Run}
 use Rattle.flow_model.specs.declared.plan.Plan.{Plan}
 use Rattle.flow_model.specs.declared.plan.RunPlan.{RunPlan}
 use Rattle.board_settled.specs.Quiet.{numbers, has_ended_at, ended_in_order, quiet_run}
-use Rattle.board_settled.proofs.Numbers.{before_run, before_job, leg_spot, number_at, place_at}
-use Rattle.board_settled.proofs.Outputs.{is_of_job}
+use Rattle.board_settled.proofs.Numbers.{before_run, before_job}
+use Rattle.board_settled.proofs.Outputs.{leg_number, has_number, is_leg_of, is_item, number_of}
 use Rattle.status_table.specs.Shape.{HasShape}
-use Rattle.status_table.proofs.Numbers.{legs_are_numbered}
 
 -- ---- numbers in their order
 
@@ -106,30 +103,15 @@ module _ (p : Plan) (b : Board) (place : JobPlace) (plan : RunPlan) (run : Run) 
       ap (λ ls. overlaid (map (λ leg. leg.outputs) (filter_map (job_leg b place) ls)) []) ends
       ∙ ap (λ (ls : List Leg). overlaid (map (λ leg. leg.outputs) ls) []) (filter_map-passing (has_ended_at b) (job_leg b place) (numbers 0 (length (board_legs b))) ∙ h)
 
-  -- a number that gives a leg of the job
-  given-number : (l : ℕ) (leg : Leg) → job_leg b place l ≡ Some leg → (k : ℕ) × (l ≡ first + k) × (slice_get job.legs k ≡ Some leg) × (numbered_leg b l ≡ Some leg)
-  given-number l leg is =
-      let of_job = is_of_job b place run job in_board in_run l leg is in
-      let number = number_at p b l of_job.at plan shape of_job.place_is (ap (slice_get p.runs) of_job.run_is ∙ planned) in
-      let runs = ap (λ r. before_run r p.runs) of_job.run_is in
-      let jobs = ap (λ j. before_job j plan.jobs) of_job.job_is in (
-        of_job.at.leg,
-        omega (arith, number, runs, jobs),
-        of_job.there,
-        ap (λ o. o >>= leg_there b) of_job.place_is
-            ∙ ap (λ o. o >>= λ (x : Run). slice_get x.jobs of_job.at.job >>= λ y. slice_get y.legs of_job.at.leg) (ap (slice_get b.runs) of_job.run_is ∙ in_board)
-            ∙ ap (λ o. o >>= λ (y : Job). slice_get y.legs of_job.at.leg) (ap (slice_get run.jobs) of_job.job_is ∙ in_run)
-            ∙ of_job.there,
-      )
-
   -- a job none of whose legs is Ended
   pub none_ended : ((k : ℕ) (leg : Leg) → slice_get job.legs k ≡ Some leg → is_ended leg.state ≡ false) → job_outputs b place ≡ []
   none_ended h = outputs-by [] (nothing-given given 0 (length (board_legs b)) (λ l _. by l (job_leg b place l) refl))
     where
       unended : (l : ℕ) (leg : Leg) → job_leg b place l ≡ Some leg → has_ended_at b l ≡ false
       unended l leg is =
-          let found = given-number l leg is in
-          ap (λ o. holds (option_map (λ (x : Leg). is_ended x.state) o)) found.3 ∙ h found.0 leg found.2
+          let found = number_of p b place plan run job shape planned in_board in_run l leg is in
+          ap (λ o. holds (option_map (λ (x : Leg). is_ended x.state) o)) (ap (numbered_leg b) found.1 ∙ has_number p b place plan run job shape planned in_board in_run found.0 leg found.2)
+          ∙ h found.0 leg found.2
 
       by : (l : ℕ) (o : Option Leg) → job_leg b place l ≡ o → given l ≡ None
       by l None is = every (has_ended_at b l)
@@ -144,44 +126,17 @@ module _ (p : Plan) (b : Board) (place : JobPlace) (plan : RunPlan) (run : Run) 
       → job_outputs b place ≡ overlaid (map (λ leg. leg.outputs) job.legs) []
   all_ended h = outputs-by job.legs (given-later given job.legs 0 first (length (board_legs b)) each early past)
     where
-      same : (n : ℕ) → (n == n) ≡ true
-      same n = grind (arith, nat_tests)
-
-      number : ℕ → ℕ
-      number k = before_run place.run p.runs + (before_job place.job plan.jobs + k)
-
-      placed : (k : ℕ) (leg : Leg) → slice_get job.legs k ≡ Some leg → leg_place b (number k) ≡ Some (leg_spot place.run place.job k)
-      placed k leg is = place_at p b place.run place.job k plan run job shape planned in_board in_run (slice_get_within job.legs k leg is)
-
-      there : (k : ℕ) (leg : Leg) → slice_get job.legs k ≡ Some leg → leg_there b (leg_spot place.run place.job k) ≡ Some leg
-      there k leg is =
-          ap (λ o. o >>= λ x. slice_get x.jobs place.job >>= λ y. slice_get y.legs k) in_board
-          ∙ ap (λ o. o >>= λ (y : Job). slice_get y.legs k) in_run
-          ∙ is
-
-      found : (k : ℕ) (leg : Leg) → slice_get job.legs k ≡ Some leg → job_leg b place (number k) ≡ Some leg
-      found k leg is =
-          ap (λ o. o >>= leg_of_job b place) (placed k leg is)
-          ∙ ap (λ c. if c && (place.job == place.job) then leg_there b (leg_spot place.run place.job k) else None) (same place.run)
-          ∙ ap (λ c. if c then leg_there b (leg_spot place.run place.job k) else None) (same place.job)
-          ∙ there k leg is
-
-      passes : (k : ℕ) (leg : Leg) → slice_get job.legs k ≡ Some leg → has_ended_at b (number k) ≡ true
+      passes : (k : ℕ) (leg : Leg) → slice_get job.legs k ≡ Some leg → has_ended_at b (leg_number p place plan k) ≡ true
       passes k leg is =
-          ap (λ o. holds (option_map (λ (x : Leg). is_ended x.state) (o >>= leg_there b))) (placed k leg is)
-          ∙ ap (λ o. holds (option_map (λ (x : Leg). is_ended x.state) o)) (there k leg is)
+          ap (λ o. holds (option_map (λ (x : Leg). is_ended x.state) o)) (has_number p b place plan run job shape planned in_board in_run k leg is)
           ∙ h k leg is
-
-      within : (k : ℕ) (leg : Leg) → slice_get job.legs k ≡ Some leg → number k < length (board_legs b)
-      within k leg is =
-          slice_get_within (board_legs b) (number k) leg
-          (sym ((legs_are_numbered b).there (number k)) ∙ ap (λ o. o >>= leg_there b) (placed k leg is) ∙ there k leg is)
 
       each : (k : ℕ) (leg : Leg) → slice_get job.legs k ≡ Some leg → (given (0 + first + k) ≡ Some leg) × (0 + first + k < 0 + length (board_legs b))
       each k leg is =
-          let here : 0 + first + k ≡ number k = omega arith in
-          let less = within k leg is in (
-            ap given here ∙ ap (λ c. if c then job_leg b place (number k) else None) (passes k leg is) ∙ found k leg is,
+          let here : 0 + first + k ≡ leg_number p place plan k = omega arith in
+          let less = slice_get_within (board_legs b) (leg_number p place plan k) leg (is_item p b place plan run job shape planned in_board in_run k leg is) in (
+            ap given here ∙ ap (λ c. if c then job_leg b place (leg_number p place plan k) else None) (passes k leg is)
+                ∙ is_leg_of p b place plan run job shape planned in_board in_run k leg is,
             omega (arith, less),
           )
 
@@ -196,8 +151,9 @@ module _ (p : Plan) (b : Board) (place : JobPlace) (plan : RunPlan) (run : Run) 
           by : (o : Option Leg) → job_leg b place l ≡ o → given l ≡ None
           by None is = every (has_ended_at b l) (job_leg b place l) is
           by (Some leg) is =
-              let at = given-number l leg is in
-              absurd (refuted at.0 at.1 (slice_get_within job.legs at.0 leg at.2))
+              let at = number_of p b place plan run job shape planned in_board in_run l leg is in
+              let number = at.1 in
+              absurd (refuted at.0 (omega (arith, number)) (slice_get_within job.legs at.0 leg at.2))
 
       early : (l : ℕ) → l < 0 + first → given l ≡ None
       early l less = other l (λ k is _. omega (arith, less, is))

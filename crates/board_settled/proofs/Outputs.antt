@@ -1,10 +1,11 @@
 -- The outputs of a job on a board, where no order of its legs is told by them.
-use Rattle.std.proofs.Common.{◌≡◌, ◌≢◌, ℕ, zero, suc, ◌<◌, ◌+◌, ◌==◌, ◌&&◌, Bool, true, false, List, [], ◌∷◌, Option, Some, None, length, map, slice_get, count_by, if◌then◌else◌, ap, sym, refl, ◌∙◌, arith}
-use Rattle.std.specs.List.{filter_map, cons_option}
+use Rattle.std.proofs.Common.{◌≡◌, ◌≢◌, ℕ, zero, suc, ◌+◌, ◌==◌, ◌&&◌, Bool, true, false, List, [], ◌∷◌, Option, Some, None, map, slice_get, count_by, if◌then◌else◌, ap, sym, refl, ◌∙◌, arith}
+use Rattle.std.specs.List.{filter_map}
 use Rattle.std.proofs.lemmas.Bool.Decides.{nat_tests}
+use Rattle.std.proofs.lemmas.Option.{slice_get_within}
 use Rattle.board_decisions.specs.Contexts.{leg_of_job, job_leg, overlaid, job_outputs}
 use Rattle.board_decisions.specs.Derived.{is_ended}
-use Rattle.board_decisions.specs.Numbered.{leg_there}
+use Rattle.board_decisions.specs.Numbered.{leg_there, numbered_leg}
 use Rattle.board_decisions.specs.Place.{◌>>=◌, leg_place}
 use Rattle.board_decisions.specs.declared.place.JobPlace.{JobPlace}
 use Rattle.board_decisions.specs.declared.place.LegPlace.{LegPlace}
@@ -17,28 +18,12 @@ use Rattle.flow_model.specs.declared.plan.Plan.{Plan}
 use Rattle.flow_model.specs.declared.plan.RunPlan.{RunPlan}
 use Rattle.status_table.specs.Ends.{times_ended, EndOnce}
 use Rattle.status_table.specs.Shape.{HasShape}
-use Rattle.plan_values.specs.Env.{laid_over}
-use Rattle.plan_values.specs.Values.{Env}
-use Rattle.board_decisions.proofs.Lists.{and-left, and-right}
 use Rattle.status_table.proofs.Lists.{bind-some}
-use Rattle.board_decisions.proofs.Lists.{no_some}
+use Rattle.board_decisions.proofs.Lists.{and-left, and-right, no_some}
 use Rattle.status_table.proofs.Numbers.{legs_are_numbered}
 use Rattle.board_settled.proofs.Lists.{once-given}
+use Rattle.board_settled.proofs.Pairs.{in_kept, nothing-laid}
 use Rattle.board_settled.proofs.Numbers.{before_run, before_job, leg_spot, number_at, place_at}
-
--- levels without a name lay nothing over what is below
-pub overlaid-nothing : {X : Type 0} (f : X → Option Leg) (xs : List X) (below : Env) → ((x : X) (leg : Leg) → f x ≡ Some leg → leg.outputs ≡ [])
-    → overlaid (map (λ leg. leg.outputs) (filter_map f xs)) below ≡ below
-unfolding laid_over
-overlaid-nothing f [] below h = refl
-overlaid-nothing {X} f (x ∷ xs) below h = by (f x) refl (overlaid-nothing f xs below h)
-  where
-    by : (o : Option Leg) → f x ≡ o → overlaid (map (λ leg. leg.outputs) (filter_map f xs)) below ≡ below
-        → overlaid (map (λ leg. leg.outputs) (cons_option o (filter_map f xs))) below ≡ below
-    by None is later = later
-    by (Some leg) is later =
-        ap (λ (level : Env). overlaid (map (λ y. y.outputs) (filter_map f xs)) (laid_over level below)) (h x leg is)
-        ∙ later
 
 -- where a leg of a job is found by a number
 pub record IsOfJob (b : Board) (place : JobPlace) (job : Job) (l : ℕ) (leg : Leg) : Type 0 where
@@ -76,62 +61,77 @@ module _ (b : Board) (place : JobPlace) (run : Run) (job : Job) (in_board : slic
       ended : (at : LegPlace) × (leg_place b l ≡ Some at) × (leg_of_job b place at ≡ Some leg) → IsOfJob b place job l leg
       ended x = tested x.0 x.1 ((x.0.run == place.run) && (x.0.job == place.job)) refl x.2
 
-  abbrev number : Plan → RunPlan → ℕ
-  number p plan = before_run place.run p.runs + (before_job place.job plan.jobs + 0)
-
   -- where no leg has outputs, neither has the job
   pub no_outputs : ((k : ℕ) (leg : Leg) → slice_get job.legs k ≡ Some leg → leg.outputs ≡ []) → job_outputs b place ≡ []
   unfolding job_outputs
-  no_outputs h = overlaid-nothing (job_leg b place) b.ends [] (λ l leg is. let found = is_of_job l leg is in h found.at.leg leg found.there)
+  no_outputs h = nothing-laid (λ leg. leg.outputs) (filter_map (job_leg b place) b.ends) [] (λ i leg at.
+      let (k, l, there, is) = in_kept (job_leg b place) b.ends i leg at in let found = is_of_job l leg is in h found.at.leg leg found.there)
+
+-- ---- the legs of a job by their numbers
+
+abbrev pub leg_number : Plan → JobPlace → RunPlan → ℕ → ℕ
+leg_number p place plan k = before_run place.run p.runs + (before_job place.job plan.jobs + k)
+
+module _ (p : Plan) (b : Board) (place : JobPlace) (plan : RunPlan) (run : Run) (job : Job) (shape : HasShape p b) (planned : slice_get p.runs place.run ≡ Some plan)
+    (in_board : slice_get b.runs place.run ≡ Some run) (in_run : slice_get run.jobs place.job ≡ Some job) where
+  same : (n : ℕ) → (n == n) ≡ true
+  same n = grind (arith, nat_tests)
+
+  module _ (k : ℕ) (leg : Leg) (is : slice_get job.legs k ≡ Some leg) where
+    placed : leg_place b (leg_number p place plan k) ≡ Some (leg_spot place.run place.job k)
+    placed = place_at p b place.run place.job k plan run job shape planned in_board in_run (slice_get_within job.legs k leg is)
+
+    there : leg_there b (leg_spot place.run place.job k) ≡ Some leg
+    there =
+        ap (λ o. o >>= λ x. slice_get x.jobs place.job >>= λ y. slice_get y.legs k) in_board
+        ∙ ap (λ o. o >>= λ (y : Job). slice_get y.legs k) in_run
+        ∙ is
+
+    pub has_number : numbered_leg b (leg_number p place plan k) ≡ Some leg
+    has_number = ap (λ o. o >>= leg_there b) placed ∙ there
+
+    pub is_leg_of : job_leg b place (leg_number p place plan k) ≡ Some leg
+    is_leg_of =
+        ap (λ o. o >>= leg_of_job b place) placed
+        ∙ ap (λ c. if c && (place.job == place.job) then leg_there b (leg_spot place.run place.job k) else None) (same place.run)
+        ∙ ap (λ c. if c then leg_there b (leg_spot place.run place.job k) else None) (same place.job)
+        ∙ there
+
+    pub is_item : slice_get (board_legs b) (leg_number p place plan k) ≡ Some leg
+    is_item = sym ((legs_are_numbered b).there (leg_number p place plan k)) ∙ has_number
+
+  -- no other number gives a leg of the job
+  pub number_of : (l : ℕ) (leg : Leg) → job_leg b place l ≡ Some leg → (k : ℕ) × (l ≡ leg_number p place plan k) × (slice_get job.legs k ≡ Some leg)
+  number_of l leg is =
+      let of_job = is_of_job b place run job in_board in_run l leg is in
+      let number = number_at p b l of_job.at plan shape of_job.place_is (ap (slice_get p.runs) of_job.run_is ∙ planned) in
+      let runs = ap (λ r. before_run r p.runs) of_job.run_is in
+      let jobs = ap (λ j. before_job j plan.jobs) of_job.job_is in
+      (of_job.at.leg, omega (arith, number, runs, jobs), of_job.there)
 
   -- the outputs of a job with one leg, which has ended
-  pub one_outputs : (p : Plan) (plan : RunPlan) (leg : Leg) → HasShape p b → EndOnce b → slice_get p.runs place.run ≡ Some plan → job.legs ≡ leg ∷ [] → is_ended leg.state ≡ true
-      → job_outputs b place ≡ overlaid (leg.outputs ∷ []) []
+  pub one_outputs : (leg : Leg) → EndOnce b → job.legs ≡ leg ∷ [] → is_ended leg.state ≡ true → job_outputs b place ≡ overlaid (leg.outputs ∷ []) []
   unfolding job_outputs
-  one_outputs p plan leg shape ends planned alone ended =
-      ap (λ (legs : List Leg). overlaid (map (λ x. x.outputs) legs) []) (once-given (job_leg b place) (number p plan) leg b.ends found others counted)
+  one_outputs leg ends alone ended =
+      ap (λ (legs : List Leg). overlaid (map (λ x. x.outputs) legs) []) (once-given (job_leg b place) (leg_number p place plan 0) leg b.ends (is_leg_of 0 leg here) others counted)
     where
+      here : slice_get job.legs 0 ≡ Some leg
+      here = ap (λ legs. slice_get legs 0) alone
+
       single : (k : ℕ) (x : Leg) → slice_get (leg ∷ []) k ≡ Some x → k ≡ 0
       single zero x is = refl
       single (suc k) x is = absurd (no_some x is)
 
-      within : 0 < length job.legs
-      within = let e = ap length alone in omega (arith, e)
-
-      placed : leg_place b (number p plan) ≡ Some (leg_spot place.run place.job 0)
-      placed = place_at p b place.run place.job 0 plan run job shape planned in_board in_run within
-
-      there : leg_there b (leg_spot place.run place.job 0) ≡ Some leg
-      there =
-          ap (λ o. o >>= λ x. slice_get x.jobs place.job >>= λ y. slice_get y.legs 0) in_board
-          ∙ ap (λ o. o >>= λ (y : Job). slice_get y.legs 0) in_run
-          ∙ ap (λ legs. slice_get legs 0) alone
-
-      same : (n : ℕ) → (n == n) ≡ true
-      same n = grind (arith, nat_tests)
-
-      found : job_leg b place (number p plan) ≡ Some leg
-      found =
-          ap (λ o. o >>= leg_of_job b place) placed
-          ∙ ap (λ c. if c && (place.job == place.job) then leg_there b (leg_spot place.run place.job 0) else None) (same place.run)
-          ∙ ap (λ c. if c then leg_there b (leg_spot place.run place.job 0) else None) (same place.job)
-          ∙ there
-
-      others : (l : ℕ) → l ≢ number p plan → job_leg b place l ≡ None
+      others : (l : ℕ) → l ≢ leg_number p place plan 0 → job_leg b place l ≡ None
       others l differs = by (job_leg b place l) refl
         where
           by : (o : Option Leg) → job_leg b place l ≡ o → o ≡ None
           by None is = refl
           by (Some x) is =
-              let of_job = is_of_job l x is in
-              let first : of_job.at.leg ≡ 0 = single of_job.at.leg x (ap (λ legs. slice_get legs of_job.at.leg) (sym alone) ∙ of_job.there) in
-              let is_number = number_at p b l of_job.at plan shape of_job.place_is (ap (slice_get p.runs) of_job.run_is ∙ planned) in
-              let runs = ap (λ r. before_run r p.runs) of_job.run_is in
-              let jobs = ap (λ j. before_job j plan.jobs) of_job.job_is in
-              absurd (differs (omega (arith, is_number, runs, jobs, first)))
+              let at = number_of l x is in
+              let first : at.0 ≡ 0 = single at.0 x (ap (λ legs. slice_get legs at.0) (sym alone) ∙ at.2) in
+              let number = at.1 in
+              absurd (differs (omega (arith, number, first)))
 
-      item : slice_get (board_legs b) (number p plan) ≡ Some leg
-      item = sym ((legs_are_numbered b).there (number p plan)) ∙ ap (λ o. o >>= leg_there b) placed ∙ there
-
-      counted : count_by (λ l. l == number p plan) b.ends ≡ 1
-      counted = ends (number p plan) ∙ ap times_ended item ∙ ap (λ c. if c then 1 else 0) ended
+      counted : count_by (λ l. l == leg_number p place plan 0) b.ends ≡ 1
+      counted = ends (leg_number p place plan 0) ∙ ap times_ended (is_item 0 leg here) ∙ ap (λ c. if c then 1 else 0) ended

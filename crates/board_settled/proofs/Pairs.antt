@@ -1,5 +1,5 @@
 -- What stands in pairs that are laid over one another.
-use Rattle.std.proofs.Common.{◌≡◌, ℕ, zero, suc, Bool, true, false, cond, if◌then◌else◌, Option, Some, None, List, [], ◌∷◌, Ordering, Less, refl, sym, ap, subst, ◌∙◌}
+use Rattle.std.proofs.Common.{◌≡◌, ℕ, zero, suc, Bool, true, false, cond, if◌then◌else◌, Option, Some, None, List, [], ◌∷◌, map, Ordering, Less, refl, sym, ap, subst, ◌∙◌}
 use Rattle.std.proofs.lemmas.Bool.{true≢false}
 use Rattle.std.proofs.lemmas.Map.Text.{is_eq-slice_cmp}
 use Rattle.std.proofs.lemmas.Option.{none-some, same_Some}
@@ -8,9 +8,11 @@ use Rattle.std.specs.Cmp.Lexicographic.{slice_cmp}
 use Rattle.std.specs.List.{AllByRecursion, filter_map, cons_option, slice_get}
 use Rattle.std.specs.List.Sorted.{IsStrictlySortedBy}
 use Rattle.std.specs.Ordering.{nat_cmp, is_eq}
+use Rattle.board_decisions.specs.Contexts.{overlaid}
 use Rattle.flow_model.specs.Mapping.{value_at, with_pair, keys_of, Ascends}
 use Rattle.flow_model.proofs.Lookups.{found_other, found_same}
 use Rattle.plan_values.specs.Env.{laid_over, or_below}
+use Rattle.plan_values.specs.Values.{Env}
 
 -- an item stands somewhere in a list
 abbrev pub IsIn : {T : Type 0} → T → List T → Type 0
@@ -49,9 +51,8 @@ set_found {V} key k v ps = by (is_eq (slice_cmp nat_cmp key k)) refl
 -- ---- pairs
 
 below_twice : {V : Type 0} (above below : Option V) (v : V) (b : Bool) → or_below above (cond b (Some v) below) ≡ or_below (or_below above (cond b (Some v) None)) below
-below_twice (Some w) below v b = refl
 below_twice None below v true = refl
-below_twice None below v false = refl
+below_twice above below v b = refl
 
 -- the last pair with a name is found, else what was below
 pub last_found : {V : Type 0} (name : List ℕ) (ps below : List (List ℕ × V)) → value_at name (laid_over ps below) ≡ or_below (last_at name ps) (value_at name below)
@@ -61,9 +62,13 @@ last_found name (p ∷ ps) below =
     last_found name ps (with_pair p.0 p.1 below) ∙ ap (or_below (last_at name ps)) (set_found name p.0 p.1 below)
     ∙ below_twice (last_at name ps) (value_at name below) p.1 (is_eq (slice_cmp nat_cmp name p.0))
 
-none_below : {V : Type 0} (o : Option V) → or_below o None ≡ o
+pub none_below : {V : Type 0} (o : Option V) → or_below o None ≡ o
 none_below None = refl
 none_below (Some v) = refl
+
+pub below_through : {V : Type 0} (x y z : Option V) → or_below x (or_below y z) ≡ or_below (or_below x y) z
+below_through None y z = refl
+below_through (Some v) y z = refl
 
 -- laid over nothing, the last pair with a name is what is found
 pub laid_alone : {V : Type 0} (name : List ℕ) (ps : List (List ℕ × V)) → value_at name (laid_over ps []) ≡ last_at name ps
@@ -85,6 +90,11 @@ ascending_last {V} name (p ∷ ps) h = by (is_eq (slice_cmp nat_cmp name p.0)) r
     by : (b : Bool) → is_eq (slice_cmp nat_cmp name p.0) ≡ b → last_at name ps ≡ value_at name ps → or_below (last_at name ps) (cond b (Some p.1) None) ≡ cond b (Some p.1) (value_at name ps)
     by true same others = ap (λ (o : Option V). or_below o (Some p.1)) (subst (λ (n : List ℕ). last_at n ps ≡ None) (sym (name_is name p.0 same)) (none_under p.0 ps h.0))
     by false same others = none_below (last_at name ps) ∙ others
+
+-- one level over another: the higher that has a name gives it
+pub one_found : {V : Type 0} (level below : List (List ℕ × V)) (name : List ℕ) → Ascends level
+    → value_at name (laid_over level below) ≡ or_below (value_at name level) (value_at name below)
+one_found {V} level below name h = last_found name level below ∙ ap (λ (o : Option V). or_below o (value_at name below)) (ascending_last name level h)
 
 first_in : {V : Type 0} (name : List ℕ) (p : List ℕ × V) (ps : List (List ℕ × V)) (v : V) (b : Bool) → is_eq (slice_cmp nat_cmp name p.0) ≡ b
     → cond b (Some p.1) None ≡ Some v → IsIn (name, v) (p ∷ ps)
@@ -112,6 +122,13 @@ in_found {V} name v (p ∷ ps) zero there =
     by None same = (p.1, ap (λ (b : Bool). cond b (Some p.1) None) same)
 in_found {V} name v (p ∷ ps) (suc i) there =
     let (w, at) = in_found name v ps i there in (w, ap (λ (o : Option V). or_below o (cond (is_eq (slice_cmp nat_cmp name p.0)) (Some p.1) None)) at)
+
+-- levels without a name lay nothing over what is below
+pub nothing-laid : {T : Type 0} (f : T → Env) (xs : List T) (below : Env) → ((i : ℕ) (x : T) → slice_get xs i ≡ Some x → f x ≡ []) → overlaid (map f xs) below ≡ below
+unfolding laid_over
+nothing-laid f [] below none = refl
+nothing-laid f (x ∷ xs) below none =
+    ap (λ (level : Env). overlaid (map f xs) (laid_over level below)) (none 0 x refl) ∙ nothing-laid f xs below (λ i y there. none (suc i) y there)
 
 -- ---- items that some have
 

@@ -1,5 +1,5 @@
 -- What holds of each run, job and leg in play beside what is settled.
-use Rattle.std.proofs.Common.{◌≡◌, ℕ, zero, suc, ◌+◌, ◌-◌, Bool, true, false, List, [], ◌∷◌, ◌++◌, Option, Some, None, Ok, length, take, drop, slice_get, ap, sym, refl, ◌∙◌, arith}
+use Rattle.std.proofs.Common.{◌≡◌, ℕ, zero, suc, ◌+◌, ◌-◌, Bool, true, false, List, [], ◌∷◌, ◌++◌, Option, Some, None, Ok, length, take, drop, slice_get, ap, sym, refl, ◌∙◌, arith, append-nil, append_assoc}
 use Rattle.board_decisions.specs.Derived.{is_closed, is_open, is_ended, needs_have_ended}
 use Rattle.flow_model.specs.declared.board.DoneStep.{DoneStep}
 use Rattle.flow_model.specs.declared.board.Job.{Job}
@@ -29,8 +29,7 @@ fresh_leg = record { state = leg_state.Fresh; stop = false; group = None; steps 
 -- a job that was judged
 abbrev pub is_judged : JobState → Bool
 is_judged job_state.Unjudged = false
-is_judged job_state.Open = true
-is_judged (job_state.Shut result) = true
+is_judged other = true
 
 -- a call of a leg is open, for its next step
 pub record InCall (spot : Spot) (done : List DoneStep) (call : Option StepCall) : Type 0 where
@@ -42,12 +41,8 @@ pub record InCall (spot : Spot) (done : List DoneStep) (call : Option StepCall) 
 
 -- where a leg is in a call
 abbrev pub CallStands : Spot → List DoneStep → Option StepCall → LegState → Type 0
-CallStands spot done call leg_state.Fresh = Unit {0}
-CallStands spot done call leg_state.Waiting = Unit {0}
-CallStands spot done call leg_state.Admitted = Unit {0}
 CallStands spot done call (leg_state.Running worker true) = InCall spot done call
-CallStands spot done call (leg_state.Running worker false) = Unit {0}
-CallStands spot done call (leg_state.Ended result tolerated) = Unit {0}
+CallStands spot done call other = Unit {0}
 
 -- a leg that is Ended has done all its steps, and ended as is settled
 pub record EndsRightly (spot : Spot) (leg : Leg) (result : Outcome) (tolerated : Bool) : Type 0 where
@@ -83,8 +78,7 @@ pub record JobOver (job : Job) : Type 0 where
 
 pub judged-or : (s : JobState) → (s ≡ job_state.Unjudged → ⊥) → is_judged s ≡ true
 judged-or job_state.Unjudged h = absurd (h refl)
-judged-or job_state.Open h = refl
-judged-or (job_state.Shut result) h = refl
+judged-or s h = refl
 
 -- ---- runs
 
@@ -117,14 +111,6 @@ jobs_size answers run first before [] = refl
 jobs_size answers run first before (job ∷ jobs) =
     ap suc (jobs_size answers run (first + length job.legs) (before ++ job_settled answers run first before job ∷ []) jobs)
 
-append-none : (xs : List SettledJob) → xs ++ [] ≡ xs
-append-none [] = refl
-append-none (x ∷ xs) = ap (λ (ys : List SettledJob). x ∷ ys) (append-none xs)
-
-append-assoc : (xs : List SettledJob) (y : SettledJob) (zs : List SettledJob) → (xs ++ y ∷ []) ++ zs ≡ xs ++ y ∷ zs
-append-assoc [] y zs = refl
-append-assoc (x ∷ xs) y zs = ap (λ (ys : List SettledJob). x ∷ ys) (append-assoc xs y zs)
-
 -- the job at a place is settled by those before it
 pub job_item : (answers : Answers) (run : RunPlan) (first : ℕ) (before : List SettledJob) (jobs : List JobPlan) (j : ℕ) (plan : JobPlan) → slice_get jobs j ≡ Some plan
     → slice_get (jobs_from answers run first before jobs) j
@@ -135,7 +121,7 @@ job_item answers run first before (x ∷ xs) zero plan is =
     let none : first ≡ first + 0 = omega arith in
     ap (λ (y : JobPlan). Some (job_settled answers run first before y)) same
     ∙ ap (λ n. Some (job_settled answers run n before plan)) none
-    ∙ ap (λ (b : List SettledJob). Some (job_settled answers run (first + 0) b plan)) (sym (append-none before))
+    ∙ ap (λ (b : List SettledJob). Some (job_settled answers run (first + 0) b plan)) (sym (append-nil before))
   where
     some : (a b : JobPlan) → Some a ≡ Some b → a ≡ b
     some a b h = cc
@@ -146,4 +132,4 @@ job_item answers run first before (x ∷ xs) (suc j) plan is =
     later
     ∙ ap (λ n. Some (job_settled answers run n ((before ++ given ∷ []) ++ take j (jobs_from answers run (first + length x.legs) (before ++ given ∷ []) xs)) plan)) number
     ∙ ap (λ (b : List SettledJob). Some (job_settled answers run (first + (length x.legs + before_job j xs)) b plan))
-    (append-assoc before given (take j (jobs_from answers run (first + length x.legs) (before ++ given ∷ []) xs)))
+    (append_assoc before (given ∷ []) (take j (jobs_from answers run (first + length x.legs) (before ++ given ∷ []) xs)))

@@ -2,7 +2,6 @@
 use Rattle.std.proofs.Common.{◌≡◌, ◌↔◌, ℕ, zero, suc, ◌==◌, ◌&&◌, Bool, true, false, List, [], ◌∷◌, Option, Some, None, IsTrue, slice_get, if◌then◌else◌, subst, ap, refl, sym, ◌∙◌, arith}
 use Rattle.std.proofs.lemmas.Bool.{true≢false}
 use Rattle.std.proofs.lemmas.Bool.Decides.{nat_tests}
-use Rattle.board_decisions.proofs.Lists.{and-left, and-right, and-both}
 use Rattle.flow_model.specs.declared.event.Answer.{Answer}
 use Rattle.flow_model.specs.declared.board.Board.{Board}
 use Rattle.flow_model.specs.declared.event.Entry.{Entry}
@@ -16,7 +15,7 @@ use Rattle.status_table.specs.Play.{Play}
 use Rattle.status_table.specs.Runs.{StopsAt, after, after_from, new_play}
 use Rattle.status_table.specs.declared.fault.EventFault.{EventFault}
 use Rattle.step_host.specs.Replay.{IsRecorded, IsRefusedAt, recorded}
-use Rattle.board_decisions.proofs.Lists.{same_some, no_some}
+use Rattle.board_decisions.proofs.Lists.{and-left, and-right, and-both, same_some, no_some}
 use Rattle.step_host.specs.Script.{Line, IsListed}
 
 -- what is given is listed
@@ -24,9 +23,6 @@ pub is_listed : (lines : List Line) (leg step : ℕ) (a : Answer) → listed lin
 is_listed [] leg step a h = absurd (no_some a h)
 is_listed (line ∷ lines) leg step a h = by ((line.0 == leg) && (line.1 == step)) refl h (is_listed lines leg step a)
   where
-    made : ℕ → ℕ → Answer → Option Line
-    made l s x = Some (l, s, x)
-
     by : (c : Bool) → ((line.0 == leg) && (line.1 == step)) ≡ c → (if c then Some line.2 else listed lines leg step) ≡ Some a
         → (listed lines leg step ≡ Some a → IsListed lines leg step a) → IsListed (line ∷ lines) leg step a
     by true is e more =

@@ -67,10 +67,7 @@ module _ (p : Plan) (fit : IsFit p) (answers : Answers) (open_calls : ℕ → Op
             subst (λ (x : Result (Option Entrance) ValueFault). Goes p answers open_calls b (event.Open r) (rows.run_enters b r x)) (sym no_entrance)
             (λ stays. run_changes p b answers open_calls r (λ run. record run { state = run_state.Going; group = None }) (admitted b None (member.Run r)) refl stays stands.played
             (λ x. refl) (λ x. refl) (λ x _. refl) (λ plan run _ _ result e. absurd (unclosed result e)) (λ run _ was. absurd (true≢false (sym was))))
-        by run_state.New true = tt
-        by run_state.Waiting stop = tt
-        by run_state.Going stop = tt
-        by (run_state.Closed result) stop = tt
+        by s stop = tt
 
     -- ---- Close
 
@@ -107,10 +104,9 @@ module _ (p : Plan) (fit : IsFit p) (answers : Answers) (open_calls : ℕ → Op
             (ap (λ (x : Run). slice_get x.jobs j) (same_some at.run run (sym there.run ∙ in_board)) ∙ is_job)))
 
         by : (s : RunState) → at.run.state ≡ s → Goes p answers open_calls b (event.Close r) (rows.close_run b r at.run s)
-        by run_state.New e = unstopped at.run.stop run_played.stop
-        by run_state.Waiting e = unstopped at.run.stop run_played.stop
         by run_state.Going e = goes-if p answers open_calls b (event.Close r) (jobs_have_ended at.run) (rows.run_closes b r at.run (run_result at.run)) (Err fault.NeedsOpen) (λ ended. ends e ended) (λ _. tt)
         by (run_state.Closed result) e = tt
+        by s e = unstopped at.run.stop run_played.stop
 
   -- ---- Judge
 
@@ -144,8 +140,7 @@ module _ (p : Plan) (fit : IsFit p) (answers : Answers) (open_calls : ℕ → Op
 
     stands_by : (x : Result Bool ValueFault) → StateStands (judged x legs) legs (rows.judged_state false x)
     stands_by (Ok true) = refl
-    stands_by (Ok false) = refl
-    stands_by (Err f) = refl
+    stands_by x = refl
 
     module _ (going : is_going at.run.state ≡ true) (unjudged : at.job.state ≡ job_state.Unjudged) (ended : needs_have_ended (rows.first_of j at) at.run at.plan ≡ true) where
       ready : needs_have_ended (at.plan.number - at.place.job) at.run at.plan ≡ true
@@ -224,8 +219,4 @@ module _ (p : Plan) (fit : IsFit p) (answers : Answers) (open_calls : ℕ → Op
 
         by : (s : RunState) → at.run.state ≡ s → (t : JobState) → at.job.state ≡ t → Goes p answers open_calls b (event.Judge j) (rows.judge_job b at.place (rows.judgement_by j at s t))
         by run_state.Going going job_state.Unjudged unjudged = tested (needs_have_ended (rows.first_of j at) at.run at.plan) refl (ap is_going going) unjudged
-        by run_state.Going going job_state.Open unjudged = tt
-        by run_state.Going going (job_state.Shut result) unjudged = tt
-        by run_state.New going t unjudged = tt
-        by run_state.Waiting going t unjudged = tt
-        by (run_state.Closed result) going t unjudged = tt
+        by s going t unjudged = tt

@@ -1,9 +1,9 @@
 -- A run on a quiet board beside what is settled of it.
-use Rattle.std.proofs.Common.{◌≡◌, ◌↔◌, ℕ, zero, suc, ◌+◌, ◌-◌, ◌<◌, ◌≤◌, ◌&&◌, ◌||◌, Bool, true, false, List, [], ◌∷◌, ◌++◌, Some, option_map, length, map, take, drop, slice_get, nat_le, nat_lt, IsTrue, ap, subst, sym, refl, ◌∙◌, arith}
-use Rattle.std.specs.List.{list_all, list_any, flat_map, AllZip}
+use Rattle.std.proofs.Common.{◌≡◌, ◌↔◌, ℕ, zero, suc, ◌+◌, ◌-◌, ◌<◌, ◌≤◌, ◌&&◌, ◌||◌, Bool, true, false, List, [], ◌∷◌, ◌++◌, Some, option_map, length, map, take, drop, slice_get, nat_le, nat_lt, IsTrue, ap, subst, sym, refl, ◌∙◌, arith, take_all}
+use Rattle.std.specs.List.{list_any, flat_map, AllZip}
 use Rattle.std.proofs.lemmas.Bool.{true≢false, le-leb}
-use Rattle.std.proofs.lemmas.List.{length-append}
-use Rattle.std.proofs.lemmas.Option.{slice_get_within}
+use Rattle.std.proofs.lemmas.List.{length-append, take_more}
+use Rattle.std.proofs.lemmas.Option.{slice_get_within, get_or_from_slice_get}
 use Rattle.board_decisions.specs.Ancestors.{StandsAfterNeeds}
 use Rattle.board_decisions.specs.Derived.{is_failure, is_cancelled, job_result, job_results, is_any_job_failed, is_any_job_cancelled, run_result}
 use Rattle.board_decisions.specs.Place.{◌>>=◌, RunAt, JobAt, job_in_run, run_at}
@@ -22,21 +22,18 @@ use Rattle.board_settled.specs.Alone.{SeesSettled}
 use Rattle.board_settled.specs.Quiet.{quiet_run}
 use Rattle.board_settled.specs.Runs.{RunStands}
 use Rattle.board_settled.proofs.Comes.{job_comes}
-use Rattle.board_settled.proofs.BoardNeeds.{board_sees_settled}
-use Rattle.board_settled.proofs.Needs.{ComesAt, IsOrdered, each_result}
-use Rattle.board_settled.proofs.LegSteps.{item}
+use Rattle.board_settled.proofs.Needs.{ComesAt, IsOrdered, board_sees_settled, each_result}
 use Rattle.board_settled.specs.Agrees.{JobIsSettled, RunIsSettled}
 use Rattle.board_settled.specs.Settled.{Answers, SettledJob, SettledRun, worst, jobs_come_to, job_settled, run_settled, leg_count, runs_from}
 use Rattle.status_table.specs.Lawful.{JobFits, RunFits}
 use Rattle.status_table.specs.Shape.{JobShape, RunShape}
-use Rattle.board_decisions.proofs.Lists.{and-both}
 use Rattle.board_settled.proofs.InPlay.{is_ordered}
-use Rattle.board_settled.proofs.Lists.{get-take, any-map}
+use Rattle.board_settled.proofs.Lists.{get-take, item, all-of, any-map}
 use Rattle.board_settled.proofs.Numbers.{before_job}
 use Rattle.board_settled.proofs.Played.{jobs_of, jobs_size, job_item}
 use Rattle.status_table.proofs.Counts.{zip-left}
 use Rattle.status_table.proofs.Lists.{bind-some, zip-get, zip-length, zip-append}
-use Rattle.board_decisions.proofs.Lists.{same_some, no_some}
+use Rattle.board_decisions.proofs.Lists.{and-both, same_some, no_some}
 use Rattle.status_table.proofs.Standings.{drop_at}
 
 -- some jobs of a run are settled
@@ -46,22 +43,7 @@ JobsAreSettled given jobs = AllZip (λ given job. JobIsSettled given job.legs jo
 -- ---- lists
 
 take-more : {A : Type 0} (xs : List A) (i : ℕ) (x : A) → slice_get xs i ≡ Some x → take (i + 1) xs ≡ take i xs ++ x ∷ []
-take-more {A} xs i x is = let next : i + 1 ≡ suc i = omega arith in ap (λ n. take n xs) next ∙ by xs i is
-  where
-    by : (ys : List A) (k : ℕ) → slice_get ys k ≡ Some x → take (suc k) ys ≡ take k ys ++ x ∷ []
-    by [] k h = absurd (no_some x h)
-    by (y ∷ ys) zero h = ap (λ (z : A). z ∷ []) (same_some y x h)
-    by (y ∷ ys) (suc k) h = ap (λ (zs : List A). y ∷ zs) (by ys k h)
-
-take-past : {A : Type 0} (xs : List A) (n : ℕ) → length xs ≤ n → take n xs ≡ xs
-take-past [] zero h = refl
-take-past [] (suc n) h = refl
-take-past (x ∷ xs) zero h = absurd (omega (arith, h))
-take-past {A} (x ∷ xs) (suc n) h = ap (λ (ys : List A). x ∷ ys) (take-past xs n (omega (arith, h)))
-
-all-of : {A : Type 0} (t : A → Bool) (xs : List A) → ((i : ℕ) (x : A) → slice_get xs i ≡ Some x → t x ≡ true) → list_all t xs ≡ true
-all-of t [] h = refl
-all-of t (x ∷ xs) h = and-both (t x) (list_all t xs) (h 0 x refl) (all-of t xs (λ i y is. h (suc i) y is))
+take-more {A} xs i x is = take_more xs i x (slice_get_within xs i x is) ∙ ap (λ (y : A). take i xs ++ y ∷ []) (get_or_from_slice_get xs i x x is)
 
 -- ---- the numbers of legs
 
@@ -222,8 +204,8 @@ module _ (answers : Answers) (r first : ℕ) (at : RunAt) (stands : RunStands r 
     jobs_settled : JobsAreSettled all at.run.jobs
     jobs_settled =
         let long = sizes in
-        subst (λ (xs : List SettledJob). JobsAreSettled xs at.run.jobs) (take-past all n (omega (arith, long, through)))
-        (subst (λ (ys : List Job). JobsAreSettled (take n all) ys) (take-past at.run.jobs n through) so_far)
+        subst (λ (xs : List SettledJob). JobsAreSettled xs at.run.jobs) (take_all n all (omega (arith, long, through)))
+        (subst (λ (ys : List Job). JobsAreSettled (take n all) ys) (take_all n at.run.jobs through) so_far)
 
     comes_to : (run_settled answers first at.plan).result ≡ Some (run_result at.run)
     unfolding run_settled
@@ -284,10 +266,9 @@ module _ (answers : Answers) (p : Plan) (b : Board) (first r : ℕ) (at : RunAt)
 -- what holds of the runs of a board, as far as that they are to stop is not told by it, holds of the copy, and only then
 pub zip-quiet : {A : Type 0} (R : A → Run → Type 0) → ((x : A) (run : Run) → R x run ↔ R x (quiet_run run)) → (xs : List A) (runs : List Run) → AllZip R xs runs ↔ AllZip R xs (map quiet_run runs)
 zip-quiet R alike [] [] = (λ h. h, λ h. h)
-zip-quiet R alike [] (run ∷ runs) = (λ h. absurd h, λ h. absurd h)
-zip-quiet R alike (x ∷ xs) [] = (λ h. absurd h, λ h. absurd h)
 zip-quiet R alike (x ∷ xs) (run ∷ runs) =
     (λ h. ((alike x run).0 h.0, (zip-quiet R alike xs runs).0 h.1), λ h. ((alike x run).1 h.0, (zip-quiet R alike xs runs).1 h.1))
+zip-quiet R alike xs runs = (λ h. absurd h, λ h. absurd h)
 
 pub quiet_goes : (runs : List Run) → Each (λ run. run.stop ≡ false) (map quiet_run runs)
 quiet_goes [] i run is = absurd (no_some run is)

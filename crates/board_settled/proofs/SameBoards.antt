@@ -1,7 +1,7 @@
 -- Two boards of one plan that are finished, by one answer to each call, are the same but for the order of the ends.
-use Rattle.std.proofs.Common.{◌≡◌, ℕ, suc, ◌+◌, Bool, true, false, List, [], ◌∷◌, Option, Some, length, take, slice_get, ap, sym, refl, ◌∙◌, arith}
+use Rattle.std.proofs.Common.{◌≡◌, ℕ, ◌+◌, Bool, true, false, List, Option, Some, length, take, slice_get, ap, sym, refl, ◌∙◌}
 use Rattle.std.specs.List.{AllZip}
-use Rattle.std.proofs.lemmas.Bool.{true≢false}
+use Rattle.std.proofs.lemmas.List.Elements.{same_from_all_zip}
 use Rattle.board_decisions.specs.Derived.{is_closed, is_open, is_ended}
 use Rattle.flow_model.specs.Laws.{NeedsPointBack}
 use Rattle.flow_model.specs.Rules.{IsPlan}
@@ -17,14 +17,13 @@ use Rattle.flow_model.specs.declared.board.LegState.TheVariants as leg_state
 use Rattle.flow_model.specs.declared.board.Run.{Run}
 use Rattle.flow_model.specs.declared.board.RunState.{RunState}
 use Rattle.flow_model.specs.declared.board.RunState.TheVariants as run_state
-use Rattle.flow_model.specs.declared.event.Outcome.{Outcome}
 use Rattle.flow_model.specs.declared.plan.JobPlan.{JobPlan}
 use Rattle.flow_model.specs.declared.plan.Plan.{Plan}
 use Rattle.flow_model.specs.declared.plan.RunPlan.{RunPlan}
 use Rattle.flow_model.specs.declared.reply.StepCall.{StepCall}
 use Rattle.board_settled.specs.Agrees.{OnlyEndsDiffer}
 use Rattle.board_settled.specs.Sees.{Spot}
-use Rattle.board_settled.specs.Settled.{Answers, Finish, SettledLeg, SettledJob, shut, opened, spot_at, needs_of, legs_settled, job_settled}
+use Rattle.board_settled.specs.Settled.{Answers, Finish, SettledLeg, SettledJob, spot_at, needs_of, legs_settled, job_settled}
 use Rattle.status_table.specs.Shape.{JobShape, RunShape}
 use Rattle.plan_values.specs.Values.{Env}
 use Rattle.status_table.proofs.Counts.{zip-left}
@@ -33,15 +32,12 @@ use Rattle.board_decisions.proofs.Lists.{same_some}
 use Rattle.board_settled.proofs.Agreeing.{closed-result, ends_so}
 use Rattle.board_settled.proofs.Ends.{leg_finished}
 use Rattle.board_settled.proofs.InPlay.{Stands}
+use Rattle.board_settled.proofs.Lists.{zip-each}
 use Rattle.board_settled.proofs.Numbers.{before_run, before_job}
 use Rattle.board_settled.proofs.Played.{is_judged, LegPlayed, StateStands, JobPlayed, JobOver, jobs_of, RunPlayed}
 
 same-lists : {A : Type 0} (xs ys : List A) → length xs ≡ length ys → ((i : ℕ) (x y : A) → slice_get xs i ≡ Some x → slice_get ys i ≡ Some y → x ≡ y) → xs ≡ ys
-same-lists [] [] same h = refl
-same-lists [] (y ∷ ys) same h = absurd (omega (arith, same))
-same-lists (x ∷ xs) [] same h = absurd (omega (arith, same))
-same-lists {A} (x ∷ xs) (y ∷ ys) same h =
-    ap (λ (z : A). z ∷ xs) (h 0 x y refl refl) ∙ ap (λ (zs : List A). y ∷ zs) (same-lists xs ys (omega (arith, same)) (λ i a b p q. h (suc i) a b p q))
+same-lists xs ys same h = same_from_all_zip (λ y x. x ≡ y) ys xs (zip-each (λ y x. x ≡ y) ys xs (sym same) (λ i y x there at. h i x y at there)) (λ y x e. e)
 
 -- ---- legs
 
@@ -66,20 +62,10 @@ leg_same answers spot call other x y px py ex ey =
 
 -- ---- jobs
 
-opened-shut : (legs : List SettledLeg) (result : Outcome) → opened legs ≡ shut result → ⊥
-opened-shut legs result h = cc
-
-shut-same : (r s : Outcome) → shut r ≡ shut s → r ≡ s
-shut-same r s h = cc
-
 state_same : (given : SettledJob) (legs : List SettledLeg) (s t : JobState) → StateStands given legs s → StateStands given legs t → is_judged s ≡ true → is_judged t ≡ true → s ≡ t
-state_same given legs job_state.Unjudged t h k js jt = absurd (true≢false (sym js))
-state_same given legs job_state.Open job_state.Unjudged h k js jt = absurd (true≢false (sym jt))
 state_same given legs job_state.Open job_state.Open h k js jt = refl
-state_same given legs job_state.Open (job_state.Shut result) h k js jt = absurd (opened-shut legs result (sym h ∙ k))
-state_same given legs (job_state.Shut result) job_state.Unjudged h k js jt = absurd (true≢false (sym jt))
-state_same given legs (job_state.Shut result) job_state.Open h k js jt = absurd (opened-shut legs result (sym k ∙ h))
-state_same given legs (job_state.Shut result) (job_state.Shut other) h k js jt = ap (λ r. job_state.Shut r) (shut-same result other (sym h ∙ k))
+state_same given legs (job_state.Shut result) (job_state.Shut other) h k js jt = cc
+state_same given legs s t h k js jt = cc
 
 abbrev job_made : JobState → List Leg → Job
 job_made state legs = record { state = state; legs = legs }

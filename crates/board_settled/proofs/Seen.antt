@@ -12,7 +12,7 @@ use Rattle.flow_model.specs.declared.event.Outcome.{Outcome}
 use Rattle.flow_model.specs.declared.plan.StepPlan.{StepPlan}
 use Rattle.board_settled.specs.Decided.{step_call, step_passes, leg_passes, outputs_of_leg, failure_counts}
 use Rattle.board_settled.specs.Sees.{Spot, Sight, sight, job_sees, leg_sees, strategy_shown, matrix_shown, steps_shown}
-use Rattle.board_settled.specs.Settled.{counts, seen_after, next_call}
+use Rattle.board_settled.specs.Settled.{counts, seen_after, next_call, finish_of}
 use Rattle.status_table.specs.Row.{failure_of}
 use Rattle.plan_values.specs.Texts.{condition_value}
 use Rattle.plan_values.specs.Values.{Values, contexts_at, with_env}
@@ -25,18 +25,8 @@ unfolding job_values job_sees run_values
 job_values_are at = λ i x. each x i
   where
     each : (x : Context) → job_values at x ≡ job_sees at.run_plan (needs_value at) x
-    each context.Github = refl
-    each context.Env = refl
-    each context.Vars = refl
-    each context.Job = refl
-    each context.Jobs = refl
-    each context.Steps = refl
-    each context.Runner = refl
-    each context.Secrets = refl
-    each context.Strategy = refl
-    each context.Matrix = refl
     each context.Needs = refl
-    each context.Inputs = refl
+    each x = refl
 
 -- a job's condition, by what it sees and its status
 pub job_condition_is : (at : JobAt) (needs : Plain) (s : Status) → needs_value at ≡ needs
@@ -57,18 +47,8 @@ unfolding leg_values_by leg_sees job_values job_sees run_values strategy_value s
 leg_values_are l at result = λ i x. each x i
   where
     each : (x : Context) → leg_values_by result at x ≡ leg_sees (spot_of l at) result at.leg.steps x
-    each context.Github = refl
-    each context.Env = refl
-    each context.Vars = refl
-    each context.Job = refl
-    each context.Jobs = refl
-    each context.Steps = refl
-    each context.Runner = refl
-    each context.Secrets = refl
-    each context.Strategy = refl
-    each context.Matrix = refl
     each context.Needs = refl
-    each context.Inputs = refl
+    each x = refl
 
 -- what each place sees from a leg on a board
 abbrev pub sight_from : LegAt → Sight
@@ -100,3 +80,8 @@ module _ (l : ℕ) (at : LegAt) (quiet : leg_result at ≡ counts at.leg.steps) 
   pub outputs_are : leg_outputs at ≡ outputs_of_leg (seen_after (spot_of l at) at.leg.steps) at.run_plan at.job_plan at.leg.steps
   unfolding outputs_of_leg leg_outputs leg_env job_env flow_env
   outputs_are = ap (λ (sees : Sight). outputs_of_leg sees at.run_plan at.job_plan at.leg.steps) sight_is
+
+  -- how the leg ends
+  pub finish_is : finish_of (spot_of l at) at.leg.steps ≡ record { result = leg_result at; tolerated = is_failure (leg_result at) && job_tolerates at; outputs = leg_outputs at }
+  unfolding finish_of
+  finish_is = let passes = tolerated_is (leg_result at) in let outputs = outputs_are in rw (passes, outputs, quiet) refl

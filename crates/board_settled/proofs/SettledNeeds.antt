@@ -1,5 +1,5 @@
 -- What a job looks at once all that it needs has ended: its context `needs` and its status are as settled.
-use Rattle.std.proofs.Common.{◌≡◌, ℕ, zero, suc, ◌+◌, ◌-◌, ◌<◌, ◌&&◌, Bool, true, false, List, [], ◌∷◌, Option, Some, None, option_map, length, map, take, slice_get, nat_lt, ap, subst, sym, refl, ◌∙◌, arith}
+use Rattle.std.proofs.Common.{◌≡◌, ℕ, suc, ◌+◌, ◌-◌, ◌&&◌, Bool, true, false, List, [], ◌∷◌, Option, Some, None, option_map, length, map, take, slice_get, nat_lt, ap, subst, sym, refl, ◌∙◌, arith}
 use Rattle.std.specs.List.{list_all, AllZip}
 use Rattle.std.proofs.lemmas.Bool.{true≢false, leb-true}
 use Rattle.std.proofs.lemmas.Option.{slice_get-map, slice_get_within}
@@ -22,6 +22,7 @@ use Rattle.board_decisions.proofs.Lists.{and-left, and-right, and-both, same_som
 use Rattle.status_table.proofs.Counts.{zip-left}
 use Rattle.status_table.proofs.Lists.{zip-get, zip-length, all-get}
 use Rattle.board_settled.proofs.Ends.{job_ended, is_over}
+use Rattle.board_settled.proofs.Lists.{item}
 use Rattle.board_settled.proofs.Needs.{ComesAt, IsOrdered, Reached, each_result, sees_settled}
 use Rattle.board_settled.proofs.Numbers.{before_run, before_job}
 use Rattle.board_settled.proofs.Played.{JobOver, jobs_of, RunPlayed, jobs_size, job_item}
@@ -41,12 +42,6 @@ pub record RunSeen (p : Plan) (b : Board) (answers : Answers) (calls : ℕ → O
 some_got : {A : Type 0} (f : A → Bool) (o : Option A) → holds (option_map f o) ≡ true → (x : A) × (o ≡ Some x) × (f x ≡ true)
 some_got f None h = absurd (true≢false (sym h))
 some_got f (Some x) h = (x, refl, h)
-
--- there is an item within a list
-got-within : {A : Type 0} (xs : List A) (i : ℕ) → i < length xs → (x : A) × (slice_get xs i ≡ Some x)
-got-within [] i h = absurd (omega (arith, h))
-got-within (x ∷ xs) zero h = (x, refl)
-got-within (x ∷ xs) (suc i) h = got-within xs i (omega (arith, h))
 
 both-all : {A : Type 0} (s t : A → Bool) (xs : List A) → list_all s xs ≡ true → list_all t xs ≡ true → list_all (λ x. s x && t x) xs ≡ true
 both-all s t [] h k = refl
@@ -125,7 +120,7 @@ module _ (p : Plan) (b : Board) (answers : Answers) (calls : ℕ → Option Step
   sizes = jobs_size answers plan (before_run r p.runs) [] plan.jobs ∙ zip-length JobShape plan.jobs run.jobs shape_here
 
   pub each_given : jobs_have_ended run ≡ true → all_given (map result_of settled_jobs) ≡ Some (job_results run)
-  each_given all = each_result b r plan run settled_jobs sizes (λ i under. let job = got-within run.jobs i under in (ended_there all i job.0 job.1).at)
+  each_given all = each_result b r plan run settled_jobs sizes (λ i under. let job = item run.jobs i under in (ended_there all i job.0 job.1).at)
 
   pub each_over : jobs_have_ended run ≡ true → (j : ℕ) (job : Job) → slice_get run.jobs j ≡ Some job → JobOver job
   each_over all j job is =

@@ -64,14 +64,10 @@ leg_sees spot result done context.Strategy = strategy_shown spot.job spot.place
 leg_sees spot result done context.Matrix = matrix_shown spot.job spot.place
 leg_sees spot result done context.Job = job_value result
 leg_sees spot result done context.Steps = steps_shown spot.job.steps done
-leg_sees spot result done context.Github = job_sees spot.run spot.needs context.Github
-leg_sees spot result done context.Inputs = job_sees spot.run spot.needs context.Inputs
-leg_sees spot result done context.Vars = job_sees spot.run spot.needs context.Vars
-leg_sees spot result done context.Secrets = job_sees spot.run spot.needs context.Secrets
-leg_sees spot result done context.Needs = job_sees spot.run spot.needs context.Needs
 leg_sees spot result done context.Env = object []
 leg_sees spot result done context.Jobs = object []
 leg_sees spot result done context.Runner = object []
+leg_sees spot result done other = job_sees spot.run spot.needs other
 
 -- ---- what the places see
 

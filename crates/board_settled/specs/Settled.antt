@@ -94,9 +94,8 @@ given_by (Some finish) = finish.outputs
 
 -- The outputs of a job: those of its legs, laid over one another in the order of their numbers.
 abbrev pub outputs_of_job : SettledJob → Env
-outputs_of_job unsettled = []
-outputs_of_job (shut result) = []
 outputs_of_job (opened legs) = overlaid (map (λ leg. given_by leg.finish) legs) []
+outputs_of_job other = []
 
 -- ---- steps
 

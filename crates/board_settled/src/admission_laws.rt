@@ -13,19 +13,13 @@ ghost use Rattle.status_table.specs.Grouped.{EntersFromOutside, KeptAsShown};
 ghost use Rattle.status_table.specs.Runs.{after};
 
 use flow_model::laws::rules_hold;
-use group_admission::laws::{
-    entering_displaces_the_waiter, members_stand_once, order_stays, releasing_passes_on,
-    withdrawing_leaves_the_holder,
-};
 
 /// Where a lawful board shows what the groups keep, it does
 /// after a run is opened or a leg asks, which enters its group.
 pub fn entering_is_shown()
     ensures open { OpensAsEntered }
     ensures ask { AsksAsEntered }
-{
-    entering_displaces_the_waiter();
-}
+{}
 
 /// Where a lawful board shows what the groups keep, it does after a run is closed, or a leg dropped or
 /// finished, which releases what it held or leaves its wait.
@@ -33,10 +27,7 @@ pub fn leaving_is_shown()
     ensures close { ClosesAsLeft }
     ensures drop { DropsAsLeft }
     ensures finish { FinishesAsLeft }
-{
-    releasing_passes_on();
-    withdrawing_leaves_the_holder();
-}
+{}
 
 /// The other events ask nothing of the groups.
 pub fn others_ask_nothing()
@@ -58,9 +49,4 @@ pub fn legal_lists_are_shown()
         → EntersFromOutside p b (groups_after p es) }
 {
     rules_hold();
-    entering_displaces_the_waiter();
-    releasing_passes_on();
-    withdrawing_leaves_the_holder();
-    order_stays();
-    members_stand_once();
 }

@@ -2,7 +2,7 @@
 
 ghost use Rattle.board_settled.specs.CallLaws.{CallsAreInOrder, CallsAreMostSpecific};
 
-use plan_values::{env_has_its_names, levels_stay_in_order, most_specific_wins};
+use plan_values::{env_has_its_names, levels_stay_in_order};
 
 /// A call names each variable once, in the byte order of the names, and each input
 /// likewise; and of the workflow's and the job's variables, what done steps set, and the
@@ -14,5 +14,4 @@ pub fn calls_are_in_order()
 {
     env_has_its_names();
     levels_stay_in_order();
-    most_specific_wins();
 }

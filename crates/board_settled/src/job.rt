@@ -14,7 +14,6 @@ ghost use Rattle.board_settled.specs.Settled.{SettledJob, job_settled, legs_sett
 ghost use Rattle.status_table.specs.Row.{judged_state as judged_of};
 
 use crate::leg::{LegSpot, is_leg_settled};
-use crate::same::is_same_outcome;
 use board_decisions::ancestors::job_status;
 use board_decisions::decisions::job_condition;
 use board_decisions::place::SeenJob;
@@ -53,22 +52,14 @@ fn are_legs_settled<H: StepHost>(
 fn is_open(state: JobState) -> bool
     ensures { IsTrue result ↔ (state ≡ JobState.Open) }
 {
-    match state {
-        JobState::Open => true,
-        JobState::Unjudged => false,
-        JobState::Shut(_) => false,
-    }
+    matches!(state, JobState::Open)
 }
 
 /// Whether a job was shut with this result.
 fn is_shut_so(state: JobState, how: Outcome) -> bool
     ensures { IsTrue result ↔ (state ≡ JobState.Shut how) }
 {
-    match state {
-        JobState::Shut(other) => is_same_outcome(how, other),
-        JobState::Open => false,
-        JobState::Unjudged => false,
-    }
+    state == JobState::Shut(how)
 }
 
 /// Whether a job was opened, and its legs are all Ended as settled. Each of them is looked at as if it were alone.

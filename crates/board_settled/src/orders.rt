@@ -4,12 +4,12 @@ ghost use Rattle.std.specs.Prelude.{ℕ};
 ghost use Rattle.flow_model.specs.Sound.{Each};
 ghost use Rattle.flow_model.specs.declared.board.Board.{Board};
 ghost use Rattle.flow_model.specs.declared.event.Event.TheVariants as event;
-ghost use Rattle.board_settled.specs.CallLaws.{CallInOrder, JobInOrder, PlanInOrder, RunInOrder, StepInOrder, WorkInOrder};
+ghost use Rattle.board_settled.specs.CallLaws.{CallInOrder, PlanInOrder, WorkInOrder};
 ghost use Rattle.status_table.specs.Calls.{IfCalled};
 ghost use Rattle.status_table.specs.Row.{row};
 
 use crate::call_laws::calls_are_in_order;
-use flow_model::{JobPlan, Plan, RunPlan, StepPlan, Work};
+use flow_model::{DoneStep, JobPlan, Plan, RunPlan, StepPlan, Work};
 
 /// The inputs of an action do.
 fn work_in_order(work: &Work)
@@ -23,54 +23,64 @@ fn work_in_order(work: &Work)
     }
 }
 
-/// The variables and the inputs of a step do.
-fn step_in_order(step: &StepPlan)
-    ensures { StepInOrder step.now }
-{
-    step.env.iter();
-    work_in_order(&step.work);
+/// What names each key of its maps once, in the byte order of the keys.
+pub(crate) trait InOrder {
+    ghost in_order: { Self → Type 0 };
+
+    /// It goes over the maps once.
+    fn look(&self)
+        ensures { in_order self.now };
 }
 
-/// Those of steps do.
-fn steps_in_order(steps: &[StepPlan])
-    ensures { Each StepInOrder steps.now }
+/// Each of some items does.
+pub(crate) fn all_in_order<T: InOrder>(items: &[T])
+    ensures { Each T.in_order items.now }
 {
-    for step in steps {
-        step_in_order(step);
+    for item in items {
+        item.look();
     }
 }
 
-/// The variables of a job do, and what its steps have.
-fn job_in_order(job: &JobPlan)
-    ensures { JobInOrder job.now }
-{
-    job.env.iter();
-    steps_in_order(job.steps.as_slice());
-}
+impl InOrder for StepPlan {
+    ghost use Rattle.board_settled.specs.CallLaws.{StepInOrder};
 
-/// Those of jobs do.
-fn jobs_in_order(jobs: &[JobPlan])
-    ensures { Each JobInOrder jobs.now }
-{
-    for job in jobs {
-        job_in_order(job);
+    ghost in_order = { StepInOrder };
+
+    fn look(&self) {
+        self.env.iter();
+        work_in_order(&self.work);
     }
 }
 
-/// The variables of a workflow do, and what its jobs have.
-fn run_in_order(run: &RunPlan)
-    ensures { RunInOrder run.now }
-{
-    run.env.iter();
-    jobs_in_order(run.jobs.as_slice());
+impl InOrder for JobPlan {
+    ghost use Rattle.board_settled.specs.CallLaws.{JobInOrder};
+
+    ghost in_order = { JobInOrder };
+
+    fn look(&self) {
+        self.env.iter();
+        all_in_order(self.steps.as_slice());
+    }
 }
 
-/// Those of runs do.
-fn runs_in_order(runs: &[RunPlan])
-    ensures { Each RunInOrder runs.now }
-{
-    for run in runs {
-        run_in_order(run);
+impl InOrder for RunPlan {
+    ghost use Rattle.board_settled.specs.CallLaws.{RunInOrder};
+
+    ghost in_order = { RunInOrder };
+
+    fn look(&self) {
+        self.env.iter();
+        all_in_order(self.jobs.as_slice());
+    }
+}
+
+impl InOrder for DoneStep {
+    ghost use Rattle.flow_model.specs.Mapping.{Ascends};
+
+    ghost in_order = { λ done. Ascends done.env };
+
+    fn look(&self) {
+        self.env.iter();
     }
 }
 
@@ -78,7 +88,7 @@ fn runs_in_order(runs: &[RunPlan])
 pub fn maps_are_in_order(plan: &Plan)
     ensures { PlanInOrder plan.now }
 {
-    runs_in_order(plan.runs.as_slice());
+    all_in_order(plan.runs.as_slice());
 }
 
 /// So each call that a legal Begin makes, of any plan, names each variable once, in the byte order of the names, and each input

@@ -8,7 +8,6 @@ ghost use Rattle.board_settled.specs.Runs as spec;
 ghost use Rattle.board_settled.specs.Settled.{run_settled};
 
 use crate::job::is_job_settled;
-use crate::same::is_same_outcome;
 use board_decisions::derived::run_result;
 use board_decisions::place::{JobPlace, SeenJob, SeenRun, item_at};
 use flow_model::laws::needs_point_back;
@@ -40,12 +39,7 @@ fn job_of<'a>(at: &SeenRun<'a>, number: usize, place: usize) -> Option<SeenJob<'
 fn is_closed_so(state: RunState, how: Outcome) -> bool
     ensures { IsTrue result ↔ (state ≡ RunState.Closed how) }
 {
-    match state {
-        RunState::Closed(other) => is_same_outcome(how, other),
-        RunState::New => false,
-        RunState::Waiting => false,
-        RunState::Going => false,
-    }
+    state == RunState::Closed(how)
 }
 
 /// Whether a run is Closed as settled, with all its jobs: the number of the first leg after its own, or none. The run and

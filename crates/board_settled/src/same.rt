@@ -4,25 +4,12 @@ ghost use Rattle.std.specs.Prelude.{◌≡◌, ◌↔◌, IsTrue};
 
 use flow_model::{DoneStep, LegState, Outcome, is_same_mapping};
 
-/// Whether two results are one.
-pub(crate) fn is_same_outcome(one: Outcome, other: Outcome) -> bool
-    ensures { IsTrue result ↔ (one ≡ other) }
-{
-    match (one, other) {
-        (Outcome::Success, Outcome::Success) => true,
-        (Outcome::Failure, Outcome::Failure) => true,
-        (Outcome::Cancelled, Outcome::Cancelled) => true,
-        (Outcome::Skipped, Outcome::Skipped) => true,
-        (Outcome::Success | Outcome::Failure | Outcome::Cancelled | Outcome::Skipped, _) => false,
-    }
-}
-
 /// Whether two steps that are done are the same.
 fn is_same_step(one: &DoneStep, other: &DoneStep) -> bool
     ensures { IsTrue result ↔ (one.now ≡ other.now) }
 {
-    is_same_outcome(one.outcome, other.outcome)
-        && is_same_outcome(one.conclusion, other.conclusion)
+    one.outcome == other.outcome
+        && one.conclusion == other.conclusion
         && is_same_mapping(&one.outputs, &other.outputs)
         && is_same_mapping(&one.env, &other.env)
 }
@@ -48,14 +35,10 @@ pub(crate) fn are_same_steps(steps: &[DoneStep], others: &[DoneStep]) -> bool
 pub(crate) fn is_ended_so(state: LegState, how: Outcome, passed: bool) -> bool
     ensures { IsTrue result ↔ (state ≡ LegState.Ended how passed) }
 {
-    match state {
-        LegState::Ended {
-            result: other,
+    let tolerated = passed;
+    state
+        == LegState::Ended {
+            result: how,
             tolerated,
-        } => is_same_outcome(how, other) && tolerated == passed,
-        LegState::Fresh => false,
-        LegState::Waiting => false,
-        LegState::Admitted => false,
-        LegState::Running { .. } => false,
-    }
+        }
 }

@@ -1,21 +1,11 @@
 //! Laws of the variables that steps set for the steps after them (GitHub Docs, workflow commands: setting an environment
 //! variable).
 
-ghost use Rattle.board_settled.specs.CallLaws.{SetInOrder};
 ghost use Rattle.board_settled.specs.Variables.{LastToSetWins, NothingSetIsTheJobs};
 
 use crate::call_laws::calls_are_in_order;
-use crate::orders::maps_are_in_order;
+use crate::orders::{all_in_order, maps_are_in_order};
 use flow_model::{DoneStep, Plan};
-
-/// What each of some done steps set names each variable once, in the byte order of the names.
-fn sets_are_in_order(steps: &[DoneStep])
-    ensures { SetInOrder steps.now }
-{
-    for done in steps {
-        done.env.iter();
-    }
-}
 
 /// Of any plan and any steps that are done: the last that set a variable wins over the job and the workflow, and loses to
 /// the next step itself.
@@ -23,7 +13,7 @@ pub fn last_to_set_wins(plan: &Plan, steps: &[DoneStep])
     ensures { LastToSetWins plan.now steps.now }
 {
     maps_are_in_order(plan);
-    sets_are_in_order(steps);
+    all_in_order(steps);
     calls_are_in_order();
 }
 

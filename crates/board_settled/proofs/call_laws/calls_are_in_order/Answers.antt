@@ -5,4 +5,4 @@ pub returns-clause-order : goal.returns-clause-order
 returns-clause-order c = calls_are_in_order c.env_has_its_names.ensures c.levels_stay_in_order.ensures
 
 pub returns-clause-levels : goal.returns-clause-levels
-returns-clause-levels c = calls_are_most_specific c.env_has_its_names.ensures c.most_specific_wins.ensures
+returns-clause-levels c = calls_are_most_specific c.env_has_its_names.ensures

@@ -6,7 +6,7 @@ use Rattle.flow_model.specs.declared.board.Run.{Run}
 use Rattle.flow_model.specs.declared.plan.RunPlan.{RunPlan}
 use Rattle.board_settled.specs.Runs.{RunComes}
 use Rattle.board_settled.proofs.Runs.{next_run, with_run}
-use Rattle.board_settled.proofs.LegSteps.{past}
+use Rattle.std.proofs.lemmas.List.{drop_all}
 use Rattle.board_settled.specs.Agrees.{RunIsSettled}
 use Rattle.board_settled.specs.Settled.{run_settled, runs_from, settled}
 use Rattle.status_table.specs.Shape.{RunShape}
@@ -43,8 +43,8 @@ returns g c = λ answers are.
     let r = c.loop-number.number in
     let through : length c.args.board.now.runs ≤ r = search rules in
     let size = zip-length RunShape c.args.plan.now.runs c.args.board.now.runs c.requires.shape in
-    let runs = past c.args.board.now.runs r through in
-    let plans = past c.args.plan.now.runs r (omega (arith, size, through)) in (
+    let runs = drop_all r c.args.board.now.runs through in
+    let plans = drop_all r c.args.plan.now.runs (omega (arith, size, through)) in (
       (λ _. (c.loop-number.invariant answers are).0
           (subst (λ (xs : List RunPlan). AllZip RunIsSettled (runs_from answers c.loop-number.first xs) (drop r c.args.board.now.runs)) (sym plans)
           (subst (λ (ys : List Run). AllZip RunIsSettled [] ys) (sym runs) tt))),

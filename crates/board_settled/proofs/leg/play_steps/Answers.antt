@@ -1,10 +1,10 @@
 use Rattle.std.proofs.Common.{◌+◌, ◌<◌, ◌≤◌, List, [], ◌∷◌, length, drop, ap, sym, ◌∙◌, arith, rules}
-use Rattle.std.proofs.lemmas.List.{length-append}
+use Rattle.std.proofs.lemmas.List.{length-append, drop_all}
 use Rattle.board_decisions.specs.Seen.{job_seen}
 use Rattle.flow_model.specs.declared.board.DoneStep.{DoneStep}
 use Rattle.board_settled.specs.Alone.{planned}
 use Rattle.board_settled.specs.Settled.{steps_from}
-use Rattle.board_settled.proofs.LegSteps.{one_more, no_more, past}
+use Rattle.board_settled.proofs.LegSteps.{one_more, no_more}
 use Rattle.board_settled.proofs.leg.play_steps.Goals as goal
 
 pub loop-done-init : goal.loop-done-init
@@ -45,6 +45,6 @@ returns g c = λ answers are.
     let bound : c.loop-done._done ≤ length c.args.spot.now.at.now.plan.now.steps = search rules in
     let many = c.loop-done.invariant.many in (
       c.loop-done.invariant.idle,
-      sym (ap (steps_from answers (planned c.args.spot.now.number (job_seen c.args.spot.now.at.now) c.args.spot.now.place) c.loop-done.leg.steps) (past c.args.spot.now.at.now.plan.now.steps c.loop-done._done through)) ∙ all,
+      sym (ap (steps_from answers (planned c.args.spot.now.number (job_seen c.args.spot.now.at.now) c.args.spot.now.place) c.loop-done.leg.steps) (drop_all c.loop-done._done c.args.spot.now.at.now.plan.now.steps through)) ∙ all,
       omega (arith, through, bound, many),
     )

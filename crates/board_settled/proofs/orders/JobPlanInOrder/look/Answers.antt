@@ -1,0 +1,7 @@
+use Rattle.std.proofs.Common.{subst}
+use Rattle.flow_model.specs.Sound.{Each}
+use Rattle.board_settled.specs.CallLaws.{StepInOrder}
+use Rattle.board_settled.proofs.orders.JobPlanInOrder.look.Goals as goal
+
+pub returns : goal.returns
+returns c = record { env = c.iter.ensures.ascends; steps = subst (Each StepInOrder) c.as_slice.ensures c.all_in_order.ensures }

@@ -1,0 +1,7 @@
+use Rattle.std.proofs.Common.{take}
+use Rattle.flow_model.specs.Sound.{Each}
+use Rattle.board_settled.proofs.orders.all_in_order.Given as goal
+
+-- the items so far do
+abbrev pub invariant-loop-item : goal.invariant-loop-item
+invariant-loop-item g l = Each g.T.InOrder.in_order (take l.item-index l.items)

@@ -1,7 +1,0 @@
-use Rattle.std.proofs.Common.{subst}
-use Rattle.flow_model.specs.Sound.{Each}
-use Rattle.board_settled.specs.CallLaws.{StepInOrder}
-use Rattle.board_settled.proofs.orders.job_in_order.Goals as goal
-
-pub returns : goal.returns
-returns c = record { env = c.iter.ensures.ascends; steps = subst (Each StepInOrder) c.as_slice.ensures c.steps_in_order.ensures }
