@@ -1,12 +1,12 @@
 -- The events of legs keep what is played as settled.
-use Rattle.std.proofs.Common.{◌≡◌, ◌≢◌, ℕ, ◌+◌, ◌≤◌, ◌==◌, ◌&&◌, ◌++◌, Bool, true, false, not, List, [], ◌∷◌, Option, Some, None, Result, Ok, Err, option_map, length, take, drop, slice_get, nat_lt, if◌then◌else◌, ap, subst, sym, refl, ◌∙◌, arith}
+use Rattle.std.proofs.Common.{◌≡◌, ◌≢◌, ℕ, ◌+◌, ◌≤◌, ◌==◌, ◌&&◌, ◌++◌, Bool, true, false, not, List, [], ◌∷◌, Option, Some, None, Result, Ok, Err, option_map, length, take, drop, slice_get, nat_lt, if◌then◌else◌, ap, subst, sym, refl, ◌∙◌, arith, zero, suc, ◌||◌, inl, inr}
 use Rattle.std.proofs.lemmas.Bool.{true≢false, leb-true}
 use Rattle.std.proofs.lemmas.Bool.Decides.{nat_tests}
 use Rattle.std.proofs.lemmas.List.{length-append}
 use Rattle.board_decisions.specs.declared.entrance.Entrance.{Entrance}
-use Rattle.board_decisions.specs.Decisions.{is_stopping, leg_result, step_decision, leg_outputs, leg_entrance, job_tolerates}
-use Rattle.board_decisions.specs.Derived.{is_going, is_closed, is_open, is_fresh, is_untaken, is_ended, is_failure, is_full, is_under_way}
-use Rattle.board_decisions.specs.Place.{LegAt, leg_at}
+use Rattle.board_decisions.specs.Decisions.{is_stopping, leg_result, step_decision, leg_outputs, leg_entrance, job_tolerates, is_true, job_condition}
+use Rattle.board_decisions.specs.Derived.{is_going, is_closed, is_open, is_fresh, is_untaken, is_ended, is_failure, is_full, is_under_way, has_failed}
+use Rattle.board_decisions.specs.Place.{LegAt, leg_at, JobAt}
 use Rattle.flow_model.specs.Answer.{is_well_formed}
 use Rattle.flow_model.specs.declared.board.Board.{Board}
 use Rattle.flow_model.specs.declared.board.DoneStep.{DoneStep}
@@ -30,7 +30,7 @@ use Rattle.flow_model.specs.declared.reply.ValueFault.{ValueFault}
 use Rattle.flow_model.specs.declared.reply.What.TheVariants as what
 use Rattle.board_settled.specs.Alone.{step_comes}
 use Rattle.board_settled.specs.Sees.{Spot}
-use Rattle.board_settled.specs.Settled.{Answers, counts, next_call, next_done, steps_from, steps_then, finish_of, spot_at, needs_of}
+use Rattle.board_settled.specs.Settled.{Answers, counts, next_call, next_done, steps_from, steps_then, finish_of, spot_at, needs_of, SettledJob}
 use Rattle.status_table.specs.declared.fault.EventFault.TheVariants as fault
 use Rattle.status_table.specs.Calls.{call_after}
 use Rattle.status_table.specs.Change.{with_leg}
@@ -39,7 +39,7 @@ use Rattle.status_table.specs.Row.{Row}
 use Rattle.status_table.specs.Row as rows
 use Rattle.status_table.specs.Shape.{has_room, open_calls, JobShape, RunShape}
 use Rattle.status_table.specs.Stays.{Stays}
-use Rattle.status_table.proofs.Found.{LegStands}
+use Rattle.status_table.proofs.Found.{LegStands, leg_stands}
 use Rattle.status_table.proofs.LegRows.{holding-live, idle-holds}
 use Rattle.status_table.proofs.Lists.{all-get, zip-get}
 use Rattle.board_decisions.proofs.Lists.{and-left, and-right, same_some, no_some}
@@ -47,11 +47,35 @@ use Rattle.status_table.proofs.Standings.{drop_at}
 use Rattle.status_table.proofs.Steps.{Live, going-unclosed}
 use Rattle.status_table.proofs.Turnover.{numbered}
 use Rattle.board_settled.proofs.Changes.{leg_put}
-use Rattle.board_settled.proofs.InPlay.{Stands, IsFit, here, first, spot, leg_played, number_is, not_stopping, quiet, spot_is}
+use Rattle.board_settled.proofs.InPlay.{Stands, IsFit, run_seen}
 use Rattle.board_settled.proofs.LegSteps.{comes_next}
-use Rattle.board_settled.proofs.Numbers.{before_run, before_job}
-use Rattle.board_settled.proofs.Played.{CallStands, InCall, LegPlayed, jobs_of, Played}
+use Rattle.board_settled.proofs.Numbers.{before_run, before_job, number_at}
+use Rattle.board_settled.proofs.Played.{CallStands, InCall, LegPlayed, jobs_of, Played, is_judged, JobPlayed, RunPlayed}
 use Rattle.board_settled.proofs.Seen.{spot_of, call_is, finish_is}
+use Rattle.std.specs.List.{list_any}
+use Rattle.board_decisions.specs.Contexts.{job_of, needs_value}
+use Rattle.expr_value.specs.declared.status.Status.TheVariants as status
+use Rattle.flow_model.specs.Plain.{Plain}
+use Rattle.flow_model.specs.declared.board.JobState.{JobState}
+use Rattle.flow_model.specs.declared.board.JobState.TheVariants as job_state
+use Rattle.board_settled.specs.Free.{JobIsFree}
+use Rattle.board_settled.proofs.SettledNeeds.{needs_settled}
+
+leg_board : (p : Plan) (b : Board) (n : ℕ) (at : LegAt) → leg_at p b n ≡ Some at → at.board ≡ b
+leg_board p b n at h =
+    let s = leg_stands p b n at h in
+    let on : LegAt = record { board = b; place = at.place; run_plan = at.run_plan; job_plan = at.job_plan; run = at.run; job = at.job; leg = at.leg } in
+    let found : leg_at p b n ≡ Some on = rw (s.place, s.in_plan, s.in_board, s.job_plan, s.job, s.leg) refl in
+    ap (λ (x : LegAt). x.board) (same_some at on (sym h ∙ found))
+
+judged-open : (s : JobState) → is_open s ≡ true → is_judged s ≡ true
+judged-open job_state.Unjudged h = h
+judged-open job_state.Open h = refl
+judged-open (job_state.Shut result) h = absurd (true≢false (sym h))
+
+failed-ended : (s : LegState) → is_ended s ≡ false → has_failed s ≡ false
+failed-ended (leg_state.Ended result tolerated) h = absurd (true≢false h)
+failed-ended s h = refl
 
 -- A row that is accepted keeps what is played as settled, by the calls that are open after it.
 abbrev pub Goes : Plan → Answers → (ℕ → Option StepCall) → Board → Event → Row → Type 0
@@ -77,28 +101,92 @@ one_more answers spot done step next planned given so_far =
     ∙ sym (ap (λ (steps : List StepPlan). steps_from answers spot done steps) (drop_at spot.job.steps (length done) step planned) ∙ ap (λ (o : Option DoneStep). steps_then done o (λ x. steps_from answers spot (done ++ x ∷ []) (drop (length done + 1) spot.job.steps))) given)
     ∙ so_far
 
-module _ (p : Plan) (fit : IsFit p) (answers : Answers) (open_calls' : ℕ → Option StepCall) (b : Board) (stands : Stands p answers open_calls' b) (l : ℕ) (at : LegAt)
+-- a leg of a job whose legs do not stop one another, by its place
+module _ (p : Plan) (fit : IsFit p) (answers : Answers) (calls : ℕ → Option StepCall) (b : Board) (stands : Stands p answers calls b) (l : ℕ) (at : LegAt)
     (is : leg_at p b l ≡ Some at) where
-  abbrev there : LegStands p b l at
-  there = here p fit answers open_calls' b stands l at is
+  abbrev here : LegStands p b l at
+  here = leg_stands p b l at is
 
-  abbrev mine : Spot
-  mine = spot p fit answers open_calls' b stands l at is
+  run_played : RunPlayed answers (before_run at.place.run p.runs) at.run_plan calls at.run
+  run_played = stands.played at.place.run at.run_plan at.run here.in_plan here.in_board
 
-  abbrev played : LegPlayed answers mine (open_calls' (first p fit answers open_calls' b stands l at is + at.place.leg)) at.leg
-  played = leg_played p fit answers open_calls' b stands l at is
+  abbrev before : List SettledJob
+  before = take at.place.job (jobs_of answers (before_run at.place.run p.runs) at.run_plan)
 
-  -- the leg is changed, to one that is played as settled by the calls that are open then
-  put : (later : ℕ → Option StepCall) (f : Leg → Leg) (new : Board) → new.runs ≡ (with_leg b at.place f).runs → ((n : ℕ) → n ≢ l → open_calls' n ≡ later n) → Live p b l at
-      → LegPlayed answers mine (later l) (f at.leg) → Stays b new → Played answers p later new.runs
+  abbrev first : ℕ
+  first = before_run at.place.run p.runs + before_job at.place.job at.run_plan.jobs
+
+  job_played : JobPlayed answers at.run_plan before first at.job_plan calls at.job
+  job_played = run_played.jobs at.place.job at.job_plan at.job here.job_plan here.job
+
+  -- what is settled of the leg
+  abbrev spot : Spot
+  spot = spot_at at.run_plan at.job_plan (needs_of at.run_plan before at.job_plan) first at.place.leg
+
+  leg_played : LegPlayed answers spot (calls (first + at.place.leg)) at.leg
+  leg_played = job_played.legs at.place.leg at.leg here.leg
+
+  number_is : l ≡ first + at.place.leg
+  number_is = let e = number_at p b l at.place at.run_plan stands.fits.shape here.place here.in_plan in omega (arith, e)
+
+  free : JobIsFree at.job_plan
+  free = (fit.free at.place.run at.run_plan here.in_plan).jobs at.place.job at.job_plan here.job_plan
+
+  size : length at.job.legs ≡ length at.job_plan.legs
+  size = (zip-get JobShape at.run_plan.jobs at.run.jobs at.place.job at.job_plan at.job here.job_plan here.job
+      (zip-get RunShape p.runs b.runs at.place.run at.run_plan at.run here.in_plan here.in_board stands.fits.shape)).legs
+
+  alone : length at.job.legs ≡ 1 → is_ended at.leg.state ≡ false → list_any (λ leg. has_failed leg.state) at.job.legs ≡ false
+  alone one unended = by at.job.legs one at.place.leg here.leg
+    where
+      by : (legs : List Leg) → length legs ≡ 1 → (k : ℕ) → slice_get legs k ≡ Some at.leg → list_any (λ leg. has_failed leg.state) legs ≡ false
+      by (leg ∷ []) h zero e = ap (λ (x : Leg). has_failed x.state || false) (same_some leg at.leg e) ∙ ap (λ c. c || false) (failed-ended at.leg.state unended)
+      by (leg ∷ []) h (suc k) e = absurd (no_some at.leg e)
+      by legs h k e = absurd (omega (arith, h))
+
+  -- it is not to stop
+  not_stopping : is_ended at.leg.state ≡ false → is_stopping at ≡ false
+  not_stopping unended =
+      let others : at.job_plan.fail_fast && list_any (λ leg. has_failed leg.state) at.job.legs ≡ false =
+      elim free.fails_slowly as (λ _. at.job_plan.fail_fast && list_any (λ (leg : Leg). has_failed leg.state) at.job.legs ≡ false) [
+        | inl slow ↦ ap (λ c. c && list_any (λ (leg : Leg). has_failed leg.state) at.job.legs) slow
+        | inr one ↦ both at.job_plan.fail_fast (list_any (λ (leg : Leg). has_failed leg.state) at.job.legs) (alone (size ∙ one) unended)
+      ] in
+      ap (λ c. (c || (at.job_plan.fail_fast && list_any (λ (leg : Leg). has_failed leg.state) at.job.legs)) || (at.run.stop && not (is_true (job_condition (job_of at) status.Cancelled)))) leg_played.stop
+      ∙ ap (λ c. c || (at.run.stop && not (is_true (job_condition (job_of at) status.Cancelled)))) others
+      ∙ ap (λ c. c && not (is_true (job_condition (job_of at) status.Cancelled))) run_played.stop
+    where
+      both : (a c : Bool) → c ≡ false → a && c ≡ false
+      both true c h = h
+      both false c h = refl
+
+  quiet : is_ended at.leg.state ≡ false → leg_result at ≡ counts at.leg.steps
+  quiet unended = ap (λ c. if c then outcome.Cancelled else (if list_any (λ step. is_failure step.conclusion) at.leg.steps then outcome.Failure else outcome.Success)) (not_stopping unended)
+
+  -- it is seen as it is planned
+  spot_is : Live p b l at → spot_of l at ≡ spot
+  spot_is live =
+      let unclosed = going-unclosed at.run.state live.going in
+      let ready = run_played.needs at.place.job at.job_plan at.job here.job_plan here.job (judged-open at.job.state live.opened) in
+      let seen = run_seen p fit answers calls b stands at.place.run at.run_plan at.run here.in_plan here.in_board unclosed in
+      let board : job_of at ≡ record { board = b; place = record { run = at.place.run; job = at.place.job }; run_plan = at.run_plan; plan = at.job_plan; run = at.run; job = at.job } =
+      ap (λ (x : Board). (let y : JobAt = record { board = x; place = record { run = at.place.run; job = at.place.job }; run_plan = at.run_plan; plan = at.job_plan; run = at.run; job = at.job } in y)) (leg_board p b l at is) in
+      let needs : needs_value (job_of at) ≡ needs_of at.run_plan before at.job_plan =
+      ap needs_value board ∙ (needs_settled p b answers calls at.place.run at.run_plan at.run seen at.place.job at.job_plan here.job_plan ready at.job).needs in
+      ap (λ n. (let y : Spot = record { number = n; run = at.run_plan; job = at.job_plan; place = at.place.leg; needs = needs_value (job_of at) } in y)) number_is
+      ∙ ap (λ (v : Plain). (let y : Spot = record { number = first + at.place.leg; run = at.run_plan; job = at.job_plan; place = at.place.leg; needs = v } in y)) needs
+
+  -- the leg is changed, to one that is leg_played as settled by the calls that are open then
+  put : (later : ℕ → Option StepCall) (f : Leg → Leg) (new : Board) → new.runs ≡ (with_leg b at.place f).runs → ((n : ℕ) → n ≢ l → calls n ≡ later n) → Live p b l at
+      → LegPlayed answers spot (later l) (f at.leg) → Stays b new → Played answers p later new.runs
   put later f new new_is others live now stays =
-      leg_put p b answers open_calls' later l at.place f new new_is stands.fits.shape there.place others stays stands.played
-      (λ run is_run. ap (λ (x : Run). is_closed x.state) (same_some run at.run (sym is_run ∙ there.in_board)) ∙ going-unclosed at.run.state live.going) (λ plan run job_plan job leg planned in_board in_plan in_run in_legs.
-      let plan_is : at.run_plan ≡ plan = same_some at.run_plan plan (sym there.in_plan ∙ planned) in
-      let run_is : at.run ≡ run = same_some at.run run (sym there.in_board ∙ in_board) in
-      let job_plan_is : at.job_plan ≡ job_plan = same_some at.job_plan job_plan (sym there.job_plan ∙ ap (λ (x : RunPlan). slice_get x.jobs at.place.job) plan_is ∙ in_plan) in
-      let job_is : at.job ≡ job = same_some at.job job (sym there.job ∙ ap (λ (x : Run). slice_get x.jobs at.place.job) run_is ∙ in_run) in
-      let leg_is : at.leg ≡ leg = same_some at.leg leg (sym there.leg ∙ ap (λ (x : Job). slice_get x.legs at.place.leg) job_is ∙ in_legs) in (
+      leg_put p b answers calls later l at.place f new new_is stands.fits.shape here.place others stays stands.played
+      (λ run is_run. ap (λ (x : Run). is_closed x.state) (same_some run at.run (sym is_run ∙ here.in_board)) ∙ going-unclosed at.run.state live.going) (λ plan run job_plan job leg planned in_board in_plan in_run in_legs.
+      let plan_is : at.run_plan ≡ plan = same_some at.run_plan plan (sym here.in_plan ∙ planned) in
+      let run_is : at.run ≡ run = same_some at.run run (sym here.in_board ∙ in_board) in
+      let job_plan_is : at.job_plan ≡ job_plan = same_some at.job_plan job_plan (sym here.job_plan ∙ ap (λ (x : RunPlan). slice_get x.jobs at.place.job) plan_is ∙ in_plan) in
+      let job_is : at.job ≡ job = same_some at.job job (sym here.job ∙ ap (λ (x : Run). slice_get x.jobs at.place.job) run_is ∙ in_run) in
+      let leg_is : at.leg ≡ leg = same_some at.leg leg (sym here.leg ∙ ap (λ (x : Job). slice_get x.legs at.place.leg) job_is ∙ in_legs) in (
         ap (λ (x : Job). is_open x.state) (sym job_is) ∙ live.opened,
         subst (λ (x : RunPlan). LegPlayed answers
             (spot_at x job_plan (needs_of x (take at.place.job (jobs_of answers (before_run at.place.run p.runs) x)) job_plan) (before_run at.place.run p.runs + before_job at.place.job x.jobs) at.place.leg)
@@ -106,17 +194,17 @@ module _ (p : Plan) (fit : IsFit p) (answers : Answers) (open_calls' : ℕ → O
             (subst (λ (x : JobPlan). LegPlayed answers
             (spot_at at.run_plan x (needs_of at.run_plan (take at.place.job (jobs_of answers (before_run at.place.run p.runs) at.run_plan)) x) (before_run at.place.run p.runs + before_job at.place.job at.run_plan.jobs) at.place.leg)
             (later (before_run at.place.run p.runs + before_job at.place.job at.run_plan.jobs + at.place.leg)) (f leg)) job_plan_is
-            (subst (λ (x : Leg). LegPlayed answers mine (later (before_run at.place.run p.runs + before_job at.place.job at.run_plan.jobs + at.place.leg)) (f x)) leg_is
-            (subst (λ n. LegPlayed answers mine (later n) (f at.leg)) (number_is p fit answers open_calls' b stands l at is) now))),
+            (subst (λ (x : Leg). LegPlayed answers spot (later (before_run at.place.run p.runs + before_job at.place.job at.run_plan.jobs + at.place.leg)) (f x)) leg_is
+            (subst (λ n. LegPlayed answers spot (later n) (f at.leg)) number_is now))),
       ))
 
   -- a leg that is not in a call and not Ended, with the steps that it had
-  still : (call : Option StepCall) (leg : Leg) → leg.stop ≡ at.leg.stop → leg.group ≡ None → leg.steps ≡ at.leg.steps → CallStands mine leg.steps call leg.state → is_ended leg.state ≡ false
-      → LegPlayed answers mine call leg
+  still : (call : Option StepCall) (leg : Leg) → leg.stop ≡ at.leg.stop → leg.group ≡ None → leg.steps ≡ at.leg.steps → CallStands spot leg.steps call leg.state → is_ended leg.state ≡ false
+      → LegPlayed answers spot call leg
   still call leg stop group steps calling unended = record {
-    stop = stop ∙ played.stop;
+    stop = stop ∙ leg_played.stop;
     group = group;
-    goes_on = subst (λ (done : List DoneStep). steps_from answers mine done (drop (length done) mine.job.steps) ≡ steps_from answers mine [] mine.job.steps) (sym steps) played.goes_on;
+    goes_on = subst (λ (done : List DoneStep). steps_from answers spot done (drop (length done) spot.job.steps) ≡ steps_from answers spot [] spot.job.steps) (sym steps) leg_played.goes_on;
     calling = calling;
     ended = λ result tolerated e. absurd (true≢false (sym (ap is_ended e) ∙ unended));
   }
@@ -125,19 +213,19 @@ module _ (p : Plan) (fit : IsFit p) (answers : Answers) (open_calls' : ℕ → O
 
   no_entrance : leg_entrance at ≡ Ok None
   unfolding leg_entrance
-  no_entrance = rw ((fit.free at.place.run at.run_plan there.in_plan).jobs at.place.job at.job_plan there.job_plan).group refl
+  no_entrance = rw ((fit.free at.place.run at.run_plan here.in_plan).jobs at.place.job at.job_plan here.job_plan).group refl
 
-  pub ask_goes : Goes p answers open_calls' b (event.Ask l) (rows.ask_leg b l at)
-  ask_goes = goes-if p answers open_calls' b (event.Ask l) (not (rows.may_ask at)) (Err fault.WrongState) unstarted (λ _. tt)
-      (λ ready. goes-if p answers open_calls' b (event.Ask l) (is_full at.job_plan at.job) (Err fault.SlotsFull) unstopped (λ _. tt)
-      (λ _. goes-if p answers open_calls' b (event.Ask l) (is_stopping at) (Err fault.Stopping) (rows.leg_enters b l at (leg_entrance at)) (λ _. tt)
+  pub ask_goes : Goes p answers calls b (event.Ask l) (rows.ask_leg b l at)
+  ask_goes = goes-if p answers calls b (event.Ask l) (not (rows.may_ask at)) (Err fault.WrongState) unstarted (λ _. tt)
+      (λ ready. goes-if p answers calls b (event.Ask l) (is_full at.job_plan at.job) (Err fault.SlotsFull) unstopped (λ _. tt)
+      (λ _. goes-if p answers calls b (event.Ask l) (is_stopping at) (Err fault.Stopping) (rows.leg_enters b l at (leg_entrance at)) (λ _. tt)
       (λ _.
       let all = not-not (rows.may_ask at) ready in
       let two = and-left (is_going at.run.state && is_open at.job.state) (is_fresh at.leg.state) all in
-      subst (λ (x : Result (Option Entrance) ValueFault). Goes p answers open_calls' b (event.Ask l) (rows.leg_enters b l at x)) (sym no_entrance)
-      (put open_calls' (λ x. record x { state = leg_state.Admitted; group = None }) (admitted b None (member.Leg l)) (numbered b l at.place (λ x. record x { state = leg_state.Admitted; group = None }) there.place)
-      (λ n _. refl) (record { stands = there; going = and-left (is_going at.run.state) (is_open at.job.state) two; opened = and-right (is_going at.run.state) (is_open at.job.state) two })
-      (still (open_calls' l) (record at.leg { state = leg_state.Admitted; group = None }) refl refl refl tt refl)))))
+      subst (λ (x : Result (Option Entrance) ValueFault). Goes p answers calls b (event.Ask l) (rows.leg_enters b l at x)) (sym no_entrance)
+      (put calls (λ x. record x { state = leg_state.Admitted; group = None }) (admitted b None (member.Leg l)) (numbered b l at.place (λ x. record x { state = leg_state.Admitted; group = None }) here.place)
+      (λ n _. refl) (record { stands = here; going = and-left (is_going at.run.state) (is_open at.job.state) two; opened = and-right (is_going at.run.state) (is_open at.job.state) two })
+      (still (calls l) (record at.leg { state = leg_state.Admitted; group = None }) refl refl refl tt refl)))))
     where
       unstopped : Row
       unstopped = if is_stopping at then Err fault.Stopping else rows.leg_enters b l at (leg_entrance at)
@@ -147,11 +235,11 @@ module _ (p : Plan) (fit : IsFit p) (answers : Answers) (open_calls' : ℕ → O
 
   -- ---- Drop: no leg is to stop
 
-  pub drop_goes : Goes p answers open_calls' b (event.Drop l) (rows.drop_leg b l at)
-  drop_goes = goes-if p answers open_calls' b (event.Drop l) (not (rows.may_drop at)) (Err fault.WrongState)
+  pub drop_goes : Goes p answers calls b (event.Drop l) (rows.drop_leg b l at)
+  drop_goes = goes-if p answers calls b (event.Drop l) (not (rows.may_drop at)) (Err fault.WrongState)
       (if is_stopping at then Ok (leaves b (leg_standing at.leg) (dropped b l outcome.Cancelled)) else Err fault.NotStopping) (λ _. tt)
-      (λ ready. goes-if p answers open_calls' b (event.Drop l) (is_stopping at) (Ok (leaves b (leg_standing at.leg) (dropped b l outcome.Cancelled))) (Err fault.NotStopping)
-      (λ stops. absurd (true≢false (sym stops ∙ not_stopping p fit answers open_calls' b stands l at is
+      (λ ready. goes-if p answers calls b (event.Drop l) (is_stopping at) (Ok (leaves b (leg_standing at.leg) (dropped b l outcome.Cancelled))) (Err fault.NotStopping)
+      (λ stops. absurd (true≢false (sym stops ∙ not_stopping
       (untaken at.leg.state (and-right (is_going at.run.state && is_open at.job.state) (is_untaken at.leg.state) (not-not (rows.may_drop at) ready))))))
       (λ _. tt))
     where
@@ -164,16 +252,16 @@ module _ (p : Plan) (fit : IsFit p) (answers : Answers) (open_calls' : ℕ → O
 
   -- a leg under way is of a Going run and an Open job
   live : is_under_way at.leg.state ≡ true → Live p b l at
-  live under = holding-live p b l at stands.lawful.fits there under
+  live under = holding-live p b l at stands.lawful.fits here under
 
-  pub take_goes : (worker : ℕ) → Goes p answers open_calls' b (event.Take l) (rows.take_leg b worker at at.leg.state)
+  pub take_goes : (worker : ℕ) → Goes p answers calls b (event.Take l) (rows.take_leg b worker at at.leg.state)
   take_goes worker = by at.leg.state refl
     where
-      by : (s : LegState) → at.leg.state ≡ s → Goes p answers open_calls' b (event.Take l) (rows.take_leg b worker at s)
-      by leg_state.Admitted e = goes-if p answers open_calls' b (event.Take l) (is_stopping at) (Err fault.Stopping) (Ok (rows.leg_state_set b at.place (leg_state.Running worker false), moved)) (λ _. tt)
-          (λ _. put open_calls' (λ x. record x { state = leg_state.Running worker false }) (rows.leg_state_set b at.place (leg_state.Running worker false)) refl (λ n _. refl)
+      by : (s : LegState) → at.leg.state ≡ s → Goes p answers calls b (event.Take l) (rows.take_leg b worker at s)
+      by leg_state.Admitted e = goes-if p answers calls b (event.Take l) (is_stopping at) (Err fault.Stopping) (Ok (rows.leg_state_set b at.place (leg_state.Running worker false), moved)) (λ _. tt)
+          (λ _. put calls (λ x. record x { state = leg_state.Running worker false }) (rows.leg_state_set b at.place (leg_state.Running worker false)) refl (λ n _. refl)
           (live (ap is_under_way e))
-          (still (open_calls' l) (record at.leg { state = leg_state.Running worker false }) refl played.group refl tt refl))
+          (still (calls l) (record at.leg { state = leg_state.Running worker false }) refl leg_played.group refl tt refl))
       by s e = tt
 
   -- ---- Begin and End
@@ -185,14 +273,14 @@ module _ (p : Plan) (fit : IsFit p) (answers : Answers) (open_calls' : ℕ → O
   other_number n differs = grind (arith, nat_tests, differs)
 
   -- one more step is done
-  done_more : (later : ℕ → Option StepCall) → ((n : ℕ) → n ≢ l → open_calls' n ≡ later n) → (worker : ℕ) (step : StepPlan) (next : DoneStep) → is_under_way at.leg.state ≡ true
-      → rows.next_step at ≡ Some step → next_done answers mine at.leg.steps step ≡ Some next → Stays b (rows.step_done b at.place worker next)
+  done_more : (later : ℕ → Option StepCall) → ((n : ℕ) → n ≢ l → calls n ≡ later n) → (worker : ℕ) (step : StepPlan) (next : DoneStep) → is_under_way at.leg.state ≡ true
+      → rows.next_step at ≡ Some step → next_done answers spot at.leg.steps step ≡ Some next → Stays b (rows.step_done b at.place worker next)
       → Played answers p later (rows.step_done b at.place worker next).runs
   done_more later others worker step next under planned given =
       put later (λ x. record x { state = leg_state.Running worker false; steps = x.steps ++ next ∷ [] }) (rows.step_done b at.place worker next) refl others (live under) (record {
-        stop = played.stop;
-        group = played.group;
-        goes_on = one_more answers mine at.leg.steps step next planned given played.goes_on;
+        stop = leg_played.stop;
+        group = leg_played.group;
+        goes_on = one_more answers spot at.leg.steps step next planned given leg_played.goes_on;
         calling = tt;
         ended = λ result tolerated e. absurd (true≢false (sym (ap is_ended e)));
       })
@@ -202,119 +290,119 @@ module _ (p : Plan) (fit : IsFit p) (answers : Answers) (open_calls' : ℕ → O
   unended s h = refl
 
   calm : is_under_way at.leg.state ≡ true → leg_result at ≡ counts at.leg.steps
-  calm under = quiet p fit answers open_calls' b stands l at is (unended at.leg.state under)
+  calm under = quiet (unended at.leg.state under)
 
-  seen_so : is_under_way at.leg.state ≡ true → spot_of l at ≡ mine
-  seen_so under = spot_is p fit answers open_calls' b stands l at is (live under)
+  seen_so : is_under_way at.leg.state ≡ true → spot_of l at ≡ spot
+  seen_so under = spot_is (live under)
 
   module _ (under : is_under_way at.leg.state ≡ true) (step : StepPlan) (planned : rows.next_step at ≡ Some step) where
-    decision : step_decision l at step ≡ next_call mine at.leg.steps step
+    decision : step_decision l at step ≡ next_call spot at.leg.steps step
     decision = call_is l at (calm under) step ∙ ap (λ (x : Spot). next_call x at.leg.steps step) (seen_so under)
 
     -- what a step comes to by its call
-    given_next : (d : Result (Option StepCall) ValueFault) (next : DoneStep) → step_decision l at step ≡ d → step_comes answers at d ≡ Some next → next_done answers mine at.leg.steps step ≡ Some next
+    given_next : (d : Result (Option StepCall) ValueFault) (next : DoneStep) → step_decision l at step ≡ d → step_comes answers at d ≡ Some next → next_done answers spot at.leg.steps step ≡ Some next
     given_next d next e given =
         ap (λ (x : Spot). next_done answers x at.leg.steps step) (sym (seen_so under)) ∙ sym (comes_next answers l at (calm under) step planned) ∙ ap (step_comes answers at) e ∙ given
 
-    begun : (worker : ℕ) (d : Result (Option StepCall) ValueFault) → step_decision l at step ≡ d → Goes p answers open_calls' b (event.Begin l) (rows.begin_leg b worker at (Ok (rows.decided d)))
+    begun : (worker : ℕ) (d : Result (Option StepCall) ValueFault) → step_decision l at step ≡ d → Goes p answers calls b (event.Begin l) (rows.begin_leg b worker at (Ok (rows.decided d)))
     begun worker (Ok None) e =
-        done_more (λ n. call_after n (open_calls' n) (event.Begin l) what.Skipped) (λ n differs. sym (ap (λ c. if c then None else open_calls' n) (other_number n differs))) worker step rows.skipped_step under planned
+        done_more (λ n. call_after n (calls n) (event.Begin l) what.Skipped) (λ n differs. sym (ap (λ c. if c then None else calls n) (other_number n differs))) worker step rows.skipped_step under planned
         (given_next (Ok None) rows.skipped_step e refl)
     begun worker (Err f) e =
-        done_more (λ n. call_after n (open_calls' n) (event.Begin l) (what.Faulted f)) (λ n differs. sym (ap (λ c. if c then None else open_calls' n) (other_number n differs))) worker step (rows.failed_step at) under planned
+        done_more (λ n. call_after n (calls n) (event.Begin l) (what.Faulted f)) (λ n differs. sym (ap (λ c. if c then None else calls n) (other_number n differs))) worker step (rows.failed_step at) under planned
         (given_next (Err f) (rows.failed_step at) e refl)
     begun worker (Ok (Some call)) e =
-        put (λ n. call_after n (open_calls' n) (event.Begin l) (what.Call call)) (λ x. record x { state = leg_state.Running worker true }) (rows.leg_state_set b at.place (leg_state.Running worker true)) refl
-        (λ n differs. sym (ap (λ c. if c then Some call else open_calls' n) (other_number n differs))) (live under)
-        (still (call_after l (open_calls' l) (event.Begin l) (what.Call call)) (record at.leg { state = leg_state.Running worker true }) refl played.group refl (record {
+        put (λ n. call_after n (calls n) (event.Begin l) (what.Call call)) (λ x. record x { state = leg_state.Running worker true }) (rows.leg_state_set b at.place (leg_state.Running worker true)) refl
+        (λ n differs. sym (ap (λ c. if c then Some call else calls n) (other_number n differs))) (live under)
+        (still (call_after l (calls l) (event.Begin l) (what.Call call)) (record at.leg { state = leg_state.Running worker true }) refl leg_played.group refl (record {
           step = step;
           planned = planned;
           asked = call;
-          is_open = ap (λ c. if c then Some call else open_calls' l) same_number;
+          is_open = ap (λ c. if c then Some call else calls l) same_number;
           is_next = sym decision ∙ e;
         }) refl)
 
-  pub begin_goes : (worker : ℕ) → Goes p answers open_calls' b (event.Begin l) (rows.begin_leg b worker at (rows.beginning worker l at))
+  pub begin_goes : (worker : ℕ) → Goes p answers calls b (event.Begin l) (rows.begin_leg b worker at (rows.beginning worker l at))
   begin_goes worker = by_owner (rows.idle_owner at.leg.state) refl (rows.next_step at) refl
     where
       by_owner : (owner : Option ℕ) → rows.idle_owner at.leg.state ≡ owner → (step : Option StepPlan) → rows.next_step at ≡ step
-          → Goes p answers open_calls' b (event.Begin l) (rows.begin_leg b worker at (rows.beginning_by worker l at owner step))
+          → Goes p answers calls b (event.Begin l) (rows.begin_leg b worker at (rows.beginning_by worker l at owner step))
       by_owner (Some owner) was (Some step) next = by (worker == owner)
         where
-          by : (c : Bool) → Goes p answers open_calls' b (event.Begin l) (rows.begin_leg b worker at (if c then Ok (rows.decided (step_decision l at step)) else Err fault.OtherWorker))
+          by : (c : Bool) → Goes p answers calls b (event.Begin l) (rows.begin_leg b worker at (if c then Ok (rows.decided (step_decision l at step)) else Err fault.OtherWorker))
           by true = begun (idle-holds at.leg.state owner was).under step next worker (step_decision l at step) refl
           by false = tt
       by_owner owner was step next = tt
 
-  in_call : (s : LegState) (owner : ℕ) (call : Option StepCall) → rows.calling_owner s ≡ Some owner → CallStands mine at.leg.steps call s → InCall mine at.leg.steps call × (is_under_way s ≡ true)
+  in_call : (s : LegState) (owner : ℕ) (call : Option StepCall) → rows.calling_owner s ≡ Some owner → CallStands spot at.leg.steps call s → InCall spot at.leg.steps call × (is_under_way s ≡ true)
   in_call (leg_state.Running worker true) owner call h calling = (calling, refl)
   in_call s owner call h calling = absurd (no_some owner h)
 
-  pub end_goes : (worker : ℕ) (a : Answer) → ((call : StepCall) → open_calls' l ≡ Some call → answers call ≡ Some a)
-      → Goes p answers open_calls' b (event.End l a) (rows.end_leg b worker at (rows.ending worker at a))
+  pub end_goes : (worker : ℕ) (a : Answer) → ((call : StepCall) → calls l ≡ Some call → answers call ≡ Some a)
+      → Goes p answers calls b (event.End l a) (rows.end_leg b worker at (rows.ending worker at a))
   end_goes worker a answer = by_owner (rows.calling_owner at.leg.state) refl
     where
-      ends : (owner : ℕ) → rows.calling_owner at.leg.state ≡ Some owner → Goes p answers open_calls' b (event.End l a) (rows.end_leg b worker at (Ok (rows.answered_step at a)))
+      ends : (owner : ℕ) → rows.calling_owner at.leg.state ≡ Some owner → Goes p answers calls b (event.End l a) (rows.end_leg b worker at (Ok (rows.answered_step at a)))
       ends owner was =
-          let calling = in_call at.leg.state owner (open_calls' (first p fit answers open_calls' b stands l at is + at.place.leg)) was played.calling in
+          let calling = in_call at.leg.state owner (calls (first + at.place.leg)) was leg_played.calling in
           let call = calling.0 in
-          let number = number_is p fit answers open_calls' b stands l at is in
-          let given = answer call.asked (ap open_calls' number ∙ call.is_open) in
+          let number = number_is in
+          let given = answer call.asked (ap calls number ∙ call.is_open) in
           let called = decision calling.1 call.step call.planned ∙ call.is_next in
-          done_more (λ n. call_after n (open_calls' n) (event.End l a) what.Moved) (λ n differs. sym (ap (λ c. if c then None else open_calls' n) (other_number n differs))) worker call.step
+          done_more (λ n. call_after n (calls n) (event.End l a) what.Moved) (λ n differs. sym (ap (λ c. if c then None else calls n) (other_number n differs))) worker call.step
           (rows.answered_step at a) calling.1 call.planned
           (given_next calling.1 call.step call.planned (Ok (Some call.asked)) (rows.answered_step at a) called (ap (option_map (rows.answered_step at)) given))
 
-      by_owner : (owner : Option ℕ) → rows.calling_owner at.leg.state ≡ owner → Goes p answers open_calls' b (event.End l a) (rows.end_leg b worker at (rows.ending_by worker at a owner))
+      by_owner : (owner : Option ℕ) → rows.calling_owner at.leg.state ≡ owner → Goes p answers calls b (event.End l a) (rows.end_leg b worker at (rows.ending_by worker at a owner))
       by_owner None was = tt
       by_owner (Some owner) was = by (not (worker == owner)) (not (is_well_formed a))
         where
-          by : (other bad : Bool) → Goes p answers open_calls' b (event.End l a) (rows.end_leg b worker at (if other then Err fault.OtherWorker else (if bad then Err fault.BadAnswer else Ok (rows.answered_step at a))))
+          by : (other bad : Bool) → Goes p answers calls b (event.End l a) (rows.end_leg b worker at (if other then Err fault.OtherWorker else (if bad then Err fault.BadAnswer else Ok (rows.answered_step at a))))
           by false false = ends owner was
           by other bad = tt
 
   -- ---- Finish
 
-  pub finish_goes : (worker : ℕ) → Goes p answers open_calls' b (event.Finish l) (rows.finish_leg b l at (rows.finishing worker at))
+  pub finish_goes : (worker : ℕ) → Goes p answers calls b (event.Finish l) (rows.finish_leg b l at (rows.finishing worker at))
   finish_goes worker = by_owner (rows.idle_owner at.leg.state) refl
     where
       alone : (after : Board) (owner : ℕ) → rows.idle_owner at.leg.state ≡ Some owner → leaves b (leg_standing at.leg) after ≡ leaves b (holding None) after
-      alone after owner was = ap (λ s. leaves b s after) ((idle-holds at.leg.state owner was).stands at.leg.group ∙ ap holding played.group)
+      alone after owner was = ap (λ s. leaves b s after) ((idle-holds at.leg.state owner was).stands at.leg.group ∙ ap holding leg_played.group)
 
       room : length at.leg.steps ≤ length at.job_plan.steps
       room =
-          let shape = zip-get JobShape at.run_plan.jobs at.run.jobs at.place.job at.job_plan at.job there.job_plan there.job
-          (zip-get RunShape p.runs b.runs at.place.run at.run_plan at.run there.in_plan there.in_board stands.fits.shape) in
-          let had = all-get (has_room at.job_plan) at.job.legs at.place.leg at.leg there.leg shape.steps in
+          let shape = zip-get JobShape at.run_plan.jobs at.run.jobs at.place.job at.job_plan at.job here.job_plan here.job
+          (zip-get RunShape p.runs b.runs at.place.run at.run_plan at.run here.in_plan here.in_board stands.fits.shape) in
+          let had = all-get (has_room at.job_plan) at.job.legs at.place.leg at.leg here.leg shape.steps in
           let few = leb-true (length at.leg.steps + open_calls at.leg.state) (length at.job_plan.steps) had in
           omega (arith, few)
 
       ends : (owner : ℕ) → rows.idle_owner at.leg.state ≡ Some owner → nat_lt (length at.leg.steps) (length at.job_plan.steps) ≡ false
-          → Goes p answers open_calls' b (event.Finish l) (rows.finish_leg b l at (Ok (rows.ended_state at (leg_result at))))
+          → Goes p answers calls b (event.Finish l) (rows.finish_leg b l at (Ok (rows.ended_state at (leg_result at))))
       ends owner was all =
           let state = rows.ended_state at (leg_result at) in
           let new : Board = rows.leg_ended b at.place l state (leg_outputs at) in
           let left : length at.job_plan.steps ≤ length at.leg.steps = grind (arith, nat_tests, all) in
           let had = room in
           let whole : length at.leg.steps ≡ length at.job_plan.steps = omega (arith, left, had) in
-          let finish : finish_of mine at.leg.steps ≡ record { result = leg_result at; tolerated = is_failure (leg_result at) && job_tolerates at; outputs = leg_outputs at } =
+          let finish : finish_of spot at.leg.steps ≡ record { result = leg_result at; tolerated = is_failure (leg_result at) && job_tolerates at; outputs = leg_outputs at } =
           ap (λ (x : Spot). finish_of x at.leg.steps) (sym (seen_so (idle-holds at.leg.state owner was).under)) ∙ finish_is l at (calm (idle-holds at.leg.state owner was).under) in
-          subst (λ (x : Board × Reply). Goes p answers open_calls' b (event.Finish l) (Ok x)) (sym (alone new owner was))
-          (put open_calls' (λ x. record x { state = state; outputs = leg_outputs at }) new refl (λ n _. refl) (live (idle-holds at.leg.state owner was).under) (record {
-            stop = played.stop;
-            group = played.group;
-            goes_on = played.goes_on;
+          subst (λ (x : Board × Reply). Goes p answers calls b (event.Finish l) (Ok x)) (sym (alone new owner was))
+          (put calls (λ x. record x { state = state; outputs = leg_outputs at }) new refl (λ n _. refl) (live (idle-holds at.leg.state owner was).under) (record {
+            stop = leg_played.stop;
+            group = leg_played.group;
+            goes_on = leg_played.goes_on;
             calling = tt;
             ended = λ result tolerated e.
                 let is : leg_state.Ended (leg_result at) (is_failure (leg_result at) && job_tolerates at) ≡ leg_state.Ended result tolerated = e in
                 record { all = whole; finish = cc (finish, is) };
           }))
 
-      by_owner : (owner : Option ℕ) → rows.idle_owner at.leg.state ≡ owner → Goes p answers open_calls' b (event.Finish l) (rows.finish_leg b l at (rows.finishing_by worker at owner))
+      by_owner : (owner : Option ℕ) → rows.idle_owner at.leg.state ≡ owner → Goes p answers calls b (event.Finish l) (rows.finish_leg b l at (rows.finishing_by worker at owner))
       by_owner None was = tt
       by_owner (Some owner) was = by (not (worker == owner)) (nat_lt (length at.leg.steps) (length at.job_plan.steps)) refl
         where
           by : (other more : Bool) → nat_lt (length at.leg.steps) (length at.job_plan.steps) ≡ more
-              → Goes p answers open_calls' b (event.Finish l) (rows.finish_leg b l at (if other then Err fault.OtherWorker else (if more then Err fault.StepsLeft else Ok (rows.ended_state at (leg_result at)))))
+              → Goes p answers calls b (event.Finish l) (rows.finish_leg b l at (if other then Err fault.OtherWorker else (if more then Err fault.StepsLeft else Ok (rows.ended_state at (leg_result at)))))
           by false false e = ends owner was e
           by other more e = tt

@@ -29,7 +29,9 @@ HasFailedStep at = list_any (λ step. is_failure step.conclusion) at.leg.steps �
 -- No call is carried.
 abbrev pub CarriesNoCall : What → Type 0
 CarriesNoCall (what.Call call) = ⊥
-CarriesNoCall other = Unit {0}
+CarriesNoCall what.Moved = Unit {0}
+CarriesNoCall what.Skipped = Unit {0}
+CarriesNoCall (what.Faulted fault) = Unit {0}
 
 -- The reply of a row, if it is accepted, carries no call.
 abbrev pub CallsNothing : Row → Type 0
@@ -60,7 +62,9 @@ EndsStep b worker at new =
 -- A step ends so, but where a call is carried: then no step is done.
 abbrev pub EndsUncalled : What → Board → ℕ → LegAt → Board → Type 0
 EndsUncalled (what.Call call) b worker at new = Unit {0}
-EndsUncalled other b worker at new = EndsStep b worker at new
+EndsUncalled what.Moved b worker at new = EndsStep b worker at new
+EndsUncalled what.Skipped b worker at new = EndsStep b worker at new
+EndsUncalled (what.Faulted fault) b worker at new = EndsStep b worker at new
 
 -- A row, if it is accepted, ends a step so, or carries its call.
 abbrev pub Concludes : Board → ℕ → LegAt → Row → Type 0

@@ -15,7 +15,14 @@ use Rattle.status_table.specs.Runs.{after}
 abbrev pub IsAnswered : Answers → (ℕ → Option StepCall) → Event → Type 0
 IsAnswered answers calls (event.End l answer) = (call : StepCall) → calls l ≡ Some call → answers call ≡ Some answer
 IsAnswered answers calls (event.Cancel r) = ⊥
-IsAnswered answers calls other = Unit {0}
+IsAnswered answers calls (event.Open r) = Unit {0}
+IsAnswered answers calls (event.Judge j) = Unit {0}
+IsAnswered answers calls (event.Ask l) = Unit {0}
+IsAnswered answers calls (event.Drop l) = Unit {0}
+IsAnswered answers calls (event.Take l) = Unit {0}
+IsAnswered answers calls (event.Begin l) = Unit {0}
+IsAnswered answers calls (event.Finish l) = Unit {0}
+IsAnswered answers calls (event.Close r) = Unit {0}
 
 -- A list of entries leads to a board, without Cancel, and with these answers to its calls.
 pub record LeadsTo (p : Plan) (answers : Answers) (es : List Entry) (b : Board) : Type 0 where
