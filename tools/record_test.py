@@ -7,6 +7,7 @@ from __future__ import annotations
 
 import collections
 import concurrent.futures
+import contextlib
 import json
 import os
 import random
@@ -16,8 +17,10 @@ import signal
 import subprocess
 import sys
 import tempfile
+import threading
 import time
 import unittest
+from collections.abc import Callable, Iterator
 from pathlib import Path
 
 TOP = Path(__file__).resolve().parent.parent
@@ -263,6 +266,85 @@ class Refused(Case):
         told = [line.partition(" refused: ")[2] for line in answer.stderr.splitlines() if " refused: " in line]
         self.assertEqual((told, answer.returncode), (list(reasons.values()), 0), answer.stderr)
         self.assertEqual(answer.stderr.count(" bad output in "), len(reasons))
+
+    def as_another(self, steps: list[str]) -> tuple[list[str], list]:
+        """Why answers of steps that all may fail are refused, and the answers, where another user than root executes them."""
+        plan = self.plan([{"run": script, "continue-on-error": True} for script in steps])
+        own = shutil.copy(program(), self.room)
+        for place in (self.room, self.work, own):
+            os.chown(place, 65534, 65534)
+        words = [own, *self.words(plan, "--record", str(self.record))[1:], "--progress"]
+        answer = self.run_words(words, user=65534, group=65534, extra_groups=[])
+        self.assertEqual(answer.returncode, 0, answer.stderr)
+        return re.findall("refused: its file of outputs cannot be read: (.*)", answer.stderr), self.answers()[0]
+
+    @unittest.skipUnless(os.geteuid() == 0, "only root can become another user")
+    def test_a_file_that_may_not_be_written_is_read_and_keeps_its_mode(self) -> None:
+        for name, owner in (("own", 65534), ("other", 0)):
+            (self.room / name).write_text("name=value\n", encoding="utf-8")
+            (self.room / name).chmod(0o444)
+            os.chown(self.room / name, owner, owner)
+        why, answers = self.as_another(["echo name=value > $GITHUB_OUTPUT; chmod 400 $GITHUB_OUTPUT",
+                                        "echo name=value > $GITHUB_OUTPUT; chmod 4555 $GITHUB_OUTPUT",
+                                        f"ln -sf {self.room}/own $GITHUB_OUTPUT",
+                                        f"ln -sf {self.room}/other $GITHUB_OUTPUT",
+                                        "echo name=value > $GITHUB_OUTPUT; chmod 0 $GITHUB_OUTPUT"])
+        self.assertEqual((why, answers), (["permission denied"] * 2, [0, 0, 0, "bad-output", "bad-output"]))
+        modes = [(self.work / f"step-0-{step}.out").stat().st_mode & 0o7777 for step in range(5)]
+        self.assertEqual(modes, [0o400, 0o4555, 0o444, 0o444, 0])
+
+    @contextlib.contextmanager
+    def meanwhile(self, act: Callable[[], None]) -> Iterator[None]:
+        """Acts again and again in a thread of its own."""
+        until = threading.Event()
+
+        def acts() -> None:
+            while not until.is_set():
+                act()
+        with concurrent.futures.ThreadPoolExecutor(1) as pool:
+            acting = pool.submit(acts)
+            try:
+                yield
+            finally:
+                until.set()
+        acting.result()
+
+    def give(self, kind: str, name: Path) -> None:
+        """Gives a name to what has another in the room, in place of what had that name."""
+        os.link(self.room / kind, self.room / "next")
+        os.replace(self.room / "next", name)
+
+    @unittest.skipUnless(os.geteuid() == 0, "only root can become another user")
+    def test_a_pipe_that_takes_the_place_of_outputs_is_not_waited_for(self) -> None:
+        """Neither the outputs nor the pipe may be written by their owner."""
+        (self.room / "file").write_text("name=value\n", encoding="utf-8")
+        os.mkfifo(self.room / "pipe")
+        for kind in ("file", "pipe"):
+            os.chown(self.room / kind, 65534, 65534)
+
+        def swap() -> None:
+            for kind in ("file", "pipe"):
+                os.chmod(self.room / kind, 0o400)
+                self.give(kind, self.room / "swapped")
+        swap()
+        with self.meanwhile(swap):
+            why, answers = self.as_another([f"ln -sf {self.room}/swapped $GITHUB_OUTPUT"] * 20)
+        self.assertLessEqual(set(why), {"invalid input parameter", "permission denied"})
+        self.assertEqual((answers.count("bad-output"), answers.count(0)), (len(why), 20 - len(why)), answers)
+
+    def test_a_pipe_that_takes_the_place_of_what_is_printed_is_not_waited_for(self) -> None:
+        os.mkfifo(self.room / "pipe")
+
+        def swap() -> None:
+            step = sum(1 for _ in self.work.glob("*.sh")) - 1
+            for _ in range(20):
+                name = self.work / f"step-0-{step}.stdout"
+                self.give("pipe", name)
+                name.unlink(missing_ok=True)
+        plan = self.plan([{"run": "echo shown", "continue-on-error": True}] * 40)
+        with self.meanwhile(swap):
+            answer = self.run_words([*self.words(plan), "--progress"])
+        self.assertEqual((answer.returncode, len(self.answers()[0])), (0, 40), answer.stderr)
 
     @unittest.skipUnless(ALL, "it takes long")
     def test_great_files_in_little_memory(self) -> None:

@@ -4,9 +4,16 @@ ghost use Rattle.std.specs.Prelude.{◌≡◌, IfOk};
 
 use flow_model::Text;
 use std::alloc::Global;
-use std::fs::{File, Files, OpenFile, OpenOptions};
+use std::fs::{File, Files, Metadata, OpenFile, OpenOptions, Permissions};
 use std::io::{ErrorKind, Read, Take, Write};
+use std::os::unix::fs::{MetadataExt, PermissionsExt};
 use std::{fs, io};
+
+/// That the owner of a file may read it.
+const OWNER_READS: u32 = 0o400;
+
+/// That the owner of a file may read and write it, and nobody else.
+const OWNER_ALONE: u32 = 0o600;
 
 /// A file for what a program prints, as it is written and as it is read. It has no name: nobody else finds it, and it is gone
 /// with the last program that has it open.
@@ -43,7 +50,7 @@ pub(crate) fn printed_file<F: Files>(files: &F, name: &str) -> io::Result<Printe
     let mut how = File::options();
     how.append(true).create_new(true);
     let written = make_file(files, &how, name)?;
-    let read = File::open(files, name)?;
+    let read = open_file(files, name)?;
     fs::remove_file(files, name)?;
     Ok((written, read))
 }
@@ -69,42 +76,52 @@ fn first_bytes<F: Read + Drop>(alloc: Global, file: F, length: u64) -> io::Resul
     Ok(bytes)
 }
 
-/// Opens the file of that name to read it. It is opened to be written too, since opening a pipe to be read alone waits for a writer: a
-/// pipe that takes the place of the file just now is opened at once, and refused.
+/// What was found, if it is a regular file.
+fn regular(found: Metadata) -> io::Result<Metadata> {
+    if found.is_file() {
+        return Ok(found);
+    }
+    Err(io::Error::from(ErrorKind::InvalidInput))
+}
+
+/// Opens the file of that name to read it. It is opened to be written too, and never to be read alone, since that waits for
+/// a writer where the name is a pipe's. So a pipe that has taken the place of the file is opened at once, or cannot be opened.
 fn open_file<F: Files>(files: &F, name: &str) -> io::Result<F::File> {
     let mut how = File::options();
     how.read(true).write(true);
     match how.open(files, name) {
-        Err(error) if error.kind() == ErrorKind::PermissionDenied => File::open(files, name),
+        Err(error) if error.kind() == ErrorKind::PermissionDenied => {
+            open_protected(files, &how, name)
+        },
         opened => opened,
     }
 }
 
-/// How many bytes a regular file has.
-fn regular_length<F: OpenFile>(file: &F) -> io::Result<u64> {
-    let found = file.metadata()?;
-    if found.is_file() {
-        return Ok(found.len());
+/// Opens a file that its owner may read and not write. While it is opened, its owner alone may read and write it; then its
+/// permissions are again what they were. Only its owner can have that, so another user's file is refused. A link is followed.
+/// Where another file takes its name meanwhile, that one is opened, and from then on its owner alone may read and write it:
+/// nobody gains a permission by that.
+fn open_protected<F: Files>(files: &F, how: &OpenOptions, name: &str) -> io::Result<F::File> {
+    let found = regular(fs::metadata(files, name)?)?;
+    if found.mode() & OWNER_READS == 0 {
+        return Err(io::Error::from(ErrorKind::PermissionDenied));
     }
-    Err(io::Error::from(ErrorKind::InvalidInput))
-}
-
-/// How many bytes the regular file of that name has, which is not opened for that.
-fn regular_size<F: Files>(files: &F, name: &str) -> io::Result<u64> {
-    let found = fs::metadata(files, name)?;
-    if found.is_file() {
-        return Ok(found.len());
+    fs::set_permissions(files, name, Permissions::from_mode(OWNER_ALONE))?;
+    let file = how.open(files, name)?;
+    let opened = file.metadata()?;
+    if opened.ino() == found.ino() && opened.dev() == found.dev() {
+        file.set_permissions(found.permissions())?;
     }
-    Err(io::Error::from(ErrorKind::InvalidInput))
+    Ok(file)
 }
 
 /// The bytes of the file of that name, if it has so many at most. An empty one is not opened.
 fn file_bytes<F: Files>(alloc: Global, files: &F, name: &str, most: u64) -> io::Result<Vec<u8>> {
-    if regular_size(files, name)? == 0 {
+    if regular(fs::metadata(files, name)?)?.len() == 0 {
         return Ok(Vec::new(alloc));
     }
     let file = open_file(files, name)?;
-    let length = regular_length(&file)?;
+    let length = regular(file.metadata()?)?.len();
     if length > most {
         return Err(io::Error::from(ErrorKind::FileTooLarge));
     }
@@ -150,8 +167,8 @@ pub(crate) fn read_named<F: Files>(
 ///
 /// It cannot be opened; or it is a pipe, a device, a folder or the like; or there is no memory.
 pub fn open_regular<F: Files>(files: &F, name: &str) -> io::Result<Take<F::File>> {
-    regular_size(files, name)?;
+    regular(fs::metadata(files, name)?)?;
     let file = open_file(files, name)?;
-    let length = regular_length(&file)?;
+    let length = regular(file.metadata()?)?.len();
     Ok(file.take(length))
 }
