@@ -19,11 +19,13 @@ use Rattle.flow_model.specs.Mapping.{value_at}
 use Rattle.flow_model.specs.declared.reply.CallWork.{CallWork}
 use Rattle.flow_model.specs.declared.reply.CallWork.TheVariants.{Script, Uses}
 use Rattle.flow_model.specs.declared.reply.StepCall.{StepCall}
-use Rattle.flow_commands.specs.PairFiles.{Pair, Reading, outputs, env, with_pairs}
+use Rattle.flow_commands.specs.PairFiles.{Pair, Reading, Refuses, outputs, env, with_pairs}
 use Rattle.flow_commands.specs.Replace.{replaced}
 use Rattle.flow_commands.specs.Shell.{words}
 use Rattle.flow_model.specs.Lines.{newline}
 use Rattle.step_host.specs.declared.launch.Launch.{Launch}
+use Rattle.step_host.specs.declared.watch.Refusal.{Refusal}
+use Rattle.step_host.specs.declared.watch.Refusal.TheVariants as refusal
 
 -- ---- files and folders
 
@@ -180,6 +182,20 @@ answered code (Some given) (Some set) = Exit code given set
 -- The answer of a program, by its exit code and the bytes in the file of its outputs and in that of its variables.
 abbrev pub ended : Option ℤ → List ℕ → List ℕ → Answer
 ended code given set = answered (code_of code) (accepted (outputs given)) (accepted (env set))
+
+-- Why one of the two files is refused: that of outputs, or else that of variables; where memory ran out, that is told.
+abbrev pub IsReason : List ℕ → List ℕ → Refusal → Type 0
+IsReason given set (refusal.NoEnd kind) = ⊥
+IsReason given set (refusal.NoLog kind) = ⊥
+IsReason given set (refusal.NoOutputs kind) = ⊥
+IsReason given set (refusal.NoVariables kind) = ⊥
+IsReason given set (refusal.Outputs fault) = Refuses fault (outputs given)
+IsReason given set (refusal.Variables fault) = (accepted (outputs given) ≢ None) × Refuses fault (env set)
+
+-- What a program is answered for is the answer of its files, or is bad output for this reason.
+abbrev pub Answers : Answer → List ℕ → List ℕ → Result Answer Refusal → Type 0
+Answers answer given set (Ok told) = (told ≡ answer) × (answer ≢ BadOutput)
+Answers answer given set (Err why) = (answer ≡ BadOutput) × IsReason given set why
 
 -- ---- what may fail
 

@@ -78,7 +78,9 @@ fn exit(status: ExitStatus, outputs: Mapping<Text>, env: Mapping<Text>) -> Answe
 }
 
 /// Why the file of variables is refused; one that is not is taken for one that there was no memory to read.
-fn variables_fault(alloc: Global, env: &[u8]) -> OutputFault {
+fn variables_fault(alloc: Global, env: &[u8]) -> OutputFault
+    ensures { Refuses result (env_of env.now) }
+{
     match read_env_file(alloc, env) {
         Ok(_) => OutputFault::Memory,
         Err(fault) => fault,
@@ -86,7 +88,9 @@ fn variables_fault(alloc: Global, env: &[u8]) -> OutputFault {
 }
 
 /// Why one of these files is refused: that of outputs, or else that of variables.
-pub(crate) fn refusal_of(alloc: Global, outputs: &[u8], env: &[u8]) -> Refusal {
+pub(crate) fn refusal_of(alloc: Global, outputs: &[u8], env: &[u8]) -> Refusal
+    ensures { spec.IsReason outputs.now env.now result }
+{
     match read_output_file(alloc, outputs) {
         Ok(_) => Refusal::Variables(variables_fault(alloc, env)),
         Err(fault) => Refusal::Outputs(fault),

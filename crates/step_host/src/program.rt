@@ -382,7 +382,7 @@ impl<R: Processes + Files<File = File>> ProgramHost<R> {
 
     /// An answer, or why it is bad output: one of these files is refused.
     fn told(&self, answer: Answer, outputs: &FileBytes, env: &FileBytes) -> Result<Answer, Refusal>
-        ensures { IfOk result (λ told. told ≡ answer) }
+        ensures { spec.Answers answer outputs.now.bytes.items env.now.bytes.items result }
     {
         if matches!(answer, Answer::BadOutput) {
             return Err(refusal_of(self.alloc, outputs.bytes(), env.bytes()));
