@@ -11,10 +11,8 @@ use Rattle.board_settled.specs.Alone.{ByAnswers}
 use Rattle.board_settled.specs.Records.{listed, recorded_answers, TellsSettled}
 use Rattle.board_settled.specs.Agrees.{IsSettled}
 use Rattle.board_settled.specs.Settled.{settled}
-use Rattle.status_table.specs.Play.{Play}
-use Rattle.status_table.specs.Runs.{StopsAt, after, after_from, new_play}
-use Rattle.status_table.specs.declared.fault.EventFault.{EventFault}
-use Rattle.step_host.specs.Replay.{IsRecorded, IsRefusedAt, recorded}
+use Rattle.status_table.specs.Runs.{after}
+use Rattle.step_host.specs.Replay.{IsRecorded, recorded}
 use Rattle.board_decisions.proofs.Lists.{and-left, and-right, and-both, same_some, no_some}
 use Rattle.step_host.specs.Script.{Line, IsListed}
 
@@ -52,11 +50,6 @@ is_given (line ∷ lines) leg step a h is = by ((line.0 == leg) && (line.1 == st
 
 -- ---- a record
 
--- a table on which all is new that stops at an entry refuses the list there
-pub stops_refused : (p : Plan) (start : Play) (es : List Entry) (stop : ℕ × EventFault) (left : Board) → start ≡ new_play p
-    → StopsAt start.plan start.board es stop.0 stop.1 left → IsRefusedAt p es stop
-stops_refused p start es stop left new at named = (left, subst (λ (x : Play). StopsAt x.plan x.board es stop.0 stop.1 left) new at)
-
 module _ (admits : StepCall → Answer → Type 0) (declines : StepCall → Type 0) (p : Plan) (es : List Entry)
     (own : (call : StepCall) (a : Answer) → admits call a ↔ IsRecorded p es call a)
     (alone : (call : StepCall) (one other : Answer) → admits call one → admits call other → one ≡ other)
@@ -78,10 +71,9 @@ module _ (admits : StepCall → Answer → Type 0) (declines : StepCall → Type
       by (Some x) e = absurd (silent call is x ((own call x).1 (is_listed (recorded p es) call.leg call.step x e)))
 
   -- what is told over the host of the list's answers is told of the list
-  pub tells_settled : (start : Play) (left seen : Board) (holds : Bool) → start ≡ new_play p → after_from start.plan start.board es ≡ Some left → seen ≡ left
+  pub tells_settled : (left seen : Board) (holds : Bool) → after p es ≡ Some left → seen ≡ left
       → ByAnswers admits declines (λ answers. IsTrue holds ↔ IsSettled (settled p answers) seen) → TellsSettled p es holds
-  tells_settled start left seen holds new ran lent tells b is =
-      let led : after p es ≡ Some left = subst (λ (x : Play). after_from x.plan x.board es ≡ Some left) new ran in
+  tells_settled left seen holds led lent tells b is =
       let same : seen ≡ b = lent ∙ same_some left b (sym led ∙ is) in
       subst (λ (x : Board). IsTrue holds ↔ IsSettled (settled p (recorded_answers p es)) x) same
       (tells (recorded_answers p es) (record { admitted = admitted; declined = declined }))

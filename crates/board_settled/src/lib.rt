@@ -7,7 +7,7 @@
 //!
 //! `is_settled` holds a board against it, run by run, job by job and leg by leg. Each leg is played by itself, on a copy of the
 //! board on which no run is told to stop and the legs stand among the ends in the order of their numbers: where all before it
-//! is settled, that copy shows the leg what is settled, and nothing else. `is_record_settled` does so by the answers of a record.
+//! is settled, that copy shows the leg what is settled, and nothing else. `replay_record` does so by the answers of a record.
 //!
 //! The other laws say in words of their own what holds of a plan in play; each is the contract of a function that does
 //! nothing. `legal_lists` has what holds of the board after every legal list of entries, and `decision_laws` what the texts of
@@ -42,4 +42,4 @@ pub mod settled_laws;
 pub mod variables;
 
 pub use check::is_settled;
-pub use record::is_record_settled;
+pub use record::replay_record;

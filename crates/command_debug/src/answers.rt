@@ -113,8 +113,7 @@ fn add_board<M: Reversible>(
         (λ words. TellsBoard debugger.now words debugger.now) told.old told.new) }
     ensures kept { OnErr result (told.new ≡ told.old) }
 {
-    let board = debugger.board()?;
-    let shown = board_text(alloc, &board)?;
+    let shown = board_text(alloc, debugger.lend())?;
     told.add(shown.as_bytes())
 }
 

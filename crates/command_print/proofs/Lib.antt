@@ -7,4 +7,5 @@ pub mod LookedAt
 pub mod OneAnswer
 pub mod OneTelling
 pub mod Places
+pub mod Settled
 pub mod Unplanned

@@ -1,30 +1,24 @@
 //! `actrun replay`: the board after a record, which is played again.
 
-ghost use Rattle.std.specs.Prelude.{◌≡◌, ◌++◌, Ok, Err, IfErr, IfOk, OnOk, string_bytes};
-ghost use Rattle.command_io.specs.Records.{GivesPlay, GivesPrinted};
-ghost use Rattle.command_print.specs.Replay.{GivesBoard, GivesBoth, GivesBothOf, GivesSettled, ReplayTells, SettledTells, ShowsReplay, ShowsSettled, settled_line};
+ghost use Rattle.std.specs.Prelude.{◌≡◌, ◌++◌, OnOk, string_bytes};
+ghost use Rattle.flow_model.specs.Rules.{IsPlan};
+ghost use Rattle.command_io.specs.Records.{GivesPrinted};
+ghost use Rattle.command_print.specs.Replay.{GivesBoard, GivesBoth, GivesBothOf, ReplayTells, SettledTells, ShowsReplay, ShowsSettled, settled_line};
 
 use crate::looked::record_looked;
+use board_settled::replay_record;
 use command_io::error::CommandError;
-use command_io::records::{load_error, play_record};
+use command_io::records::{load_error, stop_error};
 use command_io::room::show_room;
 use command_io::runs::runs_status;
 use command_io::stream::{Sink, Source};
 use command_io::tell::{refuse_source, tell_printed};
 use flat_board::FlatBoard;
-use flow_model::{CheckedPlan, Duplicate, Entry};
+use flow_model::{CheckedPlan, Entry};
 use plan_text::{board_text, load_record};
+use status_table::board_laws::legal_lists_are_short;
 use std::alloc::{AllocError, Global};
-use worker_pool::settled_check;
-
-/// The plan in play after entries.
-fn played(alloc: Global, plan: CheckedPlan, entries: &[Entry]) -> Result<FlatBoard, CommandError>
-    ensures { GivesPlay plan entries.now result }
-{
-    let mut board = FlatBoard::from_plan(alloc, plan)?;
-    play_record(alloc, &mut board, entries)?;
-    Ok(board)
-}
+use step_host::PlayBoard;
 
 /// The plan of a record in play after its entries. Its text is let go.
 fn replayed(alloc: Global, text: Vec<u8>) -> Result<FlatBoard, CommandError>
@@ -42,49 +36,29 @@ fn shown_replay(alloc: Global, text: Vec<u8>) -> Result<(Vec<u8>, u8), CommandEr
     Ok((shown.into_bytes(), runs_status(play.board())))
 }
 
-/// Whether the board after entries that were played is all of what is settled.
-fn checked(alloc: Global, plan: &CheckedPlan, entries: &[Entry]) -> Result<bool, CommandError>
-    ensures { GivesSettled plan.now entries.now result }
-{
-    match settled_check(alloc, plan, entries) {
-        Ok(yes) => Ok(yes),
-        // none of them is refused, so there is no memory
-        Err(_) => Err(CommandError::Memory),
-    }
-}
-
-/// A plan in play with what was found of it, or why nothing was; the plan is let go then.
-fn with_found(
-    play: FlatBoard,
-    found: Result<bool, CommandError>,
-) -> Result<(FlatBoard, bool), CommandError>
-    ensures ok { IfOk result (λ both. (both.0 ≡ play) × (found ≡ Ok both.1)) }
-    ensures err { IfErr result (λ error. found ≡ Err error) }
-{
-    match found {
-        Ok(yes) => Ok((play, yes)),
-        Err(error) => Err(error),
-    }
-}
-
-/// The plan in play after entries, and whether its board is all of what is settled.
-fn played_and_checked(
+/// The board after entries, and whether it is all of what is settled; or which entry is refused.
+#[tactic(auto, using(crate::proofs::Settled::has_settled_line, crate::proofs::Settled::stopped_settled))]
+fn checked(
     alloc: Global,
     plan: &CheckedPlan,
     entries: &[Entry],
-) -> Result<(FlatBoard, bool), CommandError>
+) -> Result<(PlayBoard, bool), CommandError>
+    requires { IsPlan plan.now }
     ensures { GivesBoth plan.now entries.now result }
 {
-    let play = played(alloc, plan.copy(alloc)?, entries)?;
-    with_found(play, checked(alloc, plan, entries))
+    legal_lists_are_short();
+    match replay_record(alloc, plan, entries) {
+        Ok(both) => Ok(both),
+        Err((place, fault)) => Err(stop_error(place, fault)),
+    }
 }
 
-/// The plan of a record in play after its entries, and whether its board is all of what is settled.
-fn replayed_and_checked(alloc: Global, text: &[u8]) -> Result<(FlatBoard, bool), CommandError>
+/// The board after the entries of a record, and whether it is all of what is settled.
+fn replayed_and_checked(alloc: Global, text: &[u8]) -> Result<(PlayBoard, bool), CommandError>
     ensures { GivesBothOf text.now result }
 {
     match load_record(alloc, text) {
-        Ok((plan, entries)) => played_and_checked(alloc, &plan, entries.as_slice()),
+        Ok((plan, entries)) => checked(alloc, &plan, entries.as_slice()),
         Err(fault) => Err(load_error(fault)),
     }
 }

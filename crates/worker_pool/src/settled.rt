@@ -5,7 +5,7 @@ ghost use Rattle.worker_pool.specs.Checks.{ChecksSettled, IsUnplayed};
 
 use crate::fault::PoolFault;
 use crate::stop::Stop;
-use board_settled::is_record_settled;
+use board_settled::replay_record;
 use flow_model::{CheckedPlan, Duplicate, Entry};
 use status_table::EventFault;
 use std::alloc::{AllocError, Global};
@@ -51,8 +51,11 @@ pub fn settled_check(
 ) -> Result<bool, PoolFault>
     ensures { ChecksSettled plan.now entries.now result }
 {
-    match is_record_settled(alloc, plan, entries) {
-        Ok(yes) => Ok(yes),
+    match replay_record(alloc, plan, entries) {
+        Ok((board, yes)) => {
+            drop(board);
+            Ok(yes)
+        },
         Err((place, fault)) => Err(unplayed(alloc, entries, place, fault)),
     }
 }
