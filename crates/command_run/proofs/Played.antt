@@ -1,5 +1,5 @@
 -- What one thread or several workers played is what a run tells of.
-use Rattle.std.proofs.Common.{◌≡◌, ℕ, ◌⊎◌, inl, inr, true, List, take, Option, Some, None, Result, Ok, Err, IfOk, IfErr, refl, subst, sym, arith}
+use Rattle.std.proofs.Common.{◌≡◌, ℕ, ◌⊎◌, inl, inr, true, List, take, Option, Some, None, Result, Ok, Err, IfOk, IfErr, [], append-nil, refl, subst, sym, arith}
 use Rattle.flow_model.specs.Answer.{is_well_formed}
 use Rattle.flow_model.specs.Sound.{Each}
 use Rattle.flow_model.specs.declared.board.Board.{Board}
@@ -19,6 +19,7 @@ use Rattle.worker_pool.specs.Alone.{EndsAlone, EndsSo, PlayedAlone}
 use Rattle.worker_pool.specs.Fault.{IsUnanswered, StopsAlone}
 use Rattle.worker_pool.specs.History.{AreOf}
 use Rattle.worker_pool.specs.Many.{AreBelow, AreNoWorkers, EndsByMany, PlayedByMany, StopsByMany}
+use Rattle.worker_pool.specs.Told.{Begins, WasTold, WasToldAll}
 use Rattle.worker_pool.specs.declared.fault.PoolFault.{PoolFault}
 use Rattle.worker_pool.specs.declared.fault.PoolFault.TheVariants as pool
 use Rattle.worker_pool.specs.declared.played.Ending.{Ending}
@@ -161,3 +162,15 @@ pub many_stop_played : (admits : StepCall → Answer → Type 0) (declines : Ste
     → IfErr r (StopsPlayed p workers)
 many_stop_played admits declines p workers (Ok played) hides only h = tt
 many_stop_played admits declines p workers (Err fault) hides only h = many_stopped admits declines p workers (Err fault) fault hides refl only h
+
+-- ---- what a recorder was told
+
+begins_itself : (es : List Entry) → Begins es es
+begins_itself es = ([], sym (append-nil es))
+
+pub told_of_all : (told : List Entry → Type 0) (r : Result Played PoolFault) → WasToldAll told r → WasTold told r
+told_of_all told (Ok played) h = (played.history, h, refl)
+told_of_all told (Err pool.Workers) h = absurd h
+told_of_all told (Err (pool.Host l step f es)) h = (es, h, begins_itself es)
+told_of_all told (Err (pool.Mismatch es)) h = (es, h, begins_itself es)
+told_of_all told (Err (pool.Memory es)) h = (es, h, begins_itself es)

@@ -1,5 +1,5 @@
 -- What is played of a plan.
-use Rattle.std.specs.Prelude.{◌≡◌, ℕ, ◌⊎◌, true, List, Option, Some, None, Result, Ok, Err}
+use Rattle.std.specs.Prelude.{◌≡◌, ℕ, ◌⊎◌, true, List, [], Option, Some, None, Result, Ok, Err}
 use Rattle.command_io.specs.declared.stop.PlayStop.{PlayStop}
 use Rattle.command_io.specs.declared.stop.PlayStop.TheVariants as stop
 use Rattle.flow_model.specs.Answer.{is_well_formed}
@@ -11,6 +11,7 @@ use Rattle.flow_model.specs.declared.event.Event.{Event}
 use Rattle.flow_model.specs.declared.event.Event.TheVariants as event
 use Rattle.flow_model.specs.declared.plan.Plan.{Plan}
 use Rattle.flow_model.specs.declared.reply.StepCall.{StepCall}
+use Rattle.command_run.specs.Growing.{WereAccepted}
 use Rattle.command_run.specs.PlanMasks.{plan_masks}
 use Rattle.command_run.specs.declared.playing.Playing.{Playing}
 use Rattle.status_table.specs.Moves.{finished, stalled}
@@ -107,3 +108,12 @@ pub record IsPlaying (plan : Plan) (workers : ℕ) (playing : Playing) : Type 0 
 abbrev pub ComesTo : Plan → ℕ → Option Playing → Type 0
 ComesTo plan workers (Some playing) = IsPlaying plan workers playing
 ComesTo plan workers None = AreNoWorkers workers
+
+-- These entries were accepted in what was played; none, where there are not so many workers.
+abbrev pub WereAcceptedIn : Option Playing → List Entry → Type 0
+WereAcceptedIn (Some playing) es = WereAccepted playing.history (stop_of playing.end) es
+WereAcceptedIn None es = es ≡ []
+
+-- A recorder was told of exactly these.
+abbrev pub WasToldPlay : (List Entry → Type 0) → Option Playing → Type 0
+WasToldPlay told come = (es : List Entry) × told es × WereAcceptedIn come es

@@ -1,9 +1,11 @@
 //! What is played of a plan.
 
-ghost use Rattle.std.specs.Prelude.{◌≡◌, ℕ, [], IfErr, IfOk};
+ghost use Rattle.std.specs.Prelude.{◌≡◌, ℕ, [], Err, IfErr, IfOk, List};
+ghost use Rattle.flow_model.specs.declared.event.Entry.{Entry};
 ghost use Rattle.flow_model.specs.declared.plan.Plan.{Plan};
 ghost use Rattle.command_run.specs.PlanMasks.{plan_masks};
 ghost use Rattle.command_run.specs.Playing as spec;
+ghost use Rattle.worker_pool.specs.Told.{IsAnswerOf, WasTold};
 
 use command_io::stop::PlayStop;
 use flow_model::{CheckedPlan, Entry, Sequence};
@@ -35,7 +37,7 @@ impl Playing {
 }
 
 /// Plays a plan by so many workers, and tells a recorder of each entry. One plays in the thread of the program, so that the same
-/// answers make the same history.
+/// answers make the same history. The recorder is handed back.
 fn play_by<R: Threads + Wait + Sync, H: StepHost, W: Recorder + Send + Drop>(
     rt: &R,
     alloc: Global,
@@ -43,11 +45,12 @@ fn play_by<R: Threads + Wait + Sync, H: StepHost, W: Recorder + Send + Drop>(
     host: &H,
     workers: u64,
     recorder: W,
-) -> Result<Played, PoolFault>
+) -> (Result<Played, PoolFault>, W)
     requires masks { spec.MasksAnswers (plan_masks plan.now) (H.admits host.now) }
     requires told { W.told recorder [] }
-    ensures played { IfOk result (spec.EndsPlayed plan.now workers) }
-    ensures stopped { IfErr result (spec.StopsPlayed plan.now workers) }
+    ensures played { IfOk result.0 (spec.EndsPlayed plan.now workers) }
+    ensures stopped { IfErr result.0 (spec.StopsPlayed plan.now workers) }
+    ensures told { WasTold (W.told result.1) result.0 }
 {
     if workers == 1 {
         return play_alone_recorded(alloc, plan, host, recorder);
@@ -57,8 +60,10 @@ fn play_by<R: Threads + Wait + Sync, H: StepHost, W: Recorder + Send + Drop>(
 
 /// What was played until a play was stopped, if there were so many workers.
 fn stopped(fault: PoolFault) -> Option<Playing>
-    ensures { (plan : Plan) (workers : ℕ) → spec.StopsPlayed plan workers fault
+    ensures comes { (plan : Plan) (workers : ℕ) → spec.StopsPlayed plan workers fault
         → spec.ComesTo plan workers result }
+    ensures accepted { (entries : List Entry) → IsAnswerOf entries (Err fault)
+        → spec.WereAcceptedIn result entries }
 {
     match fault {
         PoolFault::Workers => None,
@@ -77,7 +82,7 @@ fn stopped(fault: PoolFault) -> Option<Playing>
     }
 }
 
-/// What is played of a plan by so many workers, if there are so many. A recorder is told of each entry.
+/// What is played of a plan by so many workers, if there are so many. A recorder is told of each entry, and handed back.
 pub(crate) fn played_by<R: Threads + Wait + Sync, H: StepHost, W: Recorder + Send + Drop>(
     rt: &R,
     alloc: Global,
@@ -85,16 +90,21 @@ pub(crate) fn played_by<R: Threads + Wait + Sync, H: StepHost, W: Recorder + Sen
     host: &H,
     workers: u64,
     recorder: W,
-) -> Option<Playing>
+) -> (Option<Playing>, W)
     requires masks { spec.MasksAnswers (plan_masks plan.now) (H.admits host.now) }
     requires told { W.told recorder [] }
-    ensures { spec.ComesTo plan.now workers result }
+    ensures comes { spec.ComesTo plan.now workers result.0 }
+    ensures told { spec.WasToldPlay (W.told result.1) result.0 }
 {
-    match play_by(rt, alloc, plan, host, workers, recorder) {
-        Ok(played) => Some(Playing {
-            history: played.history,
-            end: Ok(played.left),
-        }),
-        Err(fault) => stopped(fault),
+    let (come, recorder) = play_by(rt, alloc, plan, host, workers, recorder);
+    match come {
+        Ok(played) => {
+            let playing = Playing {
+                history: played.history,
+                end: Ok(played.left),
+            };
+            (Some(playing), recorder)
+        },
+        Err(fault) => (stopped(fault), recorder),
     }
 }

@@ -1,6 +1,7 @@
 mod Accepted
 mod Agreeing
 mod Calls
+mod Checked
 mod Checking
 pub mod Crosses
 mod Decided

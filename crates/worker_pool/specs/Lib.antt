@@ -16,4 +16,5 @@ pub mod Review
 pub mod Settles
 pub mod Stalls
 pub mod Stop
+pub mod Told
 pub mod Worker

@@ -8,6 +8,7 @@ use Rattle.ready_queue.specs.Names.{Name}
 use Rattle.ready_queue.specs.Records.{IsWhole, KeepsNames, keepers}
 use Rattle.ready_queue.specs.declared.pass.Pass.{Pass}
 use Rattle.worker_pool.specs.Log.{Answered, HasSameCalls}
+use Rattle.worker_pool.specs.declared.many.Room.{Room}
 use Rattle.worker_pool.specs.declared.many.Start.{Start}
 use Rattle.worker_pool.specs.declared.worker.Worker.{Worker}
 
@@ -40,6 +41,14 @@ module _ {N : Type 0} where
 -- There is nothing yet, and room for so many.
 abbrev pub HasRoomFor : {X : Type 0} → ℕ → Vec X Global → Type 0
 HasRoomFor n xs = (xs.items ≡ []) × (n ≤ vec_capacity xs)
+
+-- So many workers have all but a board: no pass is out but the first, and there is room for them, and for what each of them logs.
+pub record HasRoom {N : Type 0} (workers : ℕ) (room : Room N) : Type 0 where
+  pub pass : IsPassOf room.queue room.pass
+  pub whole : IsWhole (records_of room.pass)
+  pub crew : HasRoomFor workers room.crew
+  pub entries : HasRoomFor workers room.logs.entries
+  pub calls : HasRoomFor workers room.logs.calls
 
 module _ {N T U W : Type 0} where
   -- So many workers can begin: there is a share for each, no pass is out but the first, and there is room for the workers, and for

@@ -2,12 +2,13 @@
 
 ghost use Rattle.std.specs.Prelude.{◌≡◌, ◌≤◌, [], Err, IfOk, IfErr, IfSome};
 ghost use Rattle.std.specs.List.{All};
-ghost use Rattle.status_table.specs.Runs.{new_board};
+ghost use Rattle.status_table.specs.Runs.{new_board, new_play};
 ghost use Rattle.worker_pool.specs.Log.{HaltsFor};
 ghost use Rattle.worker_pool.specs.Many.{AreNoWorkers, EndsByMany, StopsByMany};
 ghost use Rattle.worker_pool.specs.Settles.{SettlesAll};
 ghost use Rattle.worker_pool.specs.Stalls.{HasNoJobGroup};
-ghost use Rattle.worker_pool.specs.Worker.{IsFit, IsReady, StaysFit, crew_keepers};
+ghost use Rattle.worker_pool.specs.Told.{WasTold};
+ghost use Rattle.worker_pool.specs.Worker.{HasRoom, IsFit, IsReady, StaysFit, crew_keepers};
 ghost use Rattle.worker_pool.specs.declared.played.Ending.TheVariants as ending;
 
 use crate::bell::Bell;
@@ -57,6 +58,36 @@ fn play_each<
     thread::for_each_mut(rt, workers, threads, &each);
 }
 
+/// What the workers of a play need beside their board: the tickets, the first pass, and room for the workers and for what they log.
+struct Room<N: Names> {
+    queue: TicketQueue,
+    pass: Pass,
+    crew: Vec<Worker<N>>,
+    logs: Logs,
+}
+
+/// Takes the memory that so many workers on a table need beside it.
+fn make_room<N: Names, T: Reversible>(
+    alloc: Global,
+    table: &T,
+    workers: u8,
+) -> Result<Room<N>, AllocError>
+    ensures { IfOk result (HasRoom workers) }
+{
+    rules_hold();
+    let count = usize::from(workers);
+    let legs = count_legs(table.lend().runs.as_slice());
+    let (queue, pass) = TicketQueue::new(alloc, legs.max(1))?;
+    let logs = Logs::with_room(alloc, count)?;
+    let crew = Vec::with_capacity(alloc, count)?;
+    Ok(Room {
+        queue,
+        pass,
+        crew,
+        logs,
+    })
+}
+
 /// What a play begins with: what its workers have in common and their shares, the first pass, and room for the workers and for
 /// what they log.
 struct Start<N: Names, T: Reversible + Send, W: Recorder + Send> {
@@ -67,27 +98,32 @@ struct Start<N: Names, T: Reversible + Send, W: Recorder + Send> {
     logs: Logs,
 }
 
-/// Takes all memory that is needed before the workers begin.
+/// Takes all memory that is needed before the workers begin. Where there is none, the recorder comes back, who was told of nothing.
 fn prepare<N: Names, T: Reversible + Send + Drop, W: Recorder + Send + Drop>(
     alloc: Global,
     fresh: (T, W),
     blank: Blank,
     workers: u8,
-) -> Result<Start<N, T, W>, AllocError>
+) -> Result<Start<N, T, W>, W>
     requires fresh { T.board fresh.0 ≡ new_board (T.plan fresh.0) }
     requires told { W.told fresh.1 [] }
     requires name { blank.name ≡ N.name }
     requires parts { (blank.parts ≡ N.parts) × (blank.parts ≡ workers) }
     requires number { (1 ≤ workers) × (workers ≤ 16) }
-    ensures { IfOk result (IsReady workers) }
+    ensures ready { IfOk result (IsReady workers) }
+    ensures told { IfErr result (λ recorder. W.told recorder []) }
 {
-    rules_hold();
-    let count = usize::from(workers);
-    let legs = count_legs(fresh.0.lend().runs.as_slice());
-    let (queue, pass) = TicketQueue::new(alloc, legs.max(1))?;
-    let logs = Logs::with_room(alloc, count)?;
-    let crew = Vec::with_capacity(alloc, count)?;
-    match SharedBoard::recorded(alloc, fresh, blank, workers) {
+    let (table, recorder) = fresh;
+    let Ok(room) = make_room::<N, T>(alloc, &table, workers) else {
+        return Err(recorder);
+    };
+    let Room {
+        queue,
+        pass,
+        crew,
+        logs,
+    } = room;
+    match SharedBoard::recorded(alloc, (table, recorder), blank, workers) {
         Ok((board, shares)) => {
             let bell = Bell::new();
             let pool = Pool {
@@ -104,14 +140,14 @@ fn prepare<N: Names, T: Reversible + Send + Drop, W: Recorder + Send + Drop>(
                 logs,
             })
         },
-        Err(fault) => {
+        Err(failed) => {
             crew.destroy_empty();
-            Err(fault)
+            Err(failed.value)
         },
     }
 }
 
-/// Plays by so many workers on a table that they share. The other table plays their history again.
+/// Plays by so many workers on a table that they share. The other table plays their history again. The recorder is handed back.
 fn play_start<
     N: Names + Send + Sync,
     T: Reversible + Send + Drop,
@@ -124,14 +160,15 @@ fn play_start<
     again: PlayBoard,
     host: &H,
     workers: u8,
-) -> Result<Played, PoolFault>
+) -> (Result<Played, PoolFault>, W)
     requires fresh { again.board ≡ new_board again.plan }
     requires number { (1 ≤ workers) × (workers ≤ 16) }
     requires parts { N.parts ≡ workers }
     requires ready { IsReady workers start }
-    ensures played { IfOk result (EndsByMany (H.admits host.now) again.plan workers) }
-    ensures stopped { IfErr result
+    ensures played { IfOk result.0 (EndsByMany (H.admits host.now) again.plan workers) }
+    ensures stopped { IfErr result.0
         (StopsByMany (H.admits host.now) (H.declines host.now) again.plan workers) }
+    ensures told { WasTold (W.told result.1) result.0 }
 {
     let Start {
         pool,
@@ -148,14 +185,16 @@ fn play_start<
     let Pool { board, queue, .. } = pool;
     let Gathered { shares, logs } = back;
     let tickets = queue.close(pass).put;
-    let (_, history) = board.close(shares);
+    let (_, history) = board.finish(shares);
+    let (entries, recorder) = history.into_parts();
     let handed = Handed {
         workers,
         logs,
         halt,
         tickets,
     };
-    settle(alloc, again, host, &handed, history)
+    let come = settle(alloc, again, host, &handed, entries);
+    (come, recorder)
 }
 
 /// The boards of a play, on which all is new: one that the workers share, with its recorder and the ledger of their shares, and one
@@ -167,7 +206,7 @@ struct Boards<T, W> {
 }
 
 /// Plays by so many workers, whose shares are of the ledger that the type names, on a table that they share. The other table plays
-/// their history again.
+/// their history again. Without memory nothing is played. The recorder is handed back.
 fn play_named<
     N: Names + Send + Sync,
     T: Reversible + Send + Drop,
@@ -180,28 +219,41 @@ fn play_named<
     boards: Boards<T, W>,
     host: &H,
     workers: u8,
-) -> Result<Result<Played, PoolFault>, AllocError>
+) -> Result<(Result<Played, PoolFault>, W), W>
     requires fresh { T.board boards.fresh.0 ≡ new_board (T.plan boards.fresh.0) }
     requires told { W.told boards.fresh.1 [] }
     requires again { boards.again.board ≡ new_board boards.again.plan }
     requires name { boards.blank.name ≡ N.name }
     requires parts { (boards.blank.parts ≡ N.parts) × (boards.blank.parts ≡ workers) }
     requires number { (1 ≤ workers) × (workers ≤ 16) }
-    ensures played { IfOk result (λ come. IfOk come
+    ensures played { IfOk result (λ come. IfOk come.0
         (EndsByMany (H.admits host.now) boards.again.plan workers)) }
-    ensures stopped { IfOk result (λ come. IfErr come
+    ensures stopped { IfOk result (λ come. IfErr come.0
         (StopsByMany (H.admits host.now) (H.declines host.now) boards.again.plan workers)) }
+    ensures told { IfOk result (λ come. WasTold (W.told come.1) come.0) }
+    ensures unplayed { IfErr result (λ recorder. W.told recorder []) }
 {
     let Boards {
         fresh,
         blank,
         again,
     } = boards;
-    let start = prepare::<N, T, W>(alloc, fresh, blank, workers)?;
-    Ok(play_start(rt, start, again, host, workers))
+    match prepare::<N, T, W>(alloc, fresh, blank, workers) {
+        Ok(start) => Ok(play_start(rt, start, again, host, workers)),
+        Err(recorder) => Err(recorder),
+    }
 }
 
-/// Plays a plan by so many workers, each in a thread of its own where one can be made.
+/// Two boards of a plan, on which all is new.
+fn two_boards(alloc: Global, plan: &CheckedPlan) -> Result<(PlayBoard, PlayBoard), AllocError>
+    ensures { IfOk result (λ both. (both.0 ≡ new_play plan.now) × (both.1 ≡ new_play plan.now)) }
+{
+    let (table, again) = (PlayBoard::new(alloc, plan)?, PlayBoard::new(alloc, plan)?);
+    Ok((table, again))
+}
+
+/// Plays a plan by so many workers, each in a thread of its own where one can be made. Without memory nothing is played. The
+/// recorder is handed back.
 fn play_counted<R: Threads + Wait + Sync, H: StepHost + Sync, W: Recorder + Send + Drop>(
     rt: &R,
     alloc: Global,
@@ -209,14 +261,19 @@ fn play_counted<R: Threads + Wait + Sync, H: StepHost + Sync, W: Recorder + Send
     host: &H,
     workers: u8,
     recorder: W,
-) -> Result<Result<Played, PoolFault>, AllocError>
+) -> Result<(Result<Played, PoolFault>, W), W>
     requires told { W.told recorder [] }
     requires number { (1 ≤ workers) × (workers ≤ 16) }
-    ensures played { IfOk result (λ come. IfOk come (EndsByMany (H.admits host.now) plan.now workers)) }
-    ensures stopped { IfOk result (λ come. IfErr come
+    ensures played { IfOk result (λ come. IfOk come.0
+        (EndsByMany (H.admits host.now) plan.now workers)) }
+    ensures stopped { IfOk result (λ come. IfErr come.0
         (StopsByMany (H.admits host.now) (H.declines host.now) plan.now workers)) }
+    ensures told { IfOk result (λ come. WasTold (W.told come.1) come.0) }
+    ensures unplayed { IfErr result (λ recorder. W.told recorder []) }
 {
-    let (table, again) = (PlayBoard::new(alloc, plan)?, PlayBoard::new(alloc, plan)?);
+    let Ok((table, again)) = two_boards(alloc, plan) else {
+        return Err(recorder);
+    };
     let boards = Boards {
         fresh: (table, recorder),
         blank: Blank::new(u64::from(workers)),
@@ -250,10 +307,11 @@ pub fn play<R: Threads + Wait + Sync, H: StepHost + Sync>(
         → IfOk result (λ played. played.ending ≡ ending.Done) }
     ensures settled { IfOk result (SettlesAll (H.admits host.now) plan.now) }
 {
-    play_recorded(rt, alloc, plan, host, workers, ())
+    play_recorded(rt, alloc, plan, host, workers, ()).0
 }
 
-/// Plays a plan by 1 to 16 workers, as `play` does, and tells a recorder of each entry as soon as it is accepted.
+/// Plays a plan by 1 to 16 workers, as `play` does, and tells a recorder of each entry as soon as it is accepted. The recorder is
+/// handed back, which was told of exactly the history; where the play was stopped, of what was checked and of all that followed.
 ///
 /// # Errors
 ///
@@ -265,18 +323,19 @@ pub fn play_recorded<R: Threads + Wait + Sync, H: StepHost + Sync, W: Recorder +
     host: &H,
     workers: u64,
     recorder: W,
-) -> Result<Played, PoolFault>
+) -> (Result<Played, PoolFault>, W)
     requires told { W.told recorder [] }
-    ensures number { AreNoWorkers workers → result ≡ Err PoolFault.Workers }
-    ensures played { IfOk result (EndsByMany (H.admits host.now) plan.now workers) }
-    ensures stopped { IfErr result
+    ensures number { AreNoWorkers workers → result.0 ≡ Err PoolFault.Workers }
+    ensures played { IfOk result.0 (EndsByMany (H.admits host.now) plan.now workers) }
+    ensures stopped { IfErr result.0
         (StopsByMany (H.admits host.now) (H.declines host.now) plan.now workers) }
     ensures groups { HasNoJobGroup plan.now
-        → IfOk result (λ played. played.ending ≡ ending.Done) }
-    ensures settled { IfOk result (SettlesAll (H.admits host.now) plan.now) }
+        → IfOk result.0 (λ played. played.ending ≡ ending.Done) }
+    ensures settled { IfOk result.0 (SettlesAll (H.admits host.now) plan.now) }
+    ensures told { WasTold (W.told result.1) result.0 }
 {
     if workers == 0 || workers > 16 {
-        return Err(PoolFault::Workers);
+        return (Err(PoolFault::Workers), recorder);
     }
     stalled_only_by_groups();
     plays_leave_what_is_settled(host);
@@ -284,6 +343,6 @@ pub fn play_recorded<R: Threads + Wait + Sync, H: StepHost + Sync, W: Recorder +
     let _ = plan.plan();
     match play_counted(rt, alloc, plan, host, workers as u8, recorder) {
         Ok(come) => come,
-        Err(_) => Err(Stop::Memory.after(Vec::new(alloc))),
+        Err(recorder) => (Err(Stop::Memory.after(Vec::new(alloc))), recorder),
     }
 }

@@ -2,6 +2,7 @@ use Rattle.std.proofs.Common.{sym, subst}
 use Rattle.std.proofs.lemmas.Result.{IfOk-weaker}
 use Rattle.flow_model.specs.Rules.{IsPlan}
 use Rattle.worker_pool.specs.Many.{StopsByMany}
+use Rattle.worker_pool.proofs.Checked.{told_of_nothing}
 use Rattle.worker_pool.proofs.Reviews.{none_played}
 use Rattle.worker_pool.proofs.many.play_recorded.Goals as goal
 
@@ -14,6 +15,10 @@ returns-in-Err-clause-stopped g c =
 
 pub returns-in-Ok-clause-settled : goal.returns-in-Ok-clause-settled
 returns-in-Ok-clause-settled g c =
-    IfOk-weaker c.in-Ok.come _ _ (λ played h.
+    IfOk-weaker c.in-Ok.come.0 _ _ (λ played h.
     c.plays_leave_what_is_settled.ensures.many c.args.plan.now c.args.workers played
     (subst IsPlan c.plan.ensures.same c.plan.ensures.sound) h) c.in-Ok.ensures.played
+
+pub returns-in-Err-clause-told : goal.returns-in-Err-clause-told
+returns-in-Err-clause-told g c =
+    told_of_nothing (g.W.Recorder.told c.in-Err.recorder) c.new.result.items c.after.result c.in-Err.ensures.unplayed c.new.ensures.items c.after.ensures
