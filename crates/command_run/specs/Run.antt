@@ -97,12 +97,17 @@ pub record TellsPlaying (keep : Keeps) (gives : Gives) (plan : Plan) (history : 
   pub keeping : keep (record_text plan history) out' kept
   pub told : TellsHistory gives plan history stop kept out out' err err' status ⊎ TellsMemory out out' err err' status
 
--- What is told of some play of a plan by so many workers.
-pub record TellsPlay (keep : Keeps) (gives : Gives) (plan : Plan) (workers : ℕ) (out out' err err' : Stream) (status : ℕ) : Type 0 where
+-- What is known of the record that grew while a plan was played, by what was played.
+abbrev pub Grows : Type 1
+Grows = Plan → List Entry → Option PlayStop → Type 0
+
+-- What is told of some play of a plan by so many workers, while which its record grew so.
+pub record TellsPlay (grows : Grows) (keep : Keeps) (gives : Gives) (plan : Plan) (workers : ℕ) (out out' err err' : Stream) (status : ℕ) : Type 0 where
   pub history : List Entry
   pub stop : Option PlayStop
   pub played : IsPlayed plan workers history
   pub leaves : Leaves plan history stop
+  pub grown : grows plan history stop
   pub told : TellsPlaying keep gives plan history stop out out' err err' status
 
 -- Nothing is played, since there are not so many workers.
@@ -110,9 +115,9 @@ abbrev pub TellsWorkers : ℕ → Stream → Stream → Stream → Stream → �
 TellsWorkers workers out out' err err' status = AreNoWorkers workers × IsKept out out' × SaysStop Workers err err' status
 
 -- What `run` tells of a plan.
-abbrev pub RunsPlan : Keeps → Gives → Plan → ℕ → Stream → Stream → Stream → Stream → ℕ → Type 0
-RunsPlan keep gives plan workers out out' err err' status =
-    TellsPlay keep gives plan workers out out' err err' status ⊎ TellsWorkers workers out out' err err' status
+abbrev pub RunsPlan : Grows → Keeps → Gives → Plan → ℕ → Stream → Stream → Stream → Stream → ℕ → Type 0
+RunsPlan grows keep gives plan workers out out' err err' status =
+    TellsPlay grows keep gives plan workers out out' err err' status ⊎ TellsWorkers workers out out' err err' status
 
 -- The texts are a file of stubs and a plan.
 pub record AreTexts (stubs : Content) (bytes : List ℕ) (plan : Plan) : Type 0 where
@@ -146,12 +151,12 @@ AreNotPlayed paths stubs bytes (Refused n fault) = ⊥
 AreNotPlayed paths stubs bytes Words = ⊥
 
 -- What is told of a plan and stubs that texts are, where programs start in the folder of this path.
-pub record RunsLoaded (keep : Keeps) (files : Files) (paths : Paths) (stubs : Content) (bytes : List ℕ) (workers : ℕ) (out out' err err' : Stream) (status : ℕ) : Type 0 where
+pub record RunsLoaded (grows : Grows) (keep : Keeps) (files : Files) (paths : Paths) (stubs : Content) (bytes : List ℕ) (workers : ℕ) (out out' err err' : Stream) (status : ℕ) : Type 0 where
   pub plan : Plan
   pub texts : AreTexts stubs bytes plan
   pub work : List ℕ
   pub path : paths (Some work)
-  pub runs : RunsPlan keep (in_folder files work) plan workers out out' err err' status
+  pub runs : RunsPlan grows keep (in_folder files work) plan workers out out' err err' status
 
 -- Texts are not played, and why is told.
 pub record RefusesTexts (paths : Paths) (stubs : Content) (bytes : List ℕ) (out out' err err' : Stream) (status : ℕ) : Type 0 where
@@ -160,9 +165,9 @@ pub record RefusesTexts (paths : Paths) (stubs : Content) (bytes : List ℕ) (ou
   pub told : TellsError error out out' err err' status
 
 -- What is told of texts.
-abbrev pub RunsTexts : Keeps → Files → Paths → Content → List ℕ → ℕ → Stream → Stream → Stream → Stream → ℕ → Type 0
-RunsTexts keep files paths stubs bytes workers out out' err err' status =
-    RunsLoaded keep files paths stubs bytes workers out out' err err' status ⊎ RefusesTexts paths stubs bytes out out' err err' status
+abbrev pub RunsTexts : Grows → Keeps → Files → Paths → Content → List ℕ → ℕ → Stream → Stream → Stream → Stream → ℕ → Type 0
+RunsTexts grows keep files paths stubs bytes workers out out' err err' status =
+    RunsLoaded grows keep files paths stubs bytes workers out out' err err' status ⊎ RefusesTexts paths stubs bytes out out' err err' status
 
 -- The file of stubs is read to its end, and then the plan; or one of them is not.
 abbrev pub AreBothRead : File → File → Stream → Stream → Result (Content × List ℕ) SourceFault → Type 0
@@ -171,10 +176,10 @@ AreBothRead stubs stubs' input input' (Err why) =
     IsRead stubs.source stubs'.source (Err why) ⊎ ((content : Content) × IsContent stubs stubs' content × IsRead input input' (Err why))
 
 -- Both were read, and this is told of them.
-pub record TellsRead (keep : Keeps) (files : Files) (paths : Paths) (workers : ℕ) (stubs stubs' : File) (input input' out out' err err' : Stream) (status : ℕ) : Type 0 where
+pub record TellsRead (grows : Grows) (keep : Keeps) (files : Files) (paths : Paths) (workers : ℕ) (stubs stubs' : File) (input input' out out' err err' : Stream) (status : ℕ) : Type 0 where
   pub both : Content × List ℕ
   pub read : AreBothRead stubs stubs' input input' (Ok both)
-  pub told : RunsTexts keep files paths both.0 both.1 workers out out' err err' status
+  pub told : RunsTexts grows keep files paths both.0 both.1 workers out out' err err' status
 
 -- One of them was not, and why is told.
 pub record TellsUnread (stubs stubs' : File) (input input' out out' err err' : Stream) (status : ℕ) : Type 0 where
@@ -182,11 +187,11 @@ pub record TellsUnread (stubs stubs' : File) (input input' out out' err err' : S
   pub unread : AreBothRead stubs stubs' input input' (Err why)
   pub told : TellsError (source_error why) out out' err err' status
 
--- What `run` leaves, by so many workers, where keeping a record does this, the files of logs give this, and this is known of the
--- folder for programs: it reads the file of stubs and the plan to their ends, and tells of them.
-abbrev pub RunTells : Keeps → Files → Paths → ℕ → File → File → Stream → Stream → Stream → Stream → Stream → Stream → ℕ → Type 0
-RunTells keep files paths workers stubs stubs' input input' out out' err err' status =
-    TellsRead keep files paths workers stubs stubs' input input' out out' err err' status
+-- What `run` leaves, by so many workers, where the record of a play grows so, keeping a record does this, the files of logs give
+-- this, and this is known of the folder for programs: it reads the file of stubs and the plan to their ends, and tells of them.
+abbrev pub RunTells : Grows → Keeps → Files → Paths → ℕ → File → File → Stream → Stream → Stream → Stream → Stream → Stream → ℕ → Type 0
+RunTells grows keep files paths workers stubs stubs' input input' out out' err err' status =
+    TellsRead grows keep files paths workers stubs stubs' input input' out out' err err' status
     ⊎ TellsUnread stubs stubs' input input' out out' err err' status
 
 -- ---- what the code answers on the way

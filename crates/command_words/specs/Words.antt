@@ -71,12 +71,12 @@ RunsWhy out out' err err' status =
     ((asked : Option Question) × (input input' : Stream) × WhyTells asked input input' out out' err err' status)
     ⊎ TellsSome out out' err err' status
 
--- What `run` tells of some plan, and keeps of it in some file, where a machine writes files so, the files of logs give this, and
--- folders have these whole paths; or an error is told.
-abbrev pub RunsRun : Writes → Files → (List ℕ → run.Paths) → Stream → Stream → Stream → Stream → ℕ → Type 0
-RunsRun writes files paths out out' err err' status =
+-- What `run` tells of some plan, and keeps of it in some file, where the record of a play grows so, a machine writes files so, the
+-- files of logs give this, and folders have these whole paths; or an error is told.
+abbrev pub RunsRun : run.Grows → Writes → Files → (List ℕ → run.Paths) → Stream → Stream → Stream → Stream → ℕ → Type 0
+RunsRun grows writes files paths out out' err err' status =
     ((named work : Option (List ℕ)) × (workers : ℕ) × (stubs stubs' : File) × (input input' : Stream)
-    × run.RunTells (Keeping writes named) files (paths (run.work_folder work)) workers stubs stubs' input input' out out' err err' status)
+    × run.RunTells grows (Keeping writes named) files (paths (run.work_folder work)) workers stubs stubs' input input' out out' err err' status)
     ⊎ TellsSome out out' err err' status
 
 -- What `debug` tells of some record and of the input; or an error is told.
@@ -86,8 +86,8 @@ RunsDebug input input' out out' err err' status =
 
 -- What `table` or `debug` tells of the input, or what `eval`, `plan`, `list`, `lint`, `replay`, `graph`, `timeline`, `why` or
 -- `run` tells, or an error.
-abbrev pub RunTells : Writes → Files → (List ℕ → run.Paths) → Stream → Stream → Stream → Stream → Stream → Stream → ℕ → Type 0
-RunTells writes files paths input input' out out' err err' status =
+abbrev pub RunTells : run.Grows → Writes → Files → (List ℕ → run.Paths) → Stream → Stream → Stream → Stream → Stream → Stream → ℕ → Type 0
+RunTells grows writes files paths input input' out out' err err' status =
     TableTells input input' out out' err err' status
     ⊎ (RunsEval out out' err err' status
     ⊎ (RunsPlan out out' err err' status
@@ -97,7 +97,7 @@ RunTells writes files paths input input' out out' err err' status =
     ⊎ (RunsGraph out out' err err' status
     ⊎ (RunsTimeline out out' err err' status
     ⊎ (RunsWhy out out' err err' status
-    ⊎ (RunsRun writes files paths out out' err err' status ⊎ RunsDebug input input' out out' err err' status)))))))))
+    ⊎ (RunsRun grows writes files paths out out' err err' status ⊎ RunsDebug input input' out out' err err' status)))))))))
 
 -- A command line that cannot be had is told by its kind: one that is no UTF-8 asks for no command.
 pub record TellsLine (kind : ErrorKind) (out out' err err' : Stream) (status : ℕ) : Type 0 where

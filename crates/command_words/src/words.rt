@@ -2,6 +2,7 @@
 
 ghost use Rattle.std.specs.Prelude.{IfErr};
 ghost use Rattle.std.specs.IoError.{error_kind};
+ghost use Rattle.command_run.specs.Growing.{HasGrown};
 ghost use Rattle.command_run.specs.StepLogs.{files_of};
 ghost use Rattle.command_words.specs.Words as spec;
 ghost use Rattle.command_words.specs.Words.{RunTells};
@@ -164,7 +165,7 @@ fn perform_run<
     O: Sink,
     E: Sink,
 >(alloc: Global, machine: &M, mut asked: AskedRun<'_, T, S>, out: &mut O, err: &mut E) -> u8
-    ensures { spec.RunsRun M.writes (files_of M.logs M.Log.seen) M.paths
+    ensures { spec.RunsRun (HasGrown M.Growing.holds) M.writes (files_of M.logs M.Log.seen) M.paths
         (O.seen out.old) (O.seen out.new) (E.seen err.old) (E.seen err.new) result }
 {
     run_plan(alloc, machine, &mut asked, out, err)
@@ -191,7 +192,7 @@ fn perform<M: Machine + Threads + Wait + Sync, S: Source + Drop, I: LineSource, 
     asked: Asked<'_, S>,
     streams: &mut Streams<I, O, E>,
 ) -> u8
-    ensures { RunTells M.writes (files_of M.logs M.Log.seen) M.paths
+    ensures { RunTells (HasGrown M.Growing.holds) M.writes (files_of M.logs M.Log.seen) M.paths
         (I.seen streams.old.input) (I.seen streams.new.input)
         (O.seen streams.old.out) (O.seen streams.new.out)
         (E.seen streams.old.err) (E.seen streams.new.err) result }
@@ -238,7 +239,7 @@ fn run_known<F: Folder, I: LineSource, O: Sink, E: Sink>(
     folder: &F,
     streams: &mut Streams<I, O, E>,
 ) -> u8
-    ensures { RunTells F.Machine.writes
+    ensures { RunTells (HasGrown F.Machine.Growing.holds) F.Machine.writes
         (files_of F.Machine.logs F.Machine.Log.seen) F.Machine.paths
         (I.seen streams.old.input) (I.seen streams.new.input)
         (O.seen streams.old.out) (O.seen streams.new.out)
@@ -258,7 +259,7 @@ pub fn run<F: Folder, I: LineSource, O: Sink, E: Sink>(
     folder: &F,
     streams: &mut Streams<I, O, E>,
 ) -> u8
-    ensures { RunTells F.Machine.writes
+    ensures { RunTells (HasGrown F.Machine.Growing.holds) F.Machine.writes
         (files_of F.Machine.logs F.Machine.Log.seen) F.Machine.paths
         (I.seen streams.old.input) (I.seen streams.new.input)
         (O.seen streams.old.out) (O.seen streams.new.out)
@@ -289,7 +290,7 @@ pub fn run_line<F: Folder, I: LineSource, O: Sink, E: Sink>(
     folder: &F,
     streams: &mut Streams<I, O, E>,
 ) -> u8
-    ensures tells { RunTells F.Machine.writes
+    ensures tells { RunTells (HasGrown F.Machine.Growing.holds) F.Machine.writes
         (files_of F.Machine.logs F.Machine.Log.seen) F.Machine.paths
         (I.seen streams.old.input) (I.seen streams.new.input)
         (O.seen streams.old.out) (O.seen streams.new.out)
