@@ -1,18 +1,16 @@
 -- A play that is Done leaves what is settled.
-use Rattle.std.proofs.Common.{◌≡◌, ℕ, true, false, List, take, Option, Some, None, slice_get, ap, subst, sym, ◌∙◌}
+use Rattle.std.proofs.Common.{◌≡◌, ℕ, true, false, take, Option, Some, None, subst, sym, ◌∙◌}
 use Rattle.std.proofs.lemmas.Bool.{true≢false}
 use Rattle.flow_model.specs.Rules.{IsPlan}
 use Rattle.flow_model.specs.declared.board.Board.{Board}
 use Rattle.flow_model.specs.declared.event.Answer.{Answer}
-use Rattle.flow_model.specs.declared.event.Entry.{Entry}
 use Rattle.flow_model.specs.declared.event.Event.{Event}
 use Rattle.flow_model.specs.declared.event.Event.TheVariants as event
 use Rattle.flow_model.specs.declared.plan.Plan.{Plan}
 use Rattle.flow_model.specs.declared.reply.StepCall.{StepCall}
-use Rattle.board_settled.specs.Agrees.{FinishesAsSettled, IsSettled}
-use Rattle.board_settled.specs.Free.{IsFree}
-use Rattle.board_settled.specs.Histories.{IsAnswered, LeadsTo}
-use Rattle.board_settled.specs.Settled.{Answers, settled}
+use Rattle.board_settled.specs.Agrees.{FinishesAsSettled}
+use Rattle.board_settled.specs.Histories.{IsAnswered}
+use Rattle.board_settled.specs.Settled.{Answers}
 use Rattle.status_table.specs.Calls.{open_call}
 use Rattle.status_table.specs.Moves.{finished}
 use Rattle.status_table.specs.Runs.{after}
@@ -20,10 +18,8 @@ use Rattle.step_host.specs.Lawful.{IsAdmitted, EndsAdmitted, Lawful}
 use Rattle.worker_pool.specs.Alone.{EndsSo}
 use Rattle.worker_pool.specs.History.{is_cancel, NoCancel}
 use Rattle.worker_pool.specs.Settles.{AdmitsOnly, SettlesAll, ManySettle, OneSettles}
-use Rattle.worker_pool.specs.declared.played.Ending.{Ending}
-use Rattle.worker_pool.specs.declared.played.Ending.TheVariants as ending
 use Rattle.worker_pool.specs.declared.played.Played.{Played}
-use Rattle.board_decisions.proofs.Lists.{same_some, no_some}
+use Rattle.board_decisions.proofs.Lists.{same_some}
 
 admitted : (admits : StepCall → Answer → Type 0) (answers : Answers) → AdmitsOnly admits answers → (there : Option StepCall) (a : Answer) → IsAdmitted admits there a
     → (call : StepCall) → there ≡ Some call → answers call ≡ Some a

@@ -1,4 +1,4 @@
-use Rattle.std.proofs.Common.{◌≡◌, ◌+◌, length, drop}
+use Rattle.std.proofs.Common.{◌≡◌, ◌+◌, drop}
 use Rattle.std.specs.List.{position_from}
 use Rattle.worker_pool.specs.Alone.{is_admitted}
 use Rattle.worker_pool.proofs.lowest.first_leg.Given as goal
