@@ -101,7 +101,7 @@ pub record TellsPlaying (keep : Keeps) (gives : Gives) (plan : Plan) (history : 
 abbrev pub Grows : Type 1
 Grows = Plan → List Entry → Option PlayStop → Type 0
 
--- What is told of some play of a plan by so many workers, while which its record grew so.
+-- What is told of some play of a plan by so many workers, whose record grew so meanwhile.
 pub record TellsPlay (grows : Grows) (keep : Keeps) (gives : Gives) (plan : Plan) (workers : ℕ) (out out' err err' : Stream) (status : ℕ) : Type 0 where
   pub history : List Entry
   pub stop : Option PlayStop
