@@ -1,4 +1,4 @@
-"""The processor time of the program on big records, for graph.sh, timeline.sh and why.sh."""
+"""The processor time of the program on big records, for debug.sh, graph.sh, timeline.sh and why.sh."""
 import contextlib
 import os
 import subprocess
@@ -27,9 +27,10 @@ def big_record(count, *shape):
         yield record.name
 
 
-def seconds(*words):
-    """Returns the processor time of the program with these words, the least of three runs."""
-    runs = [subprocess.run([sys.executable, "-c", CHILD, PROGRAM, *words], capture_output=True, text=True, check=True) for _ in range(3)]
+def seconds(*words, given=""):
+    """Returns the processor time of the program with these words and this input, the least of three runs."""
+    command = [sys.executable, "-c", CHILD, PROGRAM, *words]
+    runs = [subprocess.run(command, input=given, capture_output=True, text=True, check=True) for _ in range(3)]
     return min(float(run.stdout) for run in runs)
 
 
