@@ -133,7 +133,7 @@ explain_program() {
 # `stopped` is the exit status.
 watch_program() {
   local ended
-  stopped=''
+  stopped='' before=$(mark_part)
   [ -e /dev/fd/0 ] || exec </dev/null
   "${starter[@]}" "$program" "$@" <&0 &
   child=$!
@@ -145,13 +145,24 @@ watch_program() {
   return "${stopped:-$ended}"
 }
 
-# where a signal ended the program, says what has the record so far, and why it is as it is, in at most 30 lines
+# prints what is different of the file in which a record grows, where the program has made it anew
+mark_part() {
+  stat -c '%i %s %y' -- "$record.part" 2>/dev/null
+}
+
+# Where a signal ended the program, says what has the record so far, and why it is as it is, in at most 30 lines. A line that the
+# signal cut is left out.
 tell_part() {
-  local part
-  [ -n "$record" ] && [ "$status" -gt 128 ] && [ -s "$record.part" ] || return 0
+  local part how reader=(cat)
+  [ -n "$record" ] && [ "$status" -gt 128 ] && [ -s "$record.part" ] && [ "$(mark_part)" != "$before" ] || return 0
   printf -v part %q "$record.part"
-  say "a signal ended the run; $part has its record so far: actrun why $part"
-  "$program" why -- "$record.part" 2>/dev/null | sed '30{s/.*/.../;q;}' >&2
+  how=": actrun why $part"
+  if [ -n "$(tail -c 1 -- "$record.part")" ]; then
+    how=", its last line cut: sed '\$d' $part > RECORD; actrun why RECORD"
+    reader=(sed '$d')
+  fi
+  say "a signal ended the run; $part has its record so far$how"
+  "${reader[@]}" -- "$record.part" | "$program" why -- /dev/stdin 2>/dev/null | sed '30{s/.*/.../;q;}' >&2
 }
 
 # Ends the program, then the steps in its session: by SIGTERM, and those that are there three seconds later by SIGKILL. Another

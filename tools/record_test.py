@@ -30,6 +30,8 @@ LIMITED = ["sh", "-c", 'ulimit -v 2000000 && exec "$@"', "sh"]
 # (a server that a step starts has its number in its command line, so that it is found again)
 UNIQUE = f"{os.getpid()}"
 STARTER = 'set -u; top=$1 program=$2; shift 2; . "$top/tools/dispatch.sh"; answer "$@"'
+# gives an output of some 60 kB
+GREAT = "printf 'great=%060000d\\n' 1 >> $GITHUB_OUTPUT"
 LONG = [{"name": "first", "run": f"echo shown; sleep 71.{UNIQUE} & (set -m; sleep 72.{UNIQUE} &); env -i sleep 73.{UNIQUE} &"},
         {"name": "long", "run": f"sleep 74.{UNIQUE} & (set -m; timeout 99 sleep 75.{UNIQUE} & wait) & touch here; sleep 76.{UNIQUE}"},
         {"run": "echo never"}]
@@ -93,9 +95,11 @@ class Case(unittest.TestCase):
             del more["stdin"]
         return subprocess.run(words, text=True, capture_output=True, check=False, **more)
 
-    def lines(self, file: Path) -> list[bytes]:
-        """The lines of a record that `table` accepts; all of them are whole."""
+    def lines(self, file: Path, cut: bool = False) -> list[bytes]:
+        """The lines of a record that `table` accepts. All of them are whole; or the last may be cut, and is left out then."""
         text = file.read_bytes()
+        if cut:
+            text = text[:text.rfind(b"\n") + 1]
         answer = subprocess.run([program(), "table"], input=text, capture_output=True, check=False)
         self.assertEqual((answer.returncode, answer.stderr, text[-1:]), (0, b"", b"\n"), text[-300:])
         return text.splitlines(keepends=True)
@@ -125,7 +129,8 @@ class Growing(Case):
     """What a run leaves that nobody stops, or that is killed."""
 
     def test_a_kill_at_any_moment_leaves_a_beginning_of_a_legal_record(self) -> None:
-        plan = self.plan([{"run": "echo one=1 >> $GITHUB_OUTPUT"}, {"run": "sleep 0.01"}, {"run": "exit 1"}], 4)
+        """A kill may cut the last line, where that is longer than a page."""
+        plan = self.plan([{"run": "echo one=1 >> $GITHUB_OUTPUT"}, {"run": GREAT}, {"run": "exit 1"}], 4)
         began = time.monotonic()
         self.run_words(self.words(plan))
         whole, longest = self.lines(self.record), time.monotonic() - began
@@ -134,22 +139,36 @@ class Growing(Case):
             """How many lines there are after a kill; -1 where the run had ended."""
             room = self.room / str(number)
             room.mkdir()
-            words = [program(), "run", "--workers", "2", "--work", str(room), "--record", str(room / "r"), str(plan)]
+            part, record = room / "r.part", room / "r"
+            words = [program(), "run", "--workers", "2", "--work", str(room), "--record", str(record), str(plan)]
             with subprocess.Popen(words, stdout=subprocess.DEVNULL, stderr=subprocess.DEVNULL) as child:
                 time.sleep(random.uniform(0, longest))
                 child.kill()
-            part, record = room / "r.part", room / "r"
             if not part.exists():
                 return -1 if record.exists() else 0
-            lines = self.lines(part) if part.stat().st_size else []
+            lines = self.lines(part, cut=True) if b"\n" in part.read_bytes() else []
             self.assertEqual(lines[:1], whole[:1] if lines else [])
             self.assertTrue(not record.exists() or part.read_bytes().startswith(record.read_bytes()))
             return len(lines)
         with concurrent.futures.ThreadPoolExecutor(4) as pool:
-            counts = list(pool.map(kill, range(int(os.environ.get("ACTRUN_KILLS", "40")))))
+            counts = list(pool.map(kill, range(int(os.environ.get("ACTRUN_KILLS", "1000" if ALL else "40")))))
         if "ACTRUN_KILLS" in os.environ:
             print(sorted(counts), file=sys.stderr)
         self.assertTrue(any(1 < count < len(whole) for count in counts), counts)
+
+    def test_the_part_is_a_record_from_the_first_step_on(self) -> None:
+        """Every command takes it, also after a kill."""
+        plan = self.plan([{"run": f"cp {self.part} seen"}, {"run": "kill -KILL $PPID; sleep 0.1"}])
+        self.assertEqual(self.run_words(self.words(plan)).returncode, -signal.SIGKILL)
+        seen, left = self.lines(self.work / "seen"), self.lines(self.part)
+        self.assertEqual((seen[0], [json.loads(line)["event"] for line in seen[1:]]), (plan.read_bytes(), ["open", "judge", "ask", "take", "begin"]))
+        self.assertEqual((left[:6], [json.loads(line)["event"] for line in left[6:]]), (seen, ["end", "begin"]))
+        for command, status, text in (("replay", 4, "run 0 going\n"), ("graph", 4, "digraph "), ("timeline", 4, "<svg "), ("why", 0, "run 0 ")):
+            answer = self.run_words([program(), command, str(self.part)])
+            self.assertEqual((answer.returncode, answer.stderr, answer.stdout[:len(text)]), (status, "", text))
+        answer = self.run_words([program(), "debug", str(self.part)], input="goto 7\nback\nshow\n")
+        self.assertEqual((answer.returncode, answer.stderr), (0, ""))
+        self.assertEqual(answer.stdout.splitlines()[:5], ["place 7 of 7", "place 6 of 7", "run 0 going", "job 0 open", "leg 0 running 0 idle"])
 
     def test_times_has_a_number_for_each_line(self) -> None:
         now = time.time() * 1000
@@ -168,6 +187,14 @@ class Growing(Case):
             answer = self.run_words(self.words(plan, "--record", f"{folder}/r"))
             self.assertEqual((answer.returncode, answer.stdout), (3, "shown\nrun 0 success\n"))
             self.assertEqual(answer.stderr, f"actrun: {folder}/r.part cannot be written ({why}); the plan is executed all the same\nactrun: io\n")
+
+    def test_a_part_that_cannot_be_made_changes_no_more(self) -> None:
+        self.part.mkdir()
+        for code in (0, 1):
+            answer = self.run_words(self.words(self.plan([{"run": f"exit {code}"}])))
+            self.assertEqual((answer.returncode, answer.stderr),
+                             (code, f"actrun: {self.part} cannot be written (is a directory); the plan is executed all the same\n"))
+            self.assertIn(b'"close"', self.lines(self.record)[-1])
 
     def test_a_file_that_cannot_be_written_leaves_the_part(self) -> None:
         self.record.mkdir()
@@ -266,6 +293,21 @@ class Refused(Case):
         told = [line.partition(" refused: ")[2] for line in answer.stderr.splitlines() if " refused: " in line]
         self.assertEqual((told, answer.returncode), (list(reasons.values()), 0), answer.stderr)
         self.assertEqual(answer.stderr.count(" bad output in "), len(reasons))
+
+    def test_a_step_may_write_the_file_of_another_that_runs(self) -> None:
+        """The other leg's answer has what stands there in the end."""
+        other, leg = f"{self.work}/step-0-0.out", "${{ matrix.leg }}"
+        for text, end in (("two=2", {"one": "1", "two": "2"}), ("=", None)):
+            for name in ("begun", "done"):
+                (self.work / name).unlink(missing_ok=True)
+            scripts = ("touch begun; while ! [ -e done ]; do sleep 0.02; done; echo one=1 >> $GITHUB_OUTPUT",
+                       f"while ! [ -e begun ]; do sleep 0.02; done; echo {text} >> {other}; touch done")
+            step = {"run": f"if [ {leg} = 0 ]; then {scripts[0]}; else {scripts[1]}; fi", "continue-on-error": True}
+            answer = self.run_words([*self.words(self.plan([step], 2)), "--progress", "--workers", "2"])
+            self.assertEqual(answer.returncode, 0, answer.stderr)
+            answers = {it["leg"]: it["answer"] for it in self.entries() if it["event"] == "end"}
+            self.assertEqual((answers[0].get("outputs"), answers[1]["outputs"]), (end, {}))
+            self.assertEqual(answer.stderr.count("refused: its file of outputs is refused: NoName"), int(end is None))
 
     def as_another(self, steps: list[str]) -> tuple[list[str], list]:
         """Why answers of steps that all may fail are refused, and the answers, where another user than root executes them."""
@@ -437,6 +479,30 @@ class Signalled(Case):
         answer = self.run_words(self.script(*self.words(self.plan([{"run": "kill -KILL $PPID; sleep 0.1"}]))))
         self.assertEqual((answer.returncode, answer.stdout), (-signal.SIGKILL, ""))
         self.assertRegex(answer.stderr, r"^actrun: a signal ended the run; .*\n(.*\n)*      step 0 \(.*\) runs since line 6\n$")
+
+    def test_a_last_line_that_is_cut_is_left_out(self) -> None:
+        steps = [{"run": GREAT}, {"run": f"truncate -s -30000 {self.part}; kill -KILL $PPID; sleep 0.1"}]
+        answer = self.run_words(self.script(*self.words(self.plan(steps))))
+        self.assertEqual((answer.returncode, answer.stdout), (-signal.SIGKILL, ""))
+        first, *why = answer.stderr.splitlines()
+        remedy = f"sed '$d' {self.part} > RECORD; actrun why RECORD"
+        self.assertEqual(first, f"actrun: a signal ended the run; {self.part} has its record so far, its last line cut: {remedy}")
+        self.assertRegex("\n".join(why), r"\n      step 0 \(.*\) runs since line 6$")
+        self.assertEqual(len(self.lines(self.part, cut=True)), 6)
+        answer = self.run_words([program(), "table"], input=self.part.read_text(encoding="utf-8"))
+        self.assertEqual((answer.returncode, answer.stdout, answer.stderr), (2, "", "actrun: line 7 NotEntry\n"))
+        answer = self.run_words(["sh", "-c", f"sed '$d' {self.part} > {self.record}; exec '{program()}' why {self.record}"])
+        self.assertEqual((answer.returncode, answer.stdout.splitlines()), (0, why))
+
+    def test_the_part_of_an_earlier_run_is_not_named(self) -> None:
+        self.part.write_text("earlier\n", encoding="utf-8")
+        with subprocess.Popen(self.script(*self.words(Path("/dev/stdin"))), stdin=subprocess.PIPE, stdout=subprocess.PIPE,
+                              stderr=subprocess.PIPE, text=True, start_new_session=True) as child:
+            time.sleep(1)  # (the program waits for its plan)
+            child.terminate()
+            out, err = child.communicate(timeout=30)
+        self.assertEqual((child.returncode, out, err), (143, "", ""))
+        self.assertEqual(self.part.read_text(encoding="utf-8"), "earlier\n")
 
     def test_without_a_record_the_script_is_the_program(self) -> None:
         plan = self.plan([{"run": "readlink /proc/$PPID/exe; echo $PPID"}])
