@@ -77,7 +77,7 @@ choose_starter() {
     [[ $ignored == *SIGINT* ]] || signals+=,INT
     [[ $ignored == *SIGQUIT* ]] || signals+=,QUIT
     starter=(setsid setpriv --pdeathsig KILL env --default-signal="$signals")
-    ! "${starter[@]:1}" true 2>/dev/null || return 0
+    ! "${starter[@]}" true 2>/dev/null || return 0
   fi
   starter=(env --default-signal="$signals")
   "${starter[@]}" true 2>/dev/null || starter=()

@@ -480,6 +480,17 @@ class Signalled(Case):
         self.assertEqual((answer.returncode, answer.stdout), (-signal.SIGKILL, ""))
         self.assertRegex(answer.stderr, r"^actrun: a signal ended the run; .*\n(.*\n)*      step 0 \(.*\) runs since line 6\n$")
 
+    @unittest.skipUnless(shutil.which("setpriv"), "setpriv is missing")
+    def test_where_setsid_is_missing_the_program_is_started_alone(self) -> None:
+        tools = self.room / "tools"
+        tools.mkdir()
+        for name in ("bash", "env", "setpriv", "true"):
+            (tools / name).symlink_to(str(shutil.which(name)))
+        words = self.script(*self.words(self.plan([{"run": "echo shown"}])))
+        answer = self.run_words(words, env={**os.environ, "PATH": str(tools)})
+        self.assertEqual((answer.returncode, answer.stdout, answer.stderr), (0, "shown\nrun 0 success\n", ""))
+        self.assertEqual(self.entries()[-1]["event"], "close")
+
     def test_a_last_line_that_is_cut_is_left_out(self) -> None:
         steps = [{"run": GREAT}, {"run": f"truncate -s -30000 {self.part}; kill -KILL $PPID; sleep 0.1"}]
         answer = self.run_words(self.script(*self.words(self.plan(steps))))
