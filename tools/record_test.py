@@ -69,14 +69,15 @@ class Case(unittest.TestCase):
         self.part = self.room / "r.part"
         self.work.mkdir()
 
-    def plan(self, steps: list[dict], legs: int = 1, jobs: int = 1) -> Path:
-        """The plan of jobs with these steps, each with so many legs."""
+    def plan(self, steps: list[dict], legs: int = 1, jobs: int = 1, secrets: dict[str, str] | None = None) -> Path:
+        """The plan of jobs with these steps, each with so many legs, over these secrets."""
         matrix = {"strategy": {"fail-fast": False, "matrix": {"leg": list(range(legs))}}}
         job = {"runs-on": "x", "steps": steps, **(matrix if legs > 1 else {})}
         flow = {"on": "push", "jobs": {f"job-{number}": job for number in range(jobs)}}
-        (self.room / "flow.json").write_text(json.dumps(flow), encoding="utf-8")
-        plan = self.room / "plan"
-        plan.write_bytes(subprocess.run([program(), "plan", self.room / "flow.json"], check=True, stdout=subprocess.PIPE).stdout)
+        flows, contexts, plan = (self.room / name for name in ("flow.json", "contexts.json", "plan"))
+        flows.write_text(json.dumps(flow), encoding="utf-8")
+        contexts.write_text(json.dumps({"secrets": secrets or {}}), encoding="utf-8")
+        plan.write_bytes(subprocess.run([program(), "plan", "--contexts", contexts, flows], check=True, stdout=subprocess.PIPE).stdout)
         return plan
 
     def words(self, plan: Path, *more: str) -> list[str]:
@@ -287,8 +288,10 @@ class Refused(Case):
             "rm $GITHUB_OUTPUT; mkfifo $GITHUB_OUTPUT": "its file of outputs cannot be read: invalid input parameter",
             "rm $GITHUB_OUTPUT; mkfifo -m 0400 $GITHUB_OUTPUT": "its file of outputs cannot be read: invalid input parameter",
             "rm $GITHUB_ENV": "its file of variables cannot be read: entity not found",
+            f"{GREAT} && sed -i 's/0/~/g' $GITHUB_OUTPUT": "one of its values exceeds 65,536 bytes once masked",
+            "printf 'great=%022000d\\n' 1 | tr 0 '~' > $GITHUB_ENV": "one of its values exceeds 65,536 bytes once masked",
         }
-        plan = self.plan([{"run": script, "continue-on-error": True} for script in reasons])
+        plan = self.plan([{"run": script, "continue-on-error": True} for script in reasons], secrets={"TILDE": "~"})
         answer = self.run_words([*LIMITED, *self.words(plan), "--progress"])
         told = [line.partition(" refused: ")[2] for line in answer.stderr.splitlines() if " refused: " in line]
         self.assertEqual((told, answer.returncode), (list(reasons.values()), 0), answer.stderr)

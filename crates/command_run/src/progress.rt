@@ -64,6 +64,7 @@ fn add_refusal(text: &mut String, why: Refusal) -> Result<(), AllocError> {
         Refusal::NoVariables(kind) => write!(text, "its file of variables cannot be read: {kind}"),
         Refusal::Outputs(fault) => write!(text, "its file of outputs is refused: {fault}"),
         Refusal::Variables(fault) => write!(text, "its file of variables is refused: {fault}"),
+        Refusal::Masked => text.push_str("one of its values exceeds 65,536 bytes once masked"),
     }
 }
 

@@ -4,6 +4,7 @@ pub mod Kept
 pub mod LastCalls
 pub mod Launches
 pub mod Lawfulness
+mod MaskedExits
 pub mod Quiet
 pub mod Recorded
 pub mod Scripts

@@ -8,6 +8,7 @@ pub mod Masked
 pub mod Program
 pub mod Replay
 pub mod Script
+pub mod Watch
 pub use Rattle.flow_commands.specs.CommandTexts
 pub use Rattle.flow_commands.specs.Mask
 pub use Rattle.flow_commands.specs.PairFiles

@@ -191,6 +191,7 @@ IsReason given set (refusal.NoOutputs kind) = ⊥
 IsReason given set (refusal.NoVariables kind) = ⊥
 IsReason given set (refusal.Outputs fault) = Refuses fault (outputs given)
 IsReason given set (refusal.Variables fault) = (accepted (outputs given) ≢ None) × Refuses fault (env set)
+IsReason given set refusal.Masked = ⊥
 
 -- What a program is answered for is the answer of its files, or is bad output for this reason.
 abbrev pub Answers : Answer → List ℕ → List ℕ → Result Answer Refusal → Type 0

@@ -5,11 +5,12 @@ ghost use Rattle.flow_model.specs.Mapping.{map_values};
 ghost use Rattle.flow_model.specs.declared.event.Answer.{Answer};
 ghost use Rattle.flow_model.specs.declared.reply.StepCall.{StepCall};
 ghost use Rattle.flow_commands.specs.Mask.{masked};
-ghost use Rattle.step_host.specs.Masked.{IsMasked, IsMasked-one, IsMasked-well_formed, checked as checked_of, masked_answer as masked_answer_of};
+ghost use Rattle.step_host.specs.Masked.{IsMasked, IsMasked-one, IsMasked-well_formed, TellsMasked, checked as checked_of, masked_answer as masked_answer_of};
+ghost use Rattle.step_host.specs.Watch.{given};
 
 use crate::fault::HostFault;
 use crate::host::{DecidedHost, StepHost, WatchedHost};
-use crate::watch::Watch;
+use crate::watch::{Nobody, Refusal, Watch, answered};
 use flow_commands::{Masks, mask};
 use flow_model::{Answer, Mapping, StepCall, Text};
 use std::alloc::{AllocError, Global};
@@ -56,19 +57,26 @@ fn masked_values(
 }
 
 /// The answer, if it may end a call; else what it gives is bad.
-fn checked(answer: Answer) -> Answer
-    ensures { result ≡ checked_of answer }
+fn checked(answer: Answer) -> Result<Answer, Refusal>
+    ensures answer { given result ≡ checked_of answer }
+    ensures told { TellsMasked answer result }
 {
     if answer.well_formed() {
-        answer
+        Ok(answer)
     } else {
-        Answer::BadOutput
+        Err(Refusal::Masked)
     }
 }
 
-/// The masked form of an answer.
-fn masked_answer(alloc: Global, answer: Answer, masks: &Masks) -> Result<Answer, AllocError>
-    ensures { IfOk result (λ made. made ≡ masked_answer_of masks.now answer) }
+/// The masked form of an answer, or why it is bad output, where the answer was not.
+#[tactic(auto, using(crate::proofs::MaskedExits::told_of_exit))]
+fn masked_answer(
+    alloc: Global,
+    answer: Answer,
+    masks: &Masks,
+) -> Result<Result<Answer, Refusal>, AllocError>
+    ensures answer { IfOk result (λ made. given made ≡ masked_answer_of masks.now answer) }
+    ensures told { IfOk result (λ made. TellsMasked answer made) }
 {
     match answer {
         Answer::Exit { code, outputs, env } => {
@@ -76,8 +84,23 @@ fn masked_answer(alloc: Global, answer: Answer, masks: &Masks) -> Result<Answer,
             let env = masked_values(alloc, &env, masks)?;
             Ok(checked(Answer::Exit { code, outputs, env }))
         },
-        Answer::NotStarted => Ok(Answer::NotStarted),
-        Answer::BadOutput => Ok(Answer::BadOutput),
+        Answer::NotStarted => Ok(Ok(Answer::NotStarted)),
+        Answer::BadOutput => Ok(Ok(Answer::BadOutput)),
+    }
+}
+
+impl<H> Masked<H> {
+    /// The masked form of an answer to a call. Where masking makes it bad output, somebody is told.
+    fn masks_answer<W: Watch>(
+        &self,
+        call: &StepCall,
+        answer: Answer,
+        watch: &W,
+    ) -> Result<Answer, AllocError>
+        ensures { IfOk result (λ made. made ≡ masked_answer_of self.now.masks answer) }
+    {
+        let masked = masked_answer(self.alloc, answer, &self.masks)?;
+        Ok(answered(call, masked, watch))
     }
 }
 
@@ -88,7 +111,7 @@ impl<H: StepHost> StepHost for Masked<H> {
 
     fn play(&self, call: &StepCall) -> Result<Answer, HostFault> {
         let answer = self.host.play(call)?;
-        Ok(masked_answer(self.alloc, answer, &self.masks)?)
+        Ok(self.masks_answer(call, answer, &Nobody)?)
     }
 
     ghost admits_well_formed = { λ host call answer.
@@ -98,7 +121,7 @@ impl<H: StepHost> StepHost for Masked<H> {
 impl<H: WatchedHost> WatchedHost for Masked<H> {
     fn play_watched<W: Watch>(&self, call: &StepCall, watch: &W) -> Result<Answer, HostFault> {
         let answer = self.host.play_watched(call, watch)?;
-        Ok(masked_answer(self.alloc, answer, &self.masks)?)
+        Ok(self.masks_answer(call, answer, watch)?)
     }
 }
 

@@ -17,7 +17,7 @@ use crate::launch::{
     script_launch, stub_launch,
 };
 use crate::log::keep_log;
-use crate::watch::{Nobody, Refusal, Unstarted, Watch};
+use crate::watch::{Nobody, Refusal, Unstarted, Watch, answered};
 use flow_model::{Answer, CallWork, Mapping, Shell, StepCall, Text};
 use std::alloc::{AllocError, Global};
 use std::fs::{File, Files};
@@ -65,20 +65,6 @@ fn or_kind<T: Drop>(done: io::Result<T>) -> Result<Result<T, ErrorKind>, AllocEr
                 return Err(AllocError);
             }
             Ok(Err(kind))
-        },
-    }
-}
-
-/// The answer to a call. Where it is bad output, somebody is told why.
-fn answered<W: Watch>(call: &StepCall, finished: Result<Answer, Refusal>, watch: &W) -> Answer
-    requires { IfOk finished (λ a. is_well_formed a ≡ true) }
-    ensures { is_well_formed result ≡ true }
-{
-    match finished {
-        Ok(answer) => answer,
-        Err(why) => {
-            watch.refused(call, why);
-            Answer::BadOutput
         },
     }
 }

@@ -1,5 +1,9 @@
 //! Who is told of steps while they are played.
 
+ghost use Rattle.std.specs.Prelude.{◌≡◌, IfOk, true};
+ghost use Rattle.flow_model.specs.Answer.{is_well_formed};
+ghost use Rattle.step_host.specs.Watch.{given};
+
 use flow_commands::OutputFault;
 use flow_model::{Answer, StepCall};
 use std::io::ErrorKind;
@@ -32,6 +36,8 @@ pub enum Refusal {
     Outputs(OutputFault),
     /// The file of the variables that it sets is not spelled as one.
     Variables(OutputFault),
+    /// The value of an output or of a variable is too long, once it is masked.
+    Masked,
 }
 
 /// Who is told of steps while they are played. What is told has no part in what is answered, and may be told by several
@@ -54,6 +60,24 @@ pub trait Watch {
 
     /// A call that was made at that moment has its answer.
     fn ended(&self, call: &StepCall, answer: &Answer, moment: Self::Moment);
+}
+
+/// The answer to a call. Where it is bad output for a reason, somebody is told why.
+pub(crate) fn answered<W: Watch>(
+    call: &StepCall,
+    finished: Result<Answer, Refusal>,
+    watch: &W,
+) -> Answer
+    ensures answer { result ≡ given finished }
+    ensures well_formed { IfOk finished (λ a. is_well_formed a ≡ true) → is_well_formed result ≡ true }
+{
+    match finished {
+        Ok(answer) => answer,
+        Err(why) => {
+            watch.refused(call, why);
+            Answer::BadOutput
+        },
+    }
 }
 
 /// Nobody is told.
