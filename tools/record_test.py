@@ -105,9 +105,11 @@ class Case(unittest.TestCase):
         self.assertEqual((answer.returncode, answer.stderr, text[-1:]), (0, b"", b"\n"), text[-300:])
         return text.splitlines(keepends=True)
 
-    def entries(self) -> list[dict]:
-        """The entries of the record that a run left that came to its end."""
-        self.assertFalse(self.part.exists())
+    def entries(self, stopped: bool = False) -> list[dict]:
+        """The entries of the record that a run left. Where it was stopped, it also left the part, which may have more."""
+        self.assertEqual(self.part.exists(), stopped)
+        if stopped:
+            self.assertTrue(self.part.read_bytes().startswith(self.record.read_bytes()))
         return [json.loads(line) for line in self.lines(self.record)[1:]]
 
     def answers(self) -> list[list]:
@@ -210,6 +212,15 @@ class Growing(Case):
         self.record.write_text("".join(record), encoding="utf-8")
         self.lines(self.record)
         self.assertFalse(Path("/dev/stdout.part").exists())
+
+    def test_a_run_that_is_stopped_leaves_the_part(self) -> None:
+        """There is no memory to read the outputs of a step."""
+        leg = "${{ matrix.leg }}"
+        plan = self.plan([{"run": f"[ {leg} = 0 ] || truncate -s 60M $GITHUB_OUTPUT"}, {"run": "echo on"}], 2)
+        answer = self.run_words(["sh", "-c", 'ulimit -v 60000 && exec "$@"', "sh", *self.words(plan), "--workers", "2"])
+        self.assertEqual((answer.returncode, answer.stderr), (3, "actrun: memory\n"))
+        self.assertNotIn("close", [it["event"] for it in self.entries(stopped=True)])
+        self.lines(self.part)
 
     @unittest.skipUnless(os.geteuid() == 0, "only root can mount a small file system")
     def test_a_full_disk_leaves_whole_lines(self) -> None:
@@ -400,7 +411,7 @@ class Refused(Case):
                 answer = self.run_words([*LIMITED, *self.words(plan), "--progress", "--workers", str(legs)], timeout=300)
                 if legs > 1 and answer.returncode == 3:
                     self.assertEqual((answer.stdout, answer.stderr.splitlines()[-1]), ("", "actrun: memory"))
-                    self.assertNotIn("close", [it["event"] for it in self.entries()])
+                    self.assertNotIn("close", [it["event"] for it in self.entries(stopped=True)])
                 else:
                     self.assertEqual((answer.returncode, answer.stdout), (0, "run 0 success\n"), answer.stderr)
                     self.assertEqual(self.answers(), [["bad-output"]] * legs)
