@@ -132,7 +132,7 @@ class Growing(Case):
     """What a run leaves that nobody stops, or that is killed."""
 
     def test_a_kill_at_any_moment_leaves_a_beginning_of_a_legal_record(self) -> None:
-        """A kill may cut the last line, where that is longer than a page."""
+        """A kill may cut the last line, where that is longer than a page. FILE is whole, or what it was."""
         plan = self.plan([{"run": "echo one=1 >> $GITHUB_OUTPUT"}, {"run": GREAT}, {"run": "exit 1"}], 4)
         began = time.monotonic()
         self.run_words(self.words(plan))
@@ -143,15 +143,21 @@ class Growing(Case):
             room = self.room / str(number)
             room.mkdir()
             part, record = room / "r.part", room / "r"
+            before = b"old" * (number % 2)
+            if before:
+                record.write_bytes(before)
             words = [program(), "run", "--workers", "2", "--work", str(room), "--record", str(record), str(plan)]
             with subprocess.Popen(words, stdout=subprocess.DEVNULL, stderr=subprocess.DEVNULL) as child:
                 time.sleep(random.uniform(0, longest))
                 child.kill()
+            after = record.read_bytes() if record.exists() else b""
+            if after != before:
+                self.assertEqual(len(self.lines(record)), len(whole))
+                self.assertEqual(after, part.read_bytes() if part.exists() else after)
             if not part.exists():
-                return -1 if record.exists() else 0
+                return 0 if after == before else -1
             lines = self.lines(part, cut=True) if b"\n" in part.read_bytes() else []
             self.assertEqual(lines[:1], whole[:1] if lines else [])
-            self.assertTrue(not record.exists() or part.read_bytes().startswith(record.read_bytes()))
             return len(lines)
         with concurrent.futures.ThreadPoolExecutor(4) as pool:
             counts = list(pool.map(kill, range(int(os.environ.get("ACTRUN_KILLS", "1000" if ALL else "40")))))
@@ -227,9 +233,13 @@ class Growing(Case):
         small = self.room / "small"
         self.mount(small)
         plan = self.plan([{"run": "printf 'word=%09000d\\n' 1 >> $GITHUB_OUTPUT"}] * 12)
-        answer = self.run_words(self.words(plan, "--record", str(small / "r")))
-        self.assertEqual((answer.returncode, answer.stdout, answer.stderr), (3, "run 0 success\n", "actrun: io\n"))
-        self.assertGreater(len(self.lines(small / "r.part")), 10)
+        for before in (set(), {"r"}):
+            (small / "r").write_text("before", encoding="utf-8") if before else None
+            answer = self.run_words(self.words(plan, "--record", str(small / "r")))
+            self.assertEqual((answer.returncode, answer.stdout, answer.stderr), (3, "run 0 success\n", "actrun: io\n"))
+            self.assertGreater(len(self.lines(small / "r.part")), 10)
+            self.assertEqual({it.name for it in small.iterdir()}, {"r.part", *before})
+        self.assertEqual((small / "r").read_text(encoding="utf-8"), "before")
 
     def test_many_legs(self) -> None:
         """The part grows to the record, which has each leg once."""
@@ -249,6 +259,68 @@ class Growing(Case):
         self.assertEqual(self.answers(), [[0]] * legs)
         board = subprocess.run([program(), "table"], input=self.record.read_bytes(), stdout=subprocess.PIPE, check=True).stdout
         self.assertEqual((board.splitlines()[0], board.count(b" ended success\n")), (b"run 0 closed success", legs))
+
+
+class Written(Case):
+    """What FILE is at the end, by what it was before."""
+
+    def write(self, **more) -> int:
+        """Writes a record, of which no other file is left; gives its inode."""
+        answer = self.run_words(self.words(self.plan([{"run": "true"}])), **more)
+        self.assertEqual((answer.returncode, answer.stdout, answer.stderr), (0, "run 0 success\n", ""))
+        self.assertEqual(self.entries()[-1]["event"], "close")
+        self.assertFalse((self.room / "r.new").is_file())
+        return self.record.stat().st_ino
+
+    def test_a_file_is_replaced_by_one_of_its_mode(self) -> None:
+        self.record.write_text("before", encoding="utf-8")
+        for mode in (0o640, 0o4606):
+            self.record.chmod(mode)
+            (self.room / "r.new").write_text("of a run that was killed", encoding="utf-8")
+            before = self.record.stat().st_ino
+            self.assertNotEqual(self.write(), before)
+            self.assertEqual(self.record.stat().st_mode & 0o7777, mode)
+
+    def test_what_cannot_be_replaced_is_written_itself(self) -> None:
+        other = self.room / "other"
+        other.touch()
+        self.record.symlink_to(other)
+        self.write()
+        self.assertTrue(self.record.is_symlink())
+        self.record.unlink()
+        os.link(other, self.record)
+        self.assertEqual(self.write(), other.stat().st_ino)
+        other.unlink()
+        (self.room / "r.new").mkdir()
+        before = self.record.stat().st_ino
+        self.assertEqual(self.write(), before)
+
+    def test_a_pipe_is_written(self) -> None:
+        os.mkfifo(self.record)
+        with concurrent.futures.ThreadPoolExecutor(1) as pool:
+            reading = pool.submit(self.record.read_bytes)
+            answer = self.run_words(self.words(self.plan([{"run": "true"}])))
+        self.assertEqual((answer.returncode, answer.stderr), (0, ""))
+        self.assertIn(b'"close"', reading.result().splitlines()[-1])
+
+    @unittest.skipUnless(os.geteuid() == 0, "only root can mount a file, and become another user")
+    def test_a_file_that_is_mounted_or_protected_stays(self) -> None:
+        other = self.room / "other"
+        for it in (self.record, other):
+            it.write_text("before", encoding="utf-8")
+        if subprocess.run(["mount", "--bind", str(other), str(self.record)], capture_output=True, check=False).returncode == 0:
+            self.addCleanup(subprocess.run, ["umount", "-l", str(self.record)], capture_output=True, check=False)
+            self.assertEqual(self.write(), other.stat().st_ino)
+            subprocess.run(["umount", str(self.record)], check=True)
+        own = shutil.copy(program(), self.room)
+        for it in (self.room, self.work, self.record, own):
+            os.chown(it, 65534, 65534)
+        self.record.chmod(0o444)
+        words = [own, *self.words(self.plan([{"run": "true"}]))[1:]]
+        answer = self.run_words(words, user=65534, group=65534, extra_groups=[])
+        self.assertEqual((answer.returncode, answer.stderr), (3, "actrun: io\n"))
+        self.assertEqual(self.record.read_text(encoding="utf-8"), "before")
+        self.assertIn(b'"close"', self.lines(self.part)[-1])
 
 
 class Disturbed(Case):

@@ -24,4 +24,5 @@ mod started_steps;
 mod step_logs;
 pub mod step_names;
 mod stubs;
+mod whole_file;
 mod workspace;

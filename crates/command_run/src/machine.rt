@@ -14,9 +14,10 @@ use crate::growing::GrowingFile;
 use crate::growing_files::{GrowingFiles, GrowingNames, part_name};
 use crate::progress::Progress;
 use crate::step_names::StepNames;
+use crate::whole_file::put_file;
 use command_io::bounded::{Bounded, MOST_READS};
 use command_io::error::CommandError;
-use command_io::stream::{Input, LineSource, Output, Sink};
+use command_io::stream::{Input, LineSource, Sink};
 use flow_commands::Masks;
 use flow_model::{Duplicate, Mapping, Text};
 use std::alloc::{AllocError, Global};
@@ -103,7 +104,7 @@ pub trait Machine: Files + Environment {
 
     /// Writes a file of that name anew, and answers whether it was written whole; `out` is what the program tells its
     /// answer to.
-    fn write_file<O: Sink>(&self, name: &str, text: &[u8], out: &O) -> bool
+    fn write_file<O: Sink>(&self, alloc: Global, name: &str, text: &[u8], out: &O) -> bool
         ensures { writes name.now text.now (O.seen out.now) result };
 
     /// That this is the whole path of the folder of this name, or that there is none.
@@ -173,11 +174,8 @@ impl Machine for HostRuntime {
         }
     }
 
-    fn write_file<O: Sink>(&self, name: &str, text: &[u8], _out: &O) -> bool {
-        match File::create(self, name) {
-            Ok(file) => Output::new(file).put(text),
-            Err(_) => false,
-        }
+    fn write_file<O: Sink>(&self, alloc: Global, name: &str, text: &[u8], _out: &O) -> bool {
+        put_file(self, alloc, name, text)
     }
 
     fn whole_path(&self, folder: &str) -> Result<String, CommandError> {

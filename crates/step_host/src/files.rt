@@ -33,7 +33,11 @@ fn make_file<F: Files>(files: &F, how: &OpenOptions, name: &str) -> io::Result<F
 }
 
 /// Makes a file to be written in place of what has this name, which is not opened.
-pub(crate) fn new_file<F: Files>(files: &F, name: &str) -> io::Result<F::File> {
+///
+/// # Errors
+///
+/// It cannot be made, or what has the name cannot be removed; or there is no memory.
+pub fn new_file<F: Files>(files: &F, name: &str) -> io::Result<F::File> {
     let mut how = File::options();
     how.write(true).create_new(true);
     make_file(files, &how, name)

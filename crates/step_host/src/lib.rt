@@ -37,7 +37,7 @@ pub mod watched;
 
 pub use board::PlayBoard;
 pub use fault::{HostFault, ScriptFault};
-pub use files::open_regular;
+pub use files::{new_file, open_regular};
 pub use flow_commands::{
     Masks, mask, read_commands, read_env_file, read_output_file, shell_words, shown,
 };
