@@ -197,15 +197,16 @@ class Trial:
         return sandbox_words(self.room, readable, [*in_place, self.cache, self.record, self.part, self.times], bool(self.options.offline))
 
     def results_of_part(self) -> dict[int, str]:
-        """Where the program did not write its record, takes the part that grew with the events; gives the results of runs in that part."""
+        """Where the program did not write its whole record, takes the part that grew with the events; gives the results of runs in that part."""
         if not self.part.exists():
             return {}
         self.part.chmod(0o600)
         if self.part.stat().st_size <= self.record.stat().st_size:
             self.part.unlink()  # (the program cannot remove it in the sandbox)
             return {}
+        os.truncate(self.part, self.part.read_bytes().rfind(b"\n") + 1)  # (a kill may cut the last line)
         self.part.replace(self.record)
-        self.screen.tell(f"note: the program was ended before it wrote its record: {self.record} has the events until then", "warning")
+        self.screen.tell(f"note: the program was ended before it wrote its whole record: {self.record} has the events until then", "warning")
         closed = re.findall(r"(?m)^run (\d+) closed (\w+)", ask("replay", self.record).stdout)
         return {**dict.fromkeys(range(len(self.flows)), "interrupted"), **{int(run): result for run, result in closed}}
 

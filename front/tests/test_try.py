@@ -407,7 +407,7 @@ class Interrupted(TryCase):
         """The record that grew until then was taken."""
         self.assertEqual(status, 3, out + err)
         private = self.work() / "private"
-        self.assertIn(f"note: the program was ended before it wrote its record: {private}/record has the events until then\n", err)
+        self.assertIn(f"note: the program was ended before it wrote its whole record: {private}/record has the events until then\n", err)
         self.assertRegex(out, r"(?m)^\S+ \.github/workflows/ci\.yml: interrupted\n  run 0 \(.*\) is going since line 2$")
         self.assertRegex(out, r"step 1 \(long\) runs since line \d+  \[\.github/workflows/ci\.yml:7\]")
         self.assertIn(f"report    {private}/report.html\n", out)
