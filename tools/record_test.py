@@ -597,7 +597,8 @@ class Signalled(Case):
                               stderr=subprocess.PIPE, text=True, start_new_session=True) as child:
             time.sleep(1)  # (the program waits for its plan)
             child.terminate()
-            out, err = child.communicate(timeout=30)
+            child.wait(30)
+            out, err = child.communicate()
         self.assertEqual((child.returncode, out, err), (143, "", ""))
         self.assertEqual(self.part.read_text(encoding="utf-8"), "earlier\n")
 
