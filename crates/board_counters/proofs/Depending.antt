@@ -3,14 +3,11 @@ use Rattle.std.proofs.Common.{◌≡◌, ◌≢◌, ℕ, zero, suc, ◌-◌, ◌
 use Rattle.std.proofs.lemmas.Bool.Decides.{nat_tests}
 use Rattle.std.proofs.lemmas.List.Sums.{sum_by-cons}
 use Rattle.std.proofs.lemmas.Option.{slice_get-map}
+use Rattle.status_table.specs.Words.{Job, JobPlan, changed, sizes}
 use Rattle.board_decisions.proofs.Lists.{same_some}
-use Rattle.board_decisions.specs.Places.{sizes}
 use Rattle.board_counters.specs.Counters.{first_number}
 use Rattle.board_counters.specs.Dependents.{all_noted, dependents_each, dependents_from, dependents_of, noted, times_named}
 use Rattle.board_counters.proofs.Tallies.{get_changed}
-use Rattle.flow_model.specs.declared.board.Job.{Job}
-use Rattle.flow_model.specs.declared.plan.JobPlan.{JobPlan}
-use Rattle.status_table.specs.Change.{changed}
 use Rattle.status_table.proofs.Counts.{one}
 use Rattle.status_table.proofs.Lists.{changed-elsewhere}
 

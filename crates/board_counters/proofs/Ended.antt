@@ -4,25 +4,12 @@ use Rattle.std.specs.List.{list_all}
 use Rattle.std.proofs.lemmas.Bool.{true≢false}
 use Rattle.std.proofs.lemmas.Bool.Decides.{nat_tests}
 use Rattle.std.proofs.lemmas.List.Sums.{sum_by-cons}
-use Rattle.board_decisions.specs.Derived.{is_going, is_closed, is_shut, is_ended, job_has_ended, jobs_have_ended, holds_at, needs_have_ended}
-use Rattle.board_decisions.specs.Place.{◌>>=◌, JobAt, job_at}
-use Rattle.flow_model.specs.Laws.{NeedsPointBack}
-use Rattle.flow_model.specs.Numbers.{first_job}
-use Rattle.flow_model.specs.declared.plan.Plan.{Plan}
-use Rattle.flow_model.specs.declared.plan.RunPlan.{RunPlan}
-use Rattle.flow_model.specs.declared.plan.JobPlan.{JobPlan}
-use Rattle.flow_model.specs.declared.board.Board.{Board}
-use Rattle.flow_model.specs.declared.board.Run.{Run}
-use Rattle.flow_model.specs.declared.board.Job.{Job}
-use Rattle.flow_model.specs.declared.board.Leg.{Leg}
+use Rattle.status_table.specs.Words.{Board, InPlay, Job, JobAt, JobPlan, Leg, NeedsPointBack, Plan, Run, RunPlan, first_job, first_of, holds_at, is_closed, is_ended, is_going, is_shut, job_at, job_has_ended, jobs_have_ended, needs_have_ended, ◌>>=◌}
 use Rattle.board_counters.specs.Counters.{is_settled, settled_jobs, first_number, need_of, run_needs, needs_of, needs_none}
 use Rattle.board_counters.specs.declared.need.Need.{Need}
-use Rattle.board_decisions.proofs.Lists.{map-get}
-use Rattle.status_table.specs.InPlay.{InPlay}
-use Rattle.status_table.specs.Row.{first_of}
+use Rattle.board_decisions.proofs.Lists.{map-get, same_some, no_some}
 use Rattle.status_table.proofs.Counts.{one}
 use Rattle.status_table.proofs.Found.{JobStands, job_stands}
-use Rattle.board_decisions.proofs.Lists.{same_some, no_some}
 use Rattle.status_table.proofs.Sound.{is_numbered_in}
 use Rattle.status_table.proofs.Steps.{going-unclosed}
 

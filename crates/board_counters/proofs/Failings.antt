@@ -2,28 +2,13 @@
 use Rattle.std.proofs.Common.{◌≡◌, ℕ, suc, ◌-◌, ◌||◌, Bool, true, false, List, [], ◌∷◌, ◌++◌, Option, Some, None, map, option_map, slice_get, length, take, if◌then◌else◌, ap, sym, refl, ◌∙◌}
 use Rattle.std.proofs.lemmas.Bool.{true≢false}
 use Rattle.std.proofs.lemmas.List.Folds.{list_any-append}
-use Rattle.board_decisions.specs.Derived.{is_failure}
-use Rattle.board_decisions.specs.Numbered.{leg_there}
-use Rattle.board_decisions.specs.Place.{◌>>=◌}
-use Rattle.board_decisions.specs.declared.place.JobPlace.{JobPlace}
-use Rattle.board_decisions.specs.declared.place.LegPlace.{LegPlace}
-use Rattle.flow_model.specs.declared.board.Board.{Board}
-use Rattle.flow_model.specs.declared.board.DoneStep.{DoneStep}
-use Rattle.flow_model.specs.declared.board.Job.{Job}
-use Rattle.flow_model.specs.declared.board.JobState.{JobState}
-use Rattle.flow_model.specs.declared.board.Leg.{Leg}
-use Rattle.flow_model.specs.declared.board.LegState.{LegState}
-use Rattle.flow_model.specs.declared.board.Run.{Run}
+use Rattle.status_table.specs.Words.{Board, DoneStep, Job, JobPlace, JobState, Leg, LegPlace, LegState, Run, changed, is_failure, leg_after, leg_there, step_done, with_job, with_leg, with_run, ◌>>=◌}
 use Rattle.board_counters.specs.Changes.{step_taken}
-use Rattle.status_table.specs.Seen.{leg_after}
 use Rattle.board_counters.specs.Failing.{any_failed, failing_at, failing_noted, failing_of, failing_set, failing_taken, job_failing, leg_failed, leg_failing, or_false, run_failing}
 use Rattle.status_table.specs.declared.change.LegChange.{LegChange}
-use Rattle.status_table.specs.declared.change.LegChange.TheVariants as leg_change
 use Rattle.board_counters.proofs.Lists.{map-changed, map-same}
 use Rattle.board_decisions.proofs.Lists.{map-get, map-past}
 use Rattle.board_counters.proofs.Tallies.{in_job, in_run, leg_there_changed, there}
-use Rattle.status_table.specs.Change.{changed, with_job, with_leg, with_run}
-use Rattle.status_table.specs.Row.{step_done}
 
 -- ---- the leg at a place
 
@@ -64,7 +49,7 @@ module _ (b : Board) (place : LegPlace) (f : Leg → Leg) where
 
 -- no change of a leg's state, group, outputs or flag changes its steps
 pub steps_stay : (how : LegChange) (leg : Leg) → (leg_after how leg).steps ≡ leg.steps
-steps_stay (leg_change.State state) leg = refl
+steps_stay (LegChange.State state) leg = refl
 steps_stay how leg = refl
 
 or-none : (c : Bool) → c || false ≡ c

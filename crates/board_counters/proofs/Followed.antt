@@ -1,14 +1,6 @@
 -- What is kept beside a board after a change of it.
 use Rattle.std.proofs.Common.{◌≡◌, ℕ, inl, inr, Bool, true, false, List, Option, map, slice_get, ap, subst, sym, refl, ◌∙◌}
-use Rattle.board_decisions.specs.declared.place.JobPlace.{JobPlace}
-use Rattle.board_decisions.specs.declared.place.LegPlace.{LegPlace}
-use Rattle.flow_model.specs.declared.plan.Plan.{Plan}
-use Rattle.flow_model.specs.declared.board.Board.{Board}
-use Rattle.flow_model.specs.declared.board.Job.{Job}
-use Rattle.flow_model.specs.declared.board.JobState.{JobState}
-use Rattle.flow_model.specs.declared.board.Leg.{Leg}
-use Rattle.flow_model.specs.declared.board.LegState.{LegState}
-use Rattle.flow_model.specs.declared.board.Run.{Run}
+use Rattle.status_table.specs.Words.{Board, Job, JobPlace, JobState, Leg, LegPlace, LegState, Plan, Run, changed, run_sizes, with_job, with_leg, with_run}
 use Rattle.board_counters.specs.Changes.{CameTo, LegRecounted, job_of, resettled, run_after, standing_counted}
 use Rattle.board_counters.specs.Counted.{AreCounts, IsCounted}
 use Rattle.board_counters.specs.Counters.{is_settled, moved, needs_of, tallies_of}
@@ -18,7 +10,6 @@ use Rattle.board_counters.specs.Lasting.{IsLasting}
 use Rattle.board_counters.specs.Standing.{run_moved, run_tally, standing_read}
 use Rattle.board_counters.specs.Stopping.{run_legs}
 use Rattle.board_counters.specs.declared.change.RunChange.{RunChange}
-use Rattle.board_counters.specs.declared.change.RunChange.TheVariants as run_change
 use Rattle.board_counters.specs.declared.counts.Counts.{Counts}
 use Rattle.board_counters.specs.declared.lasting.Lasting.{Lasting}
 use Rattle.board_counters.specs.declared.need.Need.{Need}
@@ -29,12 +20,10 @@ use Rattle.board_counters.specs.declared.tally.Tally.{Tally}
 use Rattle.board_counters.proofs.Failings.{job_failing_kept, run_failing_kept}
 use Rattle.board_counters.proofs.Lists.{changed-same}
 use Rattle.board_counters.proofs.Needs.{needs_follow, needs-kept, settled_in}
-use Rattle.board_decisions.specs.Places.{run_sizes}
 use Rattle.board_counters.proofs.Placed.{leg_sizes, job_sizes, run_sizes_kept, still_lasts}
 use Rattle.board_counters.proofs.Standings.{moved_alike, read_before, read_in, run_tallies_kept, runs_follow, standing_in, standing_settles}
 use Rattle.board_counters.proofs.Stops.{job_told_kept, run_told_kept}
 use Rattle.board_counters.proofs.Tallies.{ComesSo, alike_tallies, job_tallies, moved_same, run_tallies, tallied_so}
-use Rattle.status_table.specs.Change.{changed, with_run, with_job, with_leg}
 
 -- where a leg is counted alike, nothing is counted again
 pub alike_recounted : (place : LegPlace) (was is : LegState) (run : Option Run) (dependents : List (List (List ℕ))) (counts : Counts) → ((t : Tally) → moved was is t ≡ t)
@@ -139,7 +128,7 @@ job_counted p b new place state was is old made fs ls counted new_is was_is is_i
     }
 
 jobs_stay : (how : RunChange) (run : Run) → (run_after how run).jobs ≡ run.jobs
-jobs_stay (run_change.State state) run = refl
+jobs_stay (RunChange.State state) run = refl
 jobs_stay how run = refl
 
 -- where a run was changed, but not its jobs

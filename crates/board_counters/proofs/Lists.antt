@@ -4,8 +4,8 @@ use Rattle.std.specs.List.{list_any}
 use Rattle.std.proofs.lemmas.Bool.Decides.{nat_tests}
 use Rattle.std.proofs.lemmas.List.{drop_more}
 use Rattle.std.proofs.lemmas.List.Sums.{sum_by-cons, count_by-le-length}
+use Rattle.status_table.specs.Words.{changed, put}
 use Rattle.board_counters.specs.Counters.{turned}
-use Rattle.status_table.specs.Change.{put, changed}
 use Rattle.status_table.proofs.Counts.{one, sum-changed}
 use Rattle.status_table.proofs.Lists.{changed-cons, length-changed}
 use Rattle.board_decisions.proofs.Lists.{same_some, no_some}

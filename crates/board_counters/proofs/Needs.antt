@@ -2,12 +2,8 @@
 use Rattle.std.proofs.Common.{◌≡◌, ◌≢◌, ℕ, zero, suc, Bool, true, false, List, [], ◌∷◌, Option, Some, None, length, map, option_map, slice_get, ap, sym, refl, ◌∙◌}
 use Rattle.std.proofs.lemmas.Bool.{true≢false}
 use Rattle.std.proofs.lemmas.Option.{slice_get-map}
-use Rattle.board_decisions.specs.Derived.{holds, holds_at}
+use Rattle.status_table.specs.Words.{Job, Run, RunPlan, changed, holds, holds_at, run_sizes, sizes}
 use Rattle.board_decisions.proofs.Lists.{map-get, map-past}
-use Rattle.board_decisions.specs.Places.{run_sizes, sizes}
-use Rattle.flow_model.specs.declared.board.Run.{Run}
-use Rattle.flow_model.specs.declared.board.Job.{Job}
-use Rattle.flow_model.specs.declared.plan.RunPlan.{RunPlan}
 use Rattle.board_counters.specs.Changes.{needs_turned, resettled}
 use Rattle.board_counters.specs.Counters.{is_settled, settled_jobs, first_number, need_of, run_needs, needs_of}
 use Rattle.board_counters.specs.Dependents.{all_dependents, dependents_at, dependents_each, dependents_of, or_nobody}
@@ -16,7 +12,6 @@ use Rattle.board_counters.proofs.Depending.{dependents_there}
 use Rattle.board_counters.proofs.Lists.{changed-none, changed-same, map-same}
 use Rattle.board_counters.proofs.Tallies.{get_changed}
 use Rattle.board_counters.proofs.Turned.{needs_fall, needs_rise}
-use Rattle.status_table.specs.Change.{changed}
 use Rattle.status_table.proofs.Lists.{changed-cons, changed-elsewhere, changed-there}
 
 -- whether the job at a place of a run that may be there has ended by itself

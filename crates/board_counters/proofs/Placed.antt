@@ -2,29 +2,11 @@
 use Rattle.std.proofs.Common.{◌≡◌, ◌<◌, ◌+◌, ℕ, List, [], ◌∷◌, ◌++◌, Option, Some, None, length, take, get_or, slice_get, ap, subst, sym, refl, ◌∙◌}
 use Rattle.std.specs.List.{AllZip}
 use Rattle.std.proofs.lemmas.List.{take_more}
-use Rattle.board_decisions.specs.Calls.{AreCallsOf, Tells, called_as}
-use Rattle.board_decisions.specs.Decisions.{is_called, leg_result, step_decision}
-use Rattle.board_decisions.specs.declared.kept.Calls.{Calls}
-use Rattle.board_decisions.specs.Place.{◌>>=◌}
-use Rattle.board_decisions.specs.Places.{sizes, run_sizes, all_jobs_from, all_legs_from}
-use Rattle.board_decisions.specs.declared.place.JobPlace.{JobPlace}
-use Rattle.board_decisions.specs.declared.place.LegPlace.{LegPlace}
+use Rattle.status_table.specs.Words.{AreCallsOf, Board, Calls, Job, JobPlace, JobPlan, JobState, Leg, LegPlace, Outcome, Plan, Run, RunPlan, StepPlan, Tells, all_jobs_from, all_legs_from, called_as, changed, is_called, leg_result, run_sizes, sizes, step_decision, with_job, with_leg, with_run, ◌>>=◌}
 use Rattle.board_counters.specs.Dependents.{all_dependents}
 use Rattle.board_counters.specs.Lasting.{IsLasting, TellsJobs, TellsRuns, TellsSteps, calls_at, or_unknown}
 use Rattle.board_counters.specs.declared.lasting.Lasting.{Lasting}
 use Rattle.board_counters.proofs.Lists.{map-same}
-use Rattle.flow_model.specs.declared.board.Board.{Board}
-use Rattle.flow_model.specs.declared.board.Run.{Run}
-use Rattle.flow_model.specs.declared.board.Job.{Job}
-use Rattle.flow_model.specs.declared.board.JobState.{JobState}
-use Rattle.flow_model.specs.declared.board.Leg.{Leg}
-use Rattle.flow_model.specs.declared.event.Outcome.{Outcome}
-use Rattle.flow_model.specs.declared.event.Outcome.TheVariants as outcome
-use Rattle.flow_model.specs.declared.plan.JobPlan.{JobPlan}
-use Rattle.flow_model.specs.declared.plan.Plan.{Plan}
-use Rattle.flow_model.specs.declared.plan.RunPlan.{RunPlan}
-use Rattle.flow_model.specs.declared.plan.StepPlan.{StepPlan}
-use Rattle.status_table.specs.Change.{changed, with_run, with_job, with_leg}
 use Rattle.status_table.proofs.Lists.{length-changed, zip-append, zip-get}
 
 -- ---- how many legs each job has
@@ -59,7 +41,7 @@ nothing_told : (run : RunPlan) (job : JobPlan) (step : StepPlan) → AreCallsOf 
 nothing_told run job step l at in_run in_job = by_result (leg_result at)
   where
     by_result : (how : Outcome) → Tells (called_as (or_unknown None) how) (is_called (step_decision l at step))
-    by_result outcome.Success = tt
+    by_result Outcome.Success = tt
     by_result how = tt
 
 -- what is told of a step of the job at a place

@@ -2,22 +2,10 @@
 use Rattle.std.proofs.Common.{◌≡◌, ℕ, ◌==◌, ◌||◌, ◌&&◌, Bool, true, false, List, [], ◌∷◌, Option, Some, None, map, option_map, slice_get, length, nat_lt, if◌then◌else◌, ap, sym, refl, ◌∙◌}
 use Rattle.std.specs.List.{list_all, list_any}
 use Rattle.std.proofs.lemmas.Bool.{true≢false}
-use Rattle.board_decisions.specs.Derived.{all_succeed, has_failed, holds, is_any_job_cancelled, is_any_job_failed, is_cancelled, is_failure, is_going, is_success, job_result, jobs_have_ended, legs_result, result_by, run_result, was_cancelled}
-use Rattle.board_decisions.specs.declared.place.LegPlace.{LegPlace}
-use Rattle.flow_model.specs.declared.board.Board.{Board}
-use Rattle.flow_model.specs.declared.board.Job.{Job}
-use Rattle.flow_model.specs.declared.board.JobState.{JobState}
-use Rattle.flow_model.specs.declared.board.JobState.TheVariants as job_state
-use Rattle.flow_model.specs.declared.board.Leg.{Leg}
-use Rattle.flow_model.specs.declared.board.Run.{Run}
-use Rattle.flow_model.specs.declared.board.RunState.{RunState}
-use Rattle.flow_model.specs.declared.board.RunState.TheVariants as run_state
-use Rattle.flow_model.specs.declared.event.Outcome.{Outcome}
-use Rattle.flow_model.specs.declared.event.Outcome.TheVariants as outcome
+use Rattle.status_table.specs.Words.{Board, Job, JobState, Leg, LegPlace, Outcome, Run, RunState, all_succeed, changed, has_failed, holds, is_any_job_cancelled, is_any_job_failed, is_cancelled, is_failure, is_going, is_success, job_result, jobs_have_ended, legs_result, result_by, run_result, was_cancelled, with_leg}
 use Rattle.board_counters.specs.Counters.{is_settled, settled_jobs, tally_of, tallies_of, turned}
 use Rattle.board_counters.specs.Standing.{counted_jobs, counts_job, has_fresh, has_left, no_standing, run_moved, run_tally, run_tally_there, standing_by, standing_given, standing_of, standing_read, tally_result, told_result}
 use Rattle.board_counters.specs.declared.standing.JobCounter.{JobCounter}
-use Rattle.board_counters.specs.declared.standing.JobCounter.TheVariants as counter
 use Rattle.board_counters.specs.declared.standing.JobStanding.{JobStanding}
 use Rattle.board_counters.specs.declared.standing.RunTally.{RunTally}
 use Rattle.board_counters.proofs.Ended.{all-counted, jobs_ended}
@@ -25,7 +13,6 @@ use Rattle.board_counters.proofs.Lists.{any-counted, changed-none, count-changed
 use Rattle.board_decisions.proofs.Lists.{map-get, map-past}
 use Rattle.board_counters.proofs.Needs.{settled_in}
 use Rattle.board_counters.proofs.Tallies.{get_changed, in_job, in_run, turned_same}
-use Rattle.status_table.specs.Change.{changed, with_leg}
 use Rattle.status_table.proofs.Lists.{changed-there, length-changed}
 
 -- how a job stands that may be there
@@ -44,18 +31,18 @@ by-tally : (job : Job) → tally_result (tally_of job) ≡ legs_result job.legs
 by-tally job =
     let failed = any-counted (λ (leg : Leg). has_failed leg.state) job.legs in
     let cancelled = any-counted (λ (leg : Leg). was_cancelled leg.state) job.legs in
-    sym (λ i. if failed i then outcome.Failure else (if cancelled i then outcome.Cancelled else outcome.Success))
+    sym (λ i. if failed i then Outcome.Failure else (if cancelled i then Outcome.Cancelled else Outcome.Success))
 
 by-state : (job : Job) (s : JobState) → standing_by s (tally_of job) ≡ standing_of (record job { state = s })
-by-state job (job_state.Shut how) = refl
-by-state job job_state.Open = λ i. record {
+by-state job (JobState.Shut how) = refl
+by-state job JobState.Open = λ i. record {
   is_settled = (tally_of job).pending == 0;
   result = by-tally job i;
   is_unjudged = false;
   may_ask = has_fresh (tally_of job);
   may_drop = has_left (tally_of job);
 }
-by-state job job_state.Unjudged = λ i. record {
+by-state job JobState.Unjudged = λ i. record {
   is_settled = (tally_of job).pending == 0;
   result = by-tally job i;
   is_unjudged = true;
@@ -113,13 +100,13 @@ standing_settles (Some run) j = by (slice_get run.jobs j) refl
 pub moved_alike : (s : JobStanding) (t : RunTally) → run_moved s s t ≡ t
 moved_alike s t = λ i. record {
   jobs = t.jobs;
-  pending = turned_same t.jobs t.pending (counts_job counter.Open s) i;
-  failed = turned_same t.jobs t.failed (counts_job counter.Failed s) i;
-  cancelled = turned_same t.jobs t.cancelled (counts_job counter.Cancelled s) i;
-  unsuccessful = turned_same t.jobs t.unsuccessful (counts_job counter.Unsuccessful s) i;
-  unjudged = turned_same t.jobs t.unjudged (counts_job counter.Unjudged s) i;
-  asking = turned_same t.jobs t.asking (counts_job counter.Asking s) i;
-  dropping = turned_same t.jobs t.dropping (counts_job counter.Dropping s) i;
+  pending = turned_same t.jobs t.pending (counts_job JobCounter.Open s) i;
+  failed = turned_same t.jobs t.failed (counts_job JobCounter.Failed s) i;
+  cancelled = turned_same t.jobs t.cancelled (counts_job JobCounter.Cancelled s) i;
+  unsuccessful = turned_same t.jobs t.unsuccessful (counts_job JobCounter.Unsuccessful s) i;
+  unjudged = turned_same t.jobs t.unjudged (counts_job JobCounter.Unjudged s) i;
+  asking = turned_same t.jobs t.asking (counts_job JobCounter.Asking s) i;
+  dropping = turned_same t.jobs t.dropping (counts_job JobCounter.Dropping s) i;
 }
 
 module _ (j : ℕ) (g : Job → Job) where
@@ -137,13 +124,13 @@ module _ (j : ℕ) (g : Job → Job) where
       let new : standing_in (Some (at_job run)) j ≡ standing_of (g job) = ap standing_there (changed-there run.jobs j g job at) in
       (λ i. record {
         jobs = length-changed run.jobs j g i;
-        pending = each counter.Open i;
-        failed = each counter.Failed i;
-        cancelled = each counter.Cancelled i;
-        unsuccessful = each counter.Unsuccessful i;
-        unjudged = each counter.Unjudged i;
-        asking = each counter.Asking i;
-        dropping = each counter.Dropping i;
+        pending = each JobCounter.Open i;
+        failed = each JobCounter.Failed i;
+        cancelled = each JobCounter.Cancelled i;
+        unsuccessful = each JobCounter.Unsuccessful i;
+        unjudged = each JobCounter.Unjudged i;
+        asking = each JobCounter.Asking i;
+        dropping = each JobCounter.Dropping i;
       }) ∙ sym (λ i. run_moved (old i) (new i) (run_tally run))
     where
       each : (what : JobCounter) → counted_jobs what (changed run.jobs j g) ≡ turned (length run.jobs) (counted_jobs what run.jobs) (counts_job what (standing_of job)) (counts_job what (standing_of (g job)))
@@ -163,19 +150,19 @@ run_tallies_kept runs r f keeps = map-same run_tally runs r f (λ run at. ap cou
     counted : List Job → RunTally
     counted jobs = record {
       jobs = length jobs;
-      pending = counted_jobs counter.Open jobs;
-      failed = counted_jobs counter.Failed jobs;
-      cancelled = counted_jobs counter.Cancelled jobs;
-      unsuccessful = counted_jobs counter.Unsuccessful jobs;
-      unjudged = counted_jobs counter.Unjudged jobs;
-      asking = counted_jobs counter.Asking jobs;
-      dropping = counted_jobs counter.Dropping jobs;
+      pending = counted_jobs JobCounter.Open jobs;
+      failed = counted_jobs JobCounter.Failed jobs;
+      cancelled = counted_jobs JobCounter.Cancelled jobs;
+      unsuccessful = counted_jobs JobCounter.Unsuccessful jobs;
+      unjudged = counted_jobs JobCounter.Unjudged jobs;
+      asking = counted_jobs JobCounter.Asking jobs;
+      dropping = counted_jobs JobCounter.Dropping jobs;
     }
 
 -- ---- what they tell of a run that is Going
 
-going-by : (s : RunState) → is_going s ≡ true → (state : JobState) (legs : List Leg) → result_by s state legs ≡ result_by run_state.Going state legs
-going-by run_state.Going h state legs = refl
+going-by : (s : RunState) → is_going s ≡ true → (state : JobState) (legs : List Leg) → result_by s state legs ≡ result_by RunState.Going state legs
+going-by RunState.Going h state legs = refl
 going-by s h state legs = absurd (true≢false (sym h))
 
 standing-result : (run : Run) → is_going run.state ≡ true → (job : Job) → (standing_of job).result ≡ job_result run job
@@ -216,4 +203,4 @@ module _ (runs : List RunTally) (all : List Run) (r : ℕ) (run : Run) (stand : 
       ∙ (λ i. list_any (λ job. is_cancelled (standing-result run going job i)) run.jobs)
 
   pub run_told : (stop : Bool) → stop ≡ run.stop → told_result stop (run_tally_there (slice_get runs r)) ≡ run_result run
-  run_told stop stop_is = λ i. if told_failed i then outcome.Failure else (if stop_is i || told_cancelled i then outcome.Cancelled else outcome.Success)
+  run_told stop stop_is = λ i. if told_failed i then Outcome.Failure else (if stop_is i || told_cancelled i then Outcome.Cancelled else Outcome.Success)

@@ -1,29 +1,15 @@
 -- How many legs of a run are told to stop, after a change.
 use Rattle.std.proofs.Common.{◌≡◌, ℕ, ◌+◌, ◌<◌, ◌≤◌, Bool, false, List, Option, Some, None, length, map, option_map, slice_get, get_or, count_by, sum_by, ap, sym, refl, ◌∙◌, arith}
 use Rattle.std.proofs.lemmas.List.Sums.{count_by-le-length, get_or-le-sum_by, sum_by-le-sum_by}
+use Rattle.status_table.specs.Words.{Board, IsPlan, Job, Leg, LegPlace, Plan, Run, RunPlan, SoundPlan, changed, leg_after, leg_there, new_board, new_job, new_leg, new_run, with_leg, ◌>>=◌}
 use Rattle.board_decisions.proofs.Lists.{map-get}
-use Rattle.board_decisions.specs.Numbered.{leg_there}
-use Rattle.board_decisions.specs.Place.{◌>>=◌}
-use Rattle.board_decisions.specs.declared.place.LegPlace.{LegPlace}
 use Rattle.board_counters.specs.Changes.{leg_was, stop_in}
-use Rattle.status_table.specs.Seen.{leg_after}
 use Rattle.board_counters.specs.Counters.{turned}
 use Rattle.board_counters.specs.Stopping.{is_told, legs_of_jobs, run_legs, run_legs_there, told_of, told_turned, untold_legs}
 use Rattle.status_table.specs.declared.change.LegChange.{LegChange}
-use Rattle.status_table.specs.declared.change.LegChange.TheVariants as leg_change
 use Rattle.board_counters.specs.declared.stopping.RunLegs.{RunLegs}
 use Rattle.board_counters.proofs.Lists.{changed-none, map-changed, map-same, map-twice, turned-by}
 use Rattle.board_counters.proofs.Tallies.{in_job, in_run, there, turned_same}
-use Rattle.flow_model.specs.declared.board.Board.{Board}
-use Rattle.flow_model.specs.declared.board.Job.{Job}
-use Rattle.flow_model.specs.declared.board.Leg.{Leg}
-use Rattle.flow_model.specs.declared.board.Run.{Run}
-use Rattle.flow_model.specs.declared.plan.Plan.{Plan}
-use Rattle.flow_model.specs.declared.plan.RunPlan.{RunPlan}
-use Rattle.flow_model.specs.Rules.{IsPlan}
-use Rattle.flow_model.specs.Sound.{SoundPlan}
-use Rattle.status_table.specs.Change.{changed, with_leg}
-use Rattle.status_table.specs.Runs.{new_board, new_job, new_leg, new_run}
 use Rattle.status_table.proofs.Accepting.{legs_counted}
 use Rattle.status_table.proofs.Counts.{one, sum-changed, sum-kept, sum-map}
 use Rattle.status_table.proofs.InPlay.{few_in_play, new_in_play}
@@ -96,7 +82,7 @@ told_exchanged b new place how back was is old made counted new_is back_is was_i
   where
     by : (o : Option Leg) (how : LegChange) (x : RunLegs) → told_turned (stop_in (leg_was how o)) (stop_in how) x ≡ told_turned (is_told o) (is_told (option_map (leg_after how) o)) x
     by None how x = told-same (stop_in how) x ∙ sym (told-same false x)
-    by (Some leg) (leg_change.Stop stop) x = refl
+    by (Some leg) (LegChange.Stop stop) x = refl
     by (Some leg) how x = told-same false x ∙ sym (told-same leg.stop x)
 
 -- they stay where each leg of a job is told to stop as before

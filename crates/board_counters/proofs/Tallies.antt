@@ -1,26 +1,12 @@
 -- The tallies of a board after a change.
 use Rattle.std.proofs.Common.{◌≡◌, ℕ, zero, suc, inl, inr, Bool, true, false, List, [], ◌∷◌, Option, Some, None, map, option_map, slice_get, length, ap, subst, sym, refl, ◌∙◌}
-use Rattle.board_decisions.specs.Numbered.{leg_there}
-use Rattle.board_decisions.specs.Place.{◌>>=◌}
-use Rattle.board_decisions.specs.declared.place.JobPlace.{JobPlace}
-use Rattle.board_decisions.specs.declared.place.LegPlace.{LegPlace}
-use Rattle.flow_model.specs.declared.board.Board.{Board}
-use Rattle.flow_model.specs.declared.board.Run.{Run}
-use Rattle.flow_model.specs.declared.board.Job.{Job}
-use Rattle.flow_model.specs.declared.board.JobState.{JobState}
-use Rattle.flow_model.specs.declared.board.Leg.{Leg}
-use Rattle.flow_model.specs.declared.board.LegState.{LegState}
-use Rattle.flow_model.specs.declared.board.LegState.TheVariants as leg_state
+use Rattle.status_table.specs.Words.{Board, Job, JobPlace, JobState, Leg, LegPlace, LegState, Run, changed, leg_after, leg_there, with_job, with_leg, with_run, ◌>>=◌}
 use Rattle.board_counters.specs.Changes.{CameTo, leg_was, retallied, state_in, state_of, state_there}
-use Rattle.status_table.specs.Seen.{leg_after}
 use Rattle.board_counters.specs.Counters.{counts, counted, tally_of, tallies_of, turned, moved}
 use Rattle.status_table.specs.declared.change.LegChange.{LegChange}
-use Rattle.status_table.specs.declared.change.LegChange.TheVariants as leg_change
 use Rattle.board_counters.specs.declared.tally.Tally.{Tally}
 use Rattle.board_counters.specs.declared.tally.Counter.{Counter}
-use Rattle.board_counters.specs.declared.tally.Counter.TheVariants as counter
 use Rattle.board_counters.proofs.Lists.{map-changed, map-same, changed-none, changed-same, count-changed}
-use Rattle.status_table.specs.Change.{changed, with_run, with_job, with_leg}
 use Rattle.status_table.proofs.Lists.{length-changed, changed-cons, changed-there}
 
 -- ---- one job
@@ -29,10 +15,10 @@ tally-changed : (job : Job) (l : ℕ) (f : Leg → Leg) (leg : Leg) → slice_ge
     → tally_of (record job { legs = changed job.legs l f }) ≡ moved leg.state (f leg).state (tally_of job)
 tally-changed job l f leg at = λ i. record {
   legs = length-changed job.legs l f i;
-  pending = each counter.Open i;
-  used = each counter.Used i;
-  failed = each counter.Failed i;
-  cancelled = each counter.Cancelled i;
+  pending = each Counter.Open i;
+  used = each Counter.Used i;
+  failed = each Counter.Failed i;
+  cancelled = each Counter.Cancelled i;
 }
   where
     each : (what : Counter) → counted what (changed job.legs l f) ≡ turned (length job.legs) (counted what job.legs) (counts what leg.state) (counts what (f leg).state)
@@ -90,10 +76,10 @@ turned_same all n false = refl
 pub moved_same : (s : LegState) (t : Tally) → moved s s t ≡ t
 moved_same s t = λ i. record {
   legs = t.legs;
-  pending = turned_same t.legs t.pending (counts counter.Open s) i;
-  used = turned_same t.legs t.used (counts counter.Used s) i;
-  failed = turned_same t.legs t.failed (counts counter.Failed s) i;
-  cancelled = turned_same t.legs t.cancelled (counts counter.Cancelled s) i;
+  pending = turned_same t.legs t.pending (counts Counter.Open s) i;
+  used = turned_same t.legs t.used (counts Counter.Used s) i;
+  failed = turned_same t.legs t.failed (counts Counter.Failed s) i;
+  cancelled = turned_same t.legs t.cancelled (counts Counter.Cancelled s) i;
 }
 
 -- a leg that came from a state to another is counted as one that came from its own to its own
@@ -140,8 +126,8 @@ exchanged_so b new place how back new_is back_is = λ t.
     ∙ sym (λ i. moved (state_there b place) (state_of ((ap (λ (x : Board). leg_there x place) new_is ∙ leg_there_changed b place (leg_after how)) i)) t)
   where
     by : (o : Option Leg) (how : LegChange) (t : Tally) → moved (state_in (leg_was how o)) (state_in how) t ≡ moved (state_of o) (state_of (option_map (leg_after how) o)) t
-    by None how t = moved_same (state_in how) t ∙ sym (moved_same leg_state.Fresh t)
-    by (Some leg) (leg_change.Stop stop) t = moved_same leg_state.Fresh t ∙ sym (moved_same leg.state t)
+    by None how t = moved_same (state_in how) t ∙ sym (moved_same LegState.Fresh t)
+    by (Some leg) (LegChange.Stop stop) t = moved_same LegState.Fresh t ∙ sym (moved_same leg.state t)
     by (Some leg) how t = refl
 
 pub exchanged_told : (b new : Board) (place : LegPlace) (how back : LegChange) (before after : LegState) → new ≡ with_leg b place (leg_after how) → back ≡ leg_was how (leg_there b place)

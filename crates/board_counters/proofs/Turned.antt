@@ -2,15 +2,12 @@
 use Rattle.std.proofs.Common.{◌≡◌, ◌≢◌, ℕ, zero, suc, ◌-◌, ◌≤◌, ◌+◌, ◌==◌, Bool, true, false, not, List, [], ◌∷◌, ◌++◌, length, map, replicate, count_by, nat_lt, if◌then◌else◌, append_assoc, ap, sym, refl, ◌∙◌, arith}
 use Rattle.std.proofs.lemmas.Bool.Decides.{nat_tests}
 use Rattle.std.proofs.lemmas.List.{length-append}
-use Rattle.std.proofs.lemmas.List.Sums.{sum_by-cons}
-use Rattle.board_decisions.specs.Derived.{holds_at}
+use Rattle.std.proofs.lemmas.List.Sums.{sum_by-cons, count_by-le-length}
+use Rattle.status_table.specs.Words.{JobPlan, changed, holds_at}
 use Rattle.board_counters.specs.Changes.{needs_turned}
 use Rattle.board_counters.specs.Counters.{first_number, need_of, need_turned, open_among, turned}
 use Rattle.board_counters.specs.Dependents.{dependents_from, dependents_of, times_named}
 use Rattle.board_counters.specs.declared.need.Need.{Need}
-use Rattle.std.proofs.lemmas.List.Sums.{count_by-le-length}
-use Rattle.flow_model.specs.declared.plan.JobPlan.{JobPlan}
-use Rattle.status_table.specs.Change.{changed}
 use Rattle.status_table.proofs.Counts.{one}
 use Rattle.status_table.proofs.Lists.{changed-cons}
 

@@ -1,29 +1,13 @@
 -- What was changed and is taken back is as it was.
 use Rattle.std.proofs.Common.{◌≡◌, ℕ, zero, suc, ◌-◌, false, List, [], ◌∷◌, ◌++◌, Some, length, take, slice_get, length-append, ap, sym, refl, ◌∙◌, arith}
 use Rattle.std.proofs.Math.Seq.{take-append_seam}
-use Rattle.board_decisions.specs.Numbered.{job_there, leg_there}
-use Rattle.board_decisions.specs.Place.{◌>>=◌}
-use Rattle.board_decisions.specs.declared.place.JobPlace.{JobPlace}
-use Rattle.board_decisions.specs.declared.place.LegPlace.{LegPlace}
-use Rattle.flow_model.specs.declared.board.Board.{Board}
-use Rattle.flow_model.specs.declared.board.DoneStep.{DoneStep}
-use Rattle.flow_model.specs.declared.board.Run.{Run}
-use Rattle.flow_model.specs.declared.board.Job.{Job}
-use Rattle.flow_model.specs.declared.board.JobState.{JobState}
-use Rattle.flow_model.specs.declared.board.Leg.{Leg}
-use Rattle.flow_model.specs.declared.board.LegState.{LegState}
-use Rattle.flow_model.specs.declared.board.LegState.TheVariants as leg_state
+use Rattle.status_table.specs.Words.{Board, DoneStep, Job, JobPlace, JobState, Leg, LegPlace, LegState, Run, changed, job_state_set, job_there, leg_after, leg_state_set, leg_there, step_done, with_job, with_leg, with_run, ◌>>=◌}
 use Rattle.board_counters.specs.Changes.{front, job_state_of, job_state_there, leg_before, leg_was, run_after, run_before, run_was, state_of, state_there, step_taken}
-use Rattle.status_table.specs.Seen.{leg_after}
 use Rattle.board_counters.specs.Undo.{board_before, undone}
 use Rattle.status_table.specs.declared.change.LegChange.{LegChange}
-use Rattle.status_table.specs.declared.change.LegChange.TheVariants as leg_change
 use Rattle.board_counters.specs.declared.change.RunChange.{RunChange}
-use Rattle.board_counters.specs.declared.change.RunChange.TheVariants as run_change
 use Rattle.board_counters.specs.declared.undo.Change.{Change}
 use Rattle.board_counters.proofs.Tallies.{in_job, in_run, there}
-use Rattle.status_table.specs.Change.{changed, with_run, with_job, with_leg}
-use Rattle.status_table.specs.Row.{job_state_set, leg_state_set, step_done}
 use Rattle.status_table.proofs.Lists.{changed-cons}
 
 -- ---- lists
@@ -43,11 +27,11 @@ changed-back {T} (x ∷ xs) (suc i) f g step =
 -- ---- a run, a job or a leg
 
 run-back : (how : RunChange) (run : Run) → run_after (run_before how run) (run_after how run) ≡ run
-run-back (run_change.State state) run = refl
+run-back (RunChange.State state) run = refl
 run-back how run = refl
 
 leg-back : (how : LegChange) (leg : Leg) → leg_after (leg_before how leg) (leg_after how leg) ≡ leg
-leg-back (leg_change.State state) leg = refl
+leg-back (LegChange.State state) leg = refl
 leg-back how leg = refl
 
 run-there : (b : Board) (r : ℕ) (f g : Run → Run) → ((run : Run) → slice_get b.runs r ≡ Some run → g (f run) ≡ run) → with_run (with_run b r f) r g ≡ b
@@ -89,7 +73,7 @@ pub step_back : (b new : Board) (place : LegPlace) (worker : ℕ) (done : DoneSt
     → with_leg new place (step_taken was) ≡ b
 step_back b new place worker done was new_is was_is =
     (λ i. with_leg (new_is i) place (step_taken was))
-    ∙ leg-there b place (λ leg. record leg { state = leg_state.Running worker false; steps = leg.steps ++ done ∷ [] }) (step_taken was) (λ leg at i.
+    ∙ leg-there b place (λ leg. record leg { state = LegState.Running worker false; steps = leg.steps ++ done ∷ [] }) (step_taken was) (λ leg at i.
     record leg { state = (was_is ∙ ap state_of at) i; steps = front-more leg.steps done i })
 
 pub state_back : (b new : Board) (place : LegPlace) (state was : LegState) → new ≡ leg_state_set b place state → was ≡ state_there b place

@@ -1,24 +1,11 @@
 -- Changes of a board, and what is counted after them.
 use Rattle.std.specs.Prelude.{◌≡◌, ℕ, ◌-◌, ◌⊎◌, Bool, false, true, List, [], ◌∷◌, ◌++◌, length, take, Option, Some, None, slice_get}
-use Rattle.board_decisions.specs.Numbered.{job_there, leg_there}
-use Rattle.board_decisions.specs.declared.place.JobPlace.{JobPlace}
-use Rattle.board_decisions.specs.declared.place.LegPlace.{LegPlace}
-use Rattle.flow_model.specs.declared.board.Board.{Board}
-use Rattle.flow_model.specs.declared.board.Run.{Run}
-use Rattle.flow_model.specs.declared.board.Job.{Job}
-use Rattle.flow_model.specs.declared.board.JobState.{JobState}
-use Rattle.flow_model.specs.declared.board.JobState.TheVariants as job_state
-use Rattle.flow_model.specs.declared.board.Leg.{Leg}
-use Rattle.flow_model.specs.declared.board.LegState.{LegState}
-use Rattle.flow_model.specs.declared.board.LegState.TheVariants as leg_state
-use Rattle.status_table.specs.Change.{changed}
+use Rattle.status_table.specs.Words.{Board, Job, JobPlace, JobState, Leg, LegPlace, LegState, Run, changed, job_there, leg_there}
 use Rattle.board_counters.specs.Counters.{moved, need_turned}
 use Rattle.board_counters.specs.Dependents.{dependents_at}
 use Rattle.board_counters.specs.Standing.{run_moved, standing_read}
 use Rattle.status_table.specs.declared.change.LegChange.{LegChange}
-use Rattle.status_table.specs.declared.change.LegChange.TheVariants as leg_change
 use Rattle.board_counters.specs.declared.change.RunChange.{RunChange}
-use Rattle.board_counters.specs.declared.change.RunChange.TheVariants as run_change
 use Rattle.board_counters.specs.declared.counts.Counts.{Counts}
 use Rattle.board_counters.specs.declared.need.Need.{Need}
 use Rattle.board_counters.specs.declared.standing.JobStanding.{JobStanding}
@@ -28,15 +15,15 @@ use Rattle.board_counters.specs.declared.tally.Tally.{Tally}
 
 -- a run after a change, which leaves its jobs
 abbrev pub run_after : RunChange → Run → Run
-run_after (run_change.State state) run = record run { state = state }
-run_after (run_change.Group state group) run = record run { state = state; group = group }
-run_after (run_change.Stop stop) run = record run { stop = stop }
+run_after (RunChange.State state) run = record run { state = state }
+run_after (RunChange.Group state group) run = record run { state = state; group = group }
+run_after (RunChange.Stop stop) run = record run { stop = stop }
 
 -- what a run had of what is changed
 abbrev pub run_before : RunChange → Run → RunChange
-run_before (run_change.State state) run = run_change.State run.state
-run_before (run_change.Group state group) run = run_change.Group run.state run.group
-run_before (run_change.Stop stop) run = run_change.Stop run.stop
+run_before (RunChange.State state) run = RunChange.State run.state
+run_before (RunChange.Group state group) run = RunChange.Group run.state run.group
+run_before (RunChange.Stop stop) run = RunChange.Stop run.stop
 
 -- what a run had of what is changed, if it is there
 abbrev pub run_was : RunChange → Option Run → RunChange
@@ -45,24 +32,24 @@ run_was how (Some run) = run_before how run
 
 -- the state into which a leg comes; one whose stop flag is set stays in its own, for which one stands that counts like itself
 abbrev pub state_in : LegChange → LegState
-state_in (leg_change.State state) = state
-state_in (leg_change.Group state group) = state
-state_in (leg_change.Outputs state outputs) = state
-state_in (leg_change.Stop stop) = leg_state.Fresh
+state_in (LegChange.State state) = state
+state_in (LegChange.Group state group) = state
+state_in (LegChange.Outputs state outputs) = state
+state_in (LegChange.Stop stop) = LegState.Fresh
 
 -- the stop flag that is set in a leg; where another change leaves it as it is, one stands for it that stays unset
 abbrev pub stop_in : LegChange → Bool
-stop_in (leg_change.State state) = false
-stop_in (leg_change.Group state group) = false
-stop_in (leg_change.Outputs state outputs) = false
-stop_in (leg_change.Stop stop) = stop
+stop_in (LegChange.State state) = false
+stop_in (LegChange.Group state group) = false
+stop_in (LegChange.Outputs state outputs) = false
+stop_in (LegChange.Stop stop) = stop
 
 -- what a leg had of what is changed
 abbrev pub leg_before : LegChange → Leg → LegChange
-leg_before (leg_change.State state) leg = leg_change.State leg.state
-leg_before (leg_change.Group state group) leg = leg_change.Group leg.state leg.group
-leg_before (leg_change.Outputs state outputs) leg = leg_change.Outputs leg.state leg.outputs
-leg_before (leg_change.Stop stop) leg = leg_change.Stop leg.stop
+leg_before (LegChange.State state) leg = LegChange.State leg.state
+leg_before (LegChange.Group state group) leg = LegChange.Group leg.state leg.group
+leg_before (LegChange.Outputs state outputs) leg = LegChange.Outputs leg.state leg.outputs
+leg_before (LegChange.Stop stop) leg = LegChange.Stop leg.stop
 
 -- what a leg had of what is changed, if it is there
 abbrev pub leg_was : LegChange → Option Leg → LegChange
@@ -79,7 +66,7 @@ step_taken state leg = record leg { state = state; steps = front leg.steps }
 
 -- the state of a job that may be there
 abbrev pub job_state_of : Option Job → JobState
-job_state_of None = job_state.Unjudged
+job_state_of None = JobState.Unjudged
 job_state_of (Some job) = job.state
 
 -- the state of the job at a place
@@ -94,7 +81,7 @@ job_of place = record { run = place.run; job = place.job }
 
 -- the state of a leg that may be there
 abbrev pub state_of : Option Leg → LegState
-state_of None = leg_state.Fresh
+state_of None = LegState.Fresh
 state_of (Some leg) = leg.state
 
 -- the state of the leg at a place

@@ -1,5 +1,6 @@
 -- All that is kept beside a board: counts, and what stays.
 use Rattle.std.specs.Prelude.{◌≡◌, Bool, List, map}
+use Rattle.status_table.specs.Words.{Board, Plan}
 use Rattle.board_counters.specs.Counters.{tallies_of, needs_of}
 use Rattle.board_counters.specs.Failing.{failing_of}
 use Rattle.board_counters.specs.Lasting.{IsLasting}
@@ -7,8 +8,6 @@ use Rattle.board_counters.specs.Standing.{run_tally}
 use Rattle.board_counters.specs.Stopping.{run_legs}
 use Rattle.board_counters.specs.declared.counts.Counts.{Counts}
 use Rattle.board_counters.specs.declared.lasting.Lasting.{Lasting}
-use Rattle.flow_model.specs.declared.board.Board.{Board}
-use Rattle.flow_model.specs.declared.plan.Plan.{Plan}
 
 -- The counts follow from the plan and the board.
 pub record AreCounts (p : Plan) (b : Board) (counts : Counts) : Type 0 where

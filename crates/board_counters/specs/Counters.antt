@@ -1,18 +1,8 @@
 -- What is counted beside a board: the legs of each job by how
 -- they stand, and how many of the jobs that a job needs are open.
 use Rattle.std.specs.Prelude.{ℕ, suc, ◌-◌, ◌==◌, ◌||◌, Bool, true, false, not, List, [], ◌∷◌, map, length, nat_lt, count_by, Option, Some, None, slice_get, if◌then◌else◌}
-use Rattle.board_decisions.specs.Derived.{is_shut, is_ended, is_under_way, has_failed, was_cancelled, holds_at}
-use Rattle.board_decisions.specs.Place.{◌>>=◌}
-use Rattle.board_decisions.specs.declared.place.JobPlace.{JobPlace}
-use Rattle.flow_model.specs.declared.board.Board.{Board}
-use Rattle.flow_model.specs.declared.board.Run.{Run}
-use Rattle.flow_model.specs.declared.board.Job.{Job}
-use Rattle.flow_model.specs.declared.board.Leg.{Leg}
-use Rattle.flow_model.specs.declared.board.LegState.{LegState}
-use Rattle.flow_model.specs.declared.plan.RunPlan.{RunPlan}
-use Rattle.flow_model.specs.declared.plan.JobPlan.{JobPlan}
+use Rattle.status_table.specs.Words.{Board, Job, JobPlace, JobPlan, Leg, LegState, Run, RunPlan, has_failed, holds_at, is_ended, is_shut, is_under_way, was_cancelled, ◌>>=◌}
 use Rattle.board_counters.specs.declared.tally.Counter.{Counter}
-use Rattle.board_counters.specs.declared.tally.Counter.TheVariants as counter
 use Rattle.board_counters.specs.declared.tally.Tally.{Tally}
 use Rattle.board_counters.specs.declared.need.Need.{Need}
 
@@ -20,10 +10,10 @@ use Rattle.board_counters.specs.declared.need.Need.{Need}
 
 -- whether a leg in a state is counted
 abbrev pub counts : Counter → LegState → Bool
-counts counter.Open state = not (is_ended state)
-counts counter.Used state = is_under_way state
-counts counter.Failed state = has_failed state
-counts counter.Cancelled state = was_cancelled state
+counts Counter.Open state = not (is_ended state)
+counts Counter.Used state = is_under_way state
+counts Counter.Failed state = has_failed state
+counts Counter.Cancelled state = was_cancelled state
 
 -- how many of some legs are counted
 abbrev pub counted : Counter → List Leg → ℕ
@@ -34,10 +24,10 @@ abbrev pub tally_of : Job → Tally
 tally_of job =
     record {
       legs = length job.legs;
-      pending = counted counter.Open job.legs;
-      used = counted counter.Used job.legs;
-      failed = counted counter.Failed job.legs;
-      cancelled = counted counter.Cancelled job.legs;
+      pending = counted Counter.Open job.legs;
+      used = counted Counter.Used job.legs;
+      failed = counted Counter.Failed job.legs;
+      cancelled = counted Counter.Cancelled job.legs;
     }
 
 -- how the legs of each job of each run stand
@@ -56,10 +46,10 @@ abbrev pub moved : LegState → LegState → Tally → Tally
 moved was is t =
     record {
       legs = t.legs;
-      pending = turned t.legs t.pending (counts counter.Open was) (counts counter.Open is);
-      used = turned t.legs t.used (counts counter.Used was) (counts counter.Used is);
-      failed = turned t.legs t.failed (counts counter.Failed was) (counts counter.Failed is);
-      cancelled = turned t.legs t.cancelled (counts counter.Cancelled was) (counts counter.Cancelled is);
+      pending = turned t.legs t.pending (counts Counter.Open was) (counts Counter.Open is);
+      used = turned t.legs t.used (counts Counter.Used was) (counts Counter.Used is);
+      failed = turned t.legs t.failed (counts Counter.Failed was) (counts Counter.Failed is);
+      cancelled = turned t.legs t.cancelled (counts Counter.Cancelled was) (counts Counter.Cancelled is);
     }
 
 -- what is counted of a job that may be there

@@ -1,11 +1,7 @@
 -- Which jobs of a run need which.
 use Rattle.std.specs.Prelude.{ℕ, suc, ◌-◌, ◌==◌, List, [], ◌∷◌, ◌++◌, count_by, replicate, Option, Some, None, slice_get}
-use Rattle.board_decisions.specs.Place.{◌>>=◌}
-use Rattle.board_decisions.specs.declared.place.JobPlace.{JobPlace}
+use Rattle.status_table.specs.Words.{JobPlace, JobPlan, RunPlan, changed, ◌>>=◌}
 use Rattle.board_counters.specs.Counters.{first_number}
-use Rattle.flow_model.specs.declared.plan.JobPlan.{JobPlan}
-use Rattle.flow_model.specs.declared.plan.RunPlan.{RunPlan}
-use Rattle.status_table.specs.Change.{changed}
 
 -- how often needs name the job at a place of its run, whose first has this number
 abbrev pub times_named : ℕ → ℕ → List ℕ → ℕ

@@ -1,15 +1,7 @@
 -- Which legs have a done step that counts as a failure.
 use Rattle.std.specs.Prelude.{Bool, true, false, List, map, Option, Some, None, slice_get, if◌then◌else◌}
 use Rattle.std.specs.List.{list_any}
-use Rattle.board_decisions.specs.Derived.{is_failure}
-use Rattle.board_decisions.specs.Place.{◌>>=◌}
-use Rattle.board_decisions.specs.declared.place.LegPlace.{LegPlace}
-use Rattle.flow_model.specs.declared.board.Board.{Board}
-use Rattle.flow_model.specs.declared.board.DoneStep.{DoneStep}
-use Rattle.flow_model.specs.declared.board.Job.{Job}
-use Rattle.flow_model.specs.declared.board.Leg.{Leg}
-use Rattle.flow_model.specs.declared.board.Run.{Run}
-use Rattle.status_table.specs.Change.{changed}
+use Rattle.status_table.specs.Words.{Board, DoneStep, Job, Leg, LegPlace, Run, changed, is_failure, ◌>>=◌}
 
 -- whether a done step counts as a failure
 abbrev pub any_failed : List DoneStep → Bool

@@ -1,18 +1,10 @@
 -- What is kept beside a board and stays, whatever is changed of it.
 use Rattle.std.specs.Prelude.{◌≡◌, ℕ, List, Option, Some, None, slice_get}
 use Rattle.std.specs.List.{AllZip}
-use Rattle.board_decisions.specs.Calls.{AreCallsOf}
+use Rattle.status_table.specs.Words.{AreCallsOf, Board, Calls, JobPlace, JobPlan, Plan, RunPlan, job_places, leg_places, run_sizes, ◌>>=◌}
 use Rattle.board_decisions.specs.declared.kept.Called.TheVariants.{Unknown}
-use Rattle.board_decisions.specs.declared.kept.Calls.{Calls}
-use Rattle.board_decisions.specs.Place.{◌>>=◌}
-use Rattle.board_decisions.specs.Places.{job_places, leg_places, run_sizes}
-use Rattle.board_decisions.specs.declared.place.JobPlace.{JobPlace}
 use Rattle.board_counters.specs.Dependents.{all_dependents}
 use Rattle.board_counters.specs.declared.lasting.Lasting.{Lasting}
-use Rattle.flow_model.specs.declared.board.Board.{Board}
-use Rattle.flow_model.specs.declared.plan.JobPlan.{JobPlan}
-use Rattle.flow_model.specs.declared.plan.Plan.{Plan}
-use Rattle.flow_model.specs.declared.plan.RunPlan.{RunPlan}
 
 -- What is told of each step of a job of a workflow is so.
 abbrev pub TellsSteps : RunPlan → JobPlan → List Calls → Type 0

@@ -1,17 +1,9 @@
 -- How the jobs of a run that is Going stand, and how many of them stand how.
 use Rattle.std.specs.Prelude.{ℕ, ◌==◌, ◌&&◌, ◌||◌, Bool, true, false, not, List, length, nat_lt, count_by, Option, Some, None, slice_get, if◌then◌else◌}
-use Rattle.board_decisions.specs.Derived.{is_cancelled, is_failure, is_open, is_success, result_by}
-use Rattle.flow_model.specs.declared.board.Job.{Job}
-use Rattle.flow_model.specs.declared.board.JobState.{JobState}
-use Rattle.flow_model.specs.declared.board.JobState.TheVariants as job_state
-use Rattle.flow_model.specs.declared.board.Run.{Run}
-use Rattle.flow_model.specs.declared.board.RunState.TheVariants as run_state
-use Rattle.flow_model.specs.declared.event.Outcome.{Outcome}
-use Rattle.flow_model.specs.declared.event.Outcome.TheVariants as outcome
+use Rattle.status_table.specs.Words.{Job, JobState, Outcome, Run, RunState, is_cancelled, is_failure, is_open, is_success, result_by}
 use Rattle.board_counters.specs.Counters.{is_settled, tally_of, turned}
 use Rattle.board_counters.specs.declared.standing.JobStanding.{JobStanding}
 use Rattle.board_counters.specs.declared.standing.JobCounter.{JobCounter}
-use Rattle.board_counters.specs.declared.standing.JobCounter.TheVariants as counter
 use Rattle.board_counters.specs.declared.standing.RunTally.{RunTally}
 use Rattle.board_counters.specs.declared.tally.Tally.{Tally}
 
@@ -19,9 +11,9 @@ use Rattle.board_counters.specs.declared.tally.Tally.{Tally}
 
 -- a job that was not judged
 abbrev pub is_unjudged : JobState → Bool
-is_unjudged job_state.Unjudged = true
-is_unjudged job_state.Open = false
-is_unjudged (job_state.Shut result) = false
+is_unjudged JobState.Unjudged = true
+is_unjudged JobState.Open = false
+is_unjudged (JobState.Shut result) = false
 
 -- with the tally of a job's legs: whether one is Fresh, since more are not Ended than take a slot
 abbrev pub has_fresh : Tally → Bool
@@ -37,7 +29,7 @@ abbrev pub standing_of : Job → JobStanding
 standing_of job =
     record {
       is_settled = is_settled job;
-      result = result_by run_state.Going job.state job.legs;
+      result = result_by RunState.Going job.state job.legs;
       is_unjudged = is_unjudged job.state;
       may_ask = is_open job.state && has_fresh (tally_of job);
       may_drop = is_open job.state && has_left (tally_of job);
@@ -48,7 +40,7 @@ abbrev pub no_standing : JobStanding
 no_standing =
     record {
       is_settled = false;
-      result = outcome.Success;
+      result = Outcome.Success;
       is_unjudged = false;
       may_ask = false;
       may_drop = false;
@@ -59,11 +51,11 @@ no_standing =
 -- what the ends of legs come to
 abbrev pub tally_result : Tally → Outcome
 tally_result t =
-    if nat_lt 0 t.failed then outcome.Failure else (if nat_lt 0 t.cancelled then outcome.Cancelled else outcome.Success)
+    if nat_lt 0 t.failed then Outcome.Failure else (if nat_lt 0 t.cancelled then Outcome.Cancelled else Outcome.Success)
 
 -- how a job stands in a state, with a tally
 abbrev pub standing_by : JobState → Tally → JobStanding
-standing_by (job_state.Shut how) t =
+standing_by (JobState.Shut how) t =
     record {
       is_settled = true;
       result = how;
@@ -71,7 +63,7 @@ standing_by (job_state.Shut how) t =
       may_ask = false;
       may_drop = false;
     }
-standing_by job_state.Open t =
+standing_by JobState.Open t =
     record {
       is_settled = t.pending == 0;
       result = tally_result t;
@@ -79,7 +71,7 @@ standing_by job_state.Open t =
       may_ask = has_fresh t;
       may_drop = has_left t;
     }
-standing_by job_state.Unjudged t =
+standing_by JobState.Unjudged t =
     record {
       is_settled = t.pending == 0;
       result = tally_result t;
@@ -104,13 +96,13 @@ standing_read (Some run) (Some row) j = standing_given (slice_get run.jobs j) (s
 
 -- whether a job that stands so is counted
 abbrev pub counts_job : JobCounter → JobStanding → Bool
-counts_job counter.Open s = not s.is_settled
-counts_job counter.Failed s = is_failure s.result
-counts_job counter.Cancelled s = is_cancelled s.result
-counts_job counter.Unsuccessful s = not (is_success s.result)
-counts_job counter.Unjudged s = s.is_unjudged
-counts_job counter.Asking s = s.may_ask
-counts_job counter.Dropping s = s.may_drop
+counts_job JobCounter.Open s = not s.is_settled
+counts_job JobCounter.Failed s = is_failure s.result
+counts_job JobCounter.Cancelled s = is_cancelled s.result
+counts_job JobCounter.Unsuccessful s = not (is_success s.result)
+counts_job JobCounter.Unjudged s = s.is_unjudged
+counts_job JobCounter.Asking s = s.may_ask
+counts_job JobCounter.Dropping s = s.may_drop
 
 -- how many of some jobs are counted
 abbrev pub counted_jobs : JobCounter → List Job → ℕ
@@ -121,13 +113,13 @@ abbrev pub run_tally : Run → RunTally
 run_tally run =
     record {
       jobs = length run.jobs;
-      pending = counted_jobs counter.Open run.jobs;
-      failed = counted_jobs counter.Failed run.jobs;
-      cancelled = counted_jobs counter.Cancelled run.jobs;
-      unsuccessful = counted_jobs counter.Unsuccessful run.jobs;
-      unjudged = counted_jobs counter.Unjudged run.jobs;
-      asking = counted_jobs counter.Asking run.jobs;
-      dropping = counted_jobs counter.Dropping run.jobs;
+      pending = counted_jobs JobCounter.Open run.jobs;
+      failed = counted_jobs JobCounter.Failed run.jobs;
+      cancelled = counted_jobs JobCounter.Cancelled run.jobs;
+      unsuccessful = counted_jobs JobCounter.Unsuccessful run.jobs;
+      unjudged = counted_jobs JobCounter.Unjudged run.jobs;
+      asking = counted_jobs JobCounter.Asking run.jobs;
+      dropping = counted_jobs JobCounter.Dropping run.jobs;
     }
 
 -- the counts where one job stood so, and now stands so
@@ -135,13 +127,13 @@ abbrev pub run_moved : JobStanding → JobStanding → RunTally → RunTally
 run_moved was is t =
     record {
       jobs = t.jobs;
-      pending = turned t.jobs t.pending (counts_job counter.Open was) (counts_job counter.Open is);
-      failed = turned t.jobs t.failed (counts_job counter.Failed was) (counts_job counter.Failed is);
-      cancelled = turned t.jobs t.cancelled (counts_job counter.Cancelled was) (counts_job counter.Cancelled is);
-      unsuccessful = turned t.jobs t.unsuccessful (counts_job counter.Unsuccessful was) (counts_job counter.Unsuccessful is);
-      unjudged = turned t.jobs t.unjudged (counts_job counter.Unjudged was) (counts_job counter.Unjudged is);
-      asking = turned t.jobs t.asking (counts_job counter.Asking was) (counts_job counter.Asking is);
-      dropping = turned t.jobs t.dropping (counts_job counter.Dropping was) (counts_job counter.Dropping is);
+      pending = turned t.jobs t.pending (counts_job JobCounter.Open was) (counts_job JobCounter.Open is);
+      failed = turned t.jobs t.failed (counts_job JobCounter.Failed was) (counts_job JobCounter.Failed is);
+      cancelled = turned t.jobs t.cancelled (counts_job JobCounter.Cancelled was) (counts_job JobCounter.Cancelled is);
+      unsuccessful = turned t.jobs t.unsuccessful (counts_job JobCounter.Unsuccessful was) (counts_job JobCounter.Unsuccessful is);
+      unjudged = turned t.jobs t.unjudged (counts_job JobCounter.Unjudged was) (counts_job JobCounter.Unjudged is);
+      asking = turned t.jobs t.asking (counts_job JobCounter.Asking was) (counts_job JobCounter.Asking is);
+      dropping = turned t.jobs t.dropping (counts_job JobCounter.Dropping was) (counts_job JobCounter.Dropping is);
     }
 
 -- what is counted of a run that may be there
@@ -162,5 +154,5 @@ run_tally_there (Some t) = t
 -- the result of a run whose jobs stand so, by whether it is told to stop
 abbrev pub told_result : Bool → RunTally → Outcome
 told_result stop t =
-    if nat_lt 0 t.failed then outcome.Failure
-    else (if stop || nat_lt 0 t.cancelled then outcome.Cancelled else outcome.Success)
+    if nat_lt 0 t.failed then Outcome.Failure
+    else (if stop || nat_lt 0 t.cancelled then Outcome.Cancelled else Outcome.Success)

@@ -1,8 +1,6 @@
 -- How many legs the jobs of a run have, and how many of them are told to stop.
 use Rattle.std.specs.Prelude.{ℕ, Bool, false, List, length, count_by, sum_by, Option, Some, None}
-use Rattle.flow_model.specs.declared.board.Job.{Job}
-use Rattle.flow_model.specs.declared.board.Leg.{Leg}
-use Rattle.flow_model.specs.declared.board.Run.{Run}
+use Rattle.status_table.specs.Words.{Job, Leg, Run}
 use Rattle.board_counters.specs.Counters.{turned}
 use Rattle.board_counters.specs.declared.stopping.RunLegs.{RunLegs}
 

@@ -1,8 +1,6 @@
 -- A plan in play, with the board to which what was changed leads back.
 use Rattle.std.specs.Prelude.{ℕ}
-use Rattle.flow_model.specs.declared.board.Board.{Board}
-use Rattle.flow_model.specs.declared.plan.Plan.{Plan}
-use Rattle.status_table.specs.Play.{Play}
+use Rattle.status_table.specs.Words.{Board, Plan, Play}
 
 -- A plan and its board; the board to which the changes lead back; and how many more changes there is room for.
 pub record Track : Type 0 where

@@ -3,12 +3,10 @@ use Rattle.std.proofs.Common.{◌≡◌, ℕ, zero, suc, ◌+◌, ◌-◌, ◌<�
 use Rattle.std.specs.List.{list_all, list_any, Contains}
 use Rattle.std.proofs.lemmas.Bool.{true≢false, cases_lt, leb-true, le-leb}
 use Rattle.std.proofs.lemmas.Option.{slice_get-map}
+use Rattle.plan_values.specs.Words.{JobPlan, Outcome, Status}
 use Rattle.board_decisions.specs.Ancestors.{IsAncestor, need, of_need, SomeAncestor, SaysOf, NeedsPointBack, StandsAfterNeeds, any_need}
 use Rattle.board_decisions.specs.Derived.{holds, holds_at, places_needed, needs_at, some_ancestor, is_success, is_failure, job_results, status_by, ancestors_status, job_status}
 use Rattle.board_decisions.specs.Place.{JobAt}
-use Rattle.expr_value.specs.declared.status.Status.TheVariants as status
-use Rattle.flow_model.specs.declared.plan.JobPlan.{JobPlan}
-use Rattle.flow_model.specs.declared.event.Outcome.{Outcome}
 use Rattle.board_decisions.proofs.Lists.{and-left, and-right, and-both, get-left}
 
 -- ---- tests of lists
@@ -201,6 +199,6 @@ module _ (first : ℕ) (at : JobAt) (stands : StandsAfterNeeds first at) where
   pub status_says : SaysOf first at (job_status first at)
   status_says = by at.run.stop refl
     where
-      by : (stop : Bool) → at.run.stop ≡ stop → SaysOf first at (if stop then status.Cancelled else ancestors_status first at.run_plan.jobs (job_results at.run) at.place.job)
+      by : (stop : Bool) → at.run.stop ≡ stop → SaysOf first at (if stop then Status.Cancelled else ancestors_status first at.run_plan.jobs (job_results at.run) at.place.job)
       by true is = is
       by false is = by_results is (found is_failure) (found (λ result. not (is_success result))) refl refl

@@ -1,10 +1,9 @@
 -- The legs of a job have numbers that follow each other.
 use Rattle.std.proofs.Common.{◌≡◌, ℕ, suc, ◌+◌, ◌-◌, ◌≤◌, Bool, true, false, List, [], ◌∷◌, Some, Result, Ok, Err, length, nat_lt, if◌then◌else◌, ap, refl, arith}
+use Rattle.plan_values.specs.Words.{Job, Run}
 use Rattle.board_decisions.specs.Place.{leg_in_jobs, leg_place_from, else_from}
 use Rattle.board_decisions.specs.declared.place.LegPlace.{LegPlace}
 use Rattle.board_decisions.proofs.Lists.{same_some, no_some}
-use Rattle.flow_model.specs.declared.board.Run.{Run}
-use Rattle.flow_model.specs.declared.board.Job.{Job}
 
 -- the leg of the same job so many further on
 abbrev pub further : LegPlace → ℕ → LegPlace

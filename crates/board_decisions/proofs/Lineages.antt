@@ -4,12 +4,11 @@ use Rattle.std.specs.List.{list_any}
 use Rattle.std.proofs.Math.Seq.{take-suc}
 use Rattle.std.proofs.lemmas.List.{length-map, map-append}
 use Rattle.std.proofs.lemmas.List.Folds.{list_any-append}
+use Rattle.plan_values.specs.Words.{JobPlan, Outcome}
 use Rattle.board_decisions.specs.Ancestors.{NeedsPointBack, both, failures, lineage_at, lineage_in, lineage_of, unsuccesses}
 use Rattle.board_decisions.specs.Derived.{holds_at, is_failure, is_success, some_ancestor}
 use Rattle.board_decisions.specs.declared.ancestors.Lineage.{Lineage}
 use Rattle.board_decisions.proofs.Backwards.{marked, marked_more}
-use Rattle.flow_model.specs.declared.event.Outcome.{Outcome}
-use Rattle.flow_model.specs.declared.plan.JobPlan.{JobPlan}
 
 -- ---- the needs of one job
 

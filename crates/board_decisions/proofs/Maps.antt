@@ -1,9 +1,7 @@
 -- Maps of nodes, as the plain data that they stand for.
 use Rattle.std.proofs.Common.{◌≡◌, ℕ, List, ap, ◌∙◌, String, Global, BTreeMap}
+use Rattle.plan_values.specs.Words.{Map as MapNode, Node, pairs_of, view, viewed, with_pair}
 use Rattle.board_decisions.specs.Contexts.{object}
-use Rattle.flow_model.specs.Mapping.{pairs_of, with_pair}
-use Rattle.flow_model.specs.Value.{view, viewed}
-use Rattle.flow_model.specs.declared.value.Node.{Node, Map as MapNode}
 use Rattle.flow_model.proofs.Nodes.{view-Map}
 use Rattle.flow_model.proofs.Pairs.{map_values-with_pair}
 

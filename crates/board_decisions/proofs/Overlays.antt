@@ -2,11 +2,8 @@
 use Rattle.std.proofs.Common.{◌≡◌, ℕ, zero, suc, ◌+◌, List, [], ◌∷◌, Option, Some, None, drop, slice_get, length, refl, ap, ◌∙◌, ◌≤◌, add-one}
 use Rattle.std.specs.List.{zip, filter_map, cons_option}
 use Rattle.std.proofs.lemmas.List.{drop_all}
+use Rattle.plan_values.specs.Words.{DoneStep, Plain, StepPlan, laid_over}
 use Rattle.board_decisions.specs.Contexts.{step_pair, planned_pair}
-use Rattle.flow_model.specs.declared.board.DoneStep.{DoneStep}
-use Rattle.flow_model.specs.declared.plan.StepPlan.{StepPlan}
-use Rattle.flow_model.specs.Plain.{Plain}
-use Rattle.plan_values.specs.Env.{laid_over}
 
 one_laid : {V : Type 0} (o : Option (List ℕ × V)) (others made : List (List ℕ × V)) → laid_over (cons_option o others) made ≡ laid_over others (laid_over (cons_option o []) made)
 unfolding laid_over

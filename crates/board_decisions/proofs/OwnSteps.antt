@@ -1,5 +1,6 @@
 -- A step of whose texts none is evaluated but its condition has no other fault: it is called where that holds.
 use Rattle.std.proofs.Common.{◌≡◌, ℕ, Bool, true, false, List, Option, None, Some, Result, Ok, Err, length, refl, ap, sym, subst, ◌∙◌}
+use Rattle.plan_values.specs.Words.{CallWork, Contexts, Env, HasNoFault, JobPlan, Outcome, Plain, RunPlan, Shell, Status, StepPlan, ValueFault, Work, condition_value, env_value, text_text}
 use Rattle.board_decisions.specs.Calls.{AreCallsOf, Tells, called_as}
 use Rattle.board_decisions.specs.Decisions.{then_value, flow_env, job_env, leg_env, step_env, seen_from, directory_value, work_value, called_if, step_decision, is_called, leg_result, leg_status, status_of}
 use Rattle.board_decisions.specs.Own.{HasOwnEnv, IsOwnStep}
@@ -7,24 +8,7 @@ use Rattle.board_decisions.specs.declared.kept.Called.{Called}
 use Rattle.board_decisions.specs.declared.kept.Called.TheVariants.{Yes, No, Unknown}
 use Rattle.board_decisions.specs.declared.kept.Calls.{Calls}
 use Rattle.board_decisions.specs.Place.{LegAt}
-use Rattle.expr_value.specs.Context.{Contexts}
-use Rattle.expr_value.specs.declared.status.Status.{Status}
-use Rattle.expr_value.specs.declared.status.Status.TheVariants as status
-use Rattle.flow_model.specs.declared.event.Outcome.{Outcome}
-use Rattle.flow_model.specs.declared.event.Outcome.TheVariants as outcome
-use Rattle.flow_model.specs.declared.plan.JobPlan.{JobPlan}
-use Rattle.flow_model.specs.declared.plan.RunPlan.{RunPlan}
-use Rattle.flow_model.specs.declared.plan.Shell.{Shell}
-use Rattle.flow_model.specs.declared.plan.StepPlan.{StepPlan}
-use Rattle.flow_model.specs.declared.plan.Work.TheVariants as work
-use Rattle.flow_model.specs.declared.reply.CallWork.{CallWork}
-use Rattle.flow_model.specs.declared.reply.ValueFault.{ValueFault}
-use Rattle.flow_model.specs.Plain.{Plain}
-use Rattle.plan_values.specs.Env.{env_value}
-use Rattle.plan_values.specs.Own.{HasNoFault}
-use Rattle.plan_values.specs.Texts.{text_text, condition_value}
-use Rattle.plan_values.specs.Values.{Env}
-use Rattle.plan_values.specs.declared.place.TextPlace.TheVariants as place
+use Rattle.plan_values.specs.declared.place.TextPlace.{TextPlace}
 
 then_none : {A B : Type 0} (r : Result A ValueFault) (next : A → Result B ValueFault) → HasNoFault r → ((x : A) → HasNoFault (next x)) → HasNoFault (then_value r next)
 then_none (Ok x) next h k = k x
@@ -38,12 +22,12 @@ pub some_directory : (c : Contexts) (dir : List ℕ) → HasNoFault (text_text c
 some_directory c dir h = then_none (text_text c dir) (λ bytes. Ok (Some bytes)) h (λ bytes. tt)
 
 -- A script whose text and directory have none.
-pub own_script : (c : Contexts) (dir : Option (List ℕ)) (run : List ℕ) (shell : Shell) → HasNoFault (text_text c run) → HasNoFault (directory_value c dir) → HasNoFault (work_value c (work.Run dir run shell))
+pub own_script : (c : Contexts) (dir : Option (List ℕ)) (run : List ℕ) (shell : Shell) → HasNoFault (text_text c run) → HasNoFault (directory_value c dir) → HasNoFault (work_value c (Work.Run dir run shell))
 unfolding work_value
 own_script c dir run shell h k = then_none (text_text c run) _ h (λ script. then_none (directory_value c dir) _ k (λ there. tt))
 
 -- An action whose inputs have none.
-pub own_action : (c : Contexts) (uses : List ℕ) (given : List (List ℕ × Plain)) → HasNoFault (env_value c given) → HasNoFault (work_value c (work.Uses uses given))
+pub own_action : (c : Contexts) (uses : List ℕ) (given : List (List ℕ × Plain)) → HasNoFault (env_value c given) → HasNoFault (work_value c (Work.Uses uses given))
 unfolding work_value
 own_action c uses given h = then_none (env_value c given) _ h (λ inputs. tt)
 
@@ -55,7 +39,7 @@ own_env at step own =
 
 called_by : (l : ℕ) (at : LegAt) (step : StepPlan) (env : Env) (holds : Bool) → IsOwnStep at (record step { condition = None }) → is_called (called_if l at step env holds) ≡ Ok holds
 called_by l at step env false own = refl
-called_by l at step env true own = by_work (work_value (seen_from at place.StepText env) step.work) (own.work _)
+called_by l at step env true own = by_work (work_value (seen_from at TextPlace.StepText env) step.work) (own.work _)
   where
     by_work : (r : Result CallWork ValueFault) → HasNoFault r → is_called (then_value r (λ asked. Ok (Some (record { leg = l; step = length at.leg.steps; work = asked; env = env })))) ≡ Ok true
     by_work (Ok asked) h = refl
@@ -68,9 +52,9 @@ unfolding step_decision
 own_step l at step holds own held = by_env (step_env at step) (own_env at step own)
   where
     by_env : (r : Result Env ValueFault) → HasNoFault r
-        → is_called (then_value r (λ env. then_value (condition_value (seen_from at place.StepCondition env) (leg_status at) step.condition) (called_if l at step env))) ≡ Ok holds
+        → is_called (then_value r (λ env. then_value (condition_value (seen_from at TextPlace.StepCondition env) (leg_status at) step.condition) (called_if l at step env))) ≡ Ok holds
     by_env (Ok env) h =
-        ap (λ (r : Result Bool ValueFault). is_called (then_value r (called_if l at step env))) (held (seen_from at place.StepCondition env))
+        ap (λ (r : Result Bool ValueFault). is_called (then_value r (called_if l at step env))) (held (seen_from at TextPlace.StepCondition env))
         ∙ called_by l at step env holds own
     by_env (Err fault) h = absurd h
 
@@ -83,9 +67,9 @@ told_called l at step Unknown own held = tt
 
 -- What is told of its condition by each status is told of whether it is called, by how its leg counts.
 pub calls_told : (run : RunPlan) (job : JobPlan) (step : StepPlan) (calls : Calls) → HasOwnEnv run job → ((c : Contexts) → HasNoFault (env_value c step.env))
-    → ((c : Contexts) → HasNoFault (work_value c step.work)) → ((c : Contexts) → Tells calls.success (condition_value c status.Success step.condition))
-    → ((c : Contexts) → Tells calls.failure (condition_value c status.Failure step.condition))
-    → ((c : Contexts) → Tells calls.cancelled (condition_value c status.Cancelled step.condition)) → AreCallsOf run job step calls
+    → ((c : Contexts) → HasNoFault (work_value c step.work)) → ((c : Contexts) → Tells calls.success (condition_value c Status.Success step.condition))
+    → ((c : Contexts) → Tells calls.failure (condition_value c Status.Failure step.condition))
+    → ((c : Contexts) → Tells calls.cancelled (condition_value c Status.Cancelled step.condition)) → AreCallsOf run job step calls
 calls_told run job step calls outer own asks succeeds fails cancels l at in_run in_job = by_result (leg_result at) refl
   where
     is_own : IsOwnStep at (record step { condition = None })
@@ -102,7 +86,7 @@ calls_told run job step calls outer own asks succeeds fails cancels l at in_run 
     told called how is held = told_called l at step called is_own (λ c. subst (λ (s : Status). Tells called (condition_value c s step.condition)) (sym (ap status_of is)) (held c))
 
     by_result : (how : Outcome) → leg_result at ≡ how → Tells (called_as calls how) (is_called (step_decision l at step))
-    by_result outcome.Success is = told calls.success outcome.Success is succeeds
-    by_result outcome.Failure is = told calls.failure outcome.Failure is fails
-    by_result outcome.Cancelled is = told calls.cancelled outcome.Cancelled is cancels
-    by_result outcome.Skipped is = tt
+    by_result Outcome.Success is = told calls.success Outcome.Success is succeeds
+    by_result Outcome.Failure is = told calls.failure Outcome.Failure is fails
+    by_result Outcome.Cancelled is = told calls.cancelled Outcome.Cancelled is cancels
+    by_result Outcome.Skipped is = tt

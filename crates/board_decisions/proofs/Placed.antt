@@ -1,14 +1,12 @@
 -- The place of a number is that item of all places.
 use Rattle.std.proofs.Common.{◌≡◌, ℕ, zero, suc, ◌+◌, ◌-◌, ◌<◌, ◌≤◌, Bool, true, false, List, [], ◌∷◌, ◌++◌, Some, Ok, length, map, drop, slice_get, nat_lt, if◌then◌else◌, append_assoc, ap, sym, refl, ◌∙◌, arith}
 use Rattle.std.proofs.lemmas.List.{map-append, length-append, length-map}
+use Rattle.plan_values.specs.Words.{Board, Job, Run}
 use Rattle.board_decisions.specs.Place.{job_place, job_place_from, leg_in_jobs, leg_place, leg_place_from, else_from}
 use Rattle.board_decisions.specs.Places.{numbers, sizes, run_sizes, job_in, all_jobs_from, job_places, leg_of, legs_from, all_legs_from, leg_places}
 use Rattle.board_decisions.specs.declared.place.JobPlace.{JobPlace}
 use Rattle.board_decisions.specs.declared.place.LegPlace.{LegPlace}
 use Rattle.board_decisions.proofs.Lists.{get-left, get-right, map-get}
-use Rattle.flow_model.specs.declared.board.Board.{Board}
-use Rattle.flow_model.specs.declared.board.Run.{Run}
-use Rattle.flow_model.specs.declared.board.Job.{Job}
 
 length-numbers : (n : ℕ) → length (numbers n) ≡ n
 length-numbers zero = refl

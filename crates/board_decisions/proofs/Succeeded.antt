@@ -2,12 +2,9 @@
 use Rattle.std.proofs.Common.{◌≡◌, ℕ, zero, suc, ◌||◌, Bool, true, false, not, List, [], ◌∷◌, map, length, if◌then◌else◌, ap, sym, refl, ◌∙◌}
 use Rattle.std.specs.List.{list_all, list_any}
 use Rattle.std.proofs.lemmas.Bool.{true≢false}
+use Rattle.plan_values.specs.Words.{JobPlan, Outcome, Status}
 use Rattle.board_decisions.specs.Derived.{all_succeed, ancestors_status, holds_at, is_failure, is_success, job_results, job_status, needs_at, some_ancestor, status_by}
 use Rattle.board_decisions.specs.Place.{JobAt}
-use Rattle.expr_value.specs.declared.status.Status.TheVariants as status
-use Rattle.flow_model.specs.declared.plan.JobPlan.{JobPlan}
-use Rattle.flow_model.specs.declared.event.Outcome.{Outcome}
-use Rattle.flow_model.specs.declared.event.Outcome.TheVariants as outcome
 use Rattle.board_decisions.proofs.Lists.{and-left, and-right}
 use Rattle.board_decisions.proofs.Backwards.{any-never}
 
@@ -26,16 +23,16 @@ no-ancestor first jobs tests none (suc n) k = never (λ need. holds_at tests nee
     (λ need. ap (λ c. c || some_ancestor first jobs tests n need) (none need) ∙ no-ancestor first jobs tests none n need)
 
 not-failed : (how : Outcome) → is_success how ≡ true → is_failure how ≡ false
-not-failed outcome.Failure h = absurd (true≢false (sym h))
+not-failed Outcome.Failure h = absurd (true≢false (sym h))
 not-failed how h = refl
 
 not-unsuccessful : (how : Outcome) → is_success how ≡ true → not (is_success how) ≡ false
 not-unsuccessful how h = ap not h
 
-pub all_succeeded : (first : ℕ) (at : JobAt) → at.run.stop ≡ false → all_succeed at.run ≡ true → job_status first at ≡ status.Success
+pub all_succeeded : (first : ℕ) (at : JobAt) → at.run.stop ≡ false → all_succeed at.run ≡ true → job_status first at ≡ Status.Success
 all_succeeded first at going all =
     let results = job_results at.run in
     let jobs = at.run_plan.jobs in
     let failed = no-ancestor first jobs (map is_failure results) (no-test is_failure not-failed results all) (length jobs) at.place.job in
     let unsuccessful = no-ancestor first jobs (map (λ how. not (is_success how)) results) (no-test (λ how. not (is_success how)) not-unsuccessful results all) (length jobs) at.place.job in
-    ap (λ (stop : Bool). if stop then status.Cancelled else ancestors_status first jobs results at.place.job) going ∙ (λ i. status_by (failed i) (unsuccessful i))
+    ap (λ (stop : Bool). if stop then Status.Cancelled else ancestors_status first jobs results at.place.job) going ∙ (λ i. status_by (failed i) (unsuccessful i))

@@ -1,13 +1,10 @@
 -- The ancestors of a job, and what their results make of its status.
 use Rattle.std.specs.Prelude.{◌≡◌, ℕ, ◌+◌, ◌-◌, ◌<◌, ◌&&◌, ◌||◌, Bool, true, false, not, List, map, length, Some, slice_get, nat_le, nat_lt}
 use Rattle.std.specs.List.{list_all, list_any, Contains}
+use Rattle.plan_values.specs.Words.{JobPlan, Outcome, Status}
 use Rattle.board_decisions.specs.declared.ancestors.Lineage.{Lineage}
 use Rattle.board_decisions.specs.Derived.{needs_at, holds_at, any_ancestor, is_success, is_failure, job_results}
 use Rattle.board_decisions.specs.Place.{JobAt}
-use Rattle.expr_value.specs.declared.status.Status.{Status}
-use Rattle.expr_value.specs.declared.status.Status.TheVariants as status
-use Rattle.flow_model.specs.declared.plan.JobPlan.{JobPlan}
-use Rattle.flow_model.specs.declared.event.Outcome.{Outcome}
 
 -- An ancestor of a job is a job that it needs, or an ancestor of one. Both are told by their places in the
 -- run, whose first job has the number `first`.
@@ -31,10 +28,10 @@ EachAncestor first at test =
 -- What a status says of a job: its run was told to stop; else an ancestor failed; else each ancestor
 -- succeeded; else some did not succeed, and none failed.
 abbrev pub SaysOf : ℕ → JobAt → Status → Type 0
-SaysOf first at status.Cancelled = at.run.stop ≡ true
-SaysOf first at status.Failure = (at.run.stop ≡ false) × SomeAncestor first at is_failure
-SaysOf first at status.Success = (at.run.stop ≡ false) × EachAncestor first at is_success
-SaysOf first at status.Other =
+SaysOf first at Status.Cancelled = at.run.stop ≡ true
+SaysOf first at Status.Failure = (at.run.stop ≡ false) × SomeAncestor first at is_failure
+SaysOf first at Status.Success = (at.run.stop ≡ false) × EachAncestor first at is_success
+SaysOf first at Status.Other =
     (at.run.stop ≡ false) × SomeAncestor first at (λ result. not (is_success result))
     × EachAncestor first at (λ result. not (is_failure result))
 

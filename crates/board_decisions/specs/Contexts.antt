@@ -1,26 +1,13 @@
 -- What the contexts are, seen from a job and from a leg in play (GitHub Docs, "Contexts reference").
 use Rattle.std.specs.Prelude.{ℕ, pos, ◌-◌, ◌==◌, ◌&&◌, List, [], ◌∷◌, map, length, codes, nat_le, Option, Some, None, slice_get, if◌then◌else◌}
 use Rattle.std.specs.List.{zip, filter_map}
+use Rattle.plan_values.specs.Words.{Board, Context, DoneStep, Env, JobPlan, Leg, Outcome, Plain, RunPlan, StepPlan, Values, env_context, greatest, laid_over, members_of, text, truth, whole, with_pair}
 use Rattle.board_decisions.specs.Derived.{job_result}
 use Rattle.board_decisions.specs.Numbered.{leg_there}
 use Rattle.board_decisions.specs.Place.{◌>>=◌, JobAt, LegAt, job_in_run, leg_place}
 use Rattle.board_decisions.specs.declared.place.JobPlace.{JobPlace}
 use Rattle.board_decisions.specs.declared.place.LegPlace.{LegPlace}
-use Rattle.expr_reader.specs.declared.tree.Context.TheVariants as context
-use Rattle.flow_model.specs.Mapping.{with_pair}
-use Rattle.flow_model.specs.Plain.{Plain, text, truth, whole, members_of}
 use Rattle.flow_model.specs.Plain as plain
-use Rattle.flow_model.specs.Rules.{greatest}
-use Rattle.flow_model.specs.declared.board.Board.{Board}
-use Rattle.flow_model.specs.declared.board.DoneStep.{DoneStep}
-use Rattle.flow_model.specs.declared.board.Leg.{Leg}
-use Rattle.flow_model.specs.declared.event.Outcome.{Outcome}
-use Rattle.flow_model.specs.declared.event.Outcome.TheVariants as outcome
-use Rattle.flow_model.specs.declared.plan.JobPlan.{JobPlan}
-use Rattle.flow_model.specs.declared.plan.RunPlan.{RunPlan}
-use Rattle.flow_model.specs.declared.plan.StepPlan.{StepPlan}
-use Rattle.plan_values.specs.Env.{laid_over}
-use Rattle.plan_values.specs.Values.{Values, Env, env_context}
 
 -- A map of these pairs.
 abbrev pub object : List (List ℕ × Plain) → Plain
@@ -28,10 +15,10 @@ object pairs = plain.map (members_of pairs)
 
 -- The text of a result.
 abbrev pub result_name : Outcome → List ℕ
-result_name outcome.Success = codes "success"
-result_name outcome.Failure = codes "failure"
-result_name outcome.Cancelled = codes "cancelled"
-result_name outcome.Skipped = codes "skipped"
+result_name Outcome.Success = codes "success"
+result_name Outcome.Failure = codes "failure"
+result_name Outcome.Cancelled = codes "cancelled"
+result_name Outcome.Skipped = codes "skipped"
 
 -- A count as a whole number; one that is greater than any is shown as the greatest.
 abbrev pub count : ℕ → Plain
@@ -106,17 +93,17 @@ needs_value at = object (with_needs at at.plan.needs [])
 
 -- The value of each context, seen from a run: what it was handed.
 unfoldable pub run_values : RunPlan → Values
-run_values plan context.Github = github_value plan
-run_values plan context.Inputs = object plan.roots.inputs
-run_values plan context.Vars = object plan.roots.vars
-run_values plan context.Secrets = object plan.roots.secrets
+run_values plan Context.Github = github_value plan
+run_values plan Context.Inputs = object plan.roots.inputs
+run_values plan Context.Vars = object plan.roots.vars
+run_values plan Context.Secrets = object plan.roots.secrets
 run_values plan other = object []
 
 -- ---- what a job sees
 
 -- The value of each context, seen from a job.
 unfoldable pub job_values : JobAt → Values
-job_values at context.Needs = needs_value at
+job_values at Context.Needs = needs_value at
 job_values at other = run_values at.run_plan other
 
 -- ---- what a leg sees
@@ -195,11 +182,11 @@ steps_value at = object (laid_over (filter_map step_pair (zip at.job_plan.steps 
 
 -- The value of each context, seen from a leg that counts so.
 unfoldable pub leg_values_by : Outcome → LegAt → Values
-leg_values_by result at context.Strategy = strategy_value at
-leg_values_by result at context.Matrix = matrix_value at
-leg_values_by result at context.Job = job_value result
-leg_values_by result at context.Steps = steps_value at
-leg_values_by result at context.Env = object []
-leg_values_by result at context.Jobs = object []
-leg_values_by result at context.Runner = object []
+leg_values_by result at Context.Strategy = strategy_value at
+leg_values_by result at Context.Matrix = matrix_value at
+leg_values_by result at Context.Job = job_value result
+leg_values_by result at Context.Steps = steps_value at
+leg_values_by result at Context.Env = object []
+leg_values_by result at Context.Jobs = object []
+leg_values_by result at Context.Runner = object []
 leg_values_by result at other = job_values (job_of at) other

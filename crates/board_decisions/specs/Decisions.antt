@@ -2,31 +2,12 @@
 -- groups. The rows of the table say only what follows from it.
 use Rattle.std.specs.Prelude.{ℕ, ◌&&◌, ◌||◌, Bool, true, false, not, List, [], ◌∷◌, map, length, Option, Some, None, Result, Ok, Err, if◌then◌else◌}
 use Rattle.std.specs.List.{list_any}
+use Rattle.plan_values.specs.Words.{CallWork, Contexts, DoneStep, Env, Group, Outcome, Status, StepCall, StepPlan, ValueFault, Values, Work, condition_value, contexts_at, env_value, flag_value, fold, laid_over, outputs_value, text_text, with_env}
 use Rattle.board_decisions.specs.Contexts.{overlaid, run_values, job_values, job_of, leg_values_by}
 use Rattle.board_decisions.specs.Derived.{is_failure, has_failed}
 use Rattle.board_decisions.specs.Place.{RunAt, JobAt, LegAt}
 use Rattle.board_decisions.specs.declared.entrance.Entrance.{Entrance}
-use Rattle.expr_reader.specs.Fold.{fold}
-use Rattle.expr_value.specs.Context.{Contexts}
-use Rattle.expr_value.specs.declared.status.Status.{Status}
-use Rattle.expr_value.specs.declared.status.Status.TheVariants as status
-use Rattle.flow_model.specs.declared.board.DoneStep.{DoneStep}
-use Rattle.flow_model.specs.declared.event.Outcome.{Outcome}
-use Rattle.flow_model.specs.declared.event.Outcome.TheVariants as outcome
-use Rattle.flow_model.specs.declared.plan.Group.{Group}
-use Rattle.flow_model.specs.declared.plan.StepPlan.{StepPlan}
-use Rattle.flow_model.specs.declared.plan.Work.{Work}
-use Rattle.flow_model.specs.declared.plan.Work.TheVariants as work
-use Rattle.flow_model.specs.declared.reply.CallWork.{CallWork}
-use Rattle.flow_model.specs.declared.reply.CallWork.TheVariants as call_work
-use Rattle.flow_model.specs.declared.reply.StepCall.{StepCall}
-use Rattle.flow_model.specs.declared.reply.ValueFault.{ValueFault}
-use Rattle.plan_values.specs.Env.{env_value, laid_over}
-use Rattle.plan_values.specs.Outputs.{outputs_value}
-use Rattle.plan_values.specs.Texts.{text_text, condition_value, flag_value}
-use Rattle.plan_values.specs.Values.{Values, Env, contexts_at, with_env}
 use Rattle.plan_values.specs.declared.place.TextPlace.{TextPlace}
-use Rattle.plan_values.specs.declared.place.TextPlace.TheVariants as place
 
 -- What follows from a value, unless there was a fault.
 abbrev pub then_value : {A B : Type 0} → Result A ValueFault → (A → Result B ValueFault) → Result B ValueFault
@@ -38,7 +19,7 @@ then_value (Err f) next = Err f
 -- The value of a job's condition under a status.
 unfoldable pub job_condition : JobAt → Status → Result Bool ValueFault
 job_condition at s =
-    condition_value (contexts_at place.JobCondition (with_env [] (job_values at))) s at.plan.condition
+    condition_value (contexts_at TextPlace.JobCondition (with_env [] (job_values at))) s at.plan.condition
 
 -- A condition that gives true; a fault does not.
 abbrev pub is_true : Result Bool ValueFault → Bool
@@ -54,21 +35,21 @@ stops_anyway at = at.leg.stop || (at.job_plan.fail_fast && list_any (λ leg. has
 -- job's condition does not give true as that of a cancelled one.
 abbrev pub is_stopping : LegAt → Bool
 is_stopping at =
-    stops_anyway at || (at.run.stop && not (is_true (job_condition (job_of at) status.Cancelled)))
+    stops_anyway at || (at.run.stop && not (is_true (job_condition (job_of at) Status.Cancelled)))
 
 -- How a leg counts so far: cancelled where it is to stop, else failure where a done step counts as one.
 abbrev pub leg_result : LegAt → Outcome
 leg_result at =
-    if is_stopping at then outcome.Cancelled
-    else (if list_any (λ step. is_failure step.conclusion) at.leg.steps then outcome.Failure
-    else outcome.Success)
+    if is_stopping at then Outcome.Cancelled
+    else (if list_any (λ step. is_failure step.conclusion) at.leg.steps then Outcome.Failure
+    else Outcome.Success)
 
 -- A result as a status.
 abbrev pub status_of : Outcome → Status
-status_of outcome.Success = status.Success
-status_of outcome.Failure = status.Failure
-status_of outcome.Cancelled = status.Cancelled
-status_of outcome.Skipped = status.Other
+status_of Outcome.Success = Status.Success
+status_of Outcome.Failure = Status.Failure
+status_of Outcome.Cancelled = Status.Cancelled
+status_of Outcome.Skipped = Status.Other
 
 -- The status of a leg.
 abbrev pub leg_status : LegAt → Status
@@ -86,12 +67,12 @@ seen_from at spot env = contexts_at spot (with_env env (leg_values at))
 
 -- The variables of the workflow.
 unfoldable pub flow_env : LegAt → Result Env ValueFault
-flow_env at = env_value (seen_from at place.WorkflowEnv []) at.run_plan.env
+flow_env at = env_value (seen_from at TextPlace.WorkflowEnv []) at.run_plan.env
 
 -- The variables of the job over others.
 abbrev pub job_env_over : LegAt → Env → Result Env ValueFault
 job_env_over at below =
-    then_value (env_value (seen_from at place.JobEnv []) at.job_plan.env) (λ above.
+    then_value (env_value (seen_from at TextPlace.JobEnv []) at.job_plan.env) (λ above.
     Ok (laid_over above below))
 
 -- The variables of the workflow, and those of the job over them.
@@ -111,7 +92,7 @@ leg_env at = then_value (job_env at) (λ below. Ok (set_over at.leg.steps below)
 unfoldable pub step_env : LegAt → StepPlan → Result Env ValueFault
 step_env at step =
     then_value (leg_env at) (λ below.
-    then_value (env_value (seen_from at place.StepEnv below) step.env) (λ above. Ok (laid_over above below)))
+    then_value (env_value (seen_from at TextPlace.StepEnv below) step.env) (λ above. Ok (laid_over above below)))
 
 -- The variables, and none where there is a fault.
 abbrev pub or_none : Result Env ValueFault → Env
@@ -128,16 +109,16 @@ directory_value c (Some dir) = then_value (text_text c dir) (λ bytes. Ok (Some 
 -- What a call asks for: the script and then its directory,
 -- or the inputs of an action in the order of their names.
 unfoldable pub work_value : Contexts → Work → Result CallWork ValueFault
-work_value c (work.Run dir run shell) =
+work_value c (Work.Run dir run shell) =
     then_value (text_text c run) (λ script.
-    then_value (directory_value c dir) (λ there. Ok (call_work.Script script shell there)))
-work_value c (work.Uses uses given) =
-    then_value (env_value c given) (λ inputs. Ok (call_work.Uses uses inputs))
+    then_value (directory_value c dir) (λ there. Ok (CallWork.Script script shell there)))
+work_value c (Work.Uses uses given) =
+    then_value (env_value c given) (λ inputs. Ok (CallWork.Uses uses inputs))
 
 -- The call of a step, whose variables are these.
 abbrev pub call_value : ℕ → LegAt → StepPlan → Env → Result (Option StepCall) ValueFault
 call_value l at step env =
-    then_value (work_value (seen_from at place.StepText env) step.work) (λ asked.
+    then_value (work_value (seen_from at TextPlace.StepText env) step.work) (λ asked.
     Ok (Some (record { leg = l; step = length at.leg.steps; work = asked; env = env })))
 
 -- A step is called where its condition holds, and else not.
@@ -150,7 +131,7 @@ called_if l at step env false = Ok None
 unfoldable pub step_decision : ℕ → LegAt → StepPlan → Result (Option StepCall) ValueFault
 step_decision l at step =
     then_value (step_env at step) (λ env.
-    then_value (condition_value (seen_from at place.StepCondition env) (leg_status at) step.condition)
+    then_value (condition_value (seen_from at TextPlace.StepCondition env) (leg_status at) step.condition)
     (called_if l at step env))
 
 -- A step is called, or not, or its texts have a fault.
@@ -163,15 +144,15 @@ is_called (Err f) = Err f
 
 -- A failure of a step may be passed over. Where its variables have a fault, it sees none.
 unfoldable pub step_tolerates : LegAt → StepPlan → Bool
-step_tolerates at step = flag_value (seen_from at place.StepText (or_none (step_env at step))) step.tolerate
+step_tolerates at step = flag_value (seen_from at TextPlace.StepText (or_none (step_env at step))) step.tolerate
 
 -- A failure of a leg may be passed over.
 unfoldable pub job_tolerates : LegAt → Bool
-job_tolerates at = flag_value (seen_from at place.JobGroup []) at.job_plan.tolerate
+job_tolerates at = flag_value (seen_from at TextPlace.JobGroup []) at.job_plan.tolerate
 
 -- The outputs that a leg gives its job. Where its variables have a fault, they see none.
 unfoldable pub leg_outputs : LegAt → Env
-leg_outputs at = outputs_value (seen_from at place.StepEnv (or_none (leg_env at))) at.job_plan.outputs
+leg_outputs at = outputs_value (seen_from at TextPlace.StepEnv (or_none (leg_env at))) at.job_plan.outputs
 
 -- ---- how a member enters its group
 
@@ -190,8 +171,8 @@ entrance_value c (Some group) =
 -- How a run enters its workflow's group, if there is one.
 unfoldable pub run_entrance : RunAt → Result (Option Entrance) ValueFault
 run_entrance at =
-    entrance_value (contexts_at place.WorkflowGroup (with_env [] (run_values at.plan))) at.plan.group
+    entrance_value (contexts_at TextPlace.WorkflowGroup (with_env [] (run_values at.plan))) at.plan.group
 
 -- How a leg enters its job's group, if there is one.
 unfoldable pub leg_entrance : LegAt → Result (Option Entrance) ValueFault
-leg_entrance at = entrance_value (seen_from at place.JobGroup []) at.job_plan.group
+leg_entrance at = entrance_value (seen_from at TextPlace.JobGroup []) at.job_plan.group

@@ -1,89 +1,76 @@
 -- What follows from a board: what has ended, the results of jobs, what is to stop, and the statuses.
 use Rattle.std.specs.Prelude.{ℕ, zero, suc, ◌-◌, ◌&&◌, ◌||◌, Bool, true, false, not, List, [], map, length, Option, Some, None, slice_get, nat_le, count_by, if◌then◌else◌}
 use Rattle.std.specs.List.{list_all, list_any}
+use Rattle.plan_values.specs.Words.{Job, JobPlan, JobState, Leg, LegState, Outcome, Run, RunState, Status}
 use Rattle.board_decisions.specs.Place.{JobAt}
-use Rattle.expr_value.specs.declared.status.Status.{Status}
-use Rattle.expr_value.specs.declared.status.Status.TheVariants as status
-use Rattle.flow_model.specs.declared.plan.JobPlan.{JobPlan}
-use Rattle.flow_model.specs.declared.board.Run.{Run}
-use Rattle.flow_model.specs.declared.board.RunState.{RunState}
-use Rattle.flow_model.specs.declared.board.RunState.TheVariants as run_state
-use Rattle.flow_model.specs.declared.board.Job.{Job}
-use Rattle.flow_model.specs.declared.board.JobState.{JobState}
-use Rattle.flow_model.specs.declared.board.JobState.TheVariants as job_state
-use Rattle.flow_model.specs.declared.board.Leg.{Leg}
-use Rattle.flow_model.specs.declared.board.LegState.{LegState}
-use Rattle.flow_model.specs.declared.board.LegState.TheVariants as leg_state
-use Rattle.flow_model.specs.declared.event.Outcome.{Outcome}
-use Rattle.flow_model.specs.declared.event.Outcome.TheVariants as outcome
 
 -- ---- states
 
 -- a run that is Going
 abbrev pub is_going : RunState → Bool
-is_going run_state.Going = true
+is_going RunState.Going = true
 is_going other = false
 
 -- a run that has ended
 abbrev pub is_closed : RunState → Bool
-is_closed (run_state.Closed result) = true
+is_closed (RunState.Closed result) = true
 is_closed other = false
 
 -- a job that was opened
 abbrev pub is_open : JobState → Bool
-is_open job_state.Open = true
+is_open JobState.Open = true
 is_open other = false
 
 -- a job that was shut in place of being opened
 abbrev pub is_shut : JobState → Bool
-is_shut (job_state.Shut result) = true
+is_shut (JobState.Shut result) = true
 is_shut other = false
 
 -- a leg that has not asked yet
 abbrev pub is_fresh : LegState → Bool
-is_fresh leg_state.Fresh = true
+is_fresh LegState.Fresh = true
 is_fresh other = false
 
 -- a leg that no worker took, and that has not ended
 abbrev pub is_untaken : LegState → Bool
-is_untaken (leg_state.Running worker in_call) = false
-is_untaken (leg_state.Ended result tolerated) = false
+is_untaken (LegState.Running worker in_call) = false
+is_untaken (LegState.Ended result tolerated) = false
 is_untaken other = true
 
 -- a leg that is Ended
 abbrev pub is_ended : LegState → Bool
-is_ended (leg_state.Ended result tolerated) = true
+is_ended (LegState.Ended result tolerated) = true
 is_ended other = false
 
 -- waiting, admitted or running: it takes one of the slots that `max_parallel` gives its job
 abbrev pub is_under_way : LegState → Bool
-is_under_way leg_state.Fresh = false
-is_under_way (leg_state.Ended result tolerated) = false
+is_under_way LegState.Fresh = false
+is_under_way (LegState.Ended result tolerated) = false
 is_under_way other = true
 
 -- a success
 abbrev pub is_success : Outcome → Bool
-is_success outcome.Success = true
+is_success Outcome.Success = true
 is_success other = false
 
 -- a failure
 abbrev pub is_failure : Outcome → Bool
-is_failure outcome.Failure = true
+is_failure Outcome.Failure = true
 is_failure other = false
 
 -- a cancellation
 abbrev pub is_cancelled : Outcome → Bool
-is_cancelled outcome.Cancelled = true
+is_cancelled Outcome.Cancelled = true
 is_cancelled other = false
 
 -- ended with a failure that is not tolerated
 abbrev pub has_failed : LegState → Bool
-has_failed (leg_state.Ended result tolerated) = is_failure result && not tolerated
+has_failed (LegState.Ended result tolerated) = is_failure result && not tolerated
 has_failed other = false
 
 -- ended cancelled
 abbrev pub was_cancelled : LegState → Bool
-was_cancelled (leg_state.Ended result tolerated) = is_cancelled result
+was_cancelled (LegState.Ended result tolerated) = is_cancelled result
 was_cancelled other = false
 
 -- ---- what has ended
@@ -105,16 +92,16 @@ jobs_have_ended run = list_all (job_has_ended run) run.jobs
 -- what legs come to: a failure that is not tolerated, else one that was cancelled, else success
 abbrev pub legs_result : List Leg → Outcome
 legs_result legs =
-    if list_any (λ leg. has_failed leg.state) legs then outcome.Failure
-    else (if list_any (λ leg. was_cancelled leg.state) legs then outcome.Cancelled else outcome.Success)
+    if list_any (λ leg. has_failed leg.state) legs then Outcome.Failure
+    else (if list_any (λ leg. was_cancelled leg.state) legs then Outcome.Cancelled else Outcome.Success)
 
 -- the result of a job by its run's state and its own: that of its Shut; else, where it never opened and its
 -- run is Closed, that of the run; else that of its legs
 abbrev pub result_by : RunState → JobState → List Leg → Outcome
-result_by run (job_state.Shut result) legs = result
-result_by run job_state.Open legs = legs_result legs
-result_by (run_state.Closed result) job_state.Unjudged legs = result
-result_by run job_state.Unjudged legs = legs_result legs
+result_by run (JobState.Shut result) legs = result
+result_by run JobState.Open legs = legs_result legs
+result_by (RunState.Closed result) JobState.Unjudged legs = result
+result_by run JobState.Unjudged legs = legs_result legs
 
 -- the result of a job of a run
 abbrev pub job_result : Run → Job → Outcome
@@ -140,8 +127,8 @@ is_any_job_cancelled run = list_any (λ job. is_cancelled (job_result run job)) 
 -- it was told to stop or a job was cancelled, else success
 abbrev pub run_result : Run → Outcome
 run_result run =
-    if is_any_job_failed run then outcome.Failure
-    else (if run.stop || is_any_job_cancelled run then outcome.Cancelled else outcome.Success)
+    if is_any_job_failed run then Outcome.Failure
+    else (if run.stop || is_any_job_cancelled run then Outcome.Cancelled else Outcome.Success)
 
 -- ---- needs. A job's needs are numbers; the number of its run's first job makes places of them.
 
@@ -183,9 +170,9 @@ needs_have_ended first run plan =
 
 -- a status by whether an ancestor failed, and whether one did not succeed
 abbrev pub status_by : Bool → Bool → Status
-status_by true unsuccessful = status.Failure
-status_by false true = status.Other
-status_by false false = status.Success
+status_by true unsuccessful = Status.Failure
+status_by false true = Status.Other
+status_by false false = Status.Success
 
 -- what the results of a run's jobs make of the status of the job at place k, by its ancestors
 abbrev pub ancestors_status : ℕ → List JobPlan → List Outcome → ℕ → Status
@@ -196,7 +183,7 @@ ancestors_status first jobs results k =
 -- the status of a job: cancelled where its run is told to stop, else by the results of its ancestors
 abbrev pub job_status : ℕ → JobAt → Status
 job_status first at =
-    if at.run.stop then status.Cancelled
+    if at.run.stop then Status.Cancelled
     else ancestors_status first at.run_plan.jobs (job_results at.run) at.place.job
 
 -- whether the job has as many legs under way as it may have at once

@@ -1,12 +1,12 @@
 -- What is kept of a leg beside its board.
 use Rattle.std.specs.Prelude.{◌≡◌, Some, length, slice_get}
 use Rattle.std.specs.List.{list_any}
+use Rattle.plan_values.specs.Words.{StepPlan}
 use Rattle.board_decisions.specs.Calls.{AreCallsOf}
 use Rattle.board_decisions.specs.Decisions.{stops_anyway}
 use Rattle.board_decisions.specs.Derived.{is_failure}
 use Rattle.board_decisions.specs.Place.{LegAt}
 use Rattle.board_decisions.specs.declared.kept.LegKept.{LegKept}
-use Rattle.flow_model.specs.declared.plan.StepPlan.{StepPlan}
 
 -- What is kept of a leg is so.
 pub record IsKeptOf (kept : LegKept) (at : LegAt) : Type 0 where

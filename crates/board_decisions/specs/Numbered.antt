@@ -1,13 +1,9 @@
 -- The places of the jobs and legs of a board agree with the order in which they are numbered.
 use Rattle.std.specs.Prelude.{◌≡◌, ℕ, Option, Some, length, nat_lt, slice_get, is_some}
+use Rattle.plan_values.specs.Words.{Board, Job, Leg, Plan, board_jobs, board_legs, plan_jobs, plan_legs}
 use Rattle.board_decisions.specs.Place.{◌>>=◌, JobAt, LegAt, job_place, leg_place}
 use Rattle.board_decisions.specs.declared.place.JobPlace.{JobPlace}
 use Rattle.board_decisions.specs.declared.place.LegPlace.{LegPlace}
-use Rattle.flow_model.specs.Numbers.{plan_jobs, plan_legs, board_jobs, board_legs}
-use Rattle.flow_model.specs.declared.plan.Plan.{Plan}
-use Rattle.flow_model.specs.declared.board.Board.{Board}
-use Rattle.flow_model.specs.declared.board.Job.{Job}
-use Rattle.flow_model.specs.declared.board.Leg.{Leg}
 
 -- the job that stands at a place
 abbrev pub job_there : Board → JobPlace → Option Job

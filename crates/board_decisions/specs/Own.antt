@@ -1,13 +1,8 @@
 -- Steps of whose texts none is evaluated.
 use Rattle.std.specs.Prelude.{◌≡◌, None}
+use Rattle.plan_values.specs.Words.{Contexts, HasNoFault, JobPlan, RunPlan, StepPlan, env_value}
 use Rattle.board_decisions.specs.Decisions.{work_value}
 use Rattle.board_decisions.specs.Place.{LegAt}
-use Rattle.expr_value.specs.Context.{Contexts}
-use Rattle.flow_model.specs.declared.plan.JobPlan.{JobPlan}
-use Rattle.flow_model.specs.declared.plan.RunPlan.{RunPlan}
-use Rattle.flow_model.specs.declared.plan.StepPlan.{StepPlan}
-use Rattle.plan_values.specs.Env.{env_value}
-use Rattle.plan_values.specs.Own.{HasNoFault}
 
 -- Whatever the contexts are, neither the variables of a workflow nor those of a job have a fault.
 pub record HasOwnEnv (run_plan : RunPlan) (job_plan : JobPlan) : Type 0 where

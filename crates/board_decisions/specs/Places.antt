@@ -1,11 +1,9 @@
 -- The places of all jobs and legs, in the order of their
 -- numbers. They follow from how many legs each job has.
 use Rattle.std.specs.Prelude.{ℕ, zero, suc, List, [], ◌∷◌, ◌++◌, map, length}
+use Rattle.plan_values.specs.Words.{Board, Job, Run}
 use Rattle.board_decisions.specs.declared.place.JobPlace.{JobPlace}
 use Rattle.board_decisions.specs.declared.place.LegPlace.{LegPlace}
-use Rattle.flow_model.specs.declared.board.Board.{Board}
-use Rattle.flow_model.specs.declared.board.Job.{Job}
-use Rattle.flow_model.specs.declared.board.Run.{Run}
 
 -- the numbers below n, ascending
 abbrev pub numbers : ℕ → List ℕ

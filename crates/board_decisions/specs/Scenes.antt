@@ -1,11 +1,11 @@
 -- What the texts of a place see, where that is found.
+use Rattle.plan_values.specs.Words.{Values}
 use Rattle.board_decisions.specs.Contexts.{run_values, job_values}
 use Rattle.board_decisions.specs.Decisions.{leg_values}
 use Rattle.board_decisions.specs.Seen.{job_seen, leg_seen}
 use Rattle.board_decisions.specs.declared.place.SeenRun.{SeenRun}
 use Rattle.board_decisions.specs.declared.place.SeenJob.{SeenJob}
 use Rattle.board_decisions.specs.declared.place.SeenLeg.{SeenLeg}
-use Rattle.plan_values.specs.Values.{Values}
 
 -- what the texts of a run see
 abbrev pub run_scene : SeenRun → Values

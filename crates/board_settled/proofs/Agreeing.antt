@@ -4,33 +4,12 @@ use Rattle.std.specs.List.{AllZip}
 use Rattle.std.proofs.Math.Seq.{take-append_seam}
 use Rattle.std.proofs.lemmas.Bool.{true≢false}
 use Rattle.std.proofs.lemmas.Option.{slice_get-map}
-use Rattle.board_decisions.specs.Derived.{is_closed}
-use Rattle.flow_model.specs.Laws.{NeedsPointBack}
-use Rattle.flow_model.specs.Rules.{IsPlan}
-use Rattle.flow_model.specs.Sound.{SoundPlan}
-use Rattle.flow_model.specs.declared.board.Board.{Board}
-use Rattle.flow_model.specs.declared.board.DoneStep.{DoneStep}
-use Rattle.flow_model.specs.declared.board.Job.{Job}
-use Rattle.flow_model.specs.declared.board.Leg.{Leg}
-use Rattle.flow_model.specs.declared.board.LegState.TheVariants as leg_state
-use Rattle.flow_model.specs.declared.board.Run.{Run}
-use Rattle.flow_model.specs.declared.board.RunState.{RunState}
-use Rattle.flow_model.specs.declared.board.RunState.TheVariants as run_state
-use Rattle.flow_model.specs.declared.event.Entry.{Entry}
-use Rattle.flow_model.specs.declared.event.Outcome.{Outcome}
-use Rattle.flow_model.specs.declared.plan.JobPlan.{JobPlan}
-use Rattle.flow_model.specs.declared.plan.Plan.{Plan}
-use Rattle.flow_model.specs.declared.plan.RunPlan.{RunPlan}
-use Rattle.flow_model.specs.declared.plan.StepPlan.{StepPlan}
-use Rattle.flow_model.specs.declared.reply.StepCall.{StepCall}
+use Rattle.status_table.specs.Words.{Board, DoneStep, Entry, IsPlan, Job, JobPlan, JobShape, Leg, LegState, NeedsPointBack, Outcome, Plan, Run, RunPlan, RunShape, RunState, SoundPlan, StepCall, StepPlan, finished, is_closed, new_board, new_job, new_leg, new_run}
 use Rattle.board_settled.specs.Agrees.{LegAgrees, JobAgrees, RunAgrees, Agrees, JobIsSettled, RunIsSettled, IsSettled, PlaysAsSettled, FinishesAsSettled}
 use Rattle.board_settled.specs.Free.{IsFree}
 use Rattle.board_settled.specs.Histories.{LeadsTo}
 use Rattle.board_settled.specs.Sees.{Spot}
 use Rattle.board_settled.specs.Settled.{Answers, SettledLeg, SettledJob, SettledRun, next_done, steps_from, steps_then, leg_settled, spot_at, legs_settled, needs_of, job_settled, run_settled, leg_count, runs_from, settled}
-use Rattle.status_table.specs.Moves.{finished}
-use Rattle.status_table.specs.Runs.{new_leg, new_job, new_run, new_board}
-use Rattle.status_table.specs.Shape.{JobShape, RunShape}
 use Rattle.status_table.proofs.Counts.{zip-left}
 use Rattle.status_table.proofs.Lawfulness.{new_lawful}
 use Rattle.status_table.proofs.Legal.{new_fits}
@@ -57,7 +36,7 @@ fresh_played answers spot call = record {
   ended = λ result tolerated e. absurd (no result tolerated e);
 }
   where
-    no : (result : Outcome) (tolerated : Bool) → leg_state.Fresh ≡ leg_state.Ended result tolerated → ⊥
+    no : (result : Outcome) (tolerated : Bool) → LegState.Fresh ≡ LegState.Ended result tolerated → ⊥
     no result tolerated e = cc
 
 new_played : (p : Plan) (answers : Answers) (calls : ℕ → Option StepCall) → Played answers p calls (new_board p).runs
@@ -82,7 +61,7 @@ new_played p answers calls r plan run planned is = subst (RunPlayed answers (bef
   over = λ was. absurd (true≢false (sym was));
 })
   where
-    no : (result : Outcome) → run_state.New ≡ run_state.Closed result → ⊥
+    no : (result : Outcome) → RunState.New ≡ RunState.Closed result → ⊥
     no result e = cc
 
 -- ---- what is settled, at a place
@@ -171,8 +150,8 @@ stands_agrees p answers calls b stands =
 
 -- ---- a board that is finished
 
-pub closed-result : (s : RunState) → is_closed s ≡ true → (result : Outcome) × (s ≡ run_state.Closed result)
-closed-result (run_state.Closed result) h = (result, refl)
+pub closed-result : (s : RunState) → is_closed s ≡ true → (result : Outcome) × (s ≡ RunState.Closed result)
+closed-result (RunState.Closed result) h = (result, refl)
 closed-result s h = absurd (true≢false (sym h))
 
 run_finished : (answers : Answers) (first : ℕ) (plan : RunPlan) (calls : ℕ → Option StepCall) (run : Run) → AllZip JobShape plan.jobs run.jobs

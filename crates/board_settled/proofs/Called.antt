@@ -1,33 +1,12 @@
 -- What the call of a step is made of.
 use Rattle.std.proofs.Common.{◌≡◌, ℕ, suc, ◌==◌, Bool, true, false, List, [], ◌∷◌, map, Option, Some, None, Result, Ok, Err, length, nat_le, if◌then◌else◌, refl, sym, ap, subst, ◌∙◌}
-use Rattle.board_decisions.specs.Decisions.{then_value, seen_from, flow_env, job_env, set_over, leg_env, step_env, directory_value, work_value, called_if, leg_status, step_decision}
-use Rattle.board_decisions.specs.Contexts.{overlaid}
-use Rattle.board_decisions.specs.Place.{LegAt, leg_at}
-use Rattle.expr_value.specs.Context.{Contexts}
-use Rattle.flow_model.specs.Mapping.{value_at, Ascends}
-use Rattle.flow_model.specs.declared.board.Board.{Board}
-use Rattle.flow_model.specs.declared.board.DoneStep.{DoneStep}
-use Rattle.flow_model.specs.declared.plan.Plan.{Plan}
-use Rattle.flow_model.specs.declared.plan.StepPlan.{StepPlan}
-use Rattle.flow_model.specs.declared.plan.Work.{Work}
-use Rattle.flow_model.specs.declared.plan.Work.TheVariants as work
-use Rattle.flow_model.specs.declared.reply.CallWork.{CallWork}
-use Rattle.flow_model.specs.declared.reply.CallWork.TheVariants as call_work
-use Rattle.flow_model.specs.declared.reply.StepCall.{StepCall}
-use Rattle.flow_model.specs.declared.reply.ValueFault.{ValueFault}
-use Rattle.status_table.specs.declared.fault.EventFault.TheVariants as fault
+use Rattle.status_table.specs.Words.{Ascends, Board, CallWork, Contexts, DoneStep, Env, EnvHasItsNames, IfCalled, LegAt, LevelsStayInOrder, Plan, StepCall, StepPlan, TextPlace, ValueFault, Work, begin_found, begin_leg, beginning_by, called_if, condition_value, decided, directory_value, env_value, flow_env, idle_owner, job_env, laid_over, leg_at, leg_env, leg_status, next_step, or_below, overlaid, seen_from, set_over, step_decision, step_env, text_text, then_value, value_at, work_value}
+use Rattle.status_table.specs.declared.fault.EventFault.{EventFault}
 use Rattle.board_settled.specs.CallLaws.{last_set, SetInOrder, StepInOrder, WorkInOrder, PlanInOrder, AskedInOrder, CallInOrder, CallsAreInOrder, MostSpecificIsGiven, CallsAreMostSpecific}
-use Rattle.status_table.specs.Calls.{IfCalled}
-use Rattle.status_table.specs.Row.{decided, next_step, idle_owner, beginning_by, begin_leg, begin_found}
-use Rattle.plan_values.specs.Env.{env_value, laid_over, or_below}
-use Rattle.plan_values.specs.Texts.{text_text, condition_value}
-use Rattle.plan_values.specs.Values.{Env}
-use Rattle.plan_values.specs.declared.place.TextPlace.TheVariants as place
 use Rattle.status_table.proofs.Decided.{by_test}
 use Rattle.status_table.proofs.Found.{leg_stands}
 use Rattle.board_decisions.proofs.Lists.{same_some}
 use Rattle.board_settled.proofs.Pairs.{below_through, one_found}
-use Rattle.plan_values.specs.Laws.{EnvHasItsNames, LevelsStayInOrder}
 
 -- ---- answers that are made of others
 
@@ -41,19 +20,19 @@ record Levels (at : LegAt) (step : StepPlan) (env : Env) : Type 0 where
   workflow : Env
   job : Env
   own : Env
-  workflow_is : env_value (seen_from at place.WorkflowEnv []) at.run_plan.env ≡ Ok workflow
-  job_is : env_value (seen_from at place.JobEnv []) at.job_plan.env ≡ Ok job
-  own_is : env_value (seen_from at place.StepEnv (set_over at.leg.steps (laid_over job workflow))) step.env ≡ Ok own
+  workflow_is : env_value (seen_from at TextPlace.WorkflowEnv []) at.run_plan.env ≡ Ok workflow
+  job_is : env_value (seen_from at TextPlace.JobEnv []) at.job_plan.env ≡ Ok job
+  own_is : env_value (seen_from at TextPlace.StepEnv (set_over at.leg.steps (laid_over job workflow))) step.env ≡ Ok own
   laid : laid_over own (set_over at.leg.steps (laid_over job workflow)) ≡ env
 
 levels : (at : LegAt) (step : StepPlan) (env : Env) → step_env at step ≡ Ok env → Levels at step env
 unfolding step_env leg_env job_env flow_env
 levels at step env h =
-    let below = then-ok (leg_env at) (λ below. then_value (env_value (seen_from at place.StepEnv below) step.env) (λ above. Ok (laid_over above below))) env h in
-    let own = then-ok (env_value (seen_from at place.StepEnv below.0) step.env) (λ above. Ok (laid_over above below.0)) env below.2 in
+    let below = then-ok (leg_env at) (λ below. then_value (env_value (seen_from at TextPlace.StepEnv below) step.env) (λ above. Ok (laid_over above below))) env h in
+    let own = then-ok (env_value (seen_from at TextPlace.StepEnv below.0) step.env) (λ above. Ok (laid_over above below.0)) env below.2 in
     let of_job = then-ok (job_env at) (λ under. Ok (set_over at.leg.steps under)) below.0 below.1 in
-    let flow = then-ok (flow_env at) (λ under. then_value (env_value (seen_from at place.JobEnv []) at.job_plan.env) (λ above. Ok (laid_over above under))) of_job.0 of_job.1 in
-    let job = then-ok (env_value (seen_from at place.JobEnv []) at.job_plan.env) (λ above. Ok (laid_over above flow.0)) of_job.0 flow.2 in
+    let flow = then-ok (flow_env at) (λ under. then_value (env_value (seen_from at TextPlace.JobEnv []) at.job_plan.env) (λ above. Ok (laid_over above under))) of_job.0 of_job.1 in
+    let job = then-ok (env_value (seen_from at TextPlace.JobEnv []) at.job_plan.env) (λ above. Ok (laid_over above flow.0)) of_job.0 flow.2 in
     let under : laid_over job.0 flow.0 ≡ of_job.0 = cc job.2 in
     let two : set_over at.leg.steps (laid_over job.0 flow.0) ≡ below.0 = cc (under, of_job.2) in
     let all : laid_over own.0 below.0 ≡ env = cc own.2 in
@@ -63,7 +42,7 @@ levels at step env h =
       own = own.0;
       workflow_is = flow.1;
       job_is = job.1;
-      own_is = ap (λ e. env_value (seen_from at place.StepEnv e) step.env) two ∙ own.1;
+      own_is = ap (λ e. env_value (seen_from at TextPlace.StepEnv e) step.env) two ∙ own.1;
       laid = ap (λ e. laid_over own.0 e) two ∙ all;
     }
 
@@ -71,13 +50,13 @@ levels at step env h =
 
 record Asked (at : LegAt) (step : StepPlan) (call : StepCall) : Type 0 where
   env : step_env at step ≡ Ok call.env
-  work : work_value (seen_from at place.StepText call.env) step.work ≡ Ok call.work
+  work : work_value (seen_from at TextPlace.StepText call.env) step.work ≡ Ok call.work
 
 asked : (l : ℕ) (at : LegAt) (step : StepPlan) (call : StepCall) → step_decision l at step ≡ Ok (Some call) → Asked at step call
 unfolding step_decision
 asked l at step call h =
-    let env = then-ok (step_env at step) (λ env. then_value (condition_value (seen_from at place.StepCondition env) (leg_status at) step.condition) (called_if l at step env)) (Some call) h in
-    let held = then-ok (condition_value (seen_from at place.StepCondition env.0) (leg_status at) step.condition) (called_if l at step env.0) (Some call) env.2 in
+    let env = then-ok (step_env at step) (λ env. then_value (condition_value (seen_from at TextPlace.StepCondition env) (leg_status at) step.condition) (called_if l at step env)) (Some call) h in
+    let held = then-ok (condition_value (seen_from at TextPlace.StepCondition env.0) (leg_status at) step.condition) (called_if l at step env.0) (Some call) env.2 in
     called env.0 env.1 held.0 held.2
   where
     made : (env : Env) (given : CallWork) → StepCall
@@ -85,7 +64,7 @@ asked l at step call h =
 
     called : (env : Env) → step_env at step ≡ Ok env → (c : Bool) → called_if l at step env c ≡ Ok (Some call) → Asked at step call
     called env is true g =
-        let given = then-ok (work_value (seen_from at place.StepText env) step.work) (λ asked. Ok (Some (made env asked))) (Some call) g in
+        let given = then-ok (work_value (seen_from at TextPlace.StepText env) step.work) (λ asked. Ok (Some (made env asked))) (Some call) g in
         let same : made env given.0 ≡ call = cc given.2 in
         subst (Asked at step) same (record { env = is; work = given.1 })
     called env is false g = absurd (cc)
@@ -94,14 +73,14 @@ asked l at step call h =
 
 asked_in_order : EnvHasItsNames → (c : Contexts) (w : Work) (given : CallWork) → WorkInOrder w → work_value c w ≡ Ok given → AskedInOrder given
 unfolding work_value
-asked_in_order law c (work.Run dir run shell) given ordered h =
-    let script = then-ok (text_text c run) (λ script. then_value (directory_value c dir) (λ there. Ok (call_work.Script script shell there))) given h in
-    let there = then-ok (directory_value c dir) (λ there. Ok (call_work.Script script.0 shell there)) given script.2 in
-    let same : call_work.Script script.0 shell there.0 ≡ given = cc there.2 in
+asked_in_order law c (Work.Run dir run shell) given ordered h =
+    let script = then-ok (text_text c run) (λ script. then_value (directory_value c dir) (λ there. Ok (CallWork.Script script shell there))) given h in
+    let there = then-ok (directory_value c dir) (λ there. Ok (CallWork.Script script.0 shell there)) given script.2 in
+    let same : CallWork.Script script.0 shell there.0 ≡ given = cc there.2 in
     subst AskedInOrder same tt
-asked_in_order law c (work.Uses uses given') given ordered h =
-    let inputs = then-ok (env_value c given') (λ inputs. Ok (call_work.Uses uses inputs)) given h in
-    let same : call_work.Uses uses inputs.0 ≡ given = cc inputs.2 in
+asked_in_order law c (Work.Uses uses given') given ordered h =
+    let inputs = then-ok (env_value c given') (λ inputs. Ok (CallWork.Uses uses inputs)) given h in
+    let same : CallWork.Uses uses inputs.0 ≡ given = cc inputs.2 in
     subst AskedInOrder same (law c given' inputs.0 ordered inputs.1).1
 
 -- the maps that a step sees are in order
@@ -137,18 +116,18 @@ set_found (done ∷ later) below name h =
 call_in_order : EnvHasItsNames → LevelsStayInOrder → (at : LegAt) (step : StepPlan) (call : StepCall) → OrderedHere at step → Asked at step call → CallInOrder call
 call_in_order names stay at step call ordered made =
     let three = levels at step call.env made.env in
-    let flow = (names (seen_from at place.WorkflowEnv []) at.run_plan.env three.workflow ordered.workflow three.workflow_is).1 in
+    let flow = (names (seen_from at TextPlace.WorkflowEnv []) at.run_plan.env three.workflow ordered.workflow three.workflow_is).1 in
     record {
       env = subst (λ (e : Env). Ascends e) three.laid (stay (set_over at.leg.steps (laid_over three.job three.workflow)) three.own
           (set_in_order stay (levels_of at.leg.steps) (laid_over three.job three.workflow) (stay three.workflow three.job flow)));
-      work = asked_in_order names (seen_from at place.StepText call.env) step.work call.work ordered.own.work made.work;
+      work = asked_in_order names (seen_from at TextPlace.StepText call.env) step.work call.work ordered.own.work made.work;
     }
 
 call_most_specific : EnvHasItsNames → (at : LegAt) (step : StepPlan) (call : StepCall) → OrderedHere at step → SetInOrder at.leg.steps → Asked at step call → MostSpecificIsGiven at step call
 call_most_specific names at step call ordered set made =
     let three = levels at step call.env made.env in
-    let job = (names (seen_from at place.JobEnv []) at.job_plan.env three.job ordered.job three.job_is).1 in
-    let own = (names (seen_from at place.StepEnv (set_over at.leg.steps (laid_over three.job three.workflow))) step.env three.own ordered.own.env three.own_is).1 in
+    let job = (names (seen_from at TextPlace.JobEnv []) at.job_plan.env three.job ordered.job three.job_is).1 in
+    let own = (names (seen_from at TextPlace.StepEnv (set_over at.leg.steps (laid_over three.job three.workflow))) step.env three.own ordered.own.env three.own_is).1 in
     record {
       workflow = three.workflow;
       job = three.job;
@@ -174,14 +153,14 @@ if_begun : (P : StepCall → Type 0) (b : Board) (worker l : ℕ) (at : LegAt) (
     → ((s : StepPlan) → step ≡ Some s → (call : StepCall) → step_decision l at s ≡ Ok (Some call) → P call) → IfCalled P (begin_leg b worker at (beginning_by worker l at owner step))
 if_begun P b worker l at (Some owner) (Some s) h = by (worker == owner)
   where
-    by : (c : Bool) → IfCalled P (begin_leg b worker at (if c then Ok (decided (step_decision l at s)) else Err fault.OtherWorker))
+    by : (c : Bool) → IfCalled P (begin_leg b worker at (if c then Ok (decided (step_decision l at s)) else Err EventFault.OtherWorker))
     by true = if_decided P b worker at (step_decision l at s) (h s refl)
     by false = tt
 if_begun P b worker l at owner step h = tt
 
 pub calls_are_in_order : EnvHasItsNames → LevelsStayInOrder → CallsAreInOrder
 calls_are_in_order names stay p b worker l ordered =
-    by_test (IfCalled CallInOrder) (nat_le worker 15) (begin_found b worker l (leg_at p b l)) (Err fault.NoSuch) (found (leg_at p b l) refl) tt
+    by_test (IfCalled CallInOrder) (nat_le worker 15) (begin_found b worker l (leg_at p b l)) (Err EventFault.NoSuch) (found (leg_at p b l) refl) tt
   where
     found : (o : Option LegAt) → leg_at p b l ≡ o → IfCalled CallInOrder (begin_found b worker l o)
     found None is = tt
@@ -190,7 +169,7 @@ calls_are_in_order names stay p b worker l ordered =
 
 pub calls_are_most_specific : EnvHasItsNames → CallsAreMostSpecific
 calls_are_most_specific names p b worker l at step ordered set is next =
-    by_test (IfCalled (MostSpecificIsGiven at step)) (nat_le worker 15) (begin_found b worker l (leg_at p b l)) (Err fault.NoSuch)
+    by_test (IfCalled (MostSpecificIsGiven at step)) (nat_le worker 15) (begin_found b worker l (leg_at p b l)) (Err EventFault.NoSuch)
     (subst (λ (o : Option LegAt). IfCalled (MostSpecificIsGiven at step) (begin_found b worker l o)) (sym is)
     (if_begun (MostSpecificIsGiven at step) b worker l at (idle_owner at.leg.state) (next_step at) (λ s at_s call h.
     let same : s ≡ step = same_some s step (sym at_s ∙ next) in

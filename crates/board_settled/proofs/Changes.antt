@@ -2,23 +2,8 @@
 use Rattle.std.proofs.Common.{◌≡◌, ◌≢◌, ℕ, ◌+◌, ◌-◌, true, false, List, Option, Some, None, take, slice_get, ap, subst, sym, ◌∙◌, arith}
 use Rattle.std.proofs.lemmas.Bool.{true≢false}
 use Rattle.std.proofs.lemmas.Option.{slice_get_within}
-use Rattle.board_decisions.specs.Derived.{is_closed, is_open, needs_have_ended}
-use Rattle.board_decisions.specs.Place.{leg_place}
-use Rattle.board_decisions.specs.declared.place.LegPlace.{LegPlace}
-use Rattle.flow_model.specs.declared.board.Board.{Board}
-use Rattle.flow_model.specs.declared.board.Job.{Job}
-use Rattle.flow_model.specs.declared.board.Leg.{Leg}
-use Rattle.flow_model.specs.declared.board.Run.{Run}
-use Rattle.flow_model.specs.declared.board.RunState.TheVariants as run_state
-use Rattle.flow_model.specs.declared.event.Outcome.{Outcome}
-use Rattle.flow_model.specs.declared.plan.JobPlan.{JobPlan}
-use Rattle.flow_model.specs.declared.plan.Plan.{Plan}
-use Rattle.flow_model.specs.declared.plan.RunPlan.{RunPlan}
-use Rattle.flow_model.specs.declared.reply.StepCall.{StepCall}
+use Rattle.status_table.specs.Words.{Board, HasShape, Job, JobPlan, Leg, LegPlace, Outcome, Plan, Run, RunPlan, RunState, RunStays, Stays, StepCall, changed, is_closed, is_open, leg_place, needs_have_ended, with_leg}
 use Rattle.board_settled.specs.Settled.{Answers, SettledJob, spot_at, needs_of, run_after}
-use Rattle.status_table.specs.Change.{changed, with_leg}
-use Rattle.status_table.specs.Shape.{HasShape}
-use Rattle.status_table.specs.Stays.{RunStays, Stays}
 use Rattle.status_table.proofs.Ended.{needs-later}
 use Rattle.status_table.proofs.Lists.{changed-there, zip-get}
 use Rattle.board_decisions.proofs.Lists.{same_some}
@@ -67,7 +52,7 @@ module _ (p : Plan) (b : Board) (answers : Answers) (calls : ℕ → Option Step
 
   -- a run that keeps its jobs and its stop flag, and is in no group
   pub run_changes : ((x : Run) → (f x).jobs ≡ x.jobs) → ((x : Run) → (f x).stop ≡ x.stop) → ((x : Run) → x.group ≡ None → (f x).group ≡ None)
-      → ((plan : RunPlan) (run : Run) → slice_get p.runs r ≡ Some plan → slice_get b.runs r ≡ Some run → (result : Outcome) → (f run).state ≡ run_state.Closed result
+      → ((plan : RunPlan) (run : Run) → slice_get p.runs r ≡ Some plan → slice_get b.runs r ≡ Some run → (result : Outcome) → (f run).state ≡ RunState.Closed result
       → (run_after (jobs_of answers (before_run r p.runs) plan)).result ≡ Some result)
       → ((run : Run) → slice_get b.runs r ≡ Some run → is_closed (f run).state ≡ true → (j : ℕ) (job : Job) → slice_get run.jobs j ≡ Some job → JobOver job)
       → Played answers p calls new.runs

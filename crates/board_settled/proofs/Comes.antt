@@ -2,28 +2,11 @@
 use Rattle.std.proofs.Common.{◌≡◌, ℕ, ◌&&◌, ◌||◌, Bool, true, false, not, List, [], ◌∷◌, Option, Some, option_map, map, slice_get, ap, sym, subst, refl, ◌∙◌}
 use Rattle.std.specs.List.{list_any, AllZip}
 use Rattle.std.proofs.lemmas.Bool.{true≢false}
-use Rattle.board_decisions.specs.Contexts.{overlaid, job_outputs}
-use Rattle.board_decisions.specs.Derived.{is_failure, is_cancelled, is_open, is_fresh, is_ended, has_failed, was_cancelled, result_by, job_result}
-use Rattle.board_decisions.specs.declared.place.JobPlace.{JobPlace}
-use Rattle.flow_model.specs.declared.board.Board.{Board}
-use Rattle.flow_model.specs.declared.board.Job.{Job}
-use Rattle.flow_model.specs.declared.board.JobState.{JobState}
-use Rattle.flow_model.specs.declared.board.JobState.TheVariants as job_state
-use Rattle.flow_model.specs.declared.board.Leg.{Leg}
-use Rattle.flow_model.specs.declared.board.LegState.{LegState}
-use Rattle.flow_model.specs.declared.board.LegState.TheVariants as leg_state
-use Rattle.flow_model.specs.declared.board.Run.{Run}
-use Rattle.flow_model.specs.declared.plan.JobPlan.{JobPlan}
-use Rattle.flow_model.specs.declared.plan.Plan.{Plan}
-use Rattle.flow_model.specs.declared.plan.RunPlan.{RunPlan}
+use Rattle.status_table.specs.Words.{Board, Env, HasShape, Job, JobFits, JobPlace, JobPlan, JobState, Leg, LegState, Plan, Run, RunPlan, goes_rightly, has_failed, is_cancelled, is_ended, is_failure, is_fresh, is_open, job_outputs, job_result, laid_over, overlaid, result_by, was_cancelled}
 use Rattle.board_settled.proofs.Ordered.{none_ended, all_ended}
 use Rattle.board_settled.specs.Quiet.{ended_in_order}
 use Rattle.board_settled.specs.Agrees.{LegIsSettled, JobIsSettled}
 use Rattle.board_settled.specs.Settled.{Finish, SettledLeg, SettledJob, opened, all_given, fails, worst, legs_come_to, result_of, given_by, outputs_of_job}
-use Rattle.status_table.specs.Lawful.{JobFits, goes_rightly}
-use Rattle.status_table.specs.Shape.{HasShape}
-use Rattle.plan_values.specs.Env.{laid_over}
-use Rattle.plan_values.specs.Values.{Env}
 use Rattle.status_table.proofs.Counts.{zip-left}
 use Rattle.status_table.proofs.Lists.{all-get}
 
@@ -61,7 +44,7 @@ pub record JobComes (b : Board) (place : JobPlace) (run : Run) (given : SettledJ
   pub outputs : outputs_of_job given ≡ job_outputs b place
 
 -- the result of one that was opened
-open_result : (run : Run) (given : SettledJob) (job : Job) (all : List SettledLeg) → job.state ≡ job_state.Open → given ≡ opened all → LegsCome all job.legs → result_of given ≡ Some (job_result run job)
+open_result : (run : Run) (given : SettledJob) (job : Job) (all : List SettledLeg) → job.state ≡ JobState.Open → given ≡ opened all → LegsCome all job.legs → result_of given ≡ Some (job_result run job)
 open_result run given job all is stands come =
     ap result_of stands ∙ ap (option_map legs_come_to) come.all
     ∙ ap (λ c. Some (worst c (list_any (λ (f : Finish). is_cancelled f.result) come.ends))) come.failed
@@ -70,22 +53,22 @@ open_result run given job all is stands come =
 
 -- where it gives the outputs of its legs if it is Open, and else none
 pub comes_by : (b : Board) (place : JobPlace) (run : Run) (given : SettledJob) (job : Job) → JobIsSettled given job.legs job.state
-    → (job.state ≡ job_state.Open → job_outputs b place ≡ overlaid (map (λ leg. leg.outputs) job.legs) []) → (is_open job.state ≡ false → job_outputs b place ≡ [])
+    → (job.state ≡ JobState.Open → job_outputs b place ≡ overlaid (map (λ leg. leg.outputs) job.legs) []) → (is_open job.state ≡ false → job_outputs b place ≡ [])
     → JobComes b place run given job
 comes_by b place run given job settled opened_so else_none = by job.state refl settled
   where
     by : (s : JobState) → job.state ≡ s → JobIsSettled given job.legs s → JobComes b place run given job
-    by job_state.Unjudged is h = absurd h
-    by job_state.Open is h =
+    by JobState.Unjudged is h = absurd h
+    by JobState.Open is h =
         let come = legs_come h.0 job.legs h.2 in
         record { result = open_result run given job h.0 is h.1 come; outputs = ap outputs_of_job h.1 ∙ come.overlays [] ∙ sym (opened_so is) }
-    by (job_state.Shut result) is h = record {
+    by (JobState.Shut result) is h = record {
       result = ap result_of h ∙ ap (λ s. Some (result_by run.state s job.legs)) (sym is);
       outputs = ap outputs_of_job h ∙ sym (else_none (ap is_open is));
     }
 
 fresh-unended : (s : LegState) → is_fresh s ≡ true → is_ended s ≡ false
-fresh-unended leg_state.Fresh h = refl
+fresh-unended LegState.Fresh h = refl
 fresh-unended s h = absurd (true≢false (sym h))
 
 or-left : (a b c : Bool) → a ≡ false → (c || (a && b)) ≡ true → c ≡ true

@@ -1,7 +1,7 @@
 -- What holds of each item, one item more.
 use Rattle.std.proofs.Common.{◌≡◌, ℕ, zero, suc, ◌+◌, ◌<◌, ◌≤◌, List, [], ◌∷◌, ◌++◌, take, length, get_or, add-one, sym, subst, take_all}
 use Rattle.std.proofs.Math.Seq.{take-suc}
-use Rattle.flow_model.specs.Sound.{Each}
+use Rattle.status_table.specs.Words.{Each}
 use Rattle.board_settled.proofs.Pairs.{no_some, same_some}
 
 each_append : {T : Type 0} (P : T → Type 0) (xs : List T) (x : T) → Each P xs → P x → Each P (xs ++ x ∷ [])

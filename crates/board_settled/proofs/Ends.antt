@@ -2,35 +2,13 @@
 use Rattle.std.proofs.Common.{◌≡◌, ℕ, zero, suc, ◌+◌, ◌≤◌, ◌||◌, Bool, true, false, List, [], ◌∷◌, Option, Some, length, map, slice_get, inl, inr, ap, subst, sym, refl, ◌∙◌, arith}
 use Rattle.std.proofs.lemmas.Bool.{true≢false}
 use Rattle.std.proofs.lemmas.List.{drop_all}
-use Rattle.board_decisions.specs.Contexts.{overlaid, job_outputs}
-use Rattle.board_decisions.specs.Decisions.{or_none}
-use Rattle.board_decisions.specs.Derived.{is_closed, is_open, is_shut, is_ended, leg_has_ended, job_has_ended}
-use Rattle.board_decisions.specs.declared.place.JobPlace.{JobPlace}
+use Rattle.status_table.specs.Words.{Board, DoneStep, EndOnce, HasShape, Job, JobPlace, JobPlan, JobState, Leg, LegState, Outcome, Plain, Plan, Run, RunPlan, StepCall, TextPlace, is_closed, is_ended, is_open, is_shut, job_has_ended, job_outputs, leg_has_ended, or_none, outputs_value, overlaid}
 use Rattle.board_decisions.proofs.Lists.{same_some, no_some}
-use Rattle.flow_model.specs.Plain.{Plain}
-use Rattle.flow_model.specs.declared.board.Board.{Board}
-use Rattle.flow_model.specs.declared.board.DoneStep.{DoneStep}
-use Rattle.flow_model.specs.declared.board.Job.{Job}
-use Rattle.flow_model.specs.declared.board.JobState.{JobState}
-use Rattle.flow_model.specs.declared.board.JobState.TheVariants as job_state
-use Rattle.flow_model.specs.declared.board.Leg.{Leg}
-use Rattle.flow_model.specs.declared.board.LegState.{LegState}
-use Rattle.flow_model.specs.declared.board.LegState.TheVariants as leg_state
-use Rattle.flow_model.specs.declared.board.Run.{Run}
-use Rattle.flow_model.specs.declared.event.Outcome.{Outcome}
-use Rattle.flow_model.specs.declared.plan.JobPlan.{JobPlan}
-use Rattle.flow_model.specs.declared.plan.Plan.{Plan}
-use Rattle.flow_model.specs.declared.plan.RunPlan.{RunPlan}
-use Rattle.flow_model.specs.declared.reply.StepCall.{StepCall}
 use Rattle.board_settled.specs.Agrees.{LegIsSettled, JobIsSettled}
 use Rattle.board_settled.specs.Decided.{leg_variables, outputs_of_leg}
 use Rattle.board_settled.specs.Free.{JobIsFree}
 use Rattle.board_settled.specs.Sees.{Spot, Sight}
 use Rattle.board_settled.specs.Settled.{Answers, Finish, SettledLeg, SettledJob, seen_after, steps_from, finish_of, leg_settled, spot_at, legs_from, legs_settled, needs_of, job_settled}
-use Rattle.status_table.specs.Ends.{EndOnce}
-use Rattle.status_table.specs.Shape.{HasShape}
-use Rattle.plan_values.specs.Outputs.{outputs_value}
-use Rattle.plan_values.specs.declared.place.TextPlace.TheVariants as place_name
 use Rattle.status_table.proofs.Lists.{all-get}
 use Rattle.board_settled.proofs.Comes.{JobComes, comes_by}
 use Rattle.board_settled.proofs.LegSteps.{ended_leg}
@@ -43,7 +21,7 @@ use Rattle.board_settled.proofs.Played.{is_judged, LegPlayed, StateStands, JobPl
 
 -- what is settled of a leg that is Ended
 pub leg_is : (answers : Answers) (spot : Spot) (call : Option StepCall) (leg : Leg) (result : Outcome) (tolerated : Bool) → LegPlayed answers spot call leg
-    → leg.state ≡ leg_state.Ended result tolerated
+    → leg.state ≡ LegState.Ended result tolerated
     → leg_settled answers spot ≡ record { steps = leg.steps; finish = Some (record { result = result; tolerated = tolerated; outputs = leg.outputs }) }
 leg_is answers spot call leg result tolerated played is =
     let rightly = played.ended result tolerated is in
@@ -53,14 +31,14 @@ leg_is answers spot call leg result tolerated played is =
 
 empty_outputs : (sees : Sight) (run : RunPlan) (job : JobPlan) (done : List DoneStep) → job.outputs ≡ [] → outputs_of_leg sees run job done ≡ []
 unfolding outputs_of_leg outputs_value
-empty_outputs sees run job done none = ap (outputs_value (sees place_name.StepEnv (or_none (leg_variables sees run job done)))) none
+empty_outputs sees run job done none = ap (outputs_value (sees TextPlace.StepEnv (or_none (leg_variables sees run job done)))) none
 
 -- so it is settled
 pub leg_finished : (answers : Answers) (spot : Spot) (call : Option StepCall) (leg : Leg) → LegPlayed answers spot call leg → is_ended leg.state ≡ true → LegIsSettled (leg_settled answers spot) leg
 leg_finished answers spot call leg played ended = by leg.state refl ended
   where
     by : (s : LegState) → leg.state ≡ s → is_ended s ≡ true → LegIsSettled (leg_settled answers spot) leg
-    by (leg_state.Ended result tolerated) is h =
+    by (LegState.Ended result tolerated) is h =
         let all = leg_is answers spot call leg result tolerated played is in
         record {
           result = result;
@@ -99,9 +77,9 @@ job_finished answers run before first plan calls job size played over =
     by : (s : JobState) → StateStands (job_settled answers run first before plan) (legs_settled answers run plan (needs_of run before plan) first) s → is_judged s ≡ true
         → (is_open s ≡ true → (k : ℕ) (leg : Leg) → slice_get job.legs k ≡ Some leg → is_ended leg.state ≡ true)
         → JobIsSettled (job_settled answers run first before plan) job.legs s
-    by job_state.Unjudged stands was ended = true≢false (sym was)
-    by (job_state.Shut result) stands was ended = stands
-    by job_state.Open stands was ended = (
+    by JobState.Unjudged stands was ended = true≢false (sym was)
+    by (JobState.Shut result) stands was ended = stands
+    by JobState.Open stands was ended = (
       legs_settled answers run plan (needs_of run before plan) first,
       stands,
       zip-each LegIsSettled (legs_settled answers run plan (needs_of run before plan) first) job.legs (legs_size answers run plan (needs_of run before plan) first 0 plan.legs ∙ sym size)
@@ -138,7 +116,7 @@ module _ (p : Plan) (b : Board) (answers : Answers) (place : JobPlace) (run_plan
   each_ended unshut k leg is =
       or-false (is_closed run.state) (is_shut job.state) (is_ended leg.state) unclosed unshut (all-get (leg_has_ended run job) job.legs k leg is ended)
 
-  was_judged : job.state ≡ job_state.Unjudged → ⊥
+  was_judged : job.state ≡ JobState.Unjudged → ⊥
   was_judged is =
       let leg = some_leg job.legs some in
       let fresh = played.untouched (ap is_open is) 0 leg.0 leg.1 in
@@ -148,7 +126,7 @@ module _ (p : Plan) (b : Board) (answers : Answers) (place : JobPlace) (run_plan
   is_over = record { judged = judged-or job.state was_judged; ended = λ opened. each_ended (unshut job.state opened) }
     where
       unshut : (s : JobState) → is_open s ≡ true → is_shut s ≡ false
-      unshut (job_state.Shut result) h = absurd (true≢false (sym h))
+      unshut (JobState.Shut result) h = absurd (true≢false (sym h))
       unshut s h = refl
 
   -- where a job gives no outputs, its legs have none
@@ -160,7 +138,7 @@ module _ (p : Plan) (b : Board) (answers : Answers) (place : JobPlace) (run_plan
       let it = leg_finished answers spot (calls (first + k)) leg played_leg over in
       ap (λ (x : Finish). x.outputs) (sym (played_leg.ended it.result it.tolerated it.state).finish) ∙ empty_outputs (seen_after spot leg.steps) run_plan plan leg.steps none
 
-  open_outputs : job.state ≡ job_state.Open → job_outputs b place ≡ overlaid (map (λ leg. leg.outputs) job.legs) []
+  open_outputs : job.state ≡ JobState.Open → job_outputs b place ≡ overlaid (map (λ leg. leg.outputs) job.legs) []
   open_outputs is = elim free.outputs as (λ _. job_outputs b place ≡ overlaid (map (λ (leg : Leg). leg.outputs) job.legs) []) [
     | inl none ↦
         let empty : (k : ℕ) (leg : Leg) → slice_get job.legs k ≡ Some leg → leg.outputs ≡ [] = λ k leg there. no_leg_outputs none k leg there (each_ended (ap is_shut is) k leg there) in

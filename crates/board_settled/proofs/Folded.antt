@@ -2,32 +2,13 @@
 use Rattle.std.proofs.Common.{◌≡◌, ℕ, Bool, true, false, cond, if◌then◌else◌, inl, inr, Option, Some, None, option_map, option_and_then, Result, Ok, Err, List, [], ◌∷◌, Ordering, Less, Equal, Greater, refl, sym, subst, ◌∙◌}
 use Rattle.std.specs.Cmp.Lexicographic.{slice_cmp}
 use Rattle.std.specs.Ordering.{nat_cmp, is_eq, match_ordering}
-use Rattle.board_decisions.specs.declared.entrance.Entrance.{Entrance}
-use Rattle.board_decisions.specs.Decisions.{run_entrance, leg_entrance}
-use Rattle.board_decisions.specs.Place.{RunAt, LegAt, run_at, leg_at}
-use Rattle.expr_reader.specs.Fold.{fold}
+use Rattle.status_table.specs.Words.{Board, Content, Entrance, Entry, Event, Held, IsPlan, KeptAsShown, LegAt, Member, Plan, Row, RunAt, Standing, ValueFault, after, after_at, after_enter, after_event, apart, asked, each_held, fold, holding, left, leg_asked, leg_at, leg_entrance, leg_left, leg_standing, new_board, opened, released, row, run_at, run_entrance, run_left, run_opened, run_standing, value_at, waiting, with_held, with_pair, withdrawn}
 use Rattle.flat_board.specs.Index.{AsksNamed}
 use Rattle.flat_board.proofs.Named.{run_asks, leg_asks}
-use Rattle.flow_model.specs.Mapping.{value_at, with_pair}
-use Rattle.flow_model.specs.Rules.{IsPlan}
-use Rattle.flow_model.specs.declared.board.Board.{Board}
-use Rattle.flow_model.specs.declared.event.Entry.{Entry}
-use Rattle.flow_model.specs.declared.event.Event.{Event}
-use Rattle.flow_model.specs.declared.event.Event.TheVariants as event
-use Rattle.flow_model.specs.declared.event.Member.{Member}
-use Rattle.flow_model.specs.declared.event.Member.TheVariants as member
-use Rattle.flow_model.specs.declared.plan.Plan.{Plan}
-use Rattle.flow_model.specs.declared.reply.ValueFault.{ValueFault}
-use Rattle.group_admission.specs.Content.{Content, after_at, after_enter, each_held, is_own, released, with_held, withdrawn}
-use Rattle.group_admission.specs.declared.held.Held.{Held}
+use Rattle.group_admission.specs.Content.{is_own}
 use Rattle.board_settled.proofs.Pairs.{name_is, no_some}
 use Rattle.board_settled.specs.Grouped.{groups_after, groups_from, then_groups}
 use Rattle.board_settled.specs.Groups.{NamesAreFolded, OneHolderWhateverTheCase}
-use Rattle.status_table.specs.Admissions.{asked, left, opened}
-use Rattle.status_table.specs.Grouped.{KeptAsShown, after_event, leg_asked, leg_left, run_left, run_opened}
-use Rattle.status_table.specs.Groups.{Standing, apart, holding, leg_standing, run_standing, waiting}
-use Rattle.status_table.specs.Row.{Row, row}
-use Rattle.status_table.specs.Runs.{after, new_board}
 
 -- each name that is kept is folded
 abbrev Folded : Content → Type 0
@@ -64,11 +45,11 @@ each_folded f (pair ∷ pairs) h = by (f pair.1) (each_folded f pairs h.1)
     by (Some held) others = (h.0, others)
 
 opened_folded : (groups : Content) (r : ℕ) (value : Result (Option Entrance) ValueFault) → AsksNamed value → Folded groups → Folded (opened groups r value)
-opened_folded groups r (Ok (Some group)) named h = enter_folded group.name (member.Run r) None groups named.folded h
+opened_folded groups r (Ok (Some group)) named h = enter_folded group.name (Member.Run r) None groups named.folded h
 opened_folded groups r value named h = h
 
 asked_folded : (groups : Content) (l own : ℕ) (value : Result (Option Entrance) ValueFault) → AsksNamed value → Folded groups → Folded (asked groups l own value)
-asked_folded groups l own (Ok (Some group)) named h = enter_folded group.name (member.Leg l) (Some own) groups named.folded h
+asked_folded groups l own (Ok (Some group)) named h = enter_folded group.name (Member.Leg l) (Some own) groups named.folded h
 asked_folded groups l own value named h = h
 
 left_folded : (groups : Content) (m : Member) (standing : Standing) → Folded groups → Folded (left groups m standing)
@@ -86,18 +67,18 @@ leg_asked_folded groups l (Some at) h = asked_folded groups l at.place.run (leg_
 
 run_left_folded : (groups : Content) (r : ℕ) (at : Option RunAt) → Folded groups → Folded (run_left groups r at)
 run_left_folded groups r None h = h
-run_left_folded groups r (Some at) h = left_folded groups (member.Run r) (run_standing at.run) h
+run_left_folded groups r (Some at) h = left_folded groups (Member.Run r) (run_standing at.run) h
 
 leg_left_folded : (groups : Content) (l : ℕ) (at : Option LegAt) → Folded groups → Folded (leg_left groups l at)
 leg_left_folded groups l None h = h
-leg_left_folded groups l (Some at) h = left_folded groups (member.Leg l) (leg_standing at.leg) h
+leg_left_folded groups l (Some at) h = left_folded groups (Member.Leg l) (leg_standing at.leg) h
 
 event_folded : (p : Plan) (b : Board) (groups : Content) (e : Event) → Folded groups → Folded (after_event p b groups e)
-event_folded p b groups (event.Open r) h = run_opened_folded groups r (run_at p b r) h
-event_folded p b groups (event.Ask l) h = leg_asked_folded groups l (leg_at p b l) h
-event_folded p b groups (event.Drop l) h = leg_left_folded groups l (leg_at p b l) h
-event_folded p b groups (event.Finish l) h = leg_left_folded groups l (leg_at p b l) h
-event_folded p b groups (event.Close r) h = run_left_folded groups r (run_at p b r) h
+event_folded p b groups (Event.Open r) h = run_opened_folded groups r (run_at p b r) h
+event_folded p b groups (Event.Ask l) h = leg_asked_folded groups l (leg_at p b l) h
+event_folded p b groups (Event.Drop l) h = leg_left_folded groups l (leg_at p b l) h
+event_folded p b groups (Event.Finish l) h = leg_left_folded groups l (leg_at p b l) h
+event_folded p b groups (Event.Close r) h = run_left_folded groups r (run_at p b r) h
 event_folded p b groups e h = h
 
 from_folded : (p : Plan) (b : Board) (groups : Content) (es : List Entry) → Folded groups → Folded (groups_from p b groups es)

@@ -1,14 +1,10 @@
 -- The outputs of legs, one over another.
 use Rattle.std.proofs.Common.{◌≡◌, ℕ, List, [], ◌∷◌, map, refl, ap, ◌∙◌}
 use Rattle.std.specs.List.{AllByRecursion}
-use Rattle.board_decisions.specs.Contexts.{ended_legs, job_outputs, overlaid}
+use Rattle.status_table.specs.Words.{Ascends, Env, Leg, ended_legs, job_outputs, laid_over, or_below, overlaid, value_at}
 use Rattle.board_settled.specs.Contexts.{LastLegWins}
 use Rattle.board_settled.specs.Pairs.{last_giving}
-use Rattle.flow_model.specs.Mapping.{value_at, Ascends}
-use Rattle.flow_model.specs.declared.board.Leg.{Leg}
 use Rattle.board_settled.proofs.Pairs.{below_through, none_below, one_found}
-use Rattle.plan_values.specs.Env.{laid_over, or_below}
-use Rattle.plan_values.specs.Values.{Env}
 
 -- the last level that has a name gives it, else what was below
 giving : (name : List ℕ) (legs : List Leg) (below : Env) → AllByRecursion (λ leg. Ascends leg.outputs) legs

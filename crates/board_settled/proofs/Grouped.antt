@@ -1,20 +1,12 @@
 -- The groups as they are kept by names go with the board through each legal list of entries.
 use Rattle.std.proofs.Common.{◌≡◌, List, [], ◌∷◌, Some, Ok, Err, refl, subst}
-use Rattle.flow_model.specs.Sound.{SoundPlan}
-use Rattle.flow_model.specs.declared.board.Board.{Board}
-use Rattle.flow_model.specs.declared.event.Entry.{Entry}
-use Rattle.flow_model.specs.declared.plan.Plan.{Plan}
-use Rattle.group_admission.specs.Content.{Content, released, withdrawn}
+use Rattle.status_table.specs.Words.{Board, Content, EntersFromOutside, Entry, KeptAsShown, Lawful, Plan, Row, SoundPlan, after, after_event, after_from, new_board, released, row, then_after, withdrawn}
 use Rattle.group_admission.proofs.Entering.{first_holds, next_displaces, own_run_changes_nothing, Ascends-after_enter}
 use Rattle.group_admission.proofs.Leaving.{release_passes_on, withdraw_leaves_holder}
 use Rattle.group_admission.proofs.Lookups.{Ascends-each_held}
 use Rattle.group_admission.proofs.Nowhere.{nowhere_is_no_group}
 use Rattle.group_admission.proofs.Once.{once_stays}
 use Rattle.board_settled.specs.Grouped.{then_groups, groups_from, groups_after}
-use Rattle.status_table.specs.Grouped.{after_event, KeptAsShown, EntersFromOutside}
-use Rattle.status_table.specs.Lawful.{Lawful}
-use Rattle.status_table.specs.Row.{Row, row}
-use Rattle.status_table.specs.Runs.{new_board, then_after, after_from, after}
 use Rattle.board_decisions.proofs.Lists.{same_some, no_some}
 use Rattle.status_table.proofs.Entering.{Leads}
 use Rattle.status_table.proofs.Grouped.{GroupLaws, enters_from_outside, event_kept, new_kept}

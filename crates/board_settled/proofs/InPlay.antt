@@ -1,19 +1,9 @@
 -- A leg in play, seen beside what is settled of it.
 use Rattle.std.proofs.Common.{◌≡◌, ℕ, suc, nat_lt, ◌-◌, false, Option, Some, slice_get, ap, sym, refl, ◌∙◌, arith}
 use Rattle.std.proofs.lemmas.Bool.{le-leb}
-use Rattle.board_decisions.specs.Derived.{is_closed}
-use Rattle.board_decisions.specs.Place.{JobAt, job_at}
-use Rattle.flow_model.specs.Laws.{NeedsPointBack}
-use Rattle.flow_model.specs.Numbers.{first_job}
-use Rattle.flow_model.specs.Rules.{IsPlan}
-use Rattle.flow_model.specs.declared.board.Board.{Board}
-use Rattle.flow_model.specs.declared.board.Run.{Run}
-use Rattle.flow_model.specs.declared.plan.Plan.{Plan}
-use Rattle.flow_model.specs.declared.plan.RunPlan.{RunPlan}
-use Rattle.flow_model.specs.declared.reply.StepCall.{StepCall}
+use Rattle.status_table.specs.Words.{Board, IsPlan, JobAt, Lawful, NeedsPointBack, Plan, Run, RunFits, RunPlan, StepCall, first_job, is_closed, job_at}
 use Rattle.board_settled.specs.Free.{IsFree}
 use Rattle.board_settled.specs.Settled.{Answers}
-use Rattle.status_table.specs.Lawful.{RunFits, Lawful}
 use Rattle.status_table.proofs.Found.{job_stands}
 use Rattle.status_table.proofs.Lists.{zip-get}
 use Rattle.board_decisions.proofs.Lists.{same_some}

@@ -1,25 +1,11 @@
 -- A job and its legs on a board beside what is settled of them.
 use Rattle.std.proofs.Common.{◌≡◌, ◌↔◌, ℕ, suc, ◌+◌, ◌<◌, Bool, true, false, List, ◌∷◌, Result, Ok, length, drop, if◌then◌else◌, ap, subst, sym, refl, ◌∙◌, arith}
 use Rattle.std.specs.List.{AllZip}
-use Rattle.board_decisions.specs.Contexts.{needs_value}
-use Rattle.board_decisions.specs.Decisions.{job_condition}
-use Rattle.board_decisions.specs.Derived.{job_status, ancestors_status, job_results}
-use Rattle.board_decisions.specs.Place.{JobAt}
-use Rattle.expr_value.specs.declared.status.Status.TheVariants as status
-use Rattle.flow_model.specs.Plain.{Plain}
-use Rattle.flow_model.specs.declared.board.Job.{Job}
-use Rattle.flow_model.specs.declared.board.JobState.{JobState}
-use Rattle.flow_model.specs.declared.board.JobState.TheVariants as job_state
-use Rattle.flow_model.specs.declared.board.Leg.{Leg}
-use Rattle.flow_model.specs.declared.event.Outcome.{Outcome}
-use Rattle.flow_model.specs.declared.plan.JobPlan.{JobPlan}
-use Rattle.flow_model.specs.declared.plan.RunPlan.{RunPlan}
-use Rattle.flow_model.specs.declared.reply.ValueFault.{ValueFault}
+use Rattle.status_table.specs.Words.{Job, JobAt, JobPlan, JobState, Leg, Outcome, Plain, RunPlan, Status, ValueFault, ancestors_status, job_condition, job_results, job_status, judged_state, needs_value}
 use Rattle.board_settled.specs.Alone.{SeesSettled, IsOpened}
 use Rattle.board_settled.proofs.Lists.{item}
 use Rattle.board_settled.specs.Agrees.{LegIsSettled, JobIsSettled}
 use Rattle.board_settled.specs.Settled.{Answers, SettledLeg, SettledJob, unsettled, shut, opened, spot_at, leg_settled, legs_from, legs_settled, needs_of, status_after, condition_after, judged, job_settled}
-use Rattle.status_table.specs.Row.{judged_state}
 use Rattle.board_settled.proofs.Seen.{job_condition_is}
 use Rattle.status_table.proofs.Standings.{drop_at}
 
@@ -62,24 +48,24 @@ pub open_settled : (given : SettledJob) (all : List SettledLeg) (job : Job) → 
 open_settled given all job is = (λ h. subst (JobIsSettled given job.legs) (sym h.state) (all, is, h.legs), λ h. by job.state refl h)
   where
     by : (s : JobState) → job.state ≡ s → JobIsSettled given job.legs s → IsOpened all job
-    by job_state.Unjudged e h = absurd h
-    by job_state.Open e h = record { state = e; legs = let same : h.0 ≡ all = cc (h.1, is) in subst (λ (xs : List SettledLeg). AllZip LegIsSettled xs job.legs) same h.2 }
-    by (job_state.Shut result) e h = absurd (cc (is, h))
+    by JobState.Unjudged e h = absurd h
+    by JobState.Open e h = record { state = e; legs = let same : h.0 ≡ all = cc (h.1, is) in subst (λ (xs : List SettledLeg). AllZip LegIsSettled xs job.legs) same h.2 }
+    by (JobState.Shut result) e h = absurd (cc (is, h))
 
 -- a job that was shut
-pub shut_settled : (given : SettledJob) (how : Outcome) (job : Job) → given ≡ shut how → (job.state ≡ job_state.Shut how) ↔ JobIsSettled given job.legs job.state
+pub shut_settled : (given : SettledJob) (how : Outcome) (job : Job) → given ≡ shut how → (job.state ≡ JobState.Shut how) ↔ JobIsSettled given job.legs job.state
 shut_settled given how job is = (λ h. subst (JobIsSettled given job.legs) (sym h) is, λ h. by job.state refl h)
   where
-    by : (s : JobState) → job.state ≡ s → JobIsSettled given job.legs s → job.state ≡ job_state.Shut how
-    by job_state.Unjudged e h = absurd h
-    by job_state.Open e h = absurd (cc (h.1, is))
-    by (job_state.Shut result) e h = cc (e, h, is)
+    by : (s : JobState) → job.state ≡ s → JobIsSettled given job.legs s → job.state ≡ JobState.Shut how
+    by JobState.Unjudged e h = absurd h
+    by JobState.Open e h = absurd (cc (h.1, is))
+    by (JobState.Shut result) e h = cc (e, h, is)
 
-opens : (x : Result Bool ValueFault) (legs : List SettledLeg) → judged_state false x ≡ job_state.Open → judged x legs ≡ opened legs
+opens : (x : Result Bool ValueFault) (legs : List SettledLeg) → judged_state false x ≡ JobState.Open → judged x legs ≡ opened legs
 opens (Ok true) legs h = refl
 opens x legs h = cc
 
-shuts : (x : Result Bool ValueFault) (legs : List SettledLeg) (how : Outcome) → judged_state false x ≡ job_state.Shut how → judged x legs ≡ shut how
+shuts : (x : Result Bool ValueFault) (legs : List SettledLeg) (how : Outcome) → judged_state false x ≡ JobState.Shut how → judged x legs ≡ shut how
 shuts (Ok true) legs how h = cc
 shuts x legs how h = cc
 
@@ -94,7 +80,7 @@ module _ (answers : Answers) (first_job first_leg : ℕ) (before : List SettledJ
   unfolding condition_after
   condition_same =
       let status_is : job_status first_job at ≡ status_after at.run_plan before at.plan =
-      ap (λ c. if c then status.Cancelled else ancestors_status first_job at.run_plan.jobs (job_results at.run) at.place.job) goes ∙ sees.status in
+      ap (λ c. if c then Status.Cancelled else ancestors_status first_job at.run_plan.jobs (job_results at.run) at.place.job) goes ∙ sees.status in
       sym (ap (job_condition at) status_is ∙ job_condition_is at (needs_of at.run_plan before at.plan) (status_after at.run_plan before at.plan) sees.needs)
 
   settled_by : job_settled answers at.run_plan first_leg before at.plan ≡ judged condition legs
@@ -104,8 +90,8 @@ module _ (answers : Answers) (first_job first_leg : ℕ) (before : List SettledJ
       ∙ ap (λ (x : Result Bool ValueFault). judged x (legs_settled answers at.run_plan at.plan (needs_of at.run_plan before at.plan) first_leg)) condition_same
       ∙ ap (λ (needs : Plain). judged condition (legs_settled answers at.run_plan at.plan needs first_leg)) (sym sees.needs)
 
-  pub settled_open : judged_state false condition ≡ job_state.Open → job_settled answers at.run_plan first_leg before at.plan ≡ opened legs
+  pub settled_open : judged_state false condition ≡ JobState.Open → job_settled answers at.run_plan first_leg before at.plan ≡ opened legs
   settled_open h = settled_by ∙ opens condition legs h
 
-  pub settled_shut : (how : Outcome) → judged_state false condition ≡ job_state.Shut how → job_settled answers at.run_plan first_leg before at.plan ≡ shut how
+  pub settled_shut : (how : Outcome) → judged_state false condition ≡ JobState.Shut how → job_settled answers at.run_plan first_leg before at.plan ≡ shut how
   settled_shut how h = settled_by ∙ shuts condition legs how h

@@ -1,19 +1,10 @@
 -- Each list of entries leads to a board that is played as settled.
 use Rattle.std.proofs.Common.{◌≡◌, ℕ, suc, List, [], ◌∷◌, Option, Some, None, Ok, Err, take, slice_get, nat_le, subst, refl}
-use Rattle.board_decisions.specs.Place.{run_at, job_at, leg_at}
-use Rattle.flow_model.specs.declared.board.Board.{Board}
-use Rattle.flow_model.specs.declared.event.Entry.{Entry}
-use Rattle.flow_model.specs.declared.event.Event.{Event}
-use Rattle.flow_model.specs.declared.event.Event.TheVariants as event
-use Rattle.flow_model.specs.declared.plan.Plan.{Plan}
-use Rattle.flow_model.specs.declared.reply.StepCall.{StepCall}
+use Rattle.status_table.specs.Words.{Board, Entry, Event, Plan, Row, StepCall, after_from, call_after, call_from, event_row, job_at, leg_at, row, run_at, then_after, then_call}
 use Rattle.board_settled.specs.Histories.{IsAnswered}
 use Rattle.board_settled.specs.Settled.{Answers}
-use Rattle.status_table.specs.declared.fault.EventFault.TheVariants as fault
-use Rattle.status_table.specs.Calls.{call_after, then_call, call_from}
-use Rattle.status_table.specs.Row.{Row, row, event_row}
+use Rattle.status_table.specs.declared.fault.EventFault.{EventFault}
 use Rattle.status_table.specs.Row as rows
-use Rattle.status_table.specs.Runs.{then_after, after_from}
 use Rattle.status_table.proofs.Entering.{Leads}
 use Rattle.status_table.proofs.Keeps.{Keeps, row_keeps}
 use Rattle.board_decisions.proofs.Lists.{same_some, no_some}
@@ -32,30 +23,30 @@ found-goes p answers calls b e f (Some at) none some = some at refl
 
 event_goes : (p : Plan) (fit : IsFit p) (answers : Answers) (calls : ℕ → Option StepCall) (b : Board) (stands : Stands p answers calls b) (worker : ℕ) (e : Event)
     → IsAnswered answers calls e → Goes p answers calls b e (event_row p b worker e)
-event_goes p fit answers calls b stands worker (event.Open r) ok =
-    found-goes p answers calls b (event.Open r) (rows.open_found b r) (run_at p b r) tt (open_goes p fit answers calls b stands r)
-event_goes p fit answers calls b stands worker (event.Judge j) ok =
-    found-goes p answers calls b (event.Judge j) (rows.judge_found b j) (job_at p b j) tt (judge_goes p fit answers calls b stands j)
-event_goes p fit answers calls b stands worker (event.Ask l) ok =
-    found-goes p answers calls b (event.Ask l) (rows.ask_found b l) (leg_at p b l) tt (ask_goes p fit answers calls b stands l)
-event_goes p fit answers calls b stands worker (event.Drop l) ok =
-    found-goes p answers calls b (event.Drop l) (rows.drop_found b l) (leg_at p b l) tt (drop_goes p fit answers calls b stands l)
-event_goes p fit answers calls b stands worker (event.Take l) ok =
-    found-goes p answers calls b (event.Take l) (rows.take_found b worker) (leg_at p b l) tt (λ at is. take_goes p fit answers calls b stands l at is worker)
-event_goes p fit answers calls b stands worker (event.Begin l) ok =
-    found-goes p answers calls b (event.Begin l) (rows.begin_found b worker l) (leg_at p b l) tt (λ at is. begin_goes p fit answers calls b stands l at is worker)
-event_goes p fit answers calls b stands worker (event.End l a) ok =
-    found-goes p answers calls b (event.End l a) (rows.end_found b worker a) (leg_at p b l) tt (λ at is. end_goes p fit answers calls b stands l at is worker a ok)
-event_goes p fit answers calls b stands worker (event.Finish l) ok =
-    found-goes p answers calls b (event.Finish l) (rows.finish_found b worker l) (leg_at p b l) tt (λ at is. finish_goes p fit answers calls b stands l at is worker)
-event_goes p fit answers calls b stands worker (event.Close r) ok =
-    found-goes p answers calls b (event.Close r) (rows.close_found b r) (run_at p b r) tt (close_goes p fit answers calls b stands r)
-event_goes p fit answers calls b stands worker (event.Cancel r) ok = absurd ok
+event_goes p fit answers calls b stands worker (Event.Open r) ok =
+    found-goes p answers calls b (Event.Open r) (rows.open_found b r) (run_at p b r) tt (open_goes p fit answers calls b stands r)
+event_goes p fit answers calls b stands worker (Event.Judge j) ok =
+    found-goes p answers calls b (Event.Judge j) (rows.judge_found b j) (job_at p b j) tt (judge_goes p fit answers calls b stands j)
+event_goes p fit answers calls b stands worker (Event.Ask l) ok =
+    found-goes p answers calls b (Event.Ask l) (rows.ask_found b l) (leg_at p b l) tt (ask_goes p fit answers calls b stands l)
+event_goes p fit answers calls b stands worker (Event.Drop l) ok =
+    found-goes p answers calls b (Event.Drop l) (rows.drop_found b l) (leg_at p b l) tt (drop_goes p fit answers calls b stands l)
+event_goes p fit answers calls b stands worker (Event.Take l) ok =
+    found-goes p answers calls b (Event.Take l) (rows.take_found b worker) (leg_at p b l) tt (λ at is. take_goes p fit answers calls b stands l at is worker)
+event_goes p fit answers calls b stands worker (Event.Begin l) ok =
+    found-goes p answers calls b (Event.Begin l) (rows.begin_found b worker l) (leg_at p b l) tt (λ at is. begin_goes p fit answers calls b stands l at is worker)
+event_goes p fit answers calls b stands worker (Event.End l a) ok =
+    found-goes p answers calls b (Event.End l a) (rows.end_found b worker a) (leg_at p b l) tt (λ at is. end_goes p fit answers calls b stands l at is worker a ok)
+event_goes p fit answers calls b stands worker (Event.Finish l) ok =
+    found-goes p answers calls b (Event.Finish l) (rows.finish_found b worker l) (leg_at p b l) tt (λ at is. finish_goes p fit answers calls b stands l at is worker)
+event_goes p fit answers calls b stands worker (Event.Close r) ok =
+    found-goes p answers calls b (Event.Close r) (rows.close_found b r) (run_at p b r) tt (close_goes p fit answers calls b stands r)
+event_goes p fit answers calls b stands worker (Event.Cancel r) ok = absurd ok
 
 row_goes : (p : Plan) (fit : IsFit p) (answers : Answers) (calls : ℕ → Option StepCall) (b : Board) (stands : Stands p answers calls b) (worker : ℕ) (e : Event)
     → IsAnswered answers calls e → Goes p answers calls b e (row p b worker e)
 row_goes p fit answers calls b stands worker e ok =
-    goes-if p answers calls b e (nat_le worker 15) (event_row p b worker e) (Err fault.NoSuch) (λ _. event_goes p fit answers calls b stands worker e ok) (λ _. tt)
+    goes-if p answers calls b e (nat_le worker 15) (event_row p b worker e) (Err EventFault.NoSuch) (λ _. event_goes p fit answers calls b stands worker e ok) (λ _. tt)
 
 -- ---- lists of entries
 

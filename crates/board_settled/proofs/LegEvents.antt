@@ -3,42 +3,12 @@ use Rattle.std.proofs.Common.{◌≡◌, ◌≢◌, ℕ, ◌+◌, ◌≤◌, ◌
 use Rattle.std.proofs.lemmas.Bool.{true≢false, leb-true}
 use Rattle.std.proofs.lemmas.Bool.Decides.{nat_tests}
 use Rattle.std.proofs.lemmas.List.{length-append}
-use Rattle.board_decisions.specs.declared.entrance.Entrance.{Entrance}
-use Rattle.board_decisions.specs.Decisions.{is_stopping, leg_result, step_decision, leg_outputs, leg_entrance, job_tolerates, is_true, job_condition}
-use Rattle.board_decisions.specs.Derived.{is_going, is_closed, is_open, is_fresh, is_untaken, is_ended, is_failure, is_full, is_under_way, has_failed}
-use Rattle.board_decisions.specs.Place.{LegAt, leg_at, JobAt}
-use Rattle.flow_model.specs.Answer.{is_well_formed}
-use Rattle.flow_model.specs.declared.board.Board.{Board}
-use Rattle.flow_model.specs.declared.board.DoneStep.{DoneStep}
-use Rattle.flow_model.specs.declared.board.Job.{Job}
-use Rattle.flow_model.specs.declared.board.Leg.{Leg}
-use Rattle.flow_model.specs.declared.board.LegState.{LegState}
-use Rattle.flow_model.specs.declared.board.LegState.TheVariants as leg_state
-use Rattle.flow_model.specs.declared.board.Run.{Run}
-use Rattle.flow_model.specs.declared.event.Answer.{Answer}
-use Rattle.flow_model.specs.declared.event.Event.{Event}
-use Rattle.flow_model.specs.declared.event.Event.TheVariants as event
-use Rattle.flow_model.specs.declared.event.Member.TheVariants as member
-use Rattle.flow_model.specs.declared.event.Outcome.TheVariants as outcome
-use Rattle.flow_model.specs.declared.plan.JobPlan.{JobPlan}
-use Rattle.flow_model.specs.declared.plan.Plan.{Plan}
-use Rattle.flow_model.specs.declared.plan.RunPlan.{RunPlan}
-use Rattle.flow_model.specs.declared.plan.StepPlan.{StepPlan}
-use Rattle.flow_model.specs.declared.reply.Reply.{Reply}
-use Rattle.flow_model.specs.declared.reply.StepCall.{StepCall}
-use Rattle.flow_model.specs.declared.reply.ValueFault.{ValueFault}
-use Rattle.flow_model.specs.declared.reply.What.TheVariants as what
+use Rattle.status_table.specs.Words.{Answer, Board, DoneStep, Entrance, Event, Job, JobAt, JobPlan, JobShape, JobState, Leg, LegAt, LegState, Member, Outcome, Plain, Plan, Reply, Row, Run, RunPlan, RunShape, Status, Stays, StepCall, StepPlan, ValueFault, What, admitted, call_after, dropped, has_failed, has_room, holding, is_closed, is_ended, is_failure, is_fresh, is_full, is_going, is_open, is_stopping, is_true, is_under_way, is_untaken, is_well_formed, job_condition, job_of, job_tolerates, leaves, leg_at, leg_entrance, leg_outputs, leg_result, leg_standing, moved, needs_value, open_calls, step_decision, with_leg}
 use Rattle.board_settled.specs.Alone.{step_comes}
 use Rattle.board_settled.specs.Sees.{Spot}
 use Rattle.board_settled.specs.Settled.{Answers, counts, next_call, next_done, steps_from, steps_then, finish_of, spot_at, needs_of, SettledJob}
-use Rattle.status_table.specs.declared.fault.EventFault.TheVariants as fault
-use Rattle.status_table.specs.Calls.{call_after}
-use Rattle.status_table.specs.Change.{with_leg}
-use Rattle.status_table.specs.Groups.{holding, leg_standing, admitted, moved, leaves, dropped}
-use Rattle.status_table.specs.Row.{Row}
+use Rattle.status_table.specs.declared.fault.EventFault.{EventFault}
 use Rattle.status_table.specs.Row as rows
-use Rattle.status_table.specs.Shape.{has_room, open_calls, JobShape, RunShape}
-use Rattle.status_table.specs.Stays.{Stays}
 use Rattle.status_table.proofs.Found.{LegStands, leg_stands}
 use Rattle.status_table.proofs.LegRows.{holding-live, idle-holds}
 use Rattle.status_table.proofs.Lists.{all-get, zip-get}
@@ -53,11 +23,6 @@ use Rattle.board_settled.proofs.Numbers.{before_run, before_job, number_at}
 use Rattle.board_settled.proofs.Played.{CallStands, InCall, LegPlayed, jobs_of, Played, is_judged, JobPlayed, RunPlayed}
 use Rattle.board_settled.proofs.Seen.{spot_of, call_is, finish_is}
 use Rattle.std.specs.List.{list_any}
-use Rattle.board_decisions.specs.Contexts.{job_of, needs_value}
-use Rattle.expr_value.specs.declared.status.Status.TheVariants as status
-use Rattle.flow_model.specs.Plain.{Plain}
-use Rattle.flow_model.specs.declared.board.JobState.{JobState}
-use Rattle.flow_model.specs.declared.board.JobState.TheVariants as job_state
 use Rattle.board_settled.specs.Free.{JobIsFree}
 use Rattle.board_settled.proofs.SettledNeeds.{needs_settled}
 
@@ -69,12 +34,12 @@ leg_board p b n at h =
     ap (λ (x : LegAt). x.board) (same_some at on (sym h ∙ found))
 
 judged-open : (s : JobState) → is_open s ≡ true → is_judged s ≡ true
-judged-open job_state.Unjudged h = h
-judged-open job_state.Open h = refl
-judged-open (job_state.Shut result) h = absurd (true≢false (sym h))
+judged-open JobState.Unjudged h = h
+judged-open JobState.Open h = refl
+judged-open (JobState.Shut result) h = absurd (true≢false (sym h))
 
 failed-ended : (s : LegState) → is_ended s ≡ false → has_failed s ≡ false
-failed-ended (leg_state.Ended result tolerated) h = absurd (true≢false h)
+failed-ended (LegState.Ended result tolerated) h = absurd (true≢false h)
 failed-ended s h = refl
 
 -- A row that is accepted keeps what is played as settled, by the calls that are open after it.
@@ -152,16 +117,16 @@ module _ (p : Plan) (fit : IsFit p) (answers : Answers) (calls : ℕ → Option 
         | inl slow ↦ ap (λ c. c && list_any (λ (leg : Leg). has_failed leg.state) at.job.legs) slow
         | inr one ↦ both at.job_plan.fail_fast (list_any (λ (leg : Leg). has_failed leg.state) at.job.legs) (alone (size ∙ one) unended)
       ] in
-      ap (λ c. (c || (at.job_plan.fail_fast && list_any (λ (leg : Leg). has_failed leg.state) at.job.legs)) || (at.run.stop && not (is_true (job_condition (job_of at) status.Cancelled)))) leg_played.stop
-      ∙ ap (λ c. c || (at.run.stop && not (is_true (job_condition (job_of at) status.Cancelled)))) others
-      ∙ ap (λ c. c && not (is_true (job_condition (job_of at) status.Cancelled))) run_played.stop
+      ap (λ c. (c || (at.job_plan.fail_fast && list_any (λ (leg : Leg). has_failed leg.state) at.job.legs)) || (at.run.stop && not (is_true (job_condition (job_of at) Status.Cancelled)))) leg_played.stop
+      ∙ ap (λ c. c || (at.run.stop && not (is_true (job_condition (job_of at) Status.Cancelled)))) others
+      ∙ ap (λ c. c && not (is_true (job_condition (job_of at) Status.Cancelled))) run_played.stop
     where
       both : (a c : Bool) → c ≡ false → a && c ≡ false
       both true c h = h
       both false c h = refl
 
   quiet : is_ended at.leg.state ≡ false → leg_result at ≡ counts at.leg.steps
-  quiet unended = ap (λ c. if c then outcome.Cancelled else (if list_any (λ step. is_failure step.conclusion) at.leg.steps then outcome.Failure else outcome.Success)) (not_stopping unended)
+  quiet unended = ap (λ c. if c then Outcome.Cancelled else (if list_any (λ step. is_failure step.conclusion) at.leg.steps then Outcome.Failure else Outcome.Success)) (not_stopping unended)
 
   -- it is seen as it is planned
   spot_is : Live p b l at → spot_of l at ≡ spot
@@ -215,37 +180,37 @@ module _ (p : Plan) (fit : IsFit p) (answers : Answers) (calls : ℕ → Option 
   unfolding leg_entrance
   no_entrance = rw ((fit.free at.place.run at.run_plan here.in_plan).jobs at.place.job at.job_plan here.job_plan).group refl
 
-  pub ask_goes : Goes p answers calls b (event.Ask l) (rows.ask_leg b l at)
-  ask_goes = goes-if p answers calls b (event.Ask l) (not (rows.may_ask at)) (Err fault.WrongState) unstarted (λ _. tt)
-      (λ ready. goes-if p answers calls b (event.Ask l) (is_full at.job_plan at.job) (Err fault.SlotsFull) unstopped (λ _. tt)
-      (λ _. goes-if p answers calls b (event.Ask l) (is_stopping at) (Err fault.Stopping) (rows.leg_enters b l at (leg_entrance at)) (λ _. tt)
+  pub ask_goes : Goes p answers calls b (Event.Ask l) (rows.ask_leg b l at)
+  ask_goes = goes-if p answers calls b (Event.Ask l) (not (rows.may_ask at)) (Err EventFault.WrongState) unstarted (λ _. tt)
+      (λ ready. goes-if p answers calls b (Event.Ask l) (is_full at.job_plan at.job) (Err EventFault.SlotsFull) unstopped (λ _. tt)
+      (λ _. goes-if p answers calls b (Event.Ask l) (is_stopping at) (Err EventFault.Stopping) (rows.leg_enters b l at (leg_entrance at)) (λ _. tt)
       (λ _.
       let all = not-not (rows.may_ask at) ready in
       let two = and-left (is_going at.run.state && is_open at.job.state) (is_fresh at.leg.state) all in
-      subst (λ (x : Result (Option Entrance) ValueFault). Goes p answers calls b (event.Ask l) (rows.leg_enters b l at x)) (sym no_entrance)
-      (put calls (λ x. record x { state = leg_state.Admitted; group = None }) (admitted b None (member.Leg l)) (numbered b l at.place (λ x. record x { state = leg_state.Admitted; group = None }) here.place)
+      subst (λ (x : Result (Option Entrance) ValueFault). Goes p answers calls b (Event.Ask l) (rows.leg_enters b l at x)) (sym no_entrance)
+      (put calls (λ x. record x { state = LegState.Admitted; group = None }) (admitted b None (Member.Leg l)) (numbered b l at.place (λ x. record x { state = LegState.Admitted; group = None }) here.place)
       (λ n _. refl) (record { stands = here; going = and-left (is_going at.run.state) (is_open at.job.state) two; opened = and-right (is_going at.run.state) (is_open at.job.state) two })
-      (still (calls l) (record at.leg { state = leg_state.Admitted; group = None }) refl refl refl tt refl)))))
+      (still (calls l) (record at.leg { state = LegState.Admitted; group = None }) refl refl refl tt refl)))))
     where
       unstopped : Row
-      unstopped = if is_stopping at then Err fault.Stopping else rows.leg_enters b l at (leg_entrance at)
+      unstopped = if is_stopping at then Err EventFault.Stopping else rows.leg_enters b l at (leg_entrance at)
 
       unstarted : Row
-      unstarted = if is_full at.job_plan at.job then Err fault.SlotsFull else unstopped
+      unstarted = if is_full at.job_plan at.job then Err EventFault.SlotsFull else unstopped
 
   -- ---- Drop: no leg is to stop
 
-  pub drop_goes : Goes p answers calls b (event.Drop l) (rows.drop_leg b l at)
-  drop_goes = goes-if p answers calls b (event.Drop l) (not (rows.may_drop at)) (Err fault.WrongState)
-      (if is_stopping at then Ok (leaves b (leg_standing at.leg) (dropped b l outcome.Cancelled)) else Err fault.NotStopping) (λ _. tt)
-      (λ ready. goes-if p answers calls b (event.Drop l) (is_stopping at) (Ok (leaves b (leg_standing at.leg) (dropped b l outcome.Cancelled))) (Err fault.NotStopping)
+  pub drop_goes : Goes p answers calls b (Event.Drop l) (rows.drop_leg b l at)
+  drop_goes = goes-if p answers calls b (Event.Drop l) (not (rows.may_drop at)) (Err EventFault.WrongState)
+      (if is_stopping at then Ok (leaves b (leg_standing at.leg) (dropped b l Outcome.Cancelled)) else Err EventFault.NotStopping) (λ _. tt)
+      (λ ready. goes-if p answers calls b (Event.Drop l) (is_stopping at) (Ok (leaves b (leg_standing at.leg) (dropped b l Outcome.Cancelled))) (Err EventFault.NotStopping)
       (λ stops. absurd (true≢false (sym stops ∙ not_stopping
       (untaken at.leg.state (and-right (is_going at.run.state && is_open at.job.state) (is_untaken at.leg.state) (not-not (rows.may_drop at) ready))))))
       (λ _. tt))
     where
       untaken : (s : LegState) → is_untaken s ≡ true → is_ended s ≡ false
-      untaken (leg_state.Running worker in_call) h = absurd (true≢false (sym h))
-      untaken (leg_state.Ended result tolerated) h = absurd (true≢false (sym h))
+      untaken (LegState.Running worker in_call) h = absurd (true≢false (sym h))
+      untaken (LegState.Ended result tolerated) h = absurd (true≢false (sym h))
       untaken s h = refl
 
   -- ---- Take
@@ -254,14 +219,14 @@ module _ (p : Plan) (fit : IsFit p) (answers : Answers) (calls : ℕ → Option 
   live : is_under_way at.leg.state ≡ true → Live p b l at
   live under = holding-live p b l at stands.lawful.fits here under
 
-  pub take_goes : (worker : ℕ) → Goes p answers calls b (event.Take l) (rows.take_leg b worker at at.leg.state)
+  pub take_goes : (worker : ℕ) → Goes p answers calls b (Event.Take l) (rows.take_leg b worker at at.leg.state)
   take_goes worker = by at.leg.state refl
     where
-      by : (s : LegState) → at.leg.state ≡ s → Goes p answers calls b (event.Take l) (rows.take_leg b worker at s)
-      by leg_state.Admitted e = goes-if p answers calls b (event.Take l) (is_stopping at) (Err fault.Stopping) (Ok (rows.leg_state_set b at.place (leg_state.Running worker false), moved)) (λ _. tt)
-          (λ _. put calls (λ x. record x { state = leg_state.Running worker false }) (rows.leg_state_set b at.place (leg_state.Running worker false)) refl (λ n _. refl)
+      by : (s : LegState) → at.leg.state ≡ s → Goes p answers calls b (Event.Take l) (rows.take_leg b worker at s)
+      by LegState.Admitted e = goes-if p answers calls b (Event.Take l) (is_stopping at) (Err EventFault.Stopping) (Ok (rows.leg_state_set b at.place (LegState.Running worker false), moved)) (λ _. tt)
+          (λ _. put calls (λ x. record x { state = LegState.Running worker false }) (rows.leg_state_set b at.place (LegState.Running worker false)) refl (λ n _. refl)
           (live (ap is_under_way e))
-          (still (calls l) (record at.leg { state = leg_state.Running worker false }) refl leg_played.group refl tt refl))
+          (still (calls l) (record at.leg { state = LegState.Running worker false }) refl leg_played.group refl tt refl))
       by s e = tt
 
   -- ---- Begin and End
@@ -277,7 +242,7 @@ module _ (p : Plan) (fit : IsFit p) (answers : Answers) (calls : ℕ → Option 
       → rows.next_step at ≡ Some step → next_done answers spot at.leg.steps step ≡ Some next → Stays b (rows.step_done b at.place worker next)
       → Played answers p later (rows.step_done b at.place worker next).runs
   done_more later others worker step next under planned given =
-      put later (λ x. record x { state = leg_state.Running worker false; steps = x.steps ++ next ∷ [] }) (rows.step_done b at.place worker next) refl others (live under) (record {
+      put later (λ x. record x { state = LegState.Running worker false; steps = x.steps ++ next ∷ [] }) (rows.step_done b at.place worker next) refl others (live under) (record {
         stop = leg_played.stop;
         group = leg_played.group;
         goes_on = one_more answers spot at.leg.steps step next planned given leg_played.goes_on;
@@ -286,7 +251,7 @@ module _ (p : Plan) (fit : IsFit p) (answers : Answers) (calls : ℕ → Option 
       })
 
   unended : (s : LegState) → is_under_way s ≡ true → is_ended s ≡ false
-  unended (leg_state.Ended result tolerated) h = absurd (true≢false (sym h))
+  unended (LegState.Ended result tolerated) h = absurd (true≢false (sym h))
   unended s h = refl
 
   calm : is_under_way at.leg.state ≡ true → leg_result at ≡ counts at.leg.steps
@@ -304,17 +269,17 @@ module _ (p : Plan) (fit : IsFit p) (answers : Answers) (calls : ℕ → Option 
     given_next d next e given =
         ap (λ (x : Spot). next_done answers x at.leg.steps step) (sym (seen_so under)) ∙ sym (comes_next answers l at (calm under) step planned) ∙ ap (step_comes answers at) e ∙ given
 
-    begun : (worker : ℕ) (d : Result (Option StepCall) ValueFault) → step_decision l at step ≡ d → Goes p answers calls b (event.Begin l) (rows.begin_leg b worker at (Ok (rows.decided d)))
+    begun : (worker : ℕ) (d : Result (Option StepCall) ValueFault) → step_decision l at step ≡ d → Goes p answers calls b (Event.Begin l) (rows.begin_leg b worker at (Ok (rows.decided d)))
     begun worker (Ok None) e =
-        done_more (λ n. call_after n (calls n) (event.Begin l) what.Skipped) (λ n differs. sym (ap (λ c. if c then None else calls n) (other_number n differs))) worker step rows.skipped_step under planned
+        done_more (λ n. call_after n (calls n) (Event.Begin l) What.Skipped) (λ n differs. sym (ap (λ c. if c then None else calls n) (other_number n differs))) worker step rows.skipped_step under planned
         (given_next (Ok None) rows.skipped_step e refl)
     begun worker (Err f) e =
-        done_more (λ n. call_after n (calls n) (event.Begin l) (what.Faulted f)) (λ n differs. sym (ap (λ c. if c then None else calls n) (other_number n differs))) worker step (rows.failed_step at) under planned
+        done_more (λ n. call_after n (calls n) (Event.Begin l) (What.Faulted f)) (λ n differs. sym (ap (λ c. if c then None else calls n) (other_number n differs))) worker step (rows.failed_step at) under planned
         (given_next (Err f) (rows.failed_step at) e refl)
     begun worker (Ok (Some call)) e =
-        put (λ n. call_after n (calls n) (event.Begin l) (what.Call call)) (λ x. record x { state = leg_state.Running worker true }) (rows.leg_state_set b at.place (leg_state.Running worker true)) refl
+        put (λ n. call_after n (calls n) (Event.Begin l) (What.Call call)) (λ x. record x { state = LegState.Running worker true }) (rows.leg_state_set b at.place (LegState.Running worker true)) refl
         (λ n differs. sym (ap (λ c. if c then Some call else calls n) (other_number n differs))) (live under)
-        (still (call_after l (calls l) (event.Begin l) (what.Call call)) (record at.leg { state = leg_state.Running worker true }) refl leg_played.group refl (record {
+        (still (call_after l (calls l) (Event.Begin l) (What.Call call)) (record at.leg { state = LegState.Running worker true }) refl leg_played.group refl (record {
           step = step;
           planned = planned;
           asked = call;
@@ -322,48 +287,48 @@ module _ (p : Plan) (fit : IsFit p) (answers : Answers) (calls : ℕ → Option 
           is_next = sym decision ∙ e;
         }) refl)
 
-  pub begin_goes : (worker : ℕ) → Goes p answers calls b (event.Begin l) (rows.begin_leg b worker at (rows.beginning worker l at))
+  pub begin_goes : (worker : ℕ) → Goes p answers calls b (Event.Begin l) (rows.begin_leg b worker at (rows.beginning worker l at))
   begin_goes worker = by_owner (rows.idle_owner at.leg.state) refl (rows.next_step at) refl
     where
       by_owner : (owner : Option ℕ) → rows.idle_owner at.leg.state ≡ owner → (step : Option StepPlan) → rows.next_step at ≡ step
-          → Goes p answers calls b (event.Begin l) (rows.begin_leg b worker at (rows.beginning_by worker l at owner step))
+          → Goes p answers calls b (Event.Begin l) (rows.begin_leg b worker at (rows.beginning_by worker l at owner step))
       by_owner (Some owner) was (Some step) next = by (worker == owner)
         where
-          by : (c : Bool) → Goes p answers calls b (event.Begin l) (rows.begin_leg b worker at (if c then Ok (rows.decided (step_decision l at step)) else Err fault.OtherWorker))
+          by : (c : Bool) → Goes p answers calls b (Event.Begin l) (rows.begin_leg b worker at (if c then Ok (rows.decided (step_decision l at step)) else Err EventFault.OtherWorker))
           by true = begun (idle-holds at.leg.state owner was).under step next worker (step_decision l at step) refl
           by false = tt
       by_owner owner was step next = tt
 
   in_call : (s : LegState) (owner : ℕ) (call : Option StepCall) → rows.calling_owner s ≡ Some owner → CallStands spot at.leg.steps call s → InCall spot at.leg.steps call × (is_under_way s ≡ true)
-  in_call (leg_state.Running worker true) owner call h calling = (calling, refl)
+  in_call (LegState.Running worker true) owner call h calling = (calling, refl)
   in_call s owner call h calling = absurd (no_some owner h)
 
   pub end_goes : (worker : ℕ) (a : Answer) → ((call : StepCall) → calls l ≡ Some call → answers call ≡ Some a)
-      → Goes p answers calls b (event.End l a) (rows.end_leg b worker at (rows.ending worker at a))
+      → Goes p answers calls b (Event.End l a) (rows.end_leg b worker at (rows.ending worker at a))
   end_goes worker a answer = by_owner (rows.calling_owner at.leg.state) refl
     where
-      ends : (owner : ℕ) → rows.calling_owner at.leg.state ≡ Some owner → Goes p answers calls b (event.End l a) (rows.end_leg b worker at (Ok (rows.answered_step at a)))
+      ends : (owner : ℕ) → rows.calling_owner at.leg.state ≡ Some owner → Goes p answers calls b (Event.End l a) (rows.end_leg b worker at (Ok (rows.answered_step at a)))
       ends owner was =
           let calling = in_call at.leg.state owner (calls (first + at.place.leg)) was leg_played.calling in
           let call = calling.0 in
           let number = number_is in
           let given = answer call.asked (ap calls number ∙ call.is_open) in
           let called = decision calling.1 call.step call.planned ∙ call.is_next in
-          done_more (λ n. call_after n (calls n) (event.End l a) what.Moved) (λ n differs. sym (ap (λ c. if c then None else calls n) (other_number n differs))) worker call.step
+          done_more (λ n. call_after n (calls n) (Event.End l a) What.Moved) (λ n differs. sym (ap (λ c. if c then None else calls n) (other_number n differs))) worker call.step
           (rows.answered_step at a) calling.1 call.planned
           (given_next calling.1 call.step call.planned (Ok (Some call.asked)) (rows.answered_step at a) called (ap (option_map (rows.answered_step at)) given))
 
-      by_owner : (owner : Option ℕ) → rows.calling_owner at.leg.state ≡ owner → Goes p answers calls b (event.End l a) (rows.end_leg b worker at (rows.ending_by worker at a owner))
+      by_owner : (owner : Option ℕ) → rows.calling_owner at.leg.state ≡ owner → Goes p answers calls b (Event.End l a) (rows.end_leg b worker at (rows.ending_by worker at a owner))
       by_owner None was = tt
       by_owner (Some owner) was = by (not (worker == owner)) (not (is_well_formed a))
         where
-          by : (other bad : Bool) → Goes p answers calls b (event.End l a) (rows.end_leg b worker at (if other then Err fault.OtherWorker else (if bad then Err fault.BadAnswer else Ok (rows.answered_step at a))))
+          by : (other bad : Bool) → Goes p answers calls b (Event.End l a) (rows.end_leg b worker at (if other then Err EventFault.OtherWorker else (if bad then Err EventFault.BadAnswer else Ok (rows.answered_step at a))))
           by false false = ends owner was
           by other bad = tt
 
   -- ---- Finish
 
-  pub finish_goes : (worker : ℕ) → Goes p answers calls b (event.Finish l) (rows.finish_leg b l at (rows.finishing worker at))
+  pub finish_goes : (worker : ℕ) → Goes p answers calls b (Event.Finish l) (rows.finish_leg b l at (rows.finishing worker at))
   finish_goes worker = by_owner (rows.idle_owner at.leg.state) refl
     where
       alone : (after : Board) (owner : ℕ) → rows.idle_owner at.leg.state ≡ Some owner → leaves b (leg_standing at.leg) after ≡ leaves b (holding None) after
@@ -378,7 +343,7 @@ module _ (p : Plan) (fit : IsFit p) (answers : Answers) (calls : ℕ → Option 
           omega (arith, few)
 
       ends : (owner : ℕ) → rows.idle_owner at.leg.state ≡ Some owner → nat_lt (length at.leg.steps) (length at.job_plan.steps) ≡ false
-          → Goes p answers calls b (event.Finish l) (rows.finish_leg b l at (Ok (rows.ended_state at (leg_result at))))
+          → Goes p answers calls b (Event.Finish l) (rows.finish_leg b l at (Ok (rows.ended_state at (leg_result at))))
       ends owner was all =
           let state = rows.ended_state at (leg_result at) in
           let new : Board = rows.leg_ended b at.place l state (leg_outputs at) in
@@ -387,22 +352,22 @@ module _ (p : Plan) (fit : IsFit p) (answers : Answers) (calls : ℕ → Option 
           let whole : length at.leg.steps ≡ length at.job_plan.steps = omega (arith, left, had) in
           let finish : finish_of spot at.leg.steps ≡ record { result = leg_result at; tolerated = is_failure (leg_result at) && job_tolerates at; outputs = leg_outputs at } =
           ap (λ (x : Spot). finish_of x at.leg.steps) (sym (seen_so (idle-holds at.leg.state owner was).under)) ∙ finish_is l at (calm (idle-holds at.leg.state owner was).under) in
-          subst (λ (x : Board × Reply). Goes p answers calls b (event.Finish l) (Ok x)) (sym (alone new owner was))
+          subst (λ (x : Board × Reply). Goes p answers calls b (Event.Finish l) (Ok x)) (sym (alone new owner was))
           (put calls (λ x. record x { state = state; outputs = leg_outputs at }) new refl (λ n _. refl) (live (idle-holds at.leg.state owner was).under) (record {
             stop = leg_played.stop;
             group = leg_played.group;
             goes_on = leg_played.goes_on;
             calling = tt;
             ended = λ result tolerated e.
-                let is : leg_state.Ended (leg_result at) (is_failure (leg_result at) && job_tolerates at) ≡ leg_state.Ended result tolerated = e in
+                let is : LegState.Ended (leg_result at) (is_failure (leg_result at) && job_tolerates at) ≡ LegState.Ended result tolerated = e in
                 record { all = whole; finish = cc (finish, is) };
           }))
 
-      by_owner : (owner : Option ℕ) → rows.idle_owner at.leg.state ≡ owner → Goes p answers calls b (event.Finish l) (rows.finish_leg b l at (rows.finishing_by worker at owner))
+      by_owner : (owner : Option ℕ) → rows.idle_owner at.leg.state ≡ owner → Goes p answers calls b (Event.Finish l) (rows.finish_leg b l at (rows.finishing_by worker at owner))
       by_owner None was = tt
       by_owner (Some owner) was = by (not (worker == owner)) (nat_lt (length at.leg.steps) (length at.job_plan.steps)) refl
         where
           by : (other more : Bool) → nat_lt (length at.leg.steps) (length at.job_plan.steps) ≡ more
-              → Goes p answers calls b (event.Finish l) (rows.finish_leg b l at (if other then Err fault.OtherWorker else (if more then Err fault.StepsLeft else Ok (rows.ended_state at (leg_result at)))))
+              → Goes p answers calls b (Event.Finish l) (rows.finish_leg b l at (if other then Err EventFault.OtherWorker else (if more then Err EventFault.StepsLeft else Ok (rows.ended_state at (leg_result at)))))
           by false false e = ends owner was e
           by other more e = tt

@@ -2,26 +2,11 @@
 use Rattle.std.proofs.Common.{◌≡◌, ◌↔◌, ℕ, ◌+◌, ◌<◌, ◌==◌, ◌&&◌, ◌||◌, Bool, true, false, not, List, [], ◌∷◌, ◌++◌, Option, Some, None, Result, Ok, Err, option_map, length, drop, slice_get, if◌then◌else◌, ap, sym, subst, refl, ◌∙◌, arith}
 use Rattle.std.specs.List.{list_any}
 use Rattle.std.proofs.lemmas.Bool.Decides.{nat_tests}
-use Rattle.board_decisions.specs.Decisions.{is_true, job_condition, is_stopping, leg_result, step_decision, job_tolerates, leg_outputs}
-use Rattle.board_decisions.specs.Derived.{is_failure, has_failed}
-use Rattle.board_decisions.specs.Place.{JobAt, LegAt}
-use Rattle.expr_value.specs.declared.status.Status.TheVariants as status
-use Rattle.flow_model.specs.declared.board.DoneStep.{DoneStep}
-use Rattle.flow_model.specs.declared.board.Leg.{Leg}
-use Rattle.flow_model.specs.declared.board.LegState.TheVariants as leg_state
-use Rattle.flow_model.specs.declared.event.Answer.{Answer}
-use Rattle.flow_model.specs.declared.event.Outcome.{Outcome}
-use Rattle.flow_model.specs.declared.event.Outcome.TheVariants as outcome
-use Rattle.flow_model.specs.declared.plan.StepPlan.{StepPlan}
-use Rattle.flow_model.specs.declared.reply.StepCall.{StepCall}
-use Rattle.flow_model.specs.declared.reply.ValueFault.{ValueFault}
-use Rattle.board_decisions.specs.Contexts.{job_of}
+use Rattle.status_table.specs.Words.{Answer, DoneStep, Env, JobAt, Leg, LegAt, LegState, Outcome, Status, StepCall, StepPlan, ValueFault, answered_step, conclusion_of, failure_of, has_failed, is_failure, is_stopping, is_true, job_condition, job_of, job_tolerates, leg_outputs, leg_result, next_step, outcome_of, outputs_of, set_by, step_decision}
 use Rattle.board_settled.specs.Alone.{leg_on, planned, IsAlone, IsIdle, EndsAs, step_comes, next_comes, StepsCome}
 use Rattle.board_settled.specs.Agrees.{LegIsSettled}
 use Rattle.board_settled.specs.Sees.{Spot}
 use Rattle.board_settled.specs.Settled.{Answers, Finish, SettledLeg, counts, concludes, answered, ends_so, step_by, next_done, steps_then, steps_from, finish_of, leg_after, leg_settled}
-use Rattle.status_table.specs.Row.{next_step, failure_of, conclusion_of, answered_step, outcome_of, outputs_of, set_by}
-use Rattle.plan_values.specs.Values.{Env}
 use Rattle.board_settled.proofs.Seen.{spot_of, call_is, failure_is, finish_is}
 use Rattle.board_decisions.proofs.Lists.{same_some, no_some}
 use Rattle.status_table.proofs.Standings.{drop_at}
@@ -35,10 +20,10 @@ and-none false = refl
 
 -- It is not to stop, and counts by its steps.
 pub counts_alone : (at : JobAt) (k : ℕ) (leg : Leg) → IsAlone at → leg.stop ≡ false → leg_result (leg_on at k leg) ≡ counts leg.steps
-counts_alone at k leg alone goes = ap (λ c. if c then outcome.Cancelled else counts leg.steps) stopping
+counts_alone at k leg alone goes = ap (λ c. if c then Outcome.Cancelled else counts leg.steps) stopping
   where
     later : Bool
-    later = not (is_true (job_condition (job_of (leg_on at k leg)) status.Cancelled))
+    later = not (is_true (job_condition (job_of (leg_on at k leg)) Status.Cancelled))
 
     stopping : is_stopping (leg_on at k leg) ≡ false
     stopping =
@@ -54,7 +39,7 @@ module _ (answers : Answers) (l : ℕ) (at : LegAt) (quiet : leg_result at ≡ c
   spot = spot_of l at
 
   concluded : (result : Outcome) → conclusion_of at result ≡ concludes spot at.leg.steps step result
-  concluded outcome.Failure = ap (failure_of at) is ∙ failure_is l at quiet step
+  concluded Outcome.Failure = ap (failure_of at) is ∙ failure_is l at quiet step
   concluded result = refl
 
   ended : (result : Outcome) (outputs env : Env) → record { outcome = result; conclusion = conclusion_of at result; outputs = outputs; env = env } ≡ ends_so spot at.leg.steps step result outputs env
@@ -67,7 +52,7 @@ module _ (answers : Answers) (l : ℕ) (at : LegAt) (quiet : leg_result at ≡ c
   by_call : (x : Result (Option StepCall) ValueFault) → step_comes answers at x ≡ step_by answers spot at.leg.steps step x
   by_call (Ok None) = refl
   by_call (Ok (Some call)) = by_answer (answers call)
-  by_call (Err fault) = ap (λ (d : DoneStep). Some d) (ended outcome.Failure [] [])
+  by_call (Err fault) = ap (λ (d : DoneStep). Some d) (ended Outcome.Failure [] [])
 
   pub comes_next : next_comes answers l at step ≡ next_done answers spot at.leg.steps step
   unfolding next_done
@@ -128,7 +113,7 @@ module _ (answers : Answers) (l : ℕ) (at : JobAt) (k : ℕ) (played : Leg) (al
     }),
     (λ h.
         let finish = same_some end (record { result = h.result; tolerated = h.tolerated; outputs = leg.outputs }) h.finish in
-        record { state = h.state ∙ sym (ap (λ (f : Finish). leg_state.Ended f.result f.tolerated) finish); steps = sym h.steps; outputs = ap (λ (f : Finish). f.outputs) finish }),
+        record { state = h.state ∙ sym (ap (λ (f : Finish). LegState.Ended f.result f.tolerated) finish); steps = sym h.steps; outputs = ap (λ (f : Finish). f.outputs) finish }),
   )
 
 -- ---- one step after the other

@@ -5,7 +5,7 @@ use Rattle.std.proofs.lemmas.Bool.{cases_eq}
 use Rattle.std.proofs.lemmas.Bool.Decides.{nat_tests}
 use Rattle.std.proofs.lemmas.List.Sums.{sum_by-cons}
 use Rattle.std.proofs.lemmas.Option.{slice_get-map}
-use Rattle.status_table.specs.Change.{put, changed}
+use Rattle.status_table.specs.Words.{changed, put}
 use Rattle.status_table.proofs.Counts.{map-some}
 use Rattle.status_table.proofs.Lists.{changed-there, changed-elsewhere}
 use Rattle.board_decisions.proofs.Lists.{and-left, and-right, and-both, same_some, no_some}

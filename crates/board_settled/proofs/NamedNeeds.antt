@@ -1,18 +1,8 @@
 -- The jobs that a job needs, by their ids.
 use Rattle.std.proofs.Common.{◌≡◌, ◌-◌, ℕ, Option, Some, List, [], map, refl, sym, ap, ◌∙◌}
 use Rattle.std.specs.List.{filter_map, slice_get}
-use Rattle.board_decisions.specs.Contexts.{first_number, job_beside, need_pair, need_value, needed_job, needs_value, with_needs}
-use Rattle.board_decisions.specs.Place.{◌>>=◌, JobAt}
-use Rattle.board_decisions.specs.declared.place.JobPlace.{JobPlace}
+use Rattle.status_table.specs.Words.{Board, HaveDistinctNames, Job, JobAt, JobPlace, JobPlan, Plain, Run, RunPlan, first_number, job_beside, need_pair, need_value, needed_job, needs_value, value_at, with_needs, ◌>>=◌}
 use Rattle.board_settled.specs.Contexts.{IsNeeded, NeedsAreDirect}
-use Rattle.flow_model.specs.Mapping.{value_at}
-use Rattle.flow_model.specs.Plain.{Plain}
-use Rattle.flow_model.specs.Sound.{HaveDistinctNames}
-use Rattle.flow_model.specs.declared.board.Board.{Board}
-use Rattle.flow_model.specs.declared.board.Job.{Job}
-use Rattle.flow_model.specs.declared.board.Run.{Run}
-use Rattle.flow_model.specs.declared.plan.JobPlan.{JobPlan}
-use Rattle.flow_model.specs.declared.plan.RunPlan.{RunPlan}
 use Rattle.board_decisions.proofs.Lists.{map-get}
 use Rattle.board_settled.proofs.Lists.{mapped_from}
 use Rattle.board_settled.proofs.Pairs.{IsIn, found_in, in_found, in_kept, kept_in, laid_alone, no_some, same_some}

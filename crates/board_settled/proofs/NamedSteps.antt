@@ -1,14 +1,8 @@
 -- The steps of a leg that are done, by their ids.
 use Rattle.std.proofs.Common.{◌≡◌, ℕ, zero, suc, Option, Some, None, List, [], ◌∷◌, refl, sym, ap, ◌∙◌}
 use Rattle.std.specs.List.{filter_map, slice_get, zip}
-use Rattle.board_decisions.specs.Contexts.{done_value, id_pair, step_pair, steps_value}
-use Rattle.board_decisions.specs.Place.{LegAt}
+use Rattle.status_table.specs.Words.{DoneStep, HaveDistinctNames, LegAt, Plain, StepPlan, done_value, id_pair, step_pair, steps_value, value_at}
 use Rattle.board_settled.specs.Contexts.{IsDone, StepsAreDone, done_pairs}
-use Rattle.flow_model.specs.Mapping.{value_at}
-use Rattle.flow_model.specs.Plain.{Plain}
-use Rattle.flow_model.specs.Sound.{HaveDistinctNames}
-use Rattle.flow_model.specs.declared.board.DoneStep.{DoneStep}
-use Rattle.flow_model.specs.declared.plan.StepPlan.{StepPlan}
 use Rattle.board_settled.proofs.Pairs.{IsIn, found_in, in_found, in_kept, kept_in, laid_alone, no_some, same_some}
 
 -- what stands beside what

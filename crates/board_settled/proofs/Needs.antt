@@ -5,19 +5,9 @@ use Rattle.std.specs.List.{list_all, list_any}
 use Rattle.std.proofs.lemmas.Bool.{leb-true}
 use Rattle.std.proofs.lemmas.List.{length-take-le, length-map}
 use Rattle.std.proofs.lemmas.Option.{slice_get-map, slice_get_within}
-use Rattle.board_decisions.specs.Contexts.{object, needed_job, need_pair, needs_value}
-use Rattle.board_decisions.specs.Derived.{is_success, is_failure, holds, holds_at, places_needed, some_ancestor, any_ancestor, status_by, ancestors_status, job_result, job_results}
-use Rattle.board_decisions.specs.Place.{JobAt}
-use Rattle.flow_model.specs.Plain.{Plain}
-use Rattle.flow_model.specs.declared.board.Board.{Board}
-use Rattle.flow_model.specs.declared.board.Job.{Job}
-use Rattle.flow_model.specs.declared.board.Run.{Run}
-use Rattle.flow_model.specs.declared.event.Outcome.{Outcome}
-use Rattle.flow_model.specs.declared.plan.JobPlan.{JobPlan}
-use Rattle.flow_model.specs.declared.plan.RunPlan.{RunPlan}
+use Rattle.status_table.specs.Words.{Board, Job, JobAt, JobPlan, Outcome, Plain, Run, RunPlan, ancestors_status, any_ancestor, holds, holds_at, is_failure, is_success, job_result, job_results, laid_over, need_pair, needed_job, needs_value, object, places_needed, some_ancestor, status_by}
 use Rattle.board_settled.specs.Alone.{SeesSettled}
 use Rattle.board_settled.specs.Settled.{SettledJob, all_given, result_of, first_in_run, need_at, needs_of, has_result, result_passes, needs_given, status_after}
-use Rattle.plan_values.specs.Env.{laid_over}
 use Rattle.board_settled.proofs.Comes.{JobComes}
 use Rattle.board_settled.proofs.Lists.{get-take, all-by, any-where, any-map, map-filter_map, filter_map-where}
 use Rattle.board_decisions.proofs.Lists.{same_some}

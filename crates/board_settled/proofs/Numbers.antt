@@ -3,16 +3,8 @@ use Rattle.std.proofs.Common.{◌≡◌, ℕ, zero, suc, ◌+◌, ◌-◌, ◌<�
 use Rattle.std.specs.List.{flat_map, AllZip}
 use Rattle.std.proofs.lemmas.Bool.Decides.{nat_tests}
 use Rattle.std.proofs.lemmas.List.{length-append}
-use Rattle.board_decisions.specs.Place.{leg_in_jobs, leg_place, leg_place_from, else_from}
-use Rattle.board_decisions.specs.declared.place.LegPlace.{LegPlace}
-use Rattle.flow_model.specs.declared.board.Board.{Board}
-use Rattle.flow_model.specs.declared.board.Job.{Job}
-use Rattle.flow_model.specs.declared.board.Run.{Run}
-use Rattle.flow_model.specs.declared.plan.JobPlan.{JobPlan}
-use Rattle.flow_model.specs.declared.plan.Plan.{Plan}
-use Rattle.flow_model.specs.declared.plan.RunPlan.{RunPlan}
+use Rattle.status_table.specs.Words.{Board, HasShape, Job, JobPlan, JobShape, LegPlace, Plan, Run, RunPlan, RunShape, else_from, leg_in_jobs, leg_place, leg_place_from}
 use Rattle.board_settled.specs.Settled.{leg_count}
-use Rattle.status_table.specs.Shape.{JobShape, RunShape, HasShape}
 use Rattle.board_decisions.proofs.Lists.{same_some, no_some}
 
 -- how many legs stand in the first jobs

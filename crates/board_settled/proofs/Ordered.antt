@@ -3,21 +3,10 @@ use Rattle.std.proofs.Common.{◌≡◌, ℕ, zero, suc, ◌+◌, ◌<◌, ◌�
 use Rattle.std.specs.List.{filter, filter_map, flat_map, cons_option}
 use Rattle.std.proofs.lemmas.List.Elements.{filter-append}
 use Rattle.std.proofs.lemmas.Option.{slice_get_within}
-use Rattle.board_decisions.specs.Contexts.{job_leg, overlaid, job_outputs}
-use Rattle.board_decisions.specs.Derived.{holds, is_ended}
-use Rattle.board_decisions.specs.Numbered.{numbered_leg}
-use Rattle.board_decisions.specs.declared.place.JobPlace.{JobPlace}
-use Rattle.flow_model.specs.Numbers.{board_legs}
-use Rattle.flow_model.specs.declared.board.Board.{Board}
-use Rattle.flow_model.specs.declared.board.Job.{Job}
-use Rattle.flow_model.specs.declared.board.Leg.{Leg}
-use Rattle.flow_model.specs.declared.board.Run.{Run}
-use Rattle.flow_model.specs.declared.plan.Plan.{Plan}
-use Rattle.flow_model.specs.declared.plan.RunPlan.{RunPlan}
+use Rattle.status_table.specs.Words.{Board, HasShape, Job, JobPlace, Leg, Plan, Run, RunPlan, board_legs, holds, is_ended, job_leg, job_outputs, numbered_leg, overlaid}
 use Rattle.board_settled.specs.Quiet.{numbers, has_ended_at, ended_in_order, quiet_run}
 use Rattle.board_settled.proofs.Numbers.{before_run, before_job}
 use Rattle.board_settled.proofs.Outputs.{leg_number, has_number, is_leg_of, is_item, number_of}
-use Rattle.status_table.specs.Shape.{HasShape}
 
 -- ---- numbers in their order
 

@@ -3,21 +3,7 @@ use Rattle.std.proofs.Common.{◌≡◌, ◌≢◌, ℕ, zero, suc, ◌+◌, ◌
 use Rattle.std.specs.List.{filter_map}
 use Rattle.std.proofs.lemmas.Bool.Decides.{nat_tests}
 use Rattle.std.proofs.lemmas.Option.{slice_get_within}
-use Rattle.board_decisions.specs.Contexts.{leg_of_job, job_leg, overlaid, job_outputs}
-use Rattle.board_decisions.specs.Derived.{is_ended}
-use Rattle.board_decisions.specs.Numbered.{leg_there, numbered_leg}
-use Rattle.board_decisions.specs.Place.{◌>>=◌, leg_place}
-use Rattle.board_decisions.specs.declared.place.JobPlace.{JobPlace}
-use Rattle.board_decisions.specs.declared.place.LegPlace.{LegPlace}
-use Rattle.flow_model.specs.Numbers.{board_legs}
-use Rattle.flow_model.specs.declared.board.Board.{Board}
-use Rattle.flow_model.specs.declared.board.Job.{Job}
-use Rattle.flow_model.specs.declared.board.Leg.{Leg}
-use Rattle.flow_model.specs.declared.board.Run.{Run}
-use Rattle.flow_model.specs.declared.plan.Plan.{Plan}
-use Rattle.flow_model.specs.declared.plan.RunPlan.{RunPlan}
-use Rattle.status_table.specs.Ends.{times_ended, EndOnce}
-use Rattle.status_table.specs.Shape.{HasShape}
+use Rattle.status_table.specs.Words.{Board, EndOnce, HasShape, Job, JobPlace, Leg, LegPlace, Plan, Run, RunPlan, board_legs, is_ended, job_leg, job_outputs, leg_of_job, leg_place, leg_there, numbered_leg, overlaid, times_ended, ◌>>=◌}
 use Rattle.status_table.proofs.Lists.{bind-some}
 use Rattle.board_decisions.proofs.Lists.{and-left, and-right, no_some}
 use Rattle.status_table.proofs.Numbers.{legs_are_numbered}

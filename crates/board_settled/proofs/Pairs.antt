@@ -8,11 +8,8 @@ use Rattle.std.specs.Cmp.Lexicographic.{slice_cmp}
 use Rattle.std.specs.List.{AllByRecursion, filter_map, cons_option, slice_get}
 use Rattle.std.specs.List.Sorted.{IsStrictlySortedBy}
 use Rattle.std.specs.Ordering.{nat_cmp, is_eq}
-use Rattle.board_decisions.specs.Contexts.{overlaid}
-use Rattle.flow_model.specs.Mapping.{value_at, with_pair, keys_of, Ascends}
+use Rattle.status_table.specs.Words.{Ascends, Env, keys_of, laid_over, or_below, overlaid, value_at, with_pair}
 use Rattle.flow_model.proofs.Lookups.{found_other, found_same}
-use Rattle.plan_values.specs.Env.{laid_over, or_below}
-use Rattle.plan_values.specs.Values.{Env}
 
 -- an item stands somewhere in a list
 abbrev pub IsIn : {T : Type 0} → T → List T → Type 0

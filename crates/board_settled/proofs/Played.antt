@@ -1,21 +1,6 @@
 -- What holds of each run, job and leg in play beside what is settled.
 use Rattle.std.proofs.Common.{◌≡◌, ℕ, zero, suc, ◌+◌, ◌-◌, Bool, true, false, List, [], ◌∷◌, ◌++◌, Option, Some, None, Ok, length, take, drop, slice_get, ap, sym, refl, ◌∙◌, arith, append-nil, append_assoc}
-use Rattle.board_decisions.specs.Derived.{is_closed, is_open, is_ended, needs_have_ended}
-use Rattle.flow_model.specs.declared.board.DoneStep.{DoneStep}
-use Rattle.flow_model.specs.declared.board.Job.{Job}
-use Rattle.flow_model.specs.declared.board.JobState.{JobState}
-use Rattle.flow_model.specs.declared.board.JobState.TheVariants as job_state
-use Rattle.flow_model.specs.declared.board.Leg.{Leg}
-use Rattle.flow_model.specs.declared.board.LegState.{LegState}
-use Rattle.flow_model.specs.declared.board.LegState.TheVariants as leg_state
-use Rattle.flow_model.specs.declared.board.Run.{Run}
-use Rattle.flow_model.specs.declared.board.RunState.TheVariants as run_state
-use Rattle.flow_model.specs.declared.event.Outcome.{Outcome}
-use Rattle.flow_model.specs.declared.plan.JobPlan.{JobPlan}
-use Rattle.flow_model.specs.declared.plan.Plan.{Plan}
-use Rattle.flow_model.specs.declared.plan.RunPlan.{RunPlan}
-use Rattle.flow_model.specs.declared.plan.StepPlan.{StepPlan}
-use Rattle.flow_model.specs.declared.reply.StepCall.{StepCall}
+use Rattle.status_table.specs.Words.{DoneStep, Job, JobPlan, JobState, Leg, LegState, Outcome, Plan, Run, RunPlan, RunState, StepCall, StepPlan, is_closed, is_ended, is_open, needs_have_ended}
 use Rattle.board_settled.specs.Sees.{Spot}
 use Rattle.board_settled.specs.Settled.{Answers, SettledLeg, SettledJob, shut, opened, steps_from, finish_of, next_call, spot_at, needs_of, legs_settled, job_settled, jobs_from, run_after}
 use Rattle.board_settled.proofs.Numbers.{before_run, before_job}
@@ -24,11 +9,11 @@ use Rattle.board_settled.proofs.Numbers.{before_run, before_job}
 
 -- a leg that has not asked
 abbrev pub fresh_leg : Leg
-fresh_leg = record { state = leg_state.Fresh; stop = false; group = None; steps = []; outputs = [] }
+fresh_leg = record { state = LegState.Fresh; stop = false; group = None; steps = []; outputs = [] }
 
 -- a job that was judged
 abbrev pub is_judged : JobState → Bool
-is_judged job_state.Unjudged = false
+is_judged JobState.Unjudged = false
 is_judged other = true
 
 -- a call of a leg is open, for its next step
@@ -41,7 +26,7 @@ pub record InCall (spot : Spot) (done : List DoneStep) (call : Option StepCall) 
 
 -- where a leg is in a call
 abbrev pub CallStands : Spot → List DoneStep → Option StepCall → LegState → Type 0
-CallStands spot done call (leg_state.Running worker true) = InCall spot done call
+CallStands spot done call (LegState.Running worker true) = InCall spot done call
 CallStands spot done call other = Unit {0}
 
 -- a leg that is Ended has done all its steps, and ended as is settled
@@ -55,15 +40,15 @@ pub record LegPlayed (answers : Answers) (spot : Spot) (call : Option StepCall) 
   pub group : leg.group ≡ None
   pub goes_on : steps_from answers spot leg.steps (drop (length leg.steps) spot.job.steps) ≡ steps_from answers spot [] spot.job.steps
   pub calling : CallStands spot leg.steps call leg.state
-  pub ended : (result : Outcome) (tolerated : Bool) → leg.state ≡ leg_state.Ended result tolerated → EndsRightly spot leg result tolerated
+  pub ended : (result : Outcome) (tolerated : Bool) → leg.state ≡ LegState.Ended result tolerated → EndsRightly spot leg result tolerated
 
 -- ---- jobs
 
 -- a job is in the state into which it is settled to be judged, if it was judged
 abbrev pub StateStands : SettledJob → List SettledLeg → JobState → Type 0
-StateStands given legs job_state.Unjudged = Unit {0}
-StateStands given legs job_state.Open = given ≡ opened legs
-StateStands given legs (job_state.Shut result) = given ≡ shut result
+StateStands given legs JobState.Unjudged = Unit {0}
+StateStands given legs JobState.Open = given ≡ opened legs
+StateStands given legs (JobState.Shut result) = given ≡ shut result
 
 -- A job, by those of its run that are settled before it, and the number of its first leg.
 pub record JobPlayed (answers : Answers) (run : RunPlan) (before : List SettledJob) (first : ℕ) (plan : JobPlan) (calls : ℕ → Option StepCall) (job : Job) : Type 0 where
@@ -76,8 +61,8 @@ pub record JobOver (job : Job) : Type 0 where
   pub judged : is_judged job.state ≡ true
   pub ended : is_open job.state ≡ true → (k : ℕ) (leg : Leg) → slice_get job.legs k ≡ Some leg → is_ended leg.state ≡ true
 
-pub judged-or : (s : JobState) → (s ≡ job_state.Unjudged → ⊥) → is_judged s ≡ true
-judged-or job_state.Unjudged h = absurd (h refl)
+pub judged-or : (s : JobState) → (s ≡ JobState.Unjudged → ⊥) → is_judged s ≡ true
+judged-or JobState.Unjudged h = absurd (h refl)
 judged-or s h = refl
 
 -- ---- runs
@@ -94,7 +79,7 @@ pub record RunPlayed (answers : Answers) (first : ℕ) (plan : RunPlan) (calls :
       → JobPlayed answers plan (take j (jobs_of answers first plan)) (first + before_job j plan.jobs) job_plan calls job
   pub needs : (j : ℕ) (job_plan : JobPlan) (job : Job) → slice_get plan.jobs j ≡ Some job_plan → slice_get run.jobs j ≡ Some job
       → is_judged job.state ≡ true → needs_have_ended (job_plan.number - j) run job_plan ≡ true
-  pub closed : (result : Outcome) → run.state ≡ run_state.Closed result → (run_after (jobs_of answers first plan)).result ≡ Some result
+  pub closed : (result : Outcome) → run.state ≡ RunState.Closed result → (run_after (jobs_of answers first plan)).result ≡ Some result
   pub over : is_closed run.state ≡ true → (j : ℕ) (job : Job) → slice_get run.jobs j ≡ Some job → JobOver job
 
 -- each run of a list

@@ -2,16 +2,11 @@
 use Rattle.std.proofs.Common.{◌≡◌, ◌↔◌, ℕ, zero, suc, ◌==◌, ◌&&◌, Bool, true, false, List, [], ◌∷◌, Option, Some, None, IsTrue, slice_get, if◌then◌else◌, subst, ap, refl, sym, ◌∙◌, arith}
 use Rattle.std.proofs.lemmas.Bool.{true≢false}
 use Rattle.std.proofs.lemmas.Bool.Decides.{nat_tests}
-use Rattle.flow_model.specs.declared.event.Answer.{Answer}
-use Rattle.flow_model.specs.declared.board.Board.{Board}
-use Rattle.flow_model.specs.declared.event.Entry.{Entry}
-use Rattle.flow_model.specs.declared.plan.Plan.{Plan}
-use Rattle.flow_model.specs.declared.reply.StepCall.{StepCall}
+use Rattle.status_table.specs.Words.{Answer, Board, Entry, Plan, StepCall, after}
 use Rattle.board_settled.specs.Alone.{ByAnswers}
 use Rattle.board_settled.specs.Records.{listed, recorded_answers, TellsSettled}
 use Rattle.board_settled.specs.Agrees.{IsSettled}
 use Rattle.board_settled.specs.Settled.{settled}
-use Rattle.status_table.specs.Runs.{after}
 use Rattle.step_host.specs.Replay.{IsRecorded, recorded}
 use Rattle.board_decisions.proofs.Lists.{and-left, and-right, and-both, same_some, no_some}
 use Rattle.step_host.specs.Script.{Line, IsListed}

@@ -2,32 +2,9 @@
 use Rattle.std.proofs.Common.{◌≡◌, ℕ, ◌+◌, ◌-◌, ◌||◌, Bool, true, false, List, Option, Some, None, Result, Ok, Err, option_map, take, slice_get, if◌then◌else◌, ap, subst, sym, refl, ◌∙◌}
 use Rattle.std.specs.List.{list_any}
 use Rattle.std.proofs.lemmas.Bool.{true≢false}
-use Rattle.board_decisions.specs.declared.entrance.Entrance.{Entrance}
-use Rattle.board_decisions.specs.Contexts.{needs_value}
-use Rattle.board_decisions.specs.Decisions.{job_condition, run_entrance}
-use Rattle.board_decisions.specs.Derived.{is_going, is_closed, is_open, is_failure, is_cancelled, job_status, ancestors_status, needs_have_ended, jobs_have_ended, job_result, job_results, is_any_job_failed, is_any_job_cancelled, run_result}
-use Rattle.board_decisions.specs.Place.{RunAt, JobAt, run_at, job_at}
-use Rattle.expr_value.specs.declared.status.Status.TheVariants as status
-use Rattle.flow_model.specs.Plain.{Plain}
-use Rattle.flow_model.specs.declared.board.Board.{Board}
-use Rattle.flow_model.specs.declared.board.Job.{Job}
-use Rattle.flow_model.specs.declared.board.JobState.{JobState}
-use Rattle.flow_model.specs.declared.board.JobState.TheVariants as job_state
-use Rattle.flow_model.specs.declared.board.Run.{Run}
-use Rattle.flow_model.specs.declared.board.RunState.{RunState}
-use Rattle.flow_model.specs.declared.board.RunState.TheVariants as run_state
-use Rattle.flow_model.specs.declared.event.Event.TheVariants as event
-use Rattle.flow_model.specs.declared.event.Member.TheVariants as member
-use Rattle.flow_model.specs.declared.event.Outcome.{Outcome}
-use Rattle.flow_model.specs.declared.plan.JobPlan.{JobPlan}
-use Rattle.flow_model.specs.declared.plan.Plan.{Plan}
-use Rattle.flow_model.specs.declared.plan.RunPlan.{RunPlan}
-use Rattle.flow_model.specs.declared.reply.Reply.{Reply}
-use Rattle.flow_model.specs.declared.reply.StepCall.{StepCall}
-use Rattle.flow_model.specs.declared.reply.ValueFault.{ValueFault}
+use Rattle.status_table.specs.Words.{Board, Entrance, Event, Job, JobAt, JobPlan, JobState, Member, Outcome, Plain, Plan, Reply, Run, RunAt, RunPlan, RunState, Status, StepCall, ValueFault, admitted, ancestors_status, closed, holding, is_any_job_cancelled, is_any_job_failed, is_cancelled, is_closed, is_failure, is_going, is_open, job_at, job_condition, job_result, job_results, job_status, jobs_have_ended, leaves, moved, needs_have_ended, needs_value, run_at, run_entrance, run_result, run_standing, run_stands}
 use Rattle.board_settled.specs.Settled.{Answers, SettledLeg, SettledJob, unsettled, worst, jobs_come_to, needs_of, status_after, condition_after, judged, legs_settled, job_settled, run_after}
-use Rattle.status_table.specs.declared.fault.EventFault.TheVariants as fault
-use Rattle.status_table.specs.Groups.{holding, run_stands, run_standing, closed, admitted, moved, leaves}
+use Rattle.status_table.specs.declared.fault.EventFault.{EventFault}
 use Rattle.status_table.specs.Row as rows
 use Rattle.status_table.proofs.Found.{RunStands, JobStands, run_stands as run_found, job_stands as job_found}
 use Rattle.board_decisions.proofs.Lists.{same_some}
@@ -56,23 +33,23 @@ module _ (p : Plan) (fit : IsFit p) (answers : Answers) (open_calls : ℕ → Op
     unfolding run_entrance
     no_entrance = rw (fit.free r at.plan there.plan).group refl
 
-    pub open_goes : Goes p answers open_calls b (event.Open r) (rows.open_run b r at at.run.state at.run.stop)
+    pub open_goes : Goes p answers open_calls b (Event.Open r) (rows.open_run b r at at.run.state at.run.stop)
     open_goes = by at.run.state at.run.stop
       where
-        unclosed : (result : Outcome) → run_state.Going ≡ run_state.Closed result → ⊥
+        unclosed : (result : Outcome) → RunState.Going ≡ RunState.Closed result → ⊥
         unclosed result h = cc
 
-        by : (s : RunState) (stop : Bool) → Goes p answers open_calls b (event.Open r) (rows.open_run b r at s stop)
-        by run_state.New false =
-            subst (λ (x : Result (Option Entrance) ValueFault). Goes p answers open_calls b (event.Open r) (rows.run_enters b r x)) (sym no_entrance)
-            (λ stays. run_changes p b answers open_calls r (λ run. record run { state = run_state.Going; group = None }) (admitted b None (member.Run r)) refl stays stands.played
+        by : (s : RunState) (stop : Bool) → Goes p answers open_calls b (Event.Open r) (rows.open_run b r at s stop)
+        by RunState.New false =
+            subst (λ (x : Result (Option Entrance) ValueFault). Goes p answers open_calls b (Event.Open r) (rows.run_enters b r x)) (sym no_entrance)
+            (λ stays. run_changes p b answers open_calls r (λ run. record run { state = RunState.Going; group = None }) (admitted b None (Member.Run r)) refl stays stands.played
             (λ x. refl) (λ x. refl) (λ x _. refl) (λ plan run _ _ result e. absurd (unclosed result e)) (λ run _ was. absurd (true≢false (sym was))))
         by s stop = tt
 
     -- ---- Close
 
     -- what all jobs of the run come to
-    comes_to : at.run.state ≡ run_state.Going → jobs_have_ended at.run ≡ true → (run_after (jobs_of answers (before_run r p.runs) at.plan)).result ≡ Some (run_result at.run)
+    comes_to : at.run.state ≡ RunState.Going → jobs_have_ended at.run ≡ true → (run_after (jobs_of answers (before_run r p.runs) at.plan)).result ≡ Some (run_result at.run)
     comes_to going ended =
         let seen = run_seen p fit answers open_calls b stands r at.plan at.run there.plan there.run (ap is_closed going) in
         ap (option_map jobs_come_to) (each_given p b answers open_calls r at.plan at.run seen ended)
@@ -80,32 +57,32 @@ module _ (p : Plan) (fit : IsFit p) (answers : Answers) (open_calls : ℕ → Op
         ∙ ap (λ c. Some (worst (is_any_job_failed at.run) c)) (any-map is_cancelled (job_result at.run) at.run.jobs)
         ∙ ap (λ c. Some (worst (is_any_job_failed at.run) (c || is_any_job_cancelled at.run))) (sym run_played.stop)
 
-    pub close_goes : Goes p answers open_calls b (event.Close r) (rows.close_run b r at.run at.run.state)
+    pub close_goes : Goes p answers open_calls b (Event.Close r) (rows.close_run b r at.run at.run.state)
     close_goes = by at.run.state refl
       where
-        unstopped : (stop : Bool) → stop ≡ false → Goes p answers open_calls b (event.Close r) (rows.close_waiting b r at.run stop)
+        unstopped : (stop : Bool) → stop ≡ false → Goes p answers open_calls b (Event.Close r) (rows.close_waiting b r at.run stop)
         unstopped true h = absurd (true≢false h)
         unstopped false h = tt
 
-        same : (x y : Outcome) → run_state.Closed x ≡ run_state.Closed y → x ≡ y
+        same : (x y : Outcome) → RunState.Closed x ≡ RunState.Closed y → x ≡ y
         same x y h = cc
 
-        alone : at.run.state ≡ run_state.Going → leaves b (run_standing at.run) (closed b r (run_result at.run)) ≡ leaves b (holding None) (closed b r (run_result at.run))
+        alone : at.run.state ≡ RunState.Going → leaves b (run_standing at.run) (closed b r (run_result at.run)) ≡ leaves b (holding None) (closed b r (run_result at.run))
         alone going = ap (λ s. leaves b s (closed b r (run_result at.run))) (ap (λ s. run_stands s at.run.group) going ∙ ap holding run_played.group)
 
-        ends : at.run.state ≡ run_state.Going → jobs_have_ended at.run ≡ true → Goes p answers open_calls b (event.Close r) (rows.run_closes b r at.run (run_result at.run))
+        ends : at.run.state ≡ RunState.Going → jobs_have_ended at.run ≡ true → Goes p answers open_calls b (Event.Close r) (rows.run_closes b r at.run (run_result at.run))
         ends going ended =
-            subst (λ (x : Board × Reply). Goes p answers open_calls b (event.Close r) (Ok x)) (sym (alone going))
-            (λ stays. run_changes p b answers open_calls r (λ run. record run { state = run_state.Closed (run_result at.run) }) (closed b r (run_result at.run)) refl stays stands.played
+            subst (λ (x : Board × Reply). Goes p answers open_calls b (Event.Close r) (Ok x)) (sym (alone going))
+            (λ stays. run_changes p b answers open_calls r (λ run. record run { state = RunState.Closed (run_result at.run) }) (closed b r (run_result at.run)) refl stays stands.played
             (λ x. refl) (λ x. refl) (λ x none. none) (λ plan run planned in_board result e.
             let plan_is : at.plan ≡ plan = same_some at.plan plan (sym there.plan ∙ planned) in
             ap (λ (x : RunPlan). (run_after (jobs_of answers (before_run r p.runs) x)).result) (sym plan_is) ∙ comes_to going ended ∙ ap (λ (o : Outcome). Some o) (same (run_result at.run) result e))
             (λ run in_board _ j job is_job. each_over p b answers open_calls r at.plan at.run (run_seen p fit answers open_calls b stands r at.plan at.run there.plan there.run (ap is_closed going)) ended j job
             (ap (λ (x : Run). slice_get x.jobs j) (same_some at.run run (sym there.run ∙ in_board)) ∙ is_job)))
 
-        by : (s : RunState) → at.run.state ≡ s → Goes p answers open_calls b (event.Close r) (rows.close_run b r at.run s)
-        by run_state.Going e = goes-if p answers open_calls b (event.Close r) (jobs_have_ended at.run) (rows.run_closes b r at.run (run_result at.run)) (Err fault.NeedsOpen) (λ ended. ends e ended) (λ _. tt)
-        by (run_state.Closed result) e = tt
+        by : (s : RunState) → at.run.state ≡ s → Goes p answers open_calls b (Event.Close r) (rows.close_run b r at.run s)
+        by RunState.Going e = goes-if p answers open_calls b (Event.Close r) (jobs_have_ended at.run) (rows.run_closes b r at.run (run_result at.run)) (Err EventFault.NeedsOpen) (λ ended. ends e ended) (λ _. tt)
+        by (RunState.Closed result) e = tt
         by s e = unstopped at.run.stop run_played.stop
 
   -- ---- Judge
@@ -142,7 +119,7 @@ module _ (p : Plan) (fit : IsFit p) (answers : Answers) (open_calls : ℕ → Op
     stands_by (Ok true) = refl
     stands_by x = refl
 
-    module _ (going : is_going at.run.state ≡ true) (unjudged : at.job.state ≡ job_state.Unjudged) (ended : needs_have_ended (rows.first_of j at) at.run at.plan ≡ true) where
+    module _ (going : is_going at.run.state ≡ true) (unjudged : at.job.state ≡ JobState.Unjudged) (ended : needs_have_ended (rows.first_of j at) at.run at.plan ≡ true) where
       ready : needs_have_ended (at.plan.number - at.place.job) at.run at.plan ≡ true
       ready = ap (λ n. needs_have_ended (n - at.place.job) at.run at.plan) number ∙ ended
 
@@ -156,7 +133,7 @@ module _ (p : Plan) (fit : IsFit p) (answers : Answers) (open_calls : ℕ → Op
 
       status_is : job_status (rows.first_of j at) at ≡ status_after at.run_plan before at.plan
       status_is =
-          ap (λ c. if c then status.Cancelled else ancestors_status (rows.first_of j at) at.run_plan.jobs (job_results at.run) at.place.job) run_here.stop
+          ap (λ c. if c then Status.Cancelled else ancestors_status (rows.first_of j at) at.run_plan.jobs (job_results at.run) at.place.job) run_here.stop
           ∙ ap (λ n. ancestors_status (n - at.place.job) at.run_plan.jobs (job_results at.run) at.place.job) (sym number)
           ∙ ap (λ n. ancestors_status n at.run_plan.jobs (job_results at.run) at.place.job) (seen.ordered.number at.place.job at.plan found.plan)
           ∙ (needs_settled p b answers open_calls at.place.run at.run_plan at.run seen at.place.job at.plan found.plan ready at.job).status
@@ -204,19 +181,19 @@ module _ (p : Plan) (fit : IsFit p) (answers : Answers) (open_calls : ℕ → Op
           (subst (λ (x : JobPlan). Here at.run_plan at.run x job) job_plan_is
           (subst (λ (x : Job). Here at.run_plan at.run at.plan x) job_is start)))
 
-      judged_goes : Goes p answers open_calls b (event.Judge j) (Ok (rows.job_state_set b at.place new_state, moved))
+      judged_goes : Goes p answers open_calls b (Event.Judge j) (Ok (rows.job_state_set b at.place new_state, moved))
       judged_goes stays = job_put p b answers open_calls at.place.run at.place.job put (rows.job_state_set b at.place new_state) refl stays stands.played here
           (λ run is_run. ap (λ (x : Run). is_closed x.state) (same_some run at.run (sym is_run ∙ found.in_board)) ∙ going-unclosed at.run.state going)
 
-    pub judge_goes : Goes p answers open_calls b (event.Judge j) (rows.judge_job b at.place (rows.judgement j at))
+    pub judge_goes : Goes p answers open_calls b (Event.Judge j) (rows.judge_job b at.place (rows.judgement j at))
     judge_goes = by at.run.state refl at.job.state refl
       where
-        tested : (c : Bool) → needs_have_ended (rows.first_of j at) at.run at.plan ≡ c → is_going at.run.state ≡ true → at.job.state ≡ job_state.Unjudged
-            → Goes p answers open_calls b (event.Judge j)
-            (rows.judge_job b at.place (if c then Ok (rows.judged_state at.run.stop (job_condition at (job_status (rows.first_of j at) at))) else Err fault.NeedsOpen))
+        tested : (c : Bool) → needs_have_ended (rows.first_of j at) at.run at.plan ≡ c → is_going at.run.state ≡ true → at.job.state ≡ JobState.Unjudged
+            → Goes p answers open_calls b (Event.Judge j)
+            (rows.judge_job b at.place (if c then Ok (rows.judged_state at.run.stop (job_condition at (job_status (rows.first_of j at) at))) else Err EventFault.NeedsOpen))
         tested true ended going unjudged = judged_goes going unjudged ended
         tested false ended going unjudged = tt
 
-        by : (s : RunState) → at.run.state ≡ s → (t : JobState) → at.job.state ≡ t → Goes p answers open_calls b (event.Judge j) (rows.judge_job b at.place (rows.judgement_by j at s t))
-        by run_state.Going going job_state.Unjudged unjudged = tested (needs_have_ended (rows.first_of j at) at.run at.plan) refl (ap is_going going) unjudged
+        by : (s : RunState) → at.run.state ≡ s → (t : JobState) → at.job.state ≡ t → Goes p answers open_calls b (Event.Judge j) (rows.judge_job b at.place (rows.judgement_by j at s t))
+        by RunState.Going going JobState.Unjudged unjudged = tested (needs_have_ended (rows.first_of j at) at.run at.plan) refl (ap is_going going) unjudged
         by s going t unjudged = tt

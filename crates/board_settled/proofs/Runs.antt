@@ -4,20 +4,7 @@ use Rattle.std.specs.List.{list_any, flat_map, AllZip}
 use Rattle.std.proofs.lemmas.Bool.{true≢false, le-leb}
 use Rattle.std.proofs.lemmas.List.{length-append, take_more}
 use Rattle.std.proofs.lemmas.Option.{slice_get_within, get_or_from_slice_get}
-use Rattle.board_decisions.specs.Ancestors.{StandsAfterNeeds}
-use Rattle.board_decisions.specs.Derived.{is_failure, is_cancelled, job_result, job_results, is_any_job_failed, is_any_job_cancelled, run_result}
-use Rattle.board_decisions.specs.Place.{◌>>=◌, RunAt, JobAt, job_in_run, run_at}
-use Rattle.board_decisions.specs.declared.place.JobPlace.{JobPlace}
-use Rattle.flow_model.specs.Laws.{NeedsPointBack}
-use Rattle.flow_model.specs.Numbers.{first_job}
-use Rattle.flow_model.specs.Sound.{Each}
-use Rattle.flow_model.specs.declared.board.Board.{Board}
-use Rattle.flow_model.specs.declared.board.Job.{Job}
-use Rattle.flow_model.specs.declared.board.Run.{Run}
-use Rattle.flow_model.specs.declared.board.RunState.TheVariants as run_state
-use Rattle.flow_model.specs.declared.plan.JobPlan.{JobPlan}
-use Rattle.flow_model.specs.declared.plan.Plan.{Plan}
-use Rattle.flow_model.specs.declared.plan.RunPlan.{RunPlan}
+use Rattle.status_table.specs.Words.{Board, Each, Job, JobAt, JobFits, JobPlace, JobPlan, JobShape, NeedsPointBack, Plan, Run, RunAt, RunFits, RunPlan, RunShape, RunState, StandsAfterNeeds, first_job, is_any_job_cancelled, is_any_job_failed, is_cancelled, is_failure, job_in_run, job_result, job_results, run_at, run_result, ◌>>=◌}
 use Rattle.board_settled.specs.Alone.{SeesSettled}
 use Rattle.board_settled.specs.Quiet.{quiet_run}
 use Rattle.board_settled.specs.Runs.{RunStands}
@@ -25,8 +12,6 @@ use Rattle.board_settled.proofs.Comes.{job_comes}
 use Rattle.board_settled.proofs.Needs.{ComesAt, IsOrdered, board_sees_settled, each_result}
 use Rattle.board_settled.specs.Agrees.{JobIsSettled, RunIsSettled}
 use Rattle.board_settled.specs.Settled.{Answers, SettledJob, SettledRun, worst, jobs_come_to, job_settled, run_settled, leg_count, runs_from}
-use Rattle.status_table.specs.Lawful.{JobFits, RunFits}
-use Rattle.status_table.specs.Shape.{JobShape, RunShape}
 use Rattle.board_settled.proofs.InPlay.{is_ordered}
 use Rattle.board_settled.proofs.Lists.{get-take, item, all-of, any-map}
 use Rattle.board_settled.proofs.Numbers.{before_job}
@@ -215,12 +200,12 @@ module _ (answers : Answers) (r first : ℕ) (at : RunAt) (stands : RunStands r 
         ∙ ap (λ c. Some (worst (is_any_job_failed at.run) c)) (any-map is_cancelled (job_result at.run) at.run.jobs)
         ∙ ap (λ c. Some (worst (is_any_job_failed at.run) (c || is_any_job_cancelled at.run))) (sym (stands.board.runs r at.run stands.in_board))
 
-    pub run_comes : at.run.state ≡ run_state.Closed (run_result at.run) → RunIsSettled (run_settled answers first at.plan) at.run
+    pub run_comes : at.run.state ≡ RunState.Closed (run_result at.run) → RunIsSettled (run_settled answers first at.plan) at.run
     unfolding run_settled
     run_comes is = record { jobs = jobs_settled; result = run_result at.run; state = is; given_result = comes_to }
 
-    pub only_closed : RunIsSettled (run_settled answers first at.plan) at.run → at.run.state ≡ run_state.Closed (run_result at.run)
-    only_closed h = h.state ∙ ap (λ o. run_state.Closed o) (same_some h.result (run_result at.run) (sym h.given_result ∙ comes_to))
+    pub only_closed : RunIsSettled (run_settled answers first at.plan) at.run → at.run.state ≡ RunState.Closed (run_result at.run)
+    only_closed h = h.state ∙ ap (λ o. RunState.Closed o) (same_some h.result (run_result at.run) (sym h.given_result ∙ comes_to))
 
 -- ---- the runs that are left
 

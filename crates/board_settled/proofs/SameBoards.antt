@@ -2,30 +2,10 @@
 use Rattle.std.proofs.Common.{◌≡◌, ℕ, ◌+◌, Bool, true, false, List, Option, Some, length, take, slice_get, ap, sym, refl, ◌∙◌}
 use Rattle.std.specs.List.{AllZip}
 use Rattle.std.proofs.lemmas.List.Elements.{same_from_all_zip}
-use Rattle.board_decisions.specs.Derived.{is_closed, is_open, is_ended}
-use Rattle.flow_model.specs.Laws.{NeedsPointBack}
-use Rattle.flow_model.specs.Rules.{IsPlan}
-use Rattle.flow_model.specs.Sound.{SoundPlan}
-use Rattle.flow_model.specs.declared.board.Board.{Board}
-use Rattle.flow_model.specs.declared.board.DoneStep.{DoneStep}
-use Rattle.flow_model.specs.declared.board.Job.{Job}
-use Rattle.flow_model.specs.declared.board.JobState.{JobState}
-use Rattle.flow_model.specs.declared.board.JobState.TheVariants as job_state
-use Rattle.flow_model.specs.declared.board.Leg.{Leg}
-use Rattle.flow_model.specs.declared.board.LegState.{LegState}
-use Rattle.flow_model.specs.declared.board.LegState.TheVariants as leg_state
-use Rattle.flow_model.specs.declared.board.Run.{Run}
-use Rattle.flow_model.specs.declared.board.RunState.{RunState}
-use Rattle.flow_model.specs.declared.board.RunState.TheVariants as run_state
-use Rattle.flow_model.specs.declared.plan.JobPlan.{JobPlan}
-use Rattle.flow_model.specs.declared.plan.Plan.{Plan}
-use Rattle.flow_model.specs.declared.plan.RunPlan.{RunPlan}
-use Rattle.flow_model.specs.declared.reply.StepCall.{StepCall}
+use Rattle.status_table.specs.Words.{Board, DoneStep, Env, IsPlan, Job, JobPlan, JobShape, JobState, Leg, LegState, NeedsPointBack, Plan, Run, RunPlan, RunShape, RunState, SoundPlan, StepCall, is_closed, is_ended, is_open}
 use Rattle.board_settled.specs.Agrees.{OnlyEndsDiffer}
 use Rattle.board_settled.specs.Sees.{Spot}
 use Rattle.board_settled.specs.Settled.{Answers, Finish, SettledLeg, SettledJob, spot_at, needs_of, legs_settled, job_settled}
-use Rattle.status_table.specs.Shape.{JobShape, RunShape}
-use Rattle.plan_values.specs.Values.{Env}
 use Rattle.status_table.proofs.Counts.{zip-left}
 use Rattle.status_table.proofs.Lists.{zip-length, all-get, zip-get}
 use Rattle.board_decisions.proofs.Lists.{same_some}
@@ -53,7 +33,7 @@ leg_same answers spot call other x y px py ex ey =
     let finish = same_some (record { result = a.result; tolerated = a.tolerated; outputs = x.outputs }) (record { result = b.result; tolerated = b.tolerated; outputs = y.outputs })
     (sym a.finish ∙ b.finish) in
     let state : x.state ≡ y.state =
-    a.state ∙ ap (λ (f : Finish). leg_state.Ended f.result f.tolerated) finish ∙ sym b.state in
+    a.state ∙ ap (λ (f : Finish). LegState.Ended f.result f.tolerated) finish ∙ sym b.state in
     ap (λ s. leg_made s x.stop x.group x.steps x.outputs) state
     ∙ ap (λ c. leg_made y.state c x.group x.steps x.outputs) (px.stop ∙ sym py.stop)
     ∙ ap (λ (g : Option (List ℕ)). leg_made y.state y.stop g x.steps x.outputs) (px.group ∙ sym py.group)
@@ -63,8 +43,8 @@ leg_same answers spot call other x y px py ex ey =
 -- ---- jobs
 
 state_same : (given : SettledJob) (legs : List SettledLeg) (s t : JobState) → StateStands given legs s → StateStands given legs t → is_judged s ≡ true → is_judged t ≡ true → s ≡ t
-state_same given legs job_state.Open job_state.Open h k js jt = refl
-state_same given legs (job_state.Shut result) (job_state.Shut other) h k js jt = cc
+state_same given legs JobState.Open JobState.Open h k js jt = refl
+state_same given legs (JobState.Shut result) (JobState.Shut other) h k js jt = cc
 state_same given legs s t h k js jt = cc
 
 abbrev job_made : JobState → List Leg → Job
@@ -99,7 +79,7 @@ run_same answers first plan calls others x y sx sy px py cx cy =
     let a = closed-result x.state cx in
     let b = closed-result y.state cy in
     let result : a.0 ≡ b.0 = same_some a.0 b.0 (sym (px.closed a.0 a.1) ∙ py.closed b.0 b.1) in
-    let state : x.state ≡ y.state = a.1 ∙ ap (λ r. run_state.Closed r) result ∙ sym b.1 in
+    let state : x.state ≡ y.state = a.1 ∙ ap (λ r. RunState.Closed r) result ∙ sym b.1 in
     let jobs : x.jobs ≡ y.jobs = same-lists x.jobs y.jobs (sym (zip-length JobShape plan.jobs x.jobs sx) ∙ zip-length JobShape plan.jobs y.jobs sy) (λ j u v at there.
     let planned = zip-left JobShape plan.jobs x.jobs j u at sx in
     let shape = zip-get JobShape plan.jobs y.jobs j planned.0 v planned.1 there sy in

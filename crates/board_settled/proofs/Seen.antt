@@ -1,22 +1,9 @@
 -- What a board shows of a place is what is seen by the plan, the needs and the steps that are done.
 use Rattle.std.proofs.Common.{◌≡◌, ℕ, ◌&&◌, Some, [], ap, refl, ◌∙◌}
-use Rattle.board_decisions.specs.Contexts.{run_values, job_values, needs_value, job_of, strategy_value, matrix_value, steps_value, leg_values_by}
-use Rattle.board_decisions.specs.Decisions.{job_condition, leg_result, leg_status, leg_values, seen_from, flow_env, job_env, leg_env, step_env, step_decision, step_tolerates, job_tolerates, leg_outputs, status_of}
-use Rattle.board_decisions.specs.Derived.{is_failure}
-use Rattle.board_decisions.specs.Place.{JobAt, LegAt}
-use Rattle.expr_reader.specs.declared.tree.Context.{Context}
-use Rattle.expr_reader.specs.declared.tree.Context.TheVariants as context
-use Rattle.expr_value.specs.declared.status.Status.{Status}
-use Rattle.flow_model.specs.Plain.{Plain}
-use Rattle.flow_model.specs.declared.event.Outcome.{Outcome}
-use Rattle.flow_model.specs.declared.plan.StepPlan.{StepPlan}
+use Rattle.status_table.specs.Words.{Context, JobAt, LegAt, Outcome, Plain, Status, StepPlan, TextPlace, Values, condition_value, contexts_at, failure_of, flow_env, is_failure, job_condition, job_env, job_of, job_tolerates, job_values, leg_env, leg_outputs, leg_result, leg_status, leg_values, leg_values_by, matrix_value, needs_value, run_values, seen_from, status_of, step_decision, step_env, step_tolerates, steps_value, strategy_value, with_env}
 use Rattle.board_settled.specs.Decided.{step_call, step_passes, leg_passes, outputs_of_leg, failure_counts}
 use Rattle.board_settled.specs.Sees.{Spot, Sight, sight, job_sees, leg_sees, strategy_shown, matrix_shown, steps_shown}
 use Rattle.board_settled.specs.Settled.{counts, seen_after, next_call, finish_of}
-use Rattle.status_table.specs.Row.{failure_of}
-use Rattle.plan_values.specs.Texts.{condition_value}
-use Rattle.plan_values.specs.Values.{Values, contexts_at, with_env}
-use Rattle.plan_values.specs.declared.place.TextPlace.TheVariants as place
 
 -- ---- jobs
 
@@ -25,15 +12,15 @@ unfolding job_values job_sees run_values
 job_values_are at = λ i x. each x i
   where
     each : (x : Context) → job_values at x ≡ job_sees at.run_plan (needs_value at) x
-    each context.Needs = refl
+    each Context.Needs = refl
     each x = refl
 
 -- a job's condition, by what it sees and its status
 pub job_condition_is : (at : JobAt) (needs : Plain) (s : Status) → needs_value at ≡ needs
-    → job_condition at s ≡ condition_value (contexts_at place.JobCondition (with_env [] (job_sees at.run_plan needs))) s at.plan.condition
+    → job_condition at s ≡ condition_value (contexts_at TextPlace.JobCondition (with_env [] (job_sees at.run_plan needs))) s at.plan.condition
 unfolding job_condition
 job_condition_is at needs s same =
-    ap (λ (values : Values). condition_value (contexts_at place.JobCondition (with_env [] values)) s at.plan.condition)
+    ap (λ (values : Values). condition_value (contexts_at TextPlace.JobCondition (with_env [] values)) s at.plan.condition)
     (job_values_are at ∙ ap (job_sees at.run_plan) same)
 
 -- ---- legs
@@ -47,7 +34,7 @@ unfolding leg_values_by leg_sees job_values job_sees run_values strategy_value s
 leg_values_are l at result = λ i x. each x i
   where
     each : (x : Context) → leg_values_by result at x ≡ leg_sees (spot_of l at) result at.leg.steps x
-    each context.Needs = refl
+    each Context.Needs = refl
     each x = refl
 
 -- what each place sees from a leg on a board

@@ -1,8 +1,6 @@
 -- What a leg sees where no step of it that is done set anything.
 use Rattle.std.proofs.Common.{◌≡◌, Result, Ok, Err, refl, ap}
-use Rattle.board_decisions.specs.Decisions.{then_value, job_env, set_over, leg_env}
-use Rattle.flow_model.specs.declared.reply.ValueFault.{ValueFault}
-use Rattle.plan_values.specs.Values.{Env}
+use Rattle.status_table.specs.Words.{Env, ValueFault, job_env, leg_env, set_over, then_value}
 use Rattle.board_settled.specs.Variables.{NothingSetIsTheJobs}
 use Rattle.board_settled.proofs.Pairs.{nothing-laid}
 

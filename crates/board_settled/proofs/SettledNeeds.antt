@@ -3,21 +3,10 @@ use Rattle.std.proofs.Common.{◌≡◌, ℕ, suc, ◌+◌, ◌-◌, ◌&&◌, B
 use Rattle.std.specs.List.{list_all, AllZip}
 use Rattle.std.proofs.lemmas.Bool.{true≢false, leb-true}
 use Rattle.std.proofs.lemmas.Option.{slice_get-map, slice_get_within}
-use Rattle.board_decisions.specs.Derived.{is_closed, holds, holds_at, needs_have_ended, job_has_ended, jobs_have_ended, job_results}
-use Rattle.flow_model.specs.Numbers.{first_job}
-use Rattle.flow_model.specs.declared.board.Board.{Board}
-use Rattle.flow_model.specs.declared.board.Job.{Job}
-use Rattle.flow_model.specs.declared.board.Run.{Run}
-use Rattle.flow_model.specs.declared.plan.JobPlan.{JobPlan}
-use Rattle.flow_model.specs.declared.plan.Plan.{Plan}
-use Rattle.flow_model.specs.declared.plan.RunPlan.{RunPlan}
-use Rattle.flow_model.specs.declared.reply.StepCall.{StepCall}
+use Rattle.status_table.specs.Words.{Board, EndOnce, HasShape, Job, JobFits, JobPlan, JobShape, Plan, Run, RunFits, RunPlan, RunShape, StepCall, first_job, holds, holds_at, is_closed, job_has_ended, job_results, jobs_have_ended, needs_have_ended}
 use Rattle.board_settled.specs.Alone.{SeesSettled}
 use Rattle.board_settled.specs.Free.{RunIsFree}
 use Rattle.board_settled.specs.Settled.{Answers, SettledJob, all_given, result_of, job_settled}
-use Rattle.status_table.specs.Ends.{EndOnce}
-use Rattle.status_table.specs.Lawful.{JobFits, RunFits}
-use Rattle.status_table.specs.Shape.{JobShape, RunShape, HasShape}
 use Rattle.board_decisions.proofs.Lists.{and-left, and-right, and-both, same_some}
 use Rattle.status_table.proofs.Counts.{zip-left}
 use Rattle.status_table.proofs.Lists.{zip-get, zip-length, all-get}

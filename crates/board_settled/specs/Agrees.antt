@@ -1,45 +1,31 @@
 -- How a board agrees with what is settled, as far as the plan was played.
 use Rattle.std.specs.Prelude.{◌≡◌, Bool, true, false, List, [], take, length, Some}
 use Rattle.std.specs.List.{AllZip}
-use Rattle.board_decisions.specs.Derived.{is_open}
-use Rattle.flow_model.specs.Rules.{IsPlan}
-use Rattle.flow_model.specs.Sound.{Each}
-use Rattle.flow_model.specs.declared.board.Board.{Board}
-use Rattle.flow_model.specs.declared.board.Job.{Job}
-use Rattle.flow_model.specs.declared.board.JobState.{JobState}
-use Rattle.flow_model.specs.declared.board.JobState.TheVariants as job_state
-use Rattle.flow_model.specs.declared.board.Leg.{Leg}
-use Rattle.flow_model.specs.declared.board.LegState.TheVariants as leg_state
-use Rattle.flow_model.specs.declared.board.Run.{Run}
-use Rattle.flow_model.specs.declared.board.RunState.TheVariants as run_state
-use Rattle.flow_model.specs.declared.event.Entry.{Entry}
-use Rattle.flow_model.specs.declared.event.Outcome.{Outcome}
-use Rattle.flow_model.specs.declared.plan.Plan.{Plan}
+use Rattle.status_table.specs.Words.{Board, Each, Entry, IsPlan, Job, JobState, Leg, LegState, Outcome, Plan, Run, RunState, finished, is_open}
 use Rattle.board_settled.specs.Free.{IsFree}
 use Rattle.board_settled.specs.Histories.{LeadsTo}
 use Rattle.board_settled.specs.Settled.{Answers, SettledLeg, SettledJob, shut, opened, SettledRun, settled}
-use Rattle.status_table.specs.Moves.{finished}
 
 -- The steps of a leg that are done are the first that are settled. One that is Ended has done all of them,
 -- with the result, tolerated or not, and the outputs that are settled.
 pub record LegAgrees (given : SettledLeg) (leg : Leg) : Type 0 where
   pub steps : leg.steps ≡ take (length leg.steps) given.steps
-  pub ended : (result : Outcome) (tolerated : Bool) → leg.state ≡ leg_state.Ended result tolerated
+  pub ended : (result : Outcome) (tolerated : Bool) → leg.state ≡ LegState.Ended result tolerated
       → (leg.steps ≡ given.steps)
       × (given.finish ≡ Some (record { result = result; tolerated = tolerated; outputs = leg.outputs }))
 
 -- A job that was judged is Shut or Open as settled, and each leg of one that is Open agrees. Of one that is
 -- not, no leg has done a step.
 pub record JobAgrees (given : SettledJob) (job : Job) : Type 0 where
-  pub when_shut : (result : Outcome) → job.state ≡ job_state.Shut result → given ≡ shut result
-  pub when_open : job.state ≡ job_state.Open
+  pub when_shut : (result : Outcome) → job.state ≡ JobState.Shut result → given ≡ shut result
+  pub when_open : job.state ≡ JobState.Open
       → (legs : List SettledLeg) × (given ≡ opened legs) × AllZip LegAgrees legs job.legs
   pub else_untouched : is_open job.state ≡ false → Each (λ leg. leg.steps ≡ []) job.legs
 
 -- Each job of a run agrees, and one that is Closed has the result that is settled.
 pub record RunAgrees (given : SettledRun) (run : Run) : Type 0 where
   pub jobs : AllZip JobAgrees given.jobs run.jobs
-  pub closed : (result : Outcome) → run.state ≡ run_state.Closed result → given.result ≡ Some result
+  pub closed : (result : Outcome) → run.state ≡ RunState.Closed result → given.result ≡ Some result
 
 -- Each run of a board agrees.
 abbrev pub Agrees : List SettledRun → Board → Type 0
@@ -51,21 +37,21 @@ Agrees given b = AllZip RunAgrees given b.runs
 pub record LegIsSettled (given : SettledLeg) (leg : Leg) : Type 0 where
   pub result : Outcome
   pub tolerated : Bool
-  pub state : leg.state ≡ leg_state.Ended result tolerated
+  pub state : leg.state ≡ LegState.Ended result tolerated
   pub steps : leg.steps ≡ given.steps
   pub finish : given.finish ≡ Some (record { result = result; tolerated = tolerated; outputs = leg.outputs })
 
 -- A job was judged as settled, by its state; each leg of one that was opened is Ended as settled.
 abbrev pub JobIsSettled : SettledJob → List Leg → JobState → Type 0
-JobIsSettled given legs job_state.Unjudged = ⊥
-JobIsSettled given legs job_state.Open = (all : List SettledLeg) × (given ≡ opened all) × AllZip LegIsSettled all legs
-JobIsSettled given legs (job_state.Shut result) = given ≡ shut result
+JobIsSettled given legs JobState.Unjudged = ⊥
+JobIsSettled given legs JobState.Open = (all : List SettledLeg) × (given ≡ opened all) × AllZip LegIsSettled all legs
+JobIsSettled given legs (JobState.Shut result) = given ≡ shut result
 
 -- A run is Closed as settled, with all its jobs.
 pub record RunIsSettled (given : SettledRun) (run : Run) : Type 0 where
   pub jobs : AllZip (λ given job. JobIsSettled given job.legs job.state) given.jobs run.jobs
   pub result : Outcome
-  pub state : run.state ≡ run_state.Closed result
+  pub state : run.state ≡ RunState.Closed result
   pub given_result : given.result ≡ Some result
 
 -- The board is all of what is settled, which gives the result of each run.

@@ -1,25 +1,10 @@
 -- What a job and its legs come to by themselves, on a board that shows what was settled before.
 use Rattle.std.specs.Prelude.{◌≡◌, ◌≢◌, ℕ, ◌&&◌, false, true, Bool, List, [], length, Option, Some, None, Result, Ok, Err, option_map}
 use Rattle.std.specs.List.{AllZip}
-use Rattle.board_decisions.specs.Contexts.{needs_value}
-use Rattle.board_decisions.specs.Decisions.{leg_result, step_decision, job_tolerates, leg_outputs}
-use Rattle.board_decisions.specs.Derived.{is_failure, job_results, ancestors_status}
-use Rattle.board_decisions.specs.Place.{JobAt, LegAt}
-use Rattle.flow_model.specs.declared.board.DoneStep.{DoneStep}
-use Rattle.flow_model.specs.declared.board.Job.{Job}
-use Rattle.flow_model.specs.declared.board.JobState.TheVariants as job_state
-use Rattle.flow_model.specs.declared.board.Leg.{Leg}
-use Rattle.flow_model.specs.declared.board.LegState.TheVariants as leg_state
-use Rattle.flow_model.specs.declared.event.Answer.{Answer}
-use Rattle.flow_model.specs.declared.event.Outcome.{Outcome}
-use Rattle.flow_model.specs.declared.event.Outcome.TheVariants as outcome
-use Rattle.flow_model.specs.declared.plan.StepPlan.{StepPlan}
-use Rattle.flow_model.specs.declared.reply.StepCall.{StepCall}
-use Rattle.flow_model.specs.declared.reply.ValueFault.{ValueFault}
+use Rattle.status_table.specs.Words.{Answer, DoneStep, Job, JobAt, JobState, Leg, LegAt, LegState, Outcome, StepCall, StepPlan, ValueFault, ancestors_status, answered_step, failed_step, is_failure, job_results, job_tolerates, leg_outputs, leg_result, needs_value, skipped_step, step_decision}
 use Rattle.board_settled.specs.Agrees.{LegIsSettled}
 use Rattle.board_settled.specs.Sees.{Spot}
 use Rattle.board_settled.specs.Settled.{Answers, SettledLeg, SettledJob, needs_of, needs_given, status_after, steps_from}
-use Rattle.status_table.specs.Row.{skipped_step, failed_step, answered_step}
 
 -- ---- answers
 
@@ -36,8 +21,8 @@ ByAnswers admits declines holds = (answers : Answers) → AreAnswersOf admits de
 
 -- A success, or a failure.
 abbrev pub success_if : Bool → Outcome
-success_if true = outcome.Success
-success_if false = outcome.Failure
+success_if true = Outcome.Success
+success_if false = Outcome.Failure
 
 -- A leg of a job, at a place, where it is as given.
 abbrev pub leg_on : JobAt → ℕ → Leg → LegAt
@@ -64,7 +49,7 @@ pub record IsAlone (at : JobAt) : Type 0 where
 
 -- A leg with its worker, which is idle, and that is not told to stop.
 pub record IsIdle (leg : Leg) : Type 0 where
-  pub state : leg.state ≡ leg_state.Running 0 false
+  pub state : leg.state ≡ LegState.Running 0 false
   pub goes : leg.stop ≡ false
 
 -- What the next step comes to by what is decided of it.
@@ -86,7 +71,7 @@ StepsCome answers spot None = length (steps_from answers spot [] spot.job.steps)
 
 -- A leg is Ended as another would end now, with the same steps and the outputs that it would give.
 pub record EndsAs (at : LegAt) (leg : Leg) : Type 0 where
-  pub state : leg.state ≡ leg_state.Ended (leg_result at) (is_failure (leg_result at) && job_tolerates at)
+  pub state : leg.state ≡ LegState.Ended (leg_result at) (is_failure (leg_result at) && job_tolerates at)
   pub steps : at.leg.steps ≡ leg.steps
   pub outputs : leg_outputs at ≡ leg.outputs
 
@@ -100,5 +85,5 @@ pub record SeesSettled (first : ℕ) (before : List SettledJob) (at : JobAt) : T
 
 -- A job was opened, and its legs are Ended as settled.
 pub record IsOpened (given : List SettledLeg) (job : Job) : Type 0 where
-  pub state : job.state ≡ job_state.Open
+  pub state : job.state ≡ JobState.Open
   pub legs : AllZip LegIsSettled given job.legs

@@ -1,33 +1,13 @@
 -- Laws of the call that a step makes: the variables that it is given, and the inputs of its action.
 use Rattle.std.specs.Prelude.{◌≡◌, ℕ, List, [], ◌∷◌, Option, Some, None, Ok}
-use Rattle.board_decisions.specs.Decisions.{seen_from, set_over}
-use Rattle.board_decisions.specs.Place.{LegAt, leg_at}
-use Rattle.flow_model.specs.Mapping.{value_at, Ascends}
-use Rattle.flow_model.specs.Sound.{Each}
-use Rattle.flow_model.specs.declared.board.Board.{Board}
-use Rattle.flow_model.specs.declared.board.DoneStep.{DoneStep}
-use Rattle.flow_model.specs.declared.event.Event.TheVariants as event
-use Rattle.flow_model.specs.declared.plan.JobPlan.{JobPlan}
-use Rattle.flow_model.specs.declared.plan.Plan.{Plan}
-use Rattle.flow_model.specs.declared.plan.RunPlan.{RunPlan}
-use Rattle.flow_model.specs.declared.plan.StepPlan.{StepPlan}
-use Rattle.flow_model.specs.declared.plan.Work.{Work}
-use Rattle.flow_model.specs.declared.plan.Work.TheVariants as work
-use Rattle.flow_model.specs.declared.reply.CallWork.{CallWork}
-use Rattle.flow_model.specs.declared.reply.CallWork.TheVariants as call_work
-use Rattle.flow_model.specs.declared.reply.StepCall.{StepCall}
-use Rattle.status_table.specs.Calls.{IfCalled}
-use Rattle.status_table.specs.Row.{row, next_step}
-use Rattle.plan_values.specs.Env.{env_value, laid_over, or_below}
-use Rattle.plan_values.specs.Values.{Env}
-use Rattle.plan_values.specs.declared.place.TextPlace.TheVariants as place
+use Rattle.status_table.specs.Words.{Ascends, Board, CallWork, DoneStep, Each, Env, Event, IfCalled, JobPlan, LegAt, Plan, RunPlan, StepCall, StepPlan, TextPlace, Work, env_value, laid_over, leg_at, next_step, or_below, row, seen_from, set_over, value_at}
 
 -- ---- plans whose maps name each key once, in the byte order of the keys; a `Mapping` never does otherwise
 
 -- the inputs of an action do
 abbrev pub WorkInOrder : Work → Type 0
-WorkInOrder (work.Run dir run shell) = Unit {0}
-WorkInOrder (work.Uses uses given) = Ascends given
+WorkInOrder (Work.Run dir run shell) = Unit {0}
+WorkInOrder (Work.Uses uses given) = Ascends given
 
 -- the variables and the inputs of a step do
 pub record StepInOrder (step : StepPlan) : Type 0 where
@@ -52,8 +32,8 @@ PlanInOrder p = Each RunInOrder p.runs
 
 -- The inputs of an action are named in order, each once.
 abbrev pub AskedInOrder : CallWork → Type 0
-AskedInOrder (call_work.Script text shell dir) = Unit {0}
-AskedInOrder (call_work.Uses uses inputs) = Ascends inputs
+AskedInOrder (CallWork.Script text shell dir) = Unit {0}
+AskedInOrder (CallWork.Uses uses inputs) = Ascends inputs
 
 -- A call names each variable once, in the byte order of the names, and each input likewise.
 pub record CallInOrder (call : StepCall) : Type 0 where
@@ -64,7 +44,7 @@ pub record CallInOrder (call : StepCall) : Type 0 where
 abbrev pub CallsAreInOrder : Type 0
 CallsAreInOrder =
     (p : Plan) (b : Board) (worker l : ℕ)
-    → PlanInOrder p → IfCalled CallInOrder (row p b worker (event.Begin l))
+    → PlanInOrder p → IfCalled CallInOrder (row p b worker (Event.Begin l))
 
 -- What the last of some done steps that set a name set it to, where one did.
 abbrev pub last_set : List ℕ → List DoneStep → Option (List ℕ)
@@ -84,10 +64,10 @@ pub record MostSpecificIsGiven (at : LegAt) (step : StepPlan) (call : StepCall) 
   pub workflow : Env
   pub job : Env
   pub own : Env
-  pub workflow_is : env_value (seen_from at place.WorkflowEnv []) at.run_plan.env ≡ Ok workflow
-  pub job_is : env_value (seen_from at place.JobEnv []) at.job_plan.env ≡ Ok job
+  pub workflow_is : env_value (seen_from at TextPlace.WorkflowEnv []) at.run_plan.env ≡ Ok workflow
+  pub job_is : env_value (seen_from at TextPlace.JobEnv []) at.job_plan.env ≡ Ok job
   pub own_is :
-      env_value (seen_from at place.StepEnv (set_over at.leg.steps (laid_over job workflow))) step.env ≡ Ok own
+      env_value (seen_from at TextPlace.StepEnv (set_over at.leg.steps (laid_over job workflow))) step.env ≡ Ok own
   pub given : (name : List ℕ)
       → value_at name call.env
       ≡ or_below (value_at name own) (or_below (last_set name at.leg.steps)
@@ -98,4 +78,4 @@ abbrev pub CallsAreMostSpecific : Type 0
 CallsAreMostSpecific =
     (p : Plan) (b : Board) (worker l : ℕ) (at : LegAt) (step : StepPlan)
     → PlanInOrder p → SetInOrder at.leg.steps → leg_at p b l ≡ Some at → next_step at ≡ Some step
-    → IfCalled (MostSpecificIsGiven at step) (row p b worker (event.Begin l))
+    → IfCalled (MostSpecificIsGiven at step) (row p b worker (Event.Begin l))

@@ -1,17 +1,8 @@
 -- What the contexts `needs` and `steps` and the outputs of a job give, name by name (GitHub Docs, "Contexts reference").
 use Rattle.std.specs.Prelude.{◌≡◌, ◌↔◌, ℕ, List, [], map, Some, slice_get}
 use Rattle.std.specs.List.{AllByRecursion, zip, filter_map}
-use Rattle.board_decisions.specs.Contexts.{done_value, ended_legs, job_outputs, need_value, needed_job, needs_value, object, step_pair, steps_value, with_needs}
-use Rattle.board_decisions.specs.Place.{JobAt, LegAt}
-use Rattle.board_decisions.specs.declared.place.JobPlace.{JobPlace}
-use Rattle.flow_model.specs.Mapping.{value_at, Ascends}
-use Rattle.flow_model.specs.Plain.{Plain}
-use Rattle.flow_model.specs.Sound.{HaveDistinctNames}
-use Rattle.flow_model.specs.declared.board.Board.{Board}
-use Rattle.flow_model.specs.declared.board.DoneStep.{DoneStep}
-use Rattle.flow_model.specs.declared.plan.StepPlan.{StepPlan}
+use Rattle.status_table.specs.Words.{Ascends, Board, DoneStep, HaveDistinctNames, JobAt, JobPlace, LegAt, Plain, StepPlan, done_value, ended_legs, job_outputs, laid_over, need_value, needed_job, needs_value, object, step_pair, steps_value, value_at, with_needs}
 use Rattle.board_settled.specs.Pairs.{last_giving}
-use Rattle.plan_values.specs.Env.{laid_over}
 
 -- ---- outputs of a job
 

@@ -1,21 +1,7 @@
 -- Laws of what the texts of a plan decide, over the rows of the table.
 use Rattle.std.specs.Prelude.{◌≡◌, ℕ, true, false, List, Option, Some, None, Ok, Err}
 use Rattle.std.specs.List.{list_any}
-use Rattle.board_decisions.specs.Decisions.{step_tolerates}
-use Rattle.board_decisions.specs.Derived.{is_failure}
-use Rattle.board_decisions.specs.Place.{LegAt, leg_at}
-use Rattle.expr_reader.specs.Accepts.{condition_read}
-use Rattle.expr_reader.specs.Template.{Piece, names_status}
-use Rattle.flow_model.specs.declared.board.Board.{Board}
-use Rattle.flow_model.specs.declared.board.DoneStep.{DoneStep}
-use Rattle.flow_model.specs.declared.event.Answer.{Answer}
-use Rattle.flow_model.specs.declared.event.Event.TheVariants as event
-use Rattle.flow_model.specs.declared.event.Outcome.TheVariants as outcome
-use Rattle.flow_model.specs.declared.plan.Plan.{Plan}
-use Rattle.flow_model.specs.declared.plan.StepPlan.{StepPlan}
-use Rattle.flow_model.specs.declared.reply.What.{What}
-use Rattle.flow_model.specs.declared.reply.What.TheVariants as what
-use Rattle.status_table.specs.Row.{Row, row, next_step, step_done}
+use Rattle.status_table.specs.Words.{Answer, Board, DoneStep, Event, LegAt, Outcome, Piece, Plan, Row, StepPlan, What, condition_read, is_failure, leg_at, names_status, next_step, row, step_done, step_tolerates}
 
 -- A condition names no status function: there is none, or its text is read as one that names none.
 abbrev pub NamesNoStatus : Option (List ℕ) → Type 0
@@ -28,10 +14,10 @@ HasFailedStep at = list_any (λ step. is_failure step.conclusion) at.leg.steps �
 
 -- No call is carried.
 abbrev pub CarriesNoCall : What → Type 0
-CarriesNoCall (what.Call call) = ⊥
-CarriesNoCall what.Moved = Unit {0}
-CarriesNoCall what.Skipped = Unit {0}
-CarriesNoCall (what.Faulted fault) = Unit {0}
+CarriesNoCall (What.Call call) = ⊥
+CarriesNoCall What.Moved = Unit {0}
+CarriesNoCall What.Skipped = Unit {0}
+CarriesNoCall (What.Faulted fault) = Unit {0}
 
 -- The reply of a row, if it is accepted, carries no call.
 abbrev pub CallsNothing : Row → Type 0
@@ -43,11 +29,11 @@ abbrev pub NoCallAfterFailure : Type 0
 NoCallAfterFailure =
     (p : Plan) (b : Board) (worker l : ℕ) (at : LegAt) (step : StepPlan)
     → leg_at p b l ≡ Some at → next_step at ≡ Some step
-    → NamesNoStatus step.condition → HasFailedStep at → CallsNothing (row p b worker (event.Begin l))
+    → NamesNoStatus step.condition → HasFailedStep at → CallsNothing (row p b worker (Event.Begin l))
 
 -- The step that is done failed, and the leg's next step may fail by its continue-on-error.
 pub record IsPassedOver (at : LegAt) (done : DoneStep) : Type 0 where
-  pub failed : done.outcome ≡ outcome.Failure
+  pub failed : done.outcome ≡ Outcome.Failure
   pub step : StepPlan
   pub next : next_step at ≡ Some step
   pub passed : step_tolerates at step ≡ true
@@ -61,10 +47,10 @@ EndsStep b worker at new =
 
 -- A step ends so, but where a call is carried: then no step is done.
 abbrev pub EndsUncalled : What → Board → ℕ → LegAt → Board → Type 0
-EndsUncalled (what.Call call) b worker at new = Unit {0}
-EndsUncalled what.Moved b worker at new = EndsStep b worker at new
-EndsUncalled what.Skipped b worker at new = EndsStep b worker at new
-EndsUncalled (what.Faulted fault) b worker at new = EndsStep b worker at new
+EndsUncalled (What.Call call) b worker at new = Unit {0}
+EndsUncalled What.Moved b worker at new = EndsStep b worker at new
+EndsUncalled What.Skipped b worker at new = EndsStep b worker at new
+EndsUncalled (What.Faulted fault) b worker at new = EndsStep b worker at new
 
 -- A row, if it is accepted, ends a step so, or carries its call.
 abbrev pub Concludes : Board → ℕ → LegAt → Row → Type 0
@@ -76,5 +62,5 @@ Concludes b worker at (Err refusal) = Unit {0}
 abbrev pub OnlyFailuresArePassedOver : Type 0
 OnlyFailuresArePassedOver =
     (p : Plan) (b : Board) (worker l : ℕ) (at : LegAt) → leg_at p b l ≡ Some at
-    → Concludes b worker at (row p b worker (event.Begin l))
-    × ((a : Answer) → Concludes b worker at (row p b worker (event.End l a)))
+    → Concludes b worker at (row p b worker (Event.Begin l))
+    × ((a : Answer) → Concludes b worker at (row p b worker (Event.End l a)))

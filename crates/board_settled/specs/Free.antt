@@ -1,9 +1,6 @@
 -- Plans in which nothing rests on the order of events, other than that jobs come after what they need.
 use Rattle.std.specs.Prelude.{◌≡◌, ◌⊎◌, false, [], None, length}
-use Rattle.flow_model.specs.Sound.{Each}
-use Rattle.flow_model.specs.declared.plan.JobPlan.{JobPlan}
-use Rattle.flow_model.specs.declared.plan.Plan.{Plan}
-use Rattle.flow_model.specs.declared.plan.RunPlan.{RunPlan}
+use Rattle.status_table.specs.Words.{Each, JobPlan, Plan, RunPlan}
 
 -- A job is in no group. It has one leg; or no leg stops others that fail, and there are no outputs, which
 -- legs would lay over one another.

@@ -1,13 +1,7 @@
 -- The concurrency groups as they are kept by names, after whole lists of entries: each entry asks of them
 -- what its event asks on the board before it.
 use Rattle.std.specs.Prelude.{List, [], ◌∷◌, Ok, Err}
-use Rattle.flow_model.specs.declared.board.Board.{Board}
-use Rattle.flow_model.specs.declared.event.Entry.{Entry}
-use Rattle.flow_model.specs.declared.plan.Plan.{Plan}
-use Rattle.group_admission.specs.Content.{Content}
-use Rattle.status_table.specs.Grouped.{after_event}
-use Rattle.status_table.specs.Row.{Row, row}
-use Rattle.status_table.specs.Runs.{new_board}
+use Rattle.status_table.specs.Words.{Board, Content, Entry, Plan, Row, after_event, new_board, row}
 
 -- what follows a row: if it is refused, the groups stay
 abbrev pub then_groups : Row → Content → (Board → Content) → Content

@@ -1,13 +1,6 @@
 -- The names of concurrency groups on a board in play (GitHub Docs, workflow syntax: `concurrency`).
 use Rattle.std.specs.Prelude.{◌≡◌, ◌≢◌, ◌⊎◌, ℕ, List, [], Some}
-use Rattle.expr_reader.specs.Fold.{fold, SameText}
-use Rattle.flow_model.specs.Rules.{IsPlan}
-use Rattle.flow_model.specs.declared.board.Board.{Board}
-use Rattle.flow_model.specs.declared.event.Entry.{Entry}
-use Rattle.flow_model.specs.declared.event.Member.{Member}
-use Rattle.flow_model.specs.declared.plan.Plan.{Plan}
-use Rattle.status_table.specs.Groups.{holder, waiter}
-use Rattle.status_table.specs.Runs.{after}
+use Rattle.status_table.specs.Words.{Board, Entry, IsPlan, Member, Plan, SameText, after, fold, holder, waiter}
 
 -- A name that is held or waited for, on the board after a list of entries, has no letter A to Z.
 abbrev pub NamesAreFolded : Type 0

@@ -1,8 +1,6 @@
 -- Levels of pairs.
 use Rattle.std.specs.Prelude.{ℕ, List, [], ◌∷◌, Option, None}
-use Rattle.flow_model.specs.Mapping.{value_at}
-use Rattle.plan_values.specs.Env.{or_below}
-use Rattle.plan_values.specs.Values.{Env}
+use Rattle.status_table.specs.Words.{Env, or_below, value_at}
 
 -- What the last level that has a name has there.
 abbrev pub last_giving : List ℕ → List Env → Option (List ℕ)

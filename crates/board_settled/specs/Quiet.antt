@@ -1,11 +1,7 @@
 -- A board as it is, but that no run on it is told to stop, and that its legs ended in the order of their numbers.
 use Rattle.std.specs.Prelude.{ℕ, zero, suc, Bool, false, List, [], ◌∷◌, length, option_map}
 use Rattle.std.specs.List.{filter}
-use Rattle.board_decisions.specs.Derived.{holds, is_ended}
-use Rattle.board_decisions.specs.Numbered.{numbered_leg}
-use Rattle.flow_model.specs.Numbers.{board_legs}
-use Rattle.flow_model.specs.declared.board.Board.{Board}
-use Rattle.flow_model.specs.declared.board.Run.{Run}
+use Rattle.status_table.specs.Words.{Board, Run, board_legs, holds, is_ended, numbered_leg}
 
 -- So many numbers, one after the other.
 abbrev pub numbers : ℕ → ℕ → List ℕ

@@ -1,12 +1,8 @@
 -- The answers that a list of entries records, and what is settled by them.
 use Rattle.std.specs.Prelude.{◌≡◌, ◌↔◌, ℕ, ◌==◌, ◌&&◌, Bool, IsTrue, List, [], ◌∷◌, Option, Some, None, if◌then◌else◌}
-use Rattle.flow_model.specs.declared.board.Board.{Board}
-use Rattle.flow_model.specs.declared.event.Answer.{Answer}
-use Rattle.flow_model.specs.declared.event.Entry.{Entry}
-use Rattle.flow_model.specs.declared.plan.Plan.{Plan}
+use Rattle.status_table.specs.Words.{Answer, Board, Entry, Plan, after}
 use Rattle.board_settled.specs.Agrees.{IsSettled}
 use Rattle.board_settled.specs.Settled.{Answers, settled}
-use Rattle.status_table.specs.Runs.{after}
 use Rattle.step_host.specs.Replay.{recorded}
 use Rattle.step_host.specs.Script.{Line}
 

@@ -1,17 +1,9 @@
 -- Runs on a board on which nothing is told to stop, and that are held against what is settled.
 use Rattle.std.specs.Prelude.{◌≡◌, ℕ, ◌+◌, false, Option, Some, None, slice_get}
-use Rattle.board_decisions.specs.Place.{RunAt}
-use Rattle.flow_model.specs.Rules.{IsPlan}
-use Rattle.flow_model.specs.Sound.{Each}
-use Rattle.flow_model.specs.declared.board.Board.{Board}
-use Rattle.flow_model.specs.declared.board.Run.{Run}
-use Rattle.flow_model.specs.declared.plan.Plan.{Plan}
-use Rattle.flow_model.specs.declared.plan.RunPlan.{RunPlan}
+use Rattle.status_table.specs.Words.{Board, Each, HasShape, IsPlan, MembersFit, Plan, Run, RunAt, RunPlan}
 use Rattle.board_settled.specs.Agrees.{RunIsSettled}
 use Rattle.board_settled.specs.Settled.{SettledRun, leg_count}
 use Rattle.board_settled.specs.Quiet.{ended_in_order}
-use Rattle.status_table.specs.Lawful.{MembersFit}
-use Rattle.status_table.specs.Shape.{HasShape}
 
 -- A board of a plan on which each leg stands rightly, no run is told to stop, and the legs that are Ended stand among
 -- the ends in the order of their numbers.

@@ -3,19 +3,7 @@
 -- done.
 use Rattle.std.specs.Prelude.{ℕ, List, [], ◌∷◌, length, codes, slice_get, if◌then◌else◌}
 use Rattle.std.specs.List.{zip, filter_map}
-use Rattle.board_decisions.specs.Contexts.{object, result_name, count, most_at_once, pairs_in, job_value, step_pair, run_values}
-use Rattle.expr_reader.specs.declared.tree.Context.TheVariants as context
-use Rattle.expr_value.specs.Context.{Contexts}
-use Rattle.expr_value.specs.Named.{is_same_context}
-use Rattle.flow_model.specs.Plain.{Plain, text, truth}
-use Rattle.flow_model.specs.declared.board.DoneStep.{DoneStep}
-use Rattle.flow_model.specs.declared.event.Outcome.{Outcome}
-use Rattle.flow_model.specs.declared.plan.JobPlan.{JobPlan}
-use Rattle.flow_model.specs.declared.plan.RunPlan.{RunPlan}
-use Rattle.flow_model.specs.declared.plan.StepPlan.{StepPlan}
-use Rattle.plan_values.specs.Env.{laid_over}
-use Rattle.plan_values.specs.Values.{Values, Env, contexts_at, env_context, with_env}
-use Rattle.plan_values.specs.declared.place.TextPlace.{TextPlace}
+use Rattle.status_table.specs.Words.{Context, Contexts, DoneStep, Env, JobPlan, Outcome, Plain, RunPlan, StepPlan, TextPlace, Values, contexts_at, count, env_context, is_same_context, job_value, laid_over, most_at_once, object, pairs_in, result_name, run_values, step_pair, text, truth, with_env}
 
 -- ---- what a job sees
 
@@ -26,7 +14,7 @@ need_shown outputs result =
 
 -- The value of each context, seen from a job of a run, where `needs` is as given: what the run was handed.
 unfoldable pub job_sees : RunPlan → Plain → Values
-job_sees run needs x = if is_same_context context.Needs x then needs else run_values run x
+job_sees run needs x = if is_same_context Context.Needs x then needs else run_values run x
 
 -- ---- what a leg sees
 
@@ -60,13 +48,13 @@ pub record Spot : Type 0 where
 
 -- The value of each context, seen from a leg that counts so after the steps that are done.
 unfoldable pub leg_sees : Spot → Outcome → List DoneStep → Values
-leg_sees spot result done context.Strategy = strategy_shown spot.job spot.place
-leg_sees spot result done context.Matrix = matrix_shown spot.job spot.place
-leg_sees spot result done context.Job = job_value result
-leg_sees spot result done context.Steps = steps_shown spot.job.steps done
-leg_sees spot result done context.Env = object []
-leg_sees spot result done context.Jobs = object []
-leg_sees spot result done context.Runner = object []
+leg_sees spot result done Context.Strategy = strategy_shown spot.job spot.place
+leg_sees spot result done Context.Matrix = matrix_shown spot.job spot.place
+leg_sees spot result done Context.Job = job_value result
+leg_sees spot result done Context.Steps = steps_shown spot.job.steps done
+leg_sees spot result done Context.Env = object []
+leg_sees spot result done Context.Jobs = object []
+leg_sees spot result done Context.Runner = object []
 leg_sees spot result done other = job_sees spot.run spot.needs other
 
 -- ---- what the places see

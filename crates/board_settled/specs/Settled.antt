@@ -4,29 +4,9 @@
 -- run was told to. Where there is no answer to a call, neither that step is given nor what needs it.
 use Rattle.std.specs.Prelude.{ℕ, suc, ◌+◌, ◌-◌, ◌==◌, ◌++◌, ◌&&◌, Bool, true, false, not, List, [], ◌∷◌, map, length, Option, Some, None, Result, Ok, Err, option_map, is_some, slice_get, if◌then◌else◌}
 use Rattle.std.specs.List.{flat_map, list_all, list_any, filter_map}
-use Rattle.board_decisions.specs.Contexts.{object, overlaid}
-use Rattle.board_decisions.specs.Decisions.{status_of}
-use Rattle.board_decisions.specs.Derived.{is_success, is_failure, is_cancelled, holds, holds_at, status_by, any_ancestor}
-use Rattle.board_decisions.specs.Place.{◌>>=◌}
-use Rattle.expr_value.specs.declared.status.Status.{Status}
-use Rattle.flow_model.specs.Plain.{Plain}
-use Rattle.flow_model.specs.declared.board.DoneStep.{DoneStep}
-use Rattle.flow_model.specs.declared.event.Answer.{Answer}
-use Rattle.flow_model.specs.declared.event.Outcome.{Outcome}
-use Rattle.flow_model.specs.declared.event.Outcome.TheVariants as outcome
-use Rattle.flow_model.specs.declared.plan.JobPlan.{JobPlan}
-use Rattle.flow_model.specs.declared.plan.Plan.{Plan}
-use Rattle.flow_model.specs.declared.plan.RunPlan.{RunPlan}
-use Rattle.flow_model.specs.declared.plan.StepPlan.{StepPlan}
-use Rattle.flow_model.specs.declared.reply.StepCall.{StepCall}
-use Rattle.flow_model.specs.declared.reply.ValueFault.{ValueFault}
+use Rattle.status_table.specs.Words.{Answer, DoneStep, Env, JobPlan, Outcome, Plain, Plan, RunPlan, Status, StepCall, StepPlan, TextPlace, ValueFault, any_ancestor, condition_value, contexts_at, holds, holds_at, is_cancelled, is_failure, is_success, laid_over, object, outcome_of, outputs_of, overlaid, set_by, skipped_step, status_by, status_of, with_env, ◌>>=◌}
 use Rattle.board_settled.specs.Decided.{step_call, failure_counts, leg_passes, outputs_of_leg}
 use Rattle.board_settled.specs.Sees.{Spot, Sight, sight, job_sees, leg_sees, need_shown}
-use Rattle.status_table.specs.Row.{skipped_step, outcome_of, outputs_of, set_by}
-use Rattle.plan_values.specs.Env.{laid_over}
-use Rattle.plan_values.specs.Texts.{condition_value}
-use Rattle.plan_values.specs.Values.{Env, contexts_at, with_env}
-use Rattle.plan_values.specs.declared.place.TextPlace.TheVariants as place
 
 -- What answers a call, if there is an answer.
 abbrev pub Answers : Type 0
@@ -67,7 +47,7 @@ all_given (Some x ∷ xs) = option_map (λ ys. x ∷ ys) (all_given xs)
 -- Failure where one passes the test of failures, else cancelled where one was, else success.
 abbrev pub worst : Bool → Bool → Outcome
 worst failed cancelled =
-    if failed then outcome.Failure else (if cancelled then outcome.Cancelled else outcome.Success)
+    if failed then Outcome.Failure else (if cancelled then Outcome.Cancelled else Outcome.Success)
 
 -- A leg ended with a failure that is not tolerated.
 abbrev pub fails : Finish → Bool
@@ -101,7 +81,7 @@ outputs_of_job other = []
 
 -- How a leg counts after its steps that are done: a failure where one counts as such.
 abbrev pub counts : List DoneStep → Outcome
-counts done = if list_any (λ step. is_failure step.conclusion) done then outcome.Failure else outcome.Success
+counts done = if list_any (λ step. is_failure step.conclusion) done then Outcome.Failure else Outcome.Success
 
 -- What each place sees from a leg after its steps that are done.
 unfoldable pub seen_after : Spot → List DoneStep → Sight
@@ -114,10 +94,10 @@ next_call spot done step =
 
 -- How an outcome counts for the next step.
 abbrev pub concludes : Spot → List DoneStep → StepPlan → Outcome → Outcome
-concludes spot done step outcome.Success = outcome.Success
-concludes spot done step outcome.Failure = failure_counts (seen_after spot done) spot.run spot.job done step
-concludes spot done step outcome.Cancelled = outcome.Cancelled
-concludes spot done step outcome.Skipped = outcome.Skipped
+concludes spot done step Outcome.Success = Outcome.Success
+concludes spot done step Outcome.Failure = failure_counts (seen_after spot done) spot.run spot.job done step
+concludes spot done step Outcome.Cancelled = Outcome.Cancelled
+concludes spot done step Outcome.Skipped = Outcome.Skipped
 
 -- The next step that ends so, with these outputs and these variables that it set.
 abbrev pub ends_so : Spot → List DoneStep → StepPlan → Outcome → Env → Env → DoneStep
@@ -132,7 +112,7 @@ answered spot done step answer = ends_so spot done step (outcome_of answer) (out
 abbrev pub step_by : Answers → Spot → List DoneStep → StepPlan → Result (Option StepCall) ValueFault → Option DoneStep
 step_by answers spot done step (Ok None) = Some skipped_step
 step_by answers spot done step (Ok (Some call)) = option_map (answered spot done step) (answers call)
-step_by answers spot done step (Err fault) = Some (ends_so spot done step outcome.Failure [] [])
+step_by answers spot done step (Err fault) = Some (ends_so spot done step Outcome.Failure [] [])
 
 -- The next step, where it is given.
 unfoldable pub next_done : Answers → Spot → List DoneStep → StepPlan → Option DoneStep
@@ -233,14 +213,14 @@ status_after run before job =
 -- The condition of a job under its status.
 unfoldable pub condition_after : RunPlan → List SettledJob → JobPlan → Result Bool ValueFault
 condition_after run before job =
-    condition_value (contexts_at place.JobCondition (with_env [] (job_sees run (needs_of run before job))))
+    condition_value (contexts_at TextPlace.JobCondition (with_env [] (job_sees run (needs_of run before job))))
     (status_after run before job) job.condition
 
 -- A job is opened where its condition is true, skipped where it is not, and failed where it has a fault.
 abbrev pub judged : Result Bool ValueFault → List SettledLeg → SettledJob
 judged (Ok true) legs = opened legs
-judged (Ok false) legs = shut outcome.Skipped
-judged (Err fault) legs = shut outcome.Failure
+judged (Ok false) legs = shut Outcome.Skipped
+judged (Err fault) legs = shut Outcome.Failure
 
 -- A job whose first leg has this number, by those of its run that are before it.
 unfoldable pub job_settled : Answers → RunPlan → ℕ → List SettledJob → JobPlan → SettledJob

@@ -1,26 +1,13 @@
 -- The moments of each row ascend, and lie within the record.
 use Rattle.std.proofs.Common.{◌≡◌, ◌==◌, ◌<◌, ◌≤◌, ◌+◌, ◌++◌, ℕ, zero, suc, Bool, true, false, if◌then◌else◌, List, [], ◌∷◌, length, Option, Some, None, Ok, Err, slice_get, refl, sym, subst, ap, arith}
 use Rattle.std.specs.List.{flat_map}
-use Rattle.board_decisions.specs.Place.{JobAt, LegAt, job_at, leg_at}
-use Rattle.flow_model.specs.declared.board.Board.{Board}
-use Rattle.flow_model.specs.declared.board.Run.{Run}
-use Rattle.flow_model.specs.declared.event.Entry.{Entry}
-use Rattle.flow_model.specs.declared.event.Member.{Member}
-use Rattle.flow_model.specs.declared.event.Member.TheVariants as member
-use Rattle.flow_model.specs.declared.plan.JobPlan.{JobPlan}
-use Rattle.flow_model.specs.declared.plan.Plan.{Plan}
-use Rattle.flow_model.specs.declared.plan.RunPlan.{RunPlan}
-use Rattle.flow_model.specs.declared.reply.Reply.{Reply}
-use Rattle.status_table.specs.Change.{changed, put}
-use Rattle.status_table.specs.Row.{row, Row as TableRow}
-use Rattle.status_table.specs.Runs.{new_board}
+use Rattle.status_table.specs.Words.{Board, Entry, JobAt, JobPlan, LegAt, Member, Plan, Reply, Row as TableRow, Run, RunPlan, changed, job_at, leg_at, new_board, put, row}
 use Rattle.board_timeline.specs.Laws.{AreWithin, Ascend, IsWithin, MomentsAscend, TrackIsWithin}
 use Rattle.board_timeline.specs.Noted.{about_noted, all_noted, ends_job, job_rows, job_seen, leg_rows, leg_seen, legs_of, member_displaced, member_noted, member_told, new_track, noted, run_seen, touched}
 use Rattle.board_timeline.specs.Phases.{job_phase, leg_phase, run_phase}
 use Rattle.board_timeline.specs.Played.{then_noted, track_from}
 use Rattle.board_timeline.specs.Rows.{displaced, moment_added, new_rows, row_displaced, row_seen, row_told, seen, told}
 use Rattle.board_timeline.specs.declared.noted.About.{About}
-use Rattle.board_timeline.specs.declared.noted.About.TheVariants as about
 use Rattle.board_timeline.specs.declared.noted.Track.{Track}
 use Rattle.board_timeline.specs.declared.phase.Moment.{Moment}
 use Rattle.board_timeline.specs.declared.phase.Phase.{Phase}
@@ -104,30 +91,30 @@ leg_keeps line l (Some at) track within = by_end (ends_job at)
 
 about_keeps : (plan : Plan) (board : Board) (line : ℕ) (what : About) (track : Track) → TrackIsWithin line track
     → TrackIsWithin line (about_noted plan board line what track)
-about_keeps plan board line (about.Run r) track within = run_keeps line r (slice_get board.runs r) track within
-about_keeps plan board line (about.Job j) track within = job_keeps line j (job_at plan board j) track within
-about_keeps plan board line (about.Leg l) track within = leg_keeps line l (leg_at plan board l) track within
-about_keeps plan board line (about.Stop r) track within =
+about_keeps plan board line (About.Run r) track within = run_keeps line r (slice_get board.runs r) track within
+about_keeps plan board line (About.Job j) track within = job_keeps line j (job_at plan board j) track within
+about_keeps plan board line (About.Leg l) track within = leg_keeps line l (leg_at plan board l) track within
+about_keeps plan board line (About.Stop r) track within =
     record { runs = told_keeps line r track.runs within.runs; jobs = within.jobs; legs = within.legs }
 
 member_keeps : (plan : Plan) (board : Board) (line : ℕ) (who : Option Member) (track : Track) → TrackIsWithin line track
     → TrackIsWithin line (member_noted plan board line who track)
 member_keeps plan board line None track within = within
-member_keeps plan board line (Some (member.Run r)) track within = run_keeps line r (slice_get board.runs r) track within
-member_keeps plan board line (Some (member.Leg l)) track within = leg_keeps line l (leg_at plan board l) track within
+member_keeps plan board line (Some (Member.Run r)) track within = run_keeps line r (slice_get board.runs r) track within
+member_keeps plan board line (Some (Member.Leg l)) track within = leg_keeps line l (leg_at plan board l) track within
 
 member_told_keeps : (line : ℕ) (who : Option Member) (track : Track) → TrackIsWithin line track → TrackIsWithin line (member_told line who track)
 member_told_keeps line None track within = within
-member_told_keeps line (Some (member.Run r)) track within =
+member_told_keeps line (Some (Member.Run r)) track within =
     record { runs = told_keeps line r track.runs within.runs; jobs = within.jobs; legs = within.legs }
-member_told_keeps line (Some (member.Leg l)) track within =
+member_told_keeps line (Some (Member.Leg l)) track within =
     record { runs = within.runs; jobs = within.jobs; legs = told_keeps line l track.legs within.legs }
 
 member_displaced_keeps : (line : ℕ) (who : Option Member) (track : Track) → TrackIsWithin line track → TrackIsWithin line (member_displaced line who track)
 member_displaced_keeps line None track within = within
-member_displaced_keeps line (Some (member.Run r)) track within =
+member_displaced_keeps line (Some (Member.Run r)) track within =
     record { runs = displaced_keeps line r track.runs within.runs; jobs = within.jobs; legs = within.legs }
-member_displaced_keeps line (Some (member.Leg l)) track within =
+member_displaced_keeps line (Some (Member.Leg l)) track within =
     record { runs = within.runs; jobs = within.jobs; legs = displaced_keeps line l track.legs within.legs }
 
 noted_keeps : (plan : Plan) (board : Board) (line : ℕ) (what : About) (reply : Reply) (track : Track) → TrackIsWithin line track

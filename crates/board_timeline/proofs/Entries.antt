@@ -1,14 +1,9 @@
 -- One entry more, played and noted.
 use Rattle.std.proofs.Common.{◌≡◌, ◌+◌, ◌++◌, ◌<◌, ℕ, suc, List, [], ◌∷◌, length, take, get_or, Some, subst, sym, ap, ◌∙◌, arith}
 use Rattle.std.proofs.lemmas.List.{append-nil, append_assoc, take_more}
-use Rattle.flow_model.specs.declared.board.Board.{Board}
-use Rattle.flow_model.specs.declared.event.Entry.{Entry}
-use Rattle.flow_model.specs.declared.plan.Plan.{Plan}
-use Rattle.status_table.specs.Row.{Row}
-use Rattle.status_table.specs.Runs.{after_from, then_after}
+use Rattle.status_table.specs.Words.{Board, Entry, Plan, Row, after_from, then_after}
 use Rattle.board_timeline.specs.Noted.{noted, touched}
 use Rattle.status_table.specs.declared.fault.EventFault.{EventFault}
-use Rattle.status_table.specs.declared.fault.EventFault.TheVariants as fault
 use Rattle.board_timeline.specs.Played.{IsUntouched, LeavesNoted, NotesEntry, then_noted, track_from}
 use Rattle.board_timeline.specs.declared.noted.Track.{Track}
 
@@ -54,7 +49,7 @@ noted_so_far table plan first new line before track es so_far =
 -- where the next one is refused that is what is left
 pub left_noted : (table plan : Plan) (first old new : Board) (before track track' : Track) (es : List Entry) (k : ℕ) (f : EventFault)
     → after_from table first (take k es) ≡ Some old → track_from table plan first 2 before (take k es) ≡ Some track
-    → ((f ≡ fault.Memory → ⊥) → IsUntouched old track new track') → LeavesNoted table plan first before es new track' (k, f)
+    → ((f ≡ EventFault.Memory → ⊥) → IsUntouched old track new track') → LeavesNoted table plan first before es new track' (k, f)
 left_noted table plan first old new before track track' es k f played so_far kept untold =
     let same = kept untold in
     record {

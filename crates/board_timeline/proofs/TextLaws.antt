@@ -9,12 +9,10 @@ use Rattle.board_timeline.specs.Picture.{bar_begin, begin, end, label_begin, pla
 use Rattle.board_timeline.specs.Reading.{read_words}
 use Rattle.board_timeline.specs.Texts.{are_tags, HasTexts, PicturesHaveTheirTexts, shapes_texts}
 use Rattle.board_timeline.specs.declared.shape.Font.{Font}
-use Rattle.board_timeline.specs.declared.shape.Font.TheVariants as font
 use Rattle.board_timeline.specs.declared.shape.Frame.{Frame}
 use Rattle.board_timeline.specs.declared.shape.ShapeKind.{ShapeKind}
 use Rattle.board_timeline.specs.declared.shape.ShapeKind.TheVariants.{Bar, Label}
 use Rattle.board_timeline.specs.declared.shape.Look.{Look}
-use Rattle.board_timeline.specs.declared.shape.Look.TheVariants as look
 use Rattle.board_timeline.specs.declared.shape.Shape.{Shape}
 
 -- ---- bytes inside of a tag, after which it goes on
@@ -72,25 +70,25 @@ inside_number n = inside_digits 64 n [] nothing
 -- ---- what stands before and after the text of a shape
 
 inside_look : (l : Look) → Inside (look_class l)
-inside_look look.Lane rest = refl
-inside_look look.Line rest = refl
-inside_look look.Waiting rest = refl
-inside_look look.Admitted rest = refl
-inside_look look.Going rest = refl
-inside_look look.Calling rest = refl
-inside_look look.Success rest = refl
-inside_look look.Failure rest = refl
-inside_look look.Passed rest = refl
-inside_look look.Cancelled rest = refl
-inside_look look.Skipped rest = refl
-inside_look look.Told rest = refl
-inside_look look.Displaced rest = refl
+inside_look Look.Lane rest = refl
+inside_look Look.Line rest = refl
+inside_look Look.Waiting rest = refl
+inside_look Look.Admitted rest = refl
+inside_look Look.Going rest = refl
+inside_look Look.Calling rest = refl
+inside_look Look.Success rest = refl
+inside_look Look.Failure rest = refl
+inside_look Look.Passed rest = refl
+inside_look Look.Cancelled rest = refl
+inside_look Look.Skipped rest = refl
+inside_look Look.Told rest = refl
+inside_look Look.Displaced rest = refl
 
 inside_font : (f : Font) → Inside (font_class f)
-inside_font font.Run rest = refl
-inside_font font.Job rest = refl
-inside_font font.Leg rest = refl
-inside_font font.Note rest = refl
+inside_font Font.Run rest = refl
+inside_font Font.Job rest = refl
+inside_font Font.Leg rest = refl
+inside_font Font.Note rest = refl
 
 inside_place : (left top : ℕ) → Inside (place_text left top)
 inside_place left top =

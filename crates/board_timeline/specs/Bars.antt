@@ -1,9 +1,7 @@
 -- The bars and marks of a row: a bar from each moment to the next, and a mark where something ended, and where a step is done
 -- without a call.
 use Rattle.std.specs.Prelude.{ℕ, ◌+◌, ◌++◌, Bool, true, false, if◌then◌else◌, List, [], ◌∷◌, codes, Option, Some, None}
-use Rattle.flow_model.specs.declared.event.Outcome.{Outcome}
-use Rattle.flow_model.specs.declared.event.Outcome.TheVariants as outcome
-use Rattle.flow_model.specs.declared.plan.StepPlan.{StepPlan}
+use Rattle.status_table.specs.Words.{Outcome, StepPlan}
 use Rattle.board_timeline.specs.Frames.{bar_frame, lane_frame, mark_frame}
 use Rattle.board_timeline.specs.Phases.{is_over}
 use Rattle.board_timeline.specs.Words.{bar_text, last_phase, mark_text, note_text, row_text}
@@ -17,7 +15,6 @@ use Rattle.board_timeline.specs.declared.shape.Frame.{Frame}
 use Rattle.board_timeline.specs.declared.shape.ShapeKind.{ShapeKind}
 use Rattle.board_timeline.specs.declared.shape.ShapeKind.TheVariants.{Bar}
 use Rattle.board_timeline.specs.declared.shape.Look.{Look}
-use Rattle.board_timeline.specs.declared.shape.Look.TheVariants as look
 use Rattle.board_timeline.specs.declared.shape.Shape.{Shape}
 
 -- A row: where it stands, what it is for, and the steps of its job.
@@ -36,43 +33,43 @@ shape kind frame text = record { kind = kind; frame = frame; text = text } ∷ [
 -- ---- looks
 
 abbrev pub outcome_look : Outcome → Look
-outcome_look outcome.Success = look.Success
-outcome_look outcome.Failure = look.Failure
-outcome_look outcome.Cancelled = look.Cancelled
-outcome_look outcome.Skipped = look.Skipped
+outcome_look Outcome.Success = Look.Success
+outcome_look Outcome.Failure = Look.Failure
+outcome_look Outcome.Cancelled = Look.Cancelled
+outcome_look Outcome.Skipped = Look.Skipped
 
 -- A failure that is passed over counts as a success.
 abbrev pub step_look : Outcome → Outcome → Look
-step_look outcome.Success conclusion = look.Success
-step_look outcome.Failure outcome.Success = look.Passed
-step_look outcome.Failure outcome.Failure = look.Failure
-step_look outcome.Failure outcome.Cancelled = look.Failure
-step_look outcome.Failure outcome.Skipped = look.Failure
-step_look outcome.Cancelled conclusion = look.Cancelled
-step_look outcome.Skipped conclusion = look.Skipped
+step_look Outcome.Success conclusion = Look.Success
+step_look Outcome.Failure Outcome.Success = Look.Passed
+step_look Outcome.Failure Outcome.Failure = Look.Failure
+step_look Outcome.Failure Outcome.Cancelled = Look.Failure
+step_look Outcome.Failure Outcome.Skipped = Look.Failure
+step_look Outcome.Cancelled conclusion = Look.Cancelled
+step_look Outcome.Skipped conclusion = Look.Skipped
 
 abbrev pub end_look : Outcome → Bool → Look
-end_look how true = look.Passed
+end_look how true = Look.Passed
 end_look how false = outcome_look how
 
 abbrev pub call_look : Option Phase → Look
-call_look None = look.Calling
-call_look (Some Fresh) = look.Calling
-call_look (Some Waiting) = look.Calling
-call_look (Some Admitted) = look.Calling
-call_look (Some Going) = look.Calling
-call_look (Some Taken) = look.Calling
-call_look (Some (Calling step)) = look.Calling
+call_look None = Look.Calling
+call_look (Some Fresh) = Look.Calling
+call_look (Some Waiting) = Look.Calling
+call_look (Some Admitted) = Look.Calling
+call_look (Some Going) = Look.Calling
+call_look (Some Taken) = Look.Calling
+call_look (Some (Calling step)) = Look.Calling
 call_look (Some (Done step outcome conclusion)) = step_look outcome conclusion
-call_look (Some (Shut how)) = look.Calling
-call_look (Some (Ended how tolerated)) = look.Calling
+call_look (Some (Shut how)) = Look.Calling
+call_look (Some (Ended how tolerated)) = Look.Calling
 
 -- A call looks as the step that it became. What a worker has of a leg is one bar for all of it.
 abbrev pub bar_look : Phase → Option Phase → Option Look
 bar_look Fresh after = None
-bar_look Waiting after = Some look.Waiting
-bar_look Admitted after = Some look.Admitted
-bar_look Going after = Some look.Going
+bar_look Waiting after = Some Look.Waiting
+bar_look Admitted after = Some Look.Admitted
+bar_look Going after = Some Look.Going
 bar_look Taken after = None
 bar_look (Calling step) after = Some (call_look after)
 bar_look (Done step outcome conclusion) after = None
@@ -148,7 +145,7 @@ note strip look words (Some line) = shape (Bar look) (mark_frame strip.lane line
 
 -- The bar on which those of a row stand.
 abbrev pub lane : StripAt → Row → List Shape
-lane strip row = shape (Bar look.Lane) (lane_frame strip.lane) (row_text strip.name row)
+lane strip row = shape (Bar Look.Lane) (lane_frame strip.lane) (row_text strip.name row)
 
 abbrev pub is_taken : Phase → Bool
 is_taken Fresh = false
@@ -172,8 +169,8 @@ taken line = record { line = line; phase = Taken }
 -- Its worker has a leg from then on until it ends.
 abbrev pub worker : StripAt → Row → ℕ → List Shape
 worker strip row line =
-    if is_over (last_phase row) then span strip look.Going (taken line) row.since (Some (last_phase row))
-    else span strip look.Going (taken line) (strip.lane.lines + 1) None
+    if is_over (last_phase row) then span strip Look.Going (taken line) row.since (Some (last_phase row))
+    else span strip Look.Going (taken line) (strip.lane.lines + 1) None
 
 abbrev pub worker_from : Option ℕ → StripAt → Row → List Shape
 worker_from None strip row = []
@@ -187,5 +184,5 @@ bottom strip row = lane strip row ++ worker_from (taken_at row.moments) strip ro
 abbrev pub row_shapes : StripAt → Row → List Shape
 row_shapes strip row =
     bottom strip row ++ bars strip first row.moments
-    ++ note strip look.Told (codes "told to stop") row.told
-    ++ note strip look.Displaced (codes "displaced") row.displaced
+    ++ note strip Look.Told (codes "told to stop") row.told
+    ++ note strip Look.Displaced (codes "displaced") row.displaced

@@ -1,7 +1,6 @@
 -- The moments of a row: they ascend, and lie within the record.
 use Rattle.std.specs.Prelude.{◌≡◌, ◌<◌, ◌≤◌, ◌+◌, ℕ, List, [], ◌∷◌, length, Some}
-use Rattle.flow_model.specs.declared.event.Entry.{Entry}
-use Rattle.flow_model.specs.declared.plan.Plan.{Plan}
+use Rattle.status_table.specs.Words.{Entry, Plan}
 use Rattle.board_timeline.specs.Played.{track_of}
 use Rattle.board_timeline.specs.declared.noted.Track.{Track}
 use Rattle.board_timeline.specs.declared.phase.Moment.{Moment}

@@ -1,9 +1,6 @@
 -- The rows of a plan, one under the other: each run, under it its jobs, and under each job its legs.
 use Rattle.std.specs.Prelude.{ℕ, suc, ◌+◌, ◌-◌, ◌++◌, Bool, true, false, nat_le, if◌then◌else◌, List, [], ◌∷◌, length, codes, Option, Some, None, slice_get}
-use Rattle.flow_model.specs.Plain.{Plain}
-use Rattle.flow_model.specs.declared.plan.JobPlan.{JobPlan}
-use Rattle.flow_model.specs.declared.plan.Plan.{Plan}
-use Rattle.flow_model.specs.declared.plan.RunPlan.{RunPlan}
+use Rattle.status_table.specs.Words.{JobPlan, Plain, Plan, RunPlan}
 use Rattle.board_timeline.specs.Bars.{StripAt, row_shapes}
 use Rattle.board_timeline.specs.Legend.{label, legend, lines_shapes}
 use Rattle.board_timeline.specs.Words.{row_name, row_text}
@@ -13,7 +10,6 @@ use Rattle.board_timeline.specs.declared.layout.Sheet.{Sheet}
 use Rattle.board_timeline.specs.declared.noted.Track.{Track}
 use Rattle.board_timeline.specs.declared.row.Row.{Row}
 use Rattle.board_timeline.specs.declared.shape.Font.{Font}
-use Rattle.board_timeline.specs.declared.shape.Font.TheVariants as font
 use Rattle.board_timeline.specs.declared.shape.Shape.{Shape}
 
 -- A row with its label.
@@ -35,7 +31,7 @@ abbrev pub leg_step : ℕ → ℕ
 leg_step count = if are_labelled count then 16 else 6
 
 abbrev pub leg_row_by : Bool → StripAt → Row → List Shape
-leg_row_by true strip row = labelled strip row font.Leg 28
+leg_row_by true strip row = labelled strip row Font.Leg 28
 leg_row_by false strip row = row_shapes strip row
 
 abbrev pub leg_row : StripAt → Row → ℕ → List Shape
@@ -77,7 +73,7 @@ job_strip lines job top =
 
 abbrev pub job_there : ℕ → JobPlan → ℕ → Option Row → List Shape
 job_there lines job top None = []
-job_there lines job top (Some row) = labelled (job_strip lines job top) row font.Job 16
+job_there lines job top (Some row) = labelled (job_strip lines job top) row Font.Job 16
 
 abbrev pub job_row : ℕ → List Row → JobPlan → ℕ → List Shape
 job_row lines rows job top = job_there lines job top (slice_get rows job.number)
@@ -110,7 +106,7 @@ run_strip lines r run top =
 
 abbrev pub run_there : ℕ → ℕ → RunPlan → ℕ → Option Row → List Shape
 run_there lines r run top None = []
-run_there lines r run top (Some row) = labelled (run_strip lines r run top) row font.Run 8
+run_there lines r run top (Some row) = labelled (run_strip lines r run top) row Font.Run 8
 
 abbrev pub run_row : ℕ → List Row → ℕ → RunPlan → ℕ → List Shape
 run_row lines rows r run top = run_there lines r run top (slice_get rows r)

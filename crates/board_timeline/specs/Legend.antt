@@ -4,11 +4,9 @@ use Rattle.board_timeline.specs.Bars.{shape}
 use Rattle.board_timeline.specs.Frames.{place_of}
 use Rattle.board_timeline.specs.Words.{numbered}
 use Rattle.board_timeline.specs.declared.shape.Font.{Font}
-use Rattle.board_timeline.specs.declared.shape.Font.TheVariants as font
 use Rattle.board_timeline.specs.declared.shape.Frame.{Frame}
 use Rattle.board_timeline.specs.declared.shape.ShapeKind.TheVariants.{Bar, Label}
 use Rattle.board_timeline.specs.declared.shape.Look.{Look}
-use Rattle.board_timeline.specs.declared.shape.Look.TheVariants as look
 use Rattle.board_timeline.specs.declared.shape.Shape.{Shape}
 
 abbrev pub frame_of : ℕ → ℕ → ℕ → ℕ → Frame
@@ -24,30 +22,30 @@ key_bar left top look words = shape (Bar look) (frame_of left top 12 10) words
 
 -- A bar, and what it stands for.
 unfoldable pub key : ℕ → ℕ → Look → List ℕ → List Shape
-key left top look words = key_bar left top look words ++ label font.Note (left + 18) (top + 9) words
+key left top look words = key_bar left top look words ++ label Font.Note (left + 18) (top + 9) words
 
 abbrev pub phase_keys : List Shape
 phase_keys =
-    key 12 8 look.Waiting (codes "waiting for its group")
-    ++ key 230 8 look.Admitted (codes "admitted")
-    ++ key 360 8 look.Going (codes "going, with a worker")
+    key 12 8 Look.Waiting (codes "waiting for its group")
+    ++ key 230 8 Look.Admitted (codes "admitted")
+    ++ key 360 8 Look.Going (codes "going, with a worker")
 
 abbrev pub end_keys : List Shape
 end_keys =
-    key 12 26 look.Success (codes "success")
-    ++ key 110 26 look.Failure (codes "failure")
-    ++ key 208 26 look.Passed (codes "failure that counts as none")
-    ++ key 440 26 look.Cancelled (codes "cancelled")
+    key 12 26 Look.Success (codes "success")
+    ++ key 110 26 Look.Failure (codes "failure")
+    ++ key 208 26 Look.Passed (codes "failure that counts as none")
+    ++ key 440 26 Look.Cancelled (codes "cancelled")
 
 abbrev pub step_keys : List Shape
 step_keys =
-    key 560 8 look.Calling (codes "a call not answered")
-    ++ key 560 26 look.Skipped (codes "skipped")
+    key 560 8 Look.Calling (codes "a call not answered")
+    ++ key 560 26 Look.Skipped (codes "skipped")
 
 abbrev pub mark_keys : List Shape
 mark_keys =
-    key 740 8 look.Told (codes "told to stop")
-    ++ key 740 26 look.Displaced (codes "displaced")
+    key 740 8 Look.Told (codes "told to stop")
+    ++ key 740 26 Look.Displaced (codes "displaced")
 
 abbrev pub legend : List Shape
 legend = phase_keys ++ end_keys ++ step_keys ++ mark_keys
@@ -57,8 +55,8 @@ legend = phase_keys ++ end_keys ++ step_keys ++ mark_keys
 -- A line, from above the rows down to their end.
 unfoldable pub line_shapes : ℕ → ℕ → ℕ → List Shape
 line_shapes lines line bottom =
-    shape (Bar look.Line) (frame_of (place_of lines line) 62 1 (bottom - 62)) (numbered (codes "line ") line)
-    ++ label font.Note (place_of lines line) 58 (numbered (codes "line ") line)
+    shape (Bar Look.Line) (frame_of (place_of lines line) 62 1 (bottom - 62)) (numbered (codes "line ") line)
+    ++ label Font.Note (place_of lines line) 58 (numbered (codes "line ") line)
 
 -- The first of them, one in the middle, and the last.
 abbrev pub lines_shapes : ℕ → ℕ → List Shape

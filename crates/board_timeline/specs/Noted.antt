@@ -2,22 +2,10 @@
 -- names.
 use Rattle.std.specs.Prelude.{ℕ, ◌&&◌, Bool, if◌then◌else◌, List, length, Option, Some, None, slice_get}
 use Rattle.std.specs.List.{flat_map}
-use Rattle.board_decisions.specs.Derived.{is_ended}
-use Rattle.board_decisions.specs.Place.{JobAt, LegAt, job_at, leg_at}
-use Rattle.flow_model.specs.declared.board.Board.{Board}
-use Rattle.flow_model.specs.declared.board.Run.{Run}
-use Rattle.flow_model.specs.declared.event.Event.{Event}
-use Rattle.flow_model.specs.declared.event.Event.TheVariants as event
-use Rattle.flow_model.specs.declared.event.Member.{Member}
-use Rattle.flow_model.specs.declared.event.Member.TheVariants as member
-use Rattle.flow_model.specs.declared.plan.JobPlan.{JobPlan}
-use Rattle.flow_model.specs.declared.plan.Plan.{Plan}
-use Rattle.flow_model.specs.declared.plan.RunPlan.{RunPlan}
-use Rattle.flow_model.specs.declared.reply.Reply.{Reply}
+use Rattle.status_table.specs.Words.{Board, Event, JobAt, JobPlan, LegAt, Member, Plan, Reply, Run, RunPlan, is_ended, job_at, leg_at}
 use Rattle.board_timeline.specs.Phases.{is_over, job_phase, leg_phase, run_phase}
 use Rattle.board_timeline.specs.Rows.{displaced, new_rows, seen, told}
 use Rattle.board_timeline.specs.declared.noted.About.{About}
-use Rattle.board_timeline.specs.declared.noted.About.TheVariants as about
 use Rattle.board_timeline.specs.declared.noted.Track.{Track}
 use Rattle.board_timeline.specs.declared.row.Row.{Row}
 
@@ -71,37 +59,37 @@ leg_noted plan board line l track = leg_seen line l (leg_at plan board l) track
 -- ---- what an entry is about, and whom its reply names
 
 abbrev pub touched : Event → About
-touched (event.Open r) = about.Run r
-touched (event.Judge j) = about.Job j
-touched (event.Ask l) = about.Leg l
-touched (event.Drop l) = about.Leg l
-touched (event.Take l) = about.Leg l
-touched (event.Begin l) = about.Leg l
-touched (event.End l answer) = about.Leg l
-touched (event.Finish l) = about.Leg l
-touched (event.Close r) = about.Run r
-touched (event.Cancel r) = about.Stop r
+touched (Event.Open r) = About.Run r
+touched (Event.Judge j) = About.Job j
+touched (Event.Ask l) = About.Leg l
+touched (Event.Drop l) = About.Leg l
+touched (Event.Take l) = About.Leg l
+touched (Event.Begin l) = About.Leg l
+touched (Event.End l answer) = About.Leg l
+touched (Event.Finish l) = About.Leg l
+touched (Event.Close r) = About.Run r
+touched (Event.Cancel r) = About.Stop r
 
 abbrev pub about_noted : Plan → Board → ℕ → About → Track → Track
-about_noted plan board line (about.Run r) track = run_noted board line r track
-about_noted plan board line (about.Job j) track = job_noted plan board line j track
-about_noted plan board line (about.Leg l) track = leg_noted plan board line l track
-about_noted plan board line (about.Stop r) track = record track { runs = told line r track.runs }
+about_noted plan board line (About.Run r) track = run_noted board line r track
+about_noted plan board line (About.Job j) track = job_noted plan board line j track
+about_noted plan board line (About.Leg l) track = leg_noted plan board line l track
+about_noted plan board line (About.Stop r) track = record track { runs = told line r track.runs }
 
 abbrev pub member_noted : Plan → Board → ℕ → Option Member → Track → Track
 member_noted plan board line None track = track
-member_noted plan board line (Some (member.Run r)) track = run_noted board line r track
-member_noted plan board line (Some (member.Leg l)) track = leg_noted plan board line l track
+member_noted plan board line (Some (Member.Run r)) track = run_noted board line r track
+member_noted plan board line (Some (Member.Leg l)) track = leg_noted plan board line l track
 
 abbrev pub member_told : ℕ → Option Member → Track → Track
 member_told line None track = track
-member_told line (Some (member.Run r)) track = record track { runs = told line r track.runs }
-member_told line (Some (member.Leg l)) track = record track { legs = told line l track.legs }
+member_told line (Some (Member.Run r)) track = record track { runs = told line r track.runs }
+member_told line (Some (Member.Leg l)) track = record track { legs = told line l track.legs }
 
 abbrev pub member_displaced : ℕ → Option Member → Track → Track
 member_displaced line None track = track
-member_displaced line (Some (member.Run r)) track = record track { runs = displaced line r track.runs }
-member_displaced line (Some (member.Leg l)) track = record track { legs = displaced line l track.legs }
+member_displaced line (Some (Member.Run r)) track = record track { runs = displaced line r track.runs }
+member_displaced line (Some (Member.Leg l)) track = record track { legs = displaced line l track.legs }
 
 -- ---- the entry of a line, by the board after it and the reply to it
 

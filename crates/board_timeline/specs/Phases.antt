@@ -1,26 +1,17 @@
 -- How runs, jobs and legs of a board stand, each by what the board says of it alone.
 use Rattle.std.specs.Prelude.{ℕ, ◌-◌, Bool, true, false, if◌then◌else◌, List, length, Option, Some, None, slice_get}
 use Rattle.std.specs.List.{list_all}
-use Rattle.board_decisions.specs.Derived.{is_ended, legs_result}
-use Rattle.flow_model.specs.declared.board.DoneStep.{DoneStep}
-use Rattle.flow_model.specs.declared.board.Job.{Job}
-use Rattle.flow_model.specs.declared.board.JobState.{JobState}
-use Rattle.flow_model.specs.declared.board.JobState.TheVariants as job_state
-use Rattle.flow_model.specs.declared.board.Leg.{Leg}
-use Rattle.flow_model.specs.declared.board.LegState.{LegState}
-use Rattle.flow_model.specs.declared.board.LegState.TheVariants as leg_state
-use Rattle.flow_model.specs.declared.board.RunState.{RunState}
-use Rattle.flow_model.specs.declared.board.RunState.TheVariants as run_state
+use Rattle.status_table.specs.Words.{DoneStep, Job, JobState, Leg, LegState, RunState, is_ended, legs_result}
 use Rattle.board_timeline.specs.declared.phase.Phase.{Phase}
 use Rattle.board_timeline.specs.declared.phase.Phase.TheVariants.{Fresh, Waiting, Admitted, Going, Taken, Calling, Done, Shut, Ended}
 
 -- ---- runs
 
 abbrev pub run_phase : RunState → Phase
-run_phase run_state.New = Fresh
-run_phase run_state.Waiting = Waiting
-run_phase run_state.Going = Going
-run_phase (run_state.Closed how) = Ended how false
+run_phase RunState.New = Fresh
+run_phase RunState.Waiting = Waiting
+run_phase RunState.Going = Going
+run_phase (RunState.Closed how) = Ended how false
 
 -- ---- legs
 
@@ -34,12 +25,12 @@ idle_phase steps = last_done (length steps - 1) (slice_get steps (length steps -
 
 -- A leg stands as its state and its steps say.
 abbrev pub phase_by : LegState → List DoneStep → Phase
-phase_by leg_state.Fresh steps = Fresh
-phase_by leg_state.Waiting steps = Waiting
-phase_by leg_state.Admitted steps = Admitted
-phase_by (leg_state.Running worker true) steps = Calling (length steps)
-phase_by (leg_state.Running worker false) steps = idle_phase steps
-phase_by (leg_state.Ended result tolerated) steps = Ended result tolerated
+phase_by LegState.Fresh steps = Fresh
+phase_by LegState.Waiting steps = Waiting
+phase_by LegState.Admitted steps = Admitted
+phase_by (LegState.Running worker true) steps = Calling (length steps)
+phase_by (LegState.Running worker false) steps = idle_phase steps
+phase_by (LegState.Ended result tolerated) steps = Ended result tolerated
 
 abbrev pub leg_phase : Leg → Phase
 leg_phase leg = phase_by leg.state leg.steps
@@ -51,9 +42,9 @@ abbrev pub open_phase : List Leg → Phase
 open_phase legs = if list_all (λ leg. is_ended leg.state) legs then Ended (legs_result legs) false else Going
 
 abbrev pub job_phase_by : JobState → List Leg → Phase
-job_phase_by job_state.Unjudged legs = Fresh
-job_phase_by job_state.Open legs = open_phase legs
-job_phase_by (job_state.Shut how) legs = Shut how
+job_phase_by JobState.Unjudged legs = Fresh
+job_phase_by JobState.Open legs = open_phase legs
+job_phase_by (JobState.Shut how) legs = Shut how
 
 abbrev pub job_phase : Job → Phase
 job_phase job = job_phase_by job.state job.legs

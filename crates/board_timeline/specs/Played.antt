@@ -1,14 +1,7 @@
 -- What is noted of a record: the entry after k others is that of line k + 2, since the plan's line is the first.
 use Rattle.std.specs.Prelude.{◌≡◌, ℕ, suc, List, [], ◌∷◌, take, Option, Some, None, Result, Ok, Err}
-use Rattle.flow_model.specs.declared.board.Board.{Board}
-use Rattle.flow_model.specs.declared.event.Entry.{Entry}
-use Rattle.flow_model.specs.declared.plan.Plan.{Plan}
-use Rattle.flow_model.specs.declared.reply.Reply.{Reply}
-use Rattle.status_table.specs.Answers.{Refuses}
-use Rattle.status_table.specs.Row.{Row, row}
-use Rattle.status_table.specs.Runs.{StopsAt, after_from, new_board}
+use Rattle.status_table.specs.Words.{Board, Entry, Plan, Refuses, Reply, Row, StopsAt, after_from, new_board, row}
 use Rattle.status_table.specs.declared.fault.EventFault.{EventFault}
-use Rattle.status_table.specs.declared.fault.EventFault.TheVariants as fault
 use Rattle.board_timeline.specs.Noted.{new_track, noted, touched}
 use Rattle.board_timeline.specs.declared.noted.Track.{Track}
 
@@ -46,7 +39,7 @@ IsUntouched old track new track' = (new ≡ old) × (track' ≡ track)
 abbrev pub PlaysNoted : Plan → Plan → ℕ → Board → Track → Entry → Result (Unit {0}) EventFault → Board → Track → Type 0
 PlaysNoted table plan line old track e (Ok done) new track' = NotesEntry table plan line old track e new track'
 PlaysNoted table plan line old track e (Err f) new track' =
-    Refuses (row table old e.worker e.event) f × ((f ≡ fault.Memory → ⊥) → IsUntouched old track new track')
+    Refuses (row table old e.worker e.event) f × ((f ≡ EventFault.Memory → ⊥) → IsUntouched old track new track')
 
 -- All entries are played, which leads to the new board, and noted.
 pub record NotesAll (table plan : Plan) (old : Board) (track : Track) (es : List Entry) (new : Board) (track' : Track) : Type 0 where
@@ -56,7 +49,7 @@ pub record NotesAll (table plan : Plan) (old : Board) (track : Track) (es : List
 -- Where one is refused, those before it are played and noted, and nothing of it.
 abbrev pub LeavesNoted : Plan → Plan → Board → Track → List Entry → Board → Track → ℕ × EventFault → Type 0
 LeavesNoted table plan old track es new track' stop =
-    (stop.1 ≡ fault.Memory → ⊥) → NotesAll table plan old track (take stop.0 es) new track'
+    (stop.1 ≡ EventFault.Memory → ⊥) → NotesAll table plan old track (take stop.0 es) new track'
 
 -- Or they stop at one, on some board.
 abbrev pub RunsNoted : Plan → Plan → Board → Track → List Entry → Result (Unit {0}) (ℕ × EventFault) → Board → Track → Type 0

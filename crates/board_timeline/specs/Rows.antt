@@ -1,6 +1,6 @@
 -- What is noted of a run, a job or a leg, and of many by their numbers.
 use Rattle.std.specs.Prelude.{ℕ, zero, suc, ◌==◌, ◌++◌, if◌then◌else◌, List, [], ◌∷◌, Option, Some, None}
-use Rattle.status_table.specs.Change.{changed}
+use Rattle.status_table.specs.Words.{changed}
 use Rattle.board_timeline.specs.declared.phase.Phase.{Phase}
 use Rattle.board_timeline.specs.declared.row.Row.{Row}
 

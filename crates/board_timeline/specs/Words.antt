@@ -1,11 +1,6 @@
 -- What is said of rows, bars and marks.
 use Rattle.std.specs.Prelude.{◌-◌, ◌++◌, ◌&&◌, ◌||◌, ℕ, suc, Bool, true, false, nat_le, nat_lt, if◌then◌else◌, List, [], ◌∷◌, length, codes, decimal, Option, Some, None, slice_get}
-use Rattle.flow_model.specs.Outcome.{outcome_word}
-use Rattle.flow_model.specs.declared.event.Outcome.{Outcome}
-use Rattle.flow_model.specs.declared.event.Outcome.TheVariants as outcome
-use Rattle.flow_model.specs.declared.plan.StepPlan.{StepPlan}
-use Rattle.flow_model.specs.declared.plan.Work.{Work}
-use Rattle.flow_model.specs.declared.plan.Work.TheVariants as work
+use Rattle.status_table.specs.Words.{Outcome, StepPlan, Work, outcome_word}
 use Rattle.board_timeline.specs.declared.phase.Moment.{Moment}
 use Rattle.board_timeline.specs.declared.phase.Phase.{Phase}
 use Rattle.board_timeline.specs.declared.phase.Phase.TheVariants.{Fresh, Waiting, Admitted, Going, Taken, Calling, Done, Shut, Ended}
@@ -70,8 +65,8 @@ row_text name row = name ++ codes ": " ++ stand_words (last_phase row)
 
 -- A step is called by its name, else by its script, else by the action that it uses.
 abbrev pub work_name : Work → List ℕ
-work_name (work.Run dir run shell) = run
-work_name (work.Uses uses given) = uses
+work_name (Work.Run dir run shell) = run
+work_name (Work.Uses uses given) = uses
 
 abbrev pub step_name_or : Option (List ℕ) → Work → List ℕ
 step_name_or None what = work_name what
@@ -90,13 +85,13 @@ step_words steps place = (codes "step " ++ decimal place) ++ step_name_words (sl
 
 -- How a step ended.
 abbrev pub step_result : Outcome → Outcome → List ℕ
-step_result outcome.Success conclusion = codes "success"
-step_result outcome.Failure outcome.Success = codes "failure, passed over"
-step_result outcome.Failure outcome.Failure = codes "failure"
-step_result outcome.Failure outcome.Cancelled = codes "failure"
-step_result outcome.Failure outcome.Skipped = codes "failure"
-step_result outcome.Cancelled conclusion = codes "cancelled"
-step_result outcome.Skipped conclusion = codes "skipped"
+step_result Outcome.Success conclusion = codes "success"
+step_result Outcome.Failure Outcome.Success = codes "failure, passed over"
+step_result Outcome.Failure Outcome.Failure = codes "failure"
+step_result Outcome.Failure Outcome.Cancelled = codes "failure"
+step_result Outcome.Failure Outcome.Skipped = codes "failure"
+step_result Outcome.Cancelled conclusion = codes "cancelled"
+step_result Outcome.Skipped conclusion = codes "skipped"
 
 abbrev pub done_words : List StepPlan → ℕ → Outcome → Outcome → List ℕ
 done_words steps place outcome conclusion = step_words steps place ++ (codes ": " ++ step_result outcome conclusion)

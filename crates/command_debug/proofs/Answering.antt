@@ -1,14 +1,13 @@
 -- Lines are answered one after the other.
 use Rattle.std.proofs.Common.{◌≡◌, ◌≢◌, ℕ, true, false, List, [], ◌∷◌, ◌++◌, Option, Some, None, IfSome, Result, Ok, Err, refl, sym, ap, ◌∙◌, subst, append_assoc, append-nil}
 use Rattle.std.specs.Io.KnownBytes.{IsAtEnd}
+use Rattle.status_table.specs.Words.{lines_of}
 use Rattle.debugger.specs.Session.{Session}
-use Rattle.flow_model.specs.Lines.{lines_of}
 use Rattle.command_io.specs.Stream.{Stream, IsCutOff, IsLineRead, IsWritten, TakesLine, TakesLines}
 use Rattle.command_io.proofs.Known.{Appends-nothing, Appends-then, cut_off_after}
 use Rattle.command_debug.specs.Answers.{TellsLines}
 use Rattle.command_debug.specs.Session.{AnswersNext, AnswersOne, Gathers, HandsOn, Holds, IsAnswered, IsGathered, ReadTo, StopsUnwritten}
 use Rattle.command_debug.specs.declared.session.Halt.{Halt}
-use Rattle.command_debug.specs.declared.session.Halt.TheVariants as halt
 
 -- ---- lines that are taken
 
@@ -97,7 +96,7 @@ module _ (first : Session) (input out : Stream) (now : Session) (mid out' : Stre
   unhanded out'' cut = record {
     lines = g.lines;
     told = g.told;
-    ended = Err halt.Unwritten;
+    ended = Err Halt.Unwritten;
     read = (g.taken, g.sound);
     tells = so_far;
     cut_off = gathered_cut out out' out'' g.told gathered g.written cut;
@@ -136,19 +135,19 @@ module _ (first : Session) (input out : Stream) (now : Session) (mid out' : Stre
 
   -- or it stops before
   pub stops : (why : Halt) → AnswersNext now mid out' next input' out'' gathered new (Err why) → Gathers first input input' out out'' new (Err why)
-  stops halt.Unread (on, lost) =
+  stops Halt.Unread (on, lost) =
       let h = after_handed new on in
-      answered_so_far first input out now mid out'' new h input' (Err halt.Unread) (mid.bytes, h.taken, lost.0, lost.1)
-  stops halt.Unwritten (cut, same) =
+      answered_so_far first input out now mid out'' new h input' (Err Halt.Unread) (mid.bytes, h.taken, lost.0, lost.1)
+  stops Halt.Unwritten (cut, same) =
       subst (λ (i : Stream). StopsUnwritten first input i out out'') (sym same) (unhanded first input out now mid out' gathered g out'' cut)
-  stops halt.Memory on =
+  stops Halt.Memory on =
       let h = after_handed new on in
-      answered_so_far first input out now mid out'' new h input' (Err halt.Memory) (mid.bytes, h.taken)
+      answered_so_far first input out now mid out'' new h input' (Err Halt.Memory) (mid.bytes, h.taken)
 
 -- ---- how a session ends
 
 module _ (s : Session) (input input' out mid out' : Stream) (gathered : List ℕ) where
-  cut_short : (ended : Result (Unit {0}) Halt) → IsAnswered s input input' out mid gathered ended → IsCutOff mid out' gathered → Holds s input input' out out' (Err halt.Unwritten)
+  cut_short : (ended : Result (Unit {0}) Halt) → IsAnswered s input input' out mid gathered ended → IsCutOff mid out' gathered → Holds s input input' out out' (Err Halt.Unwritten)
   cut_short ended a cut = record {
     lines = a.lines;
     told = a.told;
@@ -159,9 +158,9 @@ module _ (s : Session) (input input' out mid out' : Stream) (gathered : List ℕ
   }
 
   -- the last answers are not written, or in part
-  pub not_written : (ended : Result (Unit {0}) Halt) → ended ≢ Err halt.Unwritten → Gathers s input input' out mid gathered ended → IsCutOff mid out' gathered
-      → Holds s input input' out out' (Err halt.Unwritten)
+  pub not_written : (ended : Result (Unit {0}) Halt) → ended ≢ Err Halt.Unwritten → Gathers s input input' out mid gathered ended → IsCutOff mid out' gathered
+      → Holds s input input' out out' (Err Halt.Unwritten)
   not_written (Ok done) goes a cut = cut_short (Ok done) a cut
-  not_written (Err halt.Unread) goes a cut = cut_short (Err halt.Unread) a cut
-  not_written (Err halt.Unwritten) goes a cut = absurd (goes refl)
-  not_written (Err halt.Memory) goes a cut = cut_short (Err halt.Memory) a cut
+  not_written (Err Halt.Unread) goes a cut = cut_short (Err Halt.Unread) a cut
+  not_written (Err Halt.Unwritten) goes a cut = absurd (goes refl)
+  not_written (Err Halt.Memory) goes a cut = cut_short (Err Halt.Memory) a cut

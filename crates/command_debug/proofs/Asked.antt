@@ -7,7 +7,6 @@ use Rattle.std.specs.Char.{digit_value, is_digit}
 use Rattle.std.specs.List.{prefix_len}
 use Rattle.std.specs.Str.Parse.{AllDigits}
 use Rattle.debugger.specs.declared.breaks.Break.{Break}
-use Rattle.debugger.specs.declared.breaks.Break.TheVariants as break'
 use Rattle.command_debug.specs.declared.requests.Request.{Request}
 use Rattle.command_debug.specs.declared.requests.Request.TheVariants.{Step, Back, GoTo, Go, GoBack, Show, Set, Clear}
 use Rattle.command_debug.specs.Requests.{After, Asks, FindsOne, IsNoWord, Names, Writes, WritesTwo}
@@ -60,10 +59,10 @@ pub no_break : (name : List ℕ) → name ≢ codes "failed" → FindsOne (After
 no_break name failed leg ends step = none
   where
     none : (wanted : Break) → Names name wanted → ⊥
-    none (break'.Leg l) h = leg l h
-    none (break'.Step l s) h = step (l, s) h
-    none (break'.Ends l) h = ends l h
-    none break'.Failed h = failed h
+    none (Break.Leg l) h = leg l h
+    none (Break.Step l s) h = step (l, s) h
+    none (Break.Ends l) h = ends l h
+    none Break.Failed h = failed h
 
 pub no_request : (line : List ℕ) → IsNoWord line → FindsOne (After Writes (codes "goto ") line) None → FindsOne (After Names (codes "break ") line) None
     → FindsOne (After Names (codes "clear ") line) None → FindsOne (Asks line) None

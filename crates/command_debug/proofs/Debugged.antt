@@ -2,17 +2,12 @@
 use Rattle.std.proofs.Common.{◌≡◌, ◌<◌, ◌≤◌, ℕ, List, ◌++◌, take, length, codes, Some, None, Result, Ok, Err, OnOk, if◌then◌else◌, inl, inr, refl, sym, ap, ◌∙◌, arith}
 use Rattle.std.proofs.lemmas.Option.{slice_get_within}
 use Rattle.std.proofs.lemmas.List.{length-take-le}
+use Rattle.status_table.specs.Words.{Board, Entry, IsPlan, Plan, after, new_board}
 use Rattle.debugger.specs.Breaks.{is_set, with_break, without_break}
 use Rattle.debugger.specs.Places.{NotOpened, RefusedAt}
 use Rattle.debugger.specs.Session.{Moves, MovesInMemory, Session, moved, with_breaks}
 use Rattle.debugger.specs.declared.breaks.Break.{Break}
 use Rattle.debugger.specs.declared.fault.DebugFault.{DebugFault}
-use Rattle.debugger.specs.declared.fault.DebugFault.TheVariants as fault
-use Rattle.flow_model.specs.Rules.{IsPlan}
-use Rattle.flow_model.specs.declared.board.Board.{Board}
-use Rattle.flow_model.specs.declared.event.Entry.{Entry}
-use Rattle.flow_model.specs.declared.plan.Plan.{Plan}
-use Rattle.status_table.specs.Runs.{after, new_board}
 use Rattle.status_table.specs.declared.fault.EventFault.{EventFault}
 use Rattle.command_debug.specs.Answers.{Adds, AddsSome, IsMove, TellsGo, TellsMove, TellsOneLine, TellsRequest, move_line}
 use Rattle.command_debug.specs.Debug.{HasOpenLine, open_error}
@@ -28,12 +23,12 @@ use Rattle.command_debug.specs.declared.requests.Request.TheVariants.{Set, Clear
 pub moved_there : (target : Result ℕ DebugFault) (s : Session) (found : Result ℕ DebugFault) (next : Session) → MovesInMemory target s found next → IsMove found
     → Moves target s found next
 moved_there target s (Ok k) next h is = (sym h.0, h.1 ∙ ap (moved s) (sym h.0))
-moved_there target s (Err fault.AtStart) next h is = (sym h.0, h.1 ∙ ap (moved s) (sym h.0))
-moved_there target s (Err fault.AtEnd) next h is = (sym h.0, h.1 ∙ ap (moved s) (sym h.0))
-moved_there target s (Err fault.NoPlace) next h is = (sym h.0, h.1 ∙ ap (moved s) (sym h.0))
-moved_there target s (Err fault.NoBreak) next h is = (sym h.0, h.1 ∙ ap (moved s) (sym h.0))
-moved_there target s (Err (fault.BadRecord i f)) next h is = (sym h.0, h.1 ∙ ap (moved s) (sym h.0))
-moved_there target s (Err fault.Memory) next h is = absurd is
+moved_there target s (Err DebugFault.AtStart) next h is = (sym h.0, h.1 ∙ ap (moved s) (sym h.0))
+moved_there target s (Err DebugFault.AtEnd) next h is = (sym h.0, h.1 ∙ ap (moved s) (sym h.0))
+moved_there target s (Err DebugFault.NoPlace) next h is = (sym h.0, h.1 ∙ ap (moved s) (sym h.0))
+moved_there target s (Err DebugFault.NoBreak) next h is = (sym h.0, h.1 ∙ ap (moved s) (sym h.0))
+moved_there target s (Err (DebugFault.BadRecord i f)) next h is = (sym h.0, h.1 ∙ ap (moved s) (sym h.0))
+moved_there target s (Err DebugFault.Memory) next h is = absurd is
 
 -- so the line of what it answers is that of the move
 pub move_told : (target : Result ℕ DebugFault) (s : Session) (found : Result ℕ DebugFault) (next : Session) → Moves target s found next
@@ -44,12 +39,12 @@ move_told target s found next h = (ap (move_line (length s.entries)) h.0, h.1)
 
 -- a record that is not opened stops there
 pub stopped : (p : Plan) (es : List Entry) (why : DebugFault) → NotOpened p (new_board p) es why → IsStopped p es (open_error why)
-stopped p es (fault.BadRecord i f) w = refused_there p es i f (λ named. w)
-stopped p es fault.AtStart w = absurd w
-stopped p es fault.AtEnd w = absurd w
-stopped p es fault.NoPlace w = absurd w
-stopped p es fault.NoBreak w = absurd w
-stopped p es fault.Memory w = tt
+stopped p es (DebugFault.BadRecord i f) w = refused_there p es i f (λ named. w)
+stopped p es DebugFault.AtStart w = absurd w
+stopped p es DebugFault.AtEnd w = absurd w
+stopped p es DebugFault.NoPlace w = absurd w
+stopped p es DebugFault.NoBreak w = absurd w
+stopped p es DebugFault.Memory w = tt
 
 line_by : ((p : Plan) → IsPlan p → (es : List Entry) (b : Board) → after p es ≡ Some b → length es ≤ 2113728)
     → (p : Plan) → IsPlan p → (es : List Entry) (i : ℕ) (f : EventFault) → RefusedAt p (new_board p) es i f → HasLine i f
@@ -61,12 +56,12 @@ line_by short p rules es i f w =
 
 pub has_open_line : ((p : Plan) → IsPlan p → (es : List Entry) (b : Board) → after p es ≡ Some b → length es ≤ 2113728)
     → (p : Plan) → IsPlan p → (es : List Entry) (why : DebugFault) → NotOpened p (new_board p) es why → HasOpenLine why
-has_open_line short p rules es (fault.BadRecord i f) w = line_by short p rules es i f w
-has_open_line short p rules es fault.AtStart w = tt
-has_open_line short p rules es fault.AtEnd w = tt
-has_open_line short p rules es fault.NoPlace w = tt
-has_open_line short p rules es fault.NoBreak w = tt
-has_open_line short p rules es fault.Memory w = tt
+has_open_line short p rules es (DebugFault.BadRecord i f) w = line_by short p rules es i f w
+has_open_line short p rules es DebugFault.AtStart w = tt
+has_open_line short p rules es DebugFault.AtEnd w = tt
+has_open_line short p rules es DebugFault.NoPlace w = tt
+has_open_line short p rules es DebugFault.NoBreak w = tt
+has_open_line short p rules es DebugFault.Memory w = tt
 
 -- ---- what is added to a text
 

@@ -5,7 +5,6 @@ use Rattle.std.specs.List.{prefix_len, starts_with}
 use Rattle.std.specs.Str.{bytes_eq}
 use Rattle.std.specs.Str.Parse.{digits_value}
 use Rattle.debugger.specs.declared.breaks.Break.{Break}
-use Rattle.debugger.specs.declared.breaks.Break.TheVariants as break'
 use Rattle.command_debug.specs.declared.requests.Request.{Request}
 use Rattle.command_debug.specs.declared.requests.Request.TheVariants.{Step, Back, GoTo, Go, GoBack, Show, Set, Clear}
 use Rattle.command_debug.specs.Requests.{Asks, Names, OneRequest, Writes, WritesTwo, greatest}
@@ -37,18 +36,18 @@ two_are text x w =
 
 break_in : List ℕ → Break
 break_in name =
-    if bytes_eq name (codes "failed") then break'.Failed
-    else if starts_with nat_eq name (codes "leg ") then break'.Leg (number_in (drop 4 name))
-    else if starts_with nat_eq name (codes "ends ") then break'.Ends (number_in (drop 5 name))
-    else break'.Step (two_in (drop 5 name)).0 (two_in (drop 5 name)).1
+    if bytes_eq name (codes "failed") then Break.Failed
+    else if starts_with nat_eq name (codes "leg ") then Break.Leg (number_in (drop 4 name))
+    else if starts_with nat_eq name (codes "ends ") then Break.Ends (number_in (drop 5 name))
+    else Break.Step (two_in (drop 5 name)).0 (two_in (drop 5 name)).1
 
 break_is : (name : List ℕ) (wanted : Break) → Names name wanted → break_in name ≡ wanted
 unfolding break_in
-break_is name (break'.Leg l) w = ap break_in w.1 ∙ ap (λ (k : ℕ). break'.Leg k) (number_is w.0 l w.2)
-break_is name (break'.Step l s) w =
-    ap break_in w.1 ∙ ap (λ (x : ℕ × ℕ). break'.Step x.0 x.1) (two_are w.0 (l, s) w.2)
-break_is name (break'.Ends l) w = ap break_in w.1 ∙ ap (λ (k : ℕ). break'.Ends k) (number_is w.0 l w.2)
-break_is name break'.Failed h = ap break_in h
+break_is name (Break.Leg l) w = ap break_in w.1 ∙ ap (λ (k : ℕ). Break.Leg k) (number_is w.0 l w.2)
+break_is name (Break.Step l s) w =
+    ap break_in w.1 ∙ ap (λ (x : ℕ × ℕ). Break.Step x.0 x.1) (two_are w.0 (l, s) w.2)
+break_is name (Break.Ends l) w = ap break_in w.1 ∙ ap (λ (k : ℕ). Break.Ends k) (number_is w.0 l w.2)
+break_is name Break.Failed h = ap break_in h
 
 request_in : List ℕ → Request
 request_in line =

@@ -1,12 +1,9 @@
 -- A record and lines come to one text at most.
 use Rattle.std.proofs.Common.{◌≡◌, ℕ, zero, suc, ◌<◌, ◌⊎◌, inl, inr, Bool, true, false, List, [], ◌∷◌, ◌++◌, length, Result, Ok, Err, refl, ap, sym, ◌∙◌, subst, arith}
+use Rattle.status_table.specs.Words.{Entry, Plan, lines_of}
 use Rattle.debugger.specs.Session.{GoesBack, GoesOn, NextStop, NoNextStop, NoPreviousStop, PreviousStop, Session, at_place, stops_at}
 use Rattle.debugger.specs.declared.fault.DebugFault.{DebugFault}
-use Rattle.debugger.specs.declared.fault.DebugFault.TheVariants as fault
-use Rattle.flow_model.specs.declared.event.Entry.{Entry}
-use Rattle.flow_model.specs.declared.plan.Plan.{Plan}
 use Rattle.plan_text.specs.BoardText.{board_text}
-use Rattle.flow_model.specs.Lines.{lines_of}
 use Rattle.plan_text.specs.Record.{load_lines}
 use Rattle.command_debug.specs.Answers.{IsMove, TellsGo, TellsLines, TellsOneLine, TellsRequest, move_line}
 use Rattle.command_debug.specs.Debug.{FromStart, OneTold}
@@ -50,62 +47,62 @@ module _ (s : Session) (next next' : Session) where
   on_to k (Ok j) a is b =
       let same = next_is s k j a.0 b.0 in
       (ap (λ (n : ℕ). Ok n) same, a.1 ∙ ap (at_place s) same ∙ sym b.1)
-  on_to k (Err fault.NoBreak) a is b = absurd (unlike (stops_at s k) a.0.stops (b.0 k a.0.later a.0.within))
-  on_to k (Err fault.AtStart) a is b = absurd b
-  on_to k (Err fault.AtEnd) a is b = absurd b
-  on_to k (Err fault.NoPlace) a is b = absurd b
-  on_to k (Err (fault.BadRecord i f)) a is b = absurd b
-  on_to k (Err fault.Memory) a is b = absurd is
+  on_to k (Err DebugFault.NoBreak) a is b = absurd (unlike (stops_at s k) a.0.stops (b.0 k a.0.later a.0.within))
+  on_to k (Err DebugFault.AtStart) a is b = absurd b
+  on_to k (Err DebugFault.AtEnd) a is b = absurd b
+  on_to k (Err DebugFault.NoPlace) a is b = absurd b
+  on_to k (Err (DebugFault.BadRecord i f)) a is b = absurd b
+  on_to k (Err DebugFault.Memory) a is b = absurd is
 
-  on_nowhere : (other : Result ℕ DebugFault) → NoNextStop s × (next ≡ s) → IsMove other → GoesOn s other next' → Same (Err fault.NoBreak) other next next'
+  on_nowhere : (other : Result ℕ DebugFault) → NoNextStop s × (next ≡ s) → IsMove other → GoesOn s other next' → Same (Err DebugFault.NoBreak) other next next'
   unfolding Same
   on_nowhere (Ok j) a is b = absurd (unlike (stops_at s j) b.0.stops (a.0 j b.0.later b.0.within))
-  on_nowhere (Err fault.NoBreak) a is b = (refl, a.1 ∙ sym b.1)
-  on_nowhere (Err fault.AtStart) a is b = absurd b
-  on_nowhere (Err fault.AtEnd) a is b = absurd b
-  on_nowhere (Err fault.NoPlace) a is b = absurd b
-  on_nowhere (Err (fault.BadRecord i f)) a is b = absurd b
-  on_nowhere (Err fault.Memory) a is b = absurd is
+  on_nowhere (Err DebugFault.NoBreak) a is b = (refl, a.1 ∙ sym b.1)
+  on_nowhere (Err DebugFault.AtStart) a is b = absurd b
+  on_nowhere (Err DebugFault.AtEnd) a is b = absurd b
+  on_nowhere (Err DebugFault.NoPlace) a is b = absurd b
+  on_nowhere (Err (DebugFault.BadRecord i f)) a is b = absurd b
+  on_nowhere (Err DebugFault.Memory) a is b = absurd is
 
   one_way_on : (found other : Result ℕ DebugFault) → IsMove found → IsMove other → GoesOn s found next → GoesOn s other next' → Same found other next next'
   one_way_on (Ok k) other is is' a b = on_to k other a is' b
-  one_way_on (Err fault.NoBreak) other is is' a b = on_nowhere other a is' b
-  one_way_on (Err fault.AtStart) other is is' a b = absurd a
-  one_way_on (Err fault.AtEnd) other is is' a b = absurd a
-  one_way_on (Err fault.NoPlace) other is is' a b = absurd a
-  one_way_on (Err (fault.BadRecord i f)) other is is' a b = absurd a
-  one_way_on (Err fault.Memory) other is is' a b = absurd is
+  one_way_on (Err DebugFault.NoBreak) other is is' a b = on_nowhere other a is' b
+  one_way_on (Err DebugFault.AtStart) other is is' a b = absurd a
+  one_way_on (Err DebugFault.AtEnd) other is is' a b = absurd a
+  one_way_on (Err DebugFault.NoPlace) other is is' a b = absurd a
+  one_way_on (Err (DebugFault.BadRecord i f)) other is is' a b = absurd a
+  one_way_on (Err DebugFault.Memory) other is is' a b = absurd is
 
   back_to : (k : ℕ) (other : Result ℕ DebugFault) → PreviousStop s k × (next ≡ at_place s k) → GoesBack s other next' → Same (Ok k) other next next'
   unfolding Same
   back_to k (Ok j) a b =
       let same = previous_is s k j a.0 b.0 in
       (ap (λ (n : ℕ). Ok n) same, a.1 ∙ ap (at_place s) same ∙ sym b.1)
-  back_to k (Err fault.NoBreak) a b = absurd (unlike (stops_at s k) a.0.stops (b.0 k a.0.earlier))
-  back_to k (Err fault.AtStart) a b = absurd b
-  back_to k (Err fault.AtEnd) a b = absurd b
-  back_to k (Err fault.NoPlace) a b = absurd b
-  back_to k (Err (fault.BadRecord i f)) a b = absurd b
-  back_to k (Err fault.Memory) a b = absurd b
+  back_to k (Err DebugFault.NoBreak) a b = absurd (unlike (stops_at s k) a.0.stops (b.0 k a.0.earlier))
+  back_to k (Err DebugFault.AtStart) a b = absurd b
+  back_to k (Err DebugFault.AtEnd) a b = absurd b
+  back_to k (Err DebugFault.NoPlace) a b = absurd b
+  back_to k (Err (DebugFault.BadRecord i f)) a b = absurd b
+  back_to k (Err DebugFault.Memory) a b = absurd b
 
-  back_nowhere : (other : Result ℕ DebugFault) → NoPreviousStop s × (next ≡ s) → GoesBack s other next' → Same (Err fault.NoBreak) other next next'
+  back_nowhere : (other : Result ℕ DebugFault) → NoPreviousStop s × (next ≡ s) → GoesBack s other next' → Same (Err DebugFault.NoBreak) other next next'
   unfolding Same
   back_nowhere (Ok j) a b = absurd (unlike (stops_at s j) b.0.stops (a.0 j b.0.earlier))
-  back_nowhere (Err fault.NoBreak) a b = (refl, a.1 ∙ sym b.1)
-  back_nowhere (Err fault.AtStart) a b = absurd b
-  back_nowhere (Err fault.AtEnd) a b = absurd b
-  back_nowhere (Err fault.NoPlace) a b = absurd b
-  back_nowhere (Err (fault.BadRecord i f)) a b = absurd b
-  back_nowhere (Err fault.Memory) a b = absurd b
+  back_nowhere (Err DebugFault.NoBreak) a b = (refl, a.1 ∙ sym b.1)
+  back_nowhere (Err DebugFault.AtStart) a b = absurd b
+  back_nowhere (Err DebugFault.AtEnd) a b = absurd b
+  back_nowhere (Err DebugFault.NoPlace) a b = absurd b
+  back_nowhere (Err (DebugFault.BadRecord i f)) a b = absurd b
+  back_nowhere (Err DebugFault.Memory) a b = absurd b
 
   one_way_back : (found other : Result ℕ DebugFault) → IsMove found → IsMove other → GoesBack s found next → GoesBack s other next' → Same found other next next'
   one_way_back (Ok k) other is is' a b = back_to k other a b
-  one_way_back (Err fault.NoBreak) other is is' a b = back_nowhere other a b
-  one_way_back (Err fault.AtStart) other is is' a b = absurd a
-  one_way_back (Err fault.AtEnd) other is is' a b = absurd a
-  one_way_back (Err fault.NoPlace) other is is' a b = absurd a
-  one_way_back (Err (fault.BadRecord i f)) other is is' a b = absurd a
-  one_way_back (Err fault.Memory) other is is' a b = absurd a
+  one_way_back (Err DebugFault.NoBreak) other is is' a b = back_nowhere other a b
+  one_way_back (Err DebugFault.AtStart) other is is' a b = absurd a
+  one_way_back (Err DebugFault.AtEnd) other is is' a b = absurd a
+  one_way_back (Err DebugFault.NoPlace) other is is' a b = absurd a
+  one_way_back (Err (DebugFault.BadRecord i f)) other is is' a b = absurd a
+  one_way_back (Err DebugFault.Memory) other is is' a b = absurd a
 
 -- ---- one answer to a line
 

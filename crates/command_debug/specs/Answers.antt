@@ -1,11 +1,10 @@
 -- What the debugger tells of lines that ask it: the answer to each line in turn.
 use Rattle.std.specs.Prelude.{◌≡◌, ℕ, ◌⊎◌, ◌++◌, if◌then◌else◌, codes, decimal, List, [], ◌∷◌, length, Some, None, Result, Ok, Err}
+use Rattle.status_table.specs.Words.{Board}
 use Rattle.debugger.specs.Breaks.{is_set, with_break, without_break}
 use Rattle.debugger.specs.Fault.{debug_fault_name}
 use Rattle.debugger.specs.Session.{GoesBack, GoesOn, Session, asked_place, moved, next_place, previous_place, shown, with_breaks}
 use Rattle.debugger.specs.declared.fault.DebugFault.{DebugFault}
-use Rattle.debugger.specs.declared.fault.DebugFault.TheVariants as fault
-use Rattle.flow_model.specs.declared.board.Board.{Board}
 use Rattle.plan_text.specs.BoardText.{board_text}
 use Rattle.command_debug.specs.Requests.{Asks, FindsOne}
 use Rattle.command_debug.specs.declared.requests.Request.{Request}
@@ -29,12 +28,12 @@ place_end many = codes " of " ++ (decimal many ++ codes "\n")
 -- A move is no want of memory.
 abbrev pub IsMove : Result ℕ DebugFault → Type 0
 IsMove (Ok place) = Unit {0}
-IsMove (Err fault.AtStart) = Unit {0}
-IsMove (Err fault.AtEnd) = Unit {0}
-IsMove (Err fault.NoPlace) = Unit {0}
-IsMove (Err fault.NoBreak) = Unit {0}
-IsMove (Err (fault.BadRecord entry refusal)) = Unit {0}
-IsMove (Err fault.Memory) = ⊥
+IsMove (Err DebugFault.AtStart) = Unit {0}
+IsMove (Err DebugFault.AtEnd) = Unit {0}
+IsMove (Err DebugFault.NoPlace) = Unit {0}
+IsMove (Err DebugFault.NoBreak) = Unit {0}
+IsMove (Err (DebugFault.BadRecord entry refusal)) = Unit {0}
+IsMove (Err DebugFault.Memory) = ⊥
 
 -- A move that leads there, or is refused so, is told.
 abbrev pub TellsMove : Session → Result ℕ DebugFault → List ℕ → Session → Type 0

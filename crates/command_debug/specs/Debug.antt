@@ -1,16 +1,13 @@
 -- What `actrun debug` leaves: the session with a record, or why the record is not under the debugger.
 use Rattle.std.specs.Prelude.{◌≡◌, ℕ, ◌⊎◌, List, Result, Ok, Err}
+use Rattle.status_table.specs.Words.{Entry, IsLegal, Plan, new_board}
 use Rattle.debugger.specs.Session.{Session, opened}
 use Rattle.debugger.specs.declared.fault.DebugFault.{DebugFault}
-use Rattle.debugger.specs.declared.fault.DebugFault.TheVariants as fault
-use Rattle.flow_model.specs.declared.event.Entry.{Entry}
-use Rattle.flow_model.specs.declared.plan.Plan.{Plan}
-use Rattle.status_table.specs.Runs.{IsLegal, new_board}
 use Rattle.command_io.specs.Records.{HasLine, IsNotPlayed, IsStopped, OfRecord, stop_error}
 use Rattle.command_io.specs.Stream.{Stream, IsRead}
 use Rattle.command_io.specs.Tell.{TellsError}
 use Rattle.command_io.specs.CommandError.{UnlessMemory}
-use Rattle.command_io.specs.declared.stream.SourceFault.TheVariants as source_fault
+use Rattle.command_io.specs.declared.stream.SourceFault.{SourceFault}
 use Rattle.command_io.specs.declared.error.CommandError.{CommandError}
 use Rattle.command_io.specs.declared.error.CommandError.TheVariants.{Io, Memory}
 use Rattle.command_debug.specs.Answers.{TellsLines}
@@ -30,7 +27,7 @@ pub record OfFile (file file' : Stream) (Is : Session → Type 0) : Type 0 where
 abbrev pub IsUnopened : Stream → Stream → CommandError → Type 0
 IsUnopened file file' error =
     UnlessMemory error
-    ((IsRead file file' (Err source_fault.Failed) × (error ≡ Io)) ⊎ ((text : List ℕ) × IsRead file file' (Ok text) × IsNotPlayed text error))
+    ((IsRead file file' (Err SourceFault.Failed) × (error ≡ Io)) ⊎ ((text : List ℕ) × IsRead file file' (Ok text) × IsNotPlayed text error))
 
 -- A record is not under the debugger, which is told before anything is read of the input.
 abbrev pub TellsUnopened : Stream → Stream → Stream → Stream → Stream → Stream → Stream → Stream → ℕ → Type 0
@@ -63,21 +60,21 @@ GivesSession plan entries (Err error) = IsStopped plan entries error
 -- What it comes to that entries are not under the debugger: one of them is refused; the debugger opens no record for the
 -- other refusals, which are of moves.
 abbrev pub open_error : DebugFault → CommandError
-open_error (fault.BadRecord entry refusal) = stop_error entry refusal
-open_error fault.AtStart = Memory
-open_error fault.AtEnd = Memory
-open_error fault.NoPlace = Memory
-open_error fault.NoBreak = Memory
-open_error fault.Memory = Memory
+open_error (DebugFault.BadRecord entry refusal) = stop_error entry refusal
+open_error DebugFault.AtStart = Memory
+open_error DebugFault.AtEnd = Memory
+open_error DebugFault.NoPlace = Memory
+open_error DebugFault.NoBreak = Memory
+open_error DebugFault.Memory = Memory
 
 -- The entry that is refused has a line with a number.
 abbrev pub HasOpenLine : DebugFault → Type 0
-HasOpenLine (fault.BadRecord entry refusal) = HasLine entry refusal
-HasOpenLine fault.AtStart = Unit {0}
-HasOpenLine fault.AtEnd = Unit {0}
-HasOpenLine fault.NoPlace = Unit {0}
-HasOpenLine fault.NoBreak = Unit {0}
-HasOpenLine fault.Memory = Unit {0}
+HasOpenLine (DebugFault.BadRecord entry refusal) = HasLine entry refusal
+HasOpenLine DebugFault.AtStart = Unit {0}
+HasOpenLine DebugFault.AtEnd = Unit {0}
+HasOpenLine DebugFault.NoPlace = Unit {0}
+HasOpenLine DebugFault.NoBreak = Unit {0}
+HasOpenLine DebugFault.Memory = Unit {0}
 
 -- A record under the debugger, or why it is not played.
 abbrev pub OpensRecord : List ℕ → Result Session CommandError → Type 0

@@ -2,7 +2,6 @@
 use Rattle.std.specs.Prelude.{◌≡◌, ◌≢◌, ℕ, ◌-◌, ◌^◌, ◌++◌, List, codes, min, Option, Some, None}
 use Rattle.std.specs.Str.Parse.{IsNumeral, digits_value}
 use Rattle.debugger.specs.declared.breaks.Break.{Break}
-use Rattle.debugger.specs.declared.breaks.Break.TheVariants as break'
 use Rattle.command_debug.specs.declared.requests.Request.{Request}
 use Rattle.command_debug.specs.declared.requests.Request.TheVariants.{Step, Back, GoTo, Go, GoBack, Show, Set, Clear}
 
@@ -24,10 +23,10 @@ After Says front text x = (rest : List ℕ) × (text ≡ front ++ rest) × Says 
 
 -- A text names a break.
 abbrev pub Names : List ℕ → Break → Type 0
-Names name (break'.Leg l) = After Writes (codes "leg ") name l
-Names name (break'.Step l s) = After WritesTwo (codes "step ") name (l, s)
-Names name (break'.Ends l) = After Writes (codes "ends ") name l
-Names name break'.Failed = name ≡ codes "failed"
+Names name (Break.Leg l) = After Writes (codes "leg ") name l
+Names name (Break.Step l s) = After WritesTwo (codes "step ") name (l, s)
+Names name (Break.Ends l) = After Writes (codes "ends ") name l
+Names name Break.Failed = name ≡ codes "failed"
 
 -- A line asks for this.
 abbrev pub Asks : List ℕ → Request → Type 0

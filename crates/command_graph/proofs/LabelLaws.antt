@@ -4,12 +4,7 @@ use Rattle.std.proofs.lemmas.List.{append-nil}
 use Rattle.std.proofs.lemmas.List.Folds.{list_all-append}
 use Rattle.std.specs.Fmt.{digits, digits_onto, digit_glyph}
 use Rattle.std.specs.List.{flat_map}
-use Rattle.flow_model.specs.declared.board.Run.{Run}
-use Rattle.flow_model.specs.declared.plan.JobPlan.{JobPlan}
-use Rattle.flow_model.specs.declared.plan.Plan.{Plan}
-use Rattle.flow_model.specs.declared.plan.RunPlan.{RunPlan}
-use Rattle.flow_model.specs.declared.event.Outcome.{Outcome}
-use Rattle.flow_model.specs.declared.event.Outcome.TheVariants as outcome
+use Rattle.status_table.specs.Words.{JobPlan, Outcome, Plan, Run, RunPlan}
 use Rattle.command_graph.proofs.ReadingLaws.{quoted_texts_are_read}
 use Rattle.command_graph.specs.Dot.{cluster_begin, edge_text, graph_head, graph_text, job_label, job_text, jobs_text, legs_count, node_end, node_text, run_label, run_text, runs_text}
 use Rattle.command_graph.specs.Labels.{has_no_quote, HasStrings, graph_strings, jobs_strings, runs_strings}
@@ -56,10 +51,10 @@ unfolding digits
 bare_number n = bare_digits 64 n [] refl
 
 bare_outcome : (how : Outcome) → has_no_quote (outcome_colour how) ≡ true
-bare_outcome outcome.Success = refl
-bare_outcome outcome.Failure = refl
-bare_outcome outcome.Cancelled = refl
-bare_outcome outcome.Skipped = refl
+bare_outcome Outcome.Success = refl
+bare_outcome Outcome.Failure = refl
+bare_outcome Outcome.Cancelled = refl
+bare_outcome Outcome.Skipped = refl
 
 bare_colour : (stand : Stand) → has_no_quote (stand_colour stand) ≡ true
 bare_colour Waiting = refl

@@ -2,12 +2,7 @@
 -- needs. Of a board the labels say how runs, jobs and legs stand, and the nodes have a colour.
 use Rattle.std.specs.Prelude.{◌==◌, ◌+◌, ◌++◌, ℕ, suc, if◌then◌else◌, List, [], ◌∷◌, length, codes, decimal, Option, Some, None, slice_get}
 use Rattle.std.specs.List.{flat_map}
-use Rattle.flow_model.specs.declared.board.Board.{Board}
-use Rattle.flow_model.specs.declared.board.Leg.{Leg}
-use Rattle.flow_model.specs.declared.board.Run.{Run}
-use Rattle.flow_model.specs.declared.plan.JobPlan.{JobPlan}
-use Rattle.flow_model.specs.declared.plan.Plan.{Plan}
-use Rattle.flow_model.specs.declared.plan.RunPlan.{RunPlan}
+use Rattle.status_table.specs.Words.{Board, JobPlan, Leg, Plan, Run, RunPlan}
 use Rattle.command_graph.specs.Quoted.{quoted}
 use Rattle.command_graph.specs.Standing.{leg_words, legs_at, stand_at, stand_colour, stand_of_run, stand_word}
 use Rattle.command_graph.specs.declared.standing.Stand.{Stand}

@@ -1,11 +1,8 @@
 -- What `actrun graph` tells of a text: the graph of its plan, or that of the board after its entries, with the exit status
 -- that tells how the runs ended; or why there is none.
 use Rattle.std.specs.Prelude.{◌≡◌, ℕ, List, [], ◌∷◌, Some, Result, Ok, Err}
-use Rattle.flow_model.specs.declared.board.Board.{Board}
-use Rattle.flow_model.specs.declared.event.Entry.{Entry}
-use Rattle.flow_model.specs.declared.plan.Plan.{Plan}
+use Rattle.status_table.specs.Words.{Board, Entry, Plan, after}
 use Rattle.command_graph.specs.Dot.{board_graph, plan_graph}
-use Rattle.status_table.specs.Runs.{after}
 use Rattle.command_io.specs.Records.{IsStopped, OfRecord, TellsShown}
 use Rattle.command_io.specs.Runs.{runs_status}
 use Rattle.command_io.specs.Stream.{Stream}

@@ -1,10 +1,7 @@
 -- The strings of a graph: its labels, which are all that stands in quotes.
 use Rattle.std.specs.Prelude.{◌≡◌, ◌==◌, ◌+◌, ◌++◌, ℕ, suc, Bool, true, not, List, [], ◌∷◌, length, Option, Some, slice_get}
 use Rattle.std.specs.List.{list_all}
-use Rattle.flow_model.specs.declared.board.Run.{Run}
-use Rattle.flow_model.specs.declared.plan.JobPlan.{JobPlan}
-use Rattle.flow_model.specs.declared.plan.Plan.{Plan}
-use Rattle.flow_model.specs.declared.plan.RunPlan.{RunPlan}
+use Rattle.status_table.specs.Words.{JobPlan, Plan, Run, RunPlan}
 use Rattle.command_graph.specs.Dot.{job_label, legs_count, run_label}
 use Rattle.command_graph.specs.Quoted.{shown_text}
 use Rattle.command_graph.specs.Reading.{read_quoted}

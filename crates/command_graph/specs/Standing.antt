@@ -1,28 +1,17 @@
 -- How runs, jobs and legs of a board stand, in one word and one colour.
 use Rattle.std.specs.Prelude.{ℕ, ◌++◌, Bool, true, false, not, codes, if◌then◌else◌, List, [], Option, Some, None, slice_get}
 use Rattle.std.specs.List.{list_all, list_any}
-use Rattle.flow_model.specs.declared.board.Run.{Run}
-use Rattle.flow_model.specs.declared.board.RunState.{RunState}
-use Rattle.flow_model.specs.declared.board.RunState.TheVariants as run_state
-use Rattle.flow_model.specs.declared.board.Job.{Job}
-use Rattle.flow_model.specs.declared.board.JobState.{JobState}
-use Rattle.flow_model.specs.declared.board.JobState.TheVariants as job_state
-use Rattle.flow_model.specs.declared.board.Leg.{Leg}
-use Rattle.flow_model.specs.declared.board.LegState.{LegState}
-use Rattle.flow_model.specs.declared.board.LegState.TheVariants as leg_state
-use Rattle.flow_model.specs.Outcome.{outcome_word}
-use Rattle.flow_model.specs.declared.event.Outcome.{Outcome}
-use Rattle.flow_model.specs.declared.event.Outcome.TheVariants as outcome
+use Rattle.status_table.specs.Words.{Job, JobState, Leg, LegState, Outcome, Run, RunState, outcome_word}
 use Rattle.command_graph.specs.declared.standing.Stand.{Stand}
 use Rattle.command_graph.specs.declared.standing.Stand.TheVariants.{Waiting, Running, Ended}
 
 -- ---- words and colours
 
 abbrev pub outcome_colour : Outcome → List ℕ
-outcome_colour outcome.Success = codes "palegreen"
-outcome_colour outcome.Failure = codes "lightcoral"
-outcome_colour outcome.Cancelled = codes "khaki"
-outcome_colour outcome.Skipped = codes "lightgrey"
+outcome_colour Outcome.Success = codes "palegreen"
+outcome_colour Outcome.Failure = codes "lightcoral"
+outcome_colour Outcome.Cancelled = codes "khaki"
+outcome_colour Outcome.Skipped = codes "lightgrey"
 
 abbrev pub stand_word : Stand → List ℕ
 stand_word Waiting = codes "waiting"
@@ -40,69 +29,69 @@ tolerated_word false = []
 tolerated_word true = codes " tolerated"
 
 abbrev pub leg_words : LegState → List ℕ
-leg_words leg_state.Fresh = codes "fresh"
-leg_words leg_state.Waiting = codes "waiting"
-leg_words leg_state.Admitted = codes "admitted"
-leg_words (leg_state.Running worker in_call) = codes "running"
-leg_words (leg_state.Ended result tolerated) = outcome_word result ++ tolerated_word tolerated
+leg_words LegState.Fresh = codes "fresh"
+leg_words LegState.Waiting = codes "waiting"
+leg_words LegState.Admitted = codes "admitted"
+leg_words (LegState.Running worker in_call) = codes "running"
+leg_words (LegState.Ended result tolerated) = outcome_word result ++ tolerated_word tolerated
 
 -- ---- how they stand
 
 -- A leg has ended.
 abbrev pub is_ended : LegState → Bool
-is_ended leg_state.Fresh = false
-is_ended leg_state.Waiting = false
-is_ended leg_state.Admitted = false
-is_ended (leg_state.Running worker in_call) = false
-is_ended (leg_state.Ended result tolerated) = true
+is_ended LegState.Fresh = false
+is_ended LegState.Waiting = false
+is_ended LegState.Admitted = false
+is_ended (LegState.Running worker in_call) = false
+is_ended (LegState.Ended result tolerated) = true
 
 -- A leg ended with a failure that is not tolerated.
 abbrev pub has_failed : LegState → Bool
-has_failed leg_state.Fresh = false
-has_failed leg_state.Waiting = false
-has_failed leg_state.Admitted = false
-has_failed (leg_state.Running worker in_call) = false
-has_failed (leg_state.Ended outcome.Success tolerated) = false
-has_failed (leg_state.Ended outcome.Failure tolerated) = not tolerated
-has_failed (leg_state.Ended outcome.Cancelled tolerated) = false
-has_failed (leg_state.Ended outcome.Skipped tolerated) = false
+has_failed LegState.Fresh = false
+has_failed LegState.Waiting = false
+has_failed LegState.Admitted = false
+has_failed (LegState.Running worker in_call) = false
+has_failed (LegState.Ended Outcome.Success tolerated) = false
+has_failed (LegState.Ended Outcome.Failure tolerated) = not tolerated
+has_failed (LegState.Ended Outcome.Cancelled tolerated) = false
+has_failed (LegState.Ended Outcome.Skipped tolerated) = false
 
 -- A leg ended cancelled.
 abbrev pub was_cancelled : LegState → Bool
-was_cancelled leg_state.Fresh = false
-was_cancelled leg_state.Waiting = false
-was_cancelled leg_state.Admitted = false
-was_cancelled (leg_state.Running worker in_call) = false
-was_cancelled (leg_state.Ended outcome.Success tolerated) = false
-was_cancelled (leg_state.Ended outcome.Failure tolerated) = false
-was_cancelled (leg_state.Ended outcome.Cancelled tolerated) = true
-was_cancelled (leg_state.Ended outcome.Skipped tolerated) = false
+was_cancelled LegState.Fresh = false
+was_cancelled LegState.Waiting = false
+was_cancelled LegState.Admitted = false
+was_cancelled (LegState.Running worker in_call) = false
+was_cancelled (LegState.Ended Outcome.Success tolerated) = false
+was_cancelled (LegState.Ended Outcome.Failure tolerated) = false
+was_cancelled (LegState.Ended Outcome.Cancelled tolerated) = true
+was_cancelled (LegState.Ended Outcome.Skipped tolerated) = false
 
 -- The legs of a job that was opened: they run until all have ended, and come to a failure before a cancellation.
 abbrev pub legs_stand : List Leg → Stand
 legs_stand legs =
     if list_all (λ leg. is_ended leg.state) legs then Ended
-    (if list_any (λ leg. has_failed leg.state) legs then outcome.Failure
-    else (if list_any (λ leg. was_cancelled leg.state) legs then outcome.Cancelled else outcome.Success))
+    (if list_any (λ leg. has_failed leg.state) legs then Outcome.Failure
+    else (if list_any (λ leg. was_cancelled leg.state) legs then Outcome.Cancelled else Outcome.Success))
     else Running
 
 -- A job stands as its legs do where it was opened. One that was never judged ends with its run.
 abbrev pub stand_by : RunState → JobState → List Leg → Stand
-stand_by run (job_state.Shut result) legs = Ended result
-stand_by run job_state.Open legs = legs_stand legs
-stand_by run_state.New job_state.Unjudged legs = Waiting
-stand_by run_state.Waiting job_state.Unjudged legs = Waiting
-stand_by run_state.Going job_state.Unjudged legs = Waiting
-stand_by (run_state.Closed result) job_state.Unjudged legs = Ended result
+stand_by run (JobState.Shut result) legs = Ended result
+stand_by run JobState.Open legs = legs_stand legs
+stand_by RunState.New JobState.Unjudged legs = Waiting
+stand_by RunState.Waiting JobState.Unjudged legs = Waiting
+stand_by RunState.Going JobState.Unjudged legs = Waiting
+stand_by (RunState.Closed result) JobState.Unjudged legs = Ended result
 
 abbrev pub job_stand : Run → Job → Stand
 job_stand run job = stand_by run.state job.state job.legs
 
 abbrev pub run_stand : RunState → Stand
-run_stand run_state.New = Waiting
-run_stand run_state.Waiting = Waiting
-run_stand run_state.Going = Running
-run_stand (run_state.Closed result) = Ended result
+run_stand RunState.New = Waiting
+run_stand RunState.Waiting = Waiting
+run_stand RunState.Going = Running
+run_stand (RunState.Closed result) = Ended result
 
 -- ---- at a place of a run, where there is a board
 
@@ -117,9 +106,9 @@ stand_at (Some run) place = stand_there run (slice_get run.jobs place)
 
 -- The legs of the job, if it was opened.
 abbrev pub opened_legs : JobState → List Leg → List Leg
-opened_legs job_state.Unjudged legs = []
-opened_legs job_state.Open legs = legs
-opened_legs (job_state.Shut result) legs = []
+opened_legs JobState.Unjudged legs = []
+opened_legs JobState.Open legs = legs
+opened_legs (JobState.Shut result) legs = []
 
 abbrev pub legs_there : Option Job → List Leg
 legs_there None = []

@@ -8,7 +8,7 @@ use Rattle.std.specs.Io.Buffered.{reader_buffer, reader_capacity, reader_inner, 
 use Rattle.std.specs.Io.BufRead.{DropsThrough, drop_through, take_through}
 use Rattle.std.specs.Io.KnownBytes.{Consumes, prepend_known}
 use Rattle.std.specs.declared.io.buffered.BufReader.{BufReader}
-use Rattle.flow_model.specs.Lines.{is_line, lines_of}
+use Rattle.status_table.specs.Words.{is_line, lines_of}
 use Rattle.flow_model.proofs.LineLemmas.{line-passed, lines-ended, lines_of-line}
 use Rattle.flow_model.proofs.Tests.{both, pair}
 use Rattle.command_io.specs.Stream.{EndsAt, LosesPart, TakesLine}

@@ -6,7 +6,6 @@ use Rattle.command_io.specs.Stream.{Stream, IsRead}
 use Rattle.command_io.specs.Tell.{Answer, Printed, OrMemory, Says, TellsBy, printed_status, printed_text}
 use Rattle.command_io.specs.CommandError.{line, source_error, error_status}
 use Rattle.command_io.specs.declared.stream.SourceFault.{SourceFault}
-use Rattle.command_io.specs.declared.stream.SourceFault.TheVariants as source_fault
 use Rattle.command_io.specs.declared.error.CommandError.{CommandError}
 
 -- what is drawn is an answer
@@ -25,19 +24,19 @@ shown_told shows input input' out out' err err' text done answer status reads an
 pub unread_shown : (shows : Shown) (input input' out err err' : Stream) (fault : SourceFault) (status : ℕ)
     → IsRead input input' (Err fault) → Says err err' (line (source_error fault)) → status ≡ error_status (source_error fault)
     → TellsShown shows input input' out out err err' status
-unread_shown shows input input' out err err' source_fault.Failed status reads said is = record {
+unread_shown shows input input' out err err' SourceFault.Failed status reads said is = record {
   done = 0;
-  read = Err source_fault.Failed;
+  read = Err SourceFault.Failed;
   reads = reads;
-  answer = Err (source_error source_fault.Failed);
+  answer = Err (source_error SourceFault.Failed);
   answers = refl;
   told = record { kept = IsKept-same out; said = said; is = is };
 }
-unread_shown shows input input' out err err' source_fault.Memory status reads said is = record {
+unread_shown shows input input' out err err' SourceFault.Memory status reads said is = record {
   done = 0;
-  read = Err source_fault.Memory;
+  read = Err SourceFault.Memory;
   reads = reads;
-  answer = Err (source_error source_fault.Memory);
+  answer = Err (source_error SourceFault.Memory);
   answers = refl;
   told = record { kept = IsKept-same out; said = said; is = is };
 }

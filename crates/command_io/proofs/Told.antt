@@ -5,7 +5,6 @@ use Rattle.command_io.specs.Stream.{Stream, IsKept, Puts}
 use Rattle.command_io.specs.Tell.{Answer, OrMemory, Says, Tells, TellsOf, TellsSome}
 use Rattle.command_io.specs.CommandError.{line, source_error, error_status, UnlessMemory}
 use Rattle.command_io.specs.declared.stream.SourceFault.{SourceFault}
-use Rattle.command_io.specs.declared.stream.SourceFault.TheVariants as source_fault
 use Rattle.command_io.specs.declared.error.CommandError.{CommandError}
 use Rattle.command_io.specs.declared.error.CommandError.TheVariants.{NoExpression, NoValue, NoContexts, NoFlow, NotPlanned, NoPlan, NoEntry, Refused, Words, Io, Memory}
 
@@ -30,17 +29,17 @@ read_told Is Reads out out' err err' read answer status reads answers told =
 pub unread_told : {A : Type 0} (Is : A → Answer → Type 0) (Reads : Result A SourceFault → Type 0) (out err err' : Stream) (fault : SourceFault) (status : ℕ)
     → Reads (Err fault) → Says err err' (line (source_error fault)) → status ≡ error_status (source_error fault)
     → TellsOf Is Reads out out err err' status
-unread_told Is Reads out err err' source_fault.Failed status reads said is = record {
-  read = Err source_fault.Failed;
+unread_told Is Reads out err err' SourceFault.Failed status reads said is = record {
+  read = Err SourceFault.Failed;
   reads = reads;
-  answer = Err (source_error source_fault.Failed);
+  answer = Err (source_error SourceFault.Failed);
   answers = refl;
   told = record { kept = IsKept-same out; said = said; is = is };
 }
-unread_told Is Reads out err err' source_fault.Memory status reads said is = record {
-  read = Err source_fault.Memory;
+unread_told Is Reads out err err' SourceFault.Memory status reads said is = record {
+  read = Err SourceFault.Memory;
   reads = reads;
-  answer = Err (source_error source_fault.Memory);
+  answer = Err (source_error SourceFault.Memory);
   answers = refl;
   told = record { kept = IsKept-same out; said = said; is = is };
 }

@@ -1,17 +1,14 @@
 -- The errors of all commands: the line of each, and its exit status.
 use Rattle.std.specs.Prelude.{◌≡◌, ℕ, ◌++◌, codes, decimal, List}
-use Rattle.expr_reader.specs.Faults.{fault_name, fault_place}
-use Rattle.flow_model.specs.Faults.{value_fault_name}
+use Rattle.status_table.specs.Words.{event_fault_name, fault_name, fault_place, value_fault_name}
 use Rattle.flow_reader.specs.Fault.{flow_fault_name}
 use Rattle.plan_assembler.specs.Faults.{plan_fault_text}
 use Rattle.plan_assembler.specs.declared.fault.PlanFault.{PlanFault}
 use Rattle.plan_text.specs.Fault.{load_fault_name}
-use Rattle.status_table.specs.Fault.{event_fault_name}
 use Rattle.command_io.specs.Contexts.{contexts_fault_name}
 use Rattle.command_io.specs.Pictures.{shown}
 use Rattle.command_io.specs.declared.contexts.ContextsFault.{ContextsFault}
 use Rattle.command_io.specs.declared.stream.SourceFault.{SourceFault}
-use Rattle.command_io.specs.declared.stream.SourceFault.TheVariants as source_fault
 use Rattle.command_io.specs.declared.error.CommandError.{CommandError}
 use Rattle.command_io.specs.declared.error.CommandError.TheVariants.{NoExpression, NoValue, NoContexts, NoFlow, NotPlanned, NoPlan, NoEntry, Refused, Words, Io, Memory}
 
@@ -70,8 +67,8 @@ error_status Memory = 3
 
 -- The error of a source that was not read to its end.
 abbrev pub source_error : SourceFault → CommandError
-source_error source_fault.Failed = Io
-source_error source_fault.Memory = Memory
+source_error SourceFault.Failed = Io
+source_error SourceFault.Memory = Memory
 
 -- The fact holds, unless the error is want of memory.
 abbrev pub UnlessMemory : CommandError → Type 0 → Type 0

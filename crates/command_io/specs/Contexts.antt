@@ -3,16 +3,9 @@
 use Rattle.std.specs.Prelude.{◌≡◌, ℕ, Bool, if◌then◌else◌, Option, Some, None, Result, Ok, Err, List, [], ◌∷◌, codes}
 use Rattle.std.specs.List.{list_any}
 use Rattle.std.specs.Str.{bytes_eq}
+use Rattle.status_table.specs.Words.{Context, Contexts, Plain, context_name, is_within, json_read, value_of, with_pair}
 use Rattle.serde_json.specs.Data.{Data, null, boolean, number, string, array, object, Members, no_members, member}
-use Rattle.expr_reader.specs.Names.{context_name}
-use Rattle.expr_reader.specs.declared.tree.Context.{Context}
 use Rattle.expr_reader.specs.declared.tree.Context.TheVariants.{Github, Env, Vars, Job, Jobs, Steps, Runner, Secrets, Strategy, Matrix, Needs, Inputs}
-use Rattle.expr_value.specs.Context.{Contexts}
-use Rattle.flow_model.specs.Json.{value_of}
-use Rattle.flow_model.specs.Mapping.{with_pair}
-use Rattle.flow_model.specs.Plain.{Plain}
-use Rattle.flow_model.specs.Rules.{is_within}
-use Rattle.flow_model.specs.JsonText.{json_read}
 use Rattle.command_io.specs.declared.contexts.ContextsFault.{ContextsFault}
 use Rattle.command_io.specs.declared.contexts.ContextsFault.TheVariants.{NotJson, NotWhole, WrongShape}
 use Rattle.command_io.specs.declared.contexts.Unread.{Unread}

@@ -5,14 +5,14 @@ use Rattle.command_io.specs.Tell.{Says}
 use Rattle.command_io.specs.CommandError.{line, name_line}
 use Rattle.command_io.specs.declared.stop.PlayStop.{PlayStop}
 use Rattle.command_io.specs.declared.stop.PlayStop.TheVariants.{Workers, Host, Mismatch, Memory}
-use Rattle.command_io.specs.declared.error.CommandError.TheVariants as error
+use Rattle.command_io.specs.declared.error.CommandError.{CommandError}
 
 -- The line that tells why a play stopped, and its exit status.
 abbrev pub stop_line : PlayStop → List ℕ
 stop_line Workers = name_line (codes "pool") (codes "Workers")
 stop_line Host = name_line (codes "pool") (codes "Host")
 stop_line Mismatch = name_line (codes "pool") (codes "Mismatch")
-stop_line Memory = line error.Memory
+stop_line Memory = line CommandError.Memory
 
 abbrev pub stop_status : PlayStop → ℕ
 stop_status Workers = 2

@@ -5,7 +5,7 @@ use Rattle.std.specs.Io.KnownBytes.{Appends, Consumes, IsAtEnd, Keeps}
 use Rattle.std.specs.declared.alloc.Global.{Global}
 use Rattle.std.specs.declared.io.ErrorKind.{ErrorKind}
 use Rattle.std.specs.declared.io.ErrorKind.TheVariants.{OutOfMemory}
-use Rattle.flow_model.specs.Lines.{is_line, lines_of, newline}
+use Rattle.status_table.specs.Words.{is_line, lines_of, newline}
 use Rattle.command_io.specs.declared.stream.SourceFault.{SourceFault}
 use Rattle.command_io.specs.declared.stream.SourceFault.TheVariants.{Failed, Memory}
 

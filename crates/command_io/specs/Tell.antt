@@ -4,7 +4,6 @@ use Rattle.std.specs.declared.alloc.Global.{Global}
 use Rattle.command_io.specs.Stream.{Stream, IsKept, IsWritten, IsCutOff}
 use Rattle.command_io.specs.CommandError.{line, error_status, UnlessMemory}
 use Rattle.command_io.specs.declared.stream.SourceFault.{SourceFault}
-use Rattle.command_io.specs.declared.stream.SourceFault.TheVariants as source_fault
 use Rattle.command_io.specs.declared.error.CommandError.{CommandError}
 use Rattle.command_io.specs.declared.error.CommandError.TheVariants.{Io, Memory}
 
@@ -77,8 +76,8 @@ OrMemory (Err error) fact = UnlessMemory error fact
 -- An answer to what was read; where only a part was read there is none but the error.
 abbrev pub AnswersRead : {A : Type 0} → (A → Answer → Type 0) → Result A SourceFault → Answer → Type 0
 AnswersRead Is (Ok read) answer = OrMemory answer (Is read answer)
-AnswersRead Is (Err source_fault.Failed) answer = answer ≡ Err Io
-AnswersRead Is (Err source_fault.Memory) answer = answer ≡ Err Memory
+AnswersRead Is (Err SourceFault.Failed) answer = answer ≡ Err Io
+AnswersRead Is (Err SourceFault.Memory) answer = answer ≡ Err Memory
 
 -- A command reads what it is handed, and tells an answer to it; want of memory may always be answered.
 pub record TellsOf {A : Type 0} (Is : A → Answer → Type 0) (Reads : Result A SourceFault → Type 0) (out out' err err' : Stream) (status : ℕ) : Type 0 where

@@ -1,10 +1,6 @@
 -- Why a text is no expression.
 use Rattle.std.proofs.Common.{◌≡◌, ℕ, Some, None, List, Err, refl}
-use Rattle.expr_reader.specs.Expr.{Expr}
-use Rattle.expr_reader.specs.Faults.{fault_at, FaultStands, OnlyMemory, StandsIn}
-use Rattle.expr_reader.specs.Reading.{Failure}
-use Rattle.expr_reader.specs.Spells.{Spells}
-use Rattle.expr_reader.specs.declared.fault.ExprFault.{ExprFault}
+use Rattle.status_table.specs.Words.{Expr, ExprFault, Failure, FaultStands, OnlyMemory, Spells, StandsIn, fault_at}
 use Rattle.expr_reader.specs.declared.fault.ExprFault.TheVariants.{UnclosedText, BadNumber, BadChar, Unexpected, UnknownName, UnknownFunction, ArgumentCount, TooDeep, TooLong, UnclosedTemplate, StatusHere, Memory}
 use Rattle.command_print.specs.Eval.{IsNoExpression, IsTree, expression_error}
 

@@ -1,7 +1,7 @@
 -- Going over the files of workflows.
 use Rattle.std.proofs.Common.{◌≡◌, ◌∙◌, ◌<◌, ◌≤◌, ◌+◌, ℕ, List, [], ◌∷◌, ◌++◌, length, drop, get_or, ap, sym, subst, append-nil}
 use Rattle.std.proofs.lemmas.List.{drop_more, drop_all}
-use Rattle.flow_model.specs.declared.flow.Workflow.{Workflow}
+use Rattle.status_table.specs.Words.{Workflow}
 use Rattle.command_io.specs.Files.{Content}
 use Rattle.command_print.specs.Planning.{GiveFlows, GiveNoFlows}
 use Rattle.command_io.specs.declared.error.CommandError.{CommandError}

@@ -8,7 +8,6 @@ use Rattle.command_io.specs.Stream.{Stream}
 use Rattle.command_io.specs.Tell.{Answer, OrMemory, Printed, Says, TellsBy, printed_status, printed_text}
 use Rattle.command_io.specs.CommandError.{line, source_error, error_status, UnlessMemory}
 use Rattle.command_io.specs.declared.stream.SourceFault.{SourceFault}
-use Rattle.command_io.specs.declared.stream.SourceFault.TheVariants as source_fault
 use Rattle.command_io.specs.declared.error.CommandError.{CommandError}
 use Rattle.command_io.proofs.Pictures.{no_lines, lines_of_one, lines_of_all, lines_of_both}
 use Rattle.command_print.specs.Lint.{Told, IsTold, IsToldOf, IsPassed, IsRefused, AreTold, Judges, GivesLint, IsLintAnswer, LintTells, fault_text, hint_lines, lint_text, note_words, refusing_line, refusing_words}
@@ -84,19 +83,19 @@ lint_told files files' out out' err err' contents done answer status reads answe
 pub unread_lint : (files files' : List File) (out err err' : Stream) (fault : SourceFault) (status : ℕ)
     → AreRead files files' (Err fault) → Says err err' (line (source_error fault)) → status ≡ error_status (source_error fault)
     → LintTells files files' out out err err' status
-unread_lint files files' out err err' source_fault.Failed status reads said is = record {
+unread_lint files files' out err err' SourceFault.Failed status reads said is = record {
   done = 0;
-  read = Err source_fault.Failed;
+  read = Err SourceFault.Failed;
   reads = reads;
-  answer = Err (source_error source_fault.Failed);
+  answer = Err (source_error SourceFault.Failed);
   answers = refl;
   told = record { kept = IsKept-same out; said = said; is = is };
 }
-unread_lint files files' out err err' source_fault.Memory status reads said is = record {
+unread_lint files files' out err err' SourceFault.Memory status reads said is = record {
   done = 0;
-  read = Err source_fault.Memory;
+  read = Err SourceFault.Memory;
   reads = reads;
-  answer = Err (source_error source_fault.Memory);
+  answer = Err (source_error SourceFault.Memory);
   answers = refl;
   told = record { kept = IsKept-same out; said = said; is = is };
 }

@@ -1,8 +1,6 @@
 -- Files come to one plan at most.
 use Rattle.std.proofs.Common.{◌≡◌, ◌∙◌, ℕ, List, [], ◌∷◌, ap, sym, subst, refl}
-use Rattle.flow_model.specs.declared.flow.Workflow.{Workflow}
-use Rattle.flow_model.specs.declared.plan.Plan.{Plan}
-use Rattle.flow_model.specs.declared.plan.Roots.{Roots}
+use Rattle.status_table.specs.Words.{Plan, Roots, Workflow}
 use Rattle.plan_assembler.specs.Laws.{OnePlan, OneStaging}
 use Rattle.plan_assembler.specs.Plans.{Assembles}
 use Rattle.plan_assembler.specs.Stages.{stage_after}

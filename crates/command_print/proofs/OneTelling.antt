@@ -1,11 +1,6 @@
 -- The places of a record are told in one way.
 use Rattle.std.proofs.Common.{◌≡◌, ℕ, zero, suc, inl, inr, List, [], ◌∷◌, ◌++◌, Some, Result, Ok, length, take, ap, sym, subst, ◌∙◌}
-use Rattle.flow_model.specs.declared.board.Board.{Board}
-use Rattle.flow_model.specs.declared.board.Run.{Run}
-use Rattle.flow_model.specs.declared.board.Job.{Job}
-use Rattle.flow_model.specs.declared.board.Leg.{Leg}
-use Rattle.flow_model.specs.declared.event.Entry.{Entry}
-use Rattle.flow_model.specs.declared.plan.Plan.{Plan}
+use Rattle.status_table.specs.Words.{Board, Entry, Job, Leg, Plan, Run}
 use Rattle.plan_text.specs.BoardText.{job_line, run_line}
 use Rattle.plan_text.specs.Changes.{IsSameLeg, IsSameRun, TellsBoth, TellsChanges, TellsEach, TellsJob, TellsJobs, TellsLeg, TellsLegs, TellsRun, ToldUnless, after_job, after_leg, after_run, later_ends, leg_change}
 use Rattle.plan_text.specs.declared.fault.LoadFault.{LoadFault}

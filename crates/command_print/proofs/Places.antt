@@ -1,12 +1,9 @@
 -- The places of a record are told one after the other.
 use Rattle.std.proofs.Common.{◌≡◌, ℕ, suc, ◌+◌, ◌<◌, List, [], ◌∷◌, Some, String, string_bytes, length, take, get_or, sym, subst, arith}
 use Rattle.std.specs.declared.alloc.Global.{Global}
-use Rattle.flow_model.specs.declared.board.Board.{Board}
-use Rattle.flow_model.specs.declared.event.Entry.{Entry}
-use Rattle.flow_model.specs.declared.plan.Plan.{Plan}
+use Rattle.status_table.specs.Words.{Board, Entry, Plan, after_from, new_board}
 use Rattle.plan_text.specs.Changes.{AddsOf}
 use Rattle.status_table.proofs.RunsLemmas.{after_from-next}
-use Rattle.status_table.specs.Runs.{after_from, new_board}
 use Rattle.command_print.specs.Changes.{TellsPlace, TellsPlaces}
 use Rattle.command_print.specs.Replay.{LeadsTo}
 

@@ -3,19 +3,13 @@ use Rattle.std.proofs.Common.{◌≡◌, ◌≤◌, ◌<◌, ℕ, false, List, l
 use Rattle.std.proofs.lemmas.Bool.{true≢false}
 use Rattle.std.proofs.lemmas.List.{length-take-le}
 use Rattle.std.proofs.lemmas.Option.{slice_get_within}
-use Rattle.flow_model.specs.Rules.{IsPlan}
-use Rattle.flow_model.specs.declared.board.Board.{Board}
-use Rattle.flow_model.specs.declared.event.Entry.{Entry}
-use Rattle.flow_model.specs.declared.plan.Plan.{Plan}
-use Rattle.status_table.specs.Fault.{is_memory}
-use Rattle.status_table.specs.Runs.{after}
+use Rattle.status_table.specs.Words.{Board, Entry, IsPlan, Plan, after, is_memory}
 use Rattle.status_table.specs.declared.fault.EventFault.{EventFault}
-use Rattle.status_table.specs.declared.fault.EventFault.TheVariants as event_fault
 use Rattle.step_host.specs.Replay.{IsRefusedAt}
 use Rattle.command_io.proofs.Stopped.{has_line, stopped}
 use Rattle.command_io.specs.Records.{HasLine, IsStopped, stop_error}
 
-no_memory : (f : EventFault) → is_memory f ≡ false → f ≡ event_fault.Memory → ⊥
+no_memory : (f : EventFault) → is_memory f ≡ false → f ≡ EventFault.Memory → ⊥
 no_memory f other is = true≢false (sym (ap is_memory is) ∙ other)
 
 pub stopped_settled : (p : Plan) (es : List Entry) (i : ℕ) (f : EventFault) → IsRefusedAt p es (i, f) → IsStopped p es (stop_error i f)

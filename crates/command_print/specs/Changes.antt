@@ -2,14 +2,9 @@
 -- board there has otherwise than the board one place before.
 use Rattle.std.specs.Prelude.{◌≡◌, ◌++◌, ℕ, zero, suc, List, [], ◌∷◌, codes, decimal, length, take, Some, Result, Ok, Err, String}
 use Rattle.std.specs.declared.alloc.Global.{Global}
-use Rattle.flow_model.specs.declared.board.Board.{Board}
-use Rattle.flow_model.specs.declared.event.Entry.{Entry}
-use Rattle.flow_model.specs.declared.plan.Plan.{Plan}
+use Rattle.status_table.specs.Words.{Board, Entry, Plan, Refuses, StopsAt, after_from, new_board, row}
 use Rattle.plan_text.specs.BoardText.{board_text}
 use Rattle.plan_text.specs.Changes.{AddsOf, TellsBoth, TellsChanges}
-use Rattle.status_table.specs.Answers.{Refuses}
-use Rattle.status_table.specs.Row.{row}
-use Rattle.status_table.specs.Runs.{StopsAt, after_from, new_board}
 use Rattle.status_table.specs.declared.fault.EventFault.{EventFault}
 use Rattle.command_io.specs.Records.{IsStopped, OfRecord, TellsShown}
 use Rattle.command_io.specs.Runs.{runs_status}

@@ -1,21 +1,10 @@
 -- What `actrun eval` tells: the value of an expression over the contexts of a file, or why there is none.
 use Rattle.std.specs.Prelude.{◌≡◌, ℕ, ◌++◌, codes, if◌then◌else◌, is_none, List, String, Some, Result, Ok, Err}
 use Rattle.std.specs.declared.alloc.Global.{Global}
+use Rattle.status_table.specs.Words.{Contexts, Expr, ExprFault, Failure, IsExpression, Plain, Spells, StandsIn, Tree, ValueFault, evaluated, fault_at, json_of}
 use Rattle.serde_json.specs.Written.{compact_text}
-use Rattle.expr_reader.specs.Expr.{Expr}
-use Rattle.expr_reader.specs.Faults.{fault_at, StandsIn}
-use Rattle.expr_reader.specs.Reading.{Failure}
-use Rattle.expr_reader.specs.Spells.{Spells, IsExpression}
 use Rattle.expr_reader.specs.View.{view}
-use Rattle.expr_reader.specs.declared.fault.ExprFault.{ExprFault}
-use Rattle.expr_reader.specs.declared.tree.Tree.{Tree}
-use Rattle.expr_value.specs.Context.{Contexts}
-use Rattle.expr_value.specs.Evaluate.{evaluated}
 use Rattle.expr_value.specs.declared.status.Status.TheVariants.{Success}
-use Rattle.flow_model.specs.Json.{json_of}
-use Rattle.flow_model.specs.Plain.{Plain}
-use Rattle.flow_model.specs.declared.reply.ValueFault.{ValueFault}
-use Rattle.flow_model.specs.declared.reply.ValueFault.TheVariants as value_fault
 use Rattle.command_io.specs.Contexts.{file_contexts}
 use Rattle.command_io.specs.Stream.{Stream, IsRead}
 use Rattle.command_io.specs.Tell.{Answer, OrMemory, TellsOf, answer_seen}
@@ -37,12 +26,12 @@ pub record IsNoExpression (expression : List ℕ) (fault : ExprFault) : Type 0 w
 
 -- The fault is another than want of memory.
 abbrev pub IsNamed : ValueFault → Type 0
-IsNamed value_fault.NotWhole = Unit {0}
-IsNamed value_fault.NoIdentity = Unit {0}
-IsNamed value_fault.BadFormat = Unit {0}
-IsNamed value_fault.BadJson = Unit {0}
-IsNamed value_fault.TooLarge = Unit {0}
-IsNamed value_fault.Memory = ⊥
+IsNamed ValueFault.NotWhole = Unit {0}
+IsNamed ValueFault.NoIdentity = Unit {0}
+IsNamed ValueFault.BadFormat = Unit {0}
+IsNamed ValueFault.BadJson = Unit {0}
+IsNamed ValueFault.TooLarge = Unit {0}
+IsNamed ValueFault.Memory = ⊥
 
 -- The compact JSON of a value, and a newline.
 abbrev pub value_line : Plain → List ℕ

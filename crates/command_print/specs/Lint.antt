@@ -3,9 +3,9 @@
 use Rattle.std.specs.Prelude.{◌≡◌, ℕ, ◌++◌, codes, if◌then◌else◌, Bool, true, false, List, [], ◌∷◌, flat_map, String, Option, Some, None, Result, Ok, Err}
 use Rattle.std.specs.List.{list_any}
 use Rattle.std.specs.declared.alloc.Global.{Global}
+use Rattle.status_table.specs.Words.{Plan}
 use Rattle.flow_lint.specs.Hints.{AreHints}
 use Rattle.flow_lint.specs.Notes.{IsFlowPlace, IsPlanNote}
-use Rattle.flow_model.specs.declared.plan.Plan.{Plan}
 use Rattle.flow_lint.specs.declared.note.Note.{Note}
 use Rattle.flow_reader.specs.Fault.{flow_fault_name}
 use Rattle.plan_assembler.specs.Faults.{plan_fault_text}

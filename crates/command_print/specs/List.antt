@@ -1,9 +1,7 @@
 -- What `actrun list` tells: the jobs of the plan of all workflows by their stages, or why there is no plan.
 use Rattle.std.specs.Prelude.{◌≡◌, ◌==◌, ℕ, suc, ◌++◌, codes, decimal, if◌then◌else◌, List, [], ◌∷◌, flat_map, slice_get, String, Option, Some, None, Result, Ok, Err}
 use Rattle.std.specs.declared.alloc.Global.{Global}
-use Rattle.flow_model.specs.declared.plan.JobPlan.{JobPlan}
-use Rattle.flow_model.specs.declared.plan.Plan.{Plan}
-use Rattle.flow_model.specs.declared.plan.RunPlan.{RunPlan}
+use Rattle.status_table.specs.Words.{JobPlan, Plan, RunPlan}
 use Rattle.plan_assembler.specs.Staging.{AreStageLists}
 use Rattle.plan_assembler.specs.declared.choice.Choice.TheVariants.{All}
 use Rattle.command_io.specs.Files.{File, Content, AreRead, no_contexts}

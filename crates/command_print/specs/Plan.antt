@@ -1,8 +1,8 @@
 -- What `actrun plan` tells: the text of the plan that the workflows' files come to, or why there is none.
 use Rattle.std.specs.Prelude.{◌≡◌, ℕ, ◌++◌, codes, List, [], ◌∷◌, String, Result, Ok, Err}
 use Rattle.std.specs.declared.alloc.Global.{Global}
+use Rattle.status_table.specs.Words.{Plan}
 use Rattle.serde_json.specs.Written.{compact_text}
-use Rattle.flow_model.specs.declared.plan.Plan.{Plan}
 use Rattle.plan_assembler.specs.declared.choice.Choice.{Choice}
 use Rattle.plan_documents.specs.Document.{document}
 use Rattle.plan_text.specs.Load.{load}

@@ -1,18 +1,13 @@
 -- The plan that files come to: contexts and workflows are read of them, and a choice of the workflows is planned.
 use Rattle.std.specs.Prelude.{◌≡◌, ℕ, ◌⊎◌, List, [], ◌∷◌, Option, Some, Result, Ok, Err}
-use Rattle.flow_model.specs.Rules.{IsPlan}
-use Rattle.flow_model.specs.declared.flow.Workflow.{Workflow}
-use Rattle.flow_model.specs.declared.plan.Plan.{Plan}
-use Rattle.flow_model.specs.declared.plan.Roots.{Roots}
+use Rattle.status_table.specs.Words.{IsPlan, Plan, Roots, Workflow}
 use Rattle.flow_reader.specs.Checked.{Checked}
 use Rattle.flow_reader.specs.Load.{flow_read, roots_read, Tells}
 use Rattle.flow_reader.specs.declared.fault.FlowFault.{FlowFault}
-use Rattle.flow_reader.specs.declared.fault.FlowFault.TheVariants as flow_fault
 use Rattle.plan_assembler.specs.Plans.{Assembles}
 use Rattle.plan_assembler.specs.Refusals.{Refuses}
 use Rattle.plan_assembler.specs.declared.choice.Choice.{Choice}
 use Rattle.plan_assembler.specs.declared.fault.PlanFault.{PlanFault}
-use Rattle.plan_assembler.specs.declared.fault.PlanFault.TheVariants as plan_fault
 use Rattle.command_io.specs.Files.{Content}
 use Rattle.command_io.specs.CommandError.{UnlessMemory}
 use Rattle.command_io.specs.declared.error.CommandError.{CommandError}
@@ -39,7 +34,7 @@ GiveFlows (file ∷ files) (flow ∷ flows) = GivesFlow file flow × GiveFlows f
 pub record IsFaulty {A : Type 0} (name : List ℕ) (meaning : Option (Checked A)) (error : CommandError) : Type 0 where
   pub fault : FlowFault
   pub is : error ≡ NoFlow name fault
-  pub named : fault ≡ flow_fault.Memory → ⊥
+  pub named : fault ≡ FlowFault.Memory → ⊥
   pub stands : Tells {A = A} (Err fault) meaning
 
 -- A file gives no contexts.
@@ -95,15 +90,15 @@ IsPlanned flows roots choice plan = Assembles flows roots choice plan × IsPlan 
 
 -- The error of a fault of planning.
 abbrev pub plan_error : PlanFault → CommandError
-plan_error plan_fault.UnknownNeed = NotPlanned plan_fault.UnknownNeed
-plan_error plan_fault.Cycle = NotPlanned plan_fault.Cycle
-plan_error plan_fault.UnknownJob = NotPlanned plan_fault.UnknownJob
-plan_error plan_fault.NoWorkflow = NotPlanned plan_fault.NoWorkflow
-plan_error plan_fault.TooMany = NotPlanned plan_fault.TooMany
-plan_error (plan_fault.Expr place fault) = NotPlanned (plan_fault.Expr place fault)
-plan_error (plan_fault.Matrix number fault) = NotPlanned (plan_fault.Matrix number fault)
-plan_error plan_fault.Memory = Memory
+plan_error PlanFault.UnknownNeed = NotPlanned PlanFault.UnknownNeed
+plan_error PlanFault.Cycle = NotPlanned PlanFault.Cycle
+plan_error PlanFault.UnknownJob = NotPlanned PlanFault.UnknownJob
+plan_error PlanFault.NoWorkflow = NotPlanned PlanFault.NoWorkflow
+plan_error PlanFault.TooMany = NotPlanned PlanFault.TooMany
+plan_error (PlanFault.Expr place fault) = NotPlanned (PlanFault.Expr place fault)
+plan_error (PlanFault.Matrix number fault) = NotPlanned (PlanFault.Matrix number fault)
+plan_error PlanFault.Memory = Memory
 
 -- The error of a fault in the file of that name.
 abbrev pub TellsFault : List ℕ → FlowFault → CommandError → Type 0
-TellsFault name fault error = UnlessMemory error ((fault ≡ flow_fault.Memory → ⊥) × (error ≡ NoFlow name fault))
+TellsFault name fault error = UnlessMemory error ((fault ≡ FlowFault.Memory → ⊥) × (error ≡ NoFlow name fault))

@@ -7,12 +7,12 @@ use Rattle.std.proofs.lemmas.Str.{IsUtf8-append, IsUtf8-from_is_utf8, is_utf8-fr
 use Rattle.std.specs.Prelude.{IsErr}
 use Rattle.std.specs.Str.{IsUtf8, is_utf8}
 use Rattle.std.specs.declared.alloc.AllocError.{AllocError}
+use Rattle.status_table.specs.Words.{is_line, lines_of, newline, onto_first}
 use Rattle.command_io.proofs.Known.{Appends-nothing, Appends-then, puts_more}
 use Rattle.command_io.proofs.Told.{IsKept-same, Puts-as}
 use Rattle.command_io.specs.Stream.{Stream, IsCutOff, IsWritten, Puts, TakesLine, TakesLines}
 use Rattle.flow_model.proofs.LineLemmas.{lines_of-line}
 use Rattle.flow_model.proofs.Tests.{pair}
-use Rattle.flow_model.specs.Lines.{is_line, lines_of, newline, onto_first}
 use Rattle.flow_commands.specs.CommandTexts.{commands, read_from}
 use Rattle.flow_commands.specs.Logs.{Told, bytes_told, leg_masks, line_text, lines_text, lines_told, logs_text, mask_for, no_text, of_leg, told_with}
 use Rattle.flow_commands.specs.Shown.{masks_added, shown}

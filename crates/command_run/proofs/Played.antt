@@ -1,29 +1,16 @@
 -- What one thread or several workers played is what a run tells of.
 use Rattle.std.proofs.Common.{◌≡◌, ℕ, ◌⊎◌, inl, inr, true, List, take, Option, Some, None, Result, Ok, Err, IfOk, IfErr, [], append-nil, refl, subst, sym, arith}
-use Rattle.flow_model.specs.Answer.{is_well_formed}
-use Rattle.flow_model.specs.Sound.{Each}
-use Rattle.flow_model.specs.declared.board.Board.{Board}
-use Rattle.flow_model.specs.declared.event.Answer.{Answer}
-use Rattle.flow_model.specs.declared.event.Entry.{Entry}
-use Rattle.flow_model.specs.declared.event.Event.{Event}
-use Rattle.flow_model.specs.declared.event.Event.TheVariants as event
-use Rattle.flow_model.specs.declared.plan.Plan.{Plan}
-use Rattle.flow_model.specs.declared.reply.StepCall.{StepCall}
+use Rattle.status_table.specs.Words.{Answer, Board, Each, Entry, Event, Plan, StepCall, after, finished, is_well_formed, open_call, stalled}
 use Rattle.step_host.specs.Lawful.{EndsAdmitted, IsAdmitted, Lawful}
 use Rattle.step_host.specs.Masked.{IsMasked}
-use Rattle.step_host.specs.declared.fault.HostFault.TheVariants as host_fault
-use Rattle.status_table.specs.Calls.{open_call}
-use Rattle.status_table.specs.Moves.{finished, stalled}
-use Rattle.status_table.specs.Runs.{after}
+use Rattle.step_host.specs.declared.fault.HostFault.{HostFault}
 use Rattle.worker_pool.specs.Alone.{EndsAlone, EndsSo, PlayedAlone}
 use Rattle.worker_pool.specs.Fault.{IsUnanswered, StopsAlone}
 use Rattle.worker_pool.specs.History.{AreOf}
 use Rattle.worker_pool.specs.Many.{AreBelow, AreNoWorkers, EndsByMany, PlayedByMany, StopsByMany}
 use Rattle.worker_pool.specs.Told.{Begins, WasTold, WasToldAll}
 use Rattle.worker_pool.specs.declared.fault.PoolFault.{PoolFault}
-use Rattle.worker_pool.specs.declared.fault.PoolFault.TheVariants as pool
 use Rattle.worker_pool.specs.declared.played.Ending.{Ending}
-use Rattle.worker_pool.specs.declared.played.Ending.TheVariants as ending
 use Rattle.worker_pool.specs.declared.played.Played.{Played}
 use Rattle.command_run.specs.PlanMasks.{plan_masks}
 use Rattle.command_run.specs.Playing.{EndsPlayed, GivesMasked, HasEnded, IsLeftInCall, IsPlayed, MasksAnswers, StopsPlayed}
@@ -44,16 +31,16 @@ masked_call masks admits hides (Some call) a h = hides call a h
 
 masked_event : (masks : List (List ℕ)) (admits : StepCall → Answer → Type 0) → MasksAnswers masks admits → (calls : ℕ → Option StepCall) (e : Event)
     → EndsAdmitted admits calls e → GivesMasked masks e
-masked_event masks admits hides calls (event.Open r) h = tt
-masked_event masks admits hides calls (event.Judge j) h = tt
-masked_event masks admits hides calls (event.Ask l) h = tt
-masked_event masks admits hides calls (event.Drop l) h = tt
-masked_event masks admits hides calls (event.Take l) h = tt
-masked_event masks admits hides calls (event.Begin l) h = tt
-masked_event masks admits hides calls (event.End l a) h = masked_call masks admits hides (calls l) a h
-masked_event masks admits hides calls (event.Finish l) h = tt
-masked_event masks admits hides calls (event.Close r) h = tt
-masked_event masks admits hides calls (event.Cancel r) h = tt
+masked_event masks admits hides calls (Event.Open r) h = tt
+masked_event masks admits hides calls (Event.Judge j) h = tt
+masked_event masks admits hides calls (Event.Ask l) h = tt
+masked_event masks admits hides calls (Event.Drop l) h = tt
+masked_event masks admits hides calls (Event.Take l) h = tt
+masked_event masks admits hides calls (Event.Begin l) h = tt
+masked_event masks admits hides calls (Event.End l a) h = masked_call masks admits hides (calls l) a h
+masked_event masks admits hides calls (Event.Finish l) h = tt
+masked_event masks admits hides calls (Event.Close r) h = tt
+masked_event masks admits hides calls (Event.Cancel r) h = tt
 
 masked_all : (p : Plan) (admits : StepCall → Answer → Type 0) → MasksAnswers (plan_masks p) admits → (es : List Entry) → Lawful admits p es
     → Each (λ e. GivesMasked (plan_masks p) e.event) es
@@ -74,8 +61,8 @@ alone_is_played admits p es hides h =
 
 -- how a play ended, by its board
 ends : (p : Plan) (b : Board) (how : Ending) → EndsSo p b how → (finished b ≡ true) ⊎ (stalled p b ≡ true)
-ends p b ending.Done h = inl h
-ends p b ending.Stalled h = inr h
+ends p b Ending.Done h = inl h
+ends p b Ending.Stalled h = inr h
 
 ended_at : (p : Plan) (es : List Entry) (b : Board) (how : Ending) → after p es ≡ Some b → EndsSo p b how → HasEnded p es
 ended_at p es b how leads h = record { board = b; leads = leads; ends = ends p b how h }
@@ -94,11 +81,11 @@ left_in_call declines p es l step h = record { leg = l; step = step; call = h.0;
 
 stopped_alone : (admits : StepCall → Answer → Type 0) (declines : StepCall → Type 0) (p : Plan) (fault : PoolFault) → MasksAnswers (plan_masks p) admits
     → StopsAlone admits declines p fault → StopsPlayed p 1 fault
-stopped_alone admits declines p pool.Workers hides h = absurd h
-stopped_alone admits declines p (pool.Host l step host_fault.NoAnswer es) hides h = (alone_is_played admits p es hides h.0, left_in_call declines p es l step h.1)
-stopped_alone admits declines p (pool.Host l step host_fault.Memory es) hides h = absurd h
-stopped_alone admits declines p (pool.Mismatch es) hides h = absurd h
-stopped_alone admits declines p (pool.Memory es) hides h = alone_is_played admits p es hides h
+stopped_alone admits declines p PoolFault.Workers hides h = absurd h
+stopped_alone admits declines p (PoolFault.Host l step HostFault.NoAnswer es) hides h = (alone_is_played admits p es hides h.0, left_in_call declines p es l step h.1)
+stopped_alone admits declines p (PoolFault.Host l step HostFault.Memory es) hides h = absurd h
+stopped_alone admits declines p (PoolFault.Mismatch es) hides h = absurd h
+stopped_alone admits declines p (PoolFault.Memory es) hides h = alone_is_played admits p es hides h
 
 stopped_is_played : (admits : StepCall → Answer → Type 0) (declines : StepCall → Type 0) (p : Plan) (workers : ℕ) (fault : PoolFault)
     → MasksAnswers (plan_masks p) admits → workers ≡ 1 → StopsAlone admits declines p fault → StopsPlayed p workers fault
@@ -129,15 +116,15 @@ many_are_played admits p workers played hides some h =
     }
 
 many_stopped : (admits : StepCall → Answer → Type 0) (declines : StepCall → Type 0) (p : Plan) (workers : ℕ) (r : Result Played PoolFault) (fault : PoolFault)
-    → MasksAnswers (plan_masks p) admits → r ≡ Err fault → (AreNoWorkers workers → r ≡ Err pool.Workers) → StopsByMany admits declines p workers fault
+    → MasksAnswers (plan_masks p) admits → r ≡ Err fault → (AreNoWorkers workers → r ≡ Err PoolFault.Workers) → StopsByMany admits declines p workers fault
     → StopsPlayed p workers fault
-many_stopped admits declines p workers r pool.Workers hides is only h = h
-many_stopped admits declines p workers r (pool.Host l step host_fault.NoAnswer es) hides is only h =
+many_stopped admits declines p workers r PoolFault.Workers hides is only h = h
+many_stopped admits declines p workers r (PoolFault.Host l step HostFault.NoAnswer es) hides is only h =
     (by_many admits p workers es hides (λ none. let no = only none in absurd (cc (is, no))) h.0, left_in_call declines p es l step h.1)
-many_stopped admits declines p workers r (pool.Host l step host_fault.Memory es) hides is only h = absurd h
-many_stopped admits declines p workers r (pool.Mismatch es) hides is only h =
+many_stopped admits declines p workers r (PoolFault.Host l step HostFault.Memory es) hides is only h = absurd h
+many_stopped admits declines p workers r (PoolFault.Mismatch es) hides is only h =
     by_many admits p workers es hides (λ none. let no = only none in absurd (cc (is, no))) h
-many_stopped admits declines p workers r (pool.Memory es) hides is only h =
+many_stopped admits declines p workers r (PoolFault.Memory es) hides is only h =
     by_many admits p workers es hides (λ none. let no = only none in absurd (cc (is, no))) h
 
 -- ---- the same of what is given where there may be a fault
@@ -153,12 +140,12 @@ alone_stops_played admits declines p workers (Ok played) hides one h = tt
 alone_stops_played admits declines p workers (Err fault) hides one h = stopped_is_played admits declines p workers fault hides one h
 
 pub many_end_played : (admits : StepCall → Answer → Type 0) (p : Plan) (workers : ℕ) (r : Result Played PoolFault) → MasksAnswers (plan_masks p) admits
-    → (AreNoWorkers workers → r ≡ Err pool.Workers) → IfOk r (EndsByMany admits p workers) → IfOk r (EndsPlayed p workers)
+    → (AreNoWorkers workers → r ≡ Err PoolFault.Workers) → IfOk r (EndsByMany admits p workers) → IfOk r (EndsPlayed p workers)
 many_end_played admits p workers (Ok played) hides only h = many_are_played admits p workers played hides (λ none. let no = only none in cc no) h
 many_end_played admits p workers (Err fault) hides only h = tt
 
 pub many_stop_played : (admits : StepCall → Answer → Type 0) (declines : StepCall → Type 0) (p : Plan) (workers : ℕ) (r : Result Played PoolFault)
-    → MasksAnswers (plan_masks p) admits → (AreNoWorkers workers → r ≡ Err pool.Workers) → IfErr r (StopsByMany admits declines p workers)
+    → MasksAnswers (plan_masks p) admits → (AreNoWorkers workers → r ≡ Err PoolFault.Workers) → IfErr r (StopsByMany admits declines p workers)
     → IfErr r (StopsPlayed p workers)
 many_stop_played admits declines p workers (Ok played) hides only h = tt
 many_stop_played admits declines p workers (Err fault) hides only h = many_stopped admits declines p workers (Err fault) fault hides refl only h
@@ -170,7 +157,7 @@ begins_itself es = ([], sym (append-nil es))
 
 pub told_of_all : (told : List Entry → Type 0) (r : Result Played PoolFault) → WasToldAll told r → WasTold told r
 told_of_all told (Ok played) h = (played.history, h, refl)
-told_of_all told (Err pool.Workers) h = absurd h
-told_of_all told (Err (pool.Host l step f es)) h = (es, h, begins_itself es)
-told_of_all told (Err (pool.Mismatch es)) h = (es, h, begins_itself es)
-told_of_all told (Err (pool.Memory es)) h = (es, h, begins_itself es)
+told_of_all told (Err PoolFault.Workers) h = absurd h
+told_of_all told (Err (PoolFault.Host l step f es)) h = (es, h, begins_itself es)
+told_of_all told (Err (PoolFault.Mismatch es)) h = (es, h, begins_itself es)
+told_of_all told (Err (PoolFault.Memory es)) h = (es, h, begins_itself es)

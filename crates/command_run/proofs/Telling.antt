@@ -3,12 +3,11 @@ use Rattle.std.proofs.Common.{◌≡◌, ℕ, suc, ◌+◌, ◌<◌, ◌≤◌, 
 use Rattle.std.proofs.Math.Seq.{drop-cons, take-suc}
 use Rattle.std.specs.Prelude.{IsErr}
 use Rattle.std.specs.declared.alloc.AllocError.{AllocError}
+use Rattle.status_table.specs.Words.{Entry, Plan}
 use Rattle.command_io.proofs.Known.{Appends-kept, Appends-nothing, Appends-then}
 use Rattle.command_io.proofs.Told.{IsKept-same}
 use Rattle.command_io.specs.Stream.{Stream, IsCutOff, IsKept, IsWritten, Puts}
 use Rattle.flow_commands.specs.Logs.{Log, logs_text}
-use Rattle.flow_model.specs.declared.event.Entry.{Entry}
-use Rattle.flow_model.specs.declared.plan.Plan.{Plan}
 use Rattle.plan_text.specs.Record.{record_text}
 use Rattle.command_run.specs.PlanMasks.{plan_masks}
 use Rattle.command_run.specs.RecordFile.{Keeping, Kept, Writes}

@@ -2,7 +2,7 @@
 use Rattle.std.specs.Prelude.{◌≡◌, ℕ, suc, Bool, ◌==◌, nat_lt, if◌then◌else◌, List, [], ◌∷◌, length, Option, Some, None}
 use Rattle.std.specs.List.{after_first, before_first, position_or_len}
 use Rattle.std.specs.Str.{is_utf8}
-use Rattle.flow_model.specs.Mapping.{with_pair}
+use Rattle.status_table.specs.Words.{with_pair}
 use Rattle.flow_commands.specs.PairFiles.{Pair}
 
 -- the sign `=`

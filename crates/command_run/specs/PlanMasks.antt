@@ -1,8 +1,6 @@
 -- The masks that the secrets of a plan are.
 use Rattle.std.specs.Prelude.{ℕ, List, [], ◌∷◌, ◌++◌, flat_map}
-use Rattle.flow_model.specs.Plain.{Plain, null, truth, whole, text, list, map as plain_map, Items, no_items, item, Members, no_members, member}
-use Rattle.flow_model.specs.declared.plan.Plan.{Plan}
-use Rattle.flow_model.specs.declared.plan.RunPlan.{RunPlan}
+use Rattle.status_table.specs.Words.{Items, Members, Plain, Plan, RunPlan, item, list, map as plain_map, member, no_items, no_members, null, text, truth, whole}
 
 -- the text, if it has a byte
 abbrev pub some_text : List ℕ → List (List ℕ)

@@ -1,28 +1,15 @@
 -- What is played of a plan.
 use Rattle.std.specs.Prelude.{◌≡◌, ℕ, ◌⊎◌, true, List, [], Option, Some, None, Result, Ok, Err}
+use Rattle.status_table.specs.Words.{Answer, Board, Each, Entry, Event, Plan, Play, StepCall, after, finished, is_well_formed, stalled}
 use Rattle.command_io.specs.declared.stop.PlayStop.{PlayStop}
-use Rattle.command_io.specs.declared.stop.PlayStop.TheVariants as stop
-use Rattle.flow_model.specs.Answer.{is_well_formed}
-use Rattle.flow_model.specs.Sound.{Each}
-use Rattle.flow_model.specs.declared.board.Board.{Board}
-use Rattle.flow_model.specs.declared.event.Answer.{Answer}
-use Rattle.flow_model.specs.declared.event.Entry.{Entry}
-use Rattle.flow_model.specs.declared.event.Event.{Event}
-use Rattle.flow_model.specs.declared.event.Event.TheVariants as event
-use Rattle.flow_model.specs.declared.plan.Plan.{Plan}
-use Rattle.flow_model.specs.declared.reply.StepCall.{StepCall}
 use Rattle.command_run.specs.Growing.{WereAccepted}
 use Rattle.command_run.specs.PlanMasks.{plan_masks}
 use Rattle.command_run.specs.declared.playing.Playing.{Playing}
-use Rattle.status_table.specs.Moves.{finished, stalled}
-use Rattle.status_table.specs.Play.{Play}
-use Rattle.status_table.specs.Runs.{after}
 use Rattle.step_host.specs.Masked.{IsMasked}
 use Rattle.worker_pool.specs.Fault.{InCall}
 use Rattle.worker_pool.specs.History.{NoCancel}
 use Rattle.worker_pool.specs.Many.{AreBelow, AreNoWorkers}
 use Rattle.worker_pool.specs.declared.fault.PoolFault.{PoolFault}
-use Rattle.worker_pool.specs.declared.fault.PoolFault.TheVariants as pool
 use Rattle.worker_pool.specs.declared.played.Played.{Played}
 
 -- A host gives no answer but the masked form of one that is well-formed.
@@ -31,16 +18,16 @@ MasksAnswers masks admits = (call : StepCall) (answer : Answer) → admits call 
 
 -- The answer of an event, if it is an End, is masked so.
 abbrev pub GivesMasked : List (List ℕ) → Event → Type 0
-GivesMasked masks (event.Open r) = Unit {0}
-GivesMasked masks (event.Judge j) = Unit {0}
-GivesMasked masks (event.Ask l) = Unit {0}
-GivesMasked masks (event.Drop l) = Unit {0}
-GivesMasked masks (event.Take l) = Unit {0}
-GivesMasked masks (event.Begin l) = Unit {0}
-GivesMasked masks (event.End l answer) = IsMasked masks (λ plain. is_well_formed plain ≡ true) answer
-GivesMasked masks (event.Finish l) = Unit {0}
-GivesMasked masks (event.Close r) = Unit {0}
-GivesMasked masks (event.Cancel r) = Unit {0}
+GivesMasked masks (Event.Open r) = Unit {0}
+GivesMasked masks (Event.Judge j) = Unit {0}
+GivesMasked masks (Event.Ask l) = Unit {0}
+GivesMasked masks (Event.Drop l) = Unit {0}
+GivesMasked masks (Event.Take l) = Unit {0}
+GivesMasked masks (Event.Begin l) = Unit {0}
+GivesMasked masks (Event.End l answer) = IsMasked masks (λ plain. is_well_formed plain ≡ true) answer
+GivesMasked masks (Event.Finish l) = Unit {0}
+GivesMasked masks (Event.Close r) = Unit {0}
+GivesMasked masks (Event.Cancel r) = Unit {0}
 
 -- A history that the table accepts, of workers below their number, of whom there may be so many, in which no run is told to stop. The
 -- answers of its calls are masked by the secrets of the plan.
@@ -68,10 +55,10 @@ pub record IsLeftInCall (plan : Plan) (history : List Entry) : Type 0 where
 -- What a play that was not stopped leaves, and one that was stopped so.
 abbrev pub Leaves : Plan → List Entry → Option PlayStop → Type 0
 Leaves plan history None = HasEnded plan history
-Leaves plan history (Some stop.Host) = IsLeftInCall plan history
-Leaves plan history (Some stop.Mismatch) = Unit {0}
-Leaves plan history (Some stop.Memory) = Unit {0}
-Leaves plan history (Some stop.Workers) = ⊥
+Leaves plan history (Some PlayStop.Host) = IsLeftInCall plan history
+Leaves plan history (Some PlayStop.Mismatch) = Unit {0}
+Leaves plan history (Some PlayStop.Memory) = Unit {0}
+Leaves plan history (Some PlayStop.Workers) = ⊥
 
 -- ---- what the code answers on the way
 
@@ -93,10 +80,10 @@ pub record EndsPlayed (plan : Plan) (workers : ℕ) (come : Played) : Type 0 whe
 
 -- What was played until a play was stopped: where there are not so many workers, nothing was.
 abbrev pub StopsPlayed : Plan → ℕ → PoolFault → Type 0
-StopsPlayed plan workers pool.Workers = AreNoWorkers workers
-StopsPlayed plan workers (pool.Host leg step fault history) = IsPlayed plan workers history × IsLeftInCall plan history
-StopsPlayed plan workers (pool.Mismatch history) = IsPlayed plan workers history
-StopsPlayed plan workers (pool.Memory history) = IsPlayed plan workers history
+StopsPlayed plan workers PoolFault.Workers = AreNoWorkers workers
+StopsPlayed plan workers (PoolFault.Host leg step fault history) = IsPlayed plan workers history × IsLeftInCall plan history
+StopsPlayed plan workers (PoolFault.Mismatch history) = IsPlayed plan workers history
+StopsPlayed plan workers (PoolFault.Memory history) = IsPlayed plan workers history
 
 -- What was played by so many workers, with the board that is left of it.
 pub record IsPlaying (plan : Plan) (workers : ℕ) (playing : Playing) : Type 0 where

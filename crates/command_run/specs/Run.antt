@@ -1,6 +1,7 @@
 -- What `actrun run` tells: what was shown of the steps that it played, how the runs ended, and why it stopped.
 use Rattle.std.specs.Prelude.{◌≡◌, ℕ, Bool, true, false, ◌⊎◌, codes, List, [], ◌++◌, Option, Some, None, Result, Ok, Err, Vec}
 use Rattle.std.specs.declared.alloc.Global.{Global}
+use Rattle.status_table.specs.Words.{Board, Entry, Plan, after}
 use Rattle.command_io.specs.Files.{Content, File, IsContent}
 use Rattle.command_io.specs.Runs.{runs_status}
 use Rattle.command_io.specs.PlayStop.{SaysStop}
@@ -12,19 +13,14 @@ use Rattle.command_io.specs.declared.stop.PlayStop.TheVariants.{Workers}
 use Rattle.command_io.specs.declared.stream.SourceFault.{SourceFault}
 use Rattle.command_io.specs.declared.error.CommandError.{CommandError}
 use Rattle.command_io.specs.declared.error.CommandError.TheVariants.{NoExpression, NoValue, NoContexts, NoFlow, NotPlanned, NoPlan, NoEntry, Refused, Words, Io, Memory}
-use Rattle.flow_model.specs.declared.board.Board.{Board}
-use Rattle.flow_model.specs.declared.event.Entry.{Entry}
-use Rattle.flow_model.specs.declared.plan.Plan.{Plan}
 use Rattle.plan_text.specs.Load.{load}
 use Rattle.plan_text.specs.declared.fault.LoadFault.{LoadFault}
-use Rattle.plan_text.specs.declared.fault.LoadFault.TheVariants as load_fault
 use Rattle.plan_text.specs.Record.{record_text}
 use Rattle.command_run.specs.Playing.{IsPlayed, Leaves}
 use Rattle.command_run.specs.RecordFile.{Kept}
 use Rattle.command_run.specs.RunLines.{run_lines}
 use Rattle.command_run.specs.StepLogs.{Files, Gives, PutsText, ShowsLogs, Written, in_folder, is_whole}
 use Rattle.command_run.specs.Stubs.{Stubs, file_stubs}
-use Rattle.status_table.specs.Runs.{after}
 use Rattle.worker_pool.specs.Many.{AreNoWorkers}
 
 -- ---- the text of a history
@@ -140,7 +136,7 @@ Paths = Option (List ℕ) → Type 0
 abbrev pub AreNotPlayed : Paths → Content → List ℕ → CommandError → Type 0
 AreNotPlayed paths stubs bytes (NoContexts file fault) = (file_stubs stubs.bytes ≡ Err fault) × (file ≡ stubs.name)
 AreNotPlayed paths stubs bytes (NoPlan fault) = IsNoPlan stubs bytes fault
-AreNotPlayed paths stubs bytes (NoEntry n) = IsNoPlan stubs bytes (load_fault.NotEntry n)
+AreNotPlayed paths stubs bytes (NoEntry n) = IsNoPlan stubs bytes (LoadFault.NotEntry n)
 AreNotPlayed paths stubs bytes Io = ((plan : Plan) × AreTexts stubs bytes plan) × paths None
 AreNotPlayed paths stubs bytes Memory = Unit {0}
 AreNotPlayed paths stubs bytes (NoExpression fault) = ⊥

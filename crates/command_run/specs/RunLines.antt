@@ -1,9 +1,7 @@
 -- The lines that tell how runs ended.
 use Rattle.std.specs.Prelude.{ℕ, suc, List, [], ◌∷◌, ◌++◌, codes, decimal}
-use Rattle.flow_model.specs.declared.board.Run.{Run}
-use Rattle.flow_model.specs.declared.board.RunState.{RunState}
+use Rattle.status_table.specs.Words.{Run, RunState, outcome_word}
 use Rattle.flow_model.specs.declared.board.RunState.TheVariants.{New, Waiting, Going, Closed}
-use Rattle.flow_model.specs.Outcome.{outcome_word}
 
 -- how a run ended, or that nothing goes on
 abbrev pub state_word : RunState → List ℕ

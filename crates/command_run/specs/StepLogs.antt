@@ -3,15 +3,11 @@ use Rattle.std.specs.Prelude.{◌≡◌, ℕ, ◌⊎◌, Bool, true, false, if�
 use Rattle.std.specs.Io.KnownBytes.{IsAtEnd}
 use Rattle.std.specs.Str.{IsUtf8}
 use Rattle.std.specs.declared.alloc.AllocError.{AllocError}
+use Rattle.status_table.specs.Words.{Answer, Entry, Event, Plan, lines_of, newline}
 use Rattle.command_io.specs.Stream.{Stream, AppendsPart, IsCutOff, IsLineRead, IsWritten, Puts, TakesLines}
 use Rattle.command_io.specs.declared.stream.SourceFault.{SourceFault}
 use Rattle.command_io.specs.declared.stream.SourceFault.TheVariants.{Failed, Memory}
-use Rattle.flow_model.specs.declared.event.Answer.{Answer}
 use Rattle.flow_model.specs.declared.event.Answer.TheVariants.{Exit, NotStarted, BadOutput}
-use Rattle.flow_model.specs.declared.event.Entry.{Entry}
-use Rattle.flow_model.specs.declared.event.Event.{Event}
-use Rattle.flow_model.specs.declared.plan.Plan.{Plan}
-use Rattle.flow_model.specs.Lines.{lines_of, newline}
 use Rattle.flow_commands.specs.CommandTexts.{commands}
 use Rattle.flow_commands.specs.Logs.{Log, lines_text, logs_text, mask_for}
 use Rattle.flow_commands.specs.Shown.{masks_added, shown}

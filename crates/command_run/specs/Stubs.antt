@@ -1,8 +1,7 @@
 -- The programs that stand for actions: a JSON object whose members are texts.
 use Rattle.std.specs.Prelude.{◌≡◌, ℕ, ◌⊎◌, Option, Some, None, Result, Ok, Err, List, []}
+use Rattle.status_table.specs.Words.{json_read, with_pair}
 use Rattle.serde_json.specs.Data.{Data, null, boolean, number, string, array, object, Members, no_members, member}
-use Rattle.flow_model.specs.Mapping.{with_pair}
-use Rattle.flow_model.specs.JsonText.{json_read}
 use Rattle.command_io.specs.Files.{Content}
 use Rattle.command_io.specs.CommandError.{IsContextsError}
 use Rattle.command_io.specs.declared.contexts.ContextsFault.{ContextsFault}

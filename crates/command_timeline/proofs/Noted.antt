@@ -1,10 +1,6 @@
 -- A list whose entry is refused stops on that entry's line, where the plan in play was new.
 use Rattle.std.proofs.Common.{◌≡◌, ℕ, List, subst}
-use Rattle.flow_model.specs.declared.board.Board.{Board}
-use Rattle.flow_model.specs.declared.event.Entry.{Entry}
-use Rattle.flow_model.specs.declared.plan.Plan.{Plan}
-use Rattle.status_table.specs.Play.{Play}
-use Rattle.status_table.specs.Runs.{StopsAt, new_board, new_play}
+use Rattle.status_table.specs.Words.{Board, Entry, Plan, Play, StopsAt, new_board, new_play}
 use Rattle.status_table.specs.declared.fault.EventFault.{EventFault}
 use Rattle.command_io.proofs.Stopped as entries
 use Rattle.command_io.specs.Records.{IsStopped, stop_error}

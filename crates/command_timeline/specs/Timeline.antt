@@ -1,16 +1,12 @@
 -- What `actrun timeline` tells of a record: the picture of how each run, job and leg stood along its lines, with the exit status that
 -- tells how the runs ended; or why there is none.
 use Rattle.std.specs.Prelude.{◌≡◌, ◌+◌, ℕ, List, length, Some, Result, Ok, Err}
-use Rattle.flow_model.specs.declared.board.Board.{Board}
-use Rattle.flow_model.specs.declared.event.Entry.{Entry}
-use Rattle.flow_model.specs.declared.plan.Plan.{Plan}
+use Rattle.status_table.specs.Words.{Board, Entry, Plan, Play, after}
 use Rattle.board_timeline.specs.Layout.{sheet}
 use Rattle.board_timeline.specs.Played.{track_of}
 use Rattle.board_timeline.specs.declared.layout.Sheet.{Sheet}
 use Rattle.board_timeline.specs.declared.noted.Track.{Track}
 use Rattle.board_timeline.specs.Picture.{picture}
-use Rattle.status_table.specs.Play.{Play}
-use Rattle.status_table.specs.Runs.{after}
 use Rattle.command_io.specs.Records.{IsStopped, OfRecord, TellsShown}
 use Rattle.command_io.specs.Runs.{runs_status}
 use Rattle.command_io.specs.Stream.{Stream}

@@ -1,16 +1,14 @@
 -- A tree is told as its answer.
 use Rattle.std.proofs.Common.{◌≡◌, ℕ, List, Option, Some, Result, Ok, Err, refl, sym, subst}
+use Rattle.status_table.specs.Words.{Entry, Plan}
 use Rattle.why_causes.specs.declared.question.Question.{Question}
 use Rattle.why_notes.specs.Account.{Account, account_of}
-use Rattle.flow_model.specs.declared.event.Entry.{Entry}
-use Rattle.flow_model.specs.declared.plan.Plan.{Plan}
 use Rattle.command_io.proofs.Told.{IsKept-same}
 use Rattle.command_io.specs.Records.{IsStopped}
 use Rattle.command_io.specs.Stream.{Stream, IsRead}
 use Rattle.command_io.specs.Tell.{Says}
 use Rattle.command_io.specs.CommandError.{line, source_error, error_status}
 use Rattle.command_io.specs.declared.stream.SourceFault.{SourceFault}
-use Rattle.command_io.specs.declared.stream.SourceFault.TheVariants as source_fault
 use Rattle.command_io.specs.declared.error.CommandError.{CommandError}
 use Rattle.command_why.specs.Why.{GivesTree, GivesWhy, IsWhyAnswer, TellsWhy, Told, WhyAnswer, WhyTells}
 
@@ -30,17 +28,17 @@ why_told asked input input' out out' err err' text answer status reads answers t
 pub unread_why : (asked : Option Question) (input input' out err err' : Stream) (fault : SourceFault) (status : ℕ)
     → IsRead input input' (Err fault) → Says err err' (line (source_error fault)) → status ≡ error_status (source_error fault)
     → WhyTells asked input input' out out err err' status
-unread_why asked input input' out err err' source_fault.Failed status reads said is = record {
-  read = Err source_fault.Failed;
+unread_why asked input input' out err err' SourceFault.Failed status reads said is = record {
+  read = Err SourceFault.Failed;
   reads = reads;
-  answer = Err (source_error source_fault.Failed);
+  answer = Err (source_error SourceFault.Failed);
   answers = refl;
   told = record { kept = IsKept-same out; said = said; is = is };
 }
-unread_why asked input input' out err err' source_fault.Memory status reads said is = record {
-  read = Err source_fault.Memory;
+unread_why asked input input' out err err' SourceFault.Memory status reads said is = record {
+  read = Err SourceFault.Memory;
   reads = reads;
-  answer = Err (source_error source_fault.Memory);
+  answer = Err (source_error SourceFault.Memory);
   answers = refl;
   told = record { kept = IsKept-same out; said = said; is = is };
 }

@@ -2,17 +2,8 @@
 -- its picture, so that a line stays one line.
 use Rattle.std.specs.Prelude.{ℕ, ◌==◌, ◌+◌, ◌++◌, nat_lt, if◌then◌else◌, List, [], ◌∷◌, codes, decimal, Option, Some, None, slice_get}
 use Rattle.std.specs.List.{flat_map}
-use Rattle.board_decisions.specs.Contexts.{pairs_in}
-use Rattle.board_decisions.specs.Place.{RunAt, JobAt, LegAt, run_at, job_at, leg_at}
+use Rattle.status_table.specs.Words.{JobAt, LegAt, Member, Plain, RunAt, StepPlan, Work, job_at, kind_of as kind_of_value, leg_at, pairs_in, run_at, text_of}
 use Rattle.why_notes.specs.Account.{Account}
-use Rattle.expr_value.specs.Convert.{text_of}
-use Rattle.expr_value.specs.Kind.{kind_of as kind_of_value}
-use Rattle.flow_model.specs.Plain.{Plain}
-use Rattle.flow_model.specs.declared.event.Member.{Member}
-use Rattle.flow_model.specs.declared.event.Member.TheVariants as member
-use Rattle.flow_model.specs.declared.plan.StepPlan.{StepPlan}
-use Rattle.flow_model.specs.declared.plan.Work.{Work}
-use Rattle.flow_model.specs.declared.plan.Work.TheVariants as work
 
 -- ---- texts from files
 
@@ -60,8 +51,8 @@ leg_name l (Some at) = named (codes "leg ") l (leg_words at)
 
 -- what a step does: its action, or the first line of its script
 abbrev pub work_words : Work → List ℕ
-work_words (work.Run dir run shell) = shown (first_line run)
-work_words (work.Uses uses given) = shown uses
+work_words (Work.Run dir run shell) = shown (first_line run)
+work_words (Work.Uses uses given) = shown uses
 
 -- the name of a step, or else what it does
 abbrev pub step_words : Option (List ℕ) → Work → List ℕ
@@ -79,5 +70,5 @@ step_name s (Some at) = step_named s (slice_get at.job_plan.steps s)
 -- ---- of an account
 
 abbrev pub member_name : Account → Member → List ℕ
-member_name a (member.Run r) = run_name r (run_at a.plan a.board r)
-member_name a (member.Leg l) = leg_name l (leg_at a.plan a.board l)
+member_name a (Member.Run r) = run_name r (run_at a.plan a.board r)
+member_name a (Member.Leg l) = leg_name l (leg_at a.plan a.board l)

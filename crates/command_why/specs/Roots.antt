@@ -1,17 +1,10 @@
 -- What is asked where nothing is named: all that did not end in success.
 use Rattle.std.specs.Prelude.{ℕ, ◌+◌, ◌++◌, ◌&&◌, ◌||◌, Bool, true, false, not, nat_lt, is_some, List, [], ◌∷◌, length, Option, Some, None}
+use Rattle.status_table.specs.Words.{Job, Leg, LegAt, LegState, Run, is_going, is_open, is_success, job_at, job_has_ended, job_result, leg_at, run_at}
 use Rattle.why_causes.specs.Causes.{asked, is_judged}
 use Rattle.why_causes.specs.declared.question.Question.{Question}
-use Rattle.why_causes.specs.declared.question.Question.TheVariants as question
-use Rattle.board_decisions.specs.Derived.{is_going, is_open, is_success, job_has_ended, job_result}
-use Rattle.board_decisions.specs.Place.{LegAt, run_at, job_at, leg_at}
 use Rattle.why_notes.specs.Account.{Account}
 use Rattle.command_io.specs.Runs.{has_succeeded}
-use Rattle.flow_model.specs.declared.board.Job.{Job}
-use Rattle.flow_model.specs.declared.board.Leg.{Leg}
-use Rattle.flow_model.specs.declared.board.LegState.{LegState}
-use Rattle.flow_model.specs.declared.board.LegState.TheVariants as leg_state
-use Rattle.flow_model.specs.declared.board.Run.{Run}
 
 -- a run that did not succeed
 abbrev pub run_is_asked : Run → Bool
@@ -24,11 +17,11 @@ job_is_asked run job =
 
 -- a leg ended with success
 abbrev pub leg_succeeded : LegState → Bool
-leg_succeeded leg_state.Fresh = false
-leg_succeeded leg_state.Waiting = false
-leg_succeeded leg_state.Admitted = false
-leg_succeeded (leg_state.Running worker in_call) = false
-leg_succeeded (leg_state.Ended result tolerated) = is_success result
+leg_succeeded LegState.Fresh = false
+leg_succeeded LegState.Waiting = false
+leg_succeeded LegState.Admitted = false
+leg_succeeded (LegState.Running worker in_call) = false
+leg_succeeded (LegState.Ended result tolerated) = is_success result
 
 -- a leg of an open job that did not succeed
 abbrev pub leg_is_asked : Job → Leg → Bool
@@ -38,13 +31,13 @@ leg_is_asked job leg = is_open job.state && not (leg_succeeded leg.state)
 abbrev pub jobs_left : ℕ → List Run → List Question
 jobs_left n [] = []
 jobs_left n (run ∷ runs) =
-    asked question.Job n (job_is_asked run) run.jobs ++ jobs_left (n + length run.jobs) runs
+    asked Question.Job n (job_is_asked run) run.jobs ++ jobs_left (n + length run.jobs) runs
 
 -- the legs of jobs that did not succeed, of which the first has this number
 abbrev pub legs_left : ℕ → List Job → List Question
 legs_left n [] = []
 legs_left n (job ∷ jobs) =
-    asked question.Leg n (leg_is_asked job) job.legs ++ legs_left (n + length job.legs) jobs
+    asked Question.Leg n (leg_is_asked job) job.legs ++ legs_left (n + length job.legs) jobs
 
 -- how many legs some jobs have
 abbrev pub legs_count : List Job → ℕ
@@ -58,7 +51,7 @@ run_legs_left n (run ∷ runs) = legs_left n run.jobs ++ run_legs_left (n + legs
 
 -- the runs, the jobs and then the legs that did not succeed
 abbrev pub all_left : List Run → List Question
-all_left runs = asked question.Run 0 run_is_asked runs ++ (jobs_left 0 runs ++ run_legs_left 0 runs)
+all_left runs = asked Question.Run 0 run_is_asked runs ++ (jobs_left 0 runs ++ run_legs_left 0 runs)
 
 -- ---- what is named
 
@@ -69,11 +62,11 @@ has_step s (Some at) = nat_lt s (length at.job_plan.steps)
 
 -- what is named is there; that something was told to stop is not asked about
 abbrev pub is_there : Account → Question → Bool
-is_there a (question.Run r) = is_some (run_at a.plan a.board r)
-is_there a (question.Job j) = is_some (job_at a.plan a.board j)
-is_there a (question.Leg l) = is_some (leg_at a.plan a.board l)
-is_there a (question.Step l s) = has_step s (leg_at a.plan a.board l)
-is_there a (question.Stop who) = false
+is_there a (Question.Run r) = is_some (run_at a.plan a.board r)
+is_there a (Question.Job j) = is_some (job_at a.plan a.board j)
+is_there a (Question.Leg l) = is_some (leg_at a.plan a.board l)
+is_there a (Question.Step l s) = has_step s (leg_at a.plan a.board l)
+is_there a (Question.Stop who) = false
 
 -- the roots of the tree, if what is named is there
 abbrev pub named_roots : Question → Bool → Option (List Question)

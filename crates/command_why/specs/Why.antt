@@ -3,17 +3,15 @@
 use Rattle.std.specs.Prelude.{◌≡◌, ℕ, ◌⊎◌, List, codes, Option, Some, None, Result, Ok, Err, Vec}
 use Rattle.std.specs.Option.{option_map}
 use Rattle.std.specs.declared.alloc.Global.{Global}
+use Rattle.status_table.specs.Words.{Entry, Plan}
 use Rattle.why_causes.specs.Tree.{tree}
 use Rattle.why_causes.specs.declared.question.Question.{Question}
 use Rattle.why_notes.specs.Account.{Account, account_of}
-use Rattle.flow_model.specs.declared.event.Entry.{Entry}
-use Rattle.flow_model.specs.declared.plan.Plan.{Plan}
 use Rattle.command_io.specs.Records.{IsNotPlayed, IsStopped, OfRecord}
 use Rattle.command_io.specs.Stream.{Stream, IsKept, IsRead}
 use Rattle.command_io.specs.Tell.{Says, TellsBy}
 use Rattle.command_io.specs.CommandError.{UnlessMemory, name_line}
 use Rattle.command_io.specs.declared.stream.SourceFault.{SourceFault}
-use Rattle.command_io.specs.declared.stream.SourceFault.TheVariants as source_fault
 use Rattle.command_io.specs.declared.error.CommandError.{CommandError}
 use Rattle.command_io.specs.declared.error.CommandError.TheVariants.{Io, Memory}
 use Rattle.command_why.specs.Roots.{roots}
@@ -57,8 +55,8 @@ TellsWhy (Err error) out out' err err' status = TellsBy 0 (Err error) out out' e
 -- An answer to what was read; where only a part was read there is none but the error.
 abbrev pub AnswersAsked : Option Question → Result (List ℕ) SourceFault → WhyAnswer → Type 0
 AnswersAsked asked (Ok text) answer = IsWhyAnswer asked text answer
-AnswersAsked asked (Err source_fault.Failed) answer = answer ≡ Err Io
-AnswersAsked asked (Err source_fault.Memory) answer = answer ≡ Err Memory
+AnswersAsked asked (Err SourceFault.Failed) answer = answer ≡ Err Io
+AnswersAsked asked (Err SourceFault.Memory) answer = answer ≡ Err Memory
 
 -- What `why` leaves: it reads a text to its end, and tells an answer to what is asked of it; want of memory may always be
 -- answered.

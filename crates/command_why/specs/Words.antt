@@ -1,24 +1,16 @@
 -- What is said of each fact.
 use Rattle.std.specs.Prelude.{ℕ, zero, suc, ◌==◌, ◌++◌, ◌&&◌, Bool, true, false, not, if◌then◌else◌, List, [], ◌∷◌, ℤ, pos, negsuc, codes, decimal, length, Option, Some, None, slice_get}
 use Rattle.std.specs.List.{flat_map}
+use Rattle.status_table.specs.Words.{DoneStep, Job, JobAt, JobState, LegAt, LegState, Member, Outcome, Run, RunAt, StepPlan, ValueFault, job_at, job_has_ended, leg_at, legs_result, run_at, value_fault_name}
 use Rattle.why_causes.specs.Causes.{is_called, job_last, leg_last, run_last, step_last}
 use Rattle.why_causes.specs.declared.question.Question.{Question}
-use Rattle.why_causes.specs.declared.question.Question.TheVariants as question
 use Rattle.why_causes.specs.declared.tree.Line.{Line}
-use Rattle.board_decisions.specs.Derived.{job_has_ended, legs_result}
-use Rattle.board_decisions.specs.Place.{RunAt, JobAt, LegAt, run_at, job_at, leg_at}
 use Rattle.why_facts.specs.declared.fact.JobFact.{JobFact}
-use Rattle.why_facts.specs.declared.fact.JobFact.TheVariants as job_fact
 use Rattle.why_facts.specs.declared.fact.MemberFact.{MemberFact}
-use Rattle.why_facts.specs.declared.fact.MemberFact.TheVariants as member_fact
 use Rattle.why_facts.specs.declared.fact.StepFact.{StepFact}
-use Rattle.why_facts.specs.declared.fact.StepFact.TheVariants as step_fact
 use Rattle.why_facts.specs.declared.fact.StepText.{StepText}
-use Rattle.why_facts.specs.declared.fact.StepText.TheVariants as step_text
 use Rattle.why_facts.specs.declared.fact.StopCause.{StopCause}
-use Rattle.why_facts.specs.declared.fact.StopCause.TheVariants as stop_cause
 use Rattle.why_facts.specs.declared.fact.Teller.{Teller}
-use Rattle.why_facts.specs.declared.fact.Teller.TheVariants as teller
 use Rattle.why_facts.specs.declared.notes.JobNote.{JobNote}
 use Rattle.why_facts.specs.declared.notes.LegNotes.{LegNotes}
 use Rattle.why_facts.specs.declared.notes.MemberNote.{MemberNote}
@@ -26,20 +18,6 @@ use Rattle.why_facts.specs.declared.notes.RunNotes.{RunNotes}
 use Rattle.why_facts.specs.declared.notes.StepNote.{StepNote}
 use Rattle.why_facts.specs.declared.notes.StopNote.{StopNote}
 use Rattle.why_notes.specs.Account.{Account}
-use Rattle.flow_model.specs.Faults.{value_fault_name}
-use Rattle.flow_model.specs.declared.board.DoneStep.{DoneStep}
-use Rattle.flow_model.specs.declared.board.Job.{Job}
-use Rattle.flow_model.specs.declared.board.JobState.{JobState}
-use Rattle.flow_model.specs.declared.board.JobState.TheVariants as job_state
-use Rattle.flow_model.specs.declared.board.LegState.{LegState}
-use Rattle.flow_model.specs.declared.board.LegState.TheVariants as leg_state
-use Rattle.flow_model.specs.declared.board.Run.{Run}
-use Rattle.flow_model.specs.declared.event.Member.{Member}
-use Rattle.flow_model.specs.declared.event.Member.TheVariants as member
-use Rattle.flow_model.specs.declared.event.Outcome.{Outcome}
-use Rattle.flow_model.specs.declared.event.Outcome.TheVariants as outcome
-use Rattle.flow_model.specs.declared.plan.StepPlan.{StepPlan}
-use Rattle.flow_model.specs.declared.reply.ValueFault.{ValueFault}
 use Rattle.command_why.specs.Names.{job_name, leg_name, member_name, run_name, shown, step_name}
 
 -- ---- words
@@ -52,17 +30,17 @@ since_line n = codes " since line " ++ decimal n
 
 -- how a run or a job ended
 abbrev pub ended_words : Outcome → List ℕ
-ended_words outcome.Success = codes " succeeded"
-ended_words outcome.Failure = codes " failed"
-ended_words outcome.Cancelled = codes " was cancelled"
-ended_words outcome.Skipped = codes " was skipped"
+ended_words Outcome.Success = codes " succeeded"
+ended_words Outcome.Failure = codes " failed"
+ended_words Outcome.Cancelled = codes " was cancelled"
+ended_words Outcome.Skipped = codes " was skipped"
 
 -- how a leg ended
 abbrev pub leg_ended_words : Outcome → List ℕ
-leg_ended_words outcome.Success = codes " ended success"
-leg_ended_words outcome.Failure = codes " ended failure"
-leg_ended_words outcome.Cancelled = codes " ended cancelled"
-leg_ended_words outcome.Skipped = codes " ended skipped"
+leg_ended_words Outcome.Success = codes " ended success"
+leg_ended_words Outcome.Failure = codes " ended failure"
+leg_ended_words Outcome.Cancelled = codes " ended cancelled"
+leg_ended_words Outcome.Skipped = codes " ended skipped"
 
 -- the name of a group, if it has one
 abbrev pub group_words : Option (List ℕ) → List ℕ
@@ -87,12 +65,12 @@ faulted_words n what fault = at_line n ++ ((codes ": " ++ what) ++ (codes " has 
 -- ---- runs
 
 abbrev pub run_fact_words : Account → RunAt → ℕ → MemberFact → List ℕ
-run_fact_words a at n member_fact.Admitted = codes " is going" ++ since_line n
-run_fact_words a at n (member_fact.Follows before) = (codes " is going" ++ since_line n) ++ follows_words a before
-run_fact_words a at n (member_fact.Waits holds) = waits_words a n at.run.group holds
-run_fact_words a at n (member_fact.Displaced by) = codes " was cancelled" ++ displaced_words a n by
-run_fact_words a at n (member_fact.NoGroup fault) = codes " failed" ++ faulted_words n (codes "the name of its group") fault
-run_fact_words a at n (member_fact.Closed result) = ended_words result ++ at_line n
+run_fact_words a at n MemberFact.Admitted = codes " is going" ++ since_line n
+run_fact_words a at n (MemberFact.Follows before) = (codes " is going" ++ since_line n) ++ follows_words a before
+run_fact_words a at n (MemberFact.Waits holds) = waits_words a n at.run.group holds
+run_fact_words a at n (MemberFact.Displaced by) = codes " was cancelled" ++ displaced_words a n by
+run_fact_words a at n (MemberFact.NoGroup fault) = codes " failed" ++ faulted_words n (codes "the name of its group") fault
+run_fact_words a at n (MemberFact.Closed result) = ended_words result ++ at_line n
 run_fact_words a at n _ = []
 
 abbrev pub run_said : Account → RunAt → Option MemberNote → List ℕ
@@ -116,13 +94,13 @@ waiting_words None = codes "it has no condition"
 waiting_words (Some text) = codes "its condition names no status function"
 
 abbrev pub job_fact_words : JobAt → ℕ → JobFact → List ℕ
-job_fact_words at n job_fact.Opened = codes " is open" ++ since_line n
-job_fact_words at n job_fact.RunStopped = codes " was cancelled" ++ (at_line n ++ codes ": its run was told to stop")
-job_fact_words at n job_fact.Unsuccessful =
+job_fact_words at n JobFact.Opened = codes " is open" ++ since_line n
+job_fact_words at n JobFact.RunStopped = codes " was cancelled" ++ (at_line n ++ codes ": its run was told to stop")
+job_fact_words at n JobFact.Unsuccessful =
     codes " was skipped" ++ (at_line n ++ (codes ": " ++ (waiting_words at.plan.condition ++ codes ", so all that it needs has to succeed")))
-job_fact_words at n job_fact.Untrue =
+job_fact_words at n JobFact.Untrue =
     codes " was skipped" ++ (at_line n ++ (codes ": its condition is not true: " ++ condition_words at.plan.condition))
-job_fact_words at n (job_fact.Faulted fault) = codes " failed" ++ faulted_words n (codes "its condition") fault
+job_fact_words at n (JobFact.Faulted fault) = codes " failed" ++ faulted_words n (codes "its condition") fault
 
 abbrev pub job_noted_words : JobAt → Option JobNote → List ℕ
 job_noted_words at None = codes " was not judged"
@@ -130,10 +108,10 @@ job_noted_words at (Some note) = job_fact_words at note.line note.fact
 
 -- of a job that was opened, whose legs have all ended
 abbrev pub job_said : JobAt → Option JobNote → JobState → List ℕ
-job_said at note job_state.Unjudged = job_noted_words at note
-job_said at note job_state.Open =
+job_said at note JobState.Unjudged = job_noted_words at note
+job_said at note JobState.Open =
     if job_has_ended at.run at.job then ended_words (legs_result at.job.legs) else job_noted_words at note
-job_said at note (job_state.Shut result) = job_noted_words at note
+job_said at note (JobState.Shut result) = job_noted_words at note
 
 abbrev pub job_words : Account → ℕ → Option JobAt → List ℕ
 job_words a j None = []
@@ -143,37 +121,37 @@ job_words a j (Some at) = job_said at (job_last (slice_get a.notes.jobs j)) at.j
 
 -- why a leg is to stop
 abbrev pub cause_words : Account → StopCause → List ℕ
-cause_words a stop_cause.Told = codes "it was told to stop"
-cause_words a (stop_cause.FailFast l) = leg_name l (leg_at a.plan a.board l) ++ codes " failed, and the job fails fast"
-cause_words a stop_cause.RunTold = codes "its run was told to stop"
+cause_words a StopCause.Told = codes "it was told to stop"
+cause_words a (StopCause.FailFast l) = leg_name l (leg_at a.plan a.board l) ++ codes " failed, and the job fails fast"
+cause_words a StopCause.RunTold = codes "its run was told to stop"
 
 -- a failure may be tolerated
 abbrev pub tolerated_words : LegState → List ℕ
-tolerated_words leg_state.Fresh = []
-tolerated_words leg_state.Waiting = []
-tolerated_words leg_state.Admitted = []
-tolerated_words (leg_state.Running worker in_call) = []
-tolerated_words (leg_state.Ended result tolerated) = if tolerated then codes ", which is tolerated" else []
+tolerated_words LegState.Fresh = []
+tolerated_words LegState.Waiting = []
+tolerated_words LegState.Admitted = []
+tolerated_words (LegState.Running worker in_call) = []
+tolerated_words (LegState.Ended result tolerated) = if tolerated then codes ", which is tolerated" else []
 
 -- which worker has a leg
 abbrev pub worker_words : LegState → List ℕ
-worker_words leg_state.Fresh = []
-worker_words leg_state.Waiting = []
-worker_words leg_state.Admitted = []
-worker_words (leg_state.Running worker in_call) = codes " by worker " ++ decimal worker
-worker_words (leg_state.Ended result tolerated) = []
+worker_words LegState.Fresh = []
+worker_words LegState.Waiting = []
+worker_words LegState.Admitted = []
+worker_words (LegState.Running worker in_call) = codes " by worker " ++ decimal worker
+worker_words (LegState.Ended result tolerated) = []
 
 abbrev pub leg_fact_words : Account → LegAt → ℕ → MemberFact → List ℕ
-leg_fact_words a at n member_fact.Admitted = codes " was admitted" ++ at_line n
-leg_fact_words a at n (member_fact.Follows before) = (codes " was admitted" ++ at_line n) ++ follows_words a before
-leg_fact_words a at n (member_fact.Waits holds) = waits_words a n at.leg.group holds
-leg_fact_words a at n (member_fact.Displaced by) = codes " ended cancelled" ++ displaced_words a n by
-leg_fact_words a at n member_fact.OwnRun = codes " ended cancelled" ++ (at_line n ++ codes ": its own run holds its group")
-leg_fact_words a at n (member_fact.NoGroup fault) = codes " ended failure" ++ faulted_words n (codes "the name of its group") fault
-leg_fact_words a at n member_fact.Taken = (codes " runs" ++ since_line n) ++ worker_words at.leg.state
-leg_fact_words a at n (member_fact.Finished result) = (leg_ended_words result ++ at_line n) ++ tolerated_words at.leg.state
-leg_fact_words a at n (member_fact.Stopped cause) = codes " ended cancelled" ++ (at_line n ++ (codes ": " ++ cause_words a cause))
-leg_fact_words a at n (member_fact.Closed result) = []
+leg_fact_words a at n MemberFact.Admitted = codes " was admitted" ++ at_line n
+leg_fact_words a at n (MemberFact.Follows before) = (codes " was admitted" ++ at_line n) ++ follows_words a before
+leg_fact_words a at n (MemberFact.Waits holds) = waits_words a n at.leg.group holds
+leg_fact_words a at n (MemberFact.Displaced by) = codes " ended cancelled" ++ displaced_words a n by
+leg_fact_words a at n MemberFact.OwnRun = codes " ended cancelled" ++ (at_line n ++ codes ": its own run holds its group")
+leg_fact_words a at n (MemberFact.NoGroup fault) = codes " ended failure" ++ faulted_words n (codes "the name of its group") fault
+leg_fact_words a at n MemberFact.Taken = (codes " runs" ++ since_line n) ++ worker_words at.leg.state
+leg_fact_words a at n (MemberFact.Finished result) = (leg_ended_words result ++ at_line n) ++ tolerated_words at.leg.state
+leg_fact_words a at n (MemberFact.Stopped cause) = codes " ended cancelled" ++ (at_line n ++ (codes ": " ++ cause_words a cause))
+leg_fact_words a at n (MemberFact.Closed result) = []
 
 abbrev pub leg_said : Account → LegAt → Option MemberNote → List ℕ
 leg_said a at None = codes " has not asked"
@@ -191,18 +169,18 @@ passed_words None = []
 passed_words (Some done) = over done.conclusion
   where
     over : Outcome → List ℕ
-    over outcome.Success = codes ", which is passed over"
-    over outcome.Failure = []
-    over outcome.Cancelled = []
-    over outcome.Skipped = []
+    over Outcome.Success = codes ", which is passed over"
+    over Outcome.Failure = []
+    over Outcome.Cancelled = []
+    over Outcome.Skipped = []
 
 -- a text of a step
 abbrev pub text_words : StepText → List ℕ
-text_words step_text.FlowEnv = codes "a variable of its workflow"
-text_words step_text.JobEnv = codes "a variable of its job"
-text_words step_text.StepEnv = codes "a variable of its own"
-text_words step_text.Condition = codes "its condition"
-text_words step_text.Work = codes "a text of what it does"
+text_words StepText.FlowEnv = codes "a variable of its workflow"
+text_words StepText.JobEnv = codes "a variable of its job"
+text_words StepText.StepEnv = codes "a variable of its own"
+text_words StepText.Condition = codes "its condition"
+text_words StepText.Work = codes "a text of what it does"
 
 -- what a program ended with
 abbrev pub exit_words : ℕ → Option DoneStep → ℤ → List ℕ
@@ -217,18 +195,18 @@ step_condition None = None
 step_condition (Some step) = step.condition
 
 abbrev pub step_fact_words : Account → LegAt → ℕ → ℕ → StepFact → List ℕ
-step_fact_words a at s n (step_fact.Exited code) = exit_words n (slice_get at.leg.steps s) code
-step_fact_words a at s n step_fact.NotStarted =
+step_fact_words a at s n (StepFact.Exited code) = exit_words n (slice_get at.leg.steps s) code
+step_fact_words a at s n StepFact.NotStarted =
     (codes " failed" ++ at_line n) ++ (codes ": it was not started" ++ passed_words (slice_get at.leg.steps s))
-step_fact_words a at s n step_fact.BadOutput =
+step_fact_words a at s n StepFact.BadOutput =
     (codes " failed" ++ at_line n) ++ (codes ": what it gave could not be read" ++ passed_words (slice_get at.leg.steps s))
-step_fact_words a at s n (step_fact.Stopping cause) = codes " was skipped" ++ (at_line n ++ (codes ": " ++ cause_words a cause))
-step_fact_words a at s n (step_fact.AfterFailure k) =
+step_fact_words a at s n (StepFact.Stopping cause) = codes " was skipped" ++ (at_line n ++ (codes ": " ++ cause_words a cause))
+step_fact_words a at s n (StepFact.AfterFailure k) =
     codes " was skipped" ++ (at_line n ++ ((codes ": step " ++ decimal k) ++ codes " counts as a failure"))
-step_fact_words a at s n step_fact.Untrue =
+step_fact_words a at s n StepFact.Untrue =
     codes " was skipped"
     ++ (at_line n ++ (codes ": its condition is not true: " ++ condition_words (step_condition (slice_get at.job_plan.steps s))))
-step_fact_words a at s n (step_fact.Faulted text fault) =
+step_fact_words a at s n (StepFact.Faulted text fault) =
     (codes " failed" ++ faulted_words n (text_words text) fault) ++ passed_words (slice_get at.leg.steps s)
 
 -- the line at which the last call of a leg began
@@ -256,8 +234,8 @@ step_found_words a l s (Some at) =
 -- ---- who told to stop
 
 abbrev pub teller_words : Account → Teller → List ℕ
-teller_words a teller.Cancel = codes " by cancel"
-teller_words a (teller.Newer m) = codes " by " ++ (member_name a m ++ codes ", a newer member of its group")
+teller_words a Teller.Cancel = codes " by cancel"
+teller_words a (Teller.Newer m) = codes " by " ++ (member_name a m ++ codes ", a newer member of its group")
 
 abbrev pub stop_words : Account → Option StopNote → List ℕ
 stop_words a None = codes " was told to stop"
@@ -272,34 +250,34 @@ leg_stop None = None
 leg_stop (Some notes) = notes.stop
 
 abbrev pub stop_of : Account → Member → Option StopNote
-stop_of a (member.Run r) = run_stop (slice_get a.notes.runs r)
-stop_of a (member.Leg l) = leg_stop (slice_get a.notes.legs l)
+stop_of a (Member.Run r) = run_stop (slice_get a.notes.runs r)
+stop_of a (Member.Leg l) = leg_stop (slice_get a.notes.legs l)
 
 -- ---- lines
 
 -- the name of what is asked about
 abbrev pub question_name : Account → Question → List ℕ
-question_name a (question.Run r) = run_name r (run_at a.plan a.board r)
-question_name a (question.Job j) = job_name j (job_at a.plan a.board j)
-question_name a (question.Leg l) = leg_name l (leg_at a.plan a.board l)
-question_name a (question.Step l s) = step_name s (leg_at a.plan a.board l)
-question_name a (question.Stop who) = member_name a who
+question_name a (Question.Run r) = run_name r (run_at a.plan a.board r)
+question_name a (Question.Job j) = job_name j (job_at a.plan a.board j)
+question_name a (Question.Leg l) = leg_name l (leg_at a.plan a.board l)
+question_name a (Question.Step l s) = step_name s (leg_at a.plan a.board l)
+question_name a (Question.Stop who) = member_name a who
 
 -- what is said of it
 abbrev pub question_words : Account → Question → List ℕ
-question_words a (question.Run r) = run_words a r (run_at a.plan a.board r)
-question_words a (question.Job j) = job_words a j (job_at a.plan a.board j)
-question_words a (question.Leg l) = leg_words a l (leg_at a.plan a.board l)
-question_words a (question.Step l s) = step_found_words a l s (leg_at a.plan a.board l)
-question_words a (question.Stop who) = stop_words a (stop_of a who)
+question_words a (Question.Run r) = run_words a r (run_at a.plan a.board r)
+question_words a (Question.Job j) = job_words a j (job_at a.plan a.board j)
+question_words a (Question.Leg l) = leg_words a l (leg_at a.plan a.board l)
+question_words a (Question.Step l s) = step_found_words a l s (leg_at a.plan a.board l)
+question_words a (Question.Stop who) = stop_words a (stop_of a who)
 
 -- what is said of what was said already
 abbrev pub above_words : Question → List ℕ
-above_words (question.Run r) = codes " (above)"
-above_words (question.Job j) = codes " (above)"
-above_words (question.Leg l) = codes " (above)"
-above_words (question.Step l s) = codes " (above)"
-above_words (question.Stop who) = codes " was told to stop (above)"
+above_words (Question.Run r) = codes " (above)"
+above_words (Question.Job j) = codes " (above)"
+above_words (Question.Leg l) = codes " (above)"
+above_words (Question.Step l s) = codes " (above)"
+above_words (Question.Stop who) = codes " was told to stop (above)"
 
 -- the same, unless it was said already
 abbrev pub said : Account → Question → Bool → List ℕ

@@ -2,19 +2,9 @@
 use Rattle.std.proofs.Common.{◌≡◌, ℕ, zero, suc, true, List, [], ◌∷◌, ◌++◌, Option, Some, length, refl, ap, sym, ◌∙◌}
 use Rattle.std.specs.Prelude.{slice_get}
 use Rattle.std.specs.List.{flat_map, AllZip}
-use Rattle.board_decisions.specs.Derived.{is_ended}
-use Rattle.board_decisions.specs.Numbered.{leg_there}
-use Rattle.board_decisions.specs.Place.{◌>>=◌}
-use Rattle.board_decisions.specs.Places.{all_legs_from, leg_places, run_sizes, sizes}
-use Rattle.board_decisions.specs.declared.place.LegPlace.{LegPlace}
+use Rattle.status_table.specs.Words.{Board, Job, JobStays, Leg, LegPlace, LegStays, Run, RunStays, Stays, all_legs_from, board_jobs, board_legs, is_ended, leg_places, leg_there, run_sizes, sizes, ◌>>=◌}
 use Rattle.board_decisions.proofs.Placed.{leg_placed}
-use Rattle.flow_model.specs.Numbers.{board_jobs, board_legs}
-use Rattle.flow_model.specs.declared.board.Board.{Board}
-use Rattle.flow_model.specs.declared.board.Job.{Job}
-use Rattle.flow_model.specs.declared.board.Leg.{Leg}
-use Rattle.flow_model.specs.declared.board.Run.{Run}
 use Rattle.status_table.proofs.Numbers.{legs_are_numbered}
-use Rattle.status_table.specs.Stays.{JobStays, LegStays, RunStays, Stays}
 use Rattle.debugger.specs.Breaks.{ended_failing, passes}
 
 -- two lists side by side before two others

@@ -5,7 +5,6 @@ use Rattle.std.proofs.lemmas.Bool.Decides.{Decides-eqb}
 use Rattle.std.proofs.lemmas.List.Folds.{list_any-append}
 use Rattle.std.proofs.lemmas.Map.Views.{any-filter_same}
 use Rattle.debugger.specs.declared.breaks.Break.{Break}
-use Rattle.debugger.specs.declared.breaks.Break.TheVariants as break'
 use Rattle.debugger.specs.Breaks.{AddsAlone, ClearsAlone, is_set, same_break, without_break}
 
 equal : (l m : ℕ) → (l == m) ≡ true → l ≡ m
@@ -24,23 +23,23 @@ second-true false b h = absurd (no h)
 
 -- two breaks are one only where they are equal
 same-is : (a b : Break) → same_break a b ≡ true → a ≡ b
-same-is (break'.Leg l) (break'.Leg m) h = ap break'.Leg (equal l m h)
-same-is (break'.Leg l) (break'.Step m t) h = cc
-same-is (break'.Leg l) (break'.Ends m) h = cc
-same-is (break'.Leg l) break'.Failed h = cc
-same-is (break'.Step l s) (break'.Leg m) h = cc
-same-is (break'.Step l s) (break'.Step m t) h =
-    ap (λ (x : ℕ). break'.Step x s) (equal l m (first-true (l == m) (s == t) h)) ∙ ap (break'.Step m) (equal s t (second-true (l == m) (s == t) h))
-same-is (break'.Step l s) (break'.Ends m) h = cc
-same-is (break'.Step l s) break'.Failed h = cc
-same-is (break'.Ends l) (break'.Leg m) h = cc
-same-is (break'.Ends l) (break'.Step m t) h = cc
-same-is (break'.Ends l) (break'.Ends m) h = ap break'.Ends (equal l m h)
-same-is (break'.Ends l) break'.Failed h = cc
-same-is break'.Failed (break'.Leg m) h = cc
-same-is break'.Failed (break'.Step m t) h = cc
-same-is break'.Failed (break'.Ends m) h = cc
-same-is break'.Failed break'.Failed h = refl
+same-is (Break.Leg l) (Break.Leg m) h = ap Break.Leg (equal l m h)
+same-is (Break.Leg l) (Break.Step m t) h = cc
+same-is (Break.Leg l) (Break.Ends m) h = cc
+same-is (Break.Leg l) Break.Failed h = cc
+same-is (Break.Step l s) (Break.Leg m) h = cc
+same-is (Break.Step l s) (Break.Step m t) h =
+    ap (λ (x : ℕ). Break.Step x s) (equal l m (first-true (l == m) (s == t) h)) ∙ ap (Break.Step m) (equal s t (second-true (l == m) (s == t) h))
+same-is (Break.Step l s) (Break.Ends m) h = cc
+same-is (Break.Step l s) Break.Failed h = cc
+same-is (Break.Ends l) (Break.Leg m) h = cc
+same-is (Break.Ends l) (Break.Step m t) h = cc
+same-is (Break.Ends l) (Break.Ends m) h = ap Break.Ends (equal l m h)
+same-is (Break.Ends l) Break.Failed h = cc
+same-is Break.Failed (Break.Leg m) h = cc
+same-is Break.Failed (Break.Step m t) h = cc
+same-is Break.Failed (Break.Ends m) h = cc
+same-is Break.Failed Break.Failed h = refl
 
 -- a break that is set may be set again
 pub adds-set : (added : Break) (breaks : List Break) → is_set added breaks ≡ true → AddsAlone added breaks breaks

@@ -1,33 +1,23 @@
 -- Breaks: when one holds of an entry, and the set of those that are set.
 use Rattle.std.specs.Prelude.{◌≡◌, ℕ, ◌==◌, ◌++◌, ◌&&◌, ◌||◌, Bool, true, false, not, List, [], ◌∷◌, length, filter, option_map, Option, Some, None, slice_get, if◌then◌else◌}
 use Rattle.std.specs.List.{list_any}
-use Rattle.board_decisions.specs.Derived.{is_ended, is_failure}
-use Rattle.flow_model.specs.Numbers.{board_legs}
-use Rattle.flow_model.specs.declared.board.Board.{Board}
-use Rattle.flow_model.specs.declared.board.Leg.{Leg}
-use Rattle.flow_model.specs.declared.board.LegState.{LegState}
-use Rattle.flow_model.specs.declared.board.LegState.TheVariants as leg_state
-use Rattle.flow_model.specs.declared.event.Entry.{Entry}
-use Rattle.flow_model.specs.declared.event.Event.{Event}
-use Rattle.flow_model.specs.declared.event.Event.TheVariants as event
-use Rattle.board_decisions.specs.Places.{numbers}
+use Rattle.status_table.specs.Words.{Board, Entry, Event, Leg, LegState, board_legs, is_ended, is_failure, numbers}
 use Rattle.debugger.specs.declared.breaks.Break.{Break}
-use Rattle.debugger.specs.declared.breaks.Break.TheVariants as break'
 
 -- ---- what an entry does
 
 -- whether an event is about a leg
 abbrev pub is_about : ℕ → Event → Bool
-is_about l (event.Open r) = false
-is_about l (event.Judge j) = false
-is_about l (event.Ask m) = m == l
-is_about l (event.Drop m) = m == l
-is_about l (event.Take m) = m == l
-is_about l (event.Begin m) = m == l
-is_about l (event.End m answer) = m == l
-is_about l (event.Finish m) = m == l
-is_about l (event.Close r) = false
-is_about l (event.Cancel r) = false
+is_about l (Event.Open r) = false
+is_about l (Event.Judge j) = false
+is_about l (Event.Ask m) = m == l
+is_about l (Event.Drop m) = m == l
+is_about l (Event.Take m) = m == l
+is_about l (Event.Begin m) = m == l
+is_about l (Event.End m answer) = m == l
+is_about l (Event.Finish m) = m == l
+is_about l (Event.Close r) = false
+is_about l (Event.Cancel r) = false
 
 -- how many steps of a leg are done, if there is such a leg: its next step has that number
 abbrev pub steps_done : Board → ℕ → Option ℕ
@@ -35,16 +25,16 @@ steps_done b l = option_map (λ leg. length leg.steps) (slice_get (board_legs b)
 
 -- the step that an event begins on a board, if it is a Begin
 abbrev pub step_begun : Board → Event → Option ℕ
-step_begun b (event.Open r) = None
-step_begun b (event.Judge j) = None
-step_begun b (event.Ask l) = None
-step_begun b (event.Drop l) = None
-step_begun b (event.Take l) = None
-step_begun b (event.Begin l) = steps_done b l
-step_begun b (event.End l answer) = None
-step_begun b (event.Finish l) = None
-step_begun b (event.Close r) = None
-step_begun b (event.Cancel r) = None
+step_begun b (Event.Open r) = None
+step_begun b (Event.Judge j) = None
+step_begun b (Event.Ask l) = None
+step_begun b (Event.Drop l) = None
+step_begun b (Event.Take l) = None
+step_begun b (Event.Begin l) = steps_done b l
+step_begun b (Event.End l answer) = None
+step_begun b (Event.Finish l) = None
+step_begun b (Event.Close r) = None
+step_begun b (Event.Cancel r) = None
 
 -- whether that is the step with a number
 abbrev pub is_step : ℕ → Option ℕ → Bool
@@ -53,11 +43,11 @@ is_step s (Some begun) = begun == s
 
 -- ended with failure, tolerated or not
 abbrev pub ended_failing : LegState → Bool
-ended_failing leg_state.Fresh = false
-ended_failing leg_state.Waiting = false
-ended_failing leg_state.Admitted = false
-ended_failing (leg_state.Running worker in_call) = false
-ended_failing (leg_state.Ended result tolerated) = is_failure result
+ended_failing LegState.Fresh = false
+ended_failing LegState.Waiting = false
+ended_failing LegState.Admitted = false
+ended_failing (LegState.Running worker in_call) = false
+ended_failing (LegState.Ended result tolerated) = is_failure result
 
 -- whether the state of a leg, if there is one, passes a test
 abbrev pub passes : (LegState → Bool) → Option Leg → Bool
@@ -73,31 +63,31 @@ becomes test old new l = passes test (slice_get (board_legs new) l) && not (pass
 -- Whether a break holds of an entry, by the board before it and the board after it: the entry is about the leg, it is the
 -- Begin of that step of the leg, the leg became Ended by it, or some leg became Ended with failure.
 abbrev pub holds_of : Break → Entry → Board → Board → Bool
-holds_of (break'.Leg l) e old new = is_about l e.event
-holds_of (break'.Step l s) e old new = is_about l e.event && is_step s (step_begun old e.event)
-holds_of (break'.Ends l) e old new = becomes is_ended old new l
-holds_of break'.Failed e old new = list_any (becomes ended_failing old new) (numbers (length (board_legs new)))
+holds_of (Break.Leg l) e old new = is_about l e.event
+holds_of (Break.Step l s) e old new = is_about l e.event && is_step s (step_begun old e.event)
+holds_of (Break.Ends l) e old new = becomes is_ended old new l
+holds_of Break.Failed e old new = list_any (becomes ended_failing old new) (numbers (length (board_legs new)))
 
 -- ---- the set of breaks
 
 -- whether two breaks are one
 abbrev pub same_break : Break → Break → Bool
-same_break (break'.Leg l) (break'.Leg m) = l == m
-same_break (break'.Leg l) (break'.Step m t) = false
-same_break (break'.Leg l) (break'.Ends m) = false
-same_break (break'.Leg l) break'.Failed = false
-same_break (break'.Step l s) (break'.Leg m) = false
-same_break (break'.Step l s) (break'.Step m t) = l == m && s == t
-same_break (break'.Step l s) (break'.Ends m) = false
-same_break (break'.Step l s) break'.Failed = false
-same_break (break'.Ends l) (break'.Leg m) = false
-same_break (break'.Ends l) (break'.Step m t) = false
-same_break (break'.Ends l) (break'.Ends m) = l == m
-same_break (break'.Ends l) break'.Failed = false
-same_break break'.Failed (break'.Leg m) = false
-same_break break'.Failed (break'.Step m t) = false
-same_break break'.Failed (break'.Ends m) = false
-same_break break'.Failed break'.Failed = true
+same_break (Break.Leg l) (Break.Leg m) = l == m
+same_break (Break.Leg l) (Break.Step m t) = false
+same_break (Break.Leg l) (Break.Ends m) = false
+same_break (Break.Leg l) Break.Failed = false
+same_break (Break.Step l s) (Break.Leg m) = false
+same_break (Break.Step l s) (Break.Step m t) = l == m && s == t
+same_break (Break.Step l s) (Break.Ends m) = false
+same_break (Break.Step l s) Break.Failed = false
+same_break (Break.Ends l) (Break.Leg m) = false
+same_break (Break.Ends l) (Break.Step m t) = false
+same_break (Break.Ends l) (Break.Ends m) = l == m
+same_break (Break.Ends l) Break.Failed = false
+same_break Break.Failed (Break.Leg m) = false
+same_break Break.Failed (Break.Step m t) = false
+same_break Break.Failed (Break.Ends m) = false
+same_break Break.Failed Break.Failed = true
 
 -- whether a break is set
 abbrev pub is_set : Break → List Break → Bool

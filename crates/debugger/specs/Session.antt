@@ -1,12 +1,9 @@
 -- A record under the debugger, and its moves.
 use Rattle.std.specs.Prelude.{◌≡◌, ◌≤◌, ◌<◌, ◌+◌, ◌-◌, ◌==◌, ℕ, Bool, true, false, List, [], length, nat_le, Option, Result, Ok, Err, is_ok, if◌then◌else◌}
 use Rattle.std.specs.List.{list_any}
-use Rattle.flow_model.specs.declared.plan.Plan.{Plan}
-use Rattle.flow_model.specs.declared.board.Board.{Board}
-use Rattle.flow_model.specs.declared.event.Entry.{Entry}
+use Rattle.status_table.specs.Words.{Board, Entry, Plan}
 use Rattle.debugger.specs.declared.breaks.Break.{Break}
 use Rattle.debugger.specs.declared.fault.DebugFault.{DebugFault}
-use Rattle.debugger.specs.declared.fault.DebugFault.TheVariants as fault
 use Rattle.debugger.specs.Places.{board_at, holds}
 
 -- a plan with the board to begin on, the entries of its record, the place among them, and the breaks that are set
@@ -37,15 +34,15 @@ with_breaks s breaks = record s { breaks = breaks }
 
 -- where a step leads, or why it leads nowhere
 abbrev pub next_place : Session → Result ℕ DebugFault
-next_place s = if s.place == length s.entries then Err fault.AtEnd else Ok (s.place + 1)
+next_place s = if s.place == length s.entries then Err DebugFault.AtEnd else Ok (s.place + 1)
 
 -- where a step back leads, or why it leads nowhere
 abbrev pub previous_place : Session → Result ℕ DebugFault
-previous_place s = if s.place == 0 then Err fault.AtStart else Ok (s.place - 1)
+previous_place s = if s.place == 0 then Err DebugFault.AtStart else Ok (s.place - 1)
 
 -- whether there is a place
 abbrev pub asked_place : Session → ℕ → Result ℕ DebugFault
-asked_place s k = if nat_le k (length s.entries) then Ok k else Err fault.NoPlace
+asked_place s k = if nat_le k (length s.entries) then Ok k else Err DebugFault.NoPlace
 
 -- what a move leaves: the place that it leads to, or all as it was
 abbrev pub moved : Session → Result ℕ DebugFault → Session
@@ -60,12 +57,12 @@ Moves target old result new = (result ≡ target) × (new ≡ moved old target)
 -- without it.
 abbrev pub MovesInMemory : Result ℕ DebugFault → Session → Result ℕ DebugFault → Session → Type 0
 MovesInMemory target old (Ok k) new = (target ≡ Ok k) × (new ≡ at_place old k)
-MovesInMemory target old (Err fault.AtStart) new = (target ≡ Err fault.AtStart) × (new ≡ old)
-MovesInMemory target old (Err fault.AtEnd) new = (target ≡ Err fault.AtEnd) × (new ≡ old)
-MovesInMemory target old (Err fault.NoPlace) new = (target ≡ Err fault.NoPlace) × (new ≡ old)
-MovesInMemory target old (Err fault.NoBreak) new = (target ≡ Err fault.NoBreak) × (new ≡ old)
-MovesInMemory target old (Err (fault.BadRecord i refusal)) new = (target ≡ Err (fault.BadRecord i refusal)) × (new ≡ old)
-MovesInMemory target old (Err fault.Memory) new = (is_ok target ≡ true) × (new ≡ old)
+MovesInMemory target old (Err DebugFault.AtStart) new = (target ≡ Err DebugFault.AtStart) × (new ≡ old)
+MovesInMemory target old (Err DebugFault.AtEnd) new = (target ≡ Err DebugFault.AtEnd) × (new ≡ old)
+MovesInMemory target old (Err DebugFault.NoPlace) new = (target ≡ Err DebugFault.NoPlace) × (new ≡ old)
+MovesInMemory target old (Err DebugFault.NoBreak) new = (target ≡ Err DebugFault.NoBreak) × (new ≡ old)
+MovesInMemory target old (Err (DebugFault.BadRecord i refusal)) new = (target ≡ Err (DebugFault.BadRecord i refusal)) × (new ≡ old)
+MovesInMemory target old (Err DebugFault.Memory) new = (is_ok target ≡ true) × (new ≡ old)
 
 -- ---- moves to the nearest break
 
@@ -98,19 +95,19 @@ NoPreviousStop s = (j : ℕ) → j < s.place → stops_at s j ≡ false
 -- is anything where there is one, and no memory.
 abbrev pub GoesOn : Session → Result ℕ DebugFault → Session → Type 0
 GoesOn old (Ok k) new = NextStop old k × (new ≡ at_place old k)
-GoesOn old (Err fault.NoBreak) new = NoNextStop old × (new ≡ old)
-GoesOn old (Err fault.Memory) new = ((k : ℕ) × NextStop old k) × (new ≡ old)
-GoesOn old (Err fault.AtStart) new = ⊥
-GoesOn old (Err fault.AtEnd) new = ⊥
-GoesOn old (Err fault.NoPlace) new = ⊥
-GoesOn old (Err (fault.BadRecord i refusal)) new = ⊥
+GoesOn old (Err DebugFault.NoBreak) new = NoNextStop old × (new ≡ old)
+GoesOn old (Err DebugFault.Memory) new = ((k : ℕ) × NextStop old k) × (new ≡ old)
+GoesOn old (Err DebugFault.AtStart) new = ⊥
+GoesOn old (Err DebugFault.AtEnd) new = ⊥
+GoesOn old (Err DebugFault.NoPlace) new = ⊥
+GoesOn old (Err (DebugFault.BadRecord i refusal)) new = ⊥
 
 -- Going back leads to the nearest earlier stop and answers it; where there is none it is refused, and nothing is changed.
 abbrev pub GoesBack : Session → Result ℕ DebugFault → Session → Type 0
 GoesBack old (Ok k) new = PreviousStop old k × (new ≡ at_place old k)
-GoesBack old (Err fault.NoBreak) new = NoPreviousStop old × (new ≡ old)
-GoesBack old (Err fault.Memory) new = ⊥
-GoesBack old (Err fault.AtStart) new = ⊥
-GoesBack old (Err fault.AtEnd) new = ⊥
-GoesBack old (Err fault.NoPlace) new = ⊥
-GoesBack old (Err (fault.BadRecord i refusal)) new = ⊥
+GoesBack old (Err DebugFault.NoBreak) new = NoPreviousStop old × (new ≡ old)
+GoesBack old (Err DebugFault.Memory) new = ⊥
+GoesBack old (Err DebugFault.AtStart) new = ⊥
+GoesBack old (Err DebugFault.AtEnd) new = ⊥
+GoesBack old (Err DebugFault.NoPlace) new = ⊥
+GoesBack old (Err (DebugFault.BadRecord i refusal)) new = ⊥

@@ -1,16 +1,8 @@
 -- The way that a board came: the boards before it, each of which can be gone back to.
 use Rattle.std.specs.Prelude.{◌≡◌, ◌≤◌, ◌<◌, ◌++◌, ℕ, suc, List, [], ◌∷◌, length, Option, Some, Result, Ok, Err, slice_get}
-use Rattle.board_decisions.specs.Places.{leg_places}
-use Rattle.flow_model.specs.declared.plan.Plan.{Plan}
-use Rattle.flow_model.specs.declared.board.Board.{Board}
-use Rattle.flow_model.specs.declared.event.Entry.{Entry}
+use Rattle.status_table.specs.Words.{Board, Entry, Plan, Refuses, Row, after_from, leg_places, row}
 use Rattle.status_table.specs.declared.fault.EventFault.{EventFault}
-use Rattle.status_table.specs.declared.fault.EventFault.TheVariants as refusal
-use Rattle.status_table.specs.Answers.{Refuses}
-use Rattle.status_table.specs.Row.{Row, row}
-use Rattle.status_table.specs.Runs.{after_from}
 use Rattle.debugger.specs.declared.fault.DebugFault.{DebugFault}
-use Rattle.debugger.specs.declared.fault.DebugFault.TheVariants as fault
 use Rattle.debugger.specs.declared.breaks.Break.{Break}
 use Rattle.debugger.specs.declared.marks.Mark.{Mark}
 use Rattle.debugger.specs.Marks.{TellsBreaks, is_marked}
@@ -83,25 +75,25 @@ pub record Follows (p : Plan) (b : Board) (past : List Board) (now : Board) (es 
 
 -- why an entry of a record is not played, by its place and its row
 abbrev pub NotPlayed : Row → ℕ → DebugFault → Type 0
-NotPlayed r k fault.AtStart = ⊥
-NotPlayed r k fault.AtEnd = ⊥
-NotPlayed r k fault.NoPlace = ⊥
-NotPlayed r k fault.NoBreak = ⊥
-NotPlayed r k (fault.BadRecord i why) = (i ≡ k) × (r ≡ Err why)
-NotPlayed r k fault.Memory = Unit {0}
+NotPlayed r k DebugFault.AtStart = ⊥
+NotPlayed r k DebugFault.AtEnd = ⊥
+NotPlayed r k DebugFault.NoPlace = ⊥
+NotPlayed r k DebugFault.NoBreak = ⊥
+NotPlayed r k (DebugFault.BadRecord i why) = (i ≡ k) × (r ≡ Err why)
+NotPlayed r k DebugFault.Memory = Unit {0}
 
 -- the refusal of the entry at a place
 abbrev pub refused_at : ℕ → EventFault → DebugFault
-refused_at k refusal.NoSuch = fault.BadRecord k refusal.NoSuch
-refused_at k refusal.WrongState = fault.BadRecord k refusal.WrongState
-refused_at k refusal.OtherWorker = fault.BadRecord k refusal.OtherWorker
-refused_at k refusal.NeedsOpen = fault.BadRecord k refusal.NeedsOpen
-refused_at k refusal.SlotsFull = fault.BadRecord k refusal.SlotsFull
-refused_at k refusal.Stopping = fault.BadRecord k refusal.Stopping
-refused_at k refusal.NotStopping = fault.BadRecord k refusal.NotStopping
-refused_at k refusal.StepsLeft = fault.BadRecord k refusal.StepsLeft
-refused_at k refusal.BadAnswer = fault.BadRecord k refusal.BadAnswer
-refused_at k refusal.Memory = fault.Memory
+refused_at k EventFault.NoSuch = DebugFault.BadRecord k EventFault.NoSuch
+refused_at k EventFault.WrongState = DebugFault.BadRecord k EventFault.WrongState
+refused_at k EventFault.OtherWorker = DebugFault.BadRecord k EventFault.OtherWorker
+refused_at k EventFault.NeedsOpen = DebugFault.BadRecord k EventFault.NeedsOpen
+refused_at k EventFault.SlotsFull = DebugFault.BadRecord k EventFault.SlotsFull
+refused_at k EventFault.Stopping = DebugFault.BadRecord k EventFault.Stopping
+refused_at k EventFault.NotStopping = DebugFault.BadRecord k EventFault.NotStopping
+refused_at k EventFault.StepsLeft = DebugFault.BadRecord k EventFault.StepsLeft
+refused_at k EventFault.BadAnswer = DebugFault.BadRecord k EventFault.BadAnswer
+refused_at k EventFault.Memory = DebugFault.Memory
 
 -- An entry was played, what is kept of it tells which breaks hold of it, and the legs stand where they stood.
 pub record Recorded (old : Trail) (e : Entry) (new : Trail) (mark : Mark) : Type 0 where

@@ -1,12 +1,6 @@
 -- Which of a clerk's events are accepted.
 use Rattle.std.proofs.Common.{◌≡◌, ℕ, ◌+◌, ◌++◌, Bool, true, false, List, [], ◌∷◌, Option, Result, map, filter}
-use Rattle.board_decisions.specs.Place.{LegAt}
-use Rattle.board_decisions.specs.declared.entrance.Entrance.{Entrance}
-use Rattle.flow_model.specs.declared.board.Board.{Board}
-use Rattle.flow_model.specs.declared.reply.ValueFault.{ValueFault}
-use Rattle.status_table.specs.Moves.{is_accepted}
-use Rattle.board_decisions.specs.Places.{numbers}
-use Rattle.status_table.specs.Row.{leg_enters}
+use Rattle.status_table.specs.Words.{Board, Entrance, LegAt, ValueFault, is_accepted, leg_enters, numbers}
 use Rattle.status_table.proofs.Accepting as known
 
 pub leg_enters_accepted : (b : Board) (l : ℕ) (at : LegAt) (x : Result (Option Entrance) ValueFault) → is_accepted (leg_enters b l at x) ≡ true

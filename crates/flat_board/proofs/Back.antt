@@ -1,24 +1,7 @@
 -- An event that is taken back.
 use Rattle.std.proofs.Common.{◌≡◌, ◌≢◌, ◌⊎◌, ℕ, inl, inr, ◌≤◌, Bool, true, false, List, [], ◌∷◌, Option, Some, None, Result, Ok, Err, option_map, option_and_then, slice_get, ap, subst, sym, refl, ◌∙◌}
 use Rattle.std.specs.Prelude.{IfOk}
-use Rattle.board_decisions.specs.Place.{◌>>=◌}
-use Rattle.flow_model.specs.Mapping.{value_at, Ascends}
-use Rattle.flow_model.specs.Numbers.{board_legs}
-use Rattle.flow_model.specs.declared.board.Board.{Board}
-use Rattle.flow_model.specs.declared.board.Run.{Run}
-use Rattle.flow_model.specs.declared.board.RunState.{RunState}
-use Rattle.flow_model.specs.declared.board.RunState.TheVariants as run_state
-use Rattle.flow_model.specs.declared.board.Leg.{Leg}
-use Rattle.flow_model.specs.declared.board.LegState.{LegState}
-use Rattle.flow_model.specs.declared.board.LegState.TheVariants as leg_state
-use Rattle.flow_model.specs.declared.event.Event.{Event}
-use Rattle.flow_model.specs.declared.event.Member.{Member}
-use Rattle.flow_model.specs.declared.event.Member.TheVariants as member
-use Rattle.flow_model.specs.declared.plan.Plan.{Plan}
-use Rattle.flow_model.specs.declared.reply.Reply.{Reply}
-use Rattle.group_admission.specs.Content.{Content}
-use Rattle.group_admission.specs.Known.{Known, content, is_known, put_known}
-use Rattle.group_admission.specs.declared.held.Held.{Held}
+use Rattle.status_table.specs.Words.{Ascends, Board, Content, Event, Held, InPlay, KeptAsShown, Known, Leg, LegState, Member, Plan, Reply, Run, RunState, Standing, answer_of, apart, board_legs, content, done_of, holding, is_known, leg_standing, leg_stands, put_known, run_standing, run_stands, value_at, waiting, without_reply, ◌>>=◌}
 use Rattle.group_admission.proofs.Back.{all_put_back, same_content}
 use Rattle.flat_board.specs.Index.{Follows, FollowsUnasked, EventsKeep}
 use Rattle.flat_board.specs.Names.{IsName, IsNamedIn, NamesKnown, Seen, SeenNamed, group_at, group_of, leg_names, run_names, seen_at}
@@ -29,11 +12,6 @@ use Rattle.flat_board.specs.declared.undo.CellBack.{CellBack}
 use Rattle.flat_board.specs.declared.undo.Undo.{Undo}
 use Rattle.flat_board.proofs.Known.{names_before, names_put_back, stays_in}
 use Rattle.flat_board.proofs.Playing.{sound_after}
-use Rattle.status_table.specs.Grouped.{KeptAsShown}
-use Rattle.status_table.specs.Groups.{Standing, apart, holding, leg_stands, leg_standing, run_stands, run_standing, waiting}
-use Rattle.status_table.specs.InPlay.{InPlay}
-use Rattle.status_table.specs.Reversible.{answer_of, done_of}
-use Rattle.status_table.specs.Unasked.{without_reply}
 use Rattle.status_table.specs.declared.fault.EventFault.{EventFault}
 use Rattle.status_table.proofs.Steps.{standing}
 use Rattle.status_table.proofs.Turnover.{a_holder, a_waiter}
@@ -67,25 +45,25 @@ stood_for (holding g) = g
 stood_for (waiting g) = g
 
 run_group : (s : RunState) (g : Option (List ℕ)) (name : List ℕ) → stood_for (run_stands s g) ≡ Some name → g ≡ Some name
-run_group run_state.New g name is = absurd (no_some name is)
-run_group run_state.Waiting g name is = is
-run_group run_state.Going g name is = is
-run_group (run_state.Closed result) g name is = absurd (no_some name is)
+run_group RunState.New g name is = absurd (no_some name is)
+run_group RunState.Waiting g name is = is
+run_group RunState.Going g name is = is
+run_group (RunState.Closed result) g name is = absurd (no_some name is)
 
 leg_group : (s : LegState) (g : Option (List ℕ)) (name : List ℕ) → stood_for (leg_stands s g) ≡ Some name → g ≡ Some name
-leg_group leg_state.Fresh g name is = absurd (no_some name is)
-leg_group leg_state.Waiting g name is = is
-leg_group leg_state.Admitted g name is = is
-leg_group (leg_state.Running worker in_call) g name is = is
-leg_group (leg_state.Ended result tolerated) g name is = absurd (no_some name is)
+leg_group LegState.Fresh g name is = absurd (no_some name is)
+leg_group LegState.Waiting g name is = is
+leg_group LegState.Admitted g name is = is
+leg_group (LegState.Running worker in_call) g name is = is
+leg_group (LegState.Ended result tolerated) g name is = absurd (no_some name is)
 
 standing_group : (b : Board) (m : Member) (s : Standing) (name : List ℕ) → standing b m ≡ Some s → stood_for s ≡ Some name → group_at b m ≡ Some name
-standing_group b (member.Run r) s name is stood = by (slice_get b.runs r) is
+standing_group b (Member.Run r) s name is stood = by (slice_get b.runs r) is
   where
     by : (o : Option Run) → option_map run_standing o ≡ Some s → group_of (o >>= run_names) ≡ Some name
     by None is = absurd (no_some s is)
     by (Some run) is = run_group run.state run.group name (ap stood_for (same_some (run_standing run) s is) ∙ stood)
-standing_group b (member.Leg l) s name is stood = by (slice_get (board_legs b) l) is
+standing_group b (Member.Leg l) s name is stood = by (slice_get (board_legs b) l) is
   where
     by : (o : Option Leg) → option_map leg_standing o ≡ Some s → group_of (o >>= leg_names) ≡ Some name
     by None is = absurd (no_some s is)

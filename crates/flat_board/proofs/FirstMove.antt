@@ -1,11 +1,7 @@
 -- The first of the clerk's events that are accepted.
 use Rattle.std.proofs.Common.{◌≡◌, ℕ, zero, suc, ◌+◌, ◌-◌, ◌<◌, ◌++◌, Bool, true, false, List, [], ◌∷◌, Some, None, length, map, filter, slice_get, ap, sym, refl, subst, ◌∙◌, arith}
-use Rattle.flow_model.specs.Numbers.{board_jobs, board_legs}
-use Rattle.flow_model.specs.declared.board.Board.{Board}
-use Rattle.status_table.specs.Kinds.{events_of}
-use Rattle.status_table.specs.declared.moves.MoveKind.TheVariants as kind
-use Rattle.status_table.specs.Moves.{clerk_events}
-use Rattle.board_decisions.specs.Places.{numbers}
+use Rattle.status_table.specs.Words.{Board, board_jobs, board_legs, clerk_events, events_of, numbers}
+use Rattle.status_table.specs.declared.moves.MoveKind.{MoveKind}
 use Rattle.status_table.proofs.Accepting.{step}
 use Rattle.flat_board.proofs.Accepting.{one_more, none_more}
 
@@ -43,11 +39,11 @@ first_there t f n count below none holds =
 
 -- The clerk's events by their kinds, where the counts are those of a board.
 pub as_counted : (b : Board) (n j l : ℕ) → n ≡ length b.runs → j ≡ length (board_jobs b) → l ≡ length (board_legs b)
-    → events_of kind.Close n ++ (events_of kind.Open n ++ (events_of kind.Judge j ++ (events_of kind.Drop l ++ events_of kind.Ask l))) ≡ clerk_events b
+    → events_of MoveKind.Close n ++ (events_of MoveKind.Open n ++ (events_of MoveKind.Judge j ++ (events_of MoveKind.Drop l ++ events_of MoveKind.Ask l))) ≡ clerk_events b
 as_counted b n j l n_is j_is l_is =
-    ap (λ m. events_of kind.Close m ++ (events_of kind.Open m ++ (events_of kind.Judge j ++ (events_of kind.Drop l ++ events_of kind.Ask l)))) n_is
-    ∙ ap (λ m. events_of kind.Close (length b.runs) ++ (events_of kind.Open (length b.runs) ++ (events_of kind.Judge m ++ (events_of kind.Drop l ++ events_of kind.Ask l)))) j_is
-    ∙ ap (λ m. events_of kind.Close (length b.runs) ++ (events_of kind.Open (length b.runs) ++ (events_of kind.Judge (length (board_jobs b)) ++ (events_of kind.Drop m ++ events_of kind.Ask m)))) l_is
+    ap (λ m. events_of MoveKind.Close m ++ (events_of MoveKind.Open m ++ (events_of MoveKind.Judge j ++ (events_of MoveKind.Drop l ++ events_of MoveKind.Ask l)))) n_is
+    ∙ ap (λ m. events_of MoveKind.Close (length b.runs) ++ (events_of MoveKind.Open (length b.runs) ++ (events_of MoveKind.Judge m ++ (events_of MoveKind.Drop l ++ events_of MoveKind.Ask l)))) j_is
+    ∙ ap (λ m. events_of MoveKind.Close (length b.runs) ++ (events_of MoveKind.Open (length b.runs) ++ (events_of MoveKind.Judge (length (board_jobs b)) ++ (events_of MoveKind.Drop m ++ events_of MoveKind.Ask m)))) l_is
 
 -- and none where some more are refused
 pub none_through : {A : Type 0} (t : A → Bool) (f : ℕ → A) (n d : ℕ) → filter t (map f (numbers n)) ≡ [] → ((i : ℕ) → i < d → t (f (n + i)) ≡ false)

@@ -1,14 +1,7 @@
 -- What the index of groups tells of a board.
 use Rattle.std.proofs.Common.{◌≡◌, ◌⊎◌, ℕ, inl, inr, false, List, [], ◌∷◌, Option, Some, None, option_map, option_and_then, if◌then◌else◌, ap, refl, ◌∙◌}
-use Rattle.expr_reader.specs.Fold.{fold}
-use Rattle.flow_model.specs.Mapping.{value_at, with_pair}
-use Rattle.flow_model.specs.declared.board.Board.{Board}
-use Rattle.flow_model.specs.declared.event.Member.{Member}
-use Rattle.flow_model.specs.declared.event.Member.TheVariants as member
-use Rattle.group_admission.specs.Content.{Content, holder_of, waiter_of, after_enter, after_at, is_own as own_run}
-use Rattle.group_admission.specs.declared.held.Held.{Held}
-use Rattle.status_table.specs.Grouped.{KeptAsShown}
-use Rattle.status_table.specs.Groups.{holder, is_own, waiter}
+use Rattle.status_table.specs.Words.{Board, Content, Held, KeptAsShown, Member, after_at, after_enter, fold, holder, holder_of, is_own, value_at, waiter, waiter_of, with_pair}
+use Rattle.group_admission.specs.Content.{is_own as own_run}
 use Rattle.flat_board.specs.Undo.{IsAt, NameChanged}
 use Rattle.flow_model.proofs.Lookups.{found_other, found_same}
 use Rattle.flat_board.specs.Names.{IsName}
@@ -24,8 +17,8 @@ waiter_told groups b name named kept = ap (λ n. waiter_of n groups) named.folde
 -- whether a holder is the own run is asked in one way
 pub own_same : (own : Option ℕ) (h : Member) → own_run own h ≡ is_own own h
 own_same None h = refl
-own_same (Some r) (member.Run s) = refl
-own_same (Some r) (member.Leg l) = refl
+own_same (Some r) (Member.Run s) = refl
+own_same (Some r) (Member.Leg l) = refl
 
 -- ---- what leads back from a member that entered
 

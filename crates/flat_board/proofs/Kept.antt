@@ -1,9 +1,6 @@
 -- A leg that is displaced in two steps, and one whose end is taken back.
 use Rattle.std.proofs.Common.{◌≡◌, ℕ, List, Option}
-use Rattle.flow_model.specs.declared.board.Board.{Board}
-use Rattle.flow_model.specs.declared.event.Member.{Member}
-use Rattle.status_table.specs.Groups.{waits, displaced}
-use Rattle.status_table.specs.Seen.{noted, put_out}
+use Rattle.status_table.specs.Words.{Board, Member, displaced, noted, put_out, waits}
 use Rattle.status_table.proofs.Kept as kept
 
 -- To note first that a leg ended, and to put it out after another began to wait, is to displace it.

@@ -3,37 +3,17 @@ use Rattle.std.proofs.Common.{◌≡◌, ◌≢◌, ℕ, zero, suc, ◌+◌, ◌
 use Rattle.std.specs.List.{flat_map}
 use Rattle.std.proofs.lemmas.Option.{slice_get_within}
 use Rattle.std.proofs.lemmas.Bool.{true≢false}
+use Rattle.status_table.specs.Words.{Board, Content, Entrance, Event, Held, Job, Known, LegAt, Member, Plan, Reply, Row, Run, RunAt, ValueFault, after_at, after_enter, after_event, asked, board_jobs, content, event_row, fold, is_fresh, is_known, leg_asked, opened, put_known, run_opened, value_at, with_pair, ◌>>=◌}
 use Rattle.board_decisions.proofs.Lists.{get-left, get-right, no_some, same_some}
-use Rattle.board_decisions.specs.Derived.{is_fresh}
-use Rattle.board_decisions.specs.Place.{◌>>=◌, RunAt, LegAt}
-use Rattle.flow_model.specs.Numbers.{board_jobs}
-use Rattle.flow_model.specs.declared.board.Run.{Run}
-use Rattle.flow_model.specs.declared.board.Job.{Job}
-use Rattle.board_decisions.specs.declared.entrance.Entrance.{Entrance}
-use Rattle.flow_model.specs.Mapping.{value_at, with_pair}
 use Rattle.flow_model.proofs.Lookups.{found_same}
-use Rattle.flow_model.specs.declared.board.Board.{Board}
-use Rattle.flow_model.specs.declared.event.Event.{Event}
-use Rattle.flow_model.specs.declared.event.Event.TheVariants as event
-use Rattle.flow_model.specs.declared.event.Member.{Member}
-use Rattle.flow_model.specs.declared.event.Member.TheVariants as member
-use Rattle.flow_model.specs.declared.plan.Plan.{Plan}
-use Rattle.flow_model.specs.declared.reply.Reply.{Reply}
-use Rattle.flow_model.specs.declared.reply.ValueFault.{ValueFault}
-use Rattle.group_admission.specs.Content.{Content, after_at, after_enter, is_own}
-use Rattle.group_admission.specs.Known.{Known, content, is_known, put_known}
-use Rattle.group_admission.specs.declared.held.Held.{Held}
+use Rattle.group_admission.specs.Content.{is_own}
 use Rattle.group_admission.proofs.Back.{held_is_known, put_keeps}
-use Rattle.expr_reader.specs.Fold.{fold}
 use Rattle.flat_board.specs.Index.{AsksNamed, Keeps}
 use Rattle.flat_board.specs.Names.{IsGroup, IsName, IsNamed, IsNamedIn, NamesKnown, Seen, SeenNamed, group_at, group_of, is_new, leg_names, run_names, seen_at}
 use Rattle.flat_board.specs.Undo.{groups_put_back, name_put_back}
 use Rattle.flat_board.specs.declared.undo.CellBack.{CellBack}
 use Rattle.flat_board.proofs.Named.{leg_asks, run_asks}
 use Rattle.flat_board.proofs.Names.{Comes, Enters, ThenSeen, event_step, flag_of}
-use Rattle.status_table.specs.Admissions.{asked, opened}
-use Rattle.status_table.specs.Grouped.{after_event, leg_asked, run_opened}
-use Rattle.status_table.specs.Row.{Row, event_row}
 
 -- ---- what is known is named
 
@@ -55,11 +35,11 @@ in_all g (z ∷ zs) (suc i) k x y at there =
 
 pub board_named : (known : Known) (b : Board) → NamesKnown known b → IsNamed b
 board_named known b names = λ r run in_runs. record {
-  group = seen_group known (is_new run.state) run.group (subst (SeenNamed known) (ap (λ o. o >>= run_names) in_runs) (names (member.Run r)));
+  group = seen_group known (is_new run.state) run.group (subst (SeenNamed known) (ap (λ o. o >>= run_names) in_runs) (names (Member.Run r)));
   jobs = λ j job in_jobs k leg in_legs.
       let of_all = in_all (λ (x : Run). x.jobs) b.runs r j run job in_runs in_jobs in
       let there = in_all (λ (x : Job). x.legs) (board_jobs b) of_all.0 k job leg of_all.1 in_legs in
-      seen_group known (is_fresh leg.state) leg.group (subst (SeenNamed known) (ap (λ o. o >>= leg_names) there.1) (names (member.Leg there.0)));
+      seen_group known (is_fresh leg.state) leg.group (subst (SeenNamed known) (ap (λ o. o >>= leg_names) there.1) (names (Member.Leg there.0)));
 }
 
 -- ---- after an event
@@ -98,25 +78,25 @@ older_named known false group h = h
 module _ (p : Plan) (b : Board) (worker : ℕ) (groups after : Known) (keeps : Keeps groups after) (names : NamesKnown groups b) where
   named_comes : (e : Event) → content after ≡ after_event p b (content groups) e → (group : Option Entrance) → Enters p b e group → Comes (SeenNamed after) group
   named_comes e is None enters = λ s new h. tt
-  named_comes (event.Open r) is (Some g) enters = λ s new h.
+  named_comes (Event.Open r) is (Some g) enters = λ s new h.
       let named : IsName g.name = subst AsksNamed enters.2 (run_asks enters.0) in
-      let held : content after ≡ after_enter g.name (member.Run r) None (content groups) =
+      let held : content after ≡ after_enter g.name (Member.Run r) None (content groups) =
       is ∙ ap (λ (o : Option RunAt). run_opened (content groups) r o) enters.1 ∙ ap (λ (x : Result (Option Entrance) ValueFault). opened (content groups) r x) enters.2 in
-      (named, entered_known g.name (member.Run r) None (content groups) after named.some held)
-  named_comes (event.Judge j) is (Some g) enters = absurd enters
-  named_comes (event.Ask l) is (Some g) enters = λ s new h.
+      (named, entered_known g.name (Member.Run r) None (content groups) after named.some held)
+  named_comes (Event.Judge j) is (Some g) enters = absurd enters
+  named_comes (Event.Ask l) is (Some g) enters = λ s new h.
       let at = enters.0 in
       let named : IsName g.name = subst AsksNamed enters.2 (leg_asks at) in
-      let held : content after ≡ after_enter g.name (member.Leg l) (Some at.place.run) (content groups) =
+      let held : content after ≡ after_enter g.name (Member.Leg l) (Some at.place.run) (content groups) =
       is ∙ ap (λ (o : Option LegAt). leg_asked (content groups) l o) enters.1 ∙ ap (λ (x : Result (Option Entrance) ValueFault). asked (content groups) l at.place.run x) enters.2 in
-      (named, entered_known g.name (member.Leg l) (Some at.place.run) (content groups) after named.some held)
-  named_comes (event.Drop l) is (Some g) enters = absurd enters
-  named_comes (event.Take l) is (Some g) enters = absurd enters
-  named_comes (event.Begin l) is (Some g) enters = absurd enters
-  named_comes (event.End l a) is (Some g) enters = absurd enters
-  named_comes (event.Finish l) is (Some g) enters = absurd enters
-  named_comes (event.Close r) is (Some g) enters = absurd enters
-  named_comes (event.Cancel r) is (Some g) enters = absurd enters
+      (named, entered_known g.name (Member.Leg l) (Some at.place.run) (content groups) after named.some held)
+  named_comes (Event.Drop l) is (Some g) enters = absurd enters
+  named_comes (Event.Take l) is (Some g) enters = absurd enters
+  named_comes (Event.Begin l) is (Some g) enters = absurd enters
+  named_comes (Event.End l a) is (Some g) enters = absurd enters
+  named_comes (Event.Finish l) is (Some g) enters = absurd enters
+  named_comes (Event.Close r) is (Some g) enters = absurd enters
+  named_comes (Event.Cancel r) is (Some g) enters = absurd enters
 
   -- the names that stand on the board after an event are known
   pub names_after : (e : Event) (x : Board × Reply) → content after ≡ after_event p b (content groups) e → event_row p b worker e ≡ Ok x → NamesKnown after x.0

@@ -2,18 +2,7 @@
 use Rattle.std.proofs.Common.{◌≡◌, ℕ, Bool, List, [], ◌∷◌, Option, Some, None, Result, Ok, Err, subst}
 use Rattle.std.proofs.lemmas.Str.Ascii.{lowercase-lowercase}
 use Rattle.std.specs.Char.{to_ascii_lowercase}
-use Rattle.board_decisions.specs.declared.entrance.Entrance.{Entrance}
-use Rattle.board_decisions.specs.Contexts.{run_values}
-use Rattle.board_decisions.specs.Decisions.{then_value, entrance, entrance_value, run_entrance, leg_entrance, seen_from}
-use Rattle.board_decisions.specs.Place.{RunAt, LegAt}
-use Rattle.expr_reader.specs.Fold.{fold}
-use Rattle.expr_value.specs.Answer.{Gives}
-use Rattle.expr_value.specs.Context.{Contexts}
-use Rattle.flow_model.specs.declared.plan.Group.{Group}
-use Rattle.flow_model.specs.declared.reply.ValueFault.{ValueFault}
-use Rattle.plan_values.specs.Texts.{text_text, flag_value}
-use Rattle.plan_values.specs.Values.{contexts_at, with_env}
-use Rattle.plan_values.specs.declared.place.TextPlace.TheVariants as place
+use Rattle.status_table.specs.Words.{Contexts, Entrance, Gives, Group, LegAt, RunAt, TextPlace, ValueFault, contexts_at, entrance, entrance_value, flag_value, fold, leg_entrance, run_entrance, run_values, seen_from, text_text, then_value, with_env}
 use Rattle.flat_board.specs.Index.{EntersNamed, AsksNamed}
 use Rattle.board_counters.proofs.Lists.{map-twice}
 
@@ -41,8 +30,8 @@ given_named (Err f) value gives named = tt
 
 pub run_asks : (at : RunAt) → AsksNamed (run_entrance at)
 unfolding run_entrance
-run_asks at = value_named (contexts_at place.WorkflowGroup (with_env [] (run_values at.plan))) at.plan.group
+run_asks at = value_named (contexts_at TextPlace.WorkflowGroup (with_env [] (run_values at.plan))) at.plan.group
 
 pub leg_asks : (at : LegAt) → AsksNamed (leg_entrance at)
 unfolding leg_entrance
-leg_asks at = value_named (seen_from at place.JobGroup []) at.job_plan.group
+leg_asks at = value_named (seen_from at TextPlace.JobGroup []) at.job_plan.group

@@ -2,39 +2,9 @@
 use Rattle.std.proofs.Common.{◌≡◌, ℕ, zero, suc, ◌&&◌, ◌||◌, ◌==◌, ◌++◌, Bool, true, false, not, List, [], ◌∷◌, Option, Some, None, Result, Ok, Err, slice_get, nat_lt, length, option_and_then, if◌then◌else◌, ap, subst, sym, refl, ◌∙◌}
 use Rattle.std.specs.List.{flat_map}
 use Rattle.std.proofs.lemmas.Bool.{true≢false}
-use Rattle.board_decisions.specs.Decisions.{is_stopping, leg_entrance, leg_outputs, leg_result, run_entrance}
-use Rattle.board_decisions.specs.Derived.{is_closed, is_fresh, is_full, is_going, is_open, jobs_have_ended, run_result}
-use Rattle.board_decisions.specs.Numbered.{leg_there}
-use Rattle.board_decisions.specs.Place.{◌>>=◌, RunAt, JobAt, LegAt, leg_place, run_at, job_at, leg_at}
-use Rattle.board_decisions.specs.declared.entrance.Entrance.{Entrance}
-use Rattle.board_decisions.specs.declared.place.JobPlace.{JobPlace}
-use Rattle.board_decisions.specs.declared.place.LegPlace.{LegPlace}
+use Rattle.status_table.specs.Words.{Answer, Beginning, Board, DoneStep, Entrance, Event, Job, JobAt, JobPlace, JobState, Leg, LegAt, LegPlace, LegState, Member, Outcome, Plan, Row, Run, RunAt, RunState, Standing, ValueFault, admitted, ask_found, begin_found, begin_leg, beginning, board_legs, calls, cancel_found, cancelled, changed, close_found, close_run, close_waiting, closed, displaced, drop_found, dropped, end_found, end_leg, ended_state, ending, enters, enters_held, event_row, failed_step, faults, finish_found, finish_leg, finishing_by, holder, idle_owner, is_closed, is_fresh, is_full, is_going, is_open, is_own, is_stopping, job_at, job_state_set, jobs_have_ended, judge_found, judge_job, judgement, leaves, leg_at, leg_changed, leg_ended, leg_enters, leg_entrance, leg_outputs, leg_place, leg_result, leg_standing, leg_state_set, leg_there, may_ask, may_drop, moved, next_after, open_found, open_run, passed_on, queued, run_at, run_closes, run_enters, run_entrance, run_result, run_standing, skipped_step, skips, step_done, stopped, take_found, take_leg, waiter, waits, with_leg, with_numbered_leg, with_run, ◌>>=◌}
 use Rattle.flat_board.specs.Names.{Seen, group_at, group_of, is_new, leg_names, run_names, seen_at}
-use Rattle.flow_model.specs.Numbers.{board_legs}
-use Rattle.flow_model.specs.declared.board.Board.{Board}
-use Rattle.flow_model.specs.declared.board.DoneStep.{DoneStep}
-use Rattle.flow_model.specs.declared.board.Run.{Run}
-use Rattle.flow_model.specs.declared.board.RunState.{RunState}
-use Rattle.flow_model.specs.declared.board.RunState.TheVariants as run_state
-use Rattle.flow_model.specs.declared.board.Job.{Job}
-use Rattle.flow_model.specs.declared.board.JobState.{JobState}
-use Rattle.flow_model.specs.declared.board.Leg.{Leg}
-use Rattle.flow_model.specs.declared.board.LegState.{LegState}
-use Rattle.flow_model.specs.declared.board.LegState.TheVariants as leg_state
-use Rattle.flow_model.specs.declared.event.Answer.{Answer}
-use Rattle.flow_model.specs.declared.event.Event.{Event}
-use Rattle.flow_model.specs.declared.event.Event.TheVariants as event
-use Rattle.flow_model.specs.declared.event.Member.{Member}
-use Rattle.flow_model.specs.declared.event.Member.TheVariants as member
-use Rattle.flow_model.specs.declared.event.Outcome.{Outcome}
-use Rattle.flow_model.specs.declared.event.Outcome.TheVariants as outcome
-use Rattle.flow_model.specs.declared.plan.Plan.{Plan}
-use Rattle.flow_model.specs.declared.reply.ValueFault.{ValueFault}
 use Rattle.status_table.specs.declared.fault.EventFault.{EventFault}
-use Rattle.status_table.specs.declared.fault.EventFault.TheVariants as fault
-use Rattle.status_table.specs.Change.{changed, leg_changed, with_leg, with_numbered_leg, with_run}
-use Rattle.status_table.specs.Groups.{Standing, admitted, cancelled, closed, displaced, dropped, enters, enters_held, holder, is_own, leaves, leg_standing, moved, next_after, passed_on, queued, run_standing, stopped, waiter, waits}
-use Rattle.status_table.specs.Row.{Beginning, Row, ask_found, begin_found, begin_leg, beginning, calls, cancel_found, close_found, close_run, close_waiting, drop_found, end_found, end_leg, ending, event_row, faults, ended_state, finish_found, finish_leg, finishing_by, idle_owner, job_state_set, judge_found, judge_job, judgement, leg_ended, leg_enters, leg_state_set, may_ask, may_drop, open_found, open_run, run_closes, failed_step, run_enters, skipped_step, skips, step_done, take_found, take_leg}
 use Rattle.status_table.proofs.Decided.{by_test}
 use Rattle.status_table.proofs.Found.{leg_item, leg_stands, run_stands}
 use Rattle.status_table.proofs.Lists.{changed-cons, flat_map-kept, flat_map-twice}
@@ -57,8 +27,8 @@ module _ (P : Seen → Type 0) (m : Member) (b : Board) where
   run_step r f step jobs = by m
     where
       by : (m : Member) → P (seen_at b m) → P (seen_at (with_run b r f) m)
-      by (member.Run s) h = changed_step P run_names b.runs r f step s h
-      by (member.Leg l) h = subst (λ (js : List Job). P (slice_get (flat_map (λ (x : Job). x.legs) js) l >>= leg_names)) (sym (flat_map-kept (λ (x : Run). x.jobs) b.runs r f jobs)) h
+      by (Member.Run s) h = changed_step P run_names b.runs r f step s h
+      by (Member.Leg l) h = subst (λ (js : List Job). P (slice_get (flat_map (λ (x : Job). x.legs) js) l >>= leg_names)) (sym (flat_map-kept (λ (x : Run). x.jobs) b.runs r f jobs)) h
 
   leg_step : (l : ℕ) (f : Leg → Leg) → ((leg : Leg) → slice_get (board_legs b) l ≡ Some leg → P (leg_names leg) → P (leg_names (f leg)))
       → P (seen_at b m) → P (seen_at (with_numbered_leg b l f) m)
@@ -70,8 +40,8 @@ module _ (P : Seen → Type 0) (m : Member) (b : Board) where
           changed_step P run_names b.runs place.run (λ run. record run { jobs = changed run.jobs place.job (λ job. record job { legs = changed job.legs place.leg f }) }) (λ run at h. h) s h
 
       by : (m : Member) → P (seen_at b m) → P (seen_at (with_numbered_leg b l f) m)
-      by (member.Run s) h = by_place s (leg_place b l) h
-      by (member.Leg k) h = subst (λ (legs : List Leg). P (slice_get legs k >>= leg_names)) (sym (numbered_leg-changed b l f)) (changed_step P leg_names (board_legs b) l f step k h)
+      by (Member.Run s) h = by_place s (leg_place b l) h
+      by (Member.Leg k) h = subst (λ (legs : List Leg). P (slice_get legs k >>= leg_names)) (sym (numbered_leg-changed b l f)) (changed_step P leg_names (board_legs b) l f step k h)
 
   placed_step : (l : ℕ) (place : LegPlace) (f : Leg → Leg) → leg_place b l ≡ Some place → ((leg : Leg) → slice_get (board_legs b) l ≡ Some leg → P (leg_names leg) → P (leg_names (f leg)))
       → P (seen_at b m) → P (seen_at (with_leg b place f) m)
@@ -91,8 +61,8 @@ module _ (P : Seen → Type 0) (m : Member) (b : Board) where
           ∙ sym (flat_map-twice (λ (x : Run). x.jobs) (λ (x : Job). x.legs) b.runs)
 
       by : (m : Member) → P (seen_at b m) → P (seen_at (job_state_set b place state) m)
-      by (member.Run s) h = changed_step P run_names b.runs place.run in_run (λ run at h. h) s h
-      by (member.Leg l) h = subst (λ (legs : List Leg). P (slice_get legs l >>= leg_names)) (sym same) h
+      by (Member.Run s) h = changed_step P run_names b.runs place.run in_run (λ run at h. h) s h
+      by (Member.Leg l) h = subst (λ (legs : List Leg). P (slice_get legs l >>= leg_names)) (sym same) h
 
 -- ---- who is new
 
@@ -108,16 +78,16 @@ group_name (Some group) = Some group.name
 
 -- whom an event lets enter a group
 abbrev pub Enters : Plan → Board → Event → Option Entrance → Type 0
-Enters p b (event.Open r) group = (at : RunAt) × (run_at p b r ≡ Some at) × (run_entrance at ≡ Ok group)
-Enters p b (event.Judge j) group = ⊥
-Enters p b (event.Ask l) group = (at : LegAt) × (leg_at p b l ≡ Some at) × (leg_entrance at ≡ Ok group)
-Enters p b (event.Drop l) group = ⊥
-Enters p b (event.Take l) group = ⊥
-Enters p b (event.Begin l) group = ⊥
-Enters p b (event.End l a) group = ⊥
-Enters p b (event.Finish l) group = ⊥
-Enters p b (event.Close r) group = ⊥
-Enters p b (event.Cancel r) group = ⊥
+Enters p b (Event.Open r) group = (at : RunAt) × (run_at p b r ≡ Some at) × (run_entrance at ≡ Ok group)
+Enters p b (Event.Judge j) group = ⊥
+Enters p b (Event.Ask l) group = (at : LegAt) × (leg_at p b l ≡ Some at) × (leg_entrance at ≡ Ok group)
+Enters p b (Event.Drop l) group = ⊥
+Enters p b (Event.Take l) group = ⊥
+Enters p b (Event.Begin l) group = ⊥
+Enters p b (Event.End l a) group = ⊥
+Enters p b (Event.Finish l) group = ⊥
+Enters p b (Event.Close r) group = ⊥
+Enters p b (Event.Cancel r) group = ⊥
 
 -- how one that is new comes into a group
 abbrev pub Comes : (Seen → Type 0) → Option Entrance → Type 0
@@ -129,14 +99,14 @@ fresh_of true false c h = absurd (true≢false (sym h))
 fresh_of false b c h = absurd (true≢false (sym h))
 
 -- who is seen where a run is found, or a leg
-pub seen_run : (p : Plan) (b : Board) (r : ℕ) (at : RunAt) → run_at p b r ≡ Some at → seen_at b (member.Run r) ≡ run_names at.run
+pub seen_run : (p : Plan) (b : Board) (r : ℕ) (at : RunAt) → run_at p b r ≡ Some at → seen_at b (Member.Run r) ≡ run_names at.run
 seen_run p b r at is = ap (λ o. o >>= run_names) (run_stands p b r at is).run
 
-pub seen_leg : (p : Plan) (b : Board) (l : ℕ) (at : LegAt) → leg_at p b l ≡ Some at → seen_at b (member.Leg l) ≡ leg_names at.leg
+pub seen_leg : (p : Plan) (b : Board) (l : ℕ) (at : LegAt) → leg_at p b l ≡ Some at → seen_at b (Member.Leg l) ≡ leg_names at.leg
 seen_leg p b l at is = ap (λ o. o >>= leg_names) (leg_item p b l at (leg_stands p b l at is))
 
 -- the group of a leg whose place is found
-pub placed_group : (b : Board) (l : ℕ) (o : Option LegPlace) → o ≡ leg_place b l → option_and_then (λ leg. leg.group) (option_and_then (leg_there b) o) ≡ group_at b (member.Leg l)
+pub placed_group : (b : Board) (l : ℕ) (o : Option LegPlace) → o ≡ leg_place b l → option_and_then (λ leg. leg.group) (option_and_then (leg_there b) o) ≡ group_at b (Member.Leg l)
 placed_group b l o is = by o ∙ ap (λ x. group_of ((x >>= leg_there b) >>= leg_names)) is ∙ ap (λ x. group_of (x >>= leg_names)) ((legs_are_numbered b).there l)
   where
     of_leg : (q : Option Leg) → option_and_then (λ (leg : Leg). leg.group) q ≡ group_of (q >>= leg_names)
@@ -155,19 +125,19 @@ ThenSeen P m (Err f) = Unit {0}
 -- one that is not new any more keeps its group
 module _ (P : Seen → Type 0) (older : (new : Bool) (group : Option (List ℕ)) → P (Some (new, group)) → P (Some (false, group))) (m : Member) where
   closed_step : (b : Board) (r : ℕ) (result : Outcome) → P (seen_at b m) → P (seen_at (closed b r result) m)
-  closed_step b r result = run_step P m b r (λ run. record run { state = run_state.Closed result }) (λ run at. older (is_new run.state) run.group) (λ run. refl)
+  closed_step b r result = run_step P m b r (λ run. record run { state = RunState.Closed result }) (λ run at. older (is_new run.state) run.group) (λ run. refl)
 
   dropped_step : (b : Board) (l : ℕ) (result : Outcome) → P (seen_at b m) → P (seen_at (dropped b l result) m)
-  dropped_step b l result = leg_step P m b l (λ leg. record leg { state = leg_state.Ended result false }) (λ leg at. older (is_fresh leg.state) leg.group)
+  dropped_step b l result = leg_step P m b l (λ leg. record leg { state = LegState.Ended result false }) (λ leg at. older (is_fresh leg.state) leg.group)
 
   passed_step : (b : Board) (next : Option Member) → P (seen_at b m) → P (seen_at (passed_on b next) m)
   passed_step b None s = s
-  passed_step b (Some (member.Run r)) s = run_step P m b r (λ run. record run { state = run_state.Going }) (λ run at. older (is_new run.state) run.group) (λ run. refl) s
-  passed_step b (Some (member.Leg l)) s = leg_step P m b l (λ leg. record leg { state = leg_state.Admitted }) (λ leg at. older (is_fresh leg.state) leg.group) s
+  passed_step b (Some (Member.Run r)) s = run_step P m b r (λ run. record run { state = RunState.Going }) (λ run at. older (is_new run.state) run.group) (λ run. refl) s
+  passed_step b (Some (Member.Leg l)) s = leg_step P m b l (λ leg. record leg { state = LegState.Admitted }) (λ leg at. older (is_fresh leg.state) leg.group) s
 
   cancelled_step : (b : Board) (who : Member) → P (seen_at b m) → P (seen_at (cancelled b who) m)
-  cancelled_step b (member.Run r) = closed_step b r outcome.Cancelled
-  cancelled_step b (member.Leg l) = dropped_step b l outcome.Cancelled
+  cancelled_step b (Member.Run r) = closed_step b r Outcome.Cancelled
+  cancelled_step b (Member.Leg l) = dropped_step b l Outcome.Cancelled
 
   displaced_step : (b : Board) (waited : Option Member) → P (seen_at b m) → P (seen_at (displaced b waited) m)
   displaced_step b None s = s
@@ -175,19 +145,19 @@ module _ (P : Seen → Type 0) (older : (new : Bool) (group : Option (List ℕ))
 
   stopped_step : (b : Board) (stop : Bool) (who : Member) → P (seen_at b m) → P (seen_at (stopped b stop who) m)
   stopped_step b false who s = s
-  stopped_step b true (member.Run r) s = run_step P m b r (λ run. record run { stop = true }) (λ run at h. h) (λ run. refl) s
-  stopped_step b true (member.Leg l) s = leg_step P m b l (λ leg. record leg { stop = true }) (λ leg at h. h) s
+  stopped_step b true (Member.Run r) s = run_step P m b r (λ run. record run { stop = true }) (λ run at h. h) (λ run. refl) s
+  stopped_step b true (Member.Leg l) s = leg_step P m b l (λ leg. record leg { stop = true }) (λ leg at h. h) s
 
   admitted_step : (b : Board) (who : Member) → flag_of (seen_at b who) ≡ true → (group : Option Entrance) → Comes P group → P (seen_at b m) → P (seen_at (admitted b (group_name group) who) m)
-  admitted_step b (member.Run r) new group comes = run_step P m b r (λ run. record run { state = run_state.Going; group = group_name group })
+  admitted_step b (Member.Run r) new group comes = run_step P m b r (λ run. record run { state = RunState.Going; group = group_name group })
       (λ run at. comes (run_names run) (ap (λ o. flag_of (o >>= run_names)) (sym at) ∙ new)) (λ run. refl)
-  admitted_step b (member.Leg l) new group comes = leg_step P m b l (λ leg. record leg { state = leg_state.Admitted; group = group_name group })
+  admitted_step b (Member.Leg l) new group comes = leg_step P m b l (λ leg. record leg { state = LegState.Admitted; group = group_name group })
       (λ leg at. comes (leg_names leg) (ap (λ o. flag_of (o >>= leg_names)) (sym at) ∙ new))
 
   waits_step : (b : Board) (who : Member) → flag_of (seen_at b who) ≡ true → (group : Entrance) → Comes P (Some group) → P (seen_at b m) → P (seen_at (waits b group.name who) m)
-  waits_step b (member.Run r) new group comes = run_step P m b r (λ run. record run { state = run_state.Waiting; group = Some group.name })
+  waits_step b (Member.Run r) new group comes = run_step P m b r (λ run. record run { state = RunState.Waiting; group = Some group.name })
       (λ run at. comes (run_names run) (ap (λ o. flag_of (o >>= run_names)) (sym at) ∙ new)) (λ run. refl)
-  waits_step b (member.Leg l) new group comes = leg_step P m b l (λ leg. record leg { state = leg_state.Waiting; group = Some group.name })
+  waits_step b (Member.Leg l) new group comes = leg_step P m b l (λ leg. record leg { state = LegState.Waiting; group = Some group.name })
       (λ leg at. comes (leg_names leg) (ap (λ o. flag_of (o >>= leg_names)) (sym at) ∙ new))
 
   enters_step : (b : Board) (who : Member) → flag_of (seen_at b who) ≡ true → (own : Option ℕ) (group : Option Entrance) → Comes P group → P (seen_at b m) → P (seen_at (enters b who own group).0 m)
@@ -214,23 +184,23 @@ module _ (P : Seen → Type 0) (older : (new : Bool) (group : Option (List ℕ))
       (λ leg found h. subst (λ (new : Bool). P (Some (new, leg.group))) (sym old) (older (is_fresh leg.state) leg.group h)) s
 
   done_step : (l : ℕ) (at : LegAt) → leg_at p b l ≡ Some at → (done : DoneStep) → P (seen_at (step_done b at.place worker done) m)
-  done_step l at is done = placed_step P m b l at.place (λ leg. record leg { state = leg_state.Running worker false; steps = leg.steps ++ done ∷ [] })
+  done_step l at is done = placed_step P m b l at.place (λ leg. record leg { state = LegState.Running worker false; steps = leg.steps ++ done ∷ [] })
       (leg_stands p b l at is).place (λ leg found. older (is_fresh leg.state) leg.group) s
 
-  opened : (r : ℕ) → ((group : Option Entrance) → Enters p b (event.Open r) group → Comes P group) → ThenSeen P m (open_found b r (run_at p b r))
+  opened : (r : ℕ) → ((group : Option Entrance) → Enters p b (Event.Open r) group → Comes P group) → ThenSeen P m (open_found b r (run_at p b r))
   opened r comes = by (run_at p b r) refl
     where
-      entered : (at : RunAt) → run_at p b r ≡ Some at → at.run.state ≡ run_state.New → (x : Result (Option Entrance) ValueFault) → run_entrance at ≡ x → ThenSeen P m (run_enters b r x)
+      entered : (at : RunAt) → run_at p b r ≡ Some at → at.run.state ≡ RunState.New → (x : Result (Option Entrance) ValueFault) → run_entrance at ≡ x → ThenSeen P m (run_enters b r x)
       entered at is new (Ok group) value =
-          enters_step P older m b (member.Run r) (ap flag_of (seen_run p b r at is) ∙ ap is_new new) None group (comes group (at, is, value)) s
-      entered at is new (Err f) value = closed_step P older m b r outcome.Failure s
+          enters_step P older m b (Member.Run r) (ap flag_of (seen_run p b r at is) ∙ ap is_new new) None group (comes group (at, is, value)) s
+      entered at is new (Err f) value = closed_step P older m b r Outcome.Failure s
 
       found : (at : RunAt) → run_at p b r ≡ Some at → (state : RunState) (stop : Bool) → at.run.state ≡ state → ThenSeen P m (open_run b r at state stop)
-      found at is run_state.New false new = entered at is new (run_entrance at) refl
-      found at is run_state.New true new = tt
-      found at is run_state.Waiting stop new = tt
-      found at is run_state.Going stop new = tt
-      found at is (run_state.Closed result) stop new = tt
+      found at is RunState.New false new = entered at is new (run_entrance at) refl
+      found at is RunState.New true new = tt
+      found at is RunState.Waiting stop new = tt
+      found at is RunState.Going stop new = tt
+      found at is (RunState.Closed result) stop new = tt
 
       by : (o : Option RunAt) → run_at p b r ≡ o → ThenSeen P m (open_found b r o)
       by None is = tt
@@ -244,21 +214,21 @@ module _ (P : Seen → Type 0) (older : (new : Bool) (group : Option (List ℕ))
       by (Ok state) = job_step P m b at.place state s
       by (Err f) = tt
 
-  asked : (l : ℕ) → ((group : Option Entrance) → Enters p b (event.Ask l) group → Comes P group) → ThenSeen P m (ask_found b l (leg_at p b l))
+  asked : (l : ℕ) → ((group : Option Entrance) → Enters p b (Event.Ask l) group → Comes P group) → ThenSeen P m (ask_found b l (leg_at p b l))
   asked l comes = by (leg_at p b l) refl
     where
       entered : (at : LegAt) → leg_at p b l ≡ Some at → may_ask at ≡ true → (x : Result (Option Entrance) ValueFault) → leg_entrance at ≡ x → ThenSeen P m (leg_enters b l at x)
       entered at is may (Ok group) value =
-          enters_step P older m b (member.Leg l) (ap flag_of (seen_leg p b l at is) ∙ fresh_of (is_going at.run.state) (is_open at.job.state) (is_fresh at.leg.state) may)
+          enters_step P older m b (Member.Leg l) (ap flag_of (seen_leg p b l at is) ∙ fresh_of (is_going at.run.state) (is_open at.job.state) (is_fresh at.leg.state) may)
           (Some at.place.run) group (comes group (at, is, value)) s
-      entered at is may (Err f) value = dropped_step P older m b l outcome.Failure s
+      entered at is may (Err f) value = dropped_step P older m b l Outcome.Failure s
 
       may_or : (at : LegAt) → leg_at p b l ≡ Some at → (may : Bool) → may_ask at ≡ may
-          → ThenSeen P m (if not may then Err fault.WrongState else (if is_full at.job_plan at.job then Err fault.SlotsFull else (if is_stopping at then Err fault.Stopping else leg_enters b l at (leg_entrance at))))
+          → ThenSeen P m (if not may then Err EventFault.WrongState else (if is_full at.job_plan at.job then Err EventFault.SlotsFull else (if is_stopping at then Err EventFault.Stopping else leg_enters b l at (leg_entrance at))))
       may_or at is false may = tt
       may_or at is true may =
-          by_test (ThenSeen P m) (is_full at.job_plan at.job) (Err fault.SlotsFull) (if is_stopping at then Err fault.Stopping else leg_enters b l at (leg_entrance at)) tt
-          (by_test (ThenSeen P m) (is_stopping at) (Err fault.Stopping) (leg_enters b l at (leg_entrance at)) tt (entered at is may (leg_entrance at) refl))
+          by_test (ThenSeen P m) (is_full at.job_plan at.job) (Err EventFault.SlotsFull) (if is_stopping at then Err EventFault.Stopping else leg_enters b l at (leg_entrance at)) tt
+          (by_test (ThenSeen P m) (is_stopping at) (Err EventFault.Stopping) (leg_enters b l at (leg_entrance at)) tt (entered at is may (leg_entrance at) refl))
 
       by : (o : Option LegAt) → leg_at p b l ≡ o → ThenSeen P m (ask_found b l o)
       by None is = tt
@@ -267,29 +237,29 @@ module _ (P : Seen → Type 0) (older : (new : Bool) (group : Option (List ℕ))
   dropping : (l : ℕ) (o : Option LegAt) → ThenSeen P m (drop_found b l o)
   dropping l None = tt
   dropping l (Some at) =
-      by_test (ThenSeen P m) (not (may_drop at)) (Err fault.WrongState) (if is_stopping at then Ok (leaves b (leg_standing at.leg) (dropped b l outcome.Cancelled)) else Err fault.NotStopping) tt
-      (by_test (ThenSeen P m) (is_stopping at) (Ok (leaves b (leg_standing at.leg) (dropped b l outcome.Cancelled))) (Err fault.NotStopping)
-      (leaves_step P older m b (leg_standing at.leg) (dropped b l outcome.Cancelled) (dropped_step P older m b l outcome.Cancelled s)) tt)
+      by_test (ThenSeen P m) (not (may_drop at)) (Err EventFault.WrongState) (if is_stopping at then Ok (leaves b (leg_standing at.leg) (dropped b l Outcome.Cancelled)) else Err EventFault.NotStopping) tt
+      (by_test (ThenSeen P m) (is_stopping at) (Ok (leaves b (leg_standing at.leg) (dropped b l Outcome.Cancelled))) (Err EventFault.NotStopping)
+      (leaves_step P older m b (leg_standing at.leg) (dropped b l Outcome.Cancelled) (dropped_step P older m b l Outcome.Cancelled s)) tt)
 
   taken : (l : ℕ) (o : Option LegAt) → leg_at p b l ≡ o → ThenSeen P m (take_found b worker o)
   taken l None is = tt
   taken l (Some at) is = by at.leg.state
     where
       by : (state : LegState) → ThenSeen P m (take_leg b worker at state)
-      by leg_state.Fresh = tt
-      by leg_state.Waiting = tt
-      by leg_state.Admitted =
-          by_test (ThenSeen P m) (is_stopping at) (Err fault.Stopping) (Ok (leg_state_set b at.place (leg_state.Running worker false), moved)) tt
-          (state_set l at is (leg_state.Running worker false) refl)
-      by (leg_state.Running other in_call) = tt
-      by (leg_state.Ended result tolerated) = tt
+      by LegState.Fresh = tt
+      by LegState.Waiting = tt
+      by LegState.Admitted =
+          by_test (ThenSeen P m) (is_stopping at) (Err EventFault.Stopping) (Ok (leg_state_set b at.place (LegState.Running worker false), moved)) tt
+          (state_set l at is (LegState.Running worker false) refl)
+      by (LegState.Running other in_call) = tt
+      by (LegState.Ended result tolerated) = tt
 
   begun : (l : ℕ) (o : Option LegAt) → leg_at p b l ≡ o → ThenSeen P m (begin_found b worker l o)
   begun l None is = tt
   begun l (Some at) is = by (beginning worker l at)
     where
       by : (x : Result Beginning EventFault) → ThenSeen P m (begin_leg b worker at x)
-      by (Ok (calls call)) = state_set l at is (leg_state.Running worker true) refl
+      by (Ok (calls call)) = state_set l at is (LegState.Running worker true) refl
       by (Ok skips) = done_step l at is skipped_step
       by (Ok (faults f)) = done_step l at is (failed_step at)
       by (Err f) = tt
@@ -310,25 +280,25 @@ module _ (P : Seen → Type 0) (older : (new : Bool) (group : Option (List ℕ))
       closes result = leaves_step P older m b (run_standing at.run) (closed b r result) (closed_step P older m b r result s)
 
       waiting_or : (stop : Bool) → ThenSeen P m (close_waiting b r at.run stop)
-      waiting_or true = closes outcome.Cancelled
+      waiting_or true = closes Outcome.Cancelled
       waiting_or false = tt
 
       by : (state : RunState) → ThenSeen P m (close_run b r at.run state)
-      by run_state.New = waiting_or at.run.stop
-      by run_state.Waiting = waiting_or at.run.stop
-      by run_state.Going = by_test (ThenSeen P m) (jobs_have_ended at.run) (run_closes b r at.run (run_result at.run)) (Err fault.NeedsOpen) (closes (run_result at.run)) tt
-      by (run_state.Closed result) = tt
+      by RunState.New = waiting_or at.run.stop
+      by RunState.Waiting = waiting_or at.run.stop
+      by RunState.Going = by_test (ThenSeen P m) (jobs_have_ended at.run) (run_closes b r at.run (run_result at.run)) (Err EventFault.NeedsOpen) (closes (run_result at.run)) tt
+      by (RunState.Closed result) = tt
 
   cancelling : (r : ℕ) (o : Option RunAt) → ThenSeen P m (cancel_found b r o)
   cancelling r None = tt
   cancelling r (Some at) =
-      by_test (ThenSeen P m) (is_closed at.run.state || at.run.stop) (Err fault.WrongState) (Ok (stopped b true (member.Run r), moved)) tt (stopped_step P older m b true (member.Run r) s)
+      by_test (ThenSeen P m) (is_closed at.run.state || at.run.stop) (Err EventFault.WrongState) (Ok (stopped b true (Member.Run r), moved)) tt (stopped_step P older m b true (Member.Run r) s)
 
   finished : (l : ℕ) (o : Option LegAt) → leg_at p b l ≡ o → ThenSeen P m (finish_found b worker l o)
   finished l None is = tt
   finished l (Some at) is = by (idle_owner at.leg.state)
     where
-      ends : (other left : Bool) → ThenSeen P m (finish_leg b l at (if other then Err fault.OtherWorker else (if left then Err fault.StepsLeft else Ok (ended_state at (leg_result at)))))
+      ends : (other left : Bool) → ThenSeen P m (finish_leg b l at (if other then Err EventFault.OtherWorker else (if left then Err EventFault.StepsLeft else Ok (ended_state at (leg_result at)))))
       ends true left = tt
       ends false true = tt
       ends false false = leaves_step P older m b (leg_standing at.leg) (leg_ended b at.place l (ended_state at (leg_result at)) (leg_outputs at))
@@ -341,13 +311,13 @@ module _ (P : Seen → Type 0) (older : (new : Bool) (group : Option (List ℕ))
 
   -- what is seen of a member after an event that was accepted
   pub event_step : (e : Event) → ((group : Option Entrance) → Enters p b e group → Comes P group) → ThenSeen P m (event_row p b worker e)
-  event_step (event.Open r) comes = opened r comes
-  event_step (event.Judge j) comes = judged j (job_at p b j)
-  event_step (event.Ask l) comes = asked l comes
-  event_step (event.Drop l) comes = dropping l (leg_at p b l)
-  event_step (event.Take l) comes = taken l (leg_at p b l) refl
-  event_step (event.Begin l) comes = begun l (leg_at p b l) refl
-  event_step (event.End l a) comes = ended l a (leg_at p b l) refl
-  event_step (event.Finish l) comes = finished l (leg_at p b l) refl
-  event_step (event.Close r) comes = closing r (run_at p b r)
-  event_step (event.Cancel r) comes = cancelling r (run_at p b r)
+  event_step (Event.Open r) comes = opened r comes
+  event_step (Event.Judge j) comes = judged j (job_at p b j)
+  event_step (Event.Ask l) comes = asked l comes
+  event_step (Event.Drop l) comes = dropping l (leg_at p b l)
+  event_step (Event.Take l) comes = taken l (leg_at p b l) refl
+  event_step (Event.Begin l) comes = begun l (leg_at p b l) refl
+  event_step (Event.End l a) comes = ended l a (leg_at p b l) refl
+  event_step (Event.Finish l) comes = finished l (leg_at p b l) refl
+  event_step (Event.Close r) comes = closing r (run_at p b r)
+  event_step (Event.Cancel r) comes = cancelling r (run_at p b r)

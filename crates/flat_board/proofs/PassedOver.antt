@@ -4,11 +4,7 @@ use Rattle.std.specs.List.{list_any}
 use Rattle.std.proofs.lemmas.Bool.{true≢false}
 use Rattle.std.proofs.lemmas.Bool.Decides.{nat_tests}
 use Rattle.std.proofs.lemmas.List.Sums.{sum_by-cons}
-use Rattle.board_decisions.specs.Decisions.{is_stopping, stops_anyway}
-use Rattle.board_decisions.specs.Derived.{has_failed, is_ended, is_fresh, is_going, is_open, is_untaken, is_under_way as takes_slot}
-use Rattle.board_decisions.specs.Place.{JobAt, LegAt, job_at, job_place, leg_at, leg_place}
-use Rattle.board_decisions.specs.declared.place.JobPlace.{JobPlace}
-use Rattle.board_decisions.specs.declared.place.LegPlace.{LegPlace}
+use Rattle.status_table.specs.Words.{Board, Event, Job, JobAt, JobPlace, JobState, Leg, LegAt, LegPlace, LegState, Plan, Run, RunState, accepts, ask_found, drop_found, event_of, has_failed, is_accepted, is_ended, is_fresh, is_going, is_open, is_stopping, is_under_way as takes_slot, is_untaken, job_at, job_place, judge_found, judge_job, judgement_by, leg_at, leg_place, may_ask, may_drop, stops_anyway}
 use Rattle.board_decisions.proofs.Lists.{and-both, and-left, and-right, same_some, no_some}
 use Rattle.flat_board.specs.Idle.{is_all_judged, is_none_stopping, is_run_idle}
 use Rattle.flat_board.proofs.RunNumbers.{job_further, leg_further}
@@ -16,41 +12,25 @@ use Rattle.board_counters.specs.Counters.{tally_of}
 use Rattle.board_counters.specs.Standing.{is_unjudged, run_tally, standing_of}
 use Rattle.board_counters.specs.Stopping.{legs_of_jobs, run_legs, told_of}
 use Rattle.board_counters.proofs.Lists.{any-counted}
-use Rattle.flow_model.specs.declared.board.Board.{Board}
-use Rattle.flow_model.specs.declared.board.Job.{Job}
-use Rattle.flow_model.specs.declared.board.JobState.{JobState}
-use Rattle.flow_model.specs.declared.board.JobState.TheVariants as job_state
-use Rattle.flow_model.specs.declared.board.Leg.{Leg}
-use Rattle.flow_model.specs.declared.board.LegState.{LegState}
-use Rattle.flow_model.specs.declared.board.LegState.TheVariants as leg_state
-use Rattle.flow_model.specs.declared.board.Run.{Run}
-use Rattle.flow_model.specs.declared.board.RunState.{RunState}
-use Rattle.flow_model.specs.declared.board.RunState.TheVariants as run_state
-use Rattle.flow_model.specs.declared.event.Event.TheVariants as event
-use Rattle.flow_model.specs.declared.plan.Plan.{Plan}
-use Rattle.status_table.specs.Kinds.{event_of}
-use Rattle.status_table.specs.Moves.{accepts, is_accepted}
-use Rattle.status_table.specs.Row.{ask_found, drop_found, judge_found, judge_job, judgement_by, may_ask, may_drop}
 use Rattle.status_table.specs.declared.moves.MoveKind.{MoveKind}
-use Rattle.status_table.specs.declared.moves.MoveKind.TheVariants as kind
 use Rattle.status_table.proofs.Counts.{counted, one}
 use Rattle.status_table.proofs.Found.{job_stands, leg_stands}
 
 -- ---- what the tally of a job says of each of its legs
 
 at-most : (state : LegState) → one (takes_slot state) ≤ one (not (is_ended state))
-at-most leg_state.Fresh = omega arith
-at-most leg_state.Waiting = omega arith
-at-most leg_state.Admitted = omega arith
-at-most (leg_state.Running worker in_call) = omega arith
-at-most (leg_state.Ended result tolerated) = omega arith
+at-most LegState.Fresh = omega arith
+at-most LegState.Waiting = omega arith
+at-most LegState.Admitted = omega arith
+at-most (LegState.Running worker in_call) = omega arith
+at-most (LegState.Ended result tolerated) = omega arith
 
 less : (state : LegState) → is_fresh state ≡ true → one (takes_slot state) < one (not (is_ended state))
-less leg_state.Fresh fresh = omega arith
-less leg_state.Waiting fresh = absurd (true≢false (sym fresh))
-less leg_state.Admitted fresh = absurd (true≢false (sym fresh))
-less (leg_state.Running worker in_call) fresh = absurd (true≢false (sym fresh))
-less (leg_state.Ended result tolerated) fresh = absurd (true≢false (sym fresh))
+less LegState.Fresh fresh = omega arith
+less LegState.Waiting fresh = absurd (true≢false (sym fresh))
+less LegState.Admitted fresh = absurd (true≢false (sym fresh))
+less (LegState.Running worker in_call) fresh = absurd (true≢false (sym fresh))
+less (LegState.Ended result tolerated) fresh = absurd (true≢false (sym fresh))
 
 module _ where
   abbrev slots : List Leg → ℕ
@@ -84,11 +64,11 @@ module _ where
       omega (arith, a, b, here, later)
 
 untaken-one : (state : LegState) → is_untaken state ≡ true → one (not (is_ended state)) ≡ 1
-untaken-one leg_state.Fresh h = refl
-untaken-one leg_state.Waiting h = refl
-untaken-one leg_state.Admitted h = refl
-untaken-one (leg_state.Running worker in_call) h = absurd (true≢false (sym h))
-untaken-one (leg_state.Ended result tolerated) h = absurd (true≢false (sym h))
+untaken-one LegState.Fresh h = refl
+untaken-one LegState.Waiting h = refl
+untaken-one LegState.Admitted h = refl
+untaken-one (LegState.Running worker in_call) h = absurd (true≢false (sym h))
+untaken-one (LegState.Ended result tolerated) h = absurd (true≢false (sym h))
 
 untaken-left : (legs : List Leg) (i : ℕ) (leg : Leg) → slice_get legs i ≡ Some leg → is_untaken leg.state ≡ true → 0 < left legs
 untaken-left [] i leg at h = absurd (no_some leg at)
@@ -141,16 +121,16 @@ judge-refused b n at there judged = by at.run.state at.job.state refl refl
         (else-holds (is_going at.run.state) ((run_tally at.run).unjudged == 0) judged going)
 
     by : (r : RunState) (j : JobState) → at.run.state ≡ r → at.job.state ≡ j → is_accepted (judge_job b at.place (judgement_by n at r j)) ≡ false
-    by run_state.Going job_state.Unjudged r j = absurd (true≢false (sym (ap is_unjudged j) ∙ unjudged-none (ap is_going r)))
-    by run_state.Going job_state.Open r j = refl
-    by run_state.Going (job_state.Shut how) r j = refl
-    by run_state.New j r is = refl
-    by run_state.Waiting j r is = refl
-    by (run_state.Closed how) j r is = refl
+    by RunState.Going JobState.Unjudged r j = absurd (true≢false (sym (ap is_unjudged j) ∙ unjudged-none (ap is_going r)))
+    by RunState.Going JobState.Open r j = refl
+    by RunState.Going (JobState.Shut how) r j = refl
+    by RunState.New j r is = refl
+    by RunState.Waiting j r is = refl
+    by (RunState.Closed how) j r is = refl
 
 -- the jobs of such a run, from its first on
 pub idle_jobs : (p : Plan) (b : Board) (n : ℕ) (at : JobPlace) (run : Run) → job_place b n ≡ Some at → slice_get b.runs at.run ≡ Some run → at.job ≡ 0 → is_all_judged run ≡ true
-    → (i : ℕ) → i < length run.jobs → accepts p b (event.Judge (n + i)) ≡ false
+    → (i : ℕ) → i < length run.jobs → accepts p b (Event.Judge (n + i)) ≡ false
 idle_jobs p b n at run is there start judged i within = by (job_at p b (n + i)) refl
   where
     by : (o : Option JobAt) → job_at p b (n + i) ≡ o → is_accepted (judge_found b (n + i) o) ≡ false
@@ -164,7 +144,7 @@ idle_jobs p b n at run is there start judged i within = by (job_at p b (n + i)) 
 
 -- ---- a leg of a run to none of whose legs anything may happen
 
-ask-refused : (b : Board) (l : ℕ) (at : LegAt) → slice_get at.run.jobs at.place.job ≡ Some at.job → slice_get at.job.legs at.place.leg ≡ Some at.leg → is_run_idle kind.Ask at.run ≡ true
+ask-refused : (b : Board) (l : ℕ) (at : LegAt) → slice_get at.run.jobs at.place.job ≡ Some at.job → slice_get at.job.legs at.place.leg ≡ Some at.leg → is_run_idle MoveKind.Ask at.run ≡ true
     → is_accepted (ask_found b l (Some at)) ≡ false
 ask-refused b l at in_run in_job idle = by (may_ask at) refl
   where
@@ -189,7 +169,7 @@ anyway-false at stop failed = ap (λ c. c || (at.job_plan.fail_fast && list_any 
     and-no true = refl
     and-no false = refl
 
-drop-refused : (b : Board) (l : ℕ) (at : LegAt) → slice_get at.run.jobs at.place.job ≡ Some at.job → slice_get at.job.legs at.place.leg ≡ Some at.leg → is_run_idle kind.Drop at.run ≡ true
+drop-refused : (b : Board) (l : ℕ) (at : LegAt) → slice_get at.run.jobs at.place.job ≡ Some at.job → slice_get at.job.legs at.place.leg ≡ Some at.leg → is_run_idle MoveKind.Drop at.run ≡ true
     → is_accepted (drop_found b l (Some at)) ≡ false
 drop-refused b l at in_run in_job idle = by (may_drop at) refl
   where
@@ -244,23 +224,23 @@ module _ (p : Plan) (b : Board) (n i : ℕ) (at : LegPlace) (run : Run) (is : le
       same_some run other.run (sym there ∙ ap (slice_get b.runs) place ∙ stands.in_board)
 
   refused : (k : MoveKind) → is_run_idle k run ≡ true → accepts p b (event_of k (n + i)) ≡ false
-  refused kind.Close idle = absurd (true≢false (sym idle))
-  refused kind.Open idle = absurd (true≢false (sym idle))
-  refused kind.Judge idle = absurd (true≢false (sym idle))
-  refused kind.Drop idle = by (leg_at p b (n + i)) refl
+  refused MoveKind.Close idle = absurd (true≢false (sym idle))
+  refused MoveKind.Open idle = absurd (true≢false (sym idle))
+  refused MoveKind.Judge idle = absurd (true≢false (sym idle))
+  refused MoveKind.Drop idle = by (leg_at p b (n + i)) refl
     where
       by : (o : Option LegAt) → leg_at p b (n + i) ≡ o → is_accepted (drop_found b (n + i) o) ≡ false
       by None found = refl
       by (Some other) found =
           let stands = leg_stands p b (n + i) other found in
-          drop-refused b (n + i) other stands.job stands.leg (ap (is_run_idle kind.Drop) (sym (same-run other found)) ∙ idle)
-  refused kind.Ask idle = by (leg_at p b (n + i)) refl
+          drop-refused b (n + i) other stands.job stands.leg (ap (is_run_idle MoveKind.Drop) (sym (same-run other found)) ∙ idle)
+  refused MoveKind.Ask idle = by (leg_at p b (n + i)) refl
     where
       by : (o : Option LegAt) → leg_at p b (n + i) ≡ o → is_accepted (ask_found b (n + i) o) ≡ false
       by None found = refl
       by (Some other) found =
           let stands = leg_stands p b (n + i) other found in
-          ask-refused b (n + i) other stands.job stands.leg (ap (is_run_idle kind.Ask) (sym (same-run other found)) ∙ idle)
+          ask-refused b (n + i) other stands.job stands.leg (ap (is_run_idle MoveKind.Ask) (sym (same-run other found)) ∙ idle)
 
 -- the events of a kind of all legs of a run, from its first on
 pub idle_run : (p : Plan) (b : Board) (k : MoveKind) (n : ℕ) (at : LegPlace) (run : Run) → leg_place b n ≡ Some at → slice_get b.runs at.run ≡ Some run → at.job ≡ 0 → at.leg ≡ 0

@@ -1,38 +1,16 @@
 -- A plan in play with its groups, after an event.
 use Rattle.std.proofs.Common.{◌≡◌, ℕ, zero, suc, ◌≤◌, Bool, List, [], ◌∷◌, map, slice_get, None, Result, Ok, Err, nat_le, if◌then◌else◌, ap, subst, sym, refl, ◌∙◌}
 use Rattle.std.proofs.lemmas.Bool.{le-leb}
-use Rattle.flow_model.specs.Rules.{IsPlan}
-use Rattle.flow_model.specs.Sound.{SoundPlan}
-use Rattle.flow_model.specs.declared.event.Entry.{Entry}
-use Rattle.flow_model.specs.declared.event.Event.{Event}
-use Rattle.flow_model.specs.Numbers.{board_legs, plan_jobs, plan_legs}
-use Rattle.flow_model.specs.declared.board.Board.{Board}
-use Rattle.flow_model.specs.declared.board.Job.{Job}
-use Rattle.flow_model.specs.declared.board.Leg.{Leg}
-use Rattle.flow_model.specs.declared.event.Member.TheVariants as member
-use Rattle.flow_model.specs.declared.plan.Plan.{Plan}
 use Rattle.std.specs.List.{flat_map}
+use Rattle.status_table.specs.Words.{Answers, Board, Content, Entry, Event, InPlay, IsPlan, Job, KeptAsShown, Known, Leads, Leg, Member, Plan, Play, Plays, Reply, Row, SoundPlan, Stays, after_event, board_legs, content, event_row, is_known, new_board, new_job, new_leg, new_play, new_run, plan_jobs, plan_legs, row, ◌>>=◌}
 use Rattle.status_table.proofs.Lists.{flat_map-map}
-use Rattle.flow_model.specs.declared.reply.Reply.{Reply}
-use Rattle.group_admission.specs.Content.{Content}
-use Rattle.group_admission.specs.Known.{Known, content, is_known}
 use Rattle.board_counters.specs.Track.{play_of}
 use Rattle.flat_board.specs.Index.{Follows, FollowsUnasked, Goes, EventsKeep}
 use Rattle.flat_board.specs.Names.{NamesKnown, Seen, SeenNamed, leg_names, run_names}
 use Rattle.flat_board.specs.Sound.{IsSound}
 use Rattle.flat_board.specs.declared.grouped_board.GroupedBoard.{GroupedBoard}
 use Rattle.flat_board.proofs.Known.{names_after}
-use Rattle.board_decisions.specs.Place.{◌>>=◌}
-use Rattle.status_table.specs.Answers.{Answers}
-use Rattle.status_table.specs.Grouped.{KeptAsShown, after_event}
-use Rattle.status_table.specs.InPlay.{InPlay}
-use Rattle.status_table.specs.Play.{Play}
-use Rattle.status_table.specs.Row.{Row, row, event_row}
-use Rattle.status_table.specs.Runs.{Plays, new_board, new_job, new_leg, new_play, new_run}
-use Rattle.status_table.specs.Stays.{Stays}
-use Rattle.status_table.specs.Unasked.{Leads}
 use Rattle.status_table.specs.declared.fault.EventFault.{EventFault}
-use Rattle.status_table.specs.declared.fault.EventFault.TheVariants as fault
 use Rattle.status_table.proofs.Grouped.{new_kept}
 use Rattle.status_table.proofs.InPlay.{new_in_play, answer_in_play}
 use Rattle.status_table.proofs.WithoutReply.{left_of, left_plays}
@@ -44,8 +22,8 @@ each_new P f h (x ∷ xs) (suc k) none step = each_new P f h xs k none step
 
 -- where all is new no name stands on the board
 new_names : (p : Plan) → NamesKnown [] (new_board p)
-new_names p (member.Run r) = each_new (SeenNamed []) new_run run_names p.runs r tt (λ run. refl)
-new_names p (member.Leg l) = subst (λ (legs : List Leg). SeenNamed [] (slice_get legs l >>= leg_names)) (sym new_legs) (each_new (SeenNamed []) new_leg leg_names (plan_legs p) l tt (λ leg. refl))
+new_names p (Member.Run r) = each_new (SeenNamed []) new_run run_names p.runs r tt (λ run. refl)
+new_names p (Member.Leg l) = subst (λ (legs : List Leg). SeenNamed [] (slice_get legs l >>= leg_names)) (sym new_legs) (each_new (SeenNamed []) new_leg leg_names (plan_legs p) l tt (λ leg. refl))
   where
     new_legs : board_legs (new_board p) ≡ map new_leg (plan_legs p)
     new_legs =
@@ -69,8 +47,8 @@ module _ (law : EventsKeep) (old new : GroupedBoard) (worker : ℕ) (e : Event) 
 
   kept : (result : Result Reply EventFault) → Follows old new worker e result → KeptAsShown (content new.groups) new.state.board
   kept (Ok reply) follows =
-      let accepted : (if nat_le worker 15 then event_row p b worker e else Err fault.NoSuch) ≡ Ok (new.state.board, reply) =
-      ap (λ c. if c then event_row p b worker e else Err fault.NoSuch) (le-leb worker 15 few) ∙ follows.answers in
+      let accepted : (if nat_le worker 15 then event_row p b worker e else Err EventFault.NoSuch) ≡ Ok (new.state.board, reply) =
+      ap (λ c. if c then event_row p b worker e else Err EventFault.NoSuch) (le-leb worker 15 few) ∙ follows.answers in
       subst (λ (g : Content). KeptAsShown g new.state.board) (sym follows.groups.held)
       (law p b worker (content old.groups) e (new.state.board, reply) sound.in_play.laws sound.kept accepted)
   kept (Err f) follows =
@@ -123,6 +101,6 @@ plays_unasked old new e result few follows =
     let p = old.state.plan in
     let b = old.state.board in
     let r = event_row p b e.worker e.event in
-    let row_is : row p b e.worker e.event ≡ r = ap (λ (c : Bool). if c then r else Err fault.NoSuch) (le-leb e.worker 15 few) in
+    let row_is : row p b e.worker e.event ≡ r = ap (λ (c : Bool). if c then r else Err EventFault.NoSuch) (le-leb e.worker 15 few) in
     subst (λ (x : Result (Unit {0}) EventFault). Plays p b e x new.state.board) (sym follows.same)
     (left_plays p b e follows.answer new.state.board (subst (λ (x : Row). Answers x b follows.answer new.state.board) (sym row_is) follows.follows.answers))

@@ -2,14 +2,9 @@
 use Rattle.std.proofs.Common.{◌≡◌, ℕ, suc, ◌+◌, ◌-◌, ◌<◌, ◌≤◌, ◌⊎◌, inl, inr, Bool, true, false, List, [], ◌∷◌, Option, Some, Result, Ok, Err, length, slice_get, nat_lt, if◌then◌else◌, ap, sym, refl, ◌∙◌, arith}
 use Rattle.std.proofs.lemmas.Bool.Decides.{nat_tests}
 use Rattle.std.proofs.lemmas.List.Sums.{sum_by-cons}
-use Rattle.board_decisions.specs.Place.{else_from, job_place, job_place_from, leg_in_jobs, leg_place, leg_place_from}
-use Rattle.board_decisions.specs.declared.place.JobPlace.{JobPlace}
-use Rattle.board_decisions.specs.declared.place.LegPlace.{LegPlace}
+use Rattle.status_table.specs.Words.{Board, Job, JobPlace, LegPlace, Run, else_from, job_place, job_place_from, leg_in_jobs, leg_place, leg_place_from}
 use Rattle.board_decisions.proofs.Lists.{same_some, no_some}
 use Rattle.board_counters.specs.Stopping.{legs_of_jobs}
-use Rattle.flow_model.specs.declared.board.Board.{Board}
-use Rattle.flow_model.specs.declared.board.Job.{Job}
-use Rattle.flow_model.specs.declared.board.Run.{Run}
 
 -- ---- jobs
 

@@ -1,23 +1,9 @@
 -- The index of groups beside a board: names as they stand on
 -- the board, and the groups after what a member asks of them.
 use Rattle.std.specs.Prelude.{◌≡◌, ℕ, true, List, Option, Some, None, Result, Ok, Err}
-use Rattle.board_decisions.specs.declared.entrance.Entrance.{Entrance}
+use Rattle.status_table.specs.Words.{Answers, Board, Content, EntersFromOutside, Entrance, Event, KeptAsShown, Known, Lawful, Member, Plan, Reply, ValueFault, after_enter, after_event, content, event_row, is_known, row, without_reply}
 use Rattle.flat_board.specs.Names.{IsName}
 use Rattle.flat_board.specs.declared.grouped_board.GroupedBoard.{GroupedBoard}
-use Rattle.flow_model.specs.declared.board.Board.{Board}
-use Rattle.flow_model.specs.declared.event.Event.{Event}
-use Rattle.flow_model.specs.declared.event.Event.TheVariants as event
-use Rattle.flow_model.specs.declared.event.Member.{Member}
-use Rattle.flow_model.specs.declared.plan.Plan.{Plan}
-use Rattle.flow_model.specs.declared.reply.Reply.{Reply}
-use Rattle.flow_model.specs.declared.reply.ValueFault.{ValueFault}
-use Rattle.group_admission.specs.Content.{Content, after_enter}
-use Rattle.group_admission.specs.Known.{Known, content, is_known}
-use Rattle.status_table.specs.Answers.{Answers}
-use Rattle.status_table.specs.Grouped.{KeptAsShown, EntersFromOutside, after_event}
-use Rattle.status_table.specs.Lawful.{Lawful}
-use Rattle.status_table.specs.Row.{row, event_row}
-use Rattle.status_table.specs.Unasked.{without_reply}
 use Rattle.status_table.specs.declared.fault.EventFault.{EventFault}
 
 -- ---- names
@@ -56,16 +42,16 @@ Goes (Err f) old to new = new ≡ old
 -- how many changes of a board an event makes at most: one that enters a group may note the end of who waited,
 -- begin to wait, put out who waited, and stop the holder
 abbrev pub most_changes : Event → ℕ
-most_changes (event.Open r) = 4
-most_changes (event.Judge j) = 1
-most_changes (event.Ask l) = 4
-most_changes (event.Drop l) = 3
-most_changes (event.Take l) = 1
-most_changes (event.Begin l) = 1
-most_changes (event.End l a) = 1
-most_changes (event.Finish l) = 3
-most_changes (event.Close r) = 2
-most_changes (event.Cancel r) = 1
+most_changes (Event.Open r) = 4
+most_changes (Event.Judge j) = 1
+most_changes (Event.Ask l) = 4
+most_changes (Event.Drop l) = 3
+most_changes (Event.Take l) = 1
+most_changes (Event.Begin l) = 1
+most_changes (Event.End l a) = 1
+most_changes (Event.Finish l) = 3
+most_changes (Event.Close r) = 2
+most_changes (Event.Cancel r) = 1
 
 -- An event that a worker from 0 to 15 reports is answered as its row, the plan stays, and the groups are
 -- after it what the event asks of them.

@@ -1,19 +1,6 @@
 -- The names of groups that stand on a board, beside the groups that know them.
 use Rattle.std.specs.Prelude.{◌≡◌, ◌≢◌, ℕ, Bool, true, false, List, [], Option, Some, None, slice_get}
-use Rattle.board_decisions.specs.Derived.{is_fresh}
-use Rattle.board_decisions.specs.Place.{◌>>=◌}
-use Rattle.expr_reader.specs.Fold.{fold}
-use Rattle.flow_model.specs.Numbers.{board_legs}
-use Rattle.flow_model.specs.Sound.{Each}
-use Rattle.flow_model.specs.declared.board.Board.{Board}
-use Rattle.flow_model.specs.declared.board.Run.{Run}
-use Rattle.flow_model.specs.declared.board.RunState.{RunState}
-use Rattle.flow_model.specs.declared.board.RunState.TheVariants as run_state
-use Rattle.flow_model.specs.declared.board.Job.{Job}
-use Rattle.flow_model.specs.declared.board.Leg.{Leg}
-use Rattle.flow_model.specs.declared.event.Member.{Member}
-use Rattle.flow_model.specs.declared.event.Member.TheVariants as member
-use Rattle.group_admission.specs.Known.{Known, is_known}
+use Rattle.status_table.specs.Words.{Board, Each, Job, Known, Leg, Member, Run, RunState, board_legs, fold, is_fresh, is_known, ◌>>=◌}
 
 -- ---- the names alone
 
@@ -44,10 +31,10 @@ IsNamed b = Each RunIsNamed b.runs
 
 -- whether a run was not opened yet
 abbrev pub is_new : RunState → Bool
-is_new run_state.New = true
-is_new run_state.Waiting = false
-is_new run_state.Going = false
-is_new (run_state.Closed result) = false
+is_new RunState.New = true
+is_new RunState.Waiting = false
+is_new RunState.Going = false
+is_new (RunState.Closed result) = false
 
 -- what is seen of a member: whether it is new, and its group
 abbrev pub Seen : Type 0
@@ -63,8 +50,8 @@ leg_names leg = Some (is_fresh leg.state, leg.group)
 
 -- a member of a board
 abbrev pub seen_at : Board → Member → Seen
-seen_at b (member.Run r) = slice_get b.runs r >>= run_names
-seen_at b (member.Leg l) = slice_get (board_legs b) l >>= leg_names
+seen_at b (Member.Run r) = slice_get b.runs r >>= run_names
+seen_at b (Member.Leg l) = slice_get (board_legs b) l >>= leg_names
 
 -- the group of who is seen
 abbrev pub group_of : Seen → Option (List ℕ)

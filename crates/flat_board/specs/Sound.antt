@@ -1,9 +1,7 @@
 -- What is true of each plan in play with its groups beside it.
+use Rattle.status_table.specs.Words.{InPlay, KeptAsShown, content}
 use Rattle.flat_board.specs.Names.{NamesKnown}
 use Rattle.flat_board.specs.declared.grouped_board.GroupedBoard.{GroupedBoard}
-use Rattle.group_admission.specs.Known.{content}
-use Rattle.status_table.specs.Grouped.{KeptAsShown}
-use Rattle.status_table.specs.InPlay.{InPlay}
 
 -- It is as every plan in play, its board shows the groups, and they know the names that stand on it.
 pub record IsSound (play : GroupedBoard) : Type 0 where

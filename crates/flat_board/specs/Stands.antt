@@ -1,17 +1,13 @@
 -- How a member stands to its group, by itself and in the index of groups.
 use Rattle.std.specs.Prelude.{◌≡◌, ℕ, List, Option, Some}
+use Rattle.status_table.specs.Words.{Ascends, Content, Member, Standing, apart, holder_of, holding, waiter_of, waiting}
 use Rattle.flat_board.specs.declared.groups.Stand.{Stand}
-use Rattle.flat_board.specs.declared.groups.Stand.TheVariants as stand
-use Rattle.flow_model.specs.Mapping.{Ascends}
-use Rattle.flow_model.specs.declared.event.Member.{Member}
-use Rattle.group_admission.specs.Content.{Content, holder_of, waiter_of}
-use Rattle.status_table.specs.Groups.{Standing, apart, holding, waiting}
 
 -- how one stands so to a group
 abbrev pub standing_by : Stand → Option (List ℕ) → Standing
-standing_by stand.Apart group = apart
-standing_by stand.Holding group = holding group
-standing_by stand.Waiting group = waiting group
+standing_by Stand.Apart group = apart
+standing_by Stand.Holding group = holding group
+standing_by Stand.Waiting group = waiting group
 
 -- A member holds no name but that of the group that it stands holding, and waits for none but that of the
 -- group that it stands waiting for. The names are in order.

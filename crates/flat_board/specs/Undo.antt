@@ -1,33 +1,21 @@
 -- What takes an entry back.
 use Rattle.std.specs.Prelude.{◌≡◌, ◌≢◌, ◌⊎◌, ℕ, List, Option, Some, None}
-use Rattle.expr_reader.specs.Fold.{fold}
+use Rattle.status_table.specs.Words.{Ascends, Board, Content, Held, InPlay, KeptAsShown, Known, Member, Plan, Standing, content, fold, holder_of, left, put_known, value_at, waiter_of}
 use Rattle.flat_board.specs.Names.{NamesKnown, group_at}
 use Rattle.flat_board.specs.declared.grouped_board.GroupedBoard.{GroupedBoard}
 use Rattle.flat_board.specs.declared.undo.CellBack.{CellBack}
 use Rattle.flat_board.specs.declared.undo.Undo.{Undo}
-use Rattle.flat_board.specs.declared.undo.Undo.TheVariants as takes
 use Rattle.board_counters.specs.Undo.{only_before, undone}
-use Rattle.flow_model.specs.Mapping.{Ascends, value_at}
-use Rattle.flow_model.specs.declared.board.Board.{Board}
-use Rattle.flow_model.specs.declared.event.Member.{Member}
-use Rattle.flow_model.specs.declared.plan.Plan.{Plan}
-use Rattle.group_admission.specs.Content.{Content, holder_of, waiter_of}
-use Rattle.group_admission.specs.Known.{Known, content, put_known}
-use Rattle.group_admission.specs.declared.held.Held.{Held}
-use Rattle.status_table.specs.Admissions.{left}
-use Rattle.status_table.specs.Grouped.{KeptAsShown}
-use Rattle.status_table.specs.Groups.{Standing}
-use Rattle.status_table.specs.InPlay.{InPlay}
 
 -- the board before an entry: its changes are taken back, the last one first
 abbrev pub board_before : Undo → Board → Board
-board_before (takes.Only only) b = only_before only b
-board_before (takes.Entry back) b = undone back.value.changes.items b
+board_before (Undo.Only only) b = only_before only b
+board_before (Undo.Entry back) b = undone back.value.changes.items b
 
 -- what was held before it of the name that it asked for, if it asked for one
 abbrev pub cell_of : Undo → Option CellBack
-cell_of (takes.Only only) = None
-cell_of (takes.Entry back) = back.value.cell
+cell_of (Undo.Only only) = None
+cell_of (Undo.Entry back) = back.value.cell
 
 -- a name, if there is one, is held again as it was
 abbrev pub name_put_back : Option (List ℕ) → Option Held → Known → Known

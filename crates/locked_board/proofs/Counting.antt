@@ -2,9 +2,8 @@
 use Rattle.std.proofs.Common.{◌≡◌, ℕ, suc, ◌+◌, List, [], ◌∷◌, ◌++◌, length, refl, ap, ◌∙◌, arith}
 use Rattle.std.proofs.lemmas.List.{map-append}
 use Rattle.std.proofs.lemmas.List.Sums.{sum_by-append, sum_by-cons}
-use Rattle.flow_model.specs.declared.event.Entry.{Entry}
+use Rattle.status_table.specs.Words.{Entry, numbers}
 use Rattle.locked_board.specs.Hand.{Hand, new_hand, new_hands, all_entries}
-use Rattle.board_decisions.specs.Places.{numbers}
 
 length_last : (es : List Entry) (e : Entry) → length (es ++ e ∷ []) ≡ length es + 1
 length_last [] e = refl

@@ -1,9 +1,8 @@
 -- What a worker's share counts.
 use Rattle.std.specs.Prelude.{◌≡◌, ◌+◌, ℕ, List, map, sum_by, Result, Ok, Err}
+use Rattle.status_table.specs.Words.{numbers}
 use Rattle.locked_board.specs.declared.clerk.Clerk.{Clerk}
-use Rattle.locked_board.specs.declared.clerk.Clerk.TheVariants as clerk
 use Rattle.locked_board.specs.declared.fault.PostFault.{PostFault}
-use Rattle.board_decisions.specs.Places.{numbers}
 
 -- a worker, and how many of its entries were accepted
 pub record Hand : Type 0 where
@@ -33,8 +32,8 @@ Counts old (Err f) new = new ≡ old
 
 -- an entry of a clerk that is accepted is counted, and nothing else: a clerk posts nothing where it has no move
 abbrev pub CountsMove : Hand → Result Clerk PostFault → Hand → Type 0
-CountsMove old (Ok (clerk.Moved e reply)) new = new ≡ with_entry old
-CountsMove old (Ok clerk.Done) new = new ≡ old
-CountsMove old (Ok clerk.Idle) new = new ≡ old
-CountsMove old (Ok clerk.Stalled) new = new ≡ old
+CountsMove old (Ok (Clerk.Moved e reply)) new = new ≡ with_entry old
+CountsMove old (Ok Clerk.Done) new = new ≡ old
+CountsMove old (Ok Clerk.Idle) new = new ≡ old
+CountsMove old (Ok Clerk.Stalled) new = new ≡ old
 CountsMove old (Err f) new = new ≡ old

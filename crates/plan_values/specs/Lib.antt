@@ -7,3 +7,4 @@ pub mod Places
 pub mod Sight
 pub mod Texts
 pub mod Values
+pub mod Words

@@ -3,14 +3,7 @@ use Rattle.std.proofs.Common.{◌≡◌, ℕ, suc, ◌+◌, ◌++◌, Bool, true
 use Rattle.std.specs.List.{flat_map}
 use Rattle.std.proofs.lemmas.List.{map-append, length-append}
 use Rattle.std.proofs.lemmas.List.Sums.{sum_by-cons, sum_by-append, sum_by-take-le}
-use Rattle.board_decisions.specs.Place.{LegAt}
-use Rattle.board_decisions.specs.declared.entrance.Entrance.{Entrance}
-use Rattle.flow_model.specs.Numbers.{board_jobs, board_legs}
-use Rattle.flow_model.specs.declared.board.Board.{Board}
-use Rattle.flow_model.specs.declared.reply.ValueFault.{ValueFault}
-use Rattle.status_table.specs.Moves.{is_accepted}
-use Rattle.board_decisions.specs.Places.{numbers}
-use Rattle.status_table.specs.Row.{run_enters, leg_enters}
+use Rattle.status_table.specs.Words.{Board, Entrance, LegAt, ValueFault, board_jobs, board_legs, is_accepted, leg_enters, numbers, run_enters}
 
 -- a run that enters is accepted
 pub run_enters_accepted : (b : Board) (r : ℕ) (x : Result (Option Entrance) ValueFault) → is_accepted (run_enters b r x) ≡ true

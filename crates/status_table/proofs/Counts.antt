@@ -2,11 +2,9 @@
 use Rattle.std.proofs.Common.{◌≡◌, ℕ, zero, suc, ◌+◌, ◌*◌, ◌≤◌, Bool, true, false, List, [], ◌∷◌, Option, Some, None, length, map, slice_get, sum_by, count_by, cond, option_map, if◌then◌else◌, ap, subst, sym, refl, ◌∙◌, arith}
 use Rattle.std.specs.List.{flat_map, list_all, AllZip}
 use Rattle.std.proofs.lemmas.List.Sums.{sum_by-cons, sum_by-append}
-use Rattle.status_table.specs.Change.{changed}
-use Rattle.status_table.specs.Groups.{first_place}
-use Rattle.board_decisions.proofs.Lists.{and-left, and-right, and-both}
+use Rattle.status_table.specs.Words.{changed, first_place}
+use Rattle.board_decisions.proofs.Lists.{and-left, and-right, and-both, same_some, no_some}
 use Rattle.status_table.proofs.Lists.{changed-cons, zip-changed}
-use Rattle.board_decisions.proofs.Lists.{same_some, no_some}
 
 -- ---- sums
 

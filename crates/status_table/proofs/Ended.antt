@@ -2,27 +2,12 @@
 use Rattle.std.proofs.Common.{◌≡◌, ◌⊎◌, inl, inr, ℕ, zero, suc, ◌-◌, ◌≤◌, ◌||◌, Bool, true, false, List, [], ◌∷◌, Option, Some, length, map, slice_get, ap, sym, refl, ◌∙◌, arith}
 use Rattle.std.specs.List.{list_all, AllZip}
 use Rattle.std.proofs.lemmas.Bool.{true≢false}
-use Rattle.board_decisions.specs.Derived.{is_closed, is_open, is_shut, is_fresh, is_ended, job_has_ended, result_by, holds_at, needs_have_ended}
-use Rattle.board_decisions.specs.Place.{JobAt, job_at, job_place, job_place_from}
-use Rattle.flow_model.specs.declared.plan.Plan.{Plan}
-use Rattle.flow_model.specs.declared.plan.JobPlan.{JobPlan}
-use Rattle.flow_model.specs.declared.board.Board.{Board}
-use Rattle.flow_model.specs.declared.board.Run.{Run}
-use Rattle.flow_model.specs.declared.board.RunState.{RunState}
-use Rattle.flow_model.specs.declared.board.Job.{Job}
-use Rattle.flow_model.specs.declared.board.JobState.{JobState}
-use Rattle.flow_model.specs.declared.board.JobState.TheVariants as job_state
-use Rattle.flow_model.specs.declared.board.Leg.{Leg}
-use Rattle.flow_model.specs.declared.board.LegState.{LegState}
-use Rattle.flow_model.specs.declared.board.LegState.TheVariants as leg_state
-use Rattle.status_table.specs.Lawful.{leg_stands_right, JobFits, NeedsEnded}
-use Rattle.status_table.specs.Row.{first_of}
-use Rattle.status_table.specs.Stays.{LegStays, JobStays, RunStays, Stays}
-use Rattle.board_decisions.proofs.Lists.{and-left}
+use Rattle.status_table.specs.Words.{Board, Job, JobAt, JobFits, JobPlan, JobState, JobStays, Leg, LegState, LegStays, Plan, Run, RunState, RunStays, Stays, first_of, holds_at, is_closed, is_ended, is_fresh, is_open, is_shut, job_at, job_has_ended, job_place, job_place_from, leg_stands_right, needs_have_ended, result_by}
+use Rattle.status_table.specs.Lawful.{NeedsEnded}
+use Rattle.board_decisions.proofs.Lists.{and-left, same_some}
 use Rattle.status_table.proofs.Counts.{zip-beside, zip-then, zip-left, all-weaker}
 use Rattle.status_table.proofs.Found.{job_stands}
 use Rattle.status_table.proofs.Lists.{zip-length}
-use Rattle.board_decisions.proofs.Lists.{same_some}
 
 -- ---- nothing changed, and one change after the other
 
@@ -66,23 +51,23 @@ stays-then a b c h k = zip-then RunStays RunStays RunStays runs-then a.runs b.ru
 
 -- ---- a job that was not judged has not ended
 
-unjudged-fresh : (s : RunState) (g : Option (List ℕ)) (leg : Leg) → leg_stands_right s g job_state.Unjudged leg ≡ true → is_ended leg.state ≡ false
+unjudged-fresh : (s : RunState) (g : Option (List ℕ)) (leg : Leg) → leg_stands_right s g JobState.Unjudged leg ≡ true → is_ended leg.state ≡ false
 unjudged-fresh s g leg h = by leg.state h
   where
     by : (t : LegState) → is_fresh t || false ≡ true → is_ended t ≡ false
-    by (leg_state.Ended result tolerated) k = absurd (true≢false (sym k))
+    by (LegState.Ended result tolerated) k = absurd (true≢false (sym k))
     by t k = refl
 
 -- some leg of it has not ended
 pub not_ended : (s : RunState) (g : Option (List ℕ)) (legs : List Leg) (closed : Bool) → closed ≡ false → 1 ≤ length legs
-    → list_all (leg_stands_right s g job_state.Unjudged) legs ≡ true → list_all (λ leg. closed || false || is_ended leg.state) legs ≡ true → ⊥
+    → list_all (leg_stands_right s g JobState.Unjudged) legs ≡ true → list_all (λ leg. closed || false || is_ended leg.state) legs ≡ true → ⊥
 not_ended s g [] closed unclosed some h k = absurd (omega (arith, some))
 not_ended s g (leg ∷ legs) closed unclosed some h k =
-    let fresh = unjudged-fresh s g leg (and-left (leg_stands_right s g job_state.Unjudged leg) (list_all (leg_stands_right s g job_state.Unjudged) legs) h) in
+    let fresh = unjudged-fresh s g leg (and-left (leg_stands_right s g JobState.Unjudged leg) (list_all (leg_stands_right s g JobState.Unjudged) legs) h) in
     let here = and-left (closed || false || is_ended leg.state) (list_all (λ x. closed || false || is_ended x.state) legs) k in
     true≢false (sym here ∙ rw (unclosed, fresh) refl)
 
-pub unjudged-going : (run : Run) (plan : JobPlan) (job : Job) → is_closed run.state ≡ false → job.state ≡ job_state.Unjudged → JobFits run.state run.group plan job
+pub unjudged-going : (run : Run) (plan : JobPlan) (job : Job) → is_closed run.state ≡ false → job.state ≡ JobState.Unjudged → JobFits run.state run.group plan job
     → job_has_ended run job ≡ true → ⊥
 unjudged-going run plan job unclosed is fits h =
     not_ended run.state run.group job.legs (is_closed run.state) unclosed fits.some (ap (λ s. list_all (leg_stands_right run.state run.group s) job.legs) (sym is) ∙ fits.legs)
@@ -94,8 +79,8 @@ or-later : (c d e f : Bool) → c ≡ false → c || e || f ≡ true → d || e 
 or-later c true e f h k = refl
 or-later c false e f h k = sym (ap (λ x. x || e || f) h) ∙ k
 
-same-result : (s t : RunState) (state : JobState) (legs : List Leg) → is_closed s ≡ false → (state ≡ job_state.Unjudged → ⊥) → result_by t state legs ≡ result_by s state legs
-same-result s t job_state.Unjudged legs unclosed judged = absurd (judged refl)
+same-result : (s t : RunState) (state : JobState) (legs : List Leg) → is_closed s ≡ false → (state ≡ JobState.Unjudged → ⊥) → result_by t state legs ≡ result_by s state legs
+same-result s t JobState.Unjudged legs unclosed judged = absurd (judged refl)
 same-result s t state legs unclosed judged = refl
 
 abbrev LegEnded : Run → Job → Leg → Bool

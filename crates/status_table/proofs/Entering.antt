@@ -2,16 +2,11 @@
 use Rattle.std.proofs.Common.{◌≡◌, ◌≢◌, ◌⊎◌, inl, inr, ℕ, ◌<◌, ◌≤◌, Bool, true, false, List, Option, Some, None, Ok, Err, if◌then◌else◌, ap, subst, sym, refl, ◌∙◌, arith}
 use Rattle.std.specs.Str.{bytes_eq}
 use Rattle.std.proofs.lemmas.Slice.Eq.{bytes_eq-Decides}
-use Rattle.board_decisions.specs.declared.entrance.Entrance.{Entrance}
-use Rattle.flow_model.specs.declared.plan.Plan.{Plan}
-use Rattle.flow_model.specs.declared.board.Board.{Board}
-use Rattle.flow_model.specs.declared.event.Member.{Member}
-use Rattle.status_table.specs.Groups.{Standing, apart, holding, waiting, holds_name, holder, waiter, admitted, waits, passed_on, cancelled, displaced, stopped, Done, told, moved, is_own, stop_told, enters_held, enters, leaves}
-use Rattle.status_table.specs.Lawful.{NeedsEnded, Lawful}
-use Rattle.status_table.specs.Members.{OneHolder, holders, waiters}
+use Rattle.status_table.specs.Words.{Board, Done, Entrance, Lawful, Member, OneHolder, Plan, Row, Standing, Stays, admitted, apart, cancelled, displaced, enters, enters_held, holder, holding, is_own, leaves, moved, passed_on, stop_told, stopped, told, waiter, waiters, waiting, waits}
+use Rattle.status_table.specs.Groups.{holds_name}
+use Rattle.status_table.specs.Lawful.{NeedsEnded}
+use Rattle.status_table.specs.Members.{holders}
 use Rattle.status_table.proofs.Rank.{rank}
-use Rattle.status_table.specs.Row.{Row}
-use Rattle.status_table.specs.Stays.{Stays}
 use Rattle.status_table.proofs.Counts.{one}
 use Rattle.status_table.proofs.Ended.{stays-then}
 use Rattle.status_table.proofs.Steps.{standing, Step}

@@ -1,15 +1,6 @@
 -- What stands where a job or a leg is found.
 use Rattle.std.proofs.Common.{◌≡◌, ℕ, Some, slice_get, refl, ap, subst, sym, ◌∙◌}
-use Rattle.board_decisions.specs.Numbered.{leg_there}
-use Rattle.board_decisions.specs.Place.{◌>>=◌, RunAt, JobAt, LegAt, run_at, job_placed, job_at, leg_at, job_place, leg_place}
-use Rattle.board_decisions.specs.declared.place.JobPlace.{JobPlace}
-use Rattle.board_decisions.specs.declared.place.LegPlace.{LegPlace}
-use Rattle.flow_model.specs.Numbers.{board_legs}
-use Rattle.flow_model.specs.declared.plan.Plan.{Plan}
-use Rattle.flow_model.specs.declared.plan.JobPlan.{JobPlan}
-use Rattle.flow_model.specs.declared.board.Board.{Board}
-use Rattle.flow_model.specs.declared.board.Job.{Job}
-use Rattle.flow_model.specs.declared.board.Leg.{Leg}
+use Rattle.status_table.specs.Words.{Board, Job, JobAt, JobPlace, JobPlan, Leg, LegAt, LegPlace, Plan, RunAt, board_legs, job_at, job_place, job_placed, leg_at, leg_place, leg_there, run_at, ◌>>=◌}
 use Rattle.status_table.proofs.Lists.{bind-some}
 use Rattle.board_decisions.proofs.Lists.{same_some}
 use Rattle.status_table.proofs.Numbers.{legs_are_numbered}

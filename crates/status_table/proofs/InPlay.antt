@@ -1,18 +1,7 @@
 -- A plan in play stays so.
 use Rattle.std.proofs.Common.{◌≡◌, ℕ, ◌≤◌, Result, length, subst, sym, arith}
-use Rattle.flow_model.specs.Numbers.{board_jobs, board_legs, plan_jobs, plan_legs}
-use Rattle.flow_model.specs.Rules.{IsPlan}
-use Rattle.flow_model.specs.Sound.{SoundPlan}
-use Rattle.flow_model.specs.declared.plan.Plan.{Plan}
-use Rattle.flow_model.specs.declared.board.Board.{Board}
-use Rattle.flow_model.specs.declared.event.Event.{Event}
-use Rattle.flow_model.specs.declared.reply.Reply.{Reply}
+use Rattle.status_table.specs.Words.{Answers, Board, Event, InPlay, IsPlan, Plan, Reply, SoundPlan, Stays, board_jobs, board_legs, event_row, new_board, plan_jobs, plan_legs}
 use Rattle.status_table.specs.declared.fault.EventFault.{EventFault}
-use Rattle.status_table.specs.Answers.{Answers}
-use Rattle.status_table.specs.InPlay.{InPlay}
-use Rattle.status_table.specs.Row.{event_row}
-use Rattle.status_table.specs.Runs.{new_board}
-use Rattle.status_table.specs.Stays.{Stays}
 use Rattle.status_table.proofs.Keeps.{event_keeps}
 use Rattle.status_table.proofs.Lawfulness.{new_lawful, answer_leads, jobs_of_runs}
 use Rattle.status_table.proofs.Legal.{new_fits, answer_fits}

@@ -2,30 +2,11 @@
 use Rattle.std.proofs.Common.{◌≡◌, ◌⊎◌, inl, inr, ℕ, ◌+◌, ◌<◌, ◌&&◌, ◌||◌, Bool, true, false, not, List, Option, Some, Result, Ok, Err, slice_get, sum_by, if◌then◌else◌, ap, sym, refl, ◌∙◌, arith}
 use Rattle.std.specs.List.{flat_map, list_all}
 use Rattle.std.proofs.lemmas.Bool.{true≢false, cases_eq}
-use Rattle.board_decisions.specs.Decisions.{job_condition}
-use Rattle.board_decisions.specs.Derived.{is_going, is_closed, is_open, is_shut, is_fresh, is_under_way, job_status, needs_have_ended}
-use Rattle.board_decisions.specs.Place.{JobAt, job_at}
-use Rattle.flow_model.specs.Numbers.{board_legs}
-use Rattle.flow_model.specs.declared.plan.Plan.{Plan}
-use Rattle.flow_model.specs.declared.board.Board.{Board}
-use Rattle.flow_model.specs.declared.board.Run.{Run}
-use Rattle.flow_model.specs.declared.board.RunState.{RunState}
-use Rattle.flow_model.specs.declared.board.RunState.TheVariants as run_state
-use Rattle.flow_model.specs.declared.board.Job.{Job}
-use Rattle.flow_model.specs.declared.board.JobState.{JobState}
-use Rattle.flow_model.specs.declared.board.JobState.TheVariants as job_state
-use Rattle.flow_model.specs.declared.board.Leg.{Leg}
-use Rattle.flow_model.specs.declared.board.LegState.{LegState}
-use Rattle.flow_model.specs.declared.board.LegState.TheVariants as leg_state
-use Rattle.flow_model.specs.declared.reply.ValueFault.{ValueFault}
-use Rattle.status_table.specs.declared.fault.EventFault.TheVariants as fault
-use Rattle.status_table.specs.Change.{changed}
-use Rattle.status_table.specs.Groups.{run_standing, leg_standing, holds_name, waits_name}
-use Rattle.status_table.specs.Lawful.{leg_stands_right, JobFits, RunFits, MembersFit, Lawful}
-use Rattle.status_table.specs.Members.{is_waiting, share_name}
+use Rattle.status_table.specs.Words.{Board, Job, JobAt, JobFits, JobState, JobStays, Lawful, Leg, LegState, LegStays, MembersFit, Plan, Run, RunFits, RunState, RunStays, Stays, ValueFault, board_legs, changed, is_closed, is_fresh, is_going, is_open, is_shut, is_under_way, is_waiting, job_at, job_condition, job_status, leg_standing, leg_stands_right, needs_have_ended, run_standing, share_name, waits_name}
+use Rattle.status_table.specs.declared.fault.EventFault.{EventFault}
+use Rattle.status_table.specs.Groups.{holds_name}
 use Rattle.status_table.proofs.Rank.{job_rank, rank_of_run, rank_of_job, rank_of_leg, rank}
 use Rattle.status_table.specs.Row as rows
-use Rattle.status_table.specs.Stays.{LegStays, JobStays, RunStays, Stays}
 use Rattle.status_table.proofs.Counts.{one, sum-changed, zip-changed-at, zip-changed-self, zip-beside, all-weaker, sum-kept, sum-flat-changed}
 use Rattle.status_table.proofs.Ended.{leg-stays, job-stays, run-stays, unjudged-going, needs-stay, WasJob}
 use Rattle.status_table.proofs.Entering.{Follows, Leads}
@@ -42,14 +23,14 @@ judged-rank stop (Ok false) = refl
 judged-rank stop (Err f) = refl
 
 -- the legs of a job that was not judged are Fresh, and so stand rightly in each
-unjudged-right : (s t : RunState) (g h : Option (List ℕ)) (j : JobState) (leg : Leg) → leg_stands_right s g job_state.Unjudged leg ≡ true → leg_stands_right t h j leg ≡ true
+unjudged-right : (s t : RunState) (g h : Option (List ℕ)) (j : JobState) (leg : Leg) → leg_stands_right s g JobState.Unjudged leg ≡ true → leg_stands_right t h j leg ≡ true
 unjudged-right s t g h j leg right = by leg.state right
   where
     by : (u : LegState) → is_fresh u || false ≡ true → is_fresh u || (is_open j && (not (is_under_way u) || (is_going t && not (is_waiting u && share_name h leg.group)))) ≡ true
-    by leg_state.Fresh k = refl
+    by LegState.Fresh k = refl
     by u k = absurd (true≢false (sym k))
 
-module _ (p : Plan) (b : Board) (j : ℕ) (at : JobAt) (is : job_at p b j ≡ Some at) (going : at.run.state ≡ run_state.Going) (unjudged : at.job.state ≡ job_state.Unjudged)
+module _ (p : Plan) (b : Board) (j : ℕ) (at : JobAt) (is : job_at p b j ≡ Some at) (going : at.run.state ≡ RunState.Going) (unjudged : at.job.state ≡ JobState.Unjudged)
     (ready : needs_have_ended (rows.first_of j at) at.run at.plan ≡ true) (state : JobState) (judged : job_rank state ≡ 0) where
   abbrev judge : Job → Job
   judge job = record job { state = state }
@@ -88,7 +69,7 @@ module _ (p : Plan) (b : Board) (j : ℕ) (at : JobAt) (is : job_at p b j ≡ So
   judged_fits : MembersFit p b → MembersFit p new
   judged_fits fits = zip-changed-at RunFits p.runs b.runs at.place.run in_run at.run_plan at.run stands.in_plan stands.in_board
       (zip-changed-at (JobFits at.run.state at.run.group) at.run_plan.jobs at.run.jobs at.place.job judge at.plan at.job stands.plan stands.job (λ h. record {
-        legs = all-weaker (leg_stands_right at.run.state at.run.group job_state.Unjudged) (leg_stands_right at.run.state at.run.group state)
+        legs = all-weaker (leg_stands_right at.run.state at.run.group JobState.Unjudged) (leg_stands_right at.run.state at.run.group state)
             (unjudged-right at.run.state at.run.state at.run.group at.run.group state) at.job.legs
             (ap (λ s. list_all (leg_stands_right at.run.state at.run.group s) at.job.legs) (sym unjudged) ∙ h.legs);
         slots = h.slots;
@@ -159,17 +140,17 @@ module _ (p : Plan) (b : Board) (j : ℕ) (at : JobAt) (is : job_at p b j ≡ So
 pub judge_leads : (p : Plan) (b : Board) (j : ℕ) (at : JobAt) → job_at p b j ≡ Some at → Leads p b (rows.judge_job b at.place (rows.judgement j at))
 judge_leads p b j at is = by at.run.state refl at.job.state refl
   where
-    ready : (c : Bool) → needs_have_ended (rows.first_of j at) at.run at.plan ≡ c → at.run.state ≡ run_state.Going → at.job.state ≡ job_state.Unjudged
-        → Leads p b (rows.judge_job b at.place (if c then Ok (rows.judged_state at.run.stop (job_condition at (job_status (rows.first_of j at) at))) else Err fault.NeedsOpen))
+    ready : (c : Bool) → needs_have_ended (rows.first_of j at) at.run at.plan ≡ c → at.run.state ≡ RunState.Going → at.job.state ≡ JobState.Unjudged
+        → Leads p b (rows.judge_job b at.place (if c then Ok (rows.judged_state at.run.stop (job_condition at (job_status (rows.first_of j at) at))) else Err EventFault.NeedsOpen))
     ready true ended going unjudged =
         judged_follows p b j at is going unjudged ended (rows.judged_state at.run.stop (job_condition at (job_status (rows.first_of j at) at)))
         (judged-rank at.run.stop (job_condition at (job_status (rows.first_of j at) at)))
     ready false ended going unjudged = tt
 
     by : (s : RunState) → at.run.state ≡ s → (t : JobState) → at.job.state ≡ t → Leads p b (rows.judge_job b at.place (rows.judgement_by j at s t))
-    by run_state.Going going job_state.Unjudged unjudged = ready (needs_have_ended (rows.first_of j at) at.run at.plan) refl going unjudged
-    by run_state.Going going job_state.Open unjudged = tt
-    by run_state.Going going (job_state.Shut result) unjudged = tt
-    by run_state.New going t unjudged = tt
-    by run_state.Waiting going t unjudged = tt
-    by (run_state.Closed result) going t unjudged = tt
+    by RunState.Going going JobState.Unjudged unjudged = ready (needs_have_ended (rows.first_of j at) at.run at.plan) refl going unjudged
+    by RunState.Going going JobState.Open unjudged = tt
+    by RunState.Going going (JobState.Shut result) unjudged = tt
+    by RunState.New going t unjudged = tt
+    by RunState.Waiting going t unjudged = tt
+    by (RunState.Closed result) going t unjudged = tt

@@ -5,43 +5,12 @@ use Rattle.std.proofs.lemmas.Bool.{cases_eq, le-leb, leb-true}
 use Rattle.std.proofs.lemmas.Bool.Decides.{nat_tests}
 use Rattle.std.proofs.lemmas.List.{length-append}
 use Rattle.std.proofs.lemmas.Option.{slice_get_within}
-use Rattle.board_decisions.specs.declared.entrance.Entrance.{Entrance}
-use Rattle.board_decisions.specs.declared.place.JobPlace.{JobPlace}
-use Rattle.board_decisions.specs.Derived.{is_ended, is_going, is_closed, is_open, is_fresh, is_untaken, is_full, jobs_have_ended, run_result}
-use Rattle.board_decisions.specs.Decisions.{is_stopping, leg_result, leg_outputs, run_entrance, leg_entrance}
-use Rattle.board_decisions.specs.Place.{RunAt, JobAt, LegAt, run_at, job_at, leg_at}
-use Rattle.flow_model.specs.Numbers.{board_legs}
-use Rattle.flow_model.specs.declared.plan.Plan.{Plan}
-use Rattle.flow_model.specs.declared.plan.JobPlan.{JobPlan}
-use Rattle.flow_model.specs.declared.plan.StepPlan.{StepPlan}
-use Rattle.flow_model.specs.declared.board.Board.{Board}
-use Rattle.flow_model.specs.declared.board.Run.{Run}
-use Rattle.flow_model.specs.declared.board.RunState.{RunState}
-use Rattle.flow_model.specs.declared.board.RunState.TheVariants as run_state
-use Rattle.flow_model.specs.declared.board.Job.{Job}
-use Rattle.flow_model.specs.declared.board.JobState.{JobState}
-use Rattle.flow_model.specs.declared.board.Leg.{Leg}
-use Rattle.flow_model.specs.declared.board.LegState.{LegState}
-use Rattle.flow_model.specs.declared.board.LegState.TheVariants as leg_state
-use Rattle.flow_model.specs.declared.board.DoneStep.{DoneStep}
-use Rattle.flow_model.specs.declared.event.Answer.{Answer}
-use Rattle.flow_model.specs.declared.event.Event.{Event}
-use Rattle.flow_model.specs.declared.event.Event.TheVariants as event
-use Rattle.flow_model.specs.declared.event.Member.TheVariants as member
-use Rattle.flow_model.specs.declared.event.Outcome.{Outcome}
-use Rattle.flow_model.specs.declared.event.Outcome.TheVariants as outcome
-use Rattle.flow_model.specs.declared.reply.ValueFault.{ValueFault}
+use Rattle.status_table.specs.Words.{Answer, Beginning, Board, DoneStep, Entrance, Event, HasShape, Job, JobAt, JobPlace, JobPlan, JobShape, JobState, Leg, LegAt, LegState, Member, Outcome, Plan, Row, Run, RunAt, RunShape, RunState, StepPlan, ValueFault, ask_found, begin_found, begin_leg, beginning_by, board_legs, calling_owner, calls, cancel_found, changed, close_found, close_run, close_waiting, drop_found, dropped, end_found, end_leg, ended_state, ending_by, event_row, failed_step, faults, finish_found, finish_leg, finishing_by, has_room, idle_owner, is_closed, is_ended, is_fresh, is_full, is_going, is_open, is_stopping, is_untaken, job_at, job_state_set, jobs_have_ended, judge_found, judge_job, judgement, leaves, leg_at, leg_ended, leg_enters, leg_entrance, leg_outputs, leg_result, leg_standing, leg_state_set, may_ask, may_drop, moved, next_step, open_calls, open_found, open_run, row, run_at, run_closes, run_enters, run_entrance, run_result, skipped_step, skips, step_done, stopped, take_found, take_leg, times_ended, with_leg}
 use Rattle.status_table.specs.declared.fault.EventFault.{EventFault}
-use Rattle.status_table.specs.declared.fault.EventFault.TheVariants as fault
-use Rattle.status_table.specs.Change.{changed, with_leg}
-use Rattle.status_table.specs.Ends.{times_ended}
-use Rattle.status_table.specs.Groups.{leg_standing, dropped, stopped, moved, leaves}
-use Rattle.status_table.specs.Row.{Row, Beginning, calls, skips, faults, row, event_row, job_state_set, leg_state_set, step_done, leg_ended, run_enters, open_run, open_found, judge_job, judge_found, judgement, may_ask, ask_found, leg_enters, may_drop, drop_found, take_leg, take_found, idle_owner, calling_owner, next_step, skipped_step, failed_step, begin_leg, begin_found, beginning_by, end_leg, end_found, ending_by, finish_leg, finish_found, finishing_by, ended_state, run_closes, close_run, close_found, close_waiting, cancel_found}
-use Rattle.status_table.specs.Shape.{open_calls, steps_begun, has_room, JobShape, RunShape, HasShape}
-use Rattle.board_decisions.proofs.Lists.{and-right}
+use Rattle.status_table.specs.Shape.{steps_begun}
+use Rattle.board_decisions.proofs.Lists.{and-right, same_some, no_some}
 use Rattle.status_table.proofs.Found.{LegStands, leg_stands, leg_item}
 use Rattle.status_table.proofs.Lists.{changed-there, changed-elsewhere, length-changed, flat_map-kept, flat_map-twice, zip-changed, all-changed, all-get}
-use Rattle.board_decisions.proofs.Lists.{same_some, no_some}
 use Rattle.status_table.proofs.Numbers.{board_legs-changed, numbered_leg-changed}
 use Rattle.status_table.proofs.Standings.{Unended}
 use Rattle.status_table.proofs.Turns.{Fits, same_legs, ends_pushed, close_fits, drop_fits, stop_fits, enter_fits, run_leaves, leg_leaves}
@@ -144,15 +113,15 @@ open_keeps p b r None = tt
 open_keeps p b r (Some at) = by_state at.run.state at.run.stop
   where
     entered : (group : Result (Option Entrance) ValueFault) → Keeps p b (run_enters b r group)
-    entered (Ok group) = enter_fits p b (member.Run r) None group tt
-    entered (Err f) = close_fits p b r outcome.Failure
+    entered (Ok group) = enter_fits p b (Member.Run r) None group tt
+    entered (Err f) = close_fits p b r Outcome.Failure
 
     by_state : (state : RunState) (stop : Bool) → Keeps p b (open_run b r at state stop)
-    by_state run_state.New false = entered (run_entrance at)
-    by_state run_state.New true = tt
-    by_state run_state.Waiting stop = tt
-    by_state run_state.Going stop = tt
-    by_state (run_state.Closed result) stop = tt
+    by_state RunState.New false = entered (run_entrance at)
+    by_state RunState.New true = tt
+    by_state RunState.Waiting stop = tt
+    by_state RunState.Going stop = tt
+    by_state (RunState.Closed result) stop = tt
 
 judge_keeps : (p : Plan) (b : Board) (j : ℕ) (at : Option JobAt) → Keeps p b (judge_found b j at)
 judge_keeps p b j None = tt
@@ -170,21 +139,21 @@ close_keeps p b r (Some at) = by_state at.run.state
     closes result = run_leaves p b r at.run result
 
     waiting : (stop : Bool) → Keeps p b (close_waiting b r at.run stop)
-    waiting true = closes outcome.Cancelled
+    waiting true = closes Outcome.Cancelled
     waiting false = tt
 
     by_state : (state : RunState) → Keeps p b (close_run b r at.run state)
-    by_state run_state.Going =
-        keeps_if p b (jobs_have_ended at.run) (run_closes b r at.run (run_result at.run)) (Err fault.NeedsOpen)
+    by_state RunState.Going =
+        keeps_if p b (jobs_have_ended at.run) (run_closes b r at.run (run_result at.run)) (Err EventFault.NeedsOpen)
         (λ _. closes (run_result at.run)) (λ _. tt)
-    by_state (run_state.Closed result) = tt
+    by_state (RunState.Closed result) = tt
     by_state state = waiting at.run.stop
 
 cancel_keeps : (p : Plan) (b : Board) (r : ℕ) (at : Option RunAt) → Keeps p b (cancel_found b r at)
 cancel_keeps p b r None = tt
 cancel_keeps p b r (Some at) =
-    keeps_if p b (is_closed at.run.state || at.run.stop) (Err fault.WrongState) (Ok (stopped b true (member.Run r), moved)) (λ _. tt)
-    (λ _. stop_fits p b true (member.Run r))
+    keeps_if p b (is_closed at.run.state || at.run.stop) (Err EventFault.WrongState) (Ok (stopped b true (Member.Run r), moved)) (λ _. tt)
+    (λ _. stop_fits p b true (Member.Run r))
 
 -- ---- the events of legs
 
@@ -195,7 +164,7 @@ quiet_kept p b l at state stands before now quiet =
     leg_kept p b l at (λ leg. record leg { state = state }) stands before now (room_kept at.job_plan at.leg (record at.leg { state = state }) (omega (arith, quiet)))
 
 fresh_unended : (s : LegState) → is_fresh s ≡ true → is_ended s ≡ false
-fresh_unended (leg_state.Ended result tolerated) h = sym h
+fresh_unended (LegState.Ended result tolerated) h = sym h
 fresh_unended s h = refl
 
 not_not : (c : Bool) → not c ≡ false → c ≡ true
@@ -203,66 +172,66 @@ not_not true h = refl
 not_not false h = sym h
 
 -- a leg that was found, and has not ended
-found_unended : (p : Plan) (b : Board) (l : ℕ) (at : LegAt) → leg_at p b l ≡ Some at → is_ended at.leg.state ≡ false → Unended b (member.Leg l)
+found_unended : (p : Plan) (b : Board) (l : ℕ) (at : LegAt) → leg_at p b l ≡ Some at → is_ended at.leg.state ≡ false → Unended b (Member.Leg l)
 found_unended p b l at is before = (at.leg, leg_item p b l at (leg_stands p b l at is), before)
 
 ask_keeps : (p : Plan) (b : Board) (l : ℕ) (at : Option LegAt) → leg_at p b l ≡ at → Keeps p b (ask_found b l at)
 ask_keeps p b l None is = tt
 ask_keeps p b l (Some at) is =
-    keeps_if p b (not (may_ask at)) (Err fault.WrongState) unstarted (λ _. tt) (λ ready.
+    keeps_if p b (not (may_ask at)) (Err EventFault.WrongState) unstarted (λ _. tt) (λ ready.
     let fresh = and-right (is_going at.run.state && is_open at.job.state) (is_fresh at.leg.state) (not_not (may_ask at) ready) in
-    keeps_if p b (is_full at.job_plan at.job) (Err fault.SlotsFull) unstopped (λ _. tt) (λ _.
-    keeps_if p b (is_stopping at) (Err fault.Stopping) (leg_enters b l at (leg_entrance at)) (λ _. tt) (λ _.
+    keeps_if p b (is_full at.job_plan at.job) (Err EventFault.SlotsFull) unstopped (λ _. tt) (λ _.
+    keeps_if p b (is_stopping at) (Err EventFault.Stopping) (leg_enters b l at (leg_entrance at)) (λ _. tt) (λ _.
     entered (leg_entrance at) (found_unended p b l at is (fresh_unended at.leg.state fresh)))))
   where
     unstopped : Row
-    unstopped = if is_stopping at then Err fault.Stopping else leg_enters b l at (leg_entrance at)
+    unstopped = if is_stopping at then Err EventFault.Stopping else leg_enters b l at (leg_entrance at)
 
     unstarted : Row
-    unstarted = if is_full at.job_plan at.job then Err fault.SlotsFull else unstopped
+    unstarted = if is_full at.job_plan at.job then Err EventFault.SlotsFull else unstopped
 
-    entered : (group : Result (Option Entrance) ValueFault) → Unended b (member.Leg l) → Keeps p b (leg_enters b l at group)
-    entered (Ok group) before = enter_fits p b (member.Leg l) (Some at.place.run) group before
-    entered (Err f) before = drop_fits p b l outcome.Failure before
+    entered : (group : Result (Option Entrance) ValueFault) → Unended b (Member.Leg l) → Keeps p b (leg_enters b l at group)
+    entered (Ok group) before = enter_fits p b (Member.Leg l) (Some at.place.run) group before
+    entered (Err f) before = drop_fits p b l Outcome.Failure before
 
 untaken_unended : (s : LegState) → is_untaken s ≡ true → is_ended s ≡ false
-untaken_unended (leg_state.Ended result tolerated) h = sym h
+untaken_unended (LegState.Ended result tolerated) h = sym h
 untaken_unended s h = refl
 
 drop_keeps : (p : Plan) (b : Board) (l : ℕ) (at : Option LegAt) → leg_at p b l ≡ at → Keeps p b (drop_found b l at)
 drop_keeps p b l None is = tt
 drop_keeps p b l (Some at) is =
-    keeps_if p b (not (may_drop at)) (Err fault.WrongState) unstarted (λ _. tt) (λ ready.
+    keeps_if p b (not (may_drop at)) (Err EventFault.WrongState) unstarted (λ _. tt) (λ ready.
     let untaken = and-right (is_going at.run.state && is_open at.job.state) (is_untaken at.leg.state) (not_not (may_drop at) ready) in
     let before = found_unended p b l at is (untaken_unended at.leg.state untaken) in
-    keeps_if p b (is_stopping at) (Ok (leaves b (leg_standing at.leg) (dropped b l outcome.Cancelled))) (Err fault.NotStopping) (λ _ h.
-    leg_leaves p b (dropped b l outcome.Cancelled) l at.leg (λ leg. record leg { state = leg_state.Ended outcome.Cancelled false })
+    keeps_if p b (is_stopping at) (Ok (leaves b (leg_standing at.leg) (dropped b l Outcome.Cancelled))) (Err EventFault.NotStopping) (λ _ h.
+    leg_leaves p b (dropped b l Outcome.Cancelled) l at.leg (λ leg. record leg { state = LegState.Ended Outcome.Cancelled false })
     (leg_item p b l at (leg_stands p b l at is))
-    (numbered_leg-changed b l (λ leg. record leg { state = leg_state.Ended outcome.Cancelled false }))
-    (drop_fits p b l outcome.Cancelled before h)) (λ _. tt))
+    (numbered_leg-changed b l (λ leg. record leg { state = LegState.Ended Outcome.Cancelled false }))
+    (drop_fits p b l Outcome.Cancelled before h)) (λ _. tt))
   where
     unstarted : Row
-    unstarted = if is_stopping at then Ok (leaves b (leg_standing at.leg) (dropped b l outcome.Cancelled)) else Err fault.NotStopping
+    unstarted = if is_stopping at then Ok (leaves b (leg_standing at.leg) (dropped b l Outcome.Cancelled)) else Err EventFault.NotStopping
 
 take_keeps : (p : Plan) (b : Board) (worker l : ℕ) (at : Option LegAt) → leg_at p b l ≡ at → Keeps p b (take_found b worker at)
 take_keeps p b worker l None is = tt
 take_keeps p b worker l (Some at) is = by_state at.leg.state refl
   where
     by_state : (state : LegState) → at.leg.state ≡ state → Keeps p b (take_leg b worker at state)
-    by_state leg_state.Admitted was =
-        keeps_if p b (is_stopping at) (Err fault.Stopping) (Ok (leg_state_set b at.place (leg_state.Running worker false), moved)) (λ _. tt)
-        (λ _. quiet_kept p b l at (leg_state.Running worker false) (leg_stands p b l at is) (ap is_ended was) refl refl)
+    by_state LegState.Admitted was =
+        keeps_if p b (is_stopping at) (Err EventFault.Stopping) (Ok (leg_state_set b at.place (LegState.Running worker false), moved)) (λ _. tt)
+        (λ _. quiet_kept p b l at (LegState.Running worker false) (leg_stands p b l at is) (ap is_ended was) refl refl)
     by_state state was = tt
 
 idle_unended : (s : LegState) (owner : ℕ) → idle_owner s ≡ Some owner → is_ended s ≡ false
-idle_unended (leg_state.Ended result tolerated) owner h = absurd (no_some owner h)
+idle_unended (LegState.Ended result tolerated) owner h = absurd (no_some owner h)
 idle_unended s owner h = refl
 
 -- a leg with one more step done, where one was left
 step_kept : (p : Plan) (b : Board) (worker l : ℕ) (at : LegAt) (done : DoneStep) → LegStands p b l at → is_ended at.leg.state ≡ false
     → (has_room at.job_plan at.leg ≡ true → length at.leg.steps < length at.job_plan.steps) → Fits p b → Fits p (step_done b at.place worker done)
 step_kept p b worker l at done stands before left =
-    leg_kept p b l at (λ leg. record leg { state = leg_state.Running worker false; steps = leg.steps ++ done ∷ [] }) stands before refl (λ had. room (left had))
+    leg_kept p b l at (λ leg. record leg { state = LegState.Running worker false; steps = leg.steps ++ done ∷ [] }) stands before refl (λ had. room (left had))
   where
     room : length at.leg.steps < length at.job_plan.steps → nat_le (length (at.leg.steps ++ done ∷ []) + 0) (length at.job_plan.steps) ≡ true
     room less = let more = length-append at.leg.steps (done ∷ []) in le-leb (length (at.leg.steps ++ done ∷ []) + 0) (length at.job_plan.steps) (omega (arith, less, more))
@@ -276,7 +245,7 @@ begin_keeps p b worker l (Some at) is = by_owner (idle_owner at.leg.state) refl 
 
     begun : (x : Beginning) → is_ended at.leg.state ≡ false → length at.leg.steps < length at.job_plan.steps → Keeps p b (begin_leg b worker at (Ok x))
     begun (calls call) before left =
-        leg_kept p b l at (λ leg. record leg { state = leg_state.Running worker true }) stands before refl
+        leg_kept p b l at (λ leg. record leg { state = LegState.Running worker true }) stands before refl
         (λ _. le-leb (length at.leg.steps + 1) (length at.job_plan.steps) (omega (arith, left)))
     begun skips before left = step_kept p b worker l at skipped_step stands before (λ _. left)
     begun (faults f) before left = step_kept p b worker l at (failed_step at) stands before (λ _. left)
@@ -293,7 +262,7 @@ begin_keeps p b worker l (Some at) is = by_owner (idle_owner at.leg.state) refl 
         by_beginning (beginning_by worker l at (Some owner) (Some step)) (idle_unended at.leg.state owner was) (slice_get_within at.job_plan.steps (length at.leg.steps) step next)
 
 calling_state : (s : LegState) (owner : ℕ) → calling_owner s ≡ Some owner → (is_ended s ≡ false) × (open_calls s ≡ 1)
-calling_state (leg_state.Running worker true) owner h = (refl, refl)
+calling_state (LegState.Running worker true) owner h = (refl, refl)
 calling_state s owner h = absurd (no_some owner h)
 
 end_keeps : (p : Plan) (b : Board) (worker l : ℕ) (a : Answer) (at : Option LegAt) → leg_at p b l ≡ at → Keeps p b (end_found b worker a at)
@@ -323,7 +292,7 @@ finish_keeps p b worker l (Some at) is = by_owner (idle_owner at.leg.state) refl
     by_owner None was = tt
     by_owner (Some owner) was = by_test (not (worker == owner)) (nat_lt (length at.leg.steps) (length at.job_plan.steps))
       where
-        by_test : (other more : Bool) → Keeps p b (finish_leg b l at (if other then Err fault.OtherWorker else (if more then Err fault.StepsLeft else Ok (ended_state at (leg_result at)))))
+        by_test : (other more : Bool) → Keeps p b (finish_leg b l at (if other then Err EventFault.OtherWorker else (if more then Err EventFault.StepsLeft else Ok (ended_state at (leg_result at)))))
         by_test true more = tt
         by_test false true = tt
         by_test false false = ends owner was
@@ -332,17 +301,17 @@ finish_keeps p b worker l (Some at) is = by_owner (idle_owner at.leg.state) refl
 
 -- each event that is accepted keeps the shape and the ends
 pub event_keeps : (p : Plan) (b : Board) (worker : ℕ) (e : Event) → Keeps p b (event_row p b worker e)
-event_keeps p b worker (event.Open r) = open_keeps p b r (run_at p b r)
-event_keeps p b worker (event.Judge j) = judge_keeps p b j (job_at p b j)
-event_keeps p b worker (event.Ask l) = ask_keeps p b l (leg_at p b l) refl
-event_keeps p b worker (event.Drop l) = drop_keeps p b l (leg_at p b l) refl
-event_keeps p b worker (event.Take l) = take_keeps p b worker l (leg_at p b l) refl
-event_keeps p b worker (event.Begin l) = begin_keeps p b worker l (leg_at p b l) refl
-event_keeps p b worker (event.End l a) = end_keeps p b worker l a (leg_at p b l) refl
-event_keeps p b worker (event.Finish l) = finish_keeps p b worker l (leg_at p b l) refl
-event_keeps p b worker (event.Close r) = close_keeps p b r (run_at p b r)
-event_keeps p b worker (event.Cancel r) = cancel_keeps p b r (run_at p b r)
+event_keeps p b worker (Event.Open r) = open_keeps p b r (run_at p b r)
+event_keeps p b worker (Event.Judge j) = judge_keeps p b j (job_at p b j)
+event_keeps p b worker (Event.Ask l) = ask_keeps p b l (leg_at p b l) refl
+event_keeps p b worker (Event.Drop l) = drop_keeps p b l (leg_at p b l) refl
+event_keeps p b worker (Event.Take l) = take_keeps p b worker l (leg_at p b l) refl
+event_keeps p b worker (Event.Begin l) = begin_keeps p b worker l (leg_at p b l) refl
+event_keeps p b worker (Event.End l a) = end_keeps p b worker l a (leg_at p b l) refl
+event_keeps p b worker (Event.Finish l) = finish_keeps p b worker l (leg_at p b l) refl
+event_keeps p b worker (Event.Close r) = close_keeps p b r (run_at p b r)
+event_keeps p b worker (Event.Cancel r) = cancel_keeps p b r (run_at p b r)
 
 -- each row keeps what a board in play keeps
 pub row_keeps : (p : Plan) (b : Board) (worker : ℕ) (e : Event) → Keeps p b (row p b worker e)
-row_keeps p b worker e = keeps_if p b (nat_le worker 15) (event_row p b worker e) (Err fault.NoSuch) (λ _. event_keeps p b worker e) (λ _. tt)
+row_keeps p b worker e = keeps_if p b (nat_le worker 15) (event_row p b worker e) (Err EventFault.NoSuch) (λ _. event_keeps p b worker e) (λ _. tt)

@@ -2,15 +2,7 @@
 use Rattle.std.proofs.Common.{◌≡◌, ℕ, List, Option, Some, None, Result, Ok, Err, OnErr, slice_get, slice_set, ap, sym, refl, ◌∙◌}
 use Rattle.std.proofs.lemmas.List.{set-get_or}
 use Rattle.std.proofs.lemmas.Option.{get_or_from_slice_get}
-use Rattle.board_decisions.specs.declared.place.LegPlace.{LegPlace}
-use Rattle.flow_model.specs.declared.board.Board.{Board}
-use Rattle.flow_model.specs.declared.board.Run.{Run}
-use Rattle.flow_model.specs.declared.board.Job.{Job}
-use Rattle.flow_model.specs.declared.board.Leg.{Leg}
-use Rattle.flow_model.specs.declared.event.Member.{Member}
-use Rattle.flow_model.specs.declared.event.Member.TheVariants as member
-use Rattle.status_table.specs.Groups.{waits, displaced}
-use Rattle.status_table.specs.Seen.{noted, put_out}
+use Rattle.status_table.specs.Words.{Board, Job, Leg, LegPlace, Member, Run, displaced, noted, put_out, waits}
 
 pub slice_set-slice_get : {T : Type 0} (xs : List T) (i : ℕ) (x : T) → slice_get xs i ≡ Some x → slice_set xs i x ≡ xs
 slice_set-slice_get {T} xs i x h = ap (λ (y : T). slice_set xs i y) (sym (get_or_from_slice_get xs i x x h)) ∙ set-get_or xs i x
@@ -33,6 +25,6 @@ leg_kept b at run job leg put in_runs in_jobs in_legs same =
 -- To note first that a leg ended, and to put it out after another began to wait, is to displace it.
 pub put_out_noted : (b : Board) (name : List ℕ) (who : Member) (waited : Option Member) → put_out (waits (noted b waited) name who) waited ≡ displaced (waits b name who) waited
 put_out_noted b name who None = refl
-put_out_noted b name who (Some (member.Run r)) = refl
-put_out_noted b name (member.Run s) (Some (member.Leg l)) = refl
-put_out_noted b name (member.Leg k) (Some (member.Leg l)) = refl
+put_out_noted b name who (Some (Member.Run r)) = refl
+put_out_noted b name (Member.Run s) (Some (Member.Leg l)) = refl
+put_out_noted b name (Member.Leg k) (Some (Member.Leg l)) = refl

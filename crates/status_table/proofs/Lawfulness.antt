@@ -4,31 +4,11 @@ use Rattle.std.specs.List.{flat_map, AllZip}
 use Rattle.std.proofs.lemmas.Bool.{true≢false}
 use Rattle.std.proofs.lemmas.List.{length-map, length-append}
 use Rattle.std.proofs.lemmas.List.Concat.{flat_map-append}
-use Rattle.board_decisions.specs.Derived.{is_open, is_under_way}
-use Rattle.flow_model.specs.Numbers.{board_jobs, board_legs, plan_jobs, plan_legs}
-use Rattle.flow_model.specs.Plain.{Plain}
-use Rattle.flow_model.specs.Sound.{Each, SoundJob, SoundRun, SoundPlan}
-use Rattle.flow_model.specs.declared.plan.Plan.{Plan}
-use Rattle.flow_model.specs.declared.plan.RunPlan.{RunPlan}
-use Rattle.flow_model.specs.declared.plan.JobPlan.{JobPlan}
-use Rattle.flow_model.specs.declared.board.Board.{Board}
-use Rattle.flow_model.specs.declared.board.Run.{Run}
-use Rattle.flow_model.specs.declared.board.RunState.TheVariants as run_state
-use Rattle.flow_model.specs.declared.board.Job.{Job}
-use Rattle.flow_model.specs.declared.board.JobState.TheVariants as job_state
-use Rattle.flow_model.specs.declared.board.Leg.{Leg}
-use Rattle.flow_model.specs.declared.event.Entry.{Entry}
-use Rattle.flow_model.specs.declared.event.Event.{Event}
-use Rattle.flow_model.specs.declared.reply.Reply.{Reply}
-use Rattle.status_table.specs.Groups.{run_standing, leg_standing, holds_name, waits_name}
-use Rattle.status_table.specs.Lawful.{leg_stands_right, Within, under_way, JobFits, RunFits, MembersFit, NeedsEnded, Lawful}
+use Rattle.status_table.specs.Words.{Answers, Board, Each, Entry, Event, HasShape, Job, JobFits, JobPlan, JobState, Lawful, Leg, MembersFit, Plain, Plan, Reply, Row, Run, RunFits, RunPlan, RunState, SoundJob, SoundPlan, SoundRun, Stays, after, after_from, board_jobs, board_legs, event_row, is_open, is_under_way, leg_standing, leg_stands_right, new_board, new_job, new_leg, new_run, plan_jobs, plan_legs, row, run_standing, then_after, waits_name}
+use Rattle.status_table.specs.Groups.{holds_name}
+use Rattle.status_table.specs.Lawful.{Within, under_way, NeedsEnded}
 use Rattle.status_table.proofs.Rank.{rank_of_run, rank_of_job, rank_of_leg, rank}
-use Rattle.status_table.specs.Answers.{Answers}
 use Rattle.status_table.specs.declared.fault.EventFault.{EventFault}
-use Rattle.status_table.specs.Row.{Row, row, event_row}
-use Rattle.status_table.specs.Runs.{new_leg, new_job, new_run, new_board, then_after, after_from, after}
-use Rattle.status_table.specs.Shape.{HasShape}
-use Rattle.status_table.specs.Stays.{Stays}
 use Rattle.status_table.proofs.Counts.{one, sum-map}
 use Rattle.status_table.proofs.Ended.{stays-same, stays-then}
 use Rattle.status_table.proofs.Entering.{Leads}
@@ -66,8 +46,8 @@ zip-made P R f (x ∷ xs) each h = (h x (each 0 x refl), zip-made P R f xs (λ i
 
 new_fits : (p : Plan) → SoundPlan p → MembersFit p (new_board p)
 new_fits p sound = zip-made SoundRun RunFits new_run p.runs sound.runs (λ run sound_run.
-    zip-made SoundJob (JobFits run_state.New None) new_job run.jobs sound_run.jobs (λ job sound_job. record {
-      legs = all-map (leg_stands_right run_state.New None job_state.Unjudged) new_leg job.legs (λ combo. refl);
+    zip-made SoundJob (JobFits RunState.New None) new_job run.jobs sound_run.jobs (λ job sound_job. record {
+      legs = all-map (leg_stands_right RunState.New None JobState.Unjudged) new_leg job.legs (λ combo. refl);
       slots = within-none job.max_parallel (under_way (map new_leg job.legs)) (let none = sum-map (λ x. one (is_under_way x.state)) new_leg 0 job.legs (λ combo. refl) in omega (arith, none));
       some = let same = length-map job.legs new_leg in let some = sound_job.some_leg in omega (arith, same, some);
       steps = sound_job.few_steps;

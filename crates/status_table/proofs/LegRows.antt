@@ -4,47 +4,17 @@ use Rattle.std.proofs.lemmas.Bool.{true≢false, leb-true}
 use Rattle.std.proofs.lemmas.Bool.Decides.{nat_tests}
 use Rattle.std.proofs.lemmas.List.{length-append}
 use Rattle.std.proofs.lemmas.Option.{slice_get_within}
-use Rattle.board_decisions.specs.declared.entrance.Entrance.{Entrance}
-use Rattle.board_decisions.specs.Decisions.{is_stopping, leg_result, leg_outputs, leg_entrance}
-use Rattle.board_decisions.specs.Derived.{is_going, is_open, is_fresh, is_untaken, is_ended, is_under_way, is_full}
-use Rattle.board_decisions.specs.Place.{LegAt}
-use Rattle.flow_model.specs.Numbers.{board_legs}
-use Rattle.flow_model.specs.declared.plan.Plan.{Plan}
-use Rattle.flow_model.specs.declared.plan.JobPlan.{JobPlan}
-use Rattle.flow_model.specs.declared.plan.StepPlan.{StepPlan}
-use Rattle.flow_model.specs.declared.board.Board.{Board}
-use Rattle.flow_model.specs.declared.board.Run.{Run}
-use Rattle.flow_model.specs.declared.board.RunState.{RunState}
-use Rattle.flow_model.specs.declared.board.RunState.TheVariants as run_state
-use Rattle.flow_model.specs.declared.board.Job.{Job}
-use Rattle.flow_model.specs.declared.board.Leg.{Leg}
-use Rattle.flow_model.specs.declared.board.LegState.{LegState}
-use Rattle.flow_model.specs.declared.board.LegState.TheVariants as leg_state
-use Rattle.flow_model.specs.declared.board.DoneStep.{DoneStep}
-use Rattle.flow_model.specs.declared.event.Answer.{Answer}
-use Rattle.flow_model.specs.declared.event.Member.{Member}
-use Rattle.flow_model.specs.declared.event.Member.TheVariants as member
-use Rattle.flow_model.specs.declared.event.Outcome.{Outcome}
-use Rattle.flow_model.specs.declared.event.Outcome.TheVariants as outcome
-use Rattle.flow_model.specs.declared.reply.Reply.{Reply}
-use Rattle.flow_model.specs.declared.reply.ValueFault.{ValueFault}
-use Rattle.flow_model.specs.declared.reply.What.TheVariants as what
+use Rattle.status_table.specs.Words.{Answer, Beginning, Board, DoneStep, Entrance, HasShape, Job, JobFits, JobPlan, JobShape, Lawful, Leg, LegAt, LegState, Member, MembersFit, OneHolder, Outcome, Plan, Reply, Row, Run, RunFits, RunShape, RunState, Standing, StepPlan, ValueFault, What, admitted, apart, board_legs, calls, changed, dropped, enters, faults, first_place, has_room, holder, holding, is_ended, is_fresh, is_full, is_going, is_named, is_open, is_own, is_stopping, is_under_way, is_untaken, is_waiting, leaves, leg_entrance, leg_outputs, leg_result, leg_standing, leg_stands, leg_stands_right, moved, open_calls, run_standing, run_stands, share_name, skips, waiting, waits, with_leg}
 use Rattle.status_table.specs.declared.fault.EventFault.{EventFault}
-use Rattle.status_table.specs.declared.fault.EventFault.TheVariants as fault
-use Rattle.status_table.specs.Change.{changed, with_leg}
-use Rattle.status_table.specs.Groups.{Standing, apart, holding, waiting, run_stands, leg_stands, run_standing, leg_standing, is_named, holds_name, holder, first_place, run_or_leg, dropped, admitted, waits, moved, is_own, enters, leaves}
-use Rattle.status_table.specs.Lawful.{leg_stands_right, Within, under_way, JobFits, RunFits, MembersFit, Lawful}
-use Rattle.status_table.specs.Members.{OneHolder, is_waiting, share_name}
+use Rattle.status_table.specs.Groups.{holds_name, run_or_leg}
+use Rattle.status_table.specs.Lawful.{Within, under_way}
 use Rattle.status_table.proofs.Rank.{leg_rank, rank_of_leg, rank}
-use Rattle.status_table.specs.Row.{Row, Beginning, calls, skips, faults}
 use Rattle.status_table.specs.Row as rows
-use Rattle.status_table.specs.Shape.{open_calls, has_room, JobShape, RunShape, HasShape}
-use Rattle.board_decisions.proofs.Lists.{and-left, and-right}
+use Rattle.board_decisions.proofs.Lists.{and-left, and-right, same_some, no_some}
 use Rattle.status_table.proofs.Counts.{one, sum-changed, only_first}
 use Rattle.status_table.proofs.Entering.{Follows, Leads, leads-if, lawfully, Asker, enters_leads, leaves_leads, ends_apart, stands_still}
 use Rattle.status_table.proofs.Found.{LegStands}
 use Rattle.status_table.proofs.Lists.{zip-get, all-get}
-use Rattle.board_decisions.proofs.Lists.{same_some, no_some}
 use Rattle.status_table.proofs.Steps.{Step, Live, leg_step, as_much}
 use Rattle.status_table.proofs.Turnover.{under-context, right-there, right-waiting, numbered}
 
@@ -74,7 +44,7 @@ not_own-name : (b : Board) (r : ℕ) (n : List ℕ) (run : Run) (h : Member) →
 not_own-name b r n run h one' at going held not_own = by (is_named n run.group) refl
   where
     holds : (s : RunState) → is_going s ≡ true → is_named n run.group ≡ true → holds_name n (run_stands s run.group) ≡ true
-    holds run_state.Going g is = is
+    holds RunState.Going g is = is
     holds s g is = absurd (true≢false (sym g))
 
     by : (c : Bool) → is_named n run.group ≡ c → c ≡ false
@@ -83,8 +53,8 @@ not_own-name b r n run h one' at going held not_own = by (is_named n run.group) 
         let few = one'.holder n in
         let plus : 0 + r ≡ r = omega arith in
         let first = only_first 0 (λ x. holds_name n (run_standing x)) b.runs r run (omega (arith, few)) at (holds run.state going is) in
-        let mine : holder b n ≡ Some (member.Run r) = ap (λ o. run_or_leg o (first_place 0 (λ leg. holds_name n (leg_standing leg)) (board_legs b))) (first ∙ ap (λ k. Some k) plus) in
-        let same : member.Run r ≡ h = same_some (member.Run r) h (sym mine ∙ held) in
+        let mine : holder b n ≡ Some (Member.Run r) = ap (λ o. run_or_leg o (first_place 0 (λ leg. holds_name n (leg_standing leg)) (board_legs b))) (first ∙ ap (λ k. Some k) plus) in
+        let same : Member.Run r ≡ h = same_some (Member.Run r) h (sym mine ∙ held) in
         let self : (r == r) ≡ true = grind arith in
         absurd (true≢false (sym self ∙ ap (is_own (Some r)) same ∙ not_own))
 
@@ -111,16 +81,16 @@ not_full plan job free = by plan.max_parallel refl
         grind (arith, nat_tests, e)
 
 untaken-rank : (s : LegState) (left : ℕ) → is_untaken s ≡ true → 2 ≤ leg_rank s left
-untaken-rank (leg_state.Running worker in_call) left h = absurd (true≢false (sym h))
-untaken-rank (leg_state.Ended result tolerated) left h = absurd (true≢false (sym h))
+untaken-rank (LegState.Running worker in_call) left h = absurd (true≢false (sym h))
+untaken-rank (LegState.Ended result tolerated) left h = absurd (true≢false (sym h))
 untaken-rank s left h = omega arith
 
 untaken-running : (s : LegState) → is_untaken s ≡ true → is_ended s ≡ false
-untaken-running (leg_state.Ended result tolerated) h = absurd (true≢false (sym h))
+untaken-running (LegState.Ended result tolerated) h = absurd (true≢false (sym h))
 untaken-running s h = refl
 
-is-fresh : (s : LegState) → is_fresh s ≡ true → s ≡ leg_state.Fresh
-is-fresh leg_state.Fresh h = refl
+is-fresh : (s : LegState) → is_fresh s ≡ true → s ≡ LegState.Fresh
+is-fresh LegState.Fresh h = refl
 is-fresh s h = absurd (true≢false (sym h))
 
 pub record Holds (s : LegState) : Type 0 where
@@ -129,30 +99,30 @@ pub record Holds (s : LegState) : Type 0 where
   pub quiet : is_waiting s ≡ false
   pub stands : (group : Option (List ℕ)) → leg_stands s group ≡ holding group
 
-admitted-holds : Holds leg_state.Admitted
+admitted-holds : Holds LegState.Admitted
 admitted-holds = record { under = refl; running = refl; quiet = refl; stands = λ group. refl }
 
-running-holds : (worker : ℕ) (in_call : Bool) → Holds (leg_state.Running worker in_call)
+running-holds : (worker : ℕ) (in_call : Bool) → Holds (LegState.Running worker in_call)
 running-holds worker in_call = record { under = refl; running = refl; quiet = refl; stands = λ group. refl }
 
 pub idle-holds : (s : LegState) (owner : ℕ) → rows.idle_owner s ≡ Some owner → Holds s
-idle-holds (leg_state.Running worker false) owner h = running-holds worker false
+idle-holds (LegState.Running worker false) owner h = running-holds worker false
 idle-holds s owner h = absurd (no_some owner h)
 
 pub idle-rank : (s : LegState) (owner left : ℕ) → rows.idle_owner s ≡ Some owner → leg_rank s left ≡ 1 + 2 * left
-idle-rank (leg_state.Running worker false) owner left h = refl
+idle-rank (LegState.Running worker false) owner left h = refl
 idle-rank s owner left h = absurd (no_some owner h)
 
 calling-holds : (s : LegState) (owner left : ℕ) → rows.calling_owner s ≡ Some owner → Holds s × (open_calls s ≡ 1) × (leg_rank s left ≡ 2 * left)
-calling-holds (leg_state.Running worker true) owner left h = (running-holds worker true, refl, refl)
+calling-holds (LegState.Running worker true) owner left h = (running-holds worker true, refl, refl)
 calling-holds s owner left h = absurd (no_some owner h)
 
 module _ (p : Plan) (b : Board) (l : ℕ) (at : LegAt) (stands : LegStands p b l at) where
   -- a leg that no worker took has ended
   pub leg_drops : (s : Standing) (result : Outcome) → MembersFit p b → Live p b l at → is_untaken at.leg.state ≡ true → leg_standing at.leg ≡ s
-      → Step p b (member.Leg l) s apart 1 (dropped b l result)
+      → Step p b (Member.Leg l) s apart 1 (dropped b l result)
   leg_drops s result fits live untaken stood =
-      let f : Leg → Leg = λ x. record x { state = leg_state.Ended result false } in
+      let f : Leg → Leg = λ x. record x { state = LegState.Ended result false } in
       let some = untaken-rank at.leg.state (256 - length at.leg.steps) untaken in
       leg_step p b l at f live (dropped b l result) (numbered b l at.place f stands.place) s apart 1 fits (untaken-running at.leg.state untaken)
       (right-there at.run.state at.run.group at.job.state (f at.leg) live.going live.opened refl)
@@ -160,31 +130,31 @@ module _ (p : Plan) (b : Board) (l : ℕ) (at : LegAt) (stands : LegStands p b l
 
   -- ---- Ask
 
-  fresh_drops : Live p b l at → at.leg.state ≡ leg_state.Fresh → (result : Outcome) → Leads p b (Ok (dropped b l result, moved))
-  fresh_drops live is result = ends_apart p b (dropped b l result) (member.Leg l) (λ lawful.
+  fresh_drops : Live p b l at → at.leg.state ≡ LegState.Fresh → (result : Outcome) → Leads p b (Ok (dropped b l result, moved))
+  fresh_drops live is result = ends_apart p b (dropped b l result) (Member.Leg l) (λ lawful.
       leg_drops apart result lawful.fits live (ap is_untaken is) (ap (λ s. leg_stands s at.leg.group) is))
 
-  pub ask_asker : Lawful p b → Live p b l at → at.leg.state ≡ leg_state.Fresh → is_full at.job_plan at.job ≡ false → Asker p b (member.Leg l) (Some at.place.run)
+  pub ask_asker : Lawful p b → Live p b l at → at.leg.state ≡ LegState.Fresh → is_full at.job_plan at.job ≡ false → Asker p b (Member.Leg l) (Some at.place.run)
   ask_asker lawful live is free =
       let stood : leg_standing at.leg ≡ apart = ap (λ s. leg_stands s at.leg.group) is in
       let rank = ap (λ s. leg_rank s (256 - length at.leg.steps)) is in
       let room : (f : Leg → Leg) → Within at.job_plan.max_parallel (under_way (changed at.job.legs at.place.leg f)) =
       λ f. room-for at.job_plan.max_parallel at.job.legs at.place.leg f at.leg stands.leg (not_full at.job_plan at.job free) in
       record {
-        admit = λ name. let f : Leg → Leg = λ x. record x { state = leg_state.Admitted; group = name } in
-            leg_step p b l at f live (admitted b name (member.Leg l)) (numbered b l at.place f stands.place) apart (holding name) 1 lawful.fits (ap is_ended is)
+        admit = λ name. let f : Leg → Leg = λ x. record x { state = LegState.Admitted; group = name } in
+            leg_step p b l at f live (admitted b name (Member.Leg l)) (numbered b l at.place f stands.place) apart (holding name) 1 lawful.fits (ap is_ended is)
             (right-there at.run.state at.run.group at.job.state (f at.leg) live.going live.opened refl) (λ _. room f) stood refl (omega (arith, rank));
-        wait = λ n h held not_own. let f : Leg → Leg = λ x. record x { state = leg_state.Waiting; group = Some n } in
-            leg_step p b l at f live (waits b n (member.Leg l)) (numbered b l at.place f stands.place) apart (waiting (Some n)) 1 lawful.fits (ap is_ended is)
+        wait = λ n h held not_own. let f : Leg → Leg = λ x. record x { state = LegState.Waiting; group = Some n } in
+            leg_step p b l at f live (waits b n (Member.Leg l)) (numbered b l at.place f stands.place) apart (waiting (Some n)) 1 lawful.fits (ap is_ended is)
             (right-waiting at.run.state at.run.group at.job.state (f at.leg) live.going live.opened refl
             (not_own-name b at.place.run n at.run h lawful.one stands.in_board live.going held not_own)) (λ _. room f) stood refl (omega (arith, rank));
-        refuse = fresh_drops live is outcome.Cancelled;
+        refuse = fresh_drops live is Outcome.Cancelled;
       }
 
   pub ask_leads : Leads p b (rows.ask_leg b l at)
-  ask_leads = leads-if p b (not (rows.may_ask at)) (Err fault.WrongState) unstarted (λ _. tt)
-      (λ ready. leads-if p b (is_full at.job_plan at.job) (Err fault.SlotsFull) unstopped (λ _. tt)
-      (λ free. leads-if p b (is_stopping at) (Err fault.Stopping) (rows.leg_enters b l at (leg_entrance at)) (λ _. tt)
+  ask_leads = leads-if p b (not (rows.may_ask at)) (Err EventFault.WrongState) unstarted (λ _. tt)
+      (λ ready. leads-if p b (is_full at.job_plan at.job) (Err EventFault.SlotsFull) unstopped (λ _. tt)
+      (λ free. leads-if p b (is_stopping at) (Err EventFault.Stopping) (rows.leg_enters b l at (leg_entrance at)) (λ _. tt)
       (λ _.
       let all = not-not (rows.may_ask at) ready in
       let two = and-left (is_going at.run.state && is_open at.job.state) (is_fresh at.leg.state) all in
@@ -192,28 +162,28 @@ module _ (p : Plan) (b : Board) (l : ℕ) (at : LegAt) (stands : LegStands p b l
       entered (leg_entrance at) live (is-fresh at.leg.state (and-right (is_going at.run.state && is_open at.job.state) (is_fresh at.leg.state) all)) free)))
     where
       unstopped : Row
-      unstopped = if is_stopping at then Err fault.Stopping else rows.leg_enters b l at (leg_entrance at)
+      unstopped = if is_stopping at then Err EventFault.Stopping else rows.leg_enters b l at (leg_entrance at)
 
       unstarted : Row
-      unstarted = if is_full at.job_plan at.job then Err fault.SlotsFull else unstopped
+      unstarted = if is_full at.job_plan at.job then Err EventFault.SlotsFull else unstopped
 
-      entered : (x : Result (Option Entrance) ValueFault) → Live p b l at → at.leg.state ≡ leg_state.Fresh → is_full at.job_plan at.job ≡ false → Leads p b (rows.leg_enters b l at x)
+      entered : (x : Result (Option Entrance) ValueFault) → Live p b l at → at.leg.state ≡ LegState.Fresh → is_full at.job_plan at.job ≡ false → Leads p b (rows.leg_enters b l at x)
       entered (Ok group) live is free =
-          lawfully p b (Ok (enters b (member.Leg l) (Some at.place.run) group)) (λ lawful. enters_leads p b (member.Leg l) (Some at.place.run) (ask_asker lawful live is free) group)
-      entered (Err f) live is free = fresh_drops live is outcome.Failure
+          lawfully p b (Ok (enters b (Member.Leg l) (Some at.place.run) group)) (λ lawful. enters_leads p b (Member.Leg l) (Some at.place.run) (ask_asker lawful live is free) group)
+      entered (Err f) live is free = fresh_drops live is Outcome.Failure
 
   -- ---- Drop
 
   pub drop_leads : Leads p b (rows.drop_leg b l at)
-  drop_leads = leads-if p b (not (rows.may_drop at)) (Err fault.WrongState)
-      (if is_stopping at then Ok (leaves b (leg_standing at.leg) (dropped b l outcome.Cancelled)) else Err fault.NotStopping) (λ _. tt)
-      (λ ready. leads-if p b (is_stopping at) (Ok (leaves b (leg_standing at.leg) (dropped b l outcome.Cancelled))) (Err fault.NotStopping)
+  drop_leads = leads-if p b (not (rows.may_drop at)) (Err EventFault.WrongState)
+      (if is_stopping at then Ok (leaves b (leg_standing at.leg) (dropped b l Outcome.Cancelled)) else Err EventFault.NotStopping) (λ _. tt)
+      (λ ready. leads-if p b (is_stopping at) (Ok (leaves b (leg_standing at.leg) (dropped b l Outcome.Cancelled))) (Err EventFault.NotStopping)
       (λ _.
       let all = not-not (rows.may_drop at) ready in
       let two = and-left (is_going at.run.state && is_open at.job.state) (is_untaken at.leg.state) all in
       let live : Live p b l at = record { stands = stands; going = and-left (is_going at.run.state) (is_open at.job.state) two; opened = and-right (is_going at.run.state) (is_open at.job.state) two } in
-      leaves_leads p b (dropped b l outcome.Cancelled) (member.Leg l) (leg_standing at.leg) (λ lawful.
-      leg_drops (leg_standing at.leg) outcome.Cancelled lawful.fits live (and-right (is_going at.run.state && is_open at.job.state) (is_untaken at.leg.state) all) refl))
+      leaves_leads p b (dropped b l Outcome.Cancelled) (Member.Leg l) (leg_standing at.leg) (λ lawful.
+      leg_drops (leg_standing at.leg) Outcome.Cancelled lawful.fits live (and-right (is_going at.run.state && is_open at.job.state) (is_untaken at.leg.state) all) refl))
       (λ _. tt))
 
   -- ---- Take, Begin, End: a leg that holds and goes on holding
@@ -224,7 +194,7 @@ module _ (p : Plan) (b : Board) (l : ℕ) (at : LegAt) (stands : LegStands p b l
       let live = holding-live p b l at lawful.fits stands was.under in
       let before = ap one was.under in
       let after = ap one now.under in
-      stands_still p b (with_leg b at.place f) (member.Leg l) (holding at.leg.group)
+      stands_still p b (with_leg b at.place f) (Member.Leg l) (holding at.leg.group)
       (leg_step p b l at f live (with_leg b at.place f) refl (holding at.leg.group) (holding at.leg.group) 1 lawful.fits was.running
       (right-there at.run.state at.run.group at.job.state (f at.leg) live.going live.opened now.quiet)
       (as_much p b l at f live (with_leg b at.place f) refl (omega (arith, before, after)))
@@ -234,9 +204,9 @@ module _ (p : Plan) (b : Board) (l : ℕ) (at : LegAt) (stands : LegStands p b l
   take_leads worker = by at.leg.state refl
     where
       by : (s : LegState) → at.leg.state ≡ s → Leads p b (rows.take_leg b worker at s)
-      by leg_state.Admitted is = leads-if p b (is_stopping at) (Err fault.Stopping) (Ok (rows.leg_state_set b at.place (leg_state.Running worker false), moved)) (λ _. tt)
+      by LegState.Admitted is = leads-if p b (is_stopping at) (Err EventFault.Stopping) (Ok (rows.leg_state_set b at.place (LegState.Running worker false), moved)) (λ _. tt)
           (λ _. let rank = ap (λ s. leg_rank s (256 - length at.leg.steps)) is in
-          goes_on (λ x. record x { state = leg_state.Running worker false }) (subst Holds (sym is) admitted-holds) refl (running-holds worker false) (omega (arith, rank)))
+          goes_on (λ x. record x { state = LegState.Running worker false }) (subst Holds (sym is) admitted-holds) refl (running-holds worker false) (omega (arith, rank)))
       by s is = tt
 
   -- the leg has one more step done
@@ -244,7 +214,7 @@ module _ (p : Plan) (b : Board) (l : ℕ) (at : LegAt) (stands : LegStands p b l
       → Leads p b (Ok (rows.step_done b at.place worker done, told))
   step_leads worker done told was few rank =
       let more = length-append at.leg.steps (done ∷ []) in
-      goes_on (λ x. record x { state = leg_state.Running worker false; steps = x.steps ++ done ∷ [] }) was refl (running-holds worker false) (omega (arith, few, rank, more))
+      goes_on (λ x. record x { state = LegState.Running worker false; steps = x.steps ++ done ∷ [] }) was refl (running-holds worker false) (omega (arith, few, rank, more))
 
   pub begin_leads : (worker : ℕ) → Leads p b (rows.begin_leg b worker at (rows.beginning worker l at))
   begin_leads worker = by_owner (rows.idle_owner at.leg.state) refl (rows.next_step at) refl
@@ -255,9 +225,9 @@ module _ (p : Plan) (b : Board) (l : ℕ) (at : LegAt) (stands : LegStands p b l
           how (idle-holds at.leg.state owner was) (omega (arith, most, left)) (idle-rank at.leg.state owner (256 - length at.leg.steps) was) x)
         where
           how : Holds at.leg.state → length at.leg.steps < 256 → rank_of_leg at.leg ≡ 1 + 2 * (256 - length at.leg.steps) → (x : Beginning) → Leads p b (rows.begin_leg b worker at (Ok x))
-          how holds few rank (calls call) = goes_on (λ y. record y { state = leg_state.Running worker true }) holds refl (running-holds worker true) (omega (arith, rank))
-          how holds few rank skips = step_leads worker rows.skipped_step (rows.reply what.Skipped) holds few (omega (arith, rank))
-          how holds few rank (faults f) = step_leads worker (rows.failed_step at) (rows.reply (what.Faulted f)) holds few (omega (arith, rank))
+          how holds few rank (calls call) = goes_on (λ y. record y { state = LegState.Running worker true }) holds refl (running-holds worker true) (omega (arith, rank))
+          how holds few rank skips = step_leads worker rows.skipped_step (rows.reply What.Skipped) holds few (omega (arith, rank))
+          how holds few rank (faults f) = step_leads worker (rows.failed_step at) (rows.reply (What.Faulted f)) holds few (omega (arith, rank))
 
       by_beginning : (owner : ℕ) → rows.idle_owner at.leg.state ≡ Some owner → length at.leg.steps < length at.job_plan.steps → (x : Result Beginning EventFault) → Leads p b (rows.begin_leg b worker at x)
       by_beginning owner was left (Ok x) = begun owner was left x
@@ -306,7 +276,7 @@ module _ (p : Plan) (b : Board) (l : ℕ) (at : LegAt) (stands : LegStands p b l
           let new = rows.leg_ended b at.place l state (leg_outputs at) in
           let holds = idle-holds at.leg.state owner was in
           let rank = idle-rank at.leg.state owner (256 - length at.leg.steps) was in
-          leaves_leads p b new (member.Leg l) (leg_standing at.leg) (λ lawful.
+          leaves_leads p b new (Member.Leg l) (leg_standing at.leg) (λ lawful.
           let live = holding-live p b l at lawful.fits stands holds.under in
           leg_step p b l at f live new refl (leg_standing at.leg) apart 1 lawful.fits holds.running
           (right-there at.run.state at.run.group at.job.state (f at.leg) live.going live.opened refl)
@@ -317,7 +287,7 @@ module _ (p : Plan) (b : Board) (l : ℕ) (at : LegAt) (stands : LegStands p b l
       by_owner (Some owner) was = by_test (not (worker == owner)) (nat_lt (length at.leg.steps) (length at.job_plan.steps))
         where
           by_test : (other more : Bool)
-              → Leads p b (rows.finish_leg b l at (if other then Err fault.OtherWorker else (if more then Err fault.StepsLeft else Ok (rows.ended_state at (leg_result at)))))
+              → Leads p b (rows.finish_leg b l at (if other then Err EventFault.OtherWorker else (if more then Err EventFault.StepsLeft else Ok (rows.ended_state at (leg_result at)))))
           by_test true more = tt
           by_test false true = tt
           by_test false false = ended owner was

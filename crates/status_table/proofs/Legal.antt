@@ -4,18 +4,8 @@ use Rattle.std.specs.List.{flat_map}
 use Rattle.std.proofs.lemmas.Bool.{le-leb}
 use Rattle.std.proofs.lemmas.Option.{slice_get-map}
 use Rattle.std.proofs.lemmas.List.{length-map}
-use Rattle.flow_model.specs.Numbers.{board_legs, plan_jobs, plan_legs}
-use Rattle.flow_model.specs.Plain.{Plain}
-use Rattle.flow_model.specs.declared.plan.Plan.{Plan}
-use Rattle.flow_model.specs.declared.board.Board.{Board}
-use Rattle.flow_model.specs.declared.event.Entry.{Entry}
-use Rattle.flow_model.specs.declared.reply.Reply.{Reply}
+use Rattle.status_table.specs.Words.{Answers, Board, Entry, JobShape, Plain, Plan, Reply, Row, RunShape, after, after_from, board_legs, has_room, new_board, new_job, new_leg, new_run, plan_jobs, plan_legs, row, then_after, times_ended}
 use Rattle.status_table.specs.declared.fault.EventFault.{EventFault}
-use Rattle.status_table.specs.Answers.{Answers}
-use Rattle.status_table.specs.Ends.{times_ended}
-use Rattle.status_table.specs.Row.{Row, row}
-use Rattle.status_table.specs.Runs.{new_leg, new_job, new_run, new_board, then_after, after_from, after}
-use Rattle.status_table.specs.Shape.{has_room, JobShape, RunShape}
 use Rattle.status_table.proofs.Keeps.{Keeps, row_keeps}
 use Rattle.status_table.proofs.Turns.{Fits}
 use Rattle.status_table.proofs.Lists.{flat_map-map, zip-map, all-map}

@@ -3,8 +3,7 @@ use Rattle.std.proofs.Common.{◌≡◌, ◌≢◌, ℕ, zero, suc, ◌-◌, ◌
 use Rattle.std.specs.List.{flat_map, list_all, AllZip}
 use Rattle.std.proofs.lemmas.List.{map-append}
 use Rattle.std.proofs.lemmas.List.Concat.{flat_map-append}
-use Rattle.board_decisions.specs.Place.{◌>>=◌}
-use Rattle.status_table.specs.Change.{put, changed}
+use Rattle.status_table.specs.Words.{changed, put, ◌>>=◌}
 use Rattle.board_decisions.proofs.Lists.{and-left, and-right, and-both, same_some, no_some}
 
 -- ---- an item changed

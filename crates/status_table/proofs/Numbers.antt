@@ -4,19 +4,9 @@ use Rattle.std.specs.List.{flat_map}
 use Rattle.std.proofs.lemmas.List.{length-append}
 use Rattle.std.proofs.lemmas.Bool.Decides.{nat_tests}
 use Rattle.std.proofs.lemmas.Option.{slice_get_past}
-use Rattle.board_decisions.specs.Numbered.{job_there, leg_there, JobsAreNumbered, LegsAreNumbered}
-use Rattle.board_decisions.specs.Place.{◌>>=◌, job_place, job_place_from, leg_in_jobs, leg_place, leg_place_from, else_from}
-use Rattle.board_decisions.specs.declared.place.JobPlace.{JobPlace}
-use Rattle.board_decisions.specs.declared.place.LegPlace.{LegPlace}
-use Rattle.flow_model.specs.Numbers.{board_jobs, board_legs}
-use Rattle.flow_model.specs.declared.board.Board.{Board}
-use Rattle.flow_model.specs.declared.board.Run.{Run}
-use Rattle.flow_model.specs.declared.board.Job.{Job}
-use Rattle.flow_model.specs.declared.board.Leg.{Leg}
-use Rattle.status_table.specs.Change.{changed, with_leg, leg_changed, with_numbered_leg}
-use Rattle.board_decisions.proofs.Lists.{get-left}
+use Rattle.status_table.specs.Words.{Board, Job, JobPlace, JobsAreNumbered, Leg, LegPlace, LegsAreNumbered, Run, board_jobs, board_legs, changed, else_from, job_place, job_place_from, job_there, leg_changed, leg_in_jobs, leg_place, leg_place_from, leg_there, with_leg, with_numbered_leg, ◌>>=◌}
+use Rattle.board_decisions.proofs.Lists.{get-left, get-right}
 use Rattle.status_table.proofs.Lists.{changed-cons, changed-left, changed-right, changed-past, flat_map-twice}
-use Rattle.board_decisions.proofs.Lists.{get-right}
 
 -- ---- jobs
 

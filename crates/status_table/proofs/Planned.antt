@@ -2,21 +2,10 @@
 use Rattle.std.proofs.Common.{◌≡◌, ℕ, suc, ◌+◌, ◌-◌, ◌<◌, ◌≤◌, Bool, true, false, List, [], ◌∷◌, Option, Some, None, Result, Ok, Err, length, slice_get, nat_lt, if◌then◌else◌, ap, subst, refl, ◌∙◌, arith}
 use Rattle.std.specs.List.{flat_map, AllZip}
 use Rattle.std.proofs.lemmas.List.{length-append}
-use Rattle.board_decisions.specs.Numbered.{IsPlannedAt}
-use Rattle.board_decisions.specs.Place.{◌>>=◌, LegAt, leg_at, leg_in_jobs, leg_place_from, else_from}
-use Rattle.board_decisions.specs.declared.place.LegPlace.{LegPlace}
-use Rattle.flow_model.specs.Plain.{Plain}
-use Rattle.flow_model.specs.declared.plan.Plan.{Plan}
-use Rattle.flow_model.specs.declared.plan.RunPlan.{RunPlan}
-use Rattle.flow_model.specs.declared.plan.JobPlan.{JobPlan}
-use Rattle.flow_model.specs.declared.board.Board.{Board}
-use Rattle.flow_model.specs.declared.board.Run.{Run}
-use Rattle.flow_model.specs.declared.board.Job.{Job}
-use Rattle.status_table.specs.Shape.{JobShape, RunShape, HasShape}
-use Rattle.board_decisions.proofs.Lists.{get-left}
+use Rattle.status_table.specs.Words.{Board, HasShape, IsPlannedAt, Job, JobPlan, JobShape, LegAt, LegPlace, Plain, Plan, Run, RunPlan, RunShape, else_from, leg_at, leg_in_jobs, leg_place_from, ◌>>=◌}
+use Rattle.board_decisions.proofs.Lists.{get-left, get-right}
 use Rattle.status_table.proofs.Found.{leg_stands}
 use Rattle.status_table.proofs.Lists.{flat_map-twice}
-use Rattle.board_decisions.proofs.Lists.{get-right}
 
 abbrev Combination : Type 0
 Combination = List (List ℕ × Plain)

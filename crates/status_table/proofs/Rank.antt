@@ -1,34 +1,24 @@
 -- How many more entries a board may accept at most.
 use Rattle.std.specs.Prelude.{ℕ, ◌+◌, ◌-◌, ◌*◌, Bool, true, false, length, sum_by, cond}
-use Rattle.flow_model.specs.Numbers.{board_jobs, board_legs}
-use Rattle.flow_model.specs.declared.board.Board.{Board}
-use Rattle.flow_model.specs.declared.board.Run.{Run}
-use Rattle.flow_model.specs.declared.board.RunState.{RunState}
-use Rattle.flow_model.specs.declared.board.RunState.TheVariants as run_state
-use Rattle.flow_model.specs.declared.board.Job.{Job}
-use Rattle.flow_model.specs.declared.board.JobState.{JobState}
-use Rattle.flow_model.specs.declared.board.JobState.TheVariants as job_state
-use Rattle.flow_model.specs.declared.board.Leg.{Leg}
-use Rattle.flow_model.specs.declared.board.LegState.{LegState}
-use Rattle.flow_model.specs.declared.board.LegState.TheVariants as leg_state
+use Rattle.status_table.specs.Words.{Board, Job, JobState, Leg, LegState, Run, RunState, board_jobs, board_legs}
 
 -- of a run: Open, Close, and Cancel if it was not told to stop
 abbrev pub run_rank : RunState → Bool → ℕ
-run_rank run_state.New stop = 2 + cond stop 0 1
-run_rank (run_state.Closed result) stop = 0
+run_rank RunState.New stop = 2 + cond stop 0 1
+run_rank (RunState.Closed result) stop = 0
 run_rank other stop = 1 + cond stop 0 1
 
 -- of a job: Judge
 abbrev pub job_rank : JobState → ℕ
-job_rank job_state.Unjudged = 1
+job_rank JobState.Unjudged = 1
 job_rank other = 0
 
 -- of a leg with so many steps left: Ask, Take, Begin and End of each, and Finish
 abbrev pub leg_rank : LegState → ℕ → ℕ
-leg_rank leg_state.Fresh left = 3 + 2 * left
-leg_rank (leg_state.Running worker true) left = 2 * left
-leg_rank (leg_state.Running worker false) left = 1 + 2 * left
-leg_rank (leg_state.Ended result tolerated) left = 0
+leg_rank LegState.Fresh left = 3 + 2 * left
+leg_rank (LegState.Running worker true) left = 2 * left
+leg_rank (LegState.Running worker false) left = 1 + 2 * left
+leg_rank (LegState.Ended result tolerated) left = 0
 leg_rank other left = 2 + 2 * left
 
 -- of a run

@@ -4,44 +4,19 @@ use Rattle.std.specs.List.{AllZip}
 use Rattle.std.specs.Str.{bytes_eq}
 use Rattle.std.proofs.lemmas.Bool.{true≢false}
 use Rattle.std.proofs.lemmas.Slice.Eq.{bytes_eq-Decides}
-use Rattle.board_decisions.specs.declared.entrance.Entrance.{Entrance}
-use Rattle.board_decisions.specs.declared.place.LegPlace.{LegPlace}
-use Rattle.board_decisions.specs.Decisions.{run_entrance, leg_entrance, is_stopping, leg_result, leg_outputs}
-use Rattle.board_decisions.specs.Derived.{is_going, is_open, is_closed, is_untaken, is_fresh, is_full, jobs_have_ended, run_result}
-use Rattle.board_decisions.specs.Place.{RunAt, LegAt, run_at, leg_at, leg_place}
-use Rattle.flow_model.specs.Mapping.{value_at, Ascends}
-use Rattle.flow_model.specs.Numbers.{board_legs}
-use Rattle.flow_model.specs.declared.plan.Plan.{Plan}
-use Rattle.flow_model.specs.declared.plan.RunPlan.{RunPlan}
-use Rattle.flow_model.specs.declared.board.Board.{Board}
-use Rattle.flow_model.specs.declared.board.Run.{Run}
-use Rattle.flow_model.specs.declared.board.RunState.{RunState}
-use Rattle.flow_model.specs.declared.board.RunState.TheVariants as run_state
-use Rattle.flow_model.specs.declared.board.Leg.{Leg}
-use Rattle.flow_model.specs.declared.board.LegState.{LegState}
-use Rattle.flow_model.specs.declared.board.LegState.TheVariants as leg_state
-use Rattle.flow_model.specs.declared.event.Member.{Member}
-use Rattle.flow_model.specs.declared.event.Member.TheVariants as member
-use Rattle.flow_model.specs.declared.event.Outcome.{Outcome}
-use Rattle.flow_model.specs.declared.event.Outcome.TheVariants as outcome
-use Rattle.flow_model.specs.declared.reply.ValueFault.{ValueFault}
-use Rattle.group_admission.specs.Content.{Content, holder_of, waiter_of, after_enter, after_release, after_withdraw, is_own as own_run}
-use Rattle.group_admission.specs.Laws.{Becomes, FirstHolds, NextDisplaces, OwnRunChangesNothing, ReleasesPassOn, WithdrawsLeaveHolders}
-use Rattle.status_table.specs.declared.fault.EventFault.TheVariants as fault
-use Rattle.status_table.specs.Admissions.{Shows, ShowsThen, opened, OpensAsEntered, left, ClosesAsLeft, DropsAsLeft, asked, AsksAsEntered, FinishesAsLeft}
-use Rattle.status_table.specs.Change.{changed, leg_changed, with_run, with_numbered_leg}
-use Rattle.status_table.specs.Groups.{Standing, apart, holding, waiting, run_standing, leg_standing, holds_name, waits_name, first_place, run_or_leg, first_member, holder, waiter, closed, admitted, waits, displaced, stopped, enters_held, is_named, passed_on, dropped, leaves, Done, told, moved, is_own, stop_told, cancelled, leg_stands}
-use Rattle.status_table.specs.Lawful.{JobFits, RunFits, Lawful}
-use Rattle.status_table.specs.Members.{count_members, holders, waiters}
+use Rattle.status_table.specs.Words.{Ascends, Becomes, Board, Content, Done, Entrance, FirstHolds, JobFits, Lawful, Leg, LegAt, LegPlace, LegState, Member, NextDisplaces, Outcome, OwnRunChangesNothing, Plan, ReleasesPassOn, Row, Run, RunAt, RunFits, RunPlan, RunState, Standing, ValueFault, WithdrawsLeaveHolders, admitted, after_enter, after_release, after_withdraw, apart, ask_found, asked, board_legs, cancelled, changed, close_found, close_run, close_waiting, closed, displaced, drop_found, dropped, ended_state, enters_held, finish_found, finish_leg, finishing_by, first_place, holder, holder_of, holding, idle_owner, is_closed, is_fresh, is_full, is_going, is_named, is_open, is_own, is_stopping, is_untaken, jobs_have_ended, leaves, left, leg_at, leg_changed, leg_ended, leg_enters, leg_entrance, leg_outputs, leg_place, leg_result, leg_standing, leg_stands, may_ask, may_drop, moved, open_found, open_run, opened, passed_on, run_at, run_closes, run_enters, run_entrance, run_result, run_standing, stop_told, stopped, told, value_at, waiter, waiter_of, waiters, waiting, waits, waits_name, with_numbered_leg, with_run}
+use Rattle.group_admission.specs.Content.{is_own as own_run}
+use Rattle.status_table.specs.declared.fault.EventFault.{EventFault}
+use Rattle.status_table.specs.Admissions.{Shows, ShowsThen, OpensAsEntered, ClosesAsLeft, DropsAsLeft, AsksAsEntered, FinishesAsLeft}
+use Rattle.status_table.specs.Groups.{holds_name, run_or_leg, first_member}
+use Rattle.status_table.specs.Members.{count_members, holders}
 use Rattle.status_table.proofs.Rank.{run_rank}
-use Rattle.status_table.specs.Row.{Row, open_run, open_found, run_enters, run_closes, close_waiting, close_run, close_found, may_drop, drop_found, may_ask, ask_found, leg_enters, idle_owner, ended_state, leg_ended, finishing_by, finish_leg, finish_found}
-use Rattle.board_decisions.proofs.Lists.{and-left, and-right}
+use Rattle.board_decisions.proofs.Lists.{and-left, and-right, same_some}
 use Rattle.status_table.proofs.Counts.{one, counted, first-some, only_first, map-some}
 use Rattle.status_table.proofs.Decided.{by_test}
 use Rattle.status_table.proofs.Entering.{Asker}
 use Rattle.status_table.proofs.Found.{RunStands, run_stands as run_found, LegStands, leg_stands as leg_found, leg_item}
 use Rattle.status_table.proofs.Lists.{changed-cons, changed-there}
-use Rattle.board_decisions.proofs.Lists.{same_some}
 use Rattle.status_table.proofs.LegRows.{leg_drops, ask_asker, idle-holds, idle-rank, holding-live}
 use Rattle.status_table.proofs.Numbers.{numbered_leg-changed}
 use Rattle.status_table.proofs.RunRows.{run_asker, new_changes}
@@ -59,13 +34,13 @@ none-first t xs zero' = by (first_place 0 t xs) refl
     by (Some i) is = let x = first-some t xs i is in let c = counted t xs i x.0 x.1 x.2 in absurd (omega (arith, c, zero'))
 
 found_is : (t : Standing → Bool) (b : Board) (m : Member) (s : Standing) → count_members t b ≤ 1 → standing b m ≡ Some s → t s ≡ true → first_member t b ≡ Some m
-found_is t b (member.Run r) s few at passing =
+found_is t b (Member.Run r) s few at passing =
     let run = map-some run_standing (slice_get b.runs r) s at in
     let passes : t (run_standing run.0) ≡ true = ap t run.2 ∙ passing in
     let first = only_first 0 (λ (x : Run). t (run_standing x)) b.runs r run.0 (omega (arith, few)) run.1 passes in
     let plus : 0 + r ≡ r = omega arith in
     ap (λ o. run_or_leg o (first_place 0 (λ leg. t (leg_standing leg)) (board_legs b))) (first ∙ ap (λ k. Some k) plus)
-found_is t b (member.Leg l) s few at passing =
+found_is t b (Member.Leg l) s few at passing =
     let leg = map-some leg_standing (slice_get (board_legs b) l) s at in
     let passes : t (leg_standing leg.0) ≡ true = ap t leg.2 ∙ passing in
     let some = counted (λ (x : Leg). t (leg_standing x)) (board_legs b) l leg.0 leg.1 passes in
@@ -126,11 +101,11 @@ runs_kept t runs (Some at) f =
 
 pub stop_keeps : (t : Standing → Bool) (b : Board) (c : Bool) (h : Member) → first_member t (stopped b c h) ≡ first_member t b
 stop_keeps t b false h = refl
-stop_keeps t b true (member.Run r) =
+stop_keeps t b true (Member.Run r) =
     let f : Run → Run = λ run. record run { stop = true } in
     ap (λ o. run_or_leg o (first_place 0 (λ leg. t (leg_standing leg)) (board_legs (with_run b r f)))) (first-kept 0 (λ run. t (run_standing run)) b.runs r f (λ x. refl))
     ∙ ap (λ ls. run_or_leg (first_place 0 (λ run. t (run_standing run)) b.runs) (first_place 0 (λ leg. t (leg_standing leg)) ls)) (run_legs b r f (λ run. refl))
-stop_keeps t b true (member.Leg l) =
+stop_keeps t b true (Member.Leg l) =
     let f : Leg → Leg = λ leg. record leg { stop = true } in
     ap (λ o. run_or_leg o (first_place 0 (λ leg. t (leg_standing leg)) (board_legs (with_numbered_leg b l f)))) (runs_kept t b.runs (leg_place b l) f)
     ∙ ap (λ o. run_or_leg (first_place 0 (λ run. t (run_standing run)) b.runs) o)
@@ -246,8 +221,8 @@ shown_still p groups b new m t lawful step no_hold no_wait shows = record {
 
 own_same : (own : Option ℕ) (h : Member) → own_run own h ≡ is_own own h
 own_same None h = refl
-own_same (Some r) (member.Run s) = refl
-own_same (Some r) (member.Leg l) = refl
+own_same (Some r) (Member.Run s) = refl
+own_same (Some r) (Member.Leg l) = refl
 
 either_shows : (groups : Content) (c : Bool) (x y : Done) → (c ≡ true → Shows groups x.0) → (c ≡ false → Shows groups y.0) → Shows groups (if c then x else y).0
 either_shows groups true x y f g = f refl
@@ -299,53 +274,53 @@ module _ (first : FirstHolds) (next : NextDisplaces) (same : OwnRunChangesNothin
 -- ---- Open
 
 module _ (first : FirstHolds) (next : NextDisplaces) (same : OwnRunChangesNothing) (p : Plan) (b : Board) (r : ℕ) (at : RunAt) (stands : RunStands p b r at) (groups : Content)
-    (lawful : Lawful p b) (shows : Shows groups b) (is : at.run.state ≡ run_state.New) (stop : at.run.stop ≡ false) where
-  new_closed : (result : Outcome) → Step p b (member.Run r) apart apart 1 (closed b r result)
-  new_closed result = new_changes p b r at stands is (λ x. record x { state = run_state.Closed result }) (λ x. refl) (closed b r result) refl apart refl
+    (lawful : Lawful p b) (shows : Shows groups b) (is : at.run.state ≡ RunState.New) (stop : at.run.stop ≡ false) where
+  new_closed : (result : Outcome) → Step p b (Member.Run r) apart apart 1 (closed b r result)
+  new_closed result = new_changes p b r at stands is (λ x. record x { state = RunState.Closed result }) (λ x. refl) (closed b r result) refl apart refl
       (let e = ap (λ s. run_rank s at.run.stop) is in omega (arith, e)) lawful
 
-  run_admitted : (name : Option (List ℕ)) → standing (admitted b name (member.Run r)) (member.Run r) ≡ Some (holding name)
-  run_admitted name = ap (option_map run_standing) (changed-there b.runs r (λ run. record run { state = run_state.Going; group = name }) at.run stands.run)
+  run_admitted : (name : Option (List ℕ)) → standing (admitted b name (Member.Run r)) (Member.Run r) ≡ Some (holding name)
+  run_admitted name = ap (option_map run_standing) (changed-there b.runs r (λ run. record run { state = RunState.Going; group = name }) at.run stands.run)
 
-  run_waits : (n : List ℕ) → standing (waits b n (member.Run r)) (member.Run r) ≡ Some (waiting (Some n))
-  run_waits n = ap (option_map run_standing) (changed-there b.runs r (λ run. record run { state = run_state.Waiting; group = Some n }) at.run stands.run)
+  run_waits : (n : List ℕ) → standing (waits b n (Member.Run r)) (Member.Run r) ≡ Some (waiting (Some n))
+  run_waits n = ap (option_map run_standing) (changed-there b.runs r (λ run. record run { state = RunState.Waiting; group = Some n }) at.run stands.run)
 
   enters_shows : (x : Result (Option Entrance) ValueFault) → ShowsThen (opened groups r x) (run_enters b r x)
   enters_shows (Ok None) =
-      none_shows first next same p b (member.Run r) None groups lawful shows (run_asker p b r at stands lawful is stop) (new_closed outcome.Cancelled) run_admitted run_waits
+      none_shows first next same p b (Member.Run r) None groups lawful shows (run_asker p b r at stands lawful is stop) (new_closed Outcome.Cancelled) run_admitted run_waits
   enters_shows (Ok (Some group)) =
-      held_shows first next same p b (member.Run r) None groups lawful shows (run_asker p b r at stands lawful is stop) (new_closed outcome.Cancelled) run_admitted run_waits
+      held_shows first next same p b (Member.Run r) None groups lawful shows (run_asker p b r at stands lawful is stop) (new_closed Outcome.Cancelled) run_admitted run_waits
       group (holder b group.name) (waiter b group.name) refl refl
   enters_shows (Err f) =
-      shown_still p groups b (closed b r outcome.Failure) (member.Run r) apart lawful (new_closed outcome.Failure) (λ k. refl) (λ k. refl) shows
+      shown_still p groups b (closed b r Outcome.Failure) (Member.Run r) apart lawful (new_closed Outcome.Failure) (λ k. refl) (λ k. refl) shows
 
 pub opens_as_entered : FirstHolds → NextDisplaces → OwnRunChangesNothing → OpensAsEntered
 opens_as_entered first next same p b worker r at groups lawful is shows =
-    by_test (ShowsThen after) (nat_le worker 15) (open_found b r (run_at p b r)) (Err fault.NoSuch)
+    by_test (ShowsThen after) (nat_le worker 15) (open_found b r (run_at p b r)) (Err EventFault.NoSuch)
     (subst (λ (o : Option RunAt). ShowsThen after (open_found b r o)) (sym is) (by at.run.state at.run.stop refl refl)) tt
   where
     after : Content
     after = opened groups r (run_entrance at)
 
     by : (s : RunState) (stop : Bool) → at.run.state ≡ s → at.run.stop ≡ stop → ShowsThen after (open_run b r at s stop)
-    by run_state.New false new stop = enters_shows first next same p b r at (run_found p b r at is) groups lawful shows new stop (run_entrance at)
-    by run_state.New true new stop = tt
-    by run_state.Waiting c new stop = tt
-    by run_state.Going c new stop = tt
-    by (run_state.Closed result) c new stop = tt
+    by RunState.New false new stop = enters_shows first next same p b r at (run_found p b r at is) groups lawful shows new stop (run_entrance at)
+    by RunState.New true new stop = tt
+    by RunState.Waiting c new stop = tt
+    by RunState.Going c new stop = tt
+    by (RunState.Closed result) c new stop = tt
 
 -- ---- leaving
 
 -- who waited goes on
 now_passed : (b : Board) (w : Member) (name : Option (List ℕ)) → standing b w ≡ Some (waiting name) → standing (passed_on b (Some w)) w ≡ Some (holding name)
-now_passed b (member.Run r) name h =
+now_passed b (Member.Run r) name h =
     let run = map-some run_standing (slice_get b.runs r) (waiting name) h in
     let is = run-waits run.0.state run.0.group name run.2 in
-    ap (option_map run_standing) (changed-there b.runs r (λ x. record x { state = run_state.Going }) run.0 run.1) ∙ ap (λ g. Some (holding g)) is.1
-now_passed b (member.Leg l) name h =
+    ap (option_map run_standing) (changed-there b.runs r (λ x. record x { state = RunState.Going }) run.0 run.1) ∙ ap (λ g. Some (holding g)) is.1
+now_passed b (Member.Leg l) name h =
     let leg = map-some leg_standing (slice_get (board_legs b) l) (waiting name) h in
     let is = leg-waits leg.0.state leg.0.group name leg.2 in
-    let f : Leg → Leg = λ x. record x { state = leg_state.Admitted } in
+    let f : Leg → Leg = λ x. record x { state = LegState.Admitted } in
     ap (λ ls. option_map leg_standing (slice_get ls l)) (numbered_leg-changed b l f)
     ∙ ap (option_map leg_standing) (changed-there (board_legs b) l f leg.0 leg.1) ∙ ap (λ g. Some (holding g)) is.1
 
@@ -466,55 +441,55 @@ shows-if groups false r s f g = g refl
 
 pub closes_as_left : ReleasesPassOn → WithdrawsLeaveHolders → ClosesAsLeft
 closes_as_left release withdraw p b worker r at groups ordered lawful is shows =
-    by_test (ShowsThen after) (nat_le worker 15) (close_found b r (run_at p b r)) (Err fault.NoSuch)
+    by_test (ShowsThen after) (nat_le worker 15) (close_found b r (run_at p b r)) (Err EventFault.NoSuch)
     (subst (λ (o : Option RunAt). ShowsThen after (close_found b r o)) (sym is) (by at.run.state refl)) tt
   where
     after : Content
-    after = left groups (member.Run r) (run_standing at.run)
+    after = left groups (Member.Run r) (run_standing at.run)
 
     stands : RunStands p b r at
     stands = run_found p b r at is
 
     some-left : (s : RunState) (stop : Bool) → is_closed s ≡ false → 1 ≤ run_rank s stop
-    some-left (run_state.Closed result) stop h = absurd (true≢false h)
+    some-left (RunState.Closed result) stop h = absurd (true≢false h)
     some-left s stop h = omega arith
 
     ends : (result : Outcome) → is_closed at.run.state ≡ false
-        → ((plan : RunPlan) → RunFits plan at.run → AllZip (JobFits (run_state.Closed result) at.run.group) plan.jobs at.run.jobs) → ShowsThen after (run_closes b r at.run result)
+        → ((plan : RunPlan) → RunFits plan at.run → AllZip (JobFits (RunState.Closed result) at.run.group) plan.jobs at.run.jobs) → ShowsThen after (run_closes b r at.run result)
     ends result unclosed fit =
         let some = some-left at.run.state at.run.stop unclosed in
-        leaves_shows release withdraw p b (closed b r result) (member.Run r) groups ordered lawful shows (run_standing at.run)
-        (run_step p b r (λ x. record x { state = run_state.Closed result }) at.run stands.run (λ x. refl) (closed b r result) refl (run_standing at.run) apart 1 lawful.fits
+        leaves_shows release withdraw p b (closed b r result) (Member.Run r) groups ordered lawful shows (run_standing at.run)
+        (run_step p b r (λ x. record x { state = RunState.Closed result }) at.run stands.run (λ x. refl) (closed b r result) refl (run_standing at.run) apart 1 lawful.fits
         unclosed fit refl refl (omega (arith, some)))
 
     idle : (stop : Bool) → is_closed at.run.state ≡ false → is_going at.run.state ≡ false → ShowsThen after (close_waiting b r at.run stop)
-    idle true unclosed quiet = ends outcome.Cancelled unclosed (λ plan all. idle-run at.run.state (run_state.Closed outcome.Cancelled) at.run.group at.run.group plan.jobs at.run.jobs quiet all)
+    idle true unclosed quiet = ends Outcome.Cancelled unclosed (λ plan all. idle-run at.run.state (RunState.Closed Outcome.Cancelled) at.run.group at.run.group plan.jobs at.run.jobs quiet all)
     idle false unclosed quiet = tt
 
     by : (s : RunState) → at.run.state ≡ s → ShowsThen after (close_run b r at.run s)
-    by run_state.Going state = shows-if after (jobs_have_ended at.run) (run_closes b r at.run (run_result at.run)) (Err fault.NeedsOpen)
-        (λ ended. ends (run_result at.run) (ap is_closed state) (λ plan all. ended-run at.run (run_state.Closed (run_result at.run)) plan.jobs at.run.jobs (ap is_closed state) ended all))
+    by RunState.Going state = shows-if after (jobs_have_ended at.run) (run_closes b r at.run (run_result at.run)) (Err EventFault.NeedsOpen)
+        (λ ended. ends (run_result at.run) (ap is_closed state) (λ plan all. ended-run at.run (RunState.Closed (run_result at.run)) plan.jobs at.run.jobs (ap is_closed state) ended all))
         (λ _. tt)
-    by (run_state.Closed result) state = tt
+    by (RunState.Closed result) state = tt
     by s state = idle at.run.stop (ap is_closed state) (ap is_going state)
 
 -- ---- Drop
 
 pub drops_as_left : ReleasesPassOn → WithdrawsLeaveHolders → DropsAsLeft
 drops_as_left release withdraw p b worker l at groups ordered lawful is shows =
-    by_test (ShowsThen after) (nat_le worker 15) (drop_found b l (leg_at p b l)) (Err fault.NoSuch)
+    by_test (ShowsThen after) (nat_le worker 15) (drop_found b l (leg_at p b l)) (Err EventFault.NoSuch)
     (subst (λ (o : Option LegAt). ShowsThen after (drop_found b l o)) (sym is)
-    (shows-if after (not (may_drop at)) (Err fault.WrongState) stopping (λ _. tt)
-    (λ ready. shows-if after (is_stopping at) gone (Err fault.NotStopping) (λ _. ends (not-not (may_drop at) ready)) (λ _. tt)))) tt
+    (shows-if after (not (may_drop at)) (Err EventFault.WrongState) stopping (λ _. tt)
+    (λ ready. shows-if after (is_stopping at) gone (Err EventFault.NotStopping) (λ _. ends (not-not (may_drop at) ready)) (λ _. tt)))) tt
   where
     after : Content
-    after = left groups (member.Leg l) (leg_standing at.leg)
+    after = left groups (Member.Leg l) (leg_standing at.leg)
 
     gone : Row
-    gone = Ok (leaves b (leg_standing at.leg) (dropped b l outcome.Cancelled))
+    gone = Ok (leaves b (leg_standing at.leg) (dropped b l Outcome.Cancelled))
 
     stopping : Row
-    stopping = if is_stopping at then gone else Err fault.NotStopping
+    stopping = if is_stopping at then gone else Err EventFault.NotStopping
 
     not-not : (c : Bool) → not c ≡ false → c ≡ true
     not-not true h = refl
@@ -525,14 +500,14 @@ drops_as_left release withdraw p b worker l at groups ordered lawful is shows =
         let stands = leg_found p b l at is in
         let two = and-left (is_going at.run.state && is_open at.job.state) (is_untaken at.leg.state) all in
         let live : Live p b l at = record { stands = stands; going = and-left (is_going at.run.state) (is_open at.job.state) two; opened = and-right (is_going at.run.state) (is_open at.job.state) two } in
-        leaves_shows release withdraw p b (dropped b l outcome.Cancelled) (member.Leg l) groups ordered lawful shows (leg_standing at.leg)
-        (leg_drops p b l at stands (leg_standing at.leg) outcome.Cancelled lawful.fits live (and-right (is_going at.run.state && is_open at.job.state) (is_untaken at.leg.state) all) refl)
+        leaves_shows release withdraw p b (dropped b l Outcome.Cancelled) (Member.Leg l) groups ordered lawful shows (leg_standing at.leg)
+        (leg_drops p b l at stands (leg_standing at.leg) Outcome.Cancelled lawful.fits live (and-right (is_going at.run.state && is_open at.job.state) (is_untaken at.leg.state) all) refl)
 
 -- ---- Ask
 
 module _ (first : FirstHolds) (next : NextDisplaces) (same : OwnRunChangesNothing) (p : Plan) (b : Board) (l : ℕ) (at : LegAt) (stands : LegStands p b l at) (groups : Content)
-    (lawful : Lawful p b) (shows : Shows groups b) (live : Live p b l at) (is : at.leg.state ≡ leg_state.Fresh) (free : is_full at.job_plan at.job ≡ false) where
-  fresh_dropped : (result : Outcome) → Step p b (member.Leg l) apart apart 1 (dropped b l result)
+    (lawful : Lawful p b) (shows : Shows groups b) (live : Live p b l at) (is : at.leg.state ≡ LegState.Fresh) (free : is_full at.job_plan at.job ≡ false) where
+  fresh_dropped : (result : Outcome) → Step p b (Member.Leg l) apart apart 1 (dropped b l result)
   fresh_dropped result = leg_drops p b l at stands apart result lawful.fits live (ap is_untaken is) (ap (λ s. leg_stands s at.leg.group) is)
 
   leg_now : (f : Leg → Leg) → option_map leg_standing (slice_get (board_legs (with_numbered_leg b l f)) l) ≡ Some (leg_standing (f at.leg))
@@ -542,36 +517,36 @@ module _ (first : FirstHolds) (next : NextDisplaces) (same : OwnRunChangesNothin
 
   leg_asks : (x : Result (Option Entrance) ValueFault) → ShowsThen (asked groups l at.place.run x) (leg_enters b l at x)
   leg_asks (Ok None) =
-      none_shows first next same p b (member.Leg l) (Some at.place.run) groups lawful shows (ask_asker p b l at stands lawful live is free) (fresh_dropped outcome.Cancelled)
-      (λ name. leg_now (λ leg. record leg { state = leg_state.Admitted; group = name })) (λ n. leg_now (λ leg. record leg { state = leg_state.Waiting; group = Some n }))
+      none_shows first next same p b (Member.Leg l) (Some at.place.run) groups lawful shows (ask_asker p b l at stands lawful live is free) (fresh_dropped Outcome.Cancelled)
+      (λ name. leg_now (λ leg. record leg { state = LegState.Admitted; group = name })) (λ n. leg_now (λ leg. record leg { state = LegState.Waiting; group = Some n }))
   leg_asks (Ok (Some group)) =
-      held_shows first next same p b (member.Leg l) (Some at.place.run) groups lawful shows (ask_asker p b l at stands lawful live is free) (fresh_dropped outcome.Cancelled)
-      (λ name. leg_now (λ leg. record leg { state = leg_state.Admitted; group = name })) (λ n. leg_now (λ leg. record leg { state = leg_state.Waiting; group = Some n }))
+      held_shows first next same p b (Member.Leg l) (Some at.place.run) groups lawful shows (ask_asker p b l at stands lawful live is free) (fresh_dropped Outcome.Cancelled)
+      (λ name. leg_now (λ leg. record leg { state = LegState.Admitted; group = name })) (λ n. leg_now (λ leg. record leg { state = LegState.Waiting; group = Some n }))
       group (holder b group.name) (waiter b group.name) refl refl
   leg_asks (Err f) =
-      shown_still p groups b (dropped b l outcome.Failure) (member.Leg l) apart lawful (fresh_dropped outcome.Failure) (λ k. refl) (λ k. refl) shows
+      shown_still p groups b (dropped b l Outcome.Failure) (Member.Leg l) apart lawful (fresh_dropped Outcome.Failure) (λ k. refl) (λ k. refl) shows
 
-is-fresh : (s : LegState) → is_fresh s ≡ true → s ≡ leg_state.Fresh
-is-fresh leg_state.Fresh h = refl
+is-fresh : (s : LegState) → is_fresh s ≡ true → s ≡ LegState.Fresh
+is-fresh LegState.Fresh h = refl
 is-fresh s h = absurd (true≢false (sym h))
 
 pub asks_as_entered : FirstHolds → NextDisplaces → OwnRunChangesNothing → AsksAsEntered
 asks_as_entered first next same p b worker l at groups lawful is shows =
-    by_test (ShowsThen after) (nat_le worker 15) (ask_found b l (leg_at p b l)) (Err fault.NoSuch)
+    by_test (ShowsThen after) (nat_le worker 15) (ask_found b l (leg_at p b l)) (Err EventFault.NoSuch)
     (subst (λ (o : Option LegAt). ShowsThen after (ask_found b l o)) (sym is)
-    (shows-if after (not (may_ask at)) (Err fault.WrongState) unstarted (λ _. tt)
-    (λ ready. shows-if after (is_full at.job_plan at.job) (Err fault.SlotsFull) unstopped (λ _. tt)
-    (λ free. shows-if after (is_stopping at) (Err fault.Stopping) (leg_enters b l at (leg_entrance at)) (λ _. tt)
+    (shows-if after (not (may_ask at)) (Err EventFault.WrongState) unstarted (λ _. tt)
+    (λ ready. shows-if after (is_full at.job_plan at.job) (Err EventFault.SlotsFull) unstopped (λ _. tt)
+    (λ free. shows-if after (is_stopping at) (Err EventFault.Stopping) (leg_enters b l at (leg_entrance at)) (λ _. tt)
     (λ _. enters (not-not (may_ask at) ready) free))))) tt
   where
     after : Content
     after = asked groups l at.place.run (leg_entrance at)
 
     unstopped : Row
-    unstopped = if is_stopping at then Err fault.Stopping else leg_enters b l at (leg_entrance at)
+    unstopped = if is_stopping at then Err EventFault.Stopping else leg_enters b l at (leg_entrance at)
 
     unstarted : Row
-    unstarted = if is_full at.job_plan at.job then Err fault.SlotsFull else unstopped
+    unstarted = if is_full at.job_plan at.job then Err EventFault.SlotsFull else unstopped
 
     not-not : (c : Bool) → not c ≡ false → c ≡ true
     not-not true h = refl
@@ -589,11 +564,11 @@ asks_as_entered first next same p b worker l at groups lawful is shows =
 
 pub finishes_as_left : ReleasesPassOn → WithdrawsLeaveHolders → FinishesAsLeft
 finishes_as_left release withdraw p b worker l at groups ordered lawful is shows =
-    by_test (ShowsThen after) (nat_le worker 15) (finish_found b worker l (leg_at p b l)) (Err fault.NoSuch)
+    by_test (ShowsThen after) (nat_le worker 15) (finish_found b worker l (leg_at p b l)) (Err EventFault.NoSuch)
     (subst (λ (o : Option LegAt). ShowsThen after (finish_found b worker l o)) (sym is) (by_owner (idle_owner at.leg.state) refl)) tt
   where
     after : Content
-    after = left groups (member.Leg l) (leg_standing at.leg)
+    after = left groups (Member.Leg l) (leg_standing at.leg)
 
     ended : (owner : ℕ) → idle_owner at.leg.state ≡ Some owner → ShowsThen after (finish_leg b l at (Ok (ended_state at (leg_result at))))
     ended owner was =
@@ -604,7 +579,7 @@ finishes_as_left release withdraw p b worker l at groups ordered lawful is shows
         let holds = idle-holds at.leg.state owner was in
         let rank = idle-rank at.leg.state owner (256 - length at.leg.steps) was in
         let live = holding-live p b l at lawful.fits stands holds.under in
-        leaves_shows release withdraw p b new (member.Leg l) groups ordered lawful shows (leg_standing at.leg)
+        leaves_shows release withdraw p b new (Member.Leg l) groups ordered lawful shows (leg_standing at.leg)
         (leg_step p b l at f live new refl (leg_standing at.leg) apart 1 lawful.fits holds.running
         (right-there at.run.state at.run.group at.job.state (f at.leg) live.going live.opened refl)
         (as_much p b l at f live new refl (omega arith)) refl refl (omega (arith, rank)))
@@ -614,7 +589,7 @@ finishes_as_left release withdraw p b worker l at groups ordered lawful is shows
     by_owner (Some owner) was = tests (not (worker == owner)) (nat_lt (length at.leg.steps) (length at.job_plan.steps))
       where
         tests : (other more : Bool)
-            → ShowsThen after (finish_leg b l at (if other then Err fault.OtherWorker else (if more then Err fault.StepsLeft else Ok (ended_state at (leg_result at)))))
+            → ShowsThen after (finish_leg b l at (if other then Err EventFault.OtherWorker else (if more then Err EventFault.StepsLeft else Ok (ended_state at (leg_result at)))))
         tests true more = tt
         tests false true = tt
         tests false false = ended owner was

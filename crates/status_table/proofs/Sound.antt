@@ -5,26 +5,11 @@ use Rattle.std.proofs.lemmas.Bool.Decides.{nat_tests}
 use Rattle.std.proofs.lemmas.Bool.{leb-true, le-leb}
 use Rattle.std.proofs.lemmas.List.{length-append}
 use Rattle.std.proofs.lemmas.Option.{slice_get_within}
-use Rattle.board_decisions.specs.Numbered.{HasAsMany, IsNumberedIn}
-use Rattle.board_decisions.specs.Ancestors.{NeedsPointBack, StandsAfterNeeds}
-use Rattle.board_decisions.specs.Place.{JobAt, job_at}
-use Rattle.flow_model.specs.Numbers.{plan_jobs, board_jobs}
-use Rattle.flow_model.specs.Found.{Path, rule, or_else, under, each_pair, if_there}
-use Rattle.flow_model.specs.Name.{is_id}
-use Rattle.flow_model.specs.Rules.{all_there, is_condition, is_variable, group_rules, legs_rules, is_job_output, steps_rules, is_flag, are_distinct, job_ids, roots_rules, legs_of_runs, ascend_between, job_rules, jobs_rules, run_rules, runs_rules, IsPlan}
-use Rattle.flow_model.specs.declared.plan.Plan.{Plan}
-use Rattle.flow_model.specs.declared.plan.RunPlan.{RunPlan}
-use Rattle.flow_model.specs.declared.plan.JobPlan.{JobPlan}
-use Rattle.flow_model.specs.declared.board.Board.{Board}
-use Rattle.flow_model.specs.declared.board.Run.{Run}
-use Rattle.flow_model.specs.declared.board.Job.{Job}
-use Rattle.status_table.specs.InPlay.{InPlay}
-use Rattle.status_table.specs.Row.{first_of}
-use Rattle.status_table.specs.Shape.{JobShape, RunShape, HasShape}
-use Rattle.board_decisions.proofs.Lists.{get-left, and-left, and-right, and-both}
+use Rattle.status_table.specs.Words.{Board, HasAsMany, HasShape, InPlay, IsNumberedIn, IsPlan, Job, JobAt, JobPlan, JobShape, Path, Plan, Run, RunPlan, RunShape, StandsAfterNeeds, all_there, are_distinct, ascend_between, board_jobs, each_pair, first_of, group_rules, if_there, is_condition, is_flag, is_id, is_job_output, is_variable, job_at, job_ids, job_rules, jobs_rules, legs_of_runs, legs_rules, or_else, plan_jobs, roots_rules, rule, run_rules, runs_rules, steps_rules, under}
+use Rattle.board_decisions.specs.Ancestors.{NeedsPointBack}
+use Rattle.board_decisions.proofs.Lists.{get-left, and-left, and-right, and-both, same_some, no_some, get-right}
 use Rattle.status_table.proofs.Found.{job_stands}
 use Rattle.status_table.proofs.Lists.{zip-length, zip-append}
-use Rattle.board_decisions.proofs.Lists.{same_some, no_some, get-right}
 use Rattle.status_table.proofs.Numbers.{jobs_before, number_of_job}
 
 -- ---- a search that finds nothing

@@ -1,16 +1,8 @@
 -- Who is found as the holder of a name or as its waiter.
 use Rattle.std.proofs.Common.{◌≡◌, ◌≢◌, ℕ, zero, suc, ◌+◌, Bool, true, false, List, [], ◌∷◌, Option, Some, None, slice_get, drop, cond, ap, sym, refl, ◌∙◌, arith}
 use Rattle.std.proofs.lemmas.Bool.{true≢false}
-use Rattle.board_decisions.specs.Derived.{is_ended}
-use Rattle.board_decisions.specs.Numbered.{numbered_leg}
-use Rattle.flow_model.specs.Numbers.{board_legs}
-use Rattle.flow_model.specs.declared.board.Board.{Board}
-use Rattle.flow_model.specs.declared.board.Leg.{Leg}
-use Rattle.flow_model.specs.declared.board.LegState.{LegState}
-use Rattle.flow_model.specs.declared.board.LegState.TheVariants as leg_state
-use Rattle.flow_model.specs.declared.event.Member.{Member}
-use Rattle.flow_model.specs.declared.event.Member.TheVariants as member
-use Rattle.status_table.specs.Groups.{Standing, holding, run_standing, leg_standing, leg_stands, waits_name, first_place, run_or_leg, first_member, waiter, next_after}
+use Rattle.status_table.specs.Words.{Board, Leg, LegState, Member, Standing, board_legs, first_place, holding, is_ended, leg_standing, leg_stands, next_after, numbered_leg, run_standing, waiter, waits_name}
+use Rattle.status_table.specs.Groups.{run_or_leg, first_member}
 use Rattle.board_decisions.proofs.Lists.{same_some, no_some}
 use Rattle.status_table.proofs.Numbers.{legs_are_numbered}
 
@@ -80,19 +72,19 @@ pub record LegFound (b : Board) (test : Standing → Bool) (l : ℕ) : Type 0 wh
   pub there : slice_get (board_legs b) l ≡ Some leg
   pub passes : test (leg_standing leg) ≡ true
 
-pub leg_found : (b : Board) (test : Standing → Bool) (l : ℕ) → first_member test b ≡ Some (member.Leg l) → LegFound b test l
+pub leg_found : (b : Board) (test : Standing → Bool) (l : ℕ) → first_member test b ≡ Some (Member.Leg l) → LegFound b test l
 leg_found b test l h =
     by_run (first_place 0 (λ run. test (run_standing run)) b.runs) (first_place 0 (λ leg. test (leg_standing leg)) (board_legs b)) refl h
   where
-    run_leg : (r k : ℕ) → Some (member.Run r) ≡ Some (member.Leg k) → ⊥
+    run_leg : (r k : ℕ) → Some (Member.Run r) ≡ Some (Member.Leg k) → ⊥
     run_leg r k e = cc
 
-    leg_leg : (j k : ℕ) → Some (member.Leg j) ≡ Some (member.Leg k) → j ≡ k
+    leg_leg : (j k : ℕ) → Some (Member.Leg j) ≡ Some (Member.Leg k) → j ≡ k
     leg_leg j k e = cc
 
-    by_run : (o q : Option ℕ) → first_place 0 (λ leg. test (leg_standing leg)) (board_legs b) ≡ q → run_or_leg o q ≡ Some (member.Leg l) → LegFound b test l
+    by_run : (o q : Option ℕ) → first_place 0 (λ leg. test (leg_standing leg)) (board_legs b) ≡ q → run_or_leg o q ≡ Some (Member.Leg l) → LegFound b test l
     by_run (Some r) q is e = absurd (run_leg r l e)
-    by_run None None is e = absurd (no_some (member.Leg l) e)
+    by_run None None is e = absurd (no_some (Member.Leg l) e)
     by_run None (Some k) is e =
         let found = first_at 0 (λ leg. test (leg_standing leg)) (board_legs b) k is in
         let shifted = found.is in
@@ -104,33 +96,33 @@ leg_found b test l h =
 
 -- a member is no leg that is Ended
 abbrev pub Unended : Board → Member → Type 0
-Unended b (member.Run r) = Unit {0}
-Unended b (member.Leg l) = (leg : Leg) × (slice_get (board_legs b) l ≡ Some leg) × (is_ended leg.state ≡ false)
+Unended b (Member.Run r) = Unit {0}
+Unended b (Member.Leg l) = (leg : Leg) × (slice_get (board_legs b) l ≡ Some leg) × (is_ended leg.state ≡ false)
 
 waits_unended : (s : LegState) (group : Option (List ℕ)) (name : List ℕ) → waits_name name (leg_stands s group) ≡ true → is_ended s ≡ false
-waits_unended (leg_state.Ended result tolerated) group name h = absurd (true≢false (sym h))
+waits_unended (LegState.Ended result tolerated) group name h = absurd (true≢false (sym h))
 waits_unended s group name h = refl
 
 pub waiter_unended : (b : Board) (name : List ℕ) (w : Member) → waiter b name ≡ Some w → Unended b w
-waiter_unended b name (member.Run r) h = tt
-waiter_unended b name (member.Leg l) h =
+waiter_unended b name (Member.Run r) h = tt
+waiter_unended b name (Member.Leg l) h =
     let found = leg_found b (waits_name name) l h in
     (found.leg, found.there, waits_unended found.leg.state found.leg.group name found.passes)
 
 -- who is next after a leg has not ended, and is not that leg
-pub next_other : (b : Board) (l : ℕ) (leg : Leg) → slice_get (board_legs b) l ≡ Some leg → (k : ℕ) → next_after b (leg_standing leg) ≡ Some (member.Leg k)
-    → Unended b (member.Leg k) × (k ≢ l)
+pub next_other : (b : Board) (l : ℕ) (leg : Leg) → slice_get (board_legs b) l ≡ Some leg → (k : ℕ) → next_after b (leg_standing leg) ≡ Some (Member.Leg k)
+    → Unended b (Member.Leg k) × (k ≢ l)
 next_other b l leg there k next = by_standing (leg_standing leg) refl next
   where
-    by_standing : (s : Standing) → leg_standing leg ≡ s → next_after b s ≡ Some (member.Leg k) → Unended b (member.Leg k) × (k ≢ l)
+    by_standing : (s : Standing) → leg_standing leg ≡ s → next_after b s ≡ Some (Member.Leg k) → Unended b (Member.Leg k) × (k ≢ l)
     by_standing (holding (Some name)) is h =
         let found = leg_found b (waits_name name) k h in (
-          waiter_unended b name (member.Leg k) h,
+          waiter_unended b name (Member.Leg k) h,
           λ same.
               let one : found.leg ≡ leg = same_some found.leg leg (sym found.there ∙ ap (slice_get (board_legs b)) same ∙ there) in
               true≢false (sym found.passes ∙ ap (λ x. waits_name name (leg_standing x)) one ∙ ap (waits_name name) is),
         )
-    by_standing s is h = absurd (no_some (member.Leg k) h)
+    by_standing s is h = absurd (no_some (Member.Leg k) h)
 
 -- who is next after a run has not ended
 pub next_unended : (b : Board) (s : Standing) (w : Member) → next_after b s ≡ Some w → Unended b w

@@ -2,28 +2,11 @@
 use Rattle.std.proofs.Common.{◌≡◌, ◌≢◌, ℕ, ◌+◌, ◌≤◌, true, false, List, [], ◌∷◌, Option, Some, None, slice_get, sum_by, option_map, ap, subst, sym, refl, ◌∙◌, arith}
 use Rattle.std.specs.List.{flat_map, AllZip}
 use Rattle.std.proofs.lemmas.Bool.{true≢false}
-use Rattle.board_decisions.specs.Derived.{is_going, is_closed, is_open, is_shut, is_ended, is_under_way, leg_has_ended, job_has_ended}
-use Rattle.board_decisions.specs.Place.{LegAt}
-use Rattle.flow_model.specs.Numbers.{board_jobs, board_legs}
-use Rattle.flow_model.specs.declared.plan.Plan.{Plan}
-use Rattle.flow_model.specs.declared.plan.RunPlan.{RunPlan}
-use Rattle.flow_model.specs.declared.plan.JobPlan.{JobPlan}
-use Rattle.flow_model.specs.declared.board.Board.{Board}
-use Rattle.flow_model.specs.declared.board.Run.{Run}
-use Rattle.flow_model.specs.declared.board.RunState.{RunState}
-use Rattle.flow_model.specs.declared.board.RunState.TheVariants as run_state
-use Rattle.flow_model.specs.declared.board.Job.{Job}
-use Rattle.flow_model.specs.declared.board.JobState.{JobState}
-use Rattle.flow_model.specs.declared.board.JobState.TheVariants as job_state
-use Rattle.flow_model.specs.declared.board.Leg.{Leg}
-use Rattle.flow_model.specs.declared.event.Member.{Member}
-use Rattle.flow_model.specs.declared.event.Member.TheVariants as member
-use Rattle.status_table.specs.Change.{changed, with_leg}
-use Rattle.status_table.specs.Groups.{Standing, run_standing, leg_standing, holds_name, waits_name}
-use Rattle.status_table.specs.Lawful.{leg_stands_right, Within, under_way, JobFits, RunFits, MembersFit, NeedsEnded}
-use Rattle.status_table.specs.Members.{holders, waiters}
+use Rattle.status_table.specs.Words.{Board, Job, JobFits, JobPlan, JobState, JobStays, Leg, LegAt, LegStays, Member, MembersFit, Plan, Run, RunFits, RunPlan, RunState, RunStays, Standing, Stays, board_jobs, board_legs, changed, is_closed, is_ended, is_going, is_open, is_shut, is_under_way, job_has_ended, leg_has_ended, leg_standing, leg_stands_right, run_standing, waiters, waits_name, with_leg}
+use Rattle.status_table.specs.Groups.{holds_name}
+use Rattle.status_table.specs.Lawful.{Within, under_way, NeedsEnded}
+use Rattle.status_table.specs.Members.{holders}
 use Rattle.status_table.proofs.Rank.{rank_of_run, rank_of_job, rank_of_leg, rank}
-use Rattle.status_table.specs.Stays.{LegStays, JobStays, RunStays, Stays}
 use Rattle.status_table.proofs.Counts.{one, sum-changed, sum-kept, sum-flat, map-get-kept, zip-changed-at, zip-changed-self, zip-left}
 use Rattle.status_table.proofs.Ended.{leg-stays, job-stays, run-stays, run-changed, SameJobs, same-jobs, needs-kept}
 use Rattle.status_table.proofs.Found.{LegStands, leg_item}
@@ -32,8 +15,8 @@ use Rattle.status_table.proofs.Numbers.{board_legs-changed}
 
 -- how a member stands
 abbrev pub standing : Board → Member → Option Standing
-standing b (member.Run r) = option_map run_standing (slice_get b.runs r)
-standing b (member.Leg l) = option_map leg_standing (slice_get (board_legs b) l)
+standing b (Member.Run r) = option_map run_standing (slice_get b.runs r)
+standing b (Member.Leg l) = option_map leg_standing (slice_get (board_legs b) l)
 
 -- A change of one member, that stood so and stands so now, which lowers the rank by as much.
 pub record Step (p : Plan) (old : Board) (m : Member) (s t : Standing) (d : ℕ) (new : Board) : Type 0 where
@@ -64,13 +47,13 @@ module _ (p : Plan) (b : Board) (r : ℕ) (f : Run → Run) (run : Run) (at : sl
       let legs = ap (sum_by w) run_legs in
       omega (arith, runs, there, legs)
 
-  run_others : (other : Member) → other ≢ member.Run r → standing new other ≡ standing b other
-  run_others (member.Run s) h =
-      ap (λ rs. option_map run_standing (slice_get rs s)) new_is ∙ ap (option_map run_standing) (changed-elsewhere b.runs r f s (λ e. h (ap (λ n. member.Run n) e)))
-  run_others (member.Leg l) h = ap (λ ls. option_map leg_standing (slice_get ls l)) run_legs
+  run_others : (other : Member) → other ≢ Member.Run r → standing new other ≡ standing b other
+  run_others (Member.Run s) h =
+      ap (λ rs. option_map run_standing (slice_get rs s)) new_is ∙ ap (option_map run_standing) (changed-elsewhere b.runs r f s (λ e. h (ap (λ n. Member.Run n) e)))
+  run_others (Member.Leg l) h = ap (λ ls. option_map leg_standing (slice_get ls l)) run_legs
 
   pub run_step : (s t : Standing) (d : ℕ) → MembersFit p b → is_closed run.state ≡ false → ((plan : RunPlan) → RunFits plan run → RunFits plan (f run))
-      → run_standing run ≡ s → run_standing (f run) ≡ t → rank_of_run (f run) + d ≤ rank_of_run run → Step p b (member.Run r) s t d new
+      → run_standing run ≡ s → run_standing (f run) ≡ t → rank_of_run (f run) + d ≤ rank_of_run run → Step p b (Member.Run r) s t d new
   run_step s t d fits unclosed fit was now less = record {
     was = ap (option_map run_standing) at ∙ ap (λ x. Some x) was;
     holds = λ name.
@@ -127,11 +110,11 @@ pub record Live (p : Plan) (b : Board) (l : ℕ) (at : LegAt) : Type 0 where
   pub opened : is_open at.job.state ≡ true
 
 pub going-unclosed : (s : RunState) → is_going s ≡ true → is_closed s ≡ false
-going-unclosed (run_state.Closed x) h = sym h
+going-unclosed (RunState.Closed x) h = sym h
 going-unclosed s h = refl
 
 open-unshut : (s : JobState) → is_open s ≡ true → is_shut s ≡ false
-open-unshut (job_state.Shut x) h = sym h
+open-unshut (JobState.Shut x) h = sym h
 open-unshut s h = refl
 
 module _ (p : Plan) (b : Board) (l : ℕ) (at : LegAt) (f : Leg → Leg) (live : Live p b l at) (new : Board) (new_is : new.runs ≡ (with_leg b at.place f).runs) where
@@ -158,11 +141,11 @@ module _ (p : Plan) (b : Board) (l : ℕ) (at : LegAt) (f : Leg → Leg) (live :
       let more = sum-changed w (board_legs b) l f at.leg leg_there in
       omega (arith, runs, legs, more)
 
-  leg_others : (other : Member) → other ≢ member.Leg l → standing new other ≡ standing b other
-  leg_others (member.Run s) h =
+  leg_others : (other : Member) → other ≢ Member.Leg l → standing new other ≡ standing b other
+  leg_others (Member.Run s) h =
       ap (λ rs. option_map run_standing (slice_get rs s)) runs_is ∙ map-get-kept run_standing b.runs at.place.run in_run s (λ x. refl)
-  leg_others (member.Leg k) h =
-      ap (λ ls. option_map leg_standing (slice_get ls k)) new_legs ∙ ap (option_map leg_standing) (changed-elsewhere (board_legs b) l f k (λ e. h (ap (λ n. member.Leg n) e)))
+  leg_others (Member.Leg k) h =
+      ap (λ ls. option_map leg_standing (slice_get ls k)) new_legs ∙ ap (option_map leg_standing) (changed-elsewhere (board_legs b) l f k (λ e. h (ap (λ n. Member.Leg n) e)))
 
   same_ranks : sum_by rank_of_job (board_jobs new) ≡ sum_by rank_of_job (board_jobs b)
   same_ranks =
@@ -213,7 +196,7 @@ module _ (p : Plan) (b : Board) (l : ℕ) (at : LegAt) (f : Leg → Leg) (live :
 
   pub leg_step : (s t : Standing) (d : ℕ) → MembersFit p b → is_ended at.leg.state ≡ false → leg_stands_right at.run.state at.run.group at.job.state (f at.leg) ≡ true
       → (Within at.job_plan.max_parallel (under_way at.job.legs) → Within at.job_plan.max_parallel (under_way (changed at.job.legs at.place.leg f)))
-      → leg_standing at.leg ≡ s → leg_standing (f at.leg) ≡ t → rank_of_leg (f at.leg) + d ≤ rank_of_leg at.leg → Step p b (member.Leg l) s t d new
+      → leg_standing at.leg ≡ s → leg_standing (f at.leg) ≡ t → rank_of_leg (f at.leg) + d ≤ rank_of_leg at.leg → Step p b (Member.Leg l) s t d new
   leg_step s t d fits running right room was now less = record {
     was = ap (option_map leg_standing) leg_there ∙ ap (λ x. Some x) was;
     holds = λ name.

@@ -1,30 +1,10 @@
 -- Events that take part in no group: who holds a name and who waits for it is found as before.
 use Rattle.std.proofs.Common.{◌≡◌, ℕ, zero, suc, ◌||◌, Bool, true, false, List, [], ◌∷◌, ◌++◌, Option, Some, None, Result, Ok, Err, slice_get, nat_le, if◌then◌else◌, ap, subst, sym, refl, ◌∙◌}
 use Rattle.std.specs.List.{flat_map}
-use Rattle.board_decisions.specs.declared.place.JobPlace.{JobPlace}
-use Rattle.board_decisions.specs.Decisions.{is_stopping}
-use Rattle.board_decisions.specs.Derived.{is_closed}
-use Rattle.board_decisions.specs.Place.{RunAt, JobAt, LegAt, run_at, job_at, leg_at}
-use Rattle.flow_model.specs.Numbers.{board_legs}
-use Rattle.flow_model.specs.declared.plan.Plan.{Plan}
-use Rattle.flow_model.specs.declared.board.Board.{Board}
-use Rattle.flow_model.specs.declared.board.DoneStep.{DoneStep}
-use Rattle.flow_model.specs.declared.board.Run.{Run}
-use Rattle.flow_model.specs.declared.board.Job.{Job}
-use Rattle.flow_model.specs.declared.board.JobState.{JobState}
-use Rattle.flow_model.specs.declared.board.Leg.{Leg}
-use Rattle.flow_model.specs.declared.board.LegState.{LegState}
-use Rattle.flow_model.specs.declared.board.LegState.TheVariants as leg_state
-use Rattle.flow_model.specs.declared.event.Answer.{Answer}
-use Rattle.flow_model.specs.declared.event.Event.TheVariants as event
-use Rattle.flow_model.specs.declared.event.Member.TheVariants as member
-use Rattle.group_admission.specs.Content.{Content}
+use Rattle.status_table.specs.Words.{Answer, Beginning, Board, Content, DoneStep, Event, Job, JobAt, JobPlace, JobState, Leg, LegAt, LegState, Member, Plan, Run, RunAt, Standing, begin_found, begin_leg, beginning_by, board_legs, calling_owner, calls, cancel_found, changed, end_found, end_leg, ending_by, first_place, holding, idle_owner, is_closed, is_stopping, job_at, job_state_set, judge_found, judge_job, judgement, leg_at, leg_standing, leg_stands, leg_state_set, moved, next_step, run_at, run_standing, step_done, stopped, take_found, take_leg, waits_name, with_leg}
 use Rattle.status_table.specs.declared.fault.EventFault.{EventFault}
-use Rattle.status_table.specs.declared.fault.EventFault.TheVariants as fault
 use Rattle.status_table.specs.Admissions.{Shows, ShowsThen, StaysShown}
-use Rattle.status_table.specs.Change.{changed, with_leg}
-use Rattle.status_table.specs.Groups.{Standing, holding, run_standing, leg_stands, leg_standing, holds_name, waits_name, first_place, run_or_leg, first_member, stopped, moved}
-use Rattle.status_table.specs.Row.{Beginning, calls, job_state_set, leg_state_set, step_done, judge_job, judge_found, judgement, take_leg, take_found, idle_owner, next_step, beginning_by, begin_leg, begin_found, calling_owner, ending_by, end_leg, end_found, cancel_found}
+use Rattle.status_table.specs.Groups.{holds_name, run_or_leg, first_member}
 use Rattle.status_table.proofs.Decided.{by_test}
 use Rattle.status_table.proofs.Found.{LegStands, leg_stands as leg_found, leg_item}
 use Rattle.status_table.proofs.LegRows.{idle-holds}
@@ -72,8 +52,8 @@ leg_still p b l at stands f same t =
 
 -- ---- the events
 
-pub judge_shows : (j : ℕ) → StaysShown (event.Judge j)
-judge_shows j p b worker groups shows = by_test (ShowsThen groups) (nat_le worker 15) (judge_found b j (job_at p b j)) (Err fault.NoSuch) (found (job_at p b j)) tt
+pub judge_shows : (j : ℕ) → StaysShown (Event.Judge j)
+judge_shows j p b worker groups shows = by_test (ShowsThen groups) (nat_le worker 15) (judge_found b j (job_at p b j)) (Err EventFault.NoSuch) (found (job_at p b j)) tt
   where
     judged : (place : JobPlace) (x : Result JobState EventFault) → ShowsThen groups (judge_job b place x)
     judged place (Ok state) = shows_same groups b (job_state_set b place state) (job_still b place state) shows
@@ -83,14 +63,14 @@ judge_shows j p b worker groups shows = by_test (ShowsThen groups) (nat_le worke
     found None = tt
     found (Some at) = judged at.place (judgement j at)
 
-pub take_shows : (l : ℕ) → StaysShown (event.Take l)
-take_shows l p b worker groups shows = by_test (ShowsThen groups) (nat_le worker 15) (take_found b worker (leg_at p b l)) (Err fault.NoSuch) (found (leg_at p b l) refl) tt
+pub take_shows : (l : ℕ) → StaysShown (Event.Take l)
+take_shows l p b worker groups shows = by_test (ShowsThen groups) (nat_le worker 15) (take_found b worker (leg_at p b l)) (Err EventFault.NoSuch) (found (leg_at p b l) refl) tt
   where
     taken : (at : LegAt) → leg_at p b l ≡ Some at → (s : LegState) → at.leg.state ≡ s → ShowsThen groups (take_leg b worker at s)
-    taken at is leg_state.Admitted state =
-        by_test (ShowsThen groups) (is_stopping at) (Err fault.Stopping) (Ok (leg_state_set b at.place (leg_state.Running worker false), moved)) tt
-        (shows_same groups b (leg_state_set b at.place (leg_state.Running worker false))
-        (leg_still p b l at (leg_found p b l at is) (λ leg. record leg { state = leg_state.Running worker false }) (sym (ap (λ s. leg_stands s at.leg.group) state))) shows)
+    taken at is LegState.Admitted state =
+        by_test (ShowsThen groups) (is_stopping at) (Err EventFault.Stopping) (Ok (leg_state_set b at.place (LegState.Running worker false), moved)) tt
+        (shows_same groups b (leg_state_set b at.place (LegState.Running worker false))
+        (leg_still p b l at (leg_found p b l at is) (λ leg. record leg { state = LegState.Running worker false }) (sym (ap (λ s. leg_stands s at.leg.group) state))) shows)
     taken at is s state = tt
 
     found : (o : Option LegAt) → leg_at p b l ≡ o → ShowsThen groups (take_found b worker o)
@@ -101,15 +81,15 @@ stepped : (p : Plan) (b : Board) (worker l : ℕ) (at : LegAt) (groups : Content
     → Shows groups (step_done b at.place worker done)
 stepped p b worker l at groups done is stood shows =
     shows_same groups b (step_done b at.place worker done)
-    (leg_still p b l at (leg_found p b l at is) (λ leg. record leg { state = leg_state.Running worker false; steps = leg.steps ++ done ∷ [] }) (sym stood)) shows
+    (leg_still p b l at (leg_found p b l at is) (λ leg. record leg { state = LegState.Running worker false; steps = leg.steps ++ done ∷ [] }) (sym stood)) shows
 
-pub begin_shows : (l : ℕ) → StaysShown (event.Begin l)
-begin_shows l p b worker groups shows = by_test (ShowsThen groups) (nat_le worker 15) (begin_found b worker l (leg_at p b l)) (Err fault.NoSuch) (found (leg_at p b l) refl) tt
+pub begin_shows : (l : ℕ) → StaysShown (Event.Begin l)
+begin_shows l p b worker groups shows = by_test (ShowsThen groups) (nat_le worker 15) (begin_found b worker l (leg_at p b l)) (Err EventFault.NoSuch) (found (leg_at p b l) refl) tt
   where
     begun : (at : LegAt) → leg_at p b l ≡ Some at → leg_standing at.leg ≡ holding at.leg.group → (x : Result Beginning EventFault) → ShowsThen groups (begin_leg b worker at x)
     begun at is stood (Ok (calls call)) =
-        shows_same groups b (leg_state_set b at.place (leg_state.Running worker true))
-        (leg_still p b l at (leg_found p b l at is) (λ leg. record leg { state = leg_state.Running worker true }) (sym stood)) shows
+        shows_same groups b (leg_state_set b at.place (LegState.Running worker true))
+        (leg_still p b l at (leg_found p b l at is) (λ leg. record leg { state = LegState.Running worker true }) (sym stood)) shows
     begun at is stood (Err f) = tt
     begun at is stood x = stepped p b worker l at groups _ is stood shows
 
@@ -122,11 +102,11 @@ begin_shows l p b worker groups shows = by_test (ShowsThen groups) (nat_le worke
     found (Some at) is = by_owner at is (idle_owner at.leg.state) refl
 
 calling-stands : (s : LegState) (owner : ℕ) (group : Option (List ℕ)) → calling_owner s ≡ Some owner → leg_stands s group ≡ holding group
-calling-stands (leg_state.Running worker in_call) owner group h = refl
+calling-stands (LegState.Running worker in_call) owner group h = refl
 calling-stands s owner group h = absurd (no_some owner h)
 
-pub end_shows : (l : ℕ) (a : Answer) → StaysShown (event.End l a)
-end_shows l a p b worker groups shows = by_test (ShowsThen groups) (nat_le worker 15) (end_found b worker a (leg_at p b l)) (Err fault.NoSuch) (found (leg_at p b l) refl) tt
+pub end_shows : (l : ℕ) (a : Answer) → StaysShown (Event.End l a)
+end_shows l a p b worker groups shows = by_test (ShowsThen groups) (nat_le worker 15) (end_found b worker a (leg_at p b l)) (Err EventFault.NoSuch) (found (leg_at p b l) refl) tt
   where
     ended : (at : LegAt) → leg_at p b l ≡ Some at → leg_standing at.leg ≡ holding at.leg.group → (x : Result DoneStep EventFault) → ShowsThen groups (end_leg b worker at x)
     ended at is stood (Ok done) = stepped p b worker l at groups done is stood shows
@@ -140,11 +120,11 @@ end_shows l a p b worker groups shows = by_test (ShowsThen groups) (nat_le worke
     found None is = tt
     found (Some at) is = by_owner at is (calling_owner at.leg.state) refl
 
-pub cancel_shows : (r : ℕ) → StaysShown (event.Cancel r)
-cancel_shows r p b worker groups shows = by_test (ShowsThen groups) (nat_le worker 15) (cancel_found b r (run_at p b r)) (Err fault.NoSuch) (found (run_at p b r)) tt
+pub cancel_shows : (r : ℕ) → StaysShown (Event.Cancel r)
+cancel_shows r p b worker groups shows = by_test (ShowsThen groups) (nat_le worker 15) (cancel_found b r (run_at p b r)) (Err EventFault.NoSuch) (found (run_at p b r)) tt
   where
     found : (o : Option RunAt) → ShowsThen groups (cancel_found b r o)
     found None = tt
     found (Some at) =
-        by_test (ShowsThen groups) (is_closed at.run.state || at.run.stop) (Err fault.WrongState) (Ok (stopped b true (member.Run r), moved)) tt
-        (shows_same groups b (stopped b true (member.Run r)) (λ t. stop_keeps t b true (member.Run r)) shows)
+        by_test (ShowsThen groups) (is_closed at.run.state || at.run.stop) (Err EventFault.WrongState) (Ok (stopped b true (Member.Run r), moved)) tt
+        (shows_same groups b (stopped b true (Member.Run r)) (λ t. stop_keeps t b true (Member.Run r)) shows)

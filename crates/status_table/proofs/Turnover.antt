@@ -3,30 +3,9 @@ use Rattle.std.proofs.Common.{◌≡◌, ℕ, ◌+◌, ◌-◌, ◌≤◌, ◌&&
 use Rattle.std.specs.List.{list_all, AllZip}
 use Rattle.std.proofs.lemmas.Bool.{true≢false}
 use Rattle.std.proofs.lemmas.Slice.Eq.{bytes_eq-Decides}
-use Rattle.board_decisions.specs.Derived.{is_going, is_closed, is_open, is_shut, is_fresh, is_ended, is_under_way, leg_has_ended, job_has_ended}
-use Rattle.board_decisions.specs.Numbered.{leg_there}
-use Rattle.board_decisions.specs.Place.{◌>>=◌, LegAt, leg_place}
-use Rattle.board_decisions.specs.declared.place.LegPlace.{LegPlace}
-use Rattle.flow_model.specs.Numbers.{board_legs}
-use Rattle.flow_model.specs.declared.plan.Plan.{Plan}
-use Rattle.flow_model.specs.declared.plan.JobPlan.{JobPlan}
-use Rattle.flow_model.specs.declared.board.Board.{Board}
-use Rattle.flow_model.specs.declared.board.Run.{Run}
-use Rattle.flow_model.specs.declared.board.RunState.{RunState}
-use Rattle.flow_model.specs.declared.board.RunState.TheVariants as run_state
-use Rattle.flow_model.specs.declared.board.Job.{Job}
-use Rattle.flow_model.specs.declared.board.JobState.{JobState}
-use Rattle.flow_model.specs.declared.board.JobState.TheVariants as job_state
-use Rattle.flow_model.specs.declared.board.Leg.{Leg}
-use Rattle.flow_model.specs.declared.board.LegState.{LegState}
-use Rattle.flow_model.specs.declared.board.LegState.TheVariants as leg_state
-use Rattle.flow_model.specs.declared.event.Member.{Member}
-use Rattle.flow_model.specs.declared.event.Member.TheVariants as member
-use Rattle.flow_model.specs.declared.event.Outcome.TheVariants as outcome
-use Rattle.status_table.specs.Change.{with_leg, leg_changed}
-use Rattle.status_table.specs.Groups.{Standing, apart, holding, waiting, run_stands, leg_stands, run_standing, leg_standing, is_named, holds_name, waits_name, first_place, run_or_leg, first_member, holder, waiter, passed_on, cancelled, stopped}
-use Rattle.status_table.specs.Lawful.{leg_stands_right, JobFits, RunFits, MembersFit}
-use Rattle.status_table.specs.Members.{count_members, holders, waiters, is_waiting, share_name}
+use Rattle.status_table.specs.Words.{Board, Job, JobFits, JobPlan, JobState, Leg, LegAt, LegPlace, LegState, Member, MembersFit, Outcome, Plan, Run, RunFits, RunState, Standing, apart, board_legs, cancelled, first_place, holder, holding, is_closed, is_ended, is_fresh, is_going, is_named, is_open, is_shut, is_under_way, is_waiting, job_has_ended, leg_changed, leg_has_ended, leg_place, leg_standing, leg_stands, leg_stands_right, leg_there, passed_on, run_standing, run_stands, share_name, stopped, waiter, waiters, waiting, waits_name, with_leg, ◌>>=◌}
+use Rattle.status_table.specs.Groups.{holds_name, run_or_leg, first_member}
+use Rattle.status_table.specs.Members.{count_members, holders}
 use Rattle.status_table.proofs.Rank.{run_rank, leg_rank}
 use Rattle.board_decisions.proofs.Lists.{and-left, and-right, and-both}
 use Rattle.status_table.proofs.Counts.{one, counted, first-none, first-some, map-some, zip-left, zip-weaker, all-weaker}
@@ -47,9 +26,9 @@ under-context s g j leg right under = by leg.state right under
 
     by : (t : LegState) → is_fresh t || (is_open j && (not (is_under_way t) || (is_going s && not (is_waiting t && share_name g leg.group)))) ≡ true → is_under_way t ≡ true
         → (is_going s ≡ true) × (is_open j ≡ true)
-    by leg_state.Waiting h u = both (not (share_name g leg.group)) h
-    by leg_state.Admitted h u = both true h
-    by (leg_state.Running worker in_call) h u = both true h
+    by LegState.Waiting h u = both (not (share_name g leg.group)) h
+    by LegState.Admitted h u = both true h
+    by (LegState.Running worker in_call) h u = both true h
     by t h u = absurd (true≢false (sym u))
 
 -- there a leg that does not wait stands rightly
@@ -58,13 +37,13 @@ pub right-there : (s : RunState) (g : Option (List ℕ)) (j : JobState) (leg : L
 right-there s g j leg going opened quiet = by leg.state quiet
   where
     by : (t : LegState) → is_waiting t ≡ false → is_fresh t || (is_open j && (not (is_under_way t) || (is_going s && not (is_waiting t && share_name g leg.group)))) ≡ true
-    by leg_state.Fresh h = refl
-    by leg_state.Waiting h = absurd (true≢false h)
-    by (leg_state.Ended result tolerated) h = and-both (is_open j) true opened refl
+    by LegState.Fresh h = refl
+    by LegState.Waiting h = absurd (true≢false h)
+    by (LegState.Ended result tolerated) h = and-both (is_open j) true opened refl
     by t h = and-both (is_open j) (is_going s && true) opened (and-both (is_going s) true going refl)
 
 -- and so does one that waits, if not for its own run
-pub right-waiting : (s : RunState) (g : Option (List ℕ)) (j : JobState) (leg : Leg) → is_going s ≡ true → is_open j ≡ true → leg.state ≡ leg_state.Waiting
+pub right-waiting : (s : RunState) (g : Option (List ℕ)) (j : JobState) (leg : Leg) → is_going s ≡ true → is_open j ≡ true → leg.state ≡ LegState.Waiting
     → share_name g leg.group ≡ false → leg_stands_right s g j leg ≡ true
 right-waiting s g j leg going opened is other = rw (is, going, opened, other) refl
 
@@ -77,9 +56,9 @@ idle-right s t g h j leg idle right = by leg.state right
 
     by : (u : LegState) → is_fresh u || (is_open j && (not (is_under_way u) || (is_going s && not (is_waiting u && share_name g leg.group)))) ≡ true
         → is_fresh u || (is_open j && (not (is_under_way u) || (is_going t && not (is_waiting u && share_name h leg.group)))) ≡ true
-    by leg_state.Fresh k = refl
-    by leg_state.Waiting k = never (not (share_name g leg.group)) (is_open j && (is_going t && not (share_name h leg.group))) k
-    by (leg_state.Ended result tolerated) k = k
+    by LegState.Fresh k = refl
+    by LegState.Waiting k = never (not (share_name g leg.group)) (is_open j && (is_going t && not (share_name h leg.group))) k
+    by (LegState.Ended result tolerated) k = k
     by u k = never true (is_open j && (is_going t && true)) k
 
 pub idle-run : (s t : RunState) (g h : Option (List ℕ)) (plans : List JobPlan) (jobs : List Job) → is_going s ≡ false → AllZip (JobFits s g) plans jobs → AllZip (JobFits t h) plans jobs
@@ -96,7 +75,7 @@ ended-right : (s t : RunState) (g : Option (List ℕ)) (j : JobState) (leg : Leg
 ended-right s t g j leg unclosed right ended = by leg.state right (sym (ap (λ c. c || is_shut j || is_ended leg.state) unclosed) ∙ ended)
   where
     open-or-shut : (state : JobState) → is_open state ≡ true → is_shut state || false ≡ true → ⊥
-    open-or-shut job_state.Open h k = true≢false (sym k)
+    open-or-shut JobState.Open h k = true≢false (sym k)
     open-or-shut state h k = true≢false (sym h)
 
     never : (w : Bool) (c : Bool) → is_open j && w ≡ true → is_shut j || false ≡ true → c ≡ true
@@ -104,9 +83,9 @@ ended-right s t g j leg unclosed right ended = by leg.state right (sym (ap (λ c
 
     by : (u : LegState) → is_fresh u || (is_open j && (not (is_under_way u) || (is_going s && not (is_waiting u && share_name g leg.group)))) ≡ true
         → is_shut j || is_ended u ≡ true → is_fresh u || (is_open j && (not (is_under_way u) || (is_going t && not (is_waiting u && share_name g leg.group)))) ≡ true
-    by leg_state.Fresh k e = refl
-    by leg_state.Waiting k e = never (is_going s && not (share_name g leg.group)) (is_open j && (is_going t && not (share_name g leg.group))) k e
-    by (leg_state.Ended result tolerated) k e = k
+    by LegState.Fresh k e = refl
+    by LegState.Waiting k e = never (is_going s && not (share_name g leg.group)) (is_open j && (is_going t && not (share_name g leg.group))) k e
+    by (LegState.Ended result tolerated) k e = k
     by u k e = never (is_going s && true) (is_open j && (is_going t && true)) k e
 
 both-weaker : {A : Type 0} (s u t : A → Bool) → ((x : A) → s x ≡ true → u x ≡ true → t x ≡ true) → (xs : List A) → list_all s xs ≡ true → list_all u xs ≡ true → list_all t xs ≡ true
@@ -133,48 +112,48 @@ ended-run run t (q ∷ qs) (x ∷ xs) unclosed ended h = (
 
 -- ---- who stands how
 
-pub run-waits : (s : RunState) (g name : Option (List ℕ)) → run_stands s g ≡ waiting name → (s ≡ run_state.Waiting) × (g ≡ name)
-run-waits run_state.New g name h = absurd (no h)
+pub run-waits : (s : RunState) (g name : Option (List ℕ)) → run_stands s g ≡ waiting name → (s ≡ RunState.Waiting) × (g ≡ name)
+run-waits RunState.New g name h = absurd (no h)
   where
     no : apart ≡ waiting name → ⊥
     no e = cc
-run-waits run_state.Waiting g name h = (refl, same h)
+run-waits RunState.Waiting g name h = (refl, same h)
   where
     same : waiting g ≡ waiting name → g ≡ name
     same e = cc
-run-waits run_state.Going g name h = absurd (no h)
+run-waits RunState.Going g name h = absurd (no h)
   where
     no : holding g ≡ waiting name → ⊥
     no e = cc
-run-waits (run_state.Closed result) g name h = absurd (no h)
+run-waits (RunState.Closed result) g name h = absurd (no h)
   where
     no : apart ≡ waiting name → ⊥
     no e = cc
 
-pub leg-waits : (s : LegState) (g name : Option (List ℕ)) → leg_stands s g ≡ waiting name → (s ≡ leg_state.Waiting) × (g ≡ name)
-leg-waits leg_state.Fresh g name h = absurd (no h)
+pub leg-waits : (s : LegState) (g name : Option (List ℕ)) → leg_stands s g ≡ waiting name → (s ≡ LegState.Waiting) × (g ≡ name)
+leg-waits LegState.Fresh g name h = absurd (no h)
   where
     no : apart ≡ waiting name → ⊥
     no e = cc
-leg-waits leg_state.Waiting g name h = (refl, same h)
+leg-waits LegState.Waiting g name h = (refl, same h)
   where
     same : waiting g ≡ waiting name → g ≡ name
     same e = cc
-leg-waits leg_state.Admitted g name h = absurd (no h)
+leg-waits LegState.Admitted g name h = absurd (no h)
   where
     no : holding g ≡ waiting name → ⊥
     no e = cc
-leg-waits (leg_state.Running worker in_call) g name h = absurd (no h)
+leg-waits (LegState.Running worker in_call) g name h = absurd (no h)
   where
     no : holding g ≡ waiting name → ⊥
     no e = cc
-leg-waits (leg_state.Ended result tolerated) g name h = absurd (no h)
+leg-waits (LegState.Ended result tolerated) g name h = absurd (no h)
   where
     no : apart ≡ waiting name → ⊥
     no e = cc
 
 run-holds : (s : RunState) (g name : Option (List ℕ)) → run_stands s g ≡ holding name → is_closed s ≡ false
-run-holds (run_state.Closed result) g name h = absurd (no h)
+run-holds (RunState.Closed result) g name h = absurd (no h)
   where
     no : apart ≡ holding name → ⊥
     no e = cc
@@ -186,15 +165,15 @@ record Holds (s : LegState) : Type 0 where
   quiet : is_waiting s ≡ false
 
 leg-holds : (s : LegState) (g name : Option (List ℕ)) → leg_stands s g ≡ holding name → Holds s
-leg-holds leg_state.Fresh g name h = absurd (no h)
+leg-holds LegState.Fresh g name h = absurd (no h)
   where
     no : apart ≡ holding name → ⊥
     no e = cc
-leg-holds leg_state.Waiting g name h = absurd (no h)
+leg-holds LegState.Waiting g name h = absurd (no h)
   where
     no : waiting g ≡ holding name → ⊥
     no e = cc
-leg-holds (leg_state.Ended result tolerated) g name h = absurd (no h)
+leg-holds (LegState.Ended result tolerated) g name h = absurd (no h)
   where
     no : apart ≡ holding name → ⊥
     no e = cc
@@ -235,46 +214,46 @@ numbered b l at f is = ap (λ o. leg_changed b.runs o f) is
 
 pub displaced_step : (p : Plan) (b : Board) (w : Member) (name : Option (List ℕ)) → MembersFit p b → standing b w ≡ Some (waiting name)
     → Step p b w (waiting name) apart 0 (cancelled b w)
-displaced_step p b (member.Run r) name fits h =
+displaced_step p b (Member.Run r) name fits h =
     let run = map-some run_standing (slice_get b.runs r) (waiting name) h in
     let is = run-waits run.0.state run.0.group name run.2 in
-    let f : Run → Run = λ x. record x { state = run_state.Closed outcome.Cancelled } in
-    run_step p b r f run.0 run.1 (λ x. refl) (cancelled b (member.Run r)) refl (waiting name) apart 0 fits (ap is_closed is.0)
-    (λ plan all. idle-run run.0.state (run_state.Closed outcome.Cancelled) run.0.group run.0.group plan.jobs run.0.jobs (ap is_going is.0) all) run.2 refl (omega arith)
-displaced_step p b (member.Leg l) name fits h =
+    let f : Run → Run = λ x. record x { state = RunState.Closed Outcome.Cancelled } in
+    run_step p b r f run.0 run.1 (λ x. refl) (cancelled b (Member.Run r)) refl (waiting name) apart 0 fits (ap is_closed is.0)
+    (λ plan all. idle-run run.0.state (RunState.Closed Outcome.Cancelled) run.0.group run.0.group plan.jobs run.0.jobs (ap is_going is.0) all) run.2 refl (omega arith)
+displaced_step p b (Member.Leg l) name fits h =
     let leg = map-some leg_standing (slice_get (board_legs b) l) (waiting name) h in
     let is = leg-waits leg.0.state leg.0.group name leg.2 in
     let there = lives p b l leg.0 fits leg.1 (ap is_under_way is.0) in
     let at = there.at in
-    let f : Leg → Leg = λ x. record x { state = leg_state.Ended outcome.Cancelled false } in
-    leg_step p b l at f there.live (cancelled b (member.Leg l)) (numbered b l at.place f there.live.stands.place) (waiting name) apart 0 fits
+    let f : Leg → Leg = λ x. record x { state = LegState.Ended Outcome.Cancelled false } in
+    leg_step p b l at f there.live (cancelled b (Member.Leg l)) (numbered b l at.place f there.live.stands.place) (waiting name) apart 0 fits
     (ap (λ (x : Leg). is_ended x.state) there.leg_is ∙ ap is_ended is.0) (right-there at.run.state at.run.group at.job.state (f at.leg) there.live.going there.live.opened refl)
-    (as_much p b l at f there.live (cancelled b (member.Leg l)) (numbered b l at.place f there.live.stands.place) (omega arith))
+    (as_much p b l at f there.live (cancelled b (Member.Leg l)) (numbered b l at.place f there.live.stands.place) (omega arith))
     (ap leg_standing there.leg_is ∙ leg.2) refl (omega arith)
 
 -- ---- a waiter goes on
 
 pub passed_step : (p : Plan) (b : Board) (w : Member) (name : Option (List ℕ)) → MembersFit p b → standing b w ≡ Some (waiting name)
     → Step p b w (waiting name) (holding name) 0 (passed_on b (Some w))
-passed_step p b (member.Run r) name fits h =
+passed_step p b (Member.Run r) name fits h =
     let run = map-some run_standing (slice_get b.runs r) (waiting name) h in
     let is = run-waits run.0.state run.0.group name run.2 in
-    let f : Run → Run = λ x. record x { state = run_state.Going } in
+    let f : Run → Run = λ x. record x { state = RunState.Going } in
     let rank = ap (λ s. run_rank s run.0.stop) is.0 in
-    run_step p b r f run.0 run.1 (λ x. refl) (passed_on b (Some (member.Run r))) refl (waiting name) (holding name) 0 fits (ap is_closed is.0)
-    (λ plan all. idle-run run.0.state run_state.Going run.0.group run.0.group plan.jobs run.0.jobs (ap is_going is.0) all) run.2 (ap holding is.1) (omega (arith, rank))
-passed_step p b (member.Leg l) name fits h =
+    run_step p b r f run.0 run.1 (λ x. refl) (passed_on b (Some (Member.Run r))) refl (waiting name) (holding name) 0 fits (ap is_closed is.0)
+    (λ plan all. idle-run run.0.state RunState.Going run.0.group run.0.group plan.jobs run.0.jobs (ap is_going is.0) all) run.2 (ap holding is.1) (omega (arith, rank))
+passed_step p b (Member.Leg l) name fits h =
     let leg = map-some leg_standing (slice_get (board_legs b) l) (waiting name) h in
     let is = leg-waits leg.0.state leg.0.group name leg.2 in
     let there = lives p b l leg.0 fits leg.1 (ap is_under_way is.0) in
     let at = there.at in
-    let f : Leg → Leg = λ x. record x { state = leg_state.Admitted } in
-    let was : at.leg.state ≡ leg_state.Waiting = ap (λ (x : Leg). x.state) there.leg_is ∙ is.0 in
+    let f : Leg → Leg = λ x. record x { state = LegState.Admitted } in
+    let was : at.leg.state ≡ LegState.Waiting = ap (λ (x : Leg). x.state) there.leg_is ∙ is.0 in
     let under = ap (λ s. one (is_under_way s)) was in
     let rank = ap (λ s. leg_rank s (256 - length at.leg.steps)) was in
-    leg_step p b l at f there.live (passed_on b (Some (member.Leg l))) (numbered b l at.place f there.live.stands.place) (waiting name) (holding name) 0 fits
+    leg_step p b l at f there.live (passed_on b (Some (Member.Leg l))) (numbered b l at.place f there.live.stands.place) (waiting name) (holding name) 0 fits
     (ap is_ended was) (right-there at.run.state at.run.group at.job.state (f at.leg) there.live.going there.live.opened refl)
-    (as_much p b l at f there.live (passed_on b (Some (member.Leg l))) (numbered b l at.place f there.live.stands.place) (omega (arith, under)))
+    (as_much p b l at f there.live (passed_on b (Some (Member.Leg l))) (numbered b l at.place f there.live.stands.place) (omega (arith, under)))
     (ap leg_standing there.leg_is ∙ leg.2) (ap (λ (x : Leg). holding x.group) there.leg_is ∙ ap holding is.1) (omega (arith, rank))
 
 -- ---- a holder is told to stop
@@ -292,32 +271,32 @@ kept_step p b m s fits h = record {
 }
 
 stop-rank : (s : RunState) (stop : Bool) → run_rank s true + 0 ≤ run_rank s stop
-stop-rank run_state.New true = omega arith
-stop-rank run_state.New false = omega arith
-stop-rank run_state.Waiting true = omega arith
-stop-rank run_state.Waiting false = omega arith
-stop-rank run_state.Going true = omega arith
-stop-rank run_state.Going false = omega arith
-stop-rank (run_state.Closed result) stop = omega arith
+stop-rank RunState.New true = omega arith
+stop-rank RunState.New false = omega arith
+stop-rank RunState.Waiting true = omega arith
+stop-rank RunState.Waiting false = omega arith
+stop-rank RunState.Going true = omega arith
+stop-rank RunState.Going false = omega arith
+stop-rank (RunState.Closed result) stop = omega arith
 
 pub stopped_step : (p : Plan) (b : Board) (cancel : Bool) (h : Member) (name : Option (List ℕ)) → MembersFit p b → standing b h ≡ Some (holding name)
     → Step p b h (holding name) (holding name) 0 (stopped b cancel h)
 stopped_step p b false h name fits is = kept_step p b h (holding name) fits is
-stopped_step p b true (member.Run r) name fits is =
+stopped_step p b true (Member.Run r) name fits is =
     let run = map-some run_standing (slice_get b.runs r) (holding name) is in
-    run_step p b r (λ x. record x { stop = true }) run.0 run.1 (λ x. refl) (stopped b true (member.Run r)) refl (holding name) (holding name) 0 fits
+    run_step p b r (λ x. record x { stop = true }) run.0 run.1 (λ x. refl) (stopped b true (Member.Run r)) refl (holding name) (holding name) 0 fits
     (run-holds run.0.state run.0.group name run.2) (λ plan all. all) run.2 run.2 (stop-rank run.0.state run.0.stop)
-stopped_step p b true (member.Leg l) name fits is =
+stopped_step p b true (Member.Leg l) name fits is =
     let leg = map-some leg_standing (slice_get (board_legs b) l) (holding name) is in
     let how = leg-holds leg.0.state leg.0.group name leg.2 in
     let there = lives p b l leg.0 fits leg.1 how.under in
     let at = there.at in
     let f : Leg → Leg = λ x. record x { stop = true } in
     let stood : leg_standing at.leg ≡ holding name = ap leg_standing there.leg_is ∙ leg.2 in
-    leg_step p b l at f there.live (stopped b true (member.Leg l)) (numbered b l at.place f there.live.stands.place) (holding name) (holding name) 0 fits
+    leg_step p b l at f there.live (stopped b true (Member.Leg l)) (numbered b l at.place f there.live.stands.place) (holding name) (holding name) 0 fits
     (ap (λ (x : Leg). is_ended x.state) there.leg_is ∙ how.running)
     (right-there at.run.state at.run.group at.job.state (f at.leg) there.live.going there.live.opened (ap (λ (x : Leg). is_waiting x.state) there.leg_is ∙ how.quiet))
-    (as_much p b l at f there.live (stopped b true (member.Leg l)) (numbered b l at.place f there.live.stands.place) (omega arith)) stood stood (omega arith)
+    (as_much p b l at f there.live (stopped b true (Member.Leg l)) (numbered b l at.place f there.live.stands.place) (omega arith)) stood stood (omega arith)
 
 -- ---- who is found
 

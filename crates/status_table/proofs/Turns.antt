@@ -4,27 +4,8 @@ use Rattle.std.specs.List.{flat_map}
 use Rattle.std.proofs.lemmas.Bool.{cases_eq}
 use Rattle.std.proofs.lemmas.Bool.Decides.{nat_tests}
 use Rattle.std.proofs.lemmas.List.Sums.{sum_by-append}
-use Rattle.board_decisions.specs.declared.entrance.Entrance.{Entrance}
-use Rattle.board_decisions.specs.declared.place.LegPlace.{LegPlace}
-use Rattle.board_decisions.specs.Derived.{is_ended}
-use Rattle.board_decisions.specs.Place.{leg_place}
-use Rattle.flow_model.specs.Numbers.{board_legs}
-use Rattle.flow_model.specs.declared.plan.Plan.{Plan}
-use Rattle.flow_model.specs.declared.plan.JobPlan.{JobPlan}
-use Rattle.flow_model.specs.declared.board.Board.{Board}
-use Rattle.flow_model.specs.declared.board.Run.{Run}
-use Rattle.flow_model.specs.declared.board.RunState.TheVariants as run_state
-use Rattle.flow_model.specs.declared.board.Job.{Job}
-use Rattle.flow_model.specs.declared.board.Leg.{Leg}
-use Rattle.flow_model.specs.declared.board.LegState.TheVariants as leg_state
-use Rattle.flow_model.specs.declared.event.Member.{Member}
-use Rattle.flow_model.specs.declared.event.Member.TheVariants as member
-use Rattle.flow_model.specs.declared.event.Outcome.{Outcome}
-use Rattle.flow_model.specs.declared.event.Outcome.TheVariants as outcome
-use Rattle.status_table.specs.Change.{changed, leg_changed, with_run, with_numbered_leg}
-use Rattle.status_table.specs.Ends.{times_ended, EndOnce}
-use Rattle.status_table.specs.Groups.{Done, run_standing, leg_standing, holder, waiter, next_after, closed, dropped, admitted, waits, passed_on, cancelled, displaced, stopped, stop_told, told, moved, is_own, enters_held, enters, leaves}
-use Rattle.status_table.specs.Shape.{steps_begun, has_room, JobShape, RunShape, HasShape}
+use Rattle.status_table.specs.Words.{Board, Done, EndOnce, Entrance, HasShape, Job, JobPlan, JobShape, Leg, LegPlace, LegState, Member, Outcome, Plan, Run, RunShape, RunState, admitted, board_legs, cancelled, changed, closed, displaced, dropped, enters, enters_held, has_room, holder, is_ended, is_own, leaves, leg_changed, leg_place, leg_standing, moved, next_after, passed_on, run_standing, stop_told, stopped, times_ended, told, waiter, waits, with_numbered_leg, with_run}
+use Rattle.status_table.specs.Shape.{steps_begun}
 use Rattle.status_table.proofs.Lists.{changed-there, changed-elsewhere, changed-same, length-changed, flat_map-kept, zip-changed, all-each}
 use Rattle.board_decisions.proofs.Lists.{same_some}
 use Rattle.status_table.proofs.Numbers.{numbered_leg-changed}
@@ -90,7 +71,7 @@ times_unended : (leg : Leg) → is_ended leg.state ≡ false → times_ended (So
 times_unended leg h = ap (λ c. if c then 1 else 0) h
 
 -- a leg that has not ended stays so
-pub unended_kept : (p : Plan) (b : Board) (l : ℕ) (f : Leg → Leg) → NoMoreSteps f → Unended b (member.Leg l) → ((leg : Leg) → is_ended (f leg).state ≡ false)
+pub unended_kept : (p : Plan) (b : Board) (l : ℕ) (f : Leg → Leg) → NoMoreSteps f → Unended b (Member.Leg l) → ((leg : Leg) → is_ended (f leg).state ≡ false)
     → Fits p b → Fits p (with_numbered_leg b l f)
 unended_kept p b l f less before now =
     numbered_kept p b l f less (λ leg there.
@@ -130,37 +111,37 @@ ends_pushed b c l f leg pushed legs item before now h k =
           omega (arith, same, none)
     ]
 
-pub drop_fits : (p : Plan) (b : Board) (l : ℕ) (result : Outcome) → Unended b (member.Leg l) → Fits p b → Fits p (dropped b l result)
+pub drop_fits : (p : Plan) (b : Board) (l : ℕ) (result : Outcome) → Unended b (Member.Leg l) → Fits p b → Fits p (dropped b l result)
 drop_fits p b l result before h = record {
   shape = numbered_shape p b l f (λ leg. omega arith) h.shape;
   ends = ends_pushed b (dropped b l result) l f before.0 refl (numbered_leg-changed b l f) before.1 before.2 refl h.ends;
 }
   where
     f : Leg → Leg
-    f leg = record leg { state = leg_state.Ended result false }
+    f leg = record leg { state = LegState.Ended result false }
 
 -- ---- the changes of a member
 
 pub close_fits : (p : Plan) (b : Board) (r : ℕ) (result : Outcome) → Fits p b → Fits p (closed b r result)
-close_fits p b r result = run_kept p b r (λ run. record run { state = run_state.Closed result }) (λ run. refl)
+close_fits p b r result = run_kept p b r (λ run. record run { state = RunState.Closed result }) (λ run. refl)
 
 admit_fits : (p : Plan) (b : Board) (name : Option (List ℕ)) (m : Member) → Unended b m → Fits p b → Fits p (admitted b name m)
-admit_fits p b name (member.Run r) before = run_kept p b r (λ run. record run { state = run_state.Going; group = name }) (λ run. refl)
-admit_fits p b name (member.Leg l) before = unended_kept p b l (λ leg. record leg { state = leg_state.Admitted; group = name }) (λ leg. omega arith) before (λ leg. refl)
+admit_fits p b name (Member.Run r) before = run_kept p b r (λ run. record run { state = RunState.Going; group = name }) (λ run. refl)
+admit_fits p b name (Member.Leg l) before = unended_kept p b l (λ leg. record leg { state = LegState.Admitted; group = name }) (λ leg. omega arith) before (λ leg. refl)
 
 wait_fits : (p : Plan) (b : Board) (name : List ℕ) (m : Member) → Unended b m → Fits p b → Fits p (waits b name m)
-wait_fits p b name (member.Run r) before = run_kept p b r (λ run. record run { state = run_state.Waiting; group = Some name }) (λ run. refl)
-wait_fits p b name (member.Leg l) before = unended_kept p b l (λ leg. record leg { state = leg_state.Waiting; group = Some name }) (λ leg. omega arith) before (λ leg. refl)
+wait_fits p b name (Member.Run r) before = run_kept p b r (λ run. record run { state = RunState.Waiting; group = Some name }) (λ run. refl)
+wait_fits p b name (Member.Leg l) before = unended_kept p b l (λ leg. record leg { state = LegState.Waiting; group = Some name }) (λ leg. omega arith) before (λ leg. refl)
 
 pub pass_fits : (p : Plan) (b : Board) (next : Option Member) → ((w : Member) → next ≡ Some w → Unended b w) → Fits p b → Fits p (passed_on b next)
 pass_fits p b None before h = h
-pass_fits p b (Some (member.Run r)) before h = run_kept p b r (λ run. record run { state = run_state.Going }) (λ run. refl) h
-pass_fits p b (Some (member.Leg l)) before h =
-    unended_kept p b l (λ leg. record leg { state = leg_state.Admitted }) (λ leg. omega arith) (before (member.Leg l) refl) (λ leg. refl) h
+pass_fits p b (Some (Member.Run r)) before h = run_kept p b r (λ run. record run { state = RunState.Going }) (λ run. refl) h
+pass_fits p b (Some (Member.Leg l)) before h =
+    unended_kept p b l (λ leg. record leg { state = LegState.Admitted }) (λ leg. omega arith) (before (Member.Leg l) refl) (λ leg. refl) h
 
 cancel_fits : (p : Plan) (b : Board) (m : Member) → Unended b m → Fits p b → Fits p (cancelled b m)
-cancel_fits p b (member.Run r) before = close_fits p b r outcome.Cancelled
-cancel_fits p b (member.Leg l) before = drop_fits p b l outcome.Cancelled before
+cancel_fits p b (Member.Run r) before = close_fits p b r Outcome.Cancelled
+cancel_fits p b (Member.Leg l) before = drop_fits p b l Outcome.Cancelled before
 
 displace_fits : (p : Plan) (b : Board) (waited : Option Member) → ((w : Member) → waited ≡ Some w → Unended b w) → Fits p b → Fits p (displaced b waited)
 displace_fits p b None before h = h
@@ -168,16 +149,16 @@ displace_fits p b (Some w) before h = cancel_fits p b w (before w refl) h
 
 pub stop_fits : (p : Plan) (b : Board) (wanted : Bool) (m : Member) → Fits p b → Fits p (stopped b wanted m)
 stop_fits p b false m h = h
-stop_fits p b true (member.Run r) h = run_kept p b r (λ run. record run { stop = true }) (λ run. refl) h
-stop_fits p b true (member.Leg l) h = numbered_kept p b l (λ leg. record leg { stop = true }) (λ leg. omega arith) (λ leg _. refl) h
+stop_fits p b true (Member.Run r) h = run_kept p b r (λ run. record run { stop = true }) (λ run. refl) h
+stop_fits p b true (Member.Leg l) h = numbered_kept p b l (λ leg. record leg { stop = true }) (λ leg. omega arith) (λ leg _. refl) h
 
 -- who has not ended has not while another begins to wait
 still_unended : (b : Board) (name : List ℕ) (m w : Member) → Unended b w → Unended (waits b name m) w
-still_unended b name m (member.Run r) h = tt
-still_unended b name (member.Run r) (member.Leg l) h =
-    (h.0, ap (λ legs. slice_get legs l) (run_legs b r (λ run. record run { state = run_state.Waiting; group = Some name }) (λ run. refl)) ∙ h.1, h.2)
-still_unended b name (member.Leg k) (member.Leg l) h =
-    elim (cases_eq l k) as (λ _. Unended (waits b name (member.Leg k)) (member.Leg l)) [
+still_unended b name m (Member.Run r) h = tt
+still_unended b name (Member.Run r) (Member.Leg l) h =
+    (h.0, ap (λ legs. slice_get legs l) (run_legs b r (λ run. record run { state = RunState.Waiting; group = Some name }) (λ run. refl)) ∙ h.1, h.2)
+still_unended b name (Member.Leg k) (Member.Leg l) h =
+    elim (cases_eq l k) as (λ _. Unended (waits b name (Member.Leg k)) (Member.Leg l)) [
       | inl e ↦
           let there : slice_get (board_legs b) k ≡ Some h.0 = ap (slice_get (board_legs b)) (sym e) ∙ h.1 in
           (f h.0, ap (λ legs. slice_get legs l) (numbered_leg-changed b k f) ∙ ap (slice_get (changed (board_legs b) k f)) e ∙ changed-there (board_legs b) k f h.0 there, refl)
@@ -185,7 +166,7 @@ still_unended b name (member.Leg k) (member.Leg l) h =
     ]
   where
     f : Leg → Leg
-    f leg = record leg { state = leg_state.Waiting; group = Some name }
+    f leg = record leg { state = LegState.Waiting; group = Some name }
 
 -- ---- entering and leaving
 
@@ -214,9 +195,9 @@ run_leaves p b r run result h =
     pass_fits p (closed b r result) (next_after b (run_standing run)) (λ w is. still w (next_unended b (run_standing run) w is)) (close_fits p b r result h)
   where
     still : (w : Member) → Unended b w → Unended (closed b r result) w
-    still (member.Run s) before = tt
-    still (member.Leg l) before =
-        (before.0, ap (λ legs. slice_get legs l) (run_legs b r (λ x. record x { state = run_state.Closed result }) (λ x. refl)) ∙ before.1, before.2)
+    still (Member.Run s) before = tt
+    still (Member.Leg l) before =
+        (before.0, ap (λ legs. slice_get legs l) (run_legs b r (λ x. record x { state = RunState.Closed result }) (λ x. refl)) ∙ before.1, before.2)
 
 -- a leg that has ended leaves its group
 pub leg_leaves : (p : Plan) (b after : Board) (l : ℕ) (leg : Leg) (f : Leg → Leg) → slice_get (board_legs b) l ≡ Some leg
@@ -224,7 +205,7 @@ pub leg_leaves : (p : Plan) (b after : Board) (l : ℕ) (leg : Leg) (f : Leg →
 leg_leaves p b after l leg f there legs = pass_fits p after (next_after b (leg_standing leg)) still
   where
     still : (w : Member) → next_after b (leg_standing leg) ≡ Some w → Unended after w
-    still (member.Run s) is = tt
-    still (member.Leg k) is =
+    still (Member.Run s) is = tt
+    still (Member.Leg k) is =
         let next = next_other b l leg there k is in
         (next.0.0, ap (λ xs. slice_get xs k) legs ∙ changed-elsewhere (board_legs b) l f k next.1 ∙ next.0.1, next.0.2)

@@ -1,27 +1,12 @@
 -- Entries whose reply nobody asks for.
 use Rattle.std.proofs.Common.{◌≡◌, ◌==◌, ℕ, ℤ, pos, Bool, true, not, List, [], ◌∷◌, length, Option, Some, None, Result, Ok, Err, if◌then◌else◌, refl, ap, sym, subst, ◌∙◌, arith}
 use Rattle.std.proofs.lemmas.Bool.Decides.{nat_tests}
-use Rattle.board_decisions.specs.Decisions.{is_called}
-use Rattle.board_decisions.specs.Place.{LegAt}
-use Rattle.flow_model.specs.declared.board.Board.{Board}
-use Rattle.flow_model.specs.declared.board.LegState.TheVariants as leg_state
-use Rattle.flow_model.specs.declared.event.Answer.{Answer}
-use Rattle.flow_model.specs.declared.event.Answer.TheVariants as answer
-use Rattle.flow_model.specs.declared.event.Entry.{Entry}
-use Rattle.flow_model.specs.declared.event.Outcome.TheVariants as outcome
-use Rattle.flow_model.specs.declared.plan.Plan.{Plan}
-use Rattle.flow_model.specs.declared.reply.Reply.{Reply}
-use Rattle.flow_model.specs.declared.reply.StepCall.{StepCall}
-use Rattle.flow_model.specs.declared.reply.ValueFault.{ValueFault}
-use Rattle.status_table.specs.Answers.{AnswersEntry, Decides, Refuses}
-use Rattle.status_table.specs.Row.{Row, Beginning, decided, calling_owner, ending, ending_by, failed_step, leg_state_set, skipped_step, step_done}
-use Rattle.status_table.specs.Runs.{Plays, then_after}
+use Rattle.status_table.specs.Words.{Answer, Beginning, Board, Entry, Leads, LegAt, LegState, Outcome, Plan, Plays, Refuses, Reply, Row, StepCall, ValueFault, calling_owner, decided, ending, ending_by, failed_step, is_called, leg_state_set, skipped_step, step_done, then_after, without_reply}
+use Rattle.status_table.specs.Answers.{AnswersEntry, Decides}
 use Rattle.status_table.specs.Seen.{ended_step}
-use Rattle.status_table.specs.Unasked.{begins_by, begins_of, begins_called, IsLeftOf, Leads, without_reply}
+use Rattle.status_table.specs.Unasked.{begins_by, begins_of, begins_called, IsLeftOf}
 use Rattle.status_table.specs.declared.fault.EventFault.{EventFault}
-use Rattle.status_table.specs.declared.fault.EventFault.TheVariants as fault
 use Rattle.status_table.specs.declared.unasked.Begins.{Begins}
-use Rattle.status_table.specs.declared.unasked.Begins.TheVariants as begins
 
 decided_is : (d : Result (Option StepCall) ValueFault) → begins_called (is_called d) ≡ begins_of (decided d)
 decided_is (Ok None) = refl
@@ -36,8 +21,8 @@ begins_as_decided x d result is told =
     (subst (λ (k : Begins). Decides (Ok k) result) (decided_is d) told)
 
 -- A step that is called is begun by its call.
-pub begins_calling : (x : Result Beginning EventFault) (d : Result (Option StepCall) ValueFault) → x ≡ Ok (decided d) → is_called d ≡ Ok true → begins_by x ≡ Ok begins.Calls
-begins_calling x d is called = begins_as_decided x d (Ok begins.Calls) is (ap (λ (v : Result Bool ValueFault). Ok (begins_called v)) called)
+pub begins_calling : (x : Result Beginning EventFault) (d : Result (Option StepCall) ValueFault) → x ≡ Ok (decided d) → is_called d ≡ Ok true → begins_by x ≡ Ok Begins.Calls
+begins_calling x d is called = begins_as_decided x d (Ok Begins.Calls) is (ap (λ (v : Result Bool ValueFault). Ok (begins_called v)) called)
 
 no_pairs : (pairs : List (List ℕ × List ℕ)) → (length pairs == 0) ≡ true → pairs ≡ []
 no_pairs [] none = refl
@@ -45,30 +30,30 @@ no_pairs (pair ∷ pairs) none = absurd (grind (arith, nat_tests))
 
 -- An exit that leaves nothing behind.
 pub bare_exit : (code : ℤ) (outputs env : List (List ℕ × List ℕ)) → code ≡ pos 0 → (length outputs == 0) ≡ true → (length env == 0) ≡ true
-    → answer.Exit code outputs env ≡ answer.Exit (pos 0) [] []
-bare_exit code outputs env is no_outputs no_env = λ i. answer.Exit (is i) (no_pairs outputs no_outputs i) (no_pairs env no_env i)
+    → Answer.Exit code outputs env ≡ Answer.Exit (pos 0) [] []
+bare_exit code outputs env is no_outputs no_env = λ i. Answer.Exit (is i) (no_pairs outputs no_outputs i) (no_pairs env no_env i)
 
 is_itself : (n : ℕ) → (n == n) ≡ true
 is_itself n = grind arith
 
 -- It ends the call of a leg by its worker with success.
-pub bare_ends : (worker : ℕ) (at : LegAt) (a : Answer) → calling_owner at.leg.state ≡ Some worker → a ≡ answer.Exit (pos 0) [] []
-    → ending worker at a ≡ Ok (ended_step (outcome.Success, outcome.Success) a)
+pub bare_ends : (worker : ℕ) (at : LegAt) (a : Answer) → calling_owner at.leg.state ≡ Some worker → a ≡ Answer.Exit (pos 0) [] []
+    → ending worker at a ≡ Ok (ended_step (Outcome.Success, Outcome.Success) a)
 bare_ends worker at a in_call is =
-    subst (λ (b : Answer). ending worker at b ≡ Ok (ended_step (outcome.Success, outcome.Success) b)) (sym is)
-    (ap (ending_by worker at (answer.Exit (pos 0) [] [])) in_call
-    ∙ ap (λ (same : Bool). if not same then Err fault.OtherWorker else Ok (ended_step (outcome.Success, outcome.Success) (answer.Exit (pos 0) [] []))) (is_itself worker))
+    subst (λ (b : Answer). ending worker at b ≡ Ok (ended_step (Outcome.Success, Outcome.Success) b)) (sym is)
+    (ap (ending_by worker at (Answer.Exit (pos 0) [] [])) in_call
+    ∙ ap (λ (same : Bool). if not same then Err EventFault.OtherWorker else Ok (ended_step (Outcome.Success, Outcome.Success) (Answer.Exit (pos 0) [] []))) (is_itself worker))
 
 -- What is refused is refused without a reply.
 pub refused_unasked : (x : Result Beginning EventFault) (f : EventFault) → Refuses x f → Refuses (begins_by x) f
-refused_unasked x fault.Memory h = tt
+refused_unasked x EventFault.Memory h = tt
 refused_unasked x f h = ap begins_by h
 
 -- the board after a step of a leg was begun by its worker
 abbrev pub begun_board : Board → ℕ → LegAt → Begins → Board
-begun_board b worker at begins.Calls = leg_state_set b at.place (leg_state.Running worker true)
-begun_board b worker at begins.Skips = step_done b at.place worker skipped_step
-begun_board b worker at begins.Faults = step_done b at.place worker (failed_step at)
+begun_board b worker at Begins.Calls = leg_state_set b at.place (LegState.Running worker true)
+begun_board b worker at Begins.Skips = step_done b at.place worker skipped_step
+begun_board b worker at Begins.Faults = step_done b at.place worker (failed_step at)
 
 -- the board after a step was begun, if it was
 abbrev begun : Board → ℕ → LegAt → Result Begins EventFault → Option Board

@@ -1,25 +1,21 @@
 -- How an answer of a board stands to the row of the table.
 use Rattle.std.specs.Prelude.{◌≡◌, Result, Ok, Err}
-use Rattle.flow_model.specs.declared.plan.Plan.{Plan}
-use Rattle.flow_model.specs.declared.board.Board.{Board}
-use Rattle.flow_model.specs.declared.event.Entry.{Entry}
-use Rattle.flow_model.specs.declared.reply.Reply.{Reply}
+use Rattle.plan_values.specs.Words.{Board, Entry, Plan, Reply}
 use Rattle.status_table.specs.declared.fault.EventFault.{EventFault}
-use Rattle.status_table.specs.declared.fault.EventFault.TheVariants as fault
 use Rattle.status_table.specs.Row.{Row, row}
 
 -- A refusal is the row's; memory may run out besides.
 abbrev pub Refuses : {T : Type 0} → Result T EventFault → EventFault → Type 0
-Refuses r fault.Memory = Unit {0}
-Refuses r fault.NoSuch = r ≡ Err fault.NoSuch
-Refuses r fault.WrongState = r ≡ Err fault.WrongState
-Refuses r fault.OtherWorker = r ≡ Err fault.OtherWorker
-Refuses r fault.NeedsOpen = r ≡ Err fault.NeedsOpen
-Refuses r fault.SlotsFull = r ≡ Err fault.SlotsFull
-Refuses r fault.Stopping = r ≡ Err fault.Stopping
-Refuses r fault.NotStopping = r ≡ Err fault.NotStopping
-Refuses r fault.StepsLeft = r ≡ Err fault.StepsLeft
-Refuses r fault.BadAnswer = r ≡ Err fault.BadAnswer
+Refuses r EventFault.Memory = Unit {0}
+Refuses r EventFault.NoSuch = r ≡ Err EventFault.NoSuch
+Refuses r EventFault.WrongState = r ≡ Err EventFault.WrongState
+Refuses r EventFault.OtherWorker = r ≡ Err EventFault.OtherWorker
+Refuses r EventFault.NeedsOpen = r ≡ Err EventFault.NeedsOpen
+Refuses r EventFault.SlotsFull = r ≡ Err EventFault.SlotsFull
+Refuses r EventFault.Stopping = r ≡ Err EventFault.Stopping
+Refuses r EventFault.NotStopping = r ≡ Err EventFault.NotStopping
+Refuses r EventFault.StepsLeft = r ≡ Err EventFault.StepsLeft
+Refuses r EventFault.BadAnswer = r ≡ Err EventFault.BadAnswer
 
 -- A decision is made as it is defined, or refused as it is; memory may run out besides.
 abbrev pub Decides : {T : Type 0} → Result T EventFault → Result T EventFault → Type 0

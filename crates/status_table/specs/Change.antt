@@ -1,12 +1,9 @@
 -- One change of a board: at a run, at a job of a run, or at a leg of a job, by its place or its number.
 use Rattle.std.specs.Prelude.{ℕ, List, Option, Some, None, slice_get, slice_set}
+use Rattle.plan_values.specs.Words.{Board, Job, Leg, Run}
 use Rattle.board_decisions.specs.Place.{leg_place}
 use Rattle.board_decisions.specs.declared.place.JobPlace.{JobPlace}
 use Rattle.board_decisions.specs.declared.place.LegPlace.{LegPlace}
-use Rattle.flow_model.specs.declared.board.Board.{Board}
-use Rattle.flow_model.specs.declared.board.Run.{Run}
-use Rattle.flow_model.specs.declared.board.Job.{Job}
-use Rattle.flow_model.specs.declared.board.Leg.{Leg}
 
 -- the list with the item at a place put in, where there is one
 abbrev pub put : {T : Type 0} → List T → ℕ → (T → T) → Option T → List T

@@ -1,9 +1,7 @@
 -- The order in which legs ended.
 use Rattle.std.specs.Prelude.{◌≡◌, ℕ, ◌==◌, Option, Some, None, slice_get, count_by, if◌then◌else◌}
+use Rattle.plan_values.specs.Words.{Board, Leg, board_legs}
 use Rattle.board_decisions.specs.Derived.{is_ended}
-use Rattle.flow_model.specs.declared.board.Board.{Board}
-use Rattle.flow_model.specs.declared.board.Leg.{Leg}
-use Rattle.flow_model.specs.Numbers.{board_legs}
 
 -- how often the number of a leg stands among the ends: once
 -- where there is such a leg and it is Ended, and else not

@@ -3,21 +3,8 @@
 -- of leaving it. Nothing of this is kept beside the board: it is looked for.
 use Rattle.std.specs.Prelude.{ℕ, suc, ◌==◌, ◌++◌, Bool, true, false, List, [], ◌∷◌, Option, Some, None, if◌then◌else◌}
 use Rattle.std.specs.Str.{bytes_eq}
+use Rattle.plan_values.specs.Words.{Board, Leg, LegState, Member, Outcome, Reply, Run, RunState, What, board_legs}
 use Rattle.board_decisions.specs.declared.entrance.Entrance.{Entrance}
-use Rattle.flow_model.specs.Numbers.{board_legs}
-use Rattle.flow_model.specs.declared.board.Board.{Board}
-use Rattle.flow_model.specs.declared.board.Run.{Run}
-use Rattle.flow_model.specs.declared.board.RunState.{RunState}
-use Rattle.flow_model.specs.declared.board.RunState.TheVariants as run_state
-use Rattle.flow_model.specs.declared.board.Leg.{Leg}
-use Rattle.flow_model.specs.declared.board.LegState.{LegState}
-use Rattle.flow_model.specs.declared.board.LegState.TheVariants as leg_state
-use Rattle.flow_model.specs.declared.event.Member.{Member}
-use Rattle.flow_model.specs.declared.event.Member.TheVariants as member
-use Rattle.flow_model.specs.declared.event.Outcome.{Outcome}
-use Rattle.flow_model.specs.declared.event.Outcome.TheVariants as outcome
-use Rattle.flow_model.specs.declared.reply.Reply.{Reply}
-use Rattle.flow_model.specs.declared.reply.What.TheVariants as what
 use Rattle.status_table.specs.Change.{with_run, with_numbered_leg}
 
 -- ---- how a member stands to its group
@@ -30,18 +17,18 @@ pub data Standing : Type 0 where
 
 -- a run holds while it is Going
 abbrev pub run_stands : RunState → Option (List ℕ) → Standing
-run_stands run_state.New name = apart
-run_stands run_state.Waiting name = waiting name
-run_stands run_state.Going name = holding name
-run_stands (run_state.Closed result) name = apart
+run_stands RunState.New name = apart
+run_stands RunState.Waiting name = waiting name
+run_stands RunState.Going name = holding name
+run_stands (RunState.Closed result) name = apart
 
 -- a leg holds while it is Admitted or Running
 abbrev pub leg_stands : LegState → Option (List ℕ) → Standing
-leg_stands leg_state.Fresh name = apart
-leg_stands leg_state.Waiting name = waiting name
-leg_stands leg_state.Admitted name = holding name
-leg_stands (leg_state.Running worker in_call) name = holding name
-leg_stands (leg_state.Ended result tolerated) name = apart
+leg_stands LegState.Fresh name = apart
+leg_stands LegState.Waiting name = waiting name
+leg_stands LegState.Admitted name = holding name
+leg_stands (LegState.Running worker in_call) name = holding name
+leg_stands (LegState.Ended result tolerated) name = apart
 
 -- how a run stands
 abbrev pub run_standing : Run → Standing
@@ -77,8 +64,8 @@ first_place k test (x ∷ xs) = if test x then Some k else first_place (suc k) t
 
 -- the run with a number, else the leg with one
 abbrev pub run_or_leg : Option ℕ → Option ℕ → Option Member
-run_or_leg (Some r) leg = Some (member.Run r)
-run_or_leg None (Some l) = Some (member.Leg l)
+run_or_leg (Some r) leg = Some (Member.Run r)
+run_or_leg None (Some l) = Some (Member.Leg l)
 run_or_leg None None = None
 
 -- The first of the runs, and else of all legs in the order of their numbers, that stands as a test says.
@@ -104,37 +91,37 @@ waiter_of b (Some name) = waiter b name
 
 -- the run has ended
 abbrev pub closed : Board → ℕ → Outcome → Board
-closed b r result = with_run b r (λ run. record run { state = run_state.Closed result })
+closed b r result = with_run b r (λ run. record run { state = RunState.Closed result })
 
 -- the leg has ended without a worker, last of all
 abbrev pub dropped : Board → ℕ → Outcome → Board
 dropped b l result =
-    record (with_numbered_leg b l (λ leg. record leg { state = leg_state.Ended result false }))
+    record (with_numbered_leg b l (λ leg. record leg { state = LegState.Ended result false }))
     { ends = b.ends ++ l ∷ [] }
 
 -- the member is Going or Admitted, in the group with a name or in none
 abbrev pub admitted : Board → Option (List ℕ) → Member → Board
-admitted b name (member.Run r) = with_run b r (λ run. record run { state = run_state.Going; group = name })
-admitted b name (member.Leg l) =
-    with_numbered_leg b l (λ leg. record leg { state = leg_state.Admitted; group = name })
+admitted b name (Member.Run r) = with_run b r (λ run. record run { state = RunState.Going; group = name })
+admitted b name (Member.Leg l) =
+    with_numbered_leg b l (λ leg. record leg { state = LegState.Admitted; group = name })
 
 -- the member waits for a name
 abbrev pub waits : Board → List ℕ → Member → Board
-waits b name (member.Run r) =
-    with_run b r (λ run. record run { state = run_state.Waiting; group = Some name })
-waits b name (member.Leg l) =
-    with_numbered_leg b l (λ leg. record leg { state = leg_state.Waiting; group = Some name })
+waits b name (Member.Run r) =
+    with_run b r (λ run. record run { state = RunState.Waiting; group = Some name })
+waits b name (Member.Leg l) =
+    with_numbered_leg b l (λ leg. record leg { state = LegState.Waiting; group = Some name })
 
 -- who waited is Going or Admitted, whether or not it is to stop; it has its group's name already
 abbrev pub passed_on : Board → Option Member → Board
 passed_on b None = b
-passed_on b (Some (member.Run r)) = with_run b r (λ run. record run { state = run_state.Going })
-passed_on b (Some (member.Leg l)) = with_numbered_leg b l (λ leg. record leg { state = leg_state.Admitted })
+passed_on b (Some (Member.Run r)) = with_run b r (λ run. record run { state = RunState.Going })
+passed_on b (Some (Member.Leg l)) = with_numbered_leg b l (λ leg. record leg { state = LegState.Admitted })
 
 -- the member has ended cancelled
 abbrev pub cancelled : Board → Member → Board
-cancelled b (member.Run r) = closed b r outcome.Cancelled
-cancelled b (member.Leg l) = dropped b l outcome.Cancelled
+cancelled b (Member.Run r) = closed b r Outcome.Cancelled
+cancelled b (Member.Leg l) = dropped b l Outcome.Cancelled
 
 -- who waited, if somebody did, has lost its place
 abbrev pub displaced : Board → Option Member → Board
@@ -144,8 +131,8 @@ displaced b (Some waited) = cancelled b waited
 -- the member is told to stop, where that is wanted
 abbrev pub stopped : Board → Bool → Member → Board
 stopped b false m = b
-stopped b true (member.Run r) = with_run b r (λ run. record run { stop = true })
-stopped b true (member.Leg l) = with_numbered_leg b l (λ leg. record leg { stop = true })
+stopped b true (Member.Run r) = with_run b r (λ run. record run { stop = true })
+stopped b true (Member.Leg l) = with_numbered_leg b l (λ leg. record leg { stop = true })
 
 -- ---- entering and leaving. Neither is ever refused: each gives a board and a reply.
 
@@ -155,7 +142,7 @@ Done = Board × Reply
 
 -- a reply that tells who was admitted, who lost its place, and who is told to stop
 abbrev pub told : Option Member → Option Member → Option Member → Reply
-told new lost stop = record { what = what.Moved; admitted = new; displaced = lost; stopped = stop }
+told new lost stop = record { what = What.Moved; admitted = new; displaced = lost; stopped = stop }
 
 -- a reply that tells of nobody
 abbrev pub moved : Reply
@@ -164,8 +151,8 @@ moved = told None None None
 -- whether a holder is the run that the asker is a leg of; a run is no leg
 abbrev pub is_own : Option ℕ → Member → Bool
 is_own None holder = false
-is_own (Some r) (member.Run s) = r == s
-is_own (Some r) (member.Leg l) = false
+is_own (Some r) (Member.Run s) = r == s
+is_own (Some r) (Member.Leg l) = false
 
 -- the holder, where it is told to stop
 abbrev pub stop_told : Bool → Member → Option Member

@@ -1,7 +1,5 @@
 -- What is true of each plan in play.
-use Rattle.flow_model.specs.Rules.{IsPlan}
-use Rattle.flow_model.specs.declared.plan.Plan.{Plan}
-use Rattle.flow_model.specs.declared.board.Board.{Board}
+use Rattle.plan_values.specs.Words.{Board, IsPlan, Plan}
 use Rattle.status_table.specs.Ends.{EndOnce}
 use Rattle.status_table.specs.Lawful.{Lawful}
 use Rattle.status_table.specs.Shape.{HasShape}

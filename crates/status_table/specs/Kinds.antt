@@ -1,18 +1,16 @@
 -- The events of a clerk by their kinds.
 use Rattle.std.specs.Prelude.{ℕ, List, map}
-use Rattle.flow_model.specs.declared.event.Event.{Event}
-use Rattle.flow_model.specs.declared.event.Event.TheVariants as event
+use Rattle.plan_values.specs.Words.{Event}
 use Rattle.board_decisions.specs.Places.{numbers}
 use Rattle.status_table.specs.declared.moves.MoveKind.{MoveKind}
-use Rattle.status_table.specs.declared.moves.MoveKind.TheVariants as kind
 
 -- the event of a kind, of a run, a job or a leg with a number
 abbrev pub event_of : MoveKind → ℕ → Event
-event_of kind.Close n = event.Close n
-event_of kind.Open n = event.Open n
-event_of kind.Judge n = event.Judge n
-event_of kind.Drop n = event.Drop n
-event_of kind.Ask n = event.Ask n
+event_of MoveKind.Close n = Event.Close n
+event_of MoveKind.Open n = Event.Open n
+event_of MoveKind.Judge n = Event.Judge n
+event_of MoveKind.Drop n = Event.Drop n
+event_of MoveKind.Ask n = Event.Ask n
 
 -- those of each number below n
 abbrev pub events_of : MoveKind → ℕ → List Event

@@ -1,17 +1,9 @@
 -- What holds of each board that a legal list of entries leads to.
 use Rattle.std.specs.Prelude.{◌≡◌, ℕ, ◌≤◌, ◌&&◌, ◌||◌, Bool, true, not, List, length, Option, Some, None, count_by}
 use Rattle.std.specs.List.{list_all, AllZip}
+use Rattle.plan_values.specs.Words.{Board, Job, JobPlan, JobState, Leg, Plan, Run, RunPlan, RunState}
 use Rattle.board_decisions.specs.Derived.{is_going, is_open, is_fresh, is_under_way, needs_have_ended}
 use Rattle.board_decisions.specs.Place.{JobAt, job_at}
-use Rattle.flow_model.specs.declared.plan.Plan.{Plan}
-use Rattle.flow_model.specs.declared.plan.RunPlan.{RunPlan}
-use Rattle.flow_model.specs.declared.plan.JobPlan.{JobPlan}
-use Rattle.flow_model.specs.declared.board.Board.{Board}
-use Rattle.flow_model.specs.declared.board.Run.{Run}
-use Rattle.flow_model.specs.declared.board.RunState.{RunState}
-use Rattle.flow_model.specs.declared.board.Job.{Job}
-use Rattle.flow_model.specs.declared.board.JobState.{JobState}
-use Rattle.flow_model.specs.declared.board.Leg.{Leg}
 use Rattle.status_table.specs.Members.{OneHolder, is_waiting, share_name}
 use Rattle.status_table.specs.Row.{first_of}
 

@@ -19,3 +19,4 @@ pub mod Seen
 pub mod Shape
 pub mod Stays
 pub mod Unasked
+pub mod Words

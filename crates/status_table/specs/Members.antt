@@ -1,9 +1,6 @@
 -- How the members of groups stand to one another on a board in play.
 use Rattle.std.specs.Prelude.{ℕ, ◌+◌, ◌≤◌, Bool, true, false, List, Option, Some, None, count_by}
-use Rattle.flow_model.specs.Numbers.{board_legs}
-use Rattle.flow_model.specs.declared.board.Board.{Board}
-use Rattle.flow_model.specs.declared.board.LegState.{LegState}
-use Rattle.flow_model.specs.declared.board.LegState.TheVariants as leg_state
+use Rattle.plan_values.specs.Words.{Board, LegState, board_legs}
 use Rattle.status_table.specs.Groups.{Standing, run_standing, leg_standing, holds_name, waits_name, is_named}
 
 -- how many runs and legs stand as a test says
@@ -28,11 +25,11 @@ pub record OneHolder (b : Board) : Type 0 where
 
 -- a leg that waits for a group
 abbrev pub is_waiting : LegState → Bool
-is_waiting leg_state.Fresh = false
-is_waiting leg_state.Waiting = true
-is_waiting leg_state.Admitted = false
-is_waiting (leg_state.Running worker in_call) = false
-is_waiting (leg_state.Ended result tolerated) = false
+is_waiting LegState.Fresh = false
+is_waiting LegState.Waiting = true
+is_waiting LegState.Admitted = false
+is_waiting (LegState.Running worker in_call) = false
+is_waiting (LegState.Ended result tolerated) = false
 
 -- whether two groups have one name
 abbrev pub share_name : Option (List ℕ) → Option (List ℕ) → Bool

@@ -1,23 +1,17 @@
 -- What a clerk may do on a board, whether all is done, and whether nothing can go on.
 use Rattle.std.specs.Prelude.{◌&&◌, ◌++◌, Bool, true, false, not, List, [], ◌∷◌, length, map, filter, slice_get, Option, Ok, Err}
 use Rattle.std.specs.List.{list_all, list_any}
+use Rattle.plan_values.specs.Words.{Board, Event, LegState, Plan, board_jobs, board_legs}
 use Rattle.board_decisions.specs.Derived.{is_closed}
 use Rattle.board_decisions.specs.Places.{numbers}
-use Rattle.flow_model.specs.Numbers.{board_jobs, board_legs}
-use Rattle.flow_model.specs.declared.plan.Plan.{Plan}
-use Rattle.flow_model.specs.declared.board.Board.{Board}
-use Rattle.flow_model.specs.declared.board.LegState.{LegState}
-use Rattle.flow_model.specs.declared.board.LegState.TheVariants as leg_state
-use Rattle.flow_model.specs.declared.event.Event.{Event}
-use Rattle.flow_model.specs.declared.event.Event.TheVariants as event
 use Rattle.status_table.specs.Row.{Row, row}
 
 -- The events that a clerk may report: Close, Open, Judge, Drop and Ask, in this order, each of every number.
 abbrev pub clerk_events : Board → List Event
 clerk_events b =
-    map event.Close (numbers (length b.runs)) ++ (map event.Open (numbers (length b.runs))
-    ++ (map event.Judge (numbers (length (board_jobs b)))
-    ++ (map event.Drop (numbers (length (board_legs b))) ++ map event.Ask (numbers (length (board_legs b))))))
+    map Event.Close (numbers (length b.runs)) ++ (map Event.Open (numbers (length b.runs))
+    ++ (map Event.Judge (numbers (length (board_jobs b)))
+    ++ (map Event.Drop (numbers (length (board_legs b))) ++ map Event.Ask (numbers (length (board_legs b))))))
 
 -- whether a row is no refusal
 abbrev pub is_accepted : Row → Bool
@@ -42,11 +36,11 @@ finished b = list_all (λ run. is_closed run.state) b.runs
 
 -- a leg that has a worker, or may be taken by one
 abbrev pub is_active : LegState → Bool
-is_active leg_state.Fresh = false
-is_active leg_state.Waiting = false
-is_active leg_state.Admitted = true
-is_active (leg_state.Running worker in_call) = true
-is_active (leg_state.Ended result tolerated) = false
+is_active LegState.Fresh = false
+is_active LegState.Waiting = false
+is_active LegState.Admitted = true
+is_active (LegState.Running worker in_call) = true
+is_active (LegState.Ended result tolerated) = false
 
 -- whether there is none
 abbrev pub is_none_left : List Event → Bool

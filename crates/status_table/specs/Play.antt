@@ -1,6 +1,5 @@
 -- A plan in play.
-use Rattle.flow_model.specs.declared.plan.Plan.{Plan}
-use Rattle.flow_model.specs.declared.board.Board.{Board}
+use Rattle.plan_values.specs.Words.{Board, Plan}
 
 -- a plan, and how far it is
 pub record Play : Type 0 where

@@ -1,6 +1,6 @@
 -- Answers that come with what takes them back.
 use Rattle.std.specs.Prelude.{Result, Ok, Err}
-use Rattle.flow_model.specs.declared.reply.Reply.{Reply}
+use Rattle.plan_values.specs.Words.{Reply}
 use Rattle.status_table.specs.declared.fault.EventFault.{EventFault}
 
 -- the answer without its undo

@@ -1,37 +1,13 @@
 -- The table: what each event does to a board, and when it is refused.
 use Rattle.std.specs.Prelude.{ℕ, pos, negsuc, zero, suc, ◌-◌, ◌==◌, ◌++◌, ◌&&◌, ◌||◌, Bool, true, false, not, List, [], ◌∷◌, length, nat_le, nat_lt, Option, Some, None, Result, Ok, Err, slice_get, if◌then◌else◌}
+use Rattle.plan_values.specs.Words.{Answer, Board, DoneStep, Event, JobState, LegState, Member, Outcome, Plan, Reply, Run, RunState, StepCall, StepPlan, ValueFault, What, is_well_formed}
 use Rattle.board_decisions.specs.declared.entrance.Entrance.{Entrance}
 use Rattle.board_decisions.specs.declared.place.JobPlace.{JobPlace}
 use Rattle.board_decisions.specs.declared.place.LegPlace.{LegPlace}
 use Rattle.board_decisions.specs.Decisions.{job_condition, is_stopping, leg_result, step_decision, step_tolerates, job_tolerates, leg_outputs, run_entrance, leg_entrance}
 use Rattle.board_decisions.specs.Derived.{is_going, is_closed, is_open, is_fresh, is_untaken, job_status, is_full, needs_have_ended, jobs_have_ended, run_result, is_failure}
 use Rattle.board_decisions.specs.Place.{RunAt, JobAt, LegAt, run_at, job_at, leg_at}
-use Rattle.flow_model.specs.Answer.{is_well_formed}
-use Rattle.flow_model.specs.declared.plan.Plan.{Plan}
-use Rattle.flow_model.specs.declared.plan.StepPlan.{StepPlan}
-use Rattle.flow_model.specs.declared.board.Board.{Board}
-use Rattle.flow_model.specs.declared.board.Run.{Run}
-use Rattle.flow_model.specs.declared.board.RunState.{RunState}
-use Rattle.flow_model.specs.declared.board.RunState.TheVariants as run_state
-use Rattle.flow_model.specs.declared.board.JobState.{JobState}
-use Rattle.flow_model.specs.declared.board.JobState.TheVariants as job_state
-use Rattle.flow_model.specs.declared.board.LegState.{LegState}
-use Rattle.flow_model.specs.declared.board.LegState.TheVariants as leg_state
-use Rattle.flow_model.specs.declared.board.DoneStep.{DoneStep}
-use Rattle.flow_model.specs.declared.event.Answer.{Answer}
-use Rattle.flow_model.specs.declared.event.Answer.TheVariants as answer
-use Rattle.flow_model.specs.declared.event.Event.{Event}
-use Rattle.flow_model.specs.declared.event.Event.TheVariants as event
-use Rattle.flow_model.specs.declared.event.Member.TheVariants as member
-use Rattle.flow_model.specs.declared.event.Outcome.{Outcome}
-use Rattle.flow_model.specs.declared.event.Outcome.TheVariants as outcome
-use Rattle.flow_model.specs.declared.reply.Reply.{Reply}
-use Rattle.flow_model.specs.declared.reply.StepCall.{StepCall}
-use Rattle.flow_model.specs.declared.reply.ValueFault.{ValueFault}
-use Rattle.flow_model.specs.declared.reply.What.{What}
-use Rattle.flow_model.specs.declared.reply.What.TheVariants as what
 use Rattle.status_table.specs.declared.fault.EventFault.{EventFault}
-use Rattle.status_table.specs.declared.fault.EventFault.TheVariants as fault
 use Rattle.status_table.specs.Change.{with_job, with_leg}
 use Rattle.status_table.specs.Groups.{run_standing, leg_standing, closed, dropped, stopped, moved, enters, leaves}
 
@@ -57,26 +33,26 @@ leg_state_set b place state = with_leg b place (λ leg. record leg { state = sta
 abbrev pub step_done : Board → LegPlace → ℕ → DoneStep → Board
 step_done b place worker done =
     with_leg b place (λ leg.
-    record leg { state = leg_state.Running worker false; steps = leg.steps ++ done ∷ [] })
+    record leg { state = LegState.Running worker false; steps = leg.steps ++ done ∷ [] })
 
 -- ---- Open: a run that is New, and was not told to stop, enters its workflow's group
 
 -- what comes of a run that enters; a fault of the group's text ends it
 abbrev pub run_enters : Board → ℕ → Result (Option Entrance) ValueFault → Row
-run_enters b r (Ok group) = Ok (enters b (member.Run r) None group)
-run_enters b r (Err f) = Ok (closed b r outcome.Failure, moved)
+run_enters b r (Ok group) = Ok (enters b (Member.Run r) None group)
+run_enters b r (Err f) = Ok (closed b r Outcome.Failure, moved)
 
 -- what comes of opening a run, by its state and whether it was told to stop
 abbrev pub open_run : Board → ℕ → RunAt → RunState → Bool → Row
-open_run b r at run_state.New false = run_enters b r (run_entrance at)
-open_run b r at run_state.New true = Err fault.Stopping
-open_run b r at run_state.Waiting stop = Err fault.WrongState
-open_run b r at run_state.Going stop = Err fault.WrongState
-open_run b r at (run_state.Closed result) stop = Err fault.WrongState
+open_run b r at RunState.New false = run_enters b r (run_entrance at)
+open_run b r at RunState.New true = Err EventFault.Stopping
+open_run b r at RunState.Waiting stop = Err EventFault.WrongState
+open_run b r at RunState.Going stop = Err EventFault.WrongState
+open_run b r at (RunState.Closed result) stop = Err EventFault.WrongState
 
 -- what comes of opening a run, where there is one
 abbrev pub open_found : Board → ℕ → Option RunAt → Row
-open_found b r None = Err fault.NoSuch
+open_found b r None = Err EventFault.NoSuch
 open_found b r (Some at) = open_run b r at at.run.state at.run.stop
 
 -- the row of Open, for the run with a number
@@ -87,14 +63,14 @@ open_row p b r = open_found b r (run_at p b r)
 
 -- what a job is shut with where its condition is not true
 abbrev pub shut_result : Bool → Outcome
-shut_result true = outcome.Cancelled
-shut_result false = outcome.Skipped
+shut_result true = Outcome.Cancelled
+shut_result false = Outcome.Skipped
 
 -- the state of a job whose run was told to stop or not, by the value of its condition
 abbrev pub judged_state : Bool → Result Bool ValueFault → JobState
-judged_state stop (Ok true) = job_state.Open
-judged_state stop (Ok false) = job_state.Shut (shut_result stop)
-judged_state stop (Err f) = job_state.Shut outcome.Failure
+judged_state stop (Ok true) = JobState.Open
+judged_state stop (Ok false) = JobState.Shut (shut_result stop)
+judged_state stop (Err f) = JobState.Shut Outcome.Failure
 
 -- the number of the first job of the run that a job is in
 abbrev pub first_of : ℕ → JobAt → ℕ
@@ -105,16 +81,16 @@ abbrev pub judgement_ready : ℕ → JobAt → Result JobState EventFault
 judgement_ready j at =
     if needs_have_ended (first_of j at) at.run at.plan
     then Ok (judged_state at.run.stop (job_condition at (job_status (first_of j at) at)))
-    else Err fault.NeedsOpen
+    else Err EventFault.NeedsOpen
 
 -- the state into which a job is judged, where the run is Going and the job is Unjudged
 abbrev pub judgement_by : ℕ → JobAt → RunState → JobState → Result JobState EventFault
-judgement_by j at run_state.Going job_state.Unjudged = judgement_ready j at
-judgement_by j at run_state.Going job_state.Open = Err fault.WrongState
-judgement_by j at run_state.Going (job_state.Shut result) = Err fault.WrongState
-judgement_by j at run_state.New state = Err fault.WrongState
-judgement_by j at run_state.Waiting state = Err fault.WrongState
-judgement_by j at (run_state.Closed result) state = Err fault.WrongState
+judgement_by j at RunState.Going JobState.Unjudged = judgement_ready j at
+judgement_by j at RunState.Going JobState.Open = Err EventFault.WrongState
+judgement_by j at RunState.Going (JobState.Shut result) = Err EventFault.WrongState
+judgement_by j at RunState.New state = Err EventFault.WrongState
+judgement_by j at RunState.Waiting state = Err EventFault.WrongState
+judgement_by j at (RunState.Closed result) state = Err EventFault.WrongState
 
 -- the state into which a job is judged, or why it is not, by the states that it and its run are in
 abbrev pub judgement : ℕ → JobAt → Result JobState EventFault
@@ -127,7 +103,7 @@ judge_job b place (Err f) = Err f
 
 -- what comes of judging a job, where there is one
 abbrev pub judge_found : Board → ℕ → Option JobAt → Row
-judge_found b j None = Err fault.NoSuch
+judge_found b j None = Err EventFault.NoSuch
 judge_found b j (Some at) = judge_job b at.place (judgement j at)
 
 -- the row of Judge, for the job with a number
@@ -142,19 +118,19 @@ may_ask at = is_going at.run.state && is_open at.job.state && is_fresh at.leg.st
 
 -- what comes of a leg that enters; a fault of the group's text ends it with a failure that is not tolerated
 abbrev pub leg_enters : Board → ℕ → LegAt → Result (Option Entrance) ValueFault → Row
-leg_enters b l at (Ok group) = Ok (enters b (member.Leg l) (Some at.place.run) group)
-leg_enters b l at (Err f) = Ok (dropped b l outcome.Failure, moved)
+leg_enters b l at (Ok group) = Ok (enters b (Member.Leg l) (Some at.place.run) group)
+leg_enters b l at (Err f) = Ok (dropped b l Outcome.Failure, moved)
 
 -- what comes of a leg that asks
 abbrev pub ask_leg : Board → ℕ → LegAt → Row
 ask_leg b l at =
-    if not (may_ask at) then Err fault.WrongState
-    else (if is_full at.job_plan at.job then Err fault.SlotsFull
-    else (if is_stopping at then Err fault.Stopping else leg_enters b l at (leg_entrance at)))
+    if not (may_ask at) then Err EventFault.WrongState
+    else (if is_full at.job_plan at.job then Err EventFault.SlotsFull
+    else (if is_stopping at then Err EventFault.Stopping else leg_enters b l at (leg_entrance at)))
 
 -- what comes of a leg that asks, where there is one
 abbrev pub ask_found : Board → ℕ → Option LegAt → Row
-ask_found b l None = Err fault.NoSuch
+ask_found b l None = Err EventFault.NoSuch
 ask_found b l (Some at) = ask_leg b l at
 
 -- the row of Ask, for the leg with a number
@@ -170,13 +146,13 @@ may_drop at = is_going at.run.state && is_open at.job.state && is_untaken at.leg
 -- what comes of dropping a leg
 abbrev pub drop_leg : Board → ℕ → LegAt → Row
 drop_leg b l at =
-    if not (may_drop at) then Err fault.WrongState
-    else (if is_stopping at then Ok (leaves b (leg_standing at.leg) (dropped b l outcome.Cancelled))
-    else Err fault.NotStopping)
+    if not (may_drop at) then Err EventFault.WrongState
+    else (if is_stopping at then Ok (leaves b (leg_standing at.leg) (dropped b l Outcome.Cancelled))
+    else Err EventFault.NotStopping)
 
 -- what comes of dropping a leg, where there is one
 abbrev pub drop_found : Board → ℕ → Option LegAt → Row
-drop_found b l None = Err fault.NoSuch
+drop_found b l None = Err EventFault.NoSuch
 drop_found b l (Some at) = drop_leg b l at
 
 -- the row of Drop, for the leg with a number
@@ -187,17 +163,17 @@ drop_row p b l = drop_found b l (leg_at p b l)
 
 -- what comes of taking a leg, by its state
 abbrev pub take_leg : Board → ℕ → LegAt → LegState → Row
-take_leg b worker at leg_state.Fresh = Err fault.WrongState
-take_leg b worker at leg_state.Waiting = Err fault.WrongState
-take_leg b worker at leg_state.Admitted =
-    if is_stopping at then Err fault.Stopping
-    else Ok (leg_state_set b at.place (leg_state.Running worker false), moved)
-take_leg b worker at (leg_state.Running other in_call) = Err fault.WrongState
-take_leg b worker at (leg_state.Ended result tolerated) = Err fault.WrongState
+take_leg b worker at LegState.Fresh = Err EventFault.WrongState
+take_leg b worker at LegState.Waiting = Err EventFault.WrongState
+take_leg b worker at LegState.Admitted =
+    if is_stopping at then Err EventFault.Stopping
+    else Ok (leg_state_set b at.place (LegState.Running worker false), moved)
+take_leg b worker at (LegState.Running other in_call) = Err EventFault.WrongState
+take_leg b worker at (LegState.Ended result tolerated) = Err EventFault.WrongState
 
 -- what comes of taking a leg, where there is one
 abbrev pub take_found : Board → ℕ → Option LegAt → Row
-take_found b worker None = Err fault.NoSuch
+take_found b worker None = Err EventFault.NoSuch
 take_found b worker (Some at) = take_leg b worker at at.leg.state
 
 -- the row of Take, for the leg with a number
@@ -208,12 +184,12 @@ take_row p b worker l = take_found b worker (leg_at p b l)
 
 -- the worker of a leg that is running and idle
 abbrev pub idle_owner : LegState → Option ℕ
-idle_owner leg_state.Fresh = None
-idle_owner leg_state.Waiting = None
-idle_owner leg_state.Admitted = None
-idle_owner (leg_state.Running owner true) = None
-idle_owner (leg_state.Running owner false) = Some owner
-idle_owner (leg_state.Ended result tolerated) = None
+idle_owner LegState.Fresh = None
+idle_owner LegState.Waiting = None
+idle_owner LegState.Admitted = None
+idle_owner (LegState.Running owner true) = None
+idle_owner (LegState.Running owner false) = Some owner
+idle_owner (LegState.Ended result tolerated) = None
 
 -- the next step, if there is one left
 abbrev pub next_step : LegAt → Option StepPlan
@@ -234,10 +210,10 @@ decided (Err f) = faults f
 
 -- what beginning a step comes to, or why it is not begun, by the worker of the leg and the step
 abbrev pub beginning_by : ℕ → ℕ → LegAt → Option ℕ → Option StepPlan → Result Beginning EventFault
-beginning_by worker l at None step = Err fault.WrongState
-beginning_by worker l at (Some owner) None = Err fault.WrongState
+beginning_by worker l at None step = Err EventFault.WrongState
+beginning_by worker l at (Some owner) None = Err EventFault.WrongState
 beginning_by worker l at (Some owner) (Some step) =
-    if worker == owner then Ok (decided (step_decision l at step)) else Err fault.OtherWorker
+    if worker == owner then Ok (decided (step_decision l at step)) else Err EventFault.OtherWorker
 
 -- what beginning the next step of a leg comes to, or why it is not begun
 abbrev pub beginning : ℕ → ℕ → LegAt → Result Beginning EventFault
@@ -245,30 +221,30 @@ beginning worker l at = beginning_by worker l at (idle_owner at.leg.state) (next
 
 -- how a failure counts for a step: one that may be passed over counts as a success
 abbrev pub failure_of : LegAt → Option StepPlan → Outcome
-failure_of at None = outcome.Failure
-failure_of at (Some step) = if step_tolerates at step then outcome.Success else outcome.Failure
+failure_of at None = Outcome.Failure
+failure_of at (Some step) = if step_tolerates at step then Outcome.Success else Outcome.Failure
 
 -- a step that was skipped
 abbrev pub skipped_step : DoneStep
-skipped_step = record { outcome = outcome.Skipped; conclusion = outcome.Skipped; outputs = []; env = [] }
+skipped_step = record { outcome = Outcome.Skipped; conclusion = Outcome.Skipped; outputs = []; env = [] }
 
 -- a step that failed before its call
 abbrev pub failed_step : LegAt → DoneStep
 failed_step at =
-    record { outcome = outcome.Failure; conclusion = failure_of at (next_step at); outputs = []; env = [] }
+    record { outcome = Outcome.Failure; conclusion = failure_of at (next_step at); outputs = []; env = [] }
 
 -- the leg is in a call, or has one more step done
 abbrev pub begin_leg : Board → ℕ → LegAt → Result Beginning EventFault → Row
 begin_leg b worker at (Ok (calls call)) =
-    Ok (leg_state_set b at.place (leg_state.Running worker true), reply (what.Call call))
-begin_leg b worker at (Ok skips) = Ok (step_done b at.place worker skipped_step, reply what.Skipped)
+    Ok (leg_state_set b at.place (LegState.Running worker true), reply (What.Call call))
+begin_leg b worker at (Ok skips) = Ok (step_done b at.place worker skipped_step, reply What.Skipped)
 begin_leg b worker at (Ok (faults f)) =
-    Ok (step_done b at.place worker (failed_step at), reply (what.Faulted f))
+    Ok (step_done b at.place worker (failed_step at), reply (What.Faulted f))
 begin_leg b worker at (Err f) = Err f
 
 -- what comes of beginning a step of a leg, where there is one
 abbrev pub begin_found : Board → ℕ → ℕ → Option LegAt → Row
-begin_found b worker l None = Err fault.NoSuch
+begin_found b worker l None = Err EventFault.NoSuch
 begin_found b worker l (Some at) = begin_leg b worker at (beginning worker l at)
 
 -- the row of Begin, for the leg with a number
@@ -279,39 +255,39 @@ begin_row p b worker l = begin_found b worker l (leg_at p b l)
 
 -- the worker of a leg that is running and in a call
 abbrev pub calling_owner : LegState → Option ℕ
-calling_owner leg_state.Fresh = None
-calling_owner leg_state.Waiting = None
-calling_owner leg_state.Admitted = None
-calling_owner (leg_state.Running owner true) = Some owner
-calling_owner (leg_state.Running owner false) = None
-calling_owner (leg_state.Ended result tolerated) = None
+calling_owner LegState.Fresh = None
+calling_owner LegState.Waiting = None
+calling_owner LegState.Admitted = None
+calling_owner (LegState.Running owner true) = Some owner
+calling_owner (LegState.Running owner false) = None
+calling_owner (LegState.Ended result tolerated) = None
 
 -- success exactly for an exit with code 0
 abbrev pub outcome_of : Answer → Outcome
-outcome_of (answer.Exit (pos zero) outputs env) = outcome.Success
-outcome_of (answer.Exit (pos (suc n)) outputs env) = outcome.Failure
-outcome_of (answer.Exit (negsuc n) outputs env) = outcome.Failure
-outcome_of answer.NotStarted = outcome.Failure
-outcome_of answer.BadOutput = outcome.Failure
+outcome_of (Answer.Exit (pos zero) outputs env) = Outcome.Success
+outcome_of (Answer.Exit (pos (suc n)) outputs env) = Outcome.Failure
+outcome_of (Answer.Exit (negsuc n) outputs env) = Outcome.Failure
+outcome_of Answer.NotStarted = Outcome.Failure
+outcome_of Answer.BadOutput = Outcome.Failure
 
 -- the outputs of an exit are kept, whatever its code
 abbrev pub outputs_of : Answer → List (List ℕ × List ℕ)
-outputs_of (answer.Exit code outputs env) = outputs
-outputs_of answer.NotStarted = []
-outputs_of answer.BadOutput = []
+outputs_of (Answer.Exit code outputs env) = outputs
+outputs_of Answer.NotStarted = []
+outputs_of Answer.BadOutput = []
 
 -- so are the variables that it set
 abbrev pub set_by : Answer → List (List ℕ × List ℕ)
-set_by (answer.Exit code outputs env) = env
-set_by answer.NotStarted = []
-set_by answer.BadOutput = []
+set_by (Answer.Exit code outputs env) = env
+set_by Answer.NotStarted = []
+set_by Answer.BadOutput = []
 
 -- how an outcome counts for a step
 abbrev pub conclusion_of : LegAt → Outcome → Outcome
-conclusion_of at outcome.Success = outcome.Success
-conclusion_of at outcome.Failure = failure_of at (next_step at)
-conclusion_of at outcome.Cancelled = outcome.Cancelled
-conclusion_of at outcome.Skipped = outcome.Skipped
+conclusion_of at Outcome.Success = Outcome.Success
+conclusion_of at Outcome.Failure = failure_of at (next_step at)
+conclusion_of at Outcome.Cancelled = Outcome.Cancelled
+conclusion_of at Outcome.Skipped = Outcome.Skipped
 
 -- the step that an answer ends
 abbrev pub answered_step : LegAt → Answer → DoneStep
@@ -325,10 +301,10 @@ answered_step at a =
 
 -- the step that is done by an answer, or why it is not, by the worker whose call is open
 abbrev pub ending_by : ℕ → LegAt → Answer → Option ℕ → Result DoneStep EventFault
-ending_by worker at a None = Err fault.WrongState
+ending_by worker at a None = Err EventFault.WrongState
 ending_by worker at a (Some owner) =
-    if not (worker == owner) then Err fault.OtherWorker
-    else (if not (is_well_formed a) then Err fault.BadAnswer else Ok (answered_step at a))
+    if not (worker == owner) then Err EventFault.OtherWorker
+    else (if not (is_well_formed a) then Err EventFault.BadAnswer else Ok (answered_step at a))
 
 -- the step that is done by an answer, or why it is not
 abbrev pub ending : ℕ → LegAt → Answer → Result DoneStep EventFault
@@ -341,7 +317,7 @@ end_leg b worker at (Err f) = Err f
 
 -- what comes of ending a step of a leg, where there is one
 abbrev pub end_found : Board → ℕ → Answer → Option LegAt → Row
-end_found b worker a None = Err fault.NoSuch
+end_found b worker a None = Err EventFault.NoSuch
 end_found b worker a (Some at) = end_leg b worker at (ending worker at a)
 
 -- the row of End, for the leg with a number
@@ -352,14 +328,14 @@ end_row p b worker l a = end_found b worker a (leg_at p b l)
 
 -- a failure is tolerated where the job may fail
 abbrev pub ended_state : LegAt → Outcome → LegState
-ended_state at result = leg_state.Ended result (is_failure result && job_tolerates at)
+ended_state at result = LegState.Ended result (is_failure result && job_tolerates at)
 
 -- the state in which a leg ends, or why it does not, by the worker that has it idle
 abbrev pub finishing_by : ℕ → LegAt → Option ℕ → Result LegState EventFault
-finishing_by worker at None = Err fault.WrongState
+finishing_by worker at None = Err EventFault.WrongState
 finishing_by worker at (Some owner) =
-    if not (worker == owner) then Err fault.OtherWorker
-    else (if nat_lt (length at.leg.steps) (length at.job_plan.steps) then Err fault.StepsLeft
+    if not (worker == owner) then Err EventFault.OtherWorker
+    else (if nat_lt (length at.leg.steps) (length at.job_plan.steps) then Err EventFault.StepsLeft
     else Ok (ended_state at (leg_result at)))
 
 -- the state in which a leg ends, or why it does not
@@ -382,7 +358,7 @@ finish_leg b l at (Err f) = Err f
 
 -- what comes of finishing a leg, where there is one
 abbrev pub finish_found : Board → ℕ → ℕ → Option LegAt → Row
-finish_found b worker l None = Err fault.NoSuch
+finish_found b worker l None = Err EventFault.NoSuch
 finish_found b worker l (Some at) = finish_leg b l at (finishing worker at)
 
 -- the row of Finish, for the leg with a number
@@ -397,20 +373,20 @@ run_closes b r run result = Ok (leaves b (run_standing run) (closed b r result))
 
 -- what comes of closing a run that is not Going, by whether it was told to stop
 abbrev pub close_waiting : Board → ℕ → Run → Bool → Row
-close_waiting b r run true = run_closes b r run outcome.Cancelled
-close_waiting b r run false = Err fault.NotStopping
+close_waiting b r run true = run_closes b r run Outcome.Cancelled
+close_waiting b r run false = Err EventFault.NotStopping
 
 -- what comes of closing a run, by its state
 abbrev pub close_run : Board → ℕ → Run → RunState → Row
-close_run b r run run_state.New = close_waiting b r run run.stop
-close_run b r run run_state.Waiting = close_waiting b r run run.stop
-close_run b r run run_state.Going =
-    if jobs_have_ended run then run_closes b r run (run_result run) else Err fault.NeedsOpen
-close_run b r run (run_state.Closed result) = Err fault.WrongState
+close_run b r run RunState.New = close_waiting b r run run.stop
+close_run b r run RunState.Waiting = close_waiting b r run run.stop
+close_run b r run RunState.Going =
+    if jobs_have_ended run then run_closes b r run (run_result run) else Err EventFault.NeedsOpen
+close_run b r run (RunState.Closed result) = Err EventFault.WrongState
 
 -- what comes of closing a run, where there is one
 abbrev pub close_found : Board → ℕ → Option RunAt → Row
-close_found b r None = Err fault.NoSuch
+close_found b r None = Err EventFault.NoSuch
 close_found b r (Some at) = close_run b r at.run at.run.state
 
 -- the row of Close, for the run with a number
@@ -422,12 +398,12 @@ close_row p b r = close_found b r (run_at p b r)
 -- what comes of cancelling a run
 abbrev pub cancel_run : Board → ℕ → Run → Row
 cancel_run b r run =
-    if is_closed run.state || run.stop then Err fault.WrongState
-    else Ok (stopped b true (member.Run r), moved)
+    if is_closed run.state || run.stop then Err EventFault.WrongState
+    else Ok (stopped b true (Member.Run r), moved)
 
 -- what comes of cancelling a run, where there is one
 abbrev pub cancel_found : Board → ℕ → Option RunAt → Row
-cancel_found b r None = Err fault.NoSuch
+cancel_found b r None = Err EventFault.NoSuch
 cancel_found b r (Some at) = cancel_run b r at.run
 
 -- the row of Cancel, for the run with a number
@@ -438,17 +414,17 @@ cancel_row p b r = cancel_found b r (run_at p b r)
 
 -- the row of an event that one of the workers reports
 abbrev pub event_row : Plan → Board → ℕ → Event → Row
-event_row p b worker (event.Open r) = open_row p b r
-event_row p b worker (event.Judge j) = judge_row p b j
-event_row p b worker (event.Ask l) = ask_row p b l
-event_row p b worker (event.Drop l) = drop_row p b l
-event_row p b worker (event.Take l) = take_row p b worker l
-event_row p b worker (event.Begin l) = begin_row p b worker l
-event_row p b worker (event.End l a) = end_row p b worker l a
-event_row p b worker (event.Finish l) = finish_row p b worker l
-event_row p b worker (event.Close r) = close_row p b r
-event_row p b worker (event.Cancel r) = cancel_row p b r
+event_row p b worker (Event.Open r) = open_row p b r
+event_row p b worker (Event.Judge j) = judge_row p b j
+event_row p b worker (Event.Ask l) = ask_row p b l
+event_row p b worker (Event.Drop l) = drop_row p b l
+event_row p b worker (Event.Take l) = take_row p b worker l
+event_row p b worker (Event.Begin l) = begin_row p b worker l
+event_row p b worker (Event.End l a) = end_row p b worker l a
+event_row p b worker (Event.Finish l) = finish_row p b worker l
+event_row p b worker (Event.Close r) = close_row p b r
+event_row p b worker (Event.Cancel r) = cancel_row p b r
 
 -- The row of an event that a worker reports: there are the workers 0 to 15.
 abbrev pub row : Plan → Board → ℕ → Event → Row
-row p b worker e = if nat_le worker 15 then event_row p b worker e else Err fault.NoSuch
+row p b worker e = if nat_le worker 15 then event_row p b worker e else Err EventFault.NoSuch

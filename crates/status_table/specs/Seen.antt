@@ -1,33 +1,22 @@
 -- What values of the code stand for.
 use Rattle.std.specs.Prelude.{◌≡◌, ℕ, Bool, false, List, [], ◌∷◌, ◌++◌, Option, Some, None, Result, Ok, Err}
+use Rattle.plan_values.specs.Words.{Answer, Board, DoneStep, Leg, LegState, Member, Outcome}
 use Rattle.board_decisions.specs.Decisions.{leg_result}
 use Rattle.board_decisions.specs.Place.{LegAt}
-use Rattle.flow_model.specs.declared.board.Board.{Board}
-use Rattle.flow_model.specs.declared.board.DoneStep.{DoneStep}
-use Rattle.flow_model.specs.declared.board.Leg.{Leg}
-use Rattle.flow_model.specs.declared.board.LegState.TheVariants as leg_state
-use Rattle.flow_model.specs.declared.event.Answer.{Answer}
-use Rattle.flow_model.specs.declared.event.Member.{Member}
-use Rattle.flow_model.specs.declared.event.Member.TheVariants as member
-use Rattle.flow_model.specs.declared.event.Outcome.{Outcome}
-use Rattle.flow_model.specs.declared.event.Outcome.TheVariants as outcome
 use Rattle.status_table.specs.Answers.{DecidesAs, Refuses}
 use Rattle.status_table.specs.Row.{Beginning, calls, skips, faults, outputs_of, set_by, ending, ended_state, finishing}
 use Rattle.status_table.specs.Change.{with_numbered_leg}
 use Rattle.status_table.specs.Groups.{Standing, holds_name, waits_name, closed}
 use Rattle.status_table.specs.declared.change.LegChange.{LegChange}
-use Rattle.status_table.specs.declared.change.LegChange.TheVariants as leg_change
 use Rattle.status_table.specs.declared.fault.EventFault.{EventFault}
 use Rattle.status_table.specs.declared.events.Begun.{Begun}
-use Rattle.status_table.specs.declared.events.Begun.TheVariants as begun
 use Rattle.status_table.specs.declared.members.Role.{Role}
-use Rattle.status_table.specs.declared.members.Role.TheVariants as role
 
 -- what beginning a step comes to
 abbrev pub begun_seen : Begun → Beginning
-begun_seen (begun.Call call) = calls call
-begun_seen begun.Skips = skips
-begun_seen (begun.Faults fault) = faults fault
+begun_seen (Begun.Call call) = calls call
+begun_seen Begun.Skips = skips
+begun_seen (Begun.Faults fault) = faults fault
 
 -- an outcome and a conclusion, with what the answer gave and set
 abbrev pub ended_step : Outcome × Outcome → Answer → DoneStep
@@ -44,25 +33,25 @@ MayFinish worker at (Err f) = Refuses (finishing worker at) f
 
 -- whether one that stands so has the role that is looked for, at a name
 abbrev pub has_role : Role → List ℕ → Standing → Bool
-has_role role.Holder = holds_name
-has_role role.Waiter = waits_name
+has_role Role.Holder = holds_name
+has_role Role.Waiter = waits_name
 
 -- a leg is noted as one that ended
 abbrev pub noted : Board → Option Member → Board
 noted b None = b
-noted b (Some (member.Run r)) = b
-noted b (Some (member.Leg l)) = record b { ends = b.ends ++ l ∷ [] }
+noted b (Some (Member.Run r)) = b
+noted b (Some (Member.Leg l)) = record b { ends = b.ends ++ l ∷ [] }
 
 -- a member is cancelled, but is not noted yet
 abbrev pub put_out : Board → Option Member → Board
 put_out b None = b
-put_out b (Some (member.Run r)) = closed b r outcome.Cancelled
-put_out b (Some (member.Leg l)) =
-    with_numbered_leg b l (λ leg. record leg { state = leg_state.Ended outcome.Cancelled false })
+put_out b (Some (Member.Run r)) = closed b r Outcome.Cancelled
+put_out b (Some (Member.Leg l)) =
+    with_numbered_leg b l (λ leg. record leg { state = LegState.Ended Outcome.Cancelled false })
 
 -- a leg after a change
 abbrev pub leg_after : LegChange → Leg → Leg
-leg_after (leg_change.State state) leg = record leg { state = state }
-leg_after (leg_change.Group state group) leg = record leg { state = state; group = group }
-leg_after (leg_change.Outputs state outputs) leg = record leg { state = state; outputs = outputs }
-leg_after (leg_change.Stop stop) leg = record leg { stop = stop }
+leg_after (LegChange.State state) leg = record leg { state = state }
+leg_after (LegChange.Group state group) leg = record leg { state = state; group = group }
+leg_after (LegChange.Outputs state outputs) leg = record leg { state = state; outputs = outputs }
+leg_after (LegChange.Stop stop) leg = record leg { stop = stop }

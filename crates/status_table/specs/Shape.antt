@@ -1,25 +1,16 @@
 -- The shape that a plan gives its boards.
 use Rattle.std.specs.Prelude.{◌≡◌, ◌≤◌, ℕ, ◌+◌, Bool, true, false, length, nat_le}
 use Rattle.std.specs.List.{list_all, AllZip}
-use Rattle.flow_model.specs.Numbers.{board_legs}
-use Rattle.flow_model.specs.declared.plan.Plan.{Plan}
-use Rattle.flow_model.specs.declared.plan.RunPlan.{RunPlan}
-use Rattle.flow_model.specs.declared.plan.JobPlan.{JobPlan}
-use Rattle.flow_model.specs.declared.board.Board.{Board}
-use Rattle.flow_model.specs.declared.board.Run.{Run}
-use Rattle.flow_model.specs.declared.board.Job.{Job}
-use Rattle.flow_model.specs.declared.board.Leg.{Leg}
-use Rattle.flow_model.specs.declared.board.LegState.{LegState}
-use Rattle.flow_model.specs.declared.board.LegState.TheVariants as leg_state
+use Rattle.plan_values.specs.Words.{Board, Job, JobPlan, Leg, LegState, Plan, Run, RunPlan, board_legs}
 
 -- how many calls of a leg are open: one where it is in a call
 abbrev pub open_calls : LegState → ℕ
-open_calls leg_state.Fresh = 0
-open_calls leg_state.Waiting = 0
-open_calls leg_state.Admitted = 0
-open_calls (leg_state.Running worker true) = 1
-open_calls (leg_state.Running worker false) = 0
-open_calls (leg_state.Ended result tolerated) = 0
+open_calls LegState.Fresh = 0
+open_calls LegState.Waiting = 0
+open_calls LegState.Admitted = 0
+open_calls (LegState.Running worker true) = 1
+open_calls (LegState.Running worker false) = 0
+open_calls (LegState.Ended result tolerated) = 0
 
 -- how many steps of a leg are done or in their call
 abbrev pub steps_begun : Leg → ℕ

@@ -1,11 +1,8 @@
 -- What has ended stays as it is: how a board stands to a later one.
 use Rattle.std.specs.Prelude.{◌≡◌, true}
 use Rattle.std.specs.List.{AllZip}
+use Rattle.plan_values.specs.Words.{Board, Job, Leg, Run}
 use Rattle.board_decisions.specs.Derived.{is_closed, is_shut, is_ended, job_has_ended, job_result}
-use Rattle.flow_model.specs.declared.board.Board.{Board}
-use Rattle.flow_model.specs.declared.board.Run.{Run}
-use Rattle.flow_model.specs.declared.board.Job.{Job}
-use Rattle.flow_model.specs.declared.board.Leg.{Leg}
 
 -- a leg that is Ended is as it was
 abbrev pub LegStays : Leg → Leg → Type 0

@@ -1,8 +1,6 @@
 -- Entries whose reply nobody asks for.
 use Rattle.std.specs.Prelude.{◌≡◌, Bool, true, false, Some, Result, Ok, Err}
-use Rattle.flow_model.specs.declared.board.Board.{Board}
-use Rattle.flow_model.specs.declared.reply.Reply.{Reply}
-use Rattle.flow_model.specs.declared.reply.ValueFault.{ValueFault}
+use Rattle.plan_values.specs.Words.{Board, Reply, ValueFault}
 use Rattle.status_table.specs.Answers.{Answers, Refuses}
 use Rattle.status_table.specs.Row.{Row, Beginning, calls, skips, faults}
 use Rattle.status_table.specs.Runs.{then_after}

@@ -1,6 +1,5 @@
 -- What was copied so far of a reader into a writer.
-use Rattle.std.proofs.Common.{◌≡◌, ◌∙◌, ap, sym, refl, ℕ, ◌-◌, List, [], ◌∷◌, ◌++◌, length, slice_get, Option, Some, None, IfSome, append_assoc}
-use Rattle.std.proofs.Common.{append-nil, subst}
+use Rattle.std.proofs.Common.{◌≡◌, ◌∙◌, ap, sym, refl, ℕ, ◌-◌, List, [], ◌∷◌, ◌++◌, length, slice_get, Option, Some, None, IfSome, append_assoc, append-nil, subst}
 use native.Mathlib.Numerals.{unary_clauses}
 use Rattle.std.specs.Io.KnownBytes.{Appends, Consumes, IsAtEnd}
 

@@ -2,22 +2,7 @@
 use Rattle.std.proofs.Common.{◌≡◌, ◌≢◌, ℕ, suc, ◌-◌, ◌==◌, arith, Bool, true, false, List, [], ◌∷◌, ◌++◌, Option, Some, None, Ok, Err, length, take, get_or, ◌+◌, ◌<◌, slice_get, if◌then◌else◌, option_map, refl, ap, sym, subst, ◌∙◌}
 use Rattle.std.proofs.lemmas.List.{append_assoc, take_more}
 use Rattle.std.proofs.lemmas.Option.{slice_get-map}
-use Rattle.board_decisions.specs.Derived.{is_ended}
-use Rattle.flow_model.specs.Numbers.{plan_legs}
-use Rattle.flow_model.specs.Plain.{Plain}
-use Rattle.flow_model.specs.declared.plan.Plan.{Plan}
-use Rattle.flow_model.specs.declared.board.Board.{Board}
-use Rattle.flow_model.specs.declared.board.DoneStep.{DoneStep}
-use Rattle.flow_model.specs.declared.board.Leg.{Leg}
-use Rattle.flow_model.specs.declared.event.Answer.{Answer}
-use Rattle.flow_model.specs.declared.event.Entry.{Entry}
-use Rattle.flow_model.specs.declared.event.Event.{Event}
-use Rattle.flow_model.specs.declared.event.Event.TheVariants as event
-use Rattle.flow_model.specs.declared.reply.Reply.{Reply}
-use Rattle.flow_model.specs.declared.reply.What.{What}
-use Rattle.flow_model.specs.declared.reply.What.TheVariants as what
-use Rattle.status_table.specs.Row.{Row, row, event_row}
-use Rattle.status_table.specs.Runs.{new_leg, new_board, then_after, after_from}
+use Rattle.status_table.specs.Words.{Answer, Board, DoneStep, Entry, Event, Leg, Plain, Plan, Reply, Row, What, after_from, event_row, is_ended, new_board, new_leg, plan_legs, row, then_after}
 use Rattle.board_decisions.proofs.Lists.{no_some}
 use Rattle.step_host.specs.Counted.{begun_after, begun_from, begun, answer_counted, answers_after, counted}
 use Rattle.step_host.specs.Laws.{RecordsAreCounted}
@@ -54,11 +39,11 @@ one_more-counts n old new more is = λ e. is ∙ sym more.steps ∙ ap (λ c. so
 
 begun-counts : (n l : ℕ) (told : What) (old new : Leg) → Begun l told old new → n ≡ length old.steps → Counts (suc n) (Some new)
 unfolding Counts so_many
-begun-counts n l what.Moved old new h is = absurd h
-begun-counts n l (what.Call call) old new h is = λ e.
+begun-counts n l What.Moved old new h is = absurd h
+begun-counts n l (What.Call call) old new h is = λ e.
     ap suc (is ∙ ap length (sym h.2)) ∙ ap (λ c. so_many c (length new.steps)) (sym h.3)
-begun-counts n l what.Skipped old new h is = one_more-counts (suc n) old new h (ap suc is)
-begun-counts n l (what.Faulted f) old new h is = one_more-counts (suc n) old new h (ap suc is)
+begun-counts n l What.Skipped old new h is = one_more-counts (suc n) old new h (ap suc is)
+begun-counts n l (What.Faulted f) old new h is = one_more-counts (suc n) old new h (ap suc is)
 
 either : (n : ℕ) (c : Bool) → (if c then n else n) ≡ n
 either n true = refl
@@ -93,7 +78,7 @@ module _ (b : Board) (l n : ℕ) (h : Counts n (leg_of b l)) where
   own : (m : ℕ) (old : Leg) → m ≡ l → leg_of b m ≡ Some old → Counts n (Some old)
   own m old same was = subst (Counts n) (ap (leg_of b) (sym same) ∙ was) h
 
-  begin_row-counts : (m : ℕ) (r : Row) → BeginRow b m r → CountsRow l n (event.Begin m) r
+  begin_row-counts : (m : ℕ) (r : Row) → BeginRow b m r → CountsRow l n (Event.Begin m) r
   unfolding CountsRow BeginRow Counts so_many
   begin_row-counts m (Ok x) t =
       turned-counts x.0 m (suc n) t.new t.is
@@ -103,7 +88,7 @@ module _ (b : Board) (l n : ℕ) (h : Counts n (leg_of b l)) where
       t.others
   begin_row-counts m (Err refusal) t = tt
 
-  end_row-counts : (m : ℕ) (a : Answer) (r : Row) → EndRow b m a r → CountsRow l n (event.End m a) r
+  end_row-counts : (m : ℕ) (a : Answer) (r : Row) → EndRow b m a r → CountsRow l n (Event.End m a) r
   unfolding CountsRow EndRow Counts so_many
   end_row-counts m a (Ok x) t =
       subst (λ k. Counts k (leg_of x.0 l)) (either n (m == l))
@@ -120,16 +105,16 @@ module _ (b : Board) (l n : ℕ) (h : Counts n (leg_of b l)) where
   row-counts p worker e = under_worker (CountsRow l n e) p b worker e (each e) tt
     where
       each : (d : Event) → CountsRow l n d (event_row p b worker d)
-      each (event.Open r) = quiet_row-counts (event.Open r) _ refl (open-quiet p b r)
-      each (event.Judge j) = quiet_row-counts (event.Judge j) _ refl (judge-quiet p b j)
-      each (event.Ask m) = quiet_row-counts (event.Ask m) _ refl (ask-quiet p b m)
-      each (event.Drop m) = quiet_row-counts (event.Drop m) _ refl (drop-quiet p b m)
-      each (event.Take m) = quiet_row-counts (event.Take m) _ refl (take-quiet p b worker m)
-      each (event.Begin m) = begin_row-counts m _ (begin_turns p b worker m)
-      each (event.End m a) = end_row-counts m a _ (end_turns p b worker m a)
-      each (event.Finish m) = quiet_row-counts (event.Finish m) _ refl (finish-quiet p b worker m)
-      each (event.Close r) = quiet_row-counts (event.Close r) _ refl (close-quiet p b r)
-      each (event.Cancel r) = quiet_row-counts (event.Cancel r) _ refl (cancel-quiet p b r)
+      each (Event.Open r) = quiet_row-counts (Event.Open r) _ refl (open-quiet p b r)
+      each (Event.Judge j) = quiet_row-counts (Event.Judge j) _ refl (judge-quiet p b j)
+      each (Event.Ask m) = quiet_row-counts (Event.Ask m) _ refl (ask-quiet p b m)
+      each (Event.Drop m) = quiet_row-counts (Event.Drop m) _ refl (drop-quiet p b m)
+      each (Event.Take m) = quiet_row-counts (Event.Take m) _ refl (take-quiet p b worker m)
+      each (Event.Begin m) = begin_row-counts m _ (begin_turns p b worker m)
+      each (Event.End m a) = end_row-counts m a _ (end_turns p b worker m a)
+      each (Event.Finish m) = quiet_row-counts (Event.Finish m) _ refl (finish-quiet p b worker m)
+      each (Event.Close r) = quiet_row-counts (Event.Close r) _ refl (close-quiet p b r)
+      each (Event.Cancel r) = quiet_row-counts (Event.Cancel r) _ refl (cancel-quiet p b r)
 
 accepted-counts : (p : Plan) (b : Board) (l n : ℕ) (e : Entry) (x : Board × Reply) → row p b e.worker e.event ≡ Ok x → Counts n (leg_of b l)
     → Counts (begun_after l n e.event) (leg_of x.0 l)
@@ -168,22 +153,22 @@ unfolding Counts so_many
 same_answer p b es e x is h = by e.event refl
   where
     by : (d : Event) → e.event ≡ d → answer_counted (λ l. begun l es) d ≡ event_lines b d
-    by (event.Open r) k = refl
-    by (event.Judge j) k = refl
-    by (event.Ask l) k = refl
-    by (event.Drop l) k = refl
-    by (event.Take l) k = refl
-    by (event.Begin l) k = refl
-    by (event.End l a) k =
+    by (Event.Open r) k = refl
+    by (Event.Judge j) k = refl
+    by (Event.Ask l) k = refl
+    by (Event.Drop l) k = refl
+    by (Event.Take l) k = refl
+    by (Event.Begin l) k = refl
+    by (Event.End l a) k =
         let t = ended p b e.worker l a x (ap (row p b e.worker) (sym k) ∙ is) in
         let here : Counts (begun l es) (Some t.old) = subst (Counts (begun l es)) t.was (h l) in
         let many : begun l es ≡ suc (length t.old.steps) =
         here (calling-unended t.old.state t.calling) ∙ ap (λ c. so_many c (length t.old.steps)) t.calling in
         let step : begun l es - 1 ≡ length t.old.steps = omega (arith, many) in
         ap (λ n. (l, n, a) ∷ []) step ∙ sym (ap (λ (o : Option Leg). step_line l a (option_map (λ leg. length leg.steps) o)) t.was)
-    by (event.Finish l) k = refl
-    by (event.Close r) k = refl
-    by (event.Cancel r) k = refl
+    by (Event.Finish l) k = refl
+    by (Event.Close r) k = refl
+    by (Event.Cancel r) k = refl
 
 counted_from : (p : Plan) (b new : Board) (es more : List Entry) → after_from p b more ≡ Some new → ((l : ℕ) → Counts (begun l es) (leg_of b l))
     → answers_after es more ≡ lines_from p b more

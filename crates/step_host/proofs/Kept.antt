@@ -9,8 +9,7 @@ use Rattle.std.specs.Cmp.{nat_cmp_is}
 use Rattle.std.specs.Ordering.{nat_cmp, ordering_then, is_eq}
 use Rattle.std.specs.declared.cmp.Ordering.{Ordering}
 use Rattle.std.specs.declared.cmp.Ordering.TheVariants.{Less, Equal, Greater}
-use Rattle.flow_model.specs.Answer.{is_well_formed}
-use Rattle.flow_model.specs.declared.event.Answer.{Answer}
+use Rattle.status_table.specs.Words.{Answer, is_well_formed}
 use Rattle.board_decisions.proofs.Lists.{no_some, same_some}
 use Rattle.step_host.specs.declared.fault.ScriptFault.{ScriptFault}
 use Rattle.step_host.specs.declared.fault.ScriptFault.TheVariants.{BadScript, Memory}

@@ -1,18 +1,8 @@
 -- The open call of a leg is that of its last Begin.
 use Rattle.std.proofs.Common.{◌≡◌, ◌≢◌, ◌⊎◌, inl, inr, ℕ, zero, suc, ◌<◌, ◌==◌, arith, Bool, true, false, List, [], ◌∷◌, Option, Some, None, Ok, Err, take, slice_get, if◌then◌else◌, refl, ap, sym, subst, ◌∙◌}
-use Rattle.flow_model.specs.declared.plan.Plan.{Plan}
-use Rattle.flow_model.specs.declared.board.Board.{Board}
-use Rattle.flow_model.specs.declared.event.Entry.{Entry}
-use Rattle.flow_model.specs.declared.event.Event.{Event}
-use Rattle.flow_model.specs.declared.event.Event.TheVariants as event
-use Rattle.flow_model.specs.declared.reply.Reply.{Reply}
-use Rattle.flow_model.specs.declared.reply.StepCall.{StepCall}
-use Rattle.flow_model.specs.declared.reply.What.{What}
-use Rattle.status_table.specs.Row.{Row, row}
-use Rattle.status_table.specs.Runs.{then_after, after_from, new_board}
+use Rattle.status_table.specs.Words.{Board, Entry, Event, Plan, Reply, Row, StepCall, What, after_from, call_after, call_from, called, new_board, row, then_after, then_call}
 use Rattle.board_decisions.proofs.Lists.{no_some, same_some}
 use Rattle.step_host.specs.Lawful.{PassesBy, IsLastCalled}
-use Rattle.status_table.specs.Calls.{called, call_after, then_call, call_from}
 use Rattle.step_host.specs.Laws.{OpenCallsAreLast}
 
 -- no entry begins or ends a step of the leg
@@ -52,7 +42,7 @@ later_begin p b next told e es l one is h = record {
 
 -- the first entry is the Begin
 first_begin : (p : Plan) (b next : Board) (told : Reply) (e : Entry) (es : List Entry) (l : ℕ) (one : StepCall) → row p b e.worker e.event ≡ Ok (next, told)
-    → e.event ≡ event.Begin l → called told.what ≡ Some one → AllPassBy l es → IsLastCalled p b (e ∷ es) l one
+    → e.event ≡ Event.Begin l → called told.what ≡ Some one → AllPassBy l es → IsLastCalled p b (e ∷ es) l one
 first_begin p b next told e es l one is begins carries later = record {
   place = 0;
   worker = e.worker;
@@ -80,24 +70,24 @@ from_begin p b call l one (e ∷ es) h =
 
     here : (next : Board) (told : Reply) → row p b e.worker e.event ≡ Ok (next, told) → AllPassBy l es → (d : Event) → e.event ≡ d → call_after l call d told.what ≡ Some one
         → FromBegin p b call l one (e ∷ es)
-    here next told is later (event.Open r) d k = passed later (event.Open r) d tt k
-    here next told is later (event.Judge j) d k = passed later (event.Judge j) d tt k
-    here next told is later (event.Ask m) d k = passed later (event.Ask m) d tt k
-    here next told is later (event.Drop m) d k = passed later (event.Drop m) d tt k
-    here next told is later (event.Take m) d k = passed later (event.Take m) d tt k
-    here next told is later (event.Begin m) d k = by (m == l) refl k
+    here next told is later (Event.Open r) d k = passed later (Event.Open r) d tt k
+    here next told is later (Event.Judge j) d k = passed later (Event.Judge j) d tt k
+    here next told is later (Event.Ask m) d k = passed later (Event.Ask m) d tt k
+    here next told is later (Event.Drop m) d k = passed later (Event.Drop m) d tt k
+    here next told is later (Event.Take m) d k = passed later (Event.Take m) d tt k
+    here next told is later (Event.Begin m) d k = by (m == l) refl k
       where
         by : (c : Bool) → (m == l) ≡ c → (if c then called told.what else call) ≡ Some one → FromBegin p b call l one (e ∷ es)
-        by true same j = let leg : m ≡ l = grind (arith, same) in inr (first_begin p b next told e es l one is (d ∙ ap (λ n. event.Begin n) leg) j later)
-        by false same j = let apart : m ≢ l = grind (arith, same) in passed later (event.Begin m) d apart j
-    here next told is later (event.End m a) d k = by (m == l) refl k
+        by true same j = let leg : m ≡ l = grind (arith, same) in inr (first_begin p b next told e es l one is (d ∙ ap (λ n. Event.Begin n) leg) j later)
+        by false same j = let apart : m ≢ l = grind (arith, same) in passed later (Event.Begin m) d apart j
+    here next told is later (Event.End m a) d k = by (m == l) refl k
       where
         by : (c : Bool) → (m == l) ≡ c → (if c then None else call) ≡ Some one → FromBegin p b call l one (e ∷ es)
         by true same j = absurd (no_some one j)
-        by false same j = let apart : m ≢ l = grind (arith, same) in passed later (event.End m a) d apart j
-    here next told is later (event.Finish m) d k = passed later (event.Finish m) d tt k
-    here next told is later (event.Close r) d k = passed later (event.Close r) d tt k
-    here next told is later (event.Cancel r) d k = passed later (event.Cancel r) d tt k
+        by false same j = let apart : m ≢ l = grind (arith, same) in passed later (Event.End m a) d apart j
+    here next told is later (Event.Finish m) d k = passed later (Event.Finish m) d tt k
+    here next told is later (Event.Close r) d k = passed later (Event.Close r) d tt k
+    here next told is later (Event.Cancel r) d k = passed later (Event.Cancel r) d tt k
 
     step : (r : Row) → row p b e.worker e.event ≡ r
         → ((next : Board) (told : What) → call_from p next l (call_after l call e.event told) es ≡ Some one → FromBegin p next (call_after l call e.event told) l one es)

@@ -1,10 +1,8 @@
 -- How the programs of calls are started, whatever a call asks for.
 use Rattle.std.proofs.Common.{◌≡◌, ℕ, List, Option, Some, inl, inr, ap, sym, ◌∙◌}
+use Rattle.status_table.specs.Words.{CallWork, Shell, StepCall}
 use Rattle.flow_commands.specs.PairFiles.{Pair}
-use Rattle.flow_model.specs.declared.plan.Shell.{Shell}
-use Rattle.flow_model.specs.declared.reply.CallWork.{CallWork}
 use Rattle.flow_model.specs.declared.reply.CallWork.TheVariants.{Script, Uses}
-use Rattle.flow_model.specs.declared.reply.StepCall.{StepCall}
 use Rattle.step_host.specs.Program.{AsksScript, IsStartedBy, AsksStub, Launches, other_shell, script_launch, stub_launch}
 use Rattle.step_host.specs.declared.launch.Launch.{Launch}
 

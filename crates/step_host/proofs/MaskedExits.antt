@@ -1,7 +1,7 @@
 -- What is told of the masked form of an exit.
 use Rattle.std.proofs.Common.{◌≡◌, ℤ, List, Result, Ok, Err}
+use Rattle.status_table.specs.Words.{Answer}
 use Rattle.flow_commands.specs.PairFiles.{Pair}
-use Rattle.flow_model.specs.declared.event.Answer.{Answer}
 use Rattle.flow_model.specs.declared.event.Answer.TheVariants.{Exit, BadOutput}
 use Rattle.step_host.specs.Masked.{TellsMasked}
 use Rattle.step_host.specs.declared.watch.Refusal.{Refusal}

@@ -2,26 +2,7 @@
 use Rattle.std.proofs.Common.{◌≡◌, ◌≢◌, ℕ, ◌==◌, arith, Bool, true, false, List, Option, Some, None, slice_get, if◌then◌else◌, ap, subst, sym, refl, ◌∙◌}
 use Rattle.std.specs.List.{flat_map}
 use Rattle.std.proofs.lemmas.Bool.{true≢false}
-use Rattle.board_decisions.specs.declared.entrance.Entrance.{Entrance}
-use Rattle.board_decisions.specs.declared.place.JobPlace.{JobPlace}
-use Rattle.board_decisions.specs.declared.place.LegPlace.{LegPlace}
-use Rattle.board_decisions.specs.Derived.{is_untaken, is_ended}
-use Rattle.board_decisions.specs.Place.{leg_place}
-use Rattle.flow_model.specs.Numbers.{board_legs}
-use Rattle.flow_model.specs.declared.board.Board.{Board}
-use Rattle.flow_model.specs.declared.board.Run.{Run}
-use Rattle.flow_model.specs.declared.board.RunState.TheVariants as run_state
-use Rattle.flow_model.specs.declared.board.Job.{Job}
-use Rattle.flow_model.specs.declared.board.JobState.{JobState}
-use Rattle.flow_model.specs.declared.board.Leg.{Leg}
-use Rattle.flow_model.specs.declared.board.LegState.{LegState}
-use Rattle.flow_model.specs.declared.board.LegState.TheVariants as leg_state
-use Rattle.flow_model.specs.declared.event.Member.{Member}
-use Rattle.flow_model.specs.declared.event.Member.TheVariants as member
-use Rattle.flow_model.specs.declared.event.Outcome.{Outcome}
-use Rattle.status_table.specs.Change.{put, changed, with_run, with_leg, with_numbered_leg}
-use Rattle.status_table.specs.Groups.{Standing, apart, holding, waiting, leg_stands, waits_name, closed, dropped, admitted, waits, passed_on, cancelled, displaced, stopped, moved, Done, is_own, queued, enters_held, enters, holder, waiter, next_after, leaves}
-use Rattle.status_table.specs.Row.{job_state_set}
+use Rattle.status_table.specs.Words.{Board, Done, Entrance, Job, JobPlace, JobState, Leg, LegPlace, LegState, Member, Outcome, Run, RunState, Standing, admitted, apart, board_legs, cancelled, changed, closed, displaced, dropped, enters, enters_held, holder, holding, is_ended, is_own, is_untaken, job_state_set, leaves, leg_place, leg_stands, moved, next_after, passed_on, put, queued, stopped, waiter, waiting, waits, waits_name, with_leg, with_numbered_leg, with_run}
 use Rattle.status_table.proofs.Lists.{changed-there, changed-elsewhere, flat_map-kept, flat_map-twice}
 use Rattle.board_decisions.proofs.Lists.{same_some, no_some}
 use Rattle.status_table.proofs.Numbers.{board_legs-changed, numbered_leg-changed}
@@ -29,11 +10,11 @@ use Rattle.status_table.proofs.Standings.{leg_found}
 
 -- whether a leg in this state is in a call
 abbrev pub is_calling : LegState → Bool
-is_calling leg_state.Fresh = false
-is_calling leg_state.Waiting = false
-is_calling leg_state.Admitted = false
-is_calling (leg_state.Running worker in_call) = in_call
-is_calling (leg_state.Ended result tolerated) = false
+is_calling LegState.Fresh = false
+is_calling LegState.Waiting = false
+is_calling LegState.Admitted = false
+is_calling (LegState.Running worker in_call) = in_call
+is_calling (LegState.Ended result tolerated) = false
 
 -- The leg has done the steps that it had done; and if it has not ended, it had not, and is in a call where it was in one.
 pub record Quiet (old new : Leg) : Type 0 where
@@ -67,11 +48,11 @@ quiet-both x y z h k = record {
 }
 
 pub calling-unended : (s : LegState) → is_calling s ≡ true → is_ended s ≡ false
-calling-unended leg_state.Fresh h = refl
-calling-unended leg_state.Waiting h = refl
-calling-unended leg_state.Admitted h = refl
-calling-unended (leg_state.Running worker in_call) h = refl
-calling-unended (leg_state.Ended result tolerated) h = absurd (true≢false (sym h))
+calling-unended LegState.Fresh h = refl
+calling-unended LegState.Waiting h = refl
+calling-unended LegState.Admitted h = refl
+calling-unended (LegState.Running worker in_call) h = refl
+calling-unended (LegState.Ended result tolerated) h = absurd (true≢false (sym h))
 
 -- a leg that is in a call was in one
 pub quiet-called : (old new : Leg) → Quiet old new → is_calling new.state ≡ true → is_calling old.state ≡ true
@@ -103,11 +84,11 @@ pub quiet-untaken : (x y z : Leg) → Quiet x y → z.steps ≡ y.steps → is_c
 quiet-untaken x y z q steps none untaken = record { steps = steps ∙ q.steps; goes_on = λ e. by x.state untaken }
   where
     by : (s : LegState) → is_untaken s ≡ true → (is_ended s ≡ false) × (is_calling z.state ≡ is_calling s)
-    by leg_state.Fresh h = (refl, none)
-    by leg_state.Waiting h = (refl, none)
-    by leg_state.Admitted h = (refl, none)
-    by (leg_state.Running worker in_call) h = absurd (true≢false (sym h))
-    by (leg_state.Ended result tolerated) h = absurd (true≢false (sym h))
+    by LegState.Fresh h = (refl, none)
+    by LegState.Waiting h = (refl, none)
+    by LegState.Admitted h = (refl, none)
+    by (LegState.Running worker in_call) h = absurd (true≢false (sym h))
+    by (LegState.Ended result tolerated) h = absurd (true≢false (sym h))
 
 -- a leg ends
 pub quiet-ended : (x y z : Leg) → Quiet x y → z.steps ≡ y.steps → is_ended z.state ≡ true → Quiet x z
@@ -173,32 +154,32 @@ quiet-job b place state = quiet-legs b (job_state_set b place state) (
 
 -- a member is no leg that a worker took, or that has ended
 abbrev pub IsUntaken : Board → Member → Type 0
-IsUntaken b (member.Run r) = Unit {0}
-IsUntaken b (member.Leg l) = (leg : Leg) → leg_of b l ≡ Some leg → is_untaken leg.state ≡ true
+IsUntaken b (Member.Run r) = Unit {0}
+IsUntaken b (Member.Leg l) = (leg : Leg) → leg_of b l ≡ Some leg → is_untaken leg.state ≡ true
 
 pub quiet-closed : (b : Board) (r : ℕ) (result : Outcome) → Quieted b (closed b r result)
-quiet-closed b r result = quiet-run b r (λ run. record run { state = run_state.Closed result }) (λ x. refl)
+quiet-closed b r result = quiet-run b r (λ run. record run { state = RunState.Closed result }) (λ x. refl)
 
 pub quiet-dropped : (b : Board) (l : ℕ) (result : Outcome) → Quieted b (dropped b l result)
 quiet-dropped b l result =
-    quiet-numbered b l (λ leg. record leg { state = leg_state.Ended result false })
-    (λ x there. quiet-ended x x (record x { state = leg_state.Ended result false }) (quiet-same x) refl refl)
+    quiet-numbered b l (λ leg. record leg { state = LegState.Ended result false })
+    (λ x there. quiet-ended x x (record x { state = LegState.Ended result false }) (quiet-same x) refl refl)
 
 quiet-admitted : (b : Board) (name : Option (List ℕ)) (m : Member) → IsUntaken b m → Quieted b (admitted b name m)
-quiet-admitted b name (member.Run r) u = quiet-run b r (λ run. record run { state = run_state.Going; group = name }) (λ x. refl)
-quiet-admitted b name (member.Leg l) u =
-    quiet-numbered b l (λ leg. record leg { state = leg_state.Admitted; group = name })
-    (λ x there. quiet-untaken x x (record x { state = leg_state.Admitted; group = name }) (quiet-same x) refl refl (u x there))
+quiet-admitted b name (Member.Run r) u = quiet-run b r (λ run. record run { state = RunState.Going; group = name }) (λ x. refl)
+quiet-admitted b name (Member.Leg l) u =
+    quiet-numbered b l (λ leg. record leg { state = LegState.Admitted; group = name })
+    (λ x there. quiet-untaken x x (record x { state = LegState.Admitted; group = name }) (quiet-same x) refl refl (u x there))
 
 quiet-waits : (b : Board) (name : List ℕ) (m : Member) → IsUntaken b m → Quieted b (waits b name m)
-quiet-waits b name (member.Run r) u = quiet-run b r (λ run. record run { state = run_state.Waiting; group = Some name }) (λ x. refl)
-quiet-waits b name (member.Leg l) u =
-    quiet-numbered b l (λ leg. record leg { state = leg_state.Waiting; group = Some name })
-    (λ x there. quiet-untaken x x (record x { state = leg_state.Waiting; group = Some name }) (quiet-same x) refl refl (u x there))
+quiet-waits b name (Member.Run r) u = quiet-run b r (λ run. record run { state = RunState.Waiting; group = Some name }) (λ x. refl)
+quiet-waits b name (Member.Leg l) u =
+    quiet-numbered b l (λ leg. record leg { state = LegState.Waiting; group = Some name })
+    (λ x there. quiet-untaken x x (record x { state = LegState.Waiting; group = Some name }) (quiet-same x) refl refl (u x there))
 
 quiet-cancelled : (b : Board) (m : Member) → Quieted b (cancelled b m)
-quiet-cancelled b (member.Run r) = quiet-closed b r _
-quiet-cancelled b (member.Leg l) = quiet-dropped b l _
+quiet-cancelled b (Member.Run r) = quiet-closed b r _
+quiet-cancelled b (Member.Leg l) = quiet-dropped b l _
 
 quiet-displaced : (b : Board) (o : Option Member) → Quieted b (displaced b o)
 quiet-displaced b None = quiet-unchanged b
@@ -206,8 +187,8 @@ quiet-displaced b (Some m) = quiet-cancelled b m
 
 pub quiet-stopped : (b : Board) (c : Bool) (m : Member) → Quieted b (stopped b c m)
 quiet-stopped b false m = quiet-unchanged b
-quiet-stopped b true (member.Run r) = quiet-run b r (λ run. record run { stop = true }) (λ x. refl)
-quiet-stopped b true (member.Leg l) =
+quiet-stopped b true (Member.Run r) = quiet-run b r (λ run. record run { stop = true }) (λ x. refl)
+quiet-stopped b true (Member.Leg l) =
     quiet-numbered b l (λ leg. record leg { stop = true }) (λ x there. quiet-like x x (record x { stop = true }) (quiet-same x) refl refl)
 
 quiet-queued : (b : Board) (m : Member) (group : Entrance) (h : Member) (w : Option Member) → IsUntaken b m → Quieted b (queued b m group h w).0
@@ -231,15 +212,15 @@ quiet-enters b m own (Some group) u = held (holder b group.name) (waiter b group
 -- ---- who is next in a group, which waited
 
 waits-untaken : (s : LegState) (group : Option (List ℕ)) (name : List ℕ) → waits_name name (leg_stands s group) ≡ true → is_untaken s ≡ true
-waits-untaken leg_state.Fresh group name h = refl
-waits-untaken leg_state.Waiting group name h = refl
-waits-untaken leg_state.Admitted group name h = refl
-waits-untaken (leg_state.Running worker in_call) group name h = absurd (true≢false (sym h))
-waits-untaken (leg_state.Ended result tolerated) group name h = absurd (true≢false (sym h))
+waits-untaken LegState.Fresh group name h = refl
+waits-untaken LegState.Waiting group name h = refl
+waits-untaken LegState.Admitted group name h = refl
+waits-untaken (LegState.Running worker in_call) group name h = absurd (true≢false (sym h))
+waits-untaken (LegState.Ended result tolerated) group name h = absurd (true≢false (sym h))
 
 waiter-untaken : (b : Board) (name : List ℕ) (m : Member) → waiter b name ≡ Some m → IsUntaken b m
-waiter-untaken b name (member.Run r) h = tt
-waiter-untaken b name (member.Leg l) h = λ leg there.
+waiter-untaken b name (Member.Run r) h = tt
+waiter-untaken b name (Member.Leg l) h = λ leg there.
     let found = leg_found b (waits_name name) l h in
     let same : found.leg ≡ leg = same_some found.leg leg (sym found.there ∙ there) in
     ap (λ (x : Leg). is_untaken x.state) (sym same) ∙ waits-untaken found.leg.state found.leg.group name found.passes
@@ -253,11 +234,11 @@ next-untaken b (holding (Some name)) m h = waiter-untaken b name m h
 -- who is next goes on beside a board on which it waited
 quiet-passed_on : (b c : Board) (o : Option Member) → Quieted b c → ((m : Member) → o ≡ Some m → IsUntaken b m) → Quieted b (passed_on c o)
 quiet-passed_on b c None h u = h
-quiet-passed_on b c (Some (member.Run r)) h u = quiet-then b c (passed_on c (Some (member.Run r))) h (quiet-run c r (λ run. record run { state = run_state.Going }) (λ x. refl))
-quiet-passed_on b c (Some (member.Leg l)) h u = λ k.
-    let f : Leg → Leg = λ leg. record leg { state = leg_state.Admitted } in
+quiet-passed_on b c (Some (Member.Run r)) h u = quiet-then b c (passed_on c (Some (Member.Run r))) h (quiet-run c r (λ run. record run { state = RunState.Going }) (λ x. refl))
+quiet-passed_on b c (Some (Member.Leg l)) h u = λ k.
+    let f : Leg → Leg = λ leg. record leg { state = LegState.Admitted } in
     subst (λ legs. QuietAt (leg_of b k) (slice_get legs k)) (sym (numbered_leg-changed c l f))
-    (quiet-changed (board_legs b) (board_legs c) l f h (λ x y was is same. quiet-untaken x y (f y) same refl refl (u (member.Leg l) refl x was)) k)
+    (quiet-changed (board_legs b) (board_legs c) l f h (λ x y was is same. quiet-untaken x y (f y) same refl refl (u (Member.Leg l) refl x was)) k)
 
 pub quiet-leaves : (b : Board) (s : Standing) (new : Board) → Quieted b new → Quieted b (leaves b s new).0
 quiet-leaves b s new h = quiet-passed_on b new (next_after b s) h (next-untaken b s)

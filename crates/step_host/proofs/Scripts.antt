@@ -2,10 +2,8 @@
 use Rattle.std.proofs.Common.{◌≡◌, ℕ, ◌-◌, ◌≤◌, arith, Bool, true, false, List, [], ◌∷◌, ◌++◌, Some, None, length, slice_get, nat_lt, refl, ap, sym, ◌∙◌}
 use Rattle.std.proofs.lemmas.List.{length-append}
 use Rattle.std.proofs.lemmas.Option.{slice_get_within}
-use Rattle.board_decisions.proofs.Lists.{get-left}
-use Rattle.flow_model.specs.Answer.{is_well_formed}
-use Rattle.flow_model.specs.declared.event.Answer.{Answer}
-use Rattle.board_decisions.proofs.Lists.{get-right, same_some}
+use Rattle.status_table.specs.Words.{Answer, is_well_formed}
+use Rattle.board_decisions.proofs.Lists.{get-left, get-right, same_some}
 use Rattle.step_host.specs.Script.{Line, IsScript}
 
 -- an item of a list with one more at its end: of the list, or the last

@@ -2,44 +2,13 @@
 use Rattle.std.proofs.Common.{◌≡◌, ◌≢◌, ℕ, suc, ◌==◌, ◌++◌, ◌&&◌, ◌||◌, Bool, true, false, not, List, [], ◌∷◌, Option, Some, None, Result, Ok, Err, length, slice_get, nat_lt, if◌then◌else◌, ap, subst, sym, refl, ◌∙◌, arith}
 use Rattle.std.proofs.lemmas.Bool.{true≢false}
 use Rattle.std.proofs.lemmas.List.{length-append}
-use Rattle.board_decisions.specs.declared.entrance.Entrance.{Entrance}
-use Rattle.board_decisions.specs.declared.place.JobPlace.{JobPlace}
-use Rattle.board_decisions.specs.Decisions.{then_value, step_env, called_if, is_stopping, leg_result, step_decision, leg_outputs, leg_entrance, run_entrance}
-use Rattle.board_decisions.specs.Derived.{is_going, is_closed, is_open, is_fresh, is_untaken, is_ended, is_full, jobs_have_ended, run_result}
-use Rattle.board_decisions.specs.Place.{RunAt, JobAt, LegAt, run_at, job_at, leg_at}
-use Rattle.flow_model.specs.Answer.{is_well_formed}
-use Rattle.flow_model.specs.Numbers.{board_legs}
-use Rattle.flow_model.specs.declared.plan.Plan.{Plan}
-use Rattle.flow_model.specs.declared.plan.StepPlan.{StepPlan}
-use Rattle.flow_model.specs.declared.board.Board.{Board}
-use Rattle.flow_model.specs.declared.board.DoneStep.{DoneStep}
-use Rattle.flow_model.specs.declared.board.Run.{Run}
-use Rattle.flow_model.specs.declared.board.RunState.{RunState}
-use Rattle.flow_model.specs.declared.board.RunState.TheVariants as run_state
-use Rattle.flow_model.specs.declared.board.JobState.{JobState}
-use Rattle.flow_model.specs.declared.board.Leg.{Leg}
-use Rattle.flow_model.specs.declared.board.LegState.{LegState}
-use Rattle.flow_model.specs.declared.board.LegState.TheVariants as leg_state
-use Rattle.flow_model.specs.declared.event.Answer.{Answer}
-use Rattle.flow_model.specs.declared.event.Member.TheVariants as member
-use Rattle.flow_model.specs.declared.event.Outcome.{Outcome}
-use Rattle.flow_model.specs.declared.event.Outcome.TheVariants as outcome
-use Rattle.flow_model.specs.declared.reply.CallWork.{CallWork}
-use Rattle.flow_model.specs.declared.reply.StepCall.{StepCall}
-use Rattle.flow_model.specs.declared.reply.ValueFault.{ValueFault}
-use Rattle.flow_model.specs.declared.reply.What.{What}
-use Rattle.flow_model.specs.declared.reply.What.TheVariants as what
+use Rattle.status_table.specs.Words.{Answer, Board, CallWork, DoneStep, Entrance, JobAt, JobPlace, JobState, Leg, LegAt, LegState, Member, Outcome, Plan, Row, Run, RunAt, RunState, StepCall, StepPlan, ValueFault, What, board_legs, called_if, closed, decided, dropped, failed_step, is_closed, is_ended, is_fresh, is_full, is_going, is_open, is_stopping, is_untaken, is_well_formed, job_at, jobs_have_ended, leaves, leg_at, leg_entrance, leg_outputs, leg_result, leg_standing, leg_state_set, moved, run_at, run_entrance, run_result, run_standing, skipped_step, step_decision, step_done, step_env, stopped, then_value, with_leg}
 use Rattle.status_table.specs.declared.fault.EventFault.{EventFault}
-use Rattle.status_table.specs.declared.fault.EventFault.TheVariants as fault
-use Rattle.status_table.specs.Change.{with_leg}
-use Rattle.status_table.specs.Groups.{run_standing, leg_standing, closed, dropped, stopped, moved, leaves}
 use Rattle.status_table.specs.Row as rows
-use Rattle.status_table.specs.Row.{Row, leg_state_set, step_done, skipped_step, failed_step, decided}
-use Rattle.board_decisions.proofs.Lists.{and-right}
+use Rattle.board_decisions.proofs.Lists.{and-right, same_some, no_some}
 use Rattle.status_table.proofs.Decided.{by_test}
 use Rattle.status_table.proofs.Found.{leg_stands, leg_item}
 use Rattle.status_table.proofs.Lists.{changed-there, changed-elsewhere}
-use Rattle.board_decisions.proofs.Lists.{same_some, no_some}
 use Rattle.status_table.proofs.Numbers.{board_legs-changed}
 use Rattle.step_host.proofs.Quiet.{is_calling, QuietAt, quiet-same, quiet_at-same, leg_of, Quieted, quiet-untaken, quiet-ended, quiet-leg, quiet-job, IsUntaken, quiet-closed, quiet-dropped, quiet-stopped, quiet-enters, quiet-leaves}
 
@@ -54,15 +23,15 @@ unfolding QuietRow
 open-quiet p b r = found (run_at p b r)
   where
     entered : (x : Result (Option Entrance) ValueFault) → QuietRow b (rows.run_enters b r x)
-    entered (Ok group) = quiet-enters b (member.Run r) None group tt
-    entered (Err f) = quiet-closed b r outcome.Failure
+    entered (Ok group) = quiet-enters b (Member.Run r) None group tt
+    entered (Err f) = quiet-closed b r Outcome.Failure
 
     by_state : (at : RunAt) (s : RunState) (stop : Bool) → QuietRow b (rows.open_run b r at s stop)
-    by_state at run_state.New false = entered (run_entrance at)
-    by_state at run_state.New true = tt
-    by_state at run_state.Waiting stop = tt
-    by_state at run_state.Going stop = tt
-    by_state at (run_state.Closed result) stop = tt
+    by_state at RunState.New false = entered (run_entrance at)
+    by_state at RunState.New true = tt
+    by_state at RunState.Waiting stop = tt
+    by_state at RunState.Going stop = tt
+    by_state at (RunState.Closed result) stop = tt
 
     found : (o : Option RunAt) → QuietRow b (rows.open_found b r o)
     found None = tt
@@ -81,32 +50,32 @@ judge-quiet p b j = found (job_at p b j)
     found (Some at) = judged at.place (rows.judgement j at)
 
 -- a leg that is found is no other
-is_untaken-there : (p : Plan) (b : Board) (l : ℕ) (at : LegAt) → leg_at p b l ≡ Some at → is_untaken at.leg.state ≡ true → IsUntaken b (member.Leg l)
+is_untaken-there : (p : Plan) (b : Board) (l : ℕ) (at : LegAt) → leg_at p b l ≡ Some at → is_untaken at.leg.state ≡ true → IsUntaken b (Member.Leg l)
 is_untaken-there p b l at is untaken = λ leg there.
     ap (λ (x : Leg). is_untaken x.state) (same_some leg at.leg (sym there ∙ leg_item p b l at (leg_stands p b l at is))) ∙ untaken
 
 fresh-untaken : (s : LegState) → is_fresh s ≡ true → is_untaken s ≡ true
-fresh-untaken leg_state.Fresh h = refl
-fresh-untaken leg_state.Waiting h = refl
-fresh-untaken leg_state.Admitted h = refl
-fresh-untaken (leg_state.Running worker in_call) h = absurd (true≢false (sym h))
-fresh-untaken (leg_state.Ended result tolerated) h = absurd (true≢false (sym h))
+fresh-untaken LegState.Fresh h = refl
+fresh-untaken LegState.Waiting h = refl
+fresh-untaken LegState.Admitted h = refl
+fresh-untaken (LegState.Running worker in_call) h = absurd (true≢false (sym h))
+fresh-untaken (LegState.Ended result tolerated) h = absurd (true≢false (sym h))
 
 pub ask-quiet : (p : Plan) (b : Board) (l : ℕ) → QuietRow b (rows.ask_row p b l)
 unfolding QuietRow
 ask-quiet p b l = found (leg_at p b l) refl
   where
-    entered : (at : LegAt) → IsUntaken b (member.Leg l) → (x : Result (Option Entrance) ValueFault) → QuietRow b (rows.leg_enters b l at x)
-    entered at untaken (Ok group) = quiet-enters b (member.Leg l) (Some at.place.run) group untaken
-    entered at untaken (Err f) = quiet-dropped b l outcome.Failure
+    entered : (at : LegAt) → IsUntaken b (Member.Leg l) → (x : Result (Option Entrance) ValueFault) → QuietRow b (rows.leg_enters b l at x)
+    entered at untaken (Ok group) = quiet-enters b (Member.Leg l) (Some at.place.run) group untaken
+    entered at untaken (Err f) = quiet-dropped b l Outcome.Failure
 
     asked : (at : LegAt) → leg_at p b l ≡ Some at → (c : Bool) → rows.may_ask at ≡ c
-        → QuietRow b (if not c then Err fault.WrongState else (if is_full at.job_plan at.job then Err fault.SlotsFull else (if is_stopping at then Err fault.Stopping else rows.leg_enters b l at (leg_entrance at))))
+        → QuietRow b (if not c then Err EventFault.WrongState else (if is_full at.job_plan at.job then Err EventFault.SlotsFull else (if is_stopping at then Err EventFault.Stopping else rows.leg_enters b l at (leg_entrance at))))
     asked at is false may = tt
     asked at is true may =
         let fresh : is_fresh at.leg.state ≡ true = and-right (is_going at.run.state && is_open at.job.state) (is_fresh at.leg.state) may in
-        by_test (QuietRow b) (is_full at.job_plan at.job) (Err fault.SlotsFull) _ tt
-        (by_test (QuietRow b) (is_stopping at) (Err fault.Stopping) _ tt (entered at (is_untaken-there p b l at is (fresh-untaken at.leg.state fresh)) (leg_entrance at)))
+        by_test (QuietRow b) (is_full at.job_plan at.job) (Err EventFault.SlotsFull) _ tt
+        (by_test (QuietRow b) (is_stopping at) (Err EventFault.Stopping) _ tt (entered at (is_untaken-there p b l at is (fresh-untaken at.leg.state fresh)) (leg_entrance at)))
 
     found : (o : Option LegAt) → leg_at p b l ≡ o → QuietRow b (rows.ask_found b l o)
     found None is = tt
@@ -119,23 +88,23 @@ drop-quiet p b l = found (leg_at p b l)
     found : (o : Option LegAt) → QuietRow b (rows.drop_found b l o)
     found None = tt
     found (Some at) =
-        by_test (QuietRow b) (not (rows.may_drop at)) (Err fault.WrongState) _ tt
-        (by_test (QuietRow b) (is_stopping at) (Ok (leaves b (leg_standing at.leg) (dropped b l outcome.Cancelled))) (Err fault.NotStopping)
-        (quiet-leaves b (leg_standing at.leg) (dropped b l outcome.Cancelled) (quiet-dropped b l outcome.Cancelled)) tt)
+        by_test (QuietRow b) (not (rows.may_drop at)) (Err EventFault.WrongState) _ tt
+        (by_test (QuietRow b) (is_stopping at) (Ok (leaves b (leg_standing at.leg) (dropped b l Outcome.Cancelled))) (Err EventFault.NotStopping)
+        (quiet-leaves b (leg_standing at.leg) (dropped b l Outcome.Cancelled) (quiet-dropped b l Outcome.Cancelled)) tt)
 
 pub take-quiet : (p : Plan) (b : Board) (worker l : ℕ) → QuietRow b (rows.take_row p b worker l)
 unfolding QuietRow
 take-quiet p b worker l = found (leg_at p b l) refl
   where
     taken : (at : LegAt) → leg_at p b l ≡ Some at → (s : LegState) → at.leg.state ≡ s → QuietRow b (rows.take_leg b worker at s)
-    taken at is leg_state.Fresh was = tt
-    taken at is leg_state.Waiting was = tt
-    taken at is leg_state.Admitted was =
-        by_test (QuietRow b) (is_stopping at) (Err fault.Stopping) (Ok (leg_state_set b at.place (leg_state.Running worker false), moved)) tt
-        (quiet-leg b l at.place (λ leg. record leg { state = leg_state.Running worker false }) (leg_stands p b l at is).place
-        (λ x there. quiet-untaken x x (record x { state = leg_state.Running worker false }) (quiet-same x) refl refl (is_untaken-there p b l at is (ap is_untaken was) x there)))
-    taken at is (leg_state.Running other in_call) was = tt
-    taken at is (leg_state.Ended result tolerated) was = tt
+    taken at is LegState.Fresh was = tt
+    taken at is LegState.Waiting was = tt
+    taken at is LegState.Admitted was =
+        by_test (QuietRow b) (is_stopping at) (Err EventFault.Stopping) (Ok (leg_state_set b at.place (LegState.Running worker false), moved)) tt
+        (quiet-leg b l at.place (λ leg. record leg { state = LegState.Running worker false }) (leg_stands p b l at is).place
+        (λ x there. quiet-untaken x x (record x { state = LegState.Running worker false }) (quiet-same x) refl refl (is_untaken-there p b l at is (ap is_untaken was) x there)))
+    taken at is (LegState.Running other in_call) was = tt
+    taken at is (LegState.Ended result tolerated) was = tt
 
     found : (o : Option LegAt) → leg_at p b l ≡ o → QuietRow b (rows.take_found b worker o)
     found None is = tt
@@ -145,17 +114,17 @@ pub finish-quiet : (p : Plan) (b : Board) (worker l : ℕ) → QuietRow b (rows.
 unfolding QuietRow
 finish-quiet p b worker l = found (leg_at p b l) refl
   where
-    ended : (at : LegAt) → leg_at p b l ≡ Some at → (result : Outcome) (tolerated : Bool) → QuietRow b (rows.finish_leg b l at (Ok (leg_state.Ended result tolerated)))
+    ended : (at : LegAt) → leg_at p b l ≡ Some at → (result : Outcome) (tolerated : Bool) → QuietRow b (rows.finish_leg b l at (Ok (LegState.Ended result tolerated)))
     ended at is result tolerated =
-        quiet-leaves b (leg_standing at.leg) (rows.leg_ended b at.place l (leg_state.Ended result tolerated) (leg_outputs at))
-        (quiet-leg b l at.place (λ leg. record leg { state = leg_state.Ended result tolerated; outputs = leg_outputs at }) (leg_stands p b l at is).place
-        (λ x there. quiet-ended x x (record x { state = leg_state.Ended result tolerated; outputs = leg_outputs at }) (quiet-same x) refl refl))
+        quiet-leaves b (leg_standing at.leg) (rows.leg_ended b at.place l (LegState.Ended result tolerated) (leg_outputs at))
+        (quiet-leg b l at.place (λ leg. record leg { state = LegState.Ended result tolerated; outputs = leg_outputs at }) (leg_stands p b l at is).place
+        (λ x there. quiet-ended x x (record x { state = LegState.Ended result tolerated; outputs = leg_outputs at }) (quiet-same x) refl refl))
 
     by_owner : (at : LegAt) → leg_at p b l ≡ Some at → (owner : Option ℕ) → QuietRow b (rows.finish_leg b l at (rows.finishing_by worker at owner))
     by_owner at is None = tt
     by_owner at is (Some owner) = tests (not (worker == owner)) (nat_lt (length at.leg.steps) (length at.job_plan.steps))
       where
-        tests : (c d : Bool) → QuietRow b (rows.finish_leg b l at (if c then Err fault.OtherWorker else (if d then Err fault.StepsLeft else Ok (rows.ended_state at (leg_result at)))))
+        tests : (c d : Bool) → QuietRow b (rows.finish_leg b l at (if c then Err EventFault.OtherWorker else (if d then Err EventFault.StepsLeft else Ok (rows.ended_state at (leg_result at)))))
         tests true d = tt
         tests false true = tt
         tests false false = ended at is _ _
@@ -172,14 +141,14 @@ close-quiet p b r = found (run_at p b r)
     closes run result = quiet-leaves b (run_standing run) (closed b r result) (quiet-closed b r result)
 
     waiting : (run : Run) (stop : Bool) → QuietRow b (rows.close_waiting b r run stop)
-    waiting run true = closes run outcome.Cancelled
+    waiting run true = closes run Outcome.Cancelled
     waiting run false = tt
 
     by_state : (run : Run) (s : RunState) → QuietRow b (rows.close_run b r run s)
-    by_state run run_state.New = waiting run run.stop
-    by_state run run_state.Waiting = waiting run run.stop
-    by_state run run_state.Going = by_test (QuietRow b) (jobs_have_ended run) (rows.run_closes b r run (run_result run)) (Err fault.NeedsOpen) (closes run (run_result run)) tt
-    by_state run (run_state.Closed result) = tt
+    by_state run RunState.New = waiting run run.stop
+    by_state run RunState.Waiting = waiting run run.stop
+    by_state run RunState.Going = by_test (QuietRow b) (jobs_have_ended run) (rows.run_closes b r run (run_result run)) (Err EventFault.NeedsOpen) (closes run (run_result run)) tt
+    by_state run (RunState.Closed result) = tt
 
     found : (o : Option RunAt) → QuietRow b (rows.close_found b r o)
     found None = tt
@@ -192,7 +161,7 @@ cancel-quiet p b r = found (run_at p b r)
     found : (o : Option RunAt) → QuietRow b (rows.cancel_found b r o)
     found None = tt
     found (Some at) =
-        by_test (QuietRow b) (is_closed at.run.state || at.run.stop) (Err fault.WrongState) (Ok (stopped b true (member.Run r), moved)) tt (quiet-stopped b true (member.Run r))
+        by_test (QuietRow b) (is_closed at.run.state || at.run.stop) (Err EventFault.WrongState) (Ok (stopped b true (Member.Run r), moved)) tt (quiet-stopped b true (Member.Run r))
 
 -- ---- the call of a step names its leg and its place
 
@@ -231,10 +200,10 @@ pub record OneMore (old new : Leg) : Type 0 where
 
 -- by the reply, the leg is in that call of its next step, or it has done one more
 abbrev pub Begun : ℕ → What → Leg → Leg → Type 0
-Begun l what.Moved old new = ⊥
-Begun l (what.Call call) old new = (call.leg ≡ l) × (call.step ≡ length old.steps) × (new.steps ≡ old.steps) × (is_calling new.state ≡ true)
-Begun l what.Skipped old new = OneMore old new
-Begun l (what.Faulted f) old new = OneMore old new
+Begun l What.Moved old new = ⊥
+Begun l (What.Call call) old new = (call.leg ≡ l) × (call.step ≡ length old.steps) × (new.steps ≡ old.steps) × (is_calling new.state ≡ true)
+Begun l What.Skipped old new = OneMore old new
+Begun l (What.Faulted f) old new = OneMore old new
 
 -- a leg has a worker, and is in no call
 abbrev pub IsIdle : LegState → Type 0
@@ -280,37 +249,37 @@ module _ (p : Plan) (b : Board) (l : ℕ) (at : LegAt) (found : leg_at p b l ≡
       ap (λ legs. slice_get legs k) (board_legs-changed b l at.place f (leg_stands p b l at found).place) ∙ changed-elsewhere (board_legs b) l f k apart in
       subst (QuietAt (leg_of b k)) (sym same) (quiet_at-same (leg_of b k))
 
-  one_more : (worker : ℕ) (done : DoneStep) → OneMore at.leg (record at.leg { state = leg_state.Running worker false; steps = at.leg.steps ++ done ∷ [] })
+  one_more : (worker : ℕ) (done : DoneStep) → OneMore at.leg (record at.leg { state = LegState.Running worker false; steps = at.leg.steps ++ done ∷ [] })
   one_more worker done = let more = length-append at.leg.steps (done ∷ []) in record { steps = omega (arith, more); idle = refl }
 
-  step_turns : (worker : ℕ) (done : DoneStep) (told : What) → IsIdle at.leg.state → (OneMore at.leg (record at.leg { state = leg_state.Running worker false; steps = at.leg.steps ++ done ∷ [] })
-      → Begun l told at.leg (record at.leg { state = leg_state.Running worker false; steps = at.leg.steps ++ done ∷ [] })) → BeginTurns b (step_done b at.place worker done) l told
+  step_turns : (worker : ℕ) (done : DoneStep) (told : What) → IsIdle at.leg.state → (OneMore at.leg (record at.leg { state = LegState.Running worker false; steps = at.leg.steps ++ done ∷ [] })
+      → Begun l told at.leg (record at.leg { state = LegState.Running worker false; steps = at.leg.steps ++ done ∷ [] })) → BeginTurns b (step_done b at.place worker done) l told
   step_turns worker done told idle how =
-      let f : Leg → Leg = λ leg. record leg { state = leg_state.Running worker false; steps = leg.steps ++ done ∷ [] } in
+      let f : Leg → Leg = λ leg. record leg { state = LegState.Running worker false; steps = leg.steps ++ done ∷ [] } in
       record { old = at.leg; new = f at.leg; was = was_there; is = is_there f; idle = idle; begun = how (one_more worker done); others = elsewhere f }
 
   call_turns : (worker : ℕ) (call : StepCall) → IsIdle at.leg.state → call.leg ≡ l → call.step ≡ length at.leg.steps
-      → BeginTurns b (leg_state_set b at.place (leg_state.Running worker true)) l (what.Call call)
+      → BeginTurns b (leg_state_set b at.place (LegState.Running worker true)) l (What.Call call)
   call_turns worker call idle of_leg of_step =
-      let f : Leg → Leg = λ leg. record leg { state = leg_state.Running worker true } in
+      let f : Leg → Leg = λ leg. record leg { state = LegState.Running worker true } in
       record { old = at.leg; new = f at.leg; was = was_there; is = is_there f; idle = idle; begun = (of_leg, of_step, refl, refl); others = elsewhere f }
 
   begun_turns : (worker : ℕ) (step : StepPlan) → IsIdle at.leg.state → (x : Result (Option StepCall) ValueFault) → step_decision l at step ≡ x
       → BeginRow b l (rows.begin_leg b worker at (Ok (decided x)))
   unfolding BeginRow
-  begun_turns worker step idle (Ok None) is = step_turns worker skipped_step what.Skipped idle (λ h. h)
+  begun_turns worker step idle (Ok None) is = step_turns worker skipped_step What.Skipped idle (λ h. h)
   begun_turns worker step idle (Ok (Some call)) is =
       let made = subst (PlacedCall l (length at.leg.steps)) is (decision_placed l at step) in
       call_turns worker call idle made.0 made.1
-  begun_turns worker step idle (Err f) is = step_turns worker (failed_step at) (what.Faulted f) idle (λ h. h)
+  begun_turns worker step idle (Err f) is = step_turns worker (failed_step at) (What.Faulted f) idle (λ h. h)
 
   owner-idle : (s : LegState) (owner : ℕ) → rows.idle_owner s ≡ Some owner → IsIdle s
-  owner-idle leg_state.Fresh owner h = absurd (no_some owner h)
-  owner-idle leg_state.Waiting owner h = absurd (no_some owner h)
-  owner-idle leg_state.Admitted owner h = absurd (no_some owner h)
-  owner-idle (leg_state.Running worker true) owner h = absurd (no_some owner h)
-  owner-idle (leg_state.Running worker false) owner h = (refl, refl)
-  owner-idle (leg_state.Ended result tolerated) owner h = absurd (no_some owner h)
+  owner-idle LegState.Fresh owner h = absurd (no_some owner h)
+  owner-idle LegState.Waiting owner h = absurd (no_some owner h)
+  owner-idle LegState.Admitted owner h = absurd (no_some owner h)
+  owner-idle (LegState.Running worker true) owner h = absurd (no_some owner h)
+  owner-idle (LegState.Running worker false) owner h = (refl, refl)
+  owner-idle (LegState.Ended result tolerated) owner h = absurd (no_some owner h)
 
   begin_by : (worker : ℕ) (owner : Option ℕ) → rows.idle_owner at.leg.state ≡ owner → (step : Option StepPlan)
       → BeginRow b l (rows.begin_leg b worker at (rows.beginning_by worker l at owner step))
@@ -319,7 +288,7 @@ module _ (p : Plan) (b : Board) (l : ℕ) (at : LegAt) (found : leg_at p b l ≡
   begin_by worker (Some owner) is None = tt
   begin_by worker (Some owner) is (Some step) = tests (worker == owner)
     where
-      tests : (c : Bool) → BeginRow b l (rows.begin_leg b worker at (if c then Ok (decided (step_decision l at step)) else Err fault.OtherWorker))
+      tests : (c : Bool) → BeginRow b l (rows.begin_leg b worker at (if c then Ok (decided (step_decision l at step)) else Err EventFault.OtherWorker))
       tests true = begun_turns worker step (owner-idle at.leg.state owner is) (step_decision l at step) refl
       tests false = tt
 
@@ -329,19 +298,19 @@ module _ (p : Plan) (b : Board) (l : ℕ) (at : LegAt) (found : leg_at p b l ≡
   end_by worker a (Some owner) is = tests (not (worker == owner)) (is_well_formed a) refl
     where
       calling : (s : LegState) → rows.calling_owner s ≡ Some owner → is_calling s ≡ true
-      calling leg_state.Fresh h = absurd (no_some owner h)
-      calling leg_state.Waiting h = absurd (no_some owner h)
-      calling leg_state.Admitted h = absurd (no_some owner h)
-      calling (leg_state.Running worker' true) h = refl
-      calling (leg_state.Running worker' false) h = absurd (no_some owner h)
-      calling (leg_state.Ended result tolerated) h = absurd (no_some owner h)
+      calling LegState.Fresh h = absurd (no_some owner h)
+      calling LegState.Waiting h = absurd (no_some owner h)
+      calling LegState.Admitted h = absurd (no_some owner h)
+      calling (LegState.Running worker' true) h = refl
+      calling (LegState.Running worker' false) h = absurd (no_some owner h)
+      calling (LegState.Ended result tolerated) h = absurd (no_some owner h)
 
-      tests : (c d : Bool) → is_well_formed a ≡ d → EndRow b l a (rows.end_leg b worker at (if c then Err fault.OtherWorker else (if not d then Err fault.BadAnswer else Ok (rows.answered_step at a))))
+      tests : (c d : Bool) → is_well_formed a ≡ d → EndRow b l a (rows.end_leg b worker at (if c then Err EventFault.OtherWorker else (if not d then Err EventFault.BadAnswer else Ok (rows.answered_step at a))))
       tests true d good = tt
       tests false false good = tt
       tests false true good =
           let done = rows.answered_step at a in
-          let f : Leg → Leg = λ leg. record leg { state = leg_state.Running worker false; steps = leg.steps ++ done ∷ [] } in
+          let f : Leg → Leg = λ leg. record leg { state = LegState.Running worker false; steps = leg.steps ++ done ∷ [] } in
           record {
             old = at.leg;
             new = f at.leg;

@@ -1,22 +1,20 @@
 -- The answers of a list by its entries alone: a leg's steps are begun one after the other, so an End answers the last that was begun.
 use Rattle.std.specs.Prelude.{ℕ, suc, ◌-◌, ◌==◌, if◌then◌else◌, List, [], ◌∷◌, ◌++◌}
-use Rattle.flow_model.specs.declared.event.Entry.{Entry}
-use Rattle.flow_model.specs.declared.event.Event.{Event}
-use Rattle.flow_model.specs.declared.event.Event.TheVariants as event
+use Rattle.status_table.specs.Words.{Entry, Event}
 use Rattle.step_host.specs.Script.{Line}
 
 -- how many steps of a leg are begun, of which so many were begun before an event
 abbrev pub begun_after : ℕ → ℕ → Event → ℕ
-begun_after l n (event.Open r) = n
-begun_after l n (event.Judge j) = n
-begun_after l n (event.Ask m) = n
-begun_after l n (event.Drop m) = n
-begun_after l n (event.Take m) = n
-begun_after l n (event.Begin m) = if m == l then suc n else n
-begun_after l n (event.End m a) = n
-begun_after l n (event.Finish m) = n
-begun_after l n (event.Close r) = n
-begun_after l n (event.Cancel r) = n
+begun_after l n (Event.Open r) = n
+begun_after l n (Event.Judge j) = n
+begun_after l n (Event.Ask m) = n
+begun_after l n (Event.Drop m) = n
+begun_after l n (Event.Take m) = n
+begun_after l n (Event.Begin m) = if m == l then suc n else n
+begun_after l n (Event.End m a) = n
+begun_after l n (Event.Finish m) = n
+begun_after l n (Event.Close r) = n
+begun_after l n (Event.Cancel r) = n
 
 -- the same of several entries
 abbrev pub begun_from : ℕ → ℕ → List Entry → ℕ
@@ -29,16 +27,16 @@ begun l es = begun_from l 0 es
 
 -- the answer that an event gives, where so many steps of each leg are begun: an End gives one, for the last of its leg
 abbrev pub answer_counted : (ℕ → ℕ) → Event → List Line
-answer_counted many (event.Open r) = []
-answer_counted many (event.Judge j) = []
-answer_counted many (event.Ask l) = []
-answer_counted many (event.Drop l) = []
-answer_counted many (event.Take l) = []
-answer_counted many (event.Begin l) = []
-answer_counted many (event.End l a) = (l, many l - 1, a) ∷ []
-answer_counted many (event.Finish l) = []
-answer_counted many (event.Close r) = []
-answer_counted many (event.Cancel r) = []
+answer_counted many (Event.Open r) = []
+answer_counted many (Event.Judge j) = []
+answer_counted many (Event.Ask l) = []
+answer_counted many (Event.Drop l) = []
+answer_counted many (Event.Take l) = []
+answer_counted many (Event.Begin l) = []
+answer_counted many (Event.End l a) = (l, many l - 1, a) ∷ []
+answer_counted many (Event.Finish l) = []
+answer_counted many (Event.Close r) = []
+answer_counted many (Event.Cancel r) = []
 
 -- the answers that entries give after others
 abbrev pub answers_after : List Entry → List Entry → List Line

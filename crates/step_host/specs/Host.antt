@@ -1,7 +1,6 @@
 -- What a host gives to a call.
 use Rattle.std.specs.Prelude.{Result, Ok, Err}
-use Rattle.flow_model.specs.declared.event.Answer.{Answer}
-use Rattle.flow_model.specs.declared.reply.StepCall.{StepCall}
+use Rattle.status_table.specs.Words.{Answer, StepCall}
 use Rattle.step_host.specs.declared.fault.HostFault.{HostFault}
 use Rattle.step_host.specs.declared.fault.HostFault.TheVariants.{NoAnswer, Memory}
 

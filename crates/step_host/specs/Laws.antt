@@ -1,18 +1,7 @@
 -- What holds of lists that are lawful over a host.
 use Rattle.std.specs.Prelude.{◌≡◌, ℕ, true, List, [], ◌∷◌, ◌++◌, length, Some, Ok, slice_get}
-use Rattle.flow_model.specs.declared.plan.Plan.{Plan}
-use Rattle.flow_model.specs.Numbers.{board_legs}
-use Rattle.flow_model.specs.declared.board.Board.{Board}
-use Rattle.flow_model.specs.declared.board.Leg.{Leg}
-use Rattle.flow_model.specs.declared.board.LegState.TheVariants as leg_state
-use Rattle.flow_model.specs.declared.event.Answer.{Answer}
-use Rattle.flow_model.specs.declared.event.Entry.{Entry}
-use Rattle.flow_model.specs.declared.reply.Reply.{Reply}
-use Rattle.flow_model.specs.declared.reply.StepCall.{StepCall}
-use Rattle.status_table.specs.Row.{row}
-use Rattle.status_table.specs.Runs.{after, new_board, IsLegal}
+use Rattle.status_table.specs.Words.{Answer, Board, Entry, IsLegal, Leg, LegState, Plan, Reply, StepCall, after, board_legs, call_after, new_board, open_call, row}
 use Rattle.step_host.specs.Lawful.{IsLastCalled, EndsAdmitted, Lawful}
-use Rattle.status_table.specs.Calls.{open_call, call_after}
 use Rattle.step_host.specs.Counted.{counted}
 use Rattle.step_host.specs.Replay.{recorded, IsRecorded}
 use Rattle.step_host.specs.Script.{IsScript}
@@ -51,7 +40,7 @@ HasOpenCall p es l leg = (call : StepCall) × (open_call p es l ≡ Some call) �
 abbrev pub CalledLegsHaveCalls : Type 0
 CalledLegsHaveCalls =
     (p : Plan) (es : List Entry) (b : Board) (l worker : ℕ) (leg : Leg) → after p es ≡ Some b → slice_get (board_legs b) l ≡ Some leg
-    → leg.state ≡ leg_state.Running worker true → HasOpenCall p es l leg
+    → leg.state ≡ LegState.Running worker true → HasOpenCall p es l leg
 
 -- What a legal list records is a script.
 abbrev pub RecordsAreScripts : Type 0

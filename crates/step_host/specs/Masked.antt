@@ -1,12 +1,9 @@
 -- Answers whose values are masked.
 use Rattle.std.specs.Prelude.{◌≡◌, ◌≢◌, ℕ, Bool, true, false, if◌then◌else◌, List, Result, Ok, Err, refl}
-use Rattle.flow_model.specs.Answer.{is_well_formed}
-use Rattle.flow_model.specs.Mapping.{map_values}
-use Rattle.flow_model.specs.declared.event.Answer.{Answer}
+use Rattle.status_table.specs.Words.{Answer, is_well_formed, map_values}
 use Rattle.flow_model.specs.declared.event.Answer.TheVariants.{Exit, NotStarted, BadOutput}
 use Rattle.flow_commands.specs.Mask.{masked}
 use Rattle.step_host.specs.declared.watch.Refusal.{Refusal}
-use Rattle.step_host.specs.declared.watch.Refusal.TheVariants as refusal
 
 -- the answer, if it may end a call; else what it gives is bad
 abbrev pub checked : Answer → Answer
@@ -23,7 +20,7 @@ masked_answer masks BadOutput = BadOutput
 -- What is told of the masked form of an answer: where it is bad output and the answer was not, that masking made it so.
 abbrev pub TellsMasked : Answer → Result Answer Refusal → Type 0
 TellsMasked plain (Ok made) = made ≡ BadOutput → plain ≡ BadOutput
-TellsMasked plain (Err why) = (why ≡ refusal.Masked) × (plain ≢ BadOutput)
+TellsMasked plain (Err why) = (why ≡ Refusal.Masked) × (plain ≢ BadOutput)
 
 -- The answer is the masked form of one that is admitted.
 pub record IsMasked (masks : List (List ℕ)) (admits : Answer → Type 0) (answer : Answer) : Type 0 where

@@ -11,21 +11,15 @@ use Rattle.std.specs.declared.io.ErrorKind.{ErrorKind}
 use Rattle.std.specs.declared.io.ErrorKind.TheVariants.{OutOfMemory}
 use Rattle.std.specs.declared.process.command.Command.{Command}
 use Rattle.std.specs.declared.alloc.Global.{Global}
-use Rattle.flow_model.specs.declared.event.Answer.{Answer}
+use Rattle.status_table.specs.Words.{Answer, CallWork, Shell, StepCall, newline, value_at}
 use Rattle.flow_model.specs.declared.event.Answer.TheVariants.{Exit, BadOutput}
-use Rattle.flow_model.specs.declared.plan.Shell.{Shell}
 use Rattle.flow_model.specs.declared.plan.Shell.TheVariants.{Default, Sh, Bash}
-use Rattle.flow_model.specs.Mapping.{value_at}
-use Rattle.flow_model.specs.declared.reply.CallWork.{CallWork}
 use Rattle.flow_model.specs.declared.reply.CallWork.TheVariants.{Script, Uses}
-use Rattle.flow_model.specs.declared.reply.StepCall.{StepCall}
 use Rattle.flow_commands.specs.PairFiles.{Pair, Reading, Refuses, outputs, env, with_pairs}
 use Rattle.flow_commands.specs.Replace.{replaced}
 use Rattle.flow_commands.specs.Shell.{words}
-use Rattle.flow_model.specs.Lines.{newline}
 use Rattle.step_host.specs.declared.launch.Launch.{Launch}
 use Rattle.step_host.specs.declared.watch.Refusal.{Refusal}
-use Rattle.step_host.specs.declared.watch.Refusal.TheVariants as refusal
 
 -- ---- files and folders
 
@@ -185,13 +179,13 @@ ended code given set = answered (code_of code) (accepted (outputs given)) (accep
 
 -- Why one of the two files is refused: that of outputs, or else that of variables; where memory ran out, that is told.
 abbrev pub IsReason : List ℕ → List ℕ → Refusal → Type 0
-IsReason given set (refusal.NoEnd kind) = ⊥
-IsReason given set (refusal.NoLog kind) = ⊥
-IsReason given set (refusal.NoOutputs kind) = ⊥
-IsReason given set (refusal.NoVariables kind) = ⊥
-IsReason given set (refusal.Outputs fault) = Refuses fault (outputs given)
-IsReason given set (refusal.Variables fault) = (accepted (outputs given) ≢ None) × Refuses fault (env set)
-IsReason given set refusal.Masked = ⊥
+IsReason given set (Refusal.NoEnd kind) = ⊥
+IsReason given set (Refusal.NoLog kind) = ⊥
+IsReason given set (Refusal.NoOutputs kind) = ⊥
+IsReason given set (Refusal.NoVariables kind) = ⊥
+IsReason given set (Refusal.Outputs fault) = Refuses fault (outputs given)
+IsReason given set (Refusal.Variables fault) = (accepted (outputs given) ≢ None) × Refuses fault (env set)
+IsReason given set Refusal.Masked = ⊥
 
 -- What a program is answered for is the answer of its files, or is bad output for this reason.
 abbrev pub Answers : Answer → List ℕ → List ℕ → Result Answer Refusal → Type 0

@@ -1,8 +1,6 @@
 -- Scripts: answers, each listed for a step of a leg.
 use Rattle.std.specs.Prelude.{◌≡◌, ◌↔◌, ℕ, true, List, Some, Result, Ok, Err, slice_get}
-use Rattle.flow_model.specs.Answer.{is_well_formed}
-use Rattle.flow_model.specs.declared.event.Answer.{Answer}
-use Rattle.flow_model.specs.declared.reply.StepCall.{StepCall}
+use Rattle.status_table.specs.Words.{Answer, StepCall, is_well_formed}
 use Rattle.step_host.specs.declared.fault.ScriptFault.{ScriptFault}
 use Rattle.step_host.specs.declared.fault.ScriptFault.TheVariants.{BadScript, Memory}
 

@@ -1,6 +1,6 @@
 -- What somebody is told of who watches.
 use Rattle.std.specs.Prelude.{Result, Ok, Err}
-use Rattle.flow_model.specs.declared.event.Answer.{Answer}
+use Rattle.status_table.specs.Words.{Answer}
 use Rattle.flow_model.specs.declared.event.Answer.TheVariants.{BadOutput}
 use Rattle.step_host.specs.declared.watch.Refusal.{Refusal}
 

@@ -3,14 +3,12 @@ use Rattle.std.proofs.Common.{◌≡◌, ℕ, zero, suc, ◌+◌, ◌-◌, ◌<�
 use Rattle.std.specs.List.{flat_map, AllZip}
 use Rattle.std.proofs.lemmas.List.{map-append}
 use Rattle.std.proofs.lemmas.Option.{slice_get_within}
-use Rattle.board_decisions.specs.Place.{JobAt, LegAt, job_at, leg_place}
-use Rattle.board_decisions.specs.declared.place.LegPlace.{LegPlace}
+use Rattle.status_table.specs.Words.{Board, DoneStep, Job, JobAt, JobState, Leg, LegAt, LegPlace, LegState, Member, Outcome, Plan, Run, RunState, admitted, board_jobs, board_legs, cancelled, changed, closed, dropped, job_at, leg_changed, leg_place, passed_on, step_done, stopped, waits, with_job, with_leg, with_numbered_leg, with_run}
 use Rattle.why_facts.specs.Notes as spec
 use Rattle.why_facts.specs.Notes.{noted}
-use Rattle.why_facts.specs.declared.fact.Change.TheVariants as change
+use Rattle.why_facts.specs.declared.fact.Change.{Change}
 use Rattle.why_facts.specs.declared.fact.JobFact.{JobFact}
 use Rattle.why_facts.specs.declared.fact.MemberFact.{MemberFact}
-use Rattle.why_facts.specs.declared.fact.MemberFact.TheVariants as member_fact
 use Rattle.why_facts.specs.declared.fact.StepFact.{StepFact}
 use Rattle.why_facts.specs.declared.fact.Teller.{Teller}
 use Rattle.why_facts.specs.declared.notes.JobNotes.{JobNotes}
@@ -23,23 +21,6 @@ use Rattle.why_facts.specs.declared.notes.StopNote.{StopNote}
 use Rattle.why_notes.specs.Laws.{judged_to}
 use Rattle.why_causes.specs.Agrees.{Agrees, JobAgrees, JobNow, LegAgrees, LegNow, LegStill, RunAgrees}
 use Rattle.why_causes.specs.Stands.{RunIs, outcome_told}
-use Rattle.flow_model.specs.Numbers.{board_jobs, board_legs}
-use Rattle.flow_model.specs.declared.board.Board.{Board}
-use Rattle.flow_model.specs.declared.board.DoneStep.{DoneStep}
-use Rattle.flow_model.specs.declared.board.Job.{Job}
-use Rattle.flow_model.specs.declared.board.JobState.{JobState}
-use Rattle.flow_model.specs.declared.board.Leg.{Leg}
-use Rattle.flow_model.specs.declared.board.LegState.TheVariants as leg_state
-use Rattle.flow_model.specs.declared.board.Run.{Run}
-use Rattle.flow_model.specs.declared.board.RunState.TheVariants as run_state
-use Rattle.flow_model.specs.declared.event.Member.{Member}
-use Rattle.flow_model.specs.declared.event.Member.TheVariants as member
-use Rattle.flow_model.specs.declared.event.Outcome.{Outcome}
-use Rattle.flow_model.specs.declared.event.Outcome.TheVariants as outcome
-use Rattle.flow_model.specs.declared.plan.Plan.{Plan}
-use Rattle.status_table.specs.Change.{changed, leg_changed, with_job, with_leg, with_numbered_leg, with_run}
-use Rattle.status_table.specs.Groups.{admitted, cancelled, closed, dropped, passed_on, stopped, waits}
-use Rattle.status_table.specs.Row.{step_done}
 use Rattle.why_causes.proofs.Members.{KeepsJobs, job_legs}
 use Rattle.status_table.proofs.Found.{JobStands, LegStands, job_stands}
 use Rattle.status_table.proofs.Lists.{changed-cons, changed-left, changed-right, flat_map-kept, flat_map-twice, zip-changed}
@@ -150,7 +131,7 @@ jobs_changed (x ∷ runs) (suc i) k run f is lt =
 
 -- a job has the state of what is noted of it
 pub judged_agrees : (p : Plan) (b : Board) (notes : Notes) (j : ℕ) (at : JobAt) (state : JobState) (fact : JobFact) (line : ℕ) → job_at p b j ≡ Some at → state ≡ judged_to fact
-    → Agrees b notes → Agrees (with_job b at.place (λ job. record job { state = state })) (noted line notes (change.Job j fact))
+    → Agrees b notes → Agrees (with_job b at.place (λ job. record job { state = state })) (noted line notes (Change.Job j fact))
 judged_agrees p b notes j at state fact line is judged h = record {
   runs = zip-changed RunAgrees notes.runs b.runs at.place.run (λ run. record run { jobs = changed run.jobs at.place.job (λ job. record job { state = state }) })
       (λ n run _ _ a. record { state = a.state; told = a.told }) h.runs;
@@ -170,59 +151,59 @@ judged_agrees p b notes j at state fact line is judged h = record {
 -- ---- the changes of members
 
 pub waits_agrees : (b : Board) (notes : Notes) (name : List ℕ) (m holds : Member) (line : ℕ) → Agrees b notes
-    → Agrees (waits b name m) (noted line notes (change.Member m (member_fact.Waits holds)))
-waits_agrees b notes name (member.Run r) holds line =
-    run_agrees b notes r (λ run. record run { state = run_state.Waiting; group = Some name }) (λ run. record run { last = Some (record { line = line; fact = member_fact.Waits holds }) })
+    → Agrees (waits b name m) (noted line notes (Change.Member m (MemberFact.Waits holds)))
+waits_agrees b notes name (Member.Run r) holds line =
+    run_agrees b notes r (λ run. record run { state = RunState.Waiting; group = Some name }) (λ run. record run { last = Some (record { line = line; fact = MemberFact.Waits holds }) })
     (λ run. refl) (λ n run _ _ a. record { state = refl; told = a.told })
-waits_agrees b notes name (member.Leg l) holds line =
-    leg_agrees b notes l (λ leg. record leg { state = leg_state.Waiting; group = Some name }) (λ leg. record leg { last = Some (record { line = line; fact = member_fact.Waits holds }) })
+waits_agrees b notes name (Member.Leg l) holds line =
+    leg_agrees b notes l (λ leg. record leg { state = LegState.Waiting; group = Some name }) (λ leg. record leg { last = Some (record { line = line; fact = MemberFact.Waits holds }) })
     (λ n leg _ _ a. record { state = refl; told = a.told; steps = a.steps })
 
 pub admitted_agrees : (b : Board) (notes : Notes) (name : Option (List ℕ)) (m : Member) (line : ℕ) → Agrees b notes
-    → Agrees (admitted b name m) (noted line notes (change.Member m member_fact.Admitted))
-admitted_agrees b notes name (member.Run r) line =
-    run_agrees b notes r (λ run. record run { state = run_state.Going; group = name }) (λ run. record run { last = Some (record { line = line; fact = member_fact.Admitted }) })
+    → Agrees (admitted b name m) (noted line notes (Change.Member m MemberFact.Admitted))
+admitted_agrees b notes name (Member.Run r) line =
+    run_agrees b notes r (λ run. record run { state = RunState.Going; group = name }) (λ run. record run { last = Some (record { line = line; fact = MemberFact.Admitted }) })
     (λ run. refl) (λ n run _ _ a. record { state = refl; told = a.told })
-admitted_agrees b notes name (member.Leg l) line =
-    leg_agrees b notes l (λ leg. record leg { state = leg_state.Admitted; group = name }) (λ leg. record leg { last = Some (record { line = line; fact = member_fact.Admitted }) })
+admitted_agrees b notes name (Member.Leg l) line =
+    leg_agrees b notes l (λ leg. record leg { state = LegState.Admitted; group = name }) (λ leg. record leg { last = Some (record { line = line; fact = MemberFact.Admitted }) })
     (λ n leg _ _ a. record { state = refl; told = a.told; steps = a.steps })
 
 pub passed_agrees : (b : Board) (notes : Notes) (m before : Member) (line : ℕ) → Agrees b notes
-    → Agrees (passed_on b (Some m)) (noted line notes (change.Member m (member_fact.Follows before)))
-passed_agrees b notes (member.Run r) before line =
-    run_agrees b notes r (λ run. record run { state = run_state.Going }) (λ run. record run { last = Some (record { line = line; fact = member_fact.Follows before }) })
+    → Agrees (passed_on b (Some m)) (noted line notes (Change.Member m (MemberFact.Follows before)))
+passed_agrees b notes (Member.Run r) before line =
+    run_agrees b notes r (λ run. record run { state = RunState.Going }) (λ run. record run { last = Some (record { line = line; fact = MemberFact.Follows before }) })
     (λ run. refl) (λ n run _ _ a. record { state = refl; told = a.told })
-passed_agrees b notes (member.Leg l) before line =
-    leg_agrees b notes l (λ leg. record leg { state = leg_state.Admitted }) (λ leg. record leg { last = Some (record { line = line; fact = member_fact.Follows before }) })
+passed_agrees b notes (Member.Leg l) before line =
+    leg_agrees b notes l (λ leg. record leg { state = LegState.Admitted }) (λ leg. record leg { last = Some (record { line = line; fact = MemberFact.Follows before }) })
     (λ n leg _ _ a. record { state = refl; told = a.told; steps = a.steps })
 
-pub closed_agrees : (b : Board) (notes : Notes) (r : ℕ) (result : Outcome) (fact : MemberFact) (line : ℕ) → RunIs fact (run_state.Closed result) → Agrees b notes
-    → Agrees (closed b r result) (noted line notes (change.Member (member.Run r) fact))
+pub closed_agrees : (b : Board) (notes : Notes) (r : ℕ) (result : Outcome) (fact : MemberFact) (line : ℕ) → RunIs fact (RunState.Closed result) → Agrees b notes
+    → Agrees (closed b r result) (noted line notes (Change.Member (Member.Run r) fact))
 closed_agrees b notes r result fact line is =
-    run_agrees b notes r (λ run. record run { state = run_state.Closed result }) (λ run. record run { last = Some (record { line = line; fact = fact }) })
+    run_agrees b notes r (λ run. record run { state = RunState.Closed result }) (λ run. record run { last = Some (record { line = line; fact = fact }) })
     (λ run. refl) (λ n run _ _ a. record { state = is; told = a.told })
 
-pub dropped_agrees : (b : Board) (notes : Notes) (l : ℕ) (result : Outcome) (fact : MemberFact) (line : ℕ) → LegStill fact (leg_state.Ended result false) → Agrees b notes
-    → Agrees (dropped b l result) (noted line notes (change.Member (member.Leg l) fact))
+pub dropped_agrees : (b : Board) (notes : Notes) (l : ℕ) (result : Outcome) (fact : MemberFact) (line : ℕ) → LegStill fact (LegState.Ended result false) → Agrees b notes
+    → Agrees (dropped b l result) (noted line notes (Change.Member (Member.Leg l) fact))
 dropped_agrees b notes l result fact line is h =
-    same_agrees (with_numbered_leg b l (λ leg. record leg { state = leg_state.Ended result false })) (dropped b l result) (noted line notes (change.Member (member.Leg l) fact)) refl
-    (leg_agrees b notes l (λ leg. record leg { state = leg_state.Ended result false }) (λ leg. record leg { last = Some (record { line = line; fact = fact }) })
+    same_agrees (with_numbered_leg b l (λ leg. record leg { state = LegState.Ended result false })) (dropped b l result) (noted line notes (Change.Member (Member.Leg l) fact)) refl
+    (leg_agrees b notes l (λ leg. record leg { state = LegState.Ended result false }) (λ leg. record leg { last = Some (record { line = line; fact = fact }) })
     (λ n leg _ _ a. record { state = is; told = a.told; steps = a.steps }) h)
 
-pub displaced_agrees : (b : Board) (notes : Notes) (m by : Member) (line : ℕ) → Agrees b notes → Agrees (cancelled b m) (noted line notes (change.Member m (member_fact.Displaced by)))
-displaced_agrees b notes (member.Run r) by line = closed_agrees b notes r outcome.Cancelled (member_fact.Displaced by) line refl
-displaced_agrees b notes (member.Leg l) by line = dropped_agrees b notes l outcome.Cancelled (member_fact.Displaced by) line refl
+pub displaced_agrees : (b : Board) (notes : Notes) (m by : Member) (line : ℕ) → Agrees b notes → Agrees (cancelled b m) (noted line notes (Change.Member m (MemberFact.Displaced by)))
+displaced_agrees b notes (Member.Run r) by line = closed_agrees b notes r Outcome.Cancelled (MemberFact.Displaced by) line refl
+displaced_agrees b notes (Member.Leg l) by line = dropped_agrees b notes l Outcome.Cancelled (MemberFact.Displaced by) line refl
 
 -- the first teller is noted
 pub first_told : (first : Option StopNote) (note : StopNote) → is_some (spec.first_of first note) ≡ true
 first_told None note = refl
 first_told (Some first) note = refl
 
-pub told_agrees : (b : Board) (notes : Notes) (m : Member) (tells : Teller) (line : ℕ) → Agrees b notes → Agrees (stopped b true m) (noted line notes (change.Stop m tells))
-told_agrees b notes (member.Run r) tells line =
+pub told_agrees : (b : Board) (notes : Notes) (m : Member) (tells : Teller) (line : ℕ) → Agrees b notes → Agrees (stopped b true m) (noted line notes (Change.Stop m tells))
+told_agrees b notes (Member.Run r) tells line =
     run_agrees b notes r (λ run. record run { stop = true }) (λ run. record run { stop = spec.first_of run.stop (record { line = line; teller = tells }) })
     (λ run. refl) (λ n run _ _ a. record { state = a.state; told = first_told n.stop (record { line = line; teller = tells }) })
-told_agrees b notes (member.Leg l) tells line =
+told_agrees b notes (Member.Leg l) tells line =
     leg_agrees b notes l (λ leg. record leg { stop = true }) (λ leg. record leg { stop = spec.first_of leg.stop (record { line = line; teller = tells }) })
     (λ n leg _ _ a. record { state = a.state; told = first_told n.stop (record { line = line; teller = tells }); steps = a.steps })
 
@@ -231,7 +212,7 @@ told_agrees b notes (member.Leg l) tells line =
 -- a leg ends, or is taken
 pub member_agrees : (p : Plan) (b : Board) (notes : Notes) (l : ℕ) (at : LegAt) (f : Leg → Leg) (fact : MemberFact) (line : ℕ) → LegStands p b l at
     → ((leg : Leg) → LegStill fact (f leg).state) → ((leg : Leg) → (f leg).stop ≡ leg.stop) → ((leg : Leg) → (f leg).steps ≡ leg.steps) → Agrees b notes
-    → Agrees (with_leg b at.place f) (noted line notes (change.Member (member.Leg l) fact))
+    → Agrees (with_leg b at.place f) (noted line notes (Change.Member (Member.Leg l) fact))
 member_agrees p b notes l at f fact line stands state stop steps =
     put_agrees p b notes l at f (λ leg. record leg { last = Some (record { line = line; fact = fact }) }) stands (λ n leg _ _ a. record {
       state = state leg;
@@ -243,40 +224,40 @@ pub ends_agree : (b : Board) (notes : Notes) (ends : List ℕ) → Agrees b note
 ends_agree b notes ends h = same_agrees b (record b { ends = ends }) notes refl h
 
 -- a leg at work is at work, whether in a call or not
-still_taken : (fact : MemberFact) (w v : ℕ) (c d : Bool) → LegStill fact (leg_state.Running w c) → LegStill fact (leg_state.Running v d)
-still_taken member_fact.Admitted w v c d h = cc
-still_taken (member_fact.Waits holder) w v c d h = cc
-still_taken (member_fact.Follows before) w v c d h = cc
-still_taken (member_fact.Displaced by) w v c d h = cc
-still_taken member_fact.OwnRun w v c d h = cc
-still_taken (member_fact.NoGroup f) w v c d h = cc
-still_taken (member_fact.Closed result) w v c d h = absurd h
-still_taken member_fact.Taken w v c d h = (v, (d, refl))
-still_taken (member_fact.Finished result) w v c d h = absurd (no h.0 h.1)
+still_taken : (fact : MemberFact) (w v : ℕ) (c d : Bool) → LegStill fact (LegState.Running w c) → LegStill fact (LegState.Running v d)
+still_taken MemberFact.Admitted w v c d h = cc
+still_taken (MemberFact.Waits holder) w v c d h = cc
+still_taken (MemberFact.Follows before) w v c d h = cc
+still_taken (MemberFact.Displaced by) w v c d h = cc
+still_taken MemberFact.OwnRun w v c d h = cc
+still_taken (MemberFact.NoGroup f) w v c d h = cc
+still_taken (MemberFact.Closed result) w v c d h = absurd h
+still_taken MemberFact.Taken w v c d h = (v, (d, refl))
+still_taken (MemberFact.Finished result) w v c d h = absurd (no h.0 h.1)
   where
-    no : (t : Bool) → leg_state.Running w c ≡ leg_state.Ended result t → ⊥
+    no : (t : Bool) → LegState.Running w c ≡ LegState.Ended result t → ⊥
     no t e = cc
-still_taken (member_fact.Stopped cause) w v c d h = cc
+still_taken (MemberFact.Stopped cause) w v c d h = cc
 
-still : (last : Option MemberNote) (w v : ℕ) (c d : Bool) → LegNow last (leg_state.Running w c) → LegNow last (leg_state.Running v d)
+still : (last : Option MemberNote) (w v : ℕ) (c d : Bool) → LegNow last (LegState.Running w c) → LegNow last (LegState.Running v d)
 still None w v c d h = cc
 still (Some note) w v c d h = still_taken note.fact w v c d h
 
 pub called_agrees : (p : Plan) (b : Board) (notes : Notes) (l : ℕ) (at : LegAt) (owner worker line : ℕ) → LegStands p b l at → slice_get (board_legs b) l ≡ Some at.leg
-    → at.leg.state ≡ leg_state.Running owner false → Agrees b notes
-    → Agrees (with_leg b at.place (λ leg. record leg { state = leg_state.Running worker true })) (noted line notes (change.Called l))
+    → at.leg.state ≡ LegState.Running owner false → Agrees b notes
+    → Agrees (with_leg b at.place (λ leg. record leg { state = LegState.Running worker true })) (noted line notes (Change.Called l))
 called_agrees p b notes l at owner worker line stands item idle =
-    put_agrees p b notes l at (λ leg. record leg { state = leg_state.Running worker true }) (λ leg. record leg { call = Some line }) stands (λ n leg _ is a. record {
+    put_agrees p b notes l at (λ leg. record leg { state = LegState.Running worker true }) (λ leg. record leg { call = Some line }) stands (λ n leg _ is a. record {
       state = still n.last owner worker false true (subst (LegNow n.last) (ap (λ (x : Leg). x.state) (same_some leg at.leg (sym is ∙ item)) ∙ idle) a.state);
       told = a.told;
       steps = a.steps;
     })
 
 pub step_agrees : (p : Plan) (b : Board) (notes : Notes) (l : ℕ) (at : LegAt) (owner worker : ℕ) (in_call : Bool) (done : DoneStep) (fact : StepFact) (line : ℕ) → LegStands p b l at
-    → slice_get (board_legs b) l ≡ Some at.leg → at.leg.state ≡ leg_state.Running owner in_call → done.outcome ≡ outcome_told fact → Agrees b notes
-    → Agrees (step_done b at.place worker done) (noted line notes (change.Step l fact))
+    → slice_get (board_legs b) l ≡ Some at.leg → at.leg.state ≡ LegState.Running owner in_call → done.outcome ≡ outcome_told fact → Agrees b notes
+    → Agrees (step_done b at.place worker done) (noted line notes (Change.Step l fact))
 step_agrees p b notes l at owner worker in_call done fact line stands item busy is =
-    put_agrees p b notes l at (λ leg. record leg { state = leg_state.Running worker false; steps = leg.steps ++ done ∷ [] })
+    put_agrees p b notes l at (λ leg. record leg { state = LegState.Running worker false; steps = leg.steps ++ done ∷ [] })
     (λ leg. record leg { steps = leg.steps ++ (record { line = line; fact = fact }) ∷ [] }) stands (λ n leg _ there a. record {
       state = still n.last owner worker in_call false (subst (LegNow n.last) (ap (λ (x : Leg). x.state) (same_some leg at.leg (sym there ∙ item)) ∙ busy) a.state);
       told = a.told;

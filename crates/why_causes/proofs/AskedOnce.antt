@@ -1,15 +1,13 @@
 -- Nothing is asked twice.
 use Rattle.std.proofs.Common.{◌≡◌, ◌≢◌, ◌≤◌, ◌+◌, ◌++◌, ◌==◌, ◌&&◌, ℕ, zero, suc, Bool, true, false, List, [], ◌∷◌, Option, Some, None, slice_get, is_some, cond, refl, sym, ap, subst, ◌∙◌, zero-add, arith}
+use Rattle.status_table.specs.Words.{Member, holds, holds_at}
 use Rattle.why_causes.specs.Once.{Kind, runs, jobs, legs, stops, NothingIsAskedTwice, answers, is_marked_by, mark_of, marks, one_if, same_kind}
 use Rattle.why_causes.specs.Tree.{asked_below, at_depth, is_told, lines, lines_of, most_lines, nothing_told, set_mark, told_after, with_told}
 use Rattle.why_causes.specs.declared.question.Question.{Question}
-use Rattle.why_causes.specs.declared.question.Question.TheVariants as question
 use Rattle.why_causes.specs.declared.tree.Asked.{Asked}
 use Rattle.why_causes.specs.declared.tree.Line.{Line}
 use Rattle.why_causes.specs.declared.tree.Told.{Told}
-use Rattle.board_decisions.specs.Derived.{holds, holds_at}
 use Rattle.why_notes.specs.Account.{Account}
-use Rattle.flow_model.specs.declared.event.Member.TheVariants as member
 use Rattle.status_table.proofs.Lists.{changed-elsewhere, changed-same, changed-there}
 
 -- ---- marks
@@ -86,21 +84,21 @@ with_by told (Some mark) = with_kind told mark.0 mark.1
 
 is_told-by : (told : Told) (q : Question) → is_told told q ≡ told_by told (mark_of q)
 unfolding told_by
-is_told-by told (question.Run r) = refl
-is_told-by told (question.Job j) = refl
-is_told-by told (question.Leg l) = refl
-is_told-by told (question.Step l s) = refl
-is_told-by told (question.Stop (member.Run r)) = refl
-is_told-by told (question.Stop (member.Leg l)) = refl
+is_told-by told (Question.Run r) = refl
+is_told-by told (Question.Job j) = refl
+is_told-by told (Question.Leg l) = refl
+is_told-by told (Question.Step l s) = refl
+is_told-by told (Question.Stop (Member.Run r)) = refl
+is_told-by told (Question.Stop (Member.Leg l)) = refl
 
 with_told-by : (told : Told) (q : Question) → with_told told q ≡ with_by told (mark_of q)
 unfolding with_by with_kind
-with_told-by told (question.Run r) = refl
-with_told-by told (question.Job j) = refl
-with_told-by told (question.Leg l) = refl
-with_told-by told (question.Step l s) = refl
-with_told-by told (question.Stop (member.Run r)) = refl
-with_told-by told (question.Stop (member.Leg l)) = refl
+with_told-by told (Question.Run r) = refl
+with_told-by told (Question.Job j) = refl
+with_told-by told (Question.Leg l) = refl
+with_told-by told (Question.Step l s) = refl
+with_told-by told (Question.Stop (Member.Run r)) = refl
+with_told-by told (Question.Stop (Member.Leg l)) = refl
 
 -- ---- what becomes of a mark
 

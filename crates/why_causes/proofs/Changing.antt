@@ -1,57 +1,40 @@
 -- A change that closes a run is made by its Close, and one of a job by its Judge.
 use Rattle.std.proofs.Common.{◌≡◌, inl, inr, ℕ, Bool, true, false, List, [], ◌∷◌, ◌++◌, Contains, Option, Some, None, Result, Ok, Err, subst, refl, if◌then◌else◌}
 use Rattle.std.specs.List.{AllByRecursion}
-use Rattle.board_decisions.specs.Decisions.{is_stopping, leg_entrance, run_entrance, step_decision}
-use Rattle.board_decisions.specs.Derived.{job_status}
-use Rattle.board_decisions.specs.Place.{JobAt, LegAt, RunAt, job_at, leg_at, run_at}
-use Rattle.board_decisions.specs.declared.entrance.Entrance.{Entrance}
+use Rattle.status_table.specs.Words.{Board, Entrance, Event, JobAt, LegAt, Member, Outcome, Plan, RunAt, StepCall, StepPlan, ValueFault, first_of, holder, is_own, is_stopping, job_at, job_status, leg_at, leg_entrance, leg_standing, next_after, next_step, run_at, run_entrance, run_standing, step_decision, waiter}
 use Rattle.why_causes.proofs.MetFirst.{contains_cases, contains_none}
 use Rattle.why_facts.specs.Queues as queueing
 use Rattle.why_facts.specs.Stops.{cause_of_stop}
 use Rattle.why_facts.specs.declared.fact.Change.{Change}
-use Rattle.why_facts.specs.declared.fact.Change.TheVariants as change
 use Rattle.why_facts.specs.declared.fact.MemberFact.{MemberFact}
-use Rattle.why_facts.specs.declared.fact.MemberFact.TheVariants as member_fact
 use Rattle.why_notes.specs.Changes as causes
 use Rattle.why_notes.specs.Changes.{changes}
-use Rattle.flow_model.specs.declared.board.Board.{Board}
-use Rattle.flow_model.specs.declared.event.Event.{Event}
-use Rattle.flow_model.specs.declared.event.Event.TheVariants as event
-use Rattle.flow_model.specs.declared.event.Member.{Member}
-use Rattle.flow_model.specs.declared.event.Member.TheVariants as member
-use Rattle.flow_model.specs.declared.event.Outcome.{Outcome}
-use Rattle.flow_model.specs.declared.plan.Plan.{Plan}
-use Rattle.flow_model.specs.declared.plan.StepPlan.{StepPlan}
-use Rattle.flow_model.specs.declared.reply.StepCall.{StepCall}
-use Rattle.flow_model.specs.declared.reply.ValueFault.{ValueFault}
-use Rattle.status_table.specs.Groups.{holder, is_own, leg_standing, next_after, run_standing, waiter}
-use Rattle.status_table.specs.Row.{first_of, next_step}
 
 -- a run that is closed by its Close, with the result that the row gives it
 abbrev ClosedBy : Plan → Board → Event → Outcome → Member → Type 0
-ClosedBy p b e result (member.Run r) = (at : RunAt) × (run_at p b r ≡ Some at) × (e ≡ event.Close r) × (result ≡ causes.closing at.run.state at.run)
-ClosedBy p b e result (member.Leg l) = Unit {0}
+ClosedBy p b e result (Member.Run r) = (at : RunAt) × (run_at p b r ≡ Some at) × (e ≡ Event.Close r) × (result ≡ causes.closing at.run.state at.run)
+ClosedBy p b e result (Member.Leg l) = Unit {0}
 
 abbrev MemberBy : Plan → Board → Event → Member → MemberFact → Type 0
-MemberBy p b e who (member_fact.Closed result) = ClosedBy p b e result who
-MemberBy p b e who member_fact.Admitted = Unit {0}
-MemberBy p b e who (member_fact.Waits holder) = Unit {0}
-MemberBy p b e who (member_fact.Follows before) = Unit {0}
-MemberBy p b e who (member_fact.Displaced by) = Unit {0}
-MemberBy p b e who member_fact.OwnRun = Unit {0}
-MemberBy p b e who (member_fact.NoGroup fault) = Unit {0}
-MemberBy p b e who member_fact.Taken = Unit {0}
-MemberBy p b e who (member_fact.Finished result) = Unit {0}
-MemberBy p b e who (member_fact.Stopped cause) = Unit {0}
+MemberBy p b e who (MemberFact.Closed result) = ClosedBy p b e result who
+MemberBy p b e who MemberFact.Admitted = Unit {0}
+MemberBy p b e who (MemberFact.Waits holder) = Unit {0}
+MemberBy p b e who (MemberFact.Follows before) = Unit {0}
+MemberBy p b e who (MemberFact.Displaced by) = Unit {0}
+MemberBy p b e who MemberFact.OwnRun = Unit {0}
+MemberBy p b e who (MemberFact.NoGroup fault) = Unit {0}
+MemberBy p b e who MemberFact.Taken = Unit {0}
+MemberBy p b e who (MemberFact.Finished result) = Unit {0}
+MemberBy p b e who (MemberFact.Stopped cause) = Unit {0}
 
 -- what is known of a change by the entry that makes it
 abbrev pub MadeBy : Plan → Board → Event → Change → Type 0
-MadeBy p b e (change.Member who fact) = MemberBy p b e who fact
-MadeBy p b e (change.Job j fact) =
-    (at : JobAt) × (job_at p b j ≡ Some at) × (e ≡ event.Judge j) × (fact ≡ causes.judged_under at (job_status (first_of j at) at))
-MadeBy p b e (change.Called l) = Unit {0}
-MadeBy p b e (change.Step l fact) = Unit {0}
-MadeBy p b e (change.Stop who tells) = Unit {0}
+MadeBy p b e (Change.Member who fact) = MemberBy p b e who fact
+MadeBy p b e (Change.Job j fact) =
+    (at : JobAt) × (job_at p b j ≡ Some at) × (e ≡ Event.Judge j) × (fact ≡ causes.judged_under at (job_status (first_of j at) at))
+MadeBy p b e (Change.Called l) = Unit {0}
+MadeBy p b e (Change.Step l fact) = Unit {0}
+MadeBy p b e (Change.Stop who tells) = Unit {0}
 
 All : Plan → Board → Event → List Change → Type 0
 All p b e cs = AllByRecursion (MadeBy p b e) cs
@@ -60,7 +43,7 @@ module _ (p : Plan) (b : Board) (e : Event) where
   -- ---- entering
 
   queued : (m holds : Member) (waited : Option Member) (cancel : Bool)
-      → All p b e (change.Member m (member_fact.Waits holds) ∷ (queueing.displaces m waited ++ queueing.tells m cancel holds))
+      → All p b e (Change.Member m (MemberFact.Waits holds) ∷ (queueing.displaces m waited ++ queueing.tells m cancel holds))
   unfolding All
   queued m holds None false = (tt, tt)
   queued m holds None true = (tt, (tt, tt))
@@ -72,7 +55,7 @@ module _ (p : Plan) (b : Board) (e : Event) where
   held m own group None waited = (tt, tt)
   held m own group (Some holds) waited = by (is_own own holds)
     where
-      by : (c : Bool) → All p b e (if c then change.Member m member_fact.OwnRun ∷ [] else queueing.queues m group holds waited)
+      by : (c : Bool) → All p b e (if c then Change.Member m MemberFact.OwnRun ∷ [] else queueing.queues m group holds waited)
       by true = (tt, tt)
       by false = queued m holds waited group.cancel
 
@@ -85,16 +68,16 @@ module _ (p : Plan) (b : Board) (e : Event) where
   opened : (r : ℕ) (found : Option RunAt) → All p b e (causes.opens b r found)
   unfolding All
   opened r None = tt
-  opened r (Some at) = entered (member.Run r) None (run_entrance at)
+  opened r (Some at) = entered (Member.Run r) None (run_entrance at)
 
   asked : (l : ℕ) (found : Option LegAt) → All p b e (causes.asks b l found)
   unfolding All
   asked l None = tt
-  asked l (Some at) = entered (member.Leg l) (Some at.place.run) (leg_entrance at)
+  asked l (Some at) = entered (Member.Leg l) (Some at.place.run) (leg_entrance at)
 
   -- ---- leaving
 
-  left : (m : Member) (fact : MemberFact) (next : Option Member) → MemberBy p b e m fact → All p b e (change.Member m fact ∷ causes.passes m next)
+  left : (m : Member) (fact : MemberFact) (next : Option Member) → MemberBy p b e m fact → All p b e (Change.Member m fact ∷ causes.passes m next)
   unfolding All
   left m fact None by = (by, tt)
   left m fact (Some n) by = (by, (tt, tt))
@@ -102,25 +85,25 @@ module _ (p : Plan) (b : Board) (e : Event) where
   dropped : (l : ℕ) (found : Option LegAt) → All p b e (causes.drops b l found)
   unfolding All
   dropped l None = tt
-  dropped l (Some at) = left (member.Leg l) (member_fact.Stopped (cause_of_stop l at)) (next_after b (leg_standing at.leg)) tt
+  dropped l (Some at) = left (Member.Leg l) (MemberFact.Stopped (cause_of_stop l at)) (next_after b (leg_standing at.leg)) tt
 
   finished : (l : ℕ) (found : Option LegAt) → All p b e (causes.finishes b l found)
   unfolding All
   finished l None = tt
-  finished l (Some at) = left (member.Leg l) (causes.finished (is_stopping at) l at) (next_after b (leg_standing at.leg)) (by (is_stopping at))
+  finished l (Some at) = left (Member.Leg l) (causes.finished (is_stopping at) l at) (next_after b (leg_standing at.leg)) (by (is_stopping at))
     where
-      by : (stopping : Bool) → MemberBy p b e (member.Leg l) (causes.finished stopping l at)
+      by : (stopping : Bool) → MemberBy p b e (Member.Leg l) (causes.finished stopping l at)
       by true = tt
       by false = tt
 
-  closed : (r : ℕ) (found : Option RunAt) → e ≡ event.Close r → run_at p b r ≡ found → All p b e (causes.closes b r found)
+  closed : (r : ℕ) (found : Option RunAt) → e ≡ Event.Close r → run_at p b r ≡ found → All p b e (causes.closes b r found)
   unfolding All
   closed r None is there = tt
-  closed r (Some at) is there = left (member.Run r) (member_fact.Closed (causes.closing at.run.state at.run)) (next_after b (run_standing at.run)) (at, there, is, refl)
+  closed r (Some at) is there = left (Member.Run r) (MemberFact.Closed (causes.closing at.run.state at.run)) (next_after b (run_standing at.run)) (at, there, is, refl)
 
   -- ---- jobs and steps
 
-  judged : (j : ℕ) (found : Option JobAt) → e ≡ event.Judge j → job_at p b j ≡ found → All p b e (causes.judges j found)
+  judged : (j : ℕ) (found : Option JobAt) → e ≡ Event.Judge j → job_at p b j ≡ found → All p b e (causes.judges j found)
   unfolding All
   judged j None is there = tt
   judged j (Some at) is there = ((at, there, is, refl), tt)
@@ -143,16 +126,16 @@ module _ (p : Plan) (b : Board) (e : Event) where
 
 all_made : (p : Plan) (b : Board) (e : Event) → All p b e (changes p b e)
 unfolding All
-all_made p b (event.Open r) = opened p b (event.Open r) r (run_at p b r)
-all_made p b (event.Judge j) = judged p b (event.Judge j) j (job_at p b j) refl refl
-all_made p b (event.Ask l) = asked p b (event.Ask l) l (leg_at p b l)
-all_made p b (event.Drop l) = dropped p b (event.Drop l) l (leg_at p b l)
-all_made p b (event.Take l) = (tt, tt)
-all_made p b (event.Begin l) = begins p b (event.Begin l) l (leg_at p b l)
-all_made p b (event.End l a) = (tt, tt)
-all_made p b (event.Finish l) = finished p b (event.Finish l) l (leg_at p b l)
-all_made p b (event.Close r) = closed p b (event.Close r) r (run_at p b r) refl refl
-all_made p b (event.Cancel r) = (tt, tt)
+all_made p b (Event.Open r) = opened p b (Event.Open r) r (run_at p b r)
+all_made p b (Event.Judge j) = judged p b (Event.Judge j) j (job_at p b j) refl refl
+all_made p b (Event.Ask l) = asked p b (Event.Ask l) l (leg_at p b l)
+all_made p b (Event.Drop l) = dropped p b (Event.Drop l) l (leg_at p b l)
+all_made p b (Event.Take l) = (tt, tt)
+all_made p b (Event.Begin l) = begins p b (Event.Begin l) l (leg_at p b l)
+all_made p b (Event.End l a) = (tt, tt)
+all_made p b (Event.Finish l) = finished p b (Event.Finish l) l (leg_at p b l)
+all_made p b (Event.Close r) = closed p b (Event.Close r) r (run_at p b r) refl refl
+all_made p b (Event.Cancel r) = (tt, tt)
 
 among : {T : Type 0} (P : T → Type 0) (xs : List T) (x : T) → AllByRecursion P xs → Contains xs x → P x
 among P [] x all there = absurd (contains_none x there)

@@ -1,12 +1,9 @@
 -- Where a run was closed without success, or a job was skipped or cancelled in place of being opened, what brought it there is
 -- named, and nothing else.
+use Rattle.status_table.specs.Words.{IsPlan, NeedsPointBack, Plan, SoundPlan}
 use Rattle.why_causes.proofs.ClosedRuns.{closed_for}
 use Rattle.why_causes.proofs.SkippedJobs.{names_first, names_stop, waited_in_vain}
 use Rattle.why_causes.specs.Endings.{EndingsAreNamed}
-use Rattle.flow_model.specs.Laws.{NeedsPointBack}
-use Rattle.flow_model.specs.Rules.{IsPlan}
-use Rattle.flow_model.specs.Sound.{SoundPlan}
-use Rattle.flow_model.specs.declared.plan.Plan.{Plan}
 
 pub endings_are_named : ((p : Plan) → IsPlan p → SoundPlan p) → NeedsPointBack → EndingsAreNamed
 endings_are_named sound numbers = record {

@@ -1,18 +1,13 @@
 -- What is shown of a row that is accepted.
 use Rattle.std.proofs.Common.{◌≡◌, ℕ, zero, suc, List, [], ◌∷◌, Some, Ok, Err, slice_get, ap, subst}
+use Rattle.status_table.specs.Words.{Board, Each, Member, Reply, Row}
 use Rattle.why_facts.specs.Notes.{all_noted}
 use Rattle.why_facts.specs.declared.fact.Change.{Change}
-use Rattle.why_facts.specs.declared.fact.Change.TheVariants as change
 use Rattle.why_facts.specs.declared.fact.Teller.{Teller}
 use Rattle.why_facts.specs.declared.notes.Notes.{Notes}
 use Rattle.why_causes.specs.Agrees.{Agrees}
 use Rattle.why_causes.specs.Becomes.{Becomes}
 use Rattle.why_causes.specs.Stands.{Has}
-use Rattle.flow_model.specs.Sound.{Each}
-use Rattle.flow_model.specs.declared.board.Board.{Board}
-use Rattle.flow_model.specs.declared.event.Member.{Member}
-use Rattle.flow_model.specs.declared.reply.Reply.{Reply}
-use Rattle.status_table.specs.Row.{Row}
 use Rattle.why_causes.proofs.Members.{Quiet, untold_leg, untold_run}
 use Rattle.board_decisions.proofs.Lists.{no_some, same_some}
 
@@ -35,7 +30,7 @@ board_of b (Err f) = b
 
 -- Who was not told to stop is not told on the new board, but where a change names it.
 abbrev pub Tells : Board → Board → List Change → Type 0
-Tells b new cs = (w : Member) → Has b w untold_run untold_leg → ((i : ℕ) (t : Teller) → slice_get cs i ≡ Some (change.Stop w t) → ⊥) → Has new w untold_run untold_leg
+Tells b new cs = (w : Member) → Has b w untold_run untold_leg → ((i : ℕ) (t : Teller) → slice_get cs i ≡ Some (Change.Stop w t) → ⊥) → Has new w untold_run untold_leg
 
 -- notes that agree with a board agree with the new one once the changes are noted
 abbrev pub Noting : Board → Board → List Change → Type 0

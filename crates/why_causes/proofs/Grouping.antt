@@ -2,44 +2,25 @@
 use Rattle.std.proofs.Common.{◌≡◌, ◌≢◌, ◌&&◌, ℕ, Bool, true, false, not, List, [], ◌∷◌, ◌++◌, Option, Some, None, Result, Ok, Err, slice_get, if◌then◌else◌, ap, subst, sym, refl, ◌∙◌}
 use Rattle.std.proofs.lemmas.Bool.{true≢false}
 use Rattle.std.specs.Option.{option_map}
-use Rattle.board_decisions.specs.Decisions.{is_stopping, leg_entrance, run_entrance}
-use Rattle.board_decisions.specs.Derived.{is_fresh, is_full, is_going, is_open, is_untaken}
-use Rattle.board_decisions.specs.Place.{RunAt, LegAt, leg_at, run_at}
-use Rattle.board_decisions.specs.declared.entrance.Entrance.{Entrance}
+use Rattle.status_table.specs.Words.{Board, Entrance, LegAt, LegState, Member, Outcome, Plan, Reply, RunAt, RunState, Standing, ValueFault, apart, board_legs, cancelled, closed, displaced, dropped, holder, holding, is_fresh, is_full, is_going, is_open, is_own, is_stopping, is_untaken, leaves, leg_at, leg_entrance, leg_standing, moved, next_after, passed_on, run_at, run_entrance, stopped, waiter, waiting, waits}
 use Rattle.why_facts.specs.Notes.{noted}
 use Rattle.why_facts.specs.Queues as queueing
 use Rattle.why_facts.specs.Stops.{cause_of_stop}
-use Rattle.why_facts.specs.declared.fact.Change.TheVariants as change
+use Rattle.why_facts.specs.declared.fact.Change.{Change}
 use Rattle.why_facts.specs.declared.fact.MemberFact.{MemberFact}
-use Rattle.why_facts.specs.declared.fact.MemberFact.TheVariants as member_fact
-use Rattle.why_facts.specs.declared.fact.Teller.TheVariants as teller
+use Rattle.why_facts.specs.declared.fact.Teller.{Teller}
 use Rattle.why_facts.specs.declared.notes.Notes.{Notes}
 use Rattle.why_notes.specs.Changes as causes
 use Rattle.why_causes.specs.Agrees.{Agrees}
 use Rattle.why_causes.specs.Becomes.{Becomes}
 use Rattle.why_causes.specs.Stands.{Has, LegIs, MemberStands, RunIs}
-use Rattle.flow_model.specs.Numbers.{board_legs}
-use Rattle.flow_model.specs.declared.board.Board.{Board}
-use Rattle.flow_model.specs.declared.board.LegState.{LegState}
-use Rattle.flow_model.specs.declared.board.LegState.TheVariants as leg_state
-use Rattle.flow_model.specs.declared.board.RunState.{RunState}
-use Rattle.flow_model.specs.declared.board.RunState.TheVariants as run_state
-use Rattle.flow_model.specs.declared.event.Member.{Member}
-use Rattle.flow_model.specs.declared.event.Member.TheVariants as member
-use Rattle.flow_model.specs.declared.event.Outcome.{Outcome}
-use Rattle.flow_model.specs.declared.event.Outcome.TheVariants as outcome
-use Rattle.flow_model.specs.declared.plan.Plan.{Plan}
-use Rattle.flow_model.specs.declared.reply.Reply.{Reply}
-use Rattle.flow_model.specs.declared.reply.ValueFault.{ValueFault}
-use Rattle.status_table.specs.declared.fault.EventFault.TheVariants as fault
-use Rattle.status_table.specs.Groups.{Standing, apart, holding, waiting, cancelled, closed, displaced, dropped, holder, is_own, leaves, leg_standing, moved, next_after, passed_on, stopped, waiter, waits}
+use Rattle.status_table.specs.declared.fault.EventFault.{EventFault}
 use Rattle.status_table.specs.Groups as groups
 use Rattle.status_table.specs.Row as table
-use Rattle.board_decisions.proofs.Lists.{and-right}
+use Rattle.board_decisions.proofs.Lists.{and-right, no_some, same_some}
 use Rattle.why_causes.proofs.Agreeing.{admitted_agrees, closed_agrees, displaced_agrees, dropped_agrees, passed_agrees, told_agrees, waits_agrees}
 use Rattle.why_causes.proofs.Members.{OfLeg, Exists, Quiet, admitted_quiet, admitted_there, any_leg, any_run, cancelled_exists, cancelled_quiet, cancelled_there, clash, closed_quiet, closed_there, displaced_exists, displaced_others, displaced_quiet, dropped_quiet, dropped_there, exists, holder_exists, kept, leg_clash, leg_in, passed_others, passed_quiet, passed_there, run_clash, run_in, stopped_keeps, stopped_others, stopped_there, untold_leg, untold_run, waiter_waits, waits_exists, waits_quiet, waits_there}
 use Rattle.status_table.proofs.Found.{leg_item, leg_stands, run_stands}
-use Rattle.board_decisions.proofs.Lists.{no_some, same_some}
 use Rattle.status_table.proofs.Steps.{standing}
 use Rattle.status_table.proofs.Turnover.{a_waiter}
 use Rattle.why_causes.proofs.Going.{Goes, Noting, board_of, led, more, only, quietly}
@@ -48,29 +29,29 @@ use Rattle.why_causes.proofs.Going.{Goes, Noting, board_of, led, more, only, qui
 
 -- a run that is New, or a leg that is Fresh
 abbrev Outside : Board → Member → Type 0
-Outside b m = Has b m (run_in run_state.New) (leg_in leg_state.Fresh)
+Outside b m = Has b m (run_in RunState.New) (leg_in LegState.Fresh)
 
-not_admitted : (b : Board) (m : Member) → Outside b m → MemberStands b m member_fact.Admitted → ⊥
-not_admitted b m = clash (run_in run_state.New) (run_in run_state.Going) (leg_in leg_state.Fresh) (leg_in leg_state.Admitted) b m (λ s told x y. cc) (λ s told x y. cc)
+not_admitted : (b : Board) (m : Member) → Outside b m → MemberStands b m MemberFact.Admitted → ⊥
+not_admitted b m = clash (run_in RunState.New) (run_in RunState.Going) (leg_in LegState.Fresh) (leg_in LegState.Admitted) b m (λ s told x y. cc) (λ s told x y. cc)
 
-not_waiting : (b : Board) (m holds : Member) → Outside b m → MemberStands b m (member_fact.Waits holds) → ⊥
-not_waiting b m holds = clash (run_in run_state.New) (run_in run_state.Waiting) (leg_in leg_state.Fresh) (leg_in leg_state.Waiting) b m (λ s told x y. cc) (λ s told x y. cc)
+not_waiting : (b : Board) (m holds : Member) → Outside b m → MemberStands b m (MemberFact.Waits holds) → ⊥
+not_waiting b m holds = clash (run_in RunState.New) (run_in RunState.Waiting) (leg_in LegState.Fresh) (leg_in LegState.Waiting) b m (λ s told x y. cc) (λ s told x y. cc)
 
 -- one that waits
 abbrev Waits : Board → Member → Type 0
-Waits b w = Has b w (run_in run_state.Waiting) (leg_in leg_state.Waiting)
+Waits b w = Has b w (run_in RunState.Waiting) (leg_in LegState.Waiting)
 
 outside_apart : (b : Board) (m w : Member) → Outside b m → Waits b w → m ≢ w
 outside_apart b m w out waited e =
-    clash (run_in run_state.New) (run_in run_state.Waiting) (leg_in leg_state.Fresh) (leg_in leg_state.Waiting) b m (λ s told x y. cc) (λ s told x y. cc) out
+    clash (run_in RunState.New) (run_in RunState.Waiting) (leg_in LegState.Fresh) (leg_in LegState.Waiting) b m (λ s told x y. cc) (λ s told x y. cc) out
     (subst (λ x. Waits b x) (sym e) waited)
 
 -- it enters a group that nobody holds, or none
-admitted_so : (b : Board) (m : Member) (name : Option (List ℕ)) → Outside b m → Goes b (groups.admitted b name m) (change.Member m member_fact.Admitted ∷ [])
+admitted_so : (b : Board) (m : Member) (name : Option (List ℕ)) → Outside b m → Goes b (groups.admitted b name m) (Change.Member m MemberFact.Admitted ∷ [])
 admitted_so b m name out =
-    quietly b (groups.admitted b name m) (change.Member m member_fact.Admitted ∷ [])
-    (only (Becomes b (groups.admitted b name m)) (change.Member m member_fact.Admitted)
-    (not_admitted b m out, admitted_there b name m (exists (run_in run_state.New) (leg_in leg_state.Fresh) b m out)))
+    quietly b (groups.admitted b name m) (Change.Member m MemberFact.Admitted ∷ [])
+    (only (Becomes b (groups.admitted b name m)) (Change.Member m MemberFact.Admitted)
+    (not_admitted b m out, admitted_there b name m (exists (run_in RunState.New) (leg_in LegState.Fresh) b m out)))
     (admitted_quiet b name m) (λ line notes h. admitted_agrees b notes name m line h)
 
 -- it waits, in the place of one that waited, and the holder is told to stop
@@ -85,24 +66,24 @@ module _ (b : Board) (m : Member) (name : List ℕ) (holds : Member) (out : Outs
   third waited cancel = stopped (second waited) cancel holds
 
   there : Exists b m
-  there = exists (run_in run_state.New) (leg_in leg_state.Fresh) b m out
+  there = exists (run_in RunState.New) (leg_in LegState.Fresh) b m out
 
-  itself : (waited : Option Member) (cancel : Bool) → ((w : Member) → waited ≡ Some w → Waits b w) → Becomes b (third waited cancel) (change.Member m (member_fact.Waits holds))
+  itself : (waited : Option Member) (cancel : Bool) → ((w : Member) → waited ≡ Some w → Waits b w) → Becomes b (third waited cancel) (Change.Member m (MemberFact.Waits holds))
   itself waited cancel who = (
     not_waiting b m holds out,
-    stopped_keeps (RunIs (member_fact.Waits holds)) (LegIs (member_fact.Waits holds)) (second waited) cancel holds m
-        (displaced_others (run_in run_state.Waiting) (leg_in leg_state.Waiting) first waited m (λ w is. outside_apart b m w out (who w is)) (waits_there b name m there)),
+    stopped_keeps (RunIs (MemberFact.Waits holds)) (LegIs (MemberFact.Waits holds)) (second waited) cancel holds m
+        (displaced_others (run_in RunState.Waiting) (leg_in LegState.Waiting) first waited m (λ w is. outside_apart b m w out (who w is)) (waits_there b name m there)),
   )
 
-  lost : (w : Member) (cancel : Bool) → Waits b w → Becomes b (third (Some w) cancel) (change.Member w (member_fact.Displaced m))
+  lost : (w : Member) (cancel : Bool) → Waits b w → Becomes b (third (Some w) cancel) (Change.Member w (MemberFact.Displaced m))
   lost w cancel waited = (
-    clash (run_in run_state.Waiting) (run_in (run_state.Closed outcome.Cancelled)) (leg_in leg_state.Waiting) (leg_in (leg_state.Ended outcome.Cancelled false)) b w
+    clash (run_in RunState.Waiting) (run_in (RunState.Closed Outcome.Cancelled)) (leg_in LegState.Waiting) (leg_in (LegState.Ended Outcome.Cancelled false)) b w
         (λ s told x y. cc) (λ s told x y. cc) waited,
-    stopped_keeps (RunIs (member_fact.Displaced m)) (LegIs (member_fact.Displaced m)) (second (Some w)) cancel holds w
-        (cancelled_there first w (waits_exists b name m w (exists (run_in run_state.Waiting) (leg_in leg_state.Waiting) b w waited))),
+    stopped_keeps (RunIs (MemberFact.Displaced m)) (LegIs (MemberFact.Displaced m)) (second (Some w)) cancel holds w
+        (cancelled_there first w (waits_exists b name m w (exists (run_in RunState.Waiting) (leg_in LegState.Waiting) b w waited))),
   )
 
-  told : (waited : Option Member) → Becomes b (third waited true) (change.Stop holds (teller.Newer m))
+  told : (waited : Option Member) → Becomes b (third waited true) (Change.Stop holds (Teller.Newer m))
   told waited = stopped_there (second waited) holds (displaced_exists first waited holds (waits_exists b name m holds held))
 
   -- nobody was told by then
@@ -114,59 +95,59 @@ module _ (b : Board) (m : Member) (name : List ℕ) (holds : Member) (out : Outs
   telling waited w x differs = stopped_others (second waited) holds w differs (calm waited w x)
 
   -- the holder is the one who is named
-  named : (w : Member) → w ≡ holds → Some (change.Stop holds (teller.Newer m)) ≡ Some (change.Stop w (teller.Newer m))
-  named w e = ap (λ x. Some (change.Stop x (teller.Newer m))) (sym e)
+  named : (w : Member) → w ≡ holds → Some (Change.Stop holds (Teller.Newer m)) ≡ Some (Change.Stop w (Teller.Newer m))
+  named w e = ap (λ x. Some (Change.Stop x (Teller.Newer m))) (sym e)
 
   -- the notes of it, and of who lost its place
-  waits_noted : (line : ℕ) (notes : Notes) → Agrees b notes → Agrees first (noted line notes (change.Member m (member_fact.Waits holds)))
+  waits_noted : (line : ℕ) (notes : Notes) → Agrees b notes → Agrees first (noted line notes (Change.Member m (MemberFact.Waits holds)))
   waits_noted line notes h = waits_agrees b notes name m holds line h
 
   lost_noted : (w : Member) (line : ℕ) (notes : Notes) → Agrees b notes
-      → Agrees (second (Some w)) (noted line (noted line notes (change.Member m (member_fact.Waits holds))) (change.Member w (member_fact.Displaced m)))
-  lost_noted w line notes h = displaced_agrees first (noted line notes (change.Member m (member_fact.Waits holds))) w m line (waits_noted line notes h)
+      → Agrees (second (Some w)) (noted line (noted line notes (Change.Member m (MemberFact.Waits holds))) (Change.Member w (MemberFact.Displaced m)))
+  lost_noted w line notes h = displaced_agrees first (noted line notes (Change.Member m (MemberFact.Waits holds))) w m line (waits_noted line notes h)
 
   queued_so : (waited : Option Member) (cancel : Bool) → ((w : Member) → waited ≡ Some w → Waits b w)
-      → Goes b (third waited cancel) (change.Member m (member_fact.Waits holds) ∷ (queueing.displaces m waited ++ queueing.tells m cancel holds))
+      → Goes b (third waited cancel) (Change.Member m (MemberFact.Waits holds) ∷ (queueing.displaces m waited ++ queueing.tells m cancel holds))
   queued_so None false who =
-      quietly b (third None false) (change.Member m (member_fact.Waits holds) ∷ []) (only (Becomes b (third None false)) (change.Member m (member_fact.Waits holds)) (itself None false who))
+      quietly b (third None false) (Change.Member m (MemberFact.Waits holds) ∷ []) (only (Becomes b (third None false)) (Change.Member m (MemberFact.Waits holds)) (itself None false who))
       (calm None) waits_noted
   queued_so None true who = record {
-    so = more (Becomes b (third None true)) (change.Member m (member_fact.Waits holds)) (change.Stop holds (teller.Newer m) ∷ []) (itself None true who)
-        (only (Becomes b (third None true)) (change.Stop holds (teller.Newer m)) (told None));
-    tells = λ w x others. telling None w x (λ e. others 1 (teller.Newer m) (named w e));
-    noting = λ line notes h. told_agrees (second None) (noted line notes (change.Member m (member_fact.Waits holds))) holds (teller.Newer m) line (waits_noted line notes h);
+    so = more (Becomes b (third None true)) (Change.Member m (MemberFact.Waits holds)) (Change.Stop holds (Teller.Newer m) ∷ []) (itself None true who)
+        (only (Becomes b (third None true)) (Change.Stop holds (Teller.Newer m)) (told None));
+    tells = λ w x others. telling None w x (λ e. others 1 (Teller.Newer m) (named w e));
+    noting = λ line notes h. told_agrees (second None) (noted line notes (Change.Member m (MemberFact.Waits holds))) holds (Teller.Newer m) line (waits_noted line notes h);
   }
   queued_so (Some w) false who =
-      quietly b (third (Some w) false) (change.Member m (member_fact.Waits holds) ∷ (change.Member w (member_fact.Displaced m) ∷ []))
-      (more (Becomes b (third (Some w) false)) (change.Member m (member_fact.Waits holds)) (change.Member w (member_fact.Displaced m) ∷ []) (itself (Some w) false who)
-      (only (Becomes b (third (Some w) false)) (change.Member w (member_fact.Displaced m)) (lost w false (who w refl))))
+      quietly b (third (Some w) false) (Change.Member m (MemberFact.Waits holds) ∷ (Change.Member w (MemberFact.Displaced m) ∷ []))
+      (more (Becomes b (third (Some w) false)) (Change.Member m (MemberFact.Waits holds)) (Change.Member w (MemberFact.Displaced m) ∷ []) (itself (Some w) false who)
+      (only (Becomes b (third (Some w) false)) (Change.Member w (MemberFact.Displaced m)) (lost w false (who w refl))))
       (calm (Some w)) (lost_noted w)
   queued_so (Some w) true who = record {
-    so = more (Becomes b (third (Some w) true)) (change.Member m (member_fact.Waits holds)) (change.Member w (member_fact.Displaced m) ∷ (change.Stop holds (teller.Newer m) ∷ []))
+    so = more (Becomes b (third (Some w) true)) (Change.Member m (MemberFact.Waits holds)) (Change.Member w (MemberFact.Displaced m) ∷ (Change.Stop holds (Teller.Newer m) ∷ []))
         (itself (Some w) true who)
-        (more (Becomes b (third (Some w) true)) (change.Member w (member_fact.Displaced m)) (change.Stop holds (teller.Newer m) ∷ []) (lost w true (who w refl))
-        (only (Becomes b (third (Some w) true)) (change.Stop holds (teller.Newer m)) (told (Some w))));
-    tells = λ v x others. telling (Some w) v x (λ e. others 2 (teller.Newer m) (named v e));
+        (more (Becomes b (third (Some w) true)) (Change.Member w (MemberFact.Displaced m)) (Change.Stop holds (Teller.Newer m) ∷ []) (lost w true (who w refl))
+        (only (Becomes b (third (Some w) true)) (Change.Stop holds (Teller.Newer m)) (told (Some w))));
+    tells = λ v x others. telling (Some w) v x (λ e. others 2 (Teller.Newer m) (named v e));
     noting = λ line notes h.
-        told_agrees (second (Some w)) (noted line (noted line notes (change.Member m (member_fact.Waits holds))) (change.Member w (member_fact.Displaced m))) holds (teller.Newer m) line
+        told_agrees (second (Some w)) (noted line (noted line notes (Change.Member m (MemberFact.Waits holds))) (Change.Member w (MemberFact.Displaced m))) holds (Teller.Newer m) line
         (lost_noted w line notes h);
   }
 
 -- a run is no leg of a run
 abbrev Asks : Member → Option ℕ → Type 0
-Asks (member.Run r) own = own ≡ None
-Asks (member.Leg l) own = Unit {0}
+Asks (Member.Run r) own = own ≡ None
+Asks (Member.Leg l) own = Unit {0}
 
 own_so : (b : Board) (m : Member) (own : Option ℕ) (holds : Member) → Asks m own → is_own own holds ≡ true → Outside b m
-    → Goes b (cancelled b m) (change.Member m member_fact.OwnRun ∷ [])
-own_so b (member.Run r) own holds asks is out = absurd (true≢false (sym is ∙ ap (λ o. is_own o holds) asks))
-own_so b (member.Leg l) own holds asks is out =
-    quietly b (cancelled b (member.Leg l)) (change.Member (member.Leg l) member_fact.OwnRun ∷ [])
-    (only (Becomes b (cancelled b (member.Leg l))) (change.Member (member.Leg l) member_fact.OwnRun) (
-      leg_clash (leg_in leg_state.Fresh) (leg_in (leg_state.Ended outcome.Cancelled false)) b l (λ s told x y. cc) out,
-      cancelled_there b (member.Leg l) (exists (run_in run_state.New) (leg_in leg_state.Fresh) b (member.Leg l) out),
+    → Goes b (cancelled b m) (Change.Member m MemberFact.OwnRun ∷ [])
+own_so b (Member.Run r) own holds asks is out = absurd (true≢false (sym is ∙ ap (λ o. is_own o holds) asks))
+own_so b (Member.Leg l) own holds asks is out =
+    quietly b (cancelled b (Member.Leg l)) (Change.Member (Member.Leg l) MemberFact.OwnRun ∷ [])
+    (only (Becomes b (cancelled b (Member.Leg l))) (Change.Member (Member.Leg l) MemberFact.OwnRun) (
+      leg_clash (leg_in LegState.Fresh) (leg_in (LegState.Ended Outcome.Cancelled false)) b l (λ s told x y. cc) out,
+      cancelled_there b (Member.Leg l) (exists (run_in RunState.New) (leg_in LegState.Fresh) b (Member.Leg l) out),
     ))
-    (cancelled_quiet b (member.Leg l)) (λ line notes h. dropped_agrees b notes l outcome.Cancelled member_fact.OwnRun line refl h)
+    (cancelled_quiet b (Member.Leg l)) (λ line notes h. dropped_agrees b notes l Outcome.Cancelled MemberFact.OwnRun line refl h)
 
 held_so : (b : Board) (m : Member) (own : Option ℕ) (group : Entrance) (holds waited : Option Member) → holder b group.name ≡ holds → waiter b group.name ≡ waited
     → Asks m own → Outside b m → Goes b (groups.enters_held b m own group holds waited).0 (causes.enters_held m own group holds waited)
@@ -174,7 +155,7 @@ held_so b m own group None waited is-holder is-waiter asks out = admitted_so b m
 held_so b m own group (Some h) waited is-holder is-waiter asks out = step (is_own own h) refl
   where
     step : (c : Bool) → is_own own h ≡ c
-        → Goes b (if c then (cancelled b m, moved) else groups.queued b m group h waited).0 (if c then change.Member m member_fact.OwnRun ∷ [] else queueing.queues m group h waited)
+        → Goes b (if c then (cancelled b m, moved) else groups.queued b m group h waited).0 (if c then Change.Member m MemberFact.OwnRun ∷ [] else queueing.queues m group h waited)
     step true is = own_so b m own h asks is out
     step false is =
         queued_so b m group.name h out (holder_exists b group.name h is-holder) waited group.cancel (λ w found. waiter_waits b group.name w (is-waiter ∙ found))
@@ -187,20 +168,20 @@ entered_so b m own (Some group) asks out = held_so b m own group (holder b group
 -- ---- Open
 
 pub closed_exists : (b : Board) (r : ℕ) (result : Outcome) (w : Member) → Exists b w → Exists (closed b r result) w
-closed_exists b r result w x = kept any_run any_leg b (member.Run r) w (λ run. record run { state = run_state.Closed result }) (λ leg. leg) (λ run. refl) (λ run _. tt) (λ leg _. tt) x
+closed_exists b r result w x = kept any_run any_leg b (Member.Run r) w (λ run. record run { state = RunState.Closed result }) (λ leg. leg) (λ run. refl) (λ run _. tt) (λ leg _. tt) x
 
-run_entered : (b new : Board) (r : ℕ) (group : Result (Option Entrance) ValueFault) (reply : Reply) → Outside b (member.Run r) → table.run_enters b r group ≡ Ok (new, reply)
-    → Goes b new (causes.enters_by b (member.Run r) None group)
+run_entered : (b new : Board) (r : ℕ) (group : Result (Option Entrance) ValueFault) (reply : Reply) → Outside b (Member.Run r) → table.run_enters b r group ≡ Ok (new, reply)
+    → Goes b new (causes.enters_by b (Member.Run r) None group)
 unfolding board_of
-run_entered b new r (Ok group) reply out h = led b _ _ new reply h (entered_so b (member.Run r) None group refl out)
+run_entered b new r (Ok group) reply out h = led b _ _ new reply h (entered_so b (Member.Run r) None group refl out)
 run_entered b new r (Err f) reply out h =
     led b _ _ new reply h
-    (quietly b (closed b r outcome.Failure) (change.Member (member.Run r) (member_fact.NoGroup f) ∷ [])
-    (only (Becomes b (closed b r outcome.Failure)) (change.Member (member.Run r) (member_fact.NoGroup f)) (
-      run_clash (run_in run_state.New) (run_in (run_state.Closed outcome.Failure)) b r (λ s told x y. cc) out,
-      closed_there any_leg any_leg b r outcome.Failure (exists (run_in run_state.New) (leg_in leg_state.Fresh) b (member.Run r) out),
+    (quietly b (closed b r Outcome.Failure) (Change.Member (Member.Run r) (MemberFact.NoGroup f) ∷ [])
+    (only (Becomes b (closed b r Outcome.Failure)) (Change.Member (Member.Run r) (MemberFact.NoGroup f)) (
+      run_clash (run_in RunState.New) (run_in (RunState.Closed Outcome.Failure)) b r (λ s told x y. cc) out,
+      closed_there any_leg any_leg b r Outcome.Failure (exists (run_in RunState.New) (leg_in LegState.Fresh) b (Member.Run r) out),
     ))
-    (closed_quiet b r outcome.Failure) (λ line notes a. closed_agrees b notes r outcome.Failure (member_fact.NoGroup f) line refl a))
+    (closed_quiet b r Outcome.Failure) (λ line notes a. closed_agrees b notes r Outcome.Failure (MemberFact.NoGroup f) line refl a))
 
 pub opened : (p : Plan) (b new : Board) (r : ℕ) (found : Option RunAt) (reply : Reply) → run_at p b r ≡ found → table.open_found b r found ≡ Ok (new, reply)
     → Goes b new (causes.opens b r found)
@@ -208,33 +189,33 @@ opened p b new r None reply is h = cc
 opened p b new r (Some at) reply is h = by_state at.run.state at.run.stop refl h
   where
     by_state : (state : RunState) (stop : Bool) → at.run.state ≡ state → table.open_run b r at state stop ≡ Ok (new, reply) → Goes b new (causes.opens b r (Some at))
-    by_state run_state.New false new-is k = run_entered b new r (run_entrance at) reply (at.run, (run_stands p b r at is).run, new-is) k
-    by_state run_state.New true new-is k = cc
-    by_state run_state.Waiting stop new-is k = cc
-    by_state run_state.Going stop new-is k = cc
-    by_state (run_state.Closed result) stop new-is k = cc
+    by_state RunState.New false new-is k = run_entered b new r (run_entrance at) reply (at.run, (run_stands p b r at is).run, new-is) k
+    by_state RunState.New true new-is k = cc
+    by_state RunState.Waiting stop new-is k = cc
+    by_state RunState.Going stop new-is k = cc
+    by_state (RunState.Closed result) stop new-is k = cc
 
 -- ---- Ask
 
-fresh_is : (s : LegState) → is_fresh s ≡ true → s ≡ leg_state.Fresh
-fresh_is leg_state.Fresh h = refl
-fresh_is leg_state.Waiting h = absurd (true≢false (sym h))
-fresh_is leg_state.Admitted h = absurd (true≢false (sym h))
-fresh_is (leg_state.Running worker in_call) h = absurd (true≢false (sym h))
-fresh_is (leg_state.Ended result tolerated) h = absurd (true≢false (sym h))
+fresh_is : (s : LegState) → is_fresh s ≡ true → s ≡ LegState.Fresh
+fresh_is LegState.Fresh h = refl
+fresh_is LegState.Waiting h = absurd (true≢false (sym h))
+fresh_is LegState.Admitted h = absurd (true≢false (sym h))
+fresh_is (LegState.Running worker in_call) h = absurd (true≢false (sym h))
+fresh_is (LegState.Ended result tolerated) h = absurd (true≢false (sym h))
 
-leg_entered : (b new : Board) (l : ℕ) (at : LegAt) (group : Result (Option Entrance) ValueFault) (reply : Reply) → Outside b (member.Leg l)
-    → table.leg_enters b l at group ≡ Ok (new, reply) → Goes b new (causes.enters_by b (member.Leg l) (Some at.place.run) group)
+leg_entered : (b new : Board) (l : ℕ) (at : LegAt) (group : Result (Option Entrance) ValueFault) (reply : Reply) → Outside b (Member.Leg l)
+    → table.leg_enters b l at group ≡ Ok (new, reply) → Goes b new (causes.enters_by b (Member.Leg l) (Some at.place.run) group)
 unfolding board_of
-leg_entered b new l at (Ok group) reply out h = led b _ _ new reply h (entered_so b (member.Leg l) (Some at.place.run) group tt out)
+leg_entered b new l at (Ok group) reply out h = led b _ _ new reply h (entered_so b (Member.Leg l) (Some at.place.run) group tt out)
 leg_entered b new l at (Err f) reply out h =
     led b _ _ new reply h
-    (quietly b (dropped b l outcome.Failure) (change.Member (member.Leg l) (member_fact.NoGroup f) ∷ [])
-    (only (Becomes b (dropped b l outcome.Failure)) (change.Member (member.Leg l) (member_fact.NoGroup f)) (
-      leg_clash (leg_in leg_state.Fresh) (leg_in (leg_state.Ended outcome.Failure false)) b l (λ s told x y. cc) out,
-      dropped_there any_run any_run b l outcome.Failure (exists (run_in run_state.New) (leg_in leg_state.Fresh) b (member.Leg l) out),
+    (quietly b (dropped b l Outcome.Failure) (Change.Member (Member.Leg l) (MemberFact.NoGroup f) ∷ [])
+    (only (Becomes b (dropped b l Outcome.Failure)) (Change.Member (Member.Leg l) (MemberFact.NoGroup f)) (
+      leg_clash (leg_in LegState.Fresh) (leg_in (LegState.Ended Outcome.Failure false)) b l (λ s told x y. cc) out,
+      dropped_there any_run any_run b l Outcome.Failure (exists (run_in RunState.New) (leg_in LegState.Fresh) b (Member.Leg l) out),
     ))
-    (dropped_quiet b l outcome.Failure) (λ line notes a. dropped_agrees b notes l outcome.Failure (member_fact.NoGroup f) line refl a))
+    (dropped_quiet b l Outcome.Failure) (λ line notes a. dropped_agrees b notes l Outcome.Failure (MemberFact.NoGroup f) line refl a))
 
 pub asked : (p : Plan) (b new : Board) (l : ℕ) (found : Option LegAt) (reply : Reply) → leg_at p b l ≡ found → table.ask_found b l found ≡ Ok (new, reply)
     → Goes b new (causes.asks b l found)
@@ -242,7 +223,7 @@ asked p b new l None reply is h = cc
 asked p b new l (Some at) reply is h = guarded (table.may_ask at) (is_full at.job_plan at.job) (is_stopping at) refl h
   where
     guarded : (may full stopping : Bool) → table.may_ask at ≡ may
-        → (if not may then Err fault.WrongState else (if full then Err fault.SlotsFull else (if stopping then Err fault.Stopping else table.leg_enters b l at (leg_entrance at)))) ≡ Ok (new, reply)
+        → (if not may then Err EventFault.WrongState else (if full then Err EventFault.SlotsFull else (if stopping then Err EventFault.Stopping else table.leg_enters b l at (leg_entrance at)))) ≡ Ok (new, reply)
         → Goes b new (causes.asks b l (Some at))
     guarded false full stopping ready k = cc
     guarded true true stopping ready k = cc
@@ -272,21 +253,21 @@ next_apart b m (holding (Some name)) w is h e = no (sym is ∙ ap (standing b) e
 
 -- it has ended, and who waited goes on
 pub left_so : (b after : Board) (m : Member) (s : Standing) (fact : MemberFact) → standing b m ≡ Some s → (MemberStands b m fact → ⊥) → MemberStands after m fact
-    → ((w : Member) → Exists b w → Exists after w) → Quiet b after → Noting b after (change.Member m fact ∷ []) → Goes b (passed_on after (next_after b s)) (change.Member m fact ∷ causes.passes m (next_after b s))
+    → ((w : Member) → Exists b w → Exists after w) → Quiet b after → Noting b after (Change.Member m fact ∷ []) → Goes b (passed_on after (next_after b s)) (Change.Member m fact ∷ causes.passes m (next_after b s))
 left_so b after m s fact is before now stay quiet noting = by_next (next_after b s) refl
   where
-    by_next : (next : Option Member) → next_after b s ≡ next → Goes b (passed_on after next) (change.Member m fact ∷ causes.passes m next)
-    by_next None found = quietly b after (change.Member m fact ∷ []) (only (Becomes b after) (change.Member m fact) (before, now)) quiet noting
+    by_next : (next : Option Member) → next_after b s ≡ next → Goes b (passed_on after next) (Change.Member m fact ∷ causes.passes m next)
+    by_next None found = quietly b after (Change.Member m fact ∷ []) (only (Becomes b after) (Change.Member m fact) (before, now)) quiet noting
     by_next (Some w) found =
         let waited = next_waits b s w found in
-        quietly b (passed_on after (Some w)) (change.Member m fact ∷ (change.Member w (member_fact.Follows m) ∷ []))
-        (more (Becomes b (passed_on after (Some w))) (change.Member m fact) (change.Member w (member_fact.Follows m) ∷ [])
+        quietly b (passed_on after (Some w)) (Change.Member m fact ∷ (Change.Member w (MemberFact.Follows m) ∷ []))
+        (more (Becomes b (passed_on after (Some w))) (Change.Member m fact) (Change.Member w (MemberFact.Follows m) ∷ [])
         (before, passed_others (λ s told. RunIs fact s) (λ s told. LegIs fact s) after (Some w) m (λ v e. subst (λ x. m ≢ x) (same_some w v e) (next_apart b m s w is found)) now)
-        (only (Becomes b (passed_on after (Some w))) (change.Member w (member_fact.Follows m)) (
-          clash (run_in run_state.Waiting) (run_in run_state.Going) (leg_in leg_state.Waiting) (leg_in leg_state.Admitted) b w (λ s told x y. cc) (λ s told x y. cc) waited,
-          passed_there after w (stay w (exists (run_in run_state.Waiting) (leg_in leg_state.Waiting) b w waited)),
+        (only (Becomes b (passed_on after (Some w))) (Change.Member w (MemberFact.Follows m)) (
+          clash (run_in RunState.Waiting) (run_in RunState.Going) (leg_in LegState.Waiting) (leg_in LegState.Admitted) b w (λ s told x y. cc) (λ s told x y. cc) waited,
+          passed_there after w (stay w (exists (run_in RunState.Waiting) (leg_in LegState.Waiting) b w waited)),
         )))
-        (λ v x. passed_quiet after (Some w) v (quiet v x)) (λ line notes h. passed_agrees after (noted line notes (change.Member m fact)) w m line (noting line notes h))
+        (λ v x. passed_quiet after (Some w) v (quiet v x)) (λ line notes h. passed_agrees after (noted line notes (Change.Member m fact)) w m line (noting line notes h))
 
 -- ---- Drop
 
@@ -303,15 +284,15 @@ dropped_so p b new l (Some at) reply is h = guarded (table.may_drop at) (is_stop
     item = leg_item p b l at (leg_stands p b l at is)
 
     guarded : (may stopping : Bool) → table.may_drop at ≡ may
-        → (if not may then Err fault.WrongState else (if stopping then Ok (leaves b (leg_standing at.leg) (dropped b l outcome.Cancelled)) else Err fault.NotStopping)) ≡ Ok (new, reply)
+        → (if not may then Err EventFault.WrongState else (if stopping then Ok (leaves b (leg_standing at.leg) (dropped b l Outcome.Cancelled)) else Err EventFault.NotStopping)) ≡ Ok (new, reply)
         → Goes b new (causes.drops b l (Some at))
     guarded false stopping ready k = cc
     guarded true false ready k = cc
     guarded true true ready k =
         led b _ _ new reply k
-        (left_so b (dropped b l outcome.Cancelled) (member.Leg l) (leg_standing at.leg) (member_fact.Stopped (cause_of_stop l at)) (ap (option_map leg_standing) item)
-        (leg_clash untaken (leg_in (leg_state.Ended outcome.Cancelled false)) b l (λ s told x y. true≢false (sym x ∙ ap is_untaken y))
+        (left_so b (dropped b l Outcome.Cancelled) (Member.Leg l) (leg_standing at.leg) (MemberFact.Stopped (cause_of_stop l at)) (ap (option_map leg_standing) item)
+        (leg_clash untaken (leg_in (LegState.Ended Outcome.Cancelled false)) b l (λ s told x y. true≢false (sym x ∙ ap is_untaken y))
         (at.leg, item, and-right (is_going at.run.state && is_open at.job.state) (is_untaken at.leg.state) ready))
-        (dropped_there any_run any_run b l outcome.Cancelled (at.leg, item, tt))
-        (λ w x. cancelled_exists b (member.Leg l) w x) (dropped_quiet b l outcome.Cancelled)
-        (λ line notes a. dropped_agrees b notes l outcome.Cancelled (member_fact.Stopped (cause_of_stop l at)) line refl a))
+        (dropped_there any_run any_run b l Outcome.Cancelled (at.leg, item, tt))
+        (λ w x. cancelled_exists b (Member.Leg l) w x) (dropped_quiet b l Outcome.Cancelled)
+        (λ line notes a. dropped_agrees b notes l Outcome.Cancelled (MemberFact.Stopped (cause_of_stop l at)) line refl a))

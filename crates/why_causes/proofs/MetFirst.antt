@@ -5,17 +5,10 @@ use Rattle.std.proofs.lemmas.Bool.{cases_eq, cases_lt, leb-true}
 use Rattle.std.proofs.lemmas.List.Elements.{Contains-append_cases, Contains-append_left, Contains-append_right}
 use Rattle.std.proofs.lemmas.Option.{slice_get_within}
 use Rattle.std.proofs.lemmas.List.{length-replicate}
+use Rattle.status_table.specs.Words.{Job, JobAt, JobPlan, Outcome, Run, changed, holds, holds_at, is_success, job_result, job_results, needs_at, places_needed}
 use Rattle.board_decisions.specs.Ancestors.{NeedsPointBack}
-use Rattle.board_decisions.specs.Derived.{holds, holds_at, is_success, job_result, job_results, needs_at, places_needed}
-use Rattle.board_decisions.specs.Place.{JobAt}
 use Rattle.why_causes.specs.Endings.{IsMetFirst, needed, of_needed}
 use Rattle.why_facts.specs.Ancestors.{first_unsuccessful, marked, marks_after, needs_marked, succeeded_at, unmarked, unsuccessful, unsuccessful_at}
-use Rattle.flow_model.specs.declared.board.Job.{Job}
-use Rattle.flow_model.specs.declared.board.Run.{Run}
-use Rattle.flow_model.specs.declared.event.Outcome.{Outcome}
-use Rattle.flow_model.specs.declared.event.Outcome.TheVariants as outcome
-use Rattle.flow_model.specs.declared.plan.JobPlan.{JobPlan}
-use Rattle.status_table.specs.Change.{changed}
 use Rattle.board_decisions.proofs.Lists.{and-left, and-right, map-get, map-past, no_some, same_some}
 use Rattle.status_table.proofs.Lists.{changed-elsewhere, changed-there, length-changed}
 
@@ -139,31 +132,31 @@ module _ (first : ℕ) where
 
 -- ---- results
 
-succeeded : (run : Run) (k : ℕ) → slice_get (job_results run) k ≡ Some outcome.Success → succeeded_at run k ≡ true
+succeeded : (run : Run) (k : ℕ) → slice_get (job_results run) k ≡ Some Outcome.Success → succeeded_at run k ≡ true
 succeeded run k is = by (slice_get run.jobs k) refl
   where
     by : (o : Option Job) → slice_get run.jobs k ≡ o → succeeded_at run k ≡ true
-    by None there = absurd (no_some outcome.Success (sym (map-past (job_result run) run.jobs k there) ∙ is))
+    by None there = absurd (no_some Outcome.Success (sym (map-past (job_result run) run.jobs k there) ∙ is))
     by (Some job) there =
         ap holds (map-get (λ job. is_success (job_result run job)) run.jobs k job there)
-        ∙ ap is_success (same_some (job_result run job) outcome.Success (sym (map-get (job_result run) run.jobs k job there) ∙ is))
+        ∙ ap is_success (same_some (job_result run job) Outcome.Success (sym (map-get (job_result run) run.jobs k job there) ∙ is))
 
-no_success : (x : Outcome) → x ≢ outcome.Success → is_success x ≡ false
-no_success outcome.Success apart = absurd (apart refl)
-no_success outcome.Failure apart = refl
-no_success outcome.Cancelled apart = refl
-no_success outcome.Skipped apart = refl
+no_success : (x : Outcome) → x ≢ Outcome.Success → is_success x ≡ false
+no_success Outcome.Success apart = absurd (apart refl)
+no_success Outcome.Failure apart = refl
+no_success Outcome.Cancelled apart = refl
+no_success Outcome.Skipped apart = refl
 
-is_apart : (x : Outcome) → is_success x ≡ false → x ≢ outcome.Success
+is_apart : (x : Outcome) → is_success x ≡ false → x ≢ Outcome.Success
 is_apart x h e = true≢false (sym (ap is_success e) ∙ h)
 
-pub a_success : (x : Outcome) → is_success x ≡ true → x ≡ outcome.Success
-a_success outcome.Success h = refl
-a_success outcome.Failure h = absurd (true≢false (sym h))
-a_success outcome.Cancelled h = absurd (true≢false (sym h))
-a_success outcome.Skipped h = absurd (true≢false (sym h))
+pub a_success : (x : Outcome) → is_success x ≡ true → x ≡ Outcome.Success
+a_success Outcome.Success h = refl
+a_success Outcome.Failure h = absurd (true≢false (sym h))
+a_success Outcome.Cancelled h = absurd (true≢false (sym h))
+a_success Outcome.Skipped h = absurd (true≢false (sym h))
 
-unsucceeded : (run : Run) (k : ℕ) (x : Outcome) → slice_get (job_results run) k ≡ Some x → x ≢ outcome.Success → succeeded_at run k ≡ false
+unsucceeded : (run : Run) (k : ℕ) (x : Outcome) → slice_get (job_results run) k ≡ Some x → x ≢ Outcome.Success → succeeded_at run k ≡ false
 unsucceeded run k x is apart = by (slice_get run.jobs k) refl
   where
     by : (o : Option Job) → slice_get run.jobs k ≡ o → succeeded_at run k ≡ false
@@ -176,7 +169,7 @@ unsucceeded run k x is apart = by (slice_get run.jobs k) refl
 -- a job with success is there
 record Succeeds (run : Run) (k : ℕ) : Type 0 where
   within : k < length run.jobs
-  is : slice_get (job_results run) k ≡ Some outcome.Success
+  is : slice_get (job_results run) k ≡ Some Outcome.Success
 
 succeeds : (run : Run) (k : ℕ) → succeeded_at run k ≡ true → Succeeds run k
 succeeds run k h = by (slice_get run.jobs k) refl
@@ -190,7 +183,7 @@ succeeds run k h = by (slice_get run.jobs k) refl
     }
 
 -- so is one without success that is within
-fails : (run : Run) (k : ℕ) → k < length run.jobs → succeeded_at run k ≡ false → (x : Outcome) × (slice_get (job_results run) k ≡ Some x) × (x ≢ outcome.Success)
+fails : (run : Run) (k : ℕ) → k < length run.jobs → succeeded_at run k ≡ false → (x : Outcome) × (slice_get (job_results run) k ≡ Some x) × (x ≢ Outcome.Success)
 fails run k less h =
     let job = get_within run.jobs k less in (
       job_result run job.0,

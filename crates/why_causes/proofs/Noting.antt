@@ -4,10 +4,10 @@ use Rattle.std.specs.List.{flat_map, AllZip}
 use Rattle.std.proofs.lemmas.Bool.{true≢false}
 use Rattle.std.proofs.lemmas.List.{append_assoc, append-nil, length-append, map-append}
 use Rattle.std.proofs.lemmas.List.Concat.{flat_map-append}
+use Rattle.status_table.specs.Words.{Board, Each, Entry, Job, JobPlan, Member, Plain, Plan, Reply, Row, Run, RunPlan, after, board_legs, changed, event_row, new_board, new_job, new_leg, new_run, row}
 use Rattle.why_facts.specs.Notes as spec
 use Rattle.why_facts.specs.Notes.{all_noted, new_leg_notes, new_notes, new_run_notes, noted}
 use Rattle.why_facts.specs.declared.fact.Change.{Change}
-use Rattle.why_facts.specs.declared.fact.Change.TheVariants as change
 use Rattle.why_facts.specs.declared.fact.Teller.{Teller}
 use Rattle.why_facts.specs.declared.notes.LegNotes.{LegNotes}
 use Rattle.why_facts.specs.declared.notes.Notes.{Notes}
@@ -19,23 +19,7 @@ use Rattle.why_notes.specs.Changes.{changes}
 use Rattle.why_causes.specs.Agrees.{Agrees, JobAgrees, LegAgrees, RunAgrees}
 use Rattle.why_causes.specs.Made.{IsMade, IsNews, JobHolds, LegHolds, MadeAt, NotesAreMade, RunHolds}
 use Rattle.why_causes.specs.Stands.{Has, IsTold}
-use Rattle.flow_model.specs.Numbers.{board_legs}
-use Rattle.flow_model.specs.Plain.{Plain}
-use Rattle.flow_model.specs.Sound.{Each}
-use Rattle.flow_model.specs.declared.board.Board.{Board}
-use Rattle.flow_model.specs.declared.event.Entry.{Entry}
-use Rattle.flow_model.specs.declared.board.Job.{Job}
-use Rattle.flow_model.specs.declared.board.Run.{Run}
-use Rattle.flow_model.specs.declared.event.Member.{Member}
-use Rattle.flow_model.specs.declared.event.Member.TheVariants as member
-use Rattle.flow_model.specs.declared.plan.JobPlan.{JobPlan}
-use Rattle.flow_model.specs.declared.plan.Plan.{Plan}
-use Rattle.flow_model.specs.declared.plan.RunPlan.{RunPlan}
-use Rattle.flow_model.specs.declared.reply.Reply.{Reply}
-use Rattle.status_table.specs.declared.fault.EventFault.TheVariants as fault
-use Rattle.status_table.specs.Change.{changed}
-use Rattle.status_table.specs.Row.{Row, event_row, row}
-use Rattle.status_table.specs.Runs.{after, new_board, new_job, new_leg, new_run}
+use Rattle.status_table.specs.declared.fault.EventFault.{EventFault}
 use Rattle.why_causes.proofs.Becoming.{changes_become_so, goes}
 use Rattle.why_causes.proofs.Going.{Tells}
 use Rattle.why_causes.proofs.MetFirst.{contains_at}
@@ -102,10 +86,10 @@ at_put {T} P Q (y ∷ ys) (suc i) f here others all (suc k) x is =
 some_none : {T : Type 0} {x : T} → Some x ≡ None → ⊥
 some_none e = cc
 
-run_is : {r k : ℕ} {s t : Teller} → change.Stop (member.Run r) s ≡ change.Stop (member.Run k) t → k ≡ r
+run_is : {r k : ℕ} {s t : Teller} → Change.Stop (Member.Run r) s ≡ Change.Stop (Member.Run k) t → k ≡ r
 run_is e = cc
 
-leg_is : {l k : ℕ} {s t : Teller} → change.Stop (member.Leg l) s ≡ change.Stop (member.Leg k) t → k ≡ l
+leg_is : {l k : ℕ} {s t : Teller} → Change.Stop (Member.Leg l) s ≡ Change.Stop (Member.Leg k) t → k ≡ l
 leg_is e = cc
 
 -- ---- what is known of notes beside a board
@@ -113,11 +97,11 @@ leg_is e = cc
 -- What holds of a run's notes; where no teller is noted it was not told to stop, and it is free of something.
 record RunKnown (P : ℕ → Change → Type 0) (b : Board) (Free : Member → Type 0) (r : ℕ) (n : RunNotes) : Type 0 where
   holds : RunHolds P r n
-  untold : n.stop ≡ None → Has b (member.Run r) untold_run untold_leg × Free (member.Run r)
+  untold : n.stop ≡ None → Has b (Member.Run r) untold_run untold_leg × Free (Member.Run r)
 
 record LegKnown (P : ℕ → Change → Type 0) (b : Board) (Free : Member → Type 0) (l : ℕ) (n : LegNotes) : Type 0 where
   holds : LegHolds P l n
-  untold : n.stop ≡ None → Has b (member.Leg l) untold_run untold_leg × Free (member.Leg l)
+  untold : n.stop ≡ None → Has b (Member.Leg l) untold_run untold_leg × Free (Member.Leg l)
 
 record Known (P : ℕ → Change → Type 0) (b : Board) (Free : Member → Type 0) (notes : Notes) : Type 0 where
   runs : At (RunKnown P b Free) notes.runs
@@ -126,9 +110,9 @@ record Known (P : ℕ → Change → Type 0) (b : Board) (Free : Member → Type
 
 known_weaker : (P : ℕ → Change → Type 0) (b : Board) (F G : Member → Type 0) (notes : Notes) → ((w : Member) → F w → G w) → Known P b F notes → Known P b G notes
 known_weaker P b F G notes follows k = record {
-  runs = λ r n is. let x = k.runs r n is in record { holds = x.holds; untold = λ none. let u = x.untold none in (u.0, follows (member.Run r) u.1) };
+  runs = λ r n is. let x = k.runs r n is in record { holds = x.holds; untold = λ none. let u = x.untold none in (u.0, follows (Member.Run r) u.1) };
   jobs = k.jobs;
-  legs = λ l n is. let x = k.legs l n is in record { holds = x.holds; untold = λ none. let u = x.untold none in (u.0, follows (member.Leg l) u.1) };
+  legs = λ l n is. let x = k.legs l n is in record { holds = x.holds; untold = λ none. let u = x.untold none in (u.0, follows (Member.Leg l) u.1) };
 }
 
 -- nobody is free of anything in particular
@@ -221,31 +205,31 @@ new_known P p = record {
 
 -- nobody is told by a change to stop
 abbrev NotBy : Change → Member → Type 0
-NotBy c w = (t : Teller) → c ≡ change.Stop w t → ⊥
+NotBy c w = (t : Teller) → c ≡ Change.Stop w t → ⊥
 
 module _ (P : ℕ → Change → Type 0) (b : Board) (Free : Member → Type 0) (line : ℕ) where
   -- it is free of one change more
   abbrev FreeOf : Change → Member → Type 0
   FreeOf c w = Free w × NotBy c w
 
-  run_by : (c : Change) → ((r : ℕ) → NotBy c (member.Run r)) → (r : ℕ) (n : RunNotes) → RunKnown P b Free r n → RunKnown P b (FreeOf c) r n
+  run_by : (c : Change) → ((r : ℕ) → NotBy c (Member.Run r)) → (r : ℕ) (n : RunNotes) → RunKnown P b Free r n → RunKnown P b (FreeOf c) r n
   run_by c not r n k = record { holds = k.holds; untold = λ none. let u = k.untold none in (u.0, (u.1, not r)) }
 
-  leg_by : (c : Change) → ((l : ℕ) → NotBy c (member.Leg l)) → (l : ℕ) (n : LegNotes) → LegKnown P b Free l n → LegKnown P b (FreeOf c) l n
+  leg_by : (c : Change) → ((l : ℕ) → NotBy c (Member.Leg l)) → (l : ℕ) (n : LegNotes) → LegKnown P b Free l n → LegKnown P b (FreeOf c) l n
   leg_by c not l n k = record { holds = k.holds; untold = λ none. let u = k.untold none in (u.0, (u.1, not l)) }
 
-  step_more : (l : ℕ) (steps : List StepNote) (note : StepNote) → Each (λ (x : StepNote). P x.line (change.Step l x.fact)) steps → P note.line (change.Step l note.fact)
-      → Each (λ (x : StepNote). P x.line (change.Step l x.fact)) (steps ++ note ∷ [])
+  step_more : (l : ℕ) (steps : List StepNote) (note : StepNote) → Each (λ (x : StepNote). P x.line (Change.Step l x.fact)) steps → P note.line (Change.Step l note.fact)
+      → Each (λ (x : StepNote). P x.line (Change.Step l x.fact)) (steps ++ note ∷ [])
   step_more l steps note h one =
-      at_more (λ i (x : StepNote). P x.line (change.Step l x.fact)) steps (note ∷ []) h (at_one (λ i (x : StepNote). P x.line (change.Step l x.fact)) note (λ i. one))
+      at_more (λ i (x : StepNote). P x.line (Change.Step l x.fact)) steps (note ∷ []) h (at_one (λ i (x : StepNote). P x.line (Change.Step l x.fact)) note (λ i. one))
 
   -- the first teller is noted, or was
-  run_stop : (r : ℕ) (tells : Teller) (n : RunNotes) → ((IsTold b (member.Run r) → ⊥) → P line (change.Stop (member.Run r) tells)) → RunKnown P b Free r n
-      → RunKnown P b (FreeOf (change.Stop (member.Run r) tells)) r (record n { stop = spec.first_of n.stop (record { line = line; teller = tells }) })
+  run_stop : (r : ℕ) (tells : Teller) (n : RunNotes) → ((IsTold b (Member.Run r) → ⊥) → P line (Change.Stop (Member.Run r) tells)) → RunKnown P b Free r n
+      → RunKnown P b (FreeOf (Change.Stop (Member.Run r) tells)) r (record n { stop = spec.first_of n.stop (record { line = line; teller = tells }) })
   run_stop r tells n one k = by n.stop refl
     where
       by : (told : Option StopNote) → n.stop ≡ told
-          → RunKnown P b (FreeOf (change.Stop (member.Run r) tells)) r (record n { stop = spec.first_of told (record { line = line; teller = tells }) })
+          → RunKnown P b (FreeOf (Change.Stop (Member.Run r) tells)) r (record n { stop = spec.first_of told (record { line = line; teller = tells }) })
       by None is = record {
         holds = record {
           last = k.holds.last;
@@ -254,16 +238,16 @@ module _ (P : ℕ → Change → Type 0) (b : Board) (Free : Member → Type 0) 
         untold = λ none. absurd (some_none none);
       }
       by (Some first) is = record {
-        holds = record { last = k.holds.last; stop = subst (λ (o : Option StopNote). IfSome o (λ note. P note.line (change.Stop (member.Run r) note.teller))) is k.holds.stop };
+        holds = record { last = k.holds.last; stop = subst (λ (o : Option StopNote). IfSome o (λ note. P note.line (Change.Stop (Member.Run r) note.teller))) is k.holds.stop };
         untold = λ none. absurd (some_none none);
       }
 
-  leg_stop : (l : ℕ) (tells : Teller) (n : LegNotes) → ((IsTold b (member.Leg l) → ⊥) → P line (change.Stop (member.Leg l) tells)) → LegKnown P b Free l n
-      → LegKnown P b (FreeOf (change.Stop (member.Leg l) tells)) l (record n { stop = spec.first_of n.stop (record { line = line; teller = tells }) })
+  leg_stop : (l : ℕ) (tells : Teller) (n : LegNotes) → ((IsTold b (Member.Leg l) → ⊥) → P line (Change.Stop (Member.Leg l) tells)) → LegKnown P b Free l n
+      → LegKnown P b (FreeOf (Change.Stop (Member.Leg l) tells)) l (record n { stop = spec.first_of n.stop (record { line = line; teller = tells }) })
   leg_stop l tells n one k = by n.stop refl
     where
       by : (told : Option StopNote) → n.stop ≡ told
-          → LegKnown P b (FreeOf (change.Stop (member.Leg l) tells)) l (record n { stop = spec.first_of told (record { line = line; teller = tells }) })
+          → LegKnown P b (FreeOf (Change.Stop (Member.Leg l) tells)) l (record n { stop = spec.first_of told (record { line = line; teller = tells }) })
       by None is = record {
         holds = record {
           last = k.holds.last;
@@ -276,7 +260,7 @@ module _ (P : ℕ → Change → Type 0) (b : Board) (Free : Member → Type 0) 
       by (Some first) is = record {
         holds = record {
           last = k.holds.last;
-          stop = subst (λ (o : Option StopNote). IfSome o (λ note. P note.line (change.Stop (member.Leg l) note.teller))) is k.holds.stop;
+          stop = subst (λ (o : Option StopNote). IfSome o (λ note. P note.line (Change.Stop (Member.Leg l) note.teller))) is k.holds.stop;
           call = k.holds.call;
           steps = k.holds.steps;
         };
@@ -284,8 +268,8 @@ module _ (P : ℕ → Change → Type 0) (b : Board) (Free : Member → Type 0) 
       }
 
   one_noted : (notes : Notes) (c : Change) → (IsNews b c → P line c) → Known P b Free notes → Known P b (FreeOf c) (noted line notes c)
-  one_noted notes (change.Member (member.Run r) fact) one k =
-      let c = change.Member (member.Run r) fact in
+  one_noted notes (Change.Member (Member.Run r) fact) one k =
+      let c = Change.Member (Member.Run r) fact in
       record {
         runs = at_changed (RunKnown P b (FreeOf c)) notes.runs r (λ run. record run { last = Some (record { line = line; fact = fact }) })
             (λ n x. record { holds = record { last = one tt; stop = x.holds.stop }; untold = x.untold })
@@ -293,8 +277,8 @@ module _ (P : ℕ → Change → Type 0) (b : Board) (Free : Member → Type 0) 
         jobs = k.jobs;
         legs = at_weaker (LegKnown P b Free) (LegKnown P b (FreeOf c)) notes.legs (leg_by c (λ l t e. cc)) k.legs;
       }
-  one_noted notes (change.Member (member.Leg l) fact) one k =
-      let c = change.Member (member.Leg l) fact in
+  one_noted notes (Change.Member (Member.Leg l) fact) one k =
+      let c = Change.Member (Member.Leg l) fact in
       record {
         runs = at_weaker (RunKnown P b Free) (RunKnown P b (FreeOf c)) notes.runs (run_by c (λ r t e. cc)) k.runs;
         jobs = k.jobs;
@@ -302,15 +286,15 @@ module _ (P : ℕ → Change → Type 0) (b : Board) (Free : Member → Type 0) 
             (λ n x. record { holds = record { last = one tt; stop = x.holds.stop; call = x.holds.call; steps = x.holds.steps }; untold = x.untold })
             (at_weaker (LegKnown P b Free) (LegKnown P b (FreeOf c)) notes.legs (leg_by c (λ l t e. cc)) k.legs);
       }
-  one_noted notes (change.Job j fact) one k =
-      let c = change.Job j fact in
+  one_noted notes (Change.Job j fact) one k =
+      let c = Change.Job j fact in
       record {
         runs = at_weaker (RunKnown P b Free) (RunKnown P b (FreeOf c)) notes.runs (run_by c (λ r t e. cc)) k.runs;
         jobs = at_changed (JobHolds P) notes.jobs j (λ job. record job { last = Some (record { line = line; fact = fact }) }) (λ n x. one tt) k.jobs;
         legs = at_weaker (LegKnown P b Free) (LegKnown P b (FreeOf c)) notes.legs (leg_by c (λ l t e. cc)) k.legs;
       }
-  one_noted notes (change.Called l) one k =
-      let c = change.Called l in
+  one_noted notes (Change.Called l) one k =
+      let c = Change.Called l in
       record {
         runs = at_weaker (RunKnown P b Free) (RunKnown P b (FreeOf c)) notes.runs (run_by c (λ r t e. cc)) k.runs;
         jobs = k.jobs;
@@ -318,8 +302,8 @@ module _ (P : ℕ → Change → Type 0) (b : Board) (Free : Member → Type 0) 
             (λ n x. record { holds = record { last = x.holds.last; stop = x.holds.stop; call = one tt; steps = x.holds.steps }; untold = x.untold })
             (at_weaker (LegKnown P b Free) (LegKnown P b (FreeOf c)) notes.legs (leg_by c (λ l t e. cc)) k.legs);
       }
-  one_noted notes (change.Step l fact) one k =
-      let c = change.Step l fact in
+  one_noted notes (Change.Step l fact) one k =
+      let c = Change.Step l fact in
       record {
         runs = at_weaker (RunKnown P b Free) (RunKnown P b (FreeOf c)) notes.runs (run_by c (λ r t e. cc)) k.runs;
         jobs = k.jobs;
@@ -335,17 +319,17 @@ module _ (P : ℕ → Change → Type 0) (b : Board) (Free : Member → Type 0) 
             })
             (at_weaker (LegKnown P b Free) (LegKnown P b (FreeOf c)) notes.legs (leg_by c (λ l t e. cc)) k.legs);
       }
-  one_noted notes (change.Stop (member.Run r) tells) one k = record {
-    runs = at_put (RunKnown P b Free) (RunKnown P b (FreeOf (change.Stop (member.Run r) tells))) notes.runs r
+  one_noted notes (Change.Stop (Member.Run r) tells) one k = record {
+    runs = at_put (RunKnown P b Free) (RunKnown P b (FreeOf (Change.Stop (Member.Run r) tells))) notes.runs r
         (λ run. record run { stop = spec.first_of run.stop (record { line = line; teller = tells }) }) (λ n x. run_stop r tells n one x)
         (λ i n apart x. record { holds = x.holds; untold = λ none. let u = x.untold none in (u.0, (u.1, λ t e. apart (run_is e))) }) k.runs;
     jobs = k.jobs;
-    legs = at_weaker (LegKnown P b Free) (LegKnown P b (FreeOf (change.Stop (member.Run r) tells))) notes.legs (leg_by (change.Stop (member.Run r) tells) (λ l t e. cc)) k.legs;
+    legs = at_weaker (LegKnown P b Free) (LegKnown P b (FreeOf (Change.Stop (Member.Run r) tells))) notes.legs (leg_by (Change.Stop (Member.Run r) tells) (λ l t e. cc)) k.legs;
   }
-  one_noted notes (change.Stop (member.Leg l) tells) one k = record {
-    runs = at_weaker (RunKnown P b Free) (RunKnown P b (FreeOf (change.Stop (member.Leg l) tells))) notes.runs (run_by (change.Stop (member.Leg l) tells) (λ r t e. cc)) k.runs;
+  one_noted notes (Change.Stop (Member.Leg l) tells) one k = record {
+    runs = at_weaker (RunKnown P b Free) (RunKnown P b (FreeOf (Change.Stop (Member.Leg l) tells))) notes.runs (run_by (Change.Stop (Member.Leg l) tells) (λ r t e. cc)) k.runs;
     jobs = k.jobs;
-    legs = at_put (LegKnown P b Free) (LegKnown P b (FreeOf (change.Stop (member.Leg l) tells))) notes.legs l
+    legs = at_put (LegKnown P b Free) (LegKnown P b (FreeOf (Change.Stop (Member.Leg l) tells))) notes.legs l
         (λ leg. record leg { stop = spec.first_of leg.stop (record { line = line; teller = tells }) }) (λ n x. leg_stop l tells n one x)
         (λ i n apart x. record { holds = x.holds; untold = λ none. let u = x.untold none in (u.0, (u.1, λ t e. apart (leg_is e))) }) k.legs;
   }
@@ -353,17 +337,17 @@ module _ (P : ℕ → Change → Type 0) (b : Board) (Free : Member → Type 0) 
 -- changes are noted, one after the other
 every_noted : (P : ℕ → Change → Type 0) (b : Board) (Free : Member → Type 0) (line : ℕ) (notes : Notes) (cs : List Change)
     → ((i : ℕ) (c : Change) → slice_get cs i ≡ Some c → IsNews b c → P line c) → Known P b Free notes
-    → Known P b (λ w. Free w × ((i : ℕ) (t : Teller) → slice_get cs i ≡ Some (change.Stop w t) → ⊥)) (all_noted line notes cs)
+    → Known P b (λ w. Free w × ((i : ℕ) (t : Teller) → slice_get cs i ≡ Some (Change.Stop w t) → ⊥)) (all_noted line notes cs)
 every_noted P b Free line notes [] all k =
-    known_weaker P b Free (λ w. Free w × ((i : ℕ) (t : Teller) → slice_get [] i ≡ Some (change.Stop w t) → ⊥)) notes (λ w free. (free, λ i t is. no_some (change.Stop w t) is)) k
+    known_weaker P b Free (λ w. Free w × ((i : ℕ) (t : Teller) → slice_get [] i ≡ Some (Change.Stop w t) → ⊥)) notes (λ w free. (free, λ i t is. no_some (Change.Stop w t) is)) k
 every_noted P b Free line notes (c ∷ cs) all k =
-    known_weaker P b (λ w. (Free w × NotBy c w) × ((i : ℕ) (t : Teller) → slice_get cs i ≡ Some (change.Stop w t) → ⊥))
-    (λ w. Free w × ((i : ℕ) (t : Teller) → slice_get (c ∷ cs) i ≡ Some (change.Stop w t) → ⊥)) (all_noted line (noted line notes c) cs)
+    known_weaker P b (λ w. (Free w × NotBy c w) × ((i : ℕ) (t : Teller) → slice_get cs i ≡ Some (Change.Stop w t) → ⊥))
+    (λ w. Free w × ((i : ℕ) (t : Teller) → slice_get (c ∷ cs) i ≡ Some (Change.Stop w t) → ⊥)) (all_noted line (noted line notes c) cs)
     (λ w free. (free.0.0, none w free.0.1 free.1))
     (every_noted P b (λ w. Free w × NotBy c w) line (noted line notes c) cs (λ i x is. all (suc i) x is) (one_noted P b Free line notes c (all 0 c refl) k))
   where
-    none : (w : Member) → NotBy c w → ((i : ℕ) (t : Teller) → slice_get cs i ≡ Some (change.Stop w t) → ⊥) → (i : ℕ) (t : Teller) → slice_get (c ∷ cs) i ≡ Some (change.Stop w t) → ⊥
-    none w not rest zero t is = not t (same_some c (change.Stop w t) is)
+    none : (w : Member) → NotBy c w → ((i : ℕ) (t : Teller) → slice_get cs i ≡ Some (Change.Stop w t) → ⊥) → (i : ℕ) (t : Teller) → slice_get (c ∷ cs) i ≡ Some (Change.Stop w t) → ⊥
+    none w not rest zero t is = not t (same_some c (Change.Stop w t) is)
     none w not rest (suc i) t is = rest i t is
 
 -- ---- a record
@@ -371,7 +355,7 @@ every_noted P b Free line notes (c ∷ cs) all k =
 pub accepted_event : (p : Plan) (b : Board) (e : Entry) (x : Board × Reply) → row p b e.worker e.event ≡ Ok x → event_row p b e.worker e.event ≡ Ok x
 accepted_event p b e x h = by (nat_le e.worker 15) h
   where
-    by : (few : Bool) → (if few then event_row p b e.worker e.event else Err fault.NoSuch) ≡ Ok x → event_row p b e.worker e.event ≡ Ok x
+    by : (few : Bool) → (if few then event_row p b e.worker e.event else Err EventFault.NoSuch) ≡ Ok x → event_row p b e.worker e.event ≡ Ok x
     by true k = k
     by false k = cc
 
@@ -399,11 +383,11 @@ append_cons (x ∷ before) e rest = ap (λ xs. x ∷ xs) (append_cons before e r
 
 -- what is known after an entry, of the board after it
 on_new : (P : ℕ → Change → Type 0) (b new : Board) (cs : List Change) (notes : Notes) → Tells b new cs
-    → Known P b (λ w. anybody w × ((i : ℕ) (t : Teller) → slice_get cs i ≡ Some (change.Stop w t) → ⊥)) notes → Known P new anybody notes
+    → Known P b (λ w. anybody w × ((i : ℕ) (t : Teller) → slice_get cs i ≡ Some (Change.Stop w t) → ⊥)) notes → Known P new anybody notes
 on_new P b new cs notes tells k = record {
-  runs = λ r n is. let x = k.runs r n is in record { holds = x.holds; untold = λ none. let u = x.untold none in (tells (member.Run r) u.0 u.1.1, tt) };
+  runs = λ r n is. let x = k.runs r n is in record { holds = x.holds; untold = λ none. let u = x.untold none in (tells (Member.Run r) u.0 u.1.1, tt) };
   jobs = k.jobs;
-  legs = λ l n is. let x = k.legs l n is in record { holds = x.holds; untold = λ none. let u = x.untold none in (tells (member.Leg l) u.0 u.1.1, tt) };
+  legs = λ l n is. let x = k.legs l n is in record { holds = x.holds; untold = λ none. let u = x.untold none in (tells (Member.Leg l) u.0 u.1.1, tt) };
 }
 
 is_made : (p : Plan) (es : List Entry) (a : Account) → Known (MadeAt p es) a.board anybody a.notes → Agrees a.board a.notes → IsMade p es a

@@ -2,13 +2,8 @@
 use Rattle.std.proofs.Common.{◌≡◌, ◌∙◌, ap, sym, refl, subst, ℕ, zero, suc, ◌+◌, ◌-◌, arith, Bool, true, false, List, [], ◌∷◌, ◌++◌, Option, Some, None, slice_get, map, true≢false}
 use Rattle.std.specs.Prelude.{◌≢◌, Result, Ok, Err, not, ◌&&◌, ◌||◌, if◌then◌else◌}
 use Rattle.std.specs.List.{list_all, list_any}
-use Rattle.board_decisions.specs.Contexts.{first_number}
-use Rattle.board_decisions.specs.Decisions.{is_stopping, job_condition, leg_entrance}
-use Rattle.board_decisions.specs.Derived.{has_failed, holds_at, is_fresh, is_full, is_going, is_open, job_has_ended, job_status, jobs_have_ended, legs_result, needs_have_ended, run_result, was_cancelled}
-use Rattle.board_decisions.specs.declared.entrance.Entrance.{Entrance}
-use Rattle.board_decisions.specs.declared.place.JobPlace.{JobPlace}
+use Rattle.status_table.specs.Words.{Board, Entrance, Event, Job, JobPlace, JobState, Leg, LegState, Outcome, Reply, Row, Run, RunState, ValueFault, ask_found, board_legs, close_found, close_run, closed, event_row, first_number, first_of, has_failed, holds_at, is_fresh, is_full, is_going, is_open, is_stopping, job_condition, job_has_ended, job_status, jobs_have_ended, judge_found, judge_job, judged_state, judgement_by, leaves, leg_enters, leg_entrance, legs_result, needs_have_ended, run_closes, run_result, run_standing, was_cancelled}
 use Rattle.why_facts.specs.declared.fact.MemberFact.{MemberFact}
-use Rattle.why_facts.specs.declared.fact.MemberFact.TheVariants as member_fact
 use Rattle.why_facts.specs.declared.notes.MemberNote.{MemberNote}
 use Rattle.why_facts.specs.declared.notes.JobNotes.{JobNotes}
 use Rattle.why_causes.specs.Agrees.{LegAgrees, LegNow, LegStill, RunAgrees, RunNow}
@@ -16,27 +11,8 @@ use Rattle.why_causes.specs.Causes.{asked, causes, first_leg, fresh_asked, going
 use Rattle.why_causes.specs.Obstacles.{LegsOfResultsAreNamed, ObstaclesAreNamed, OpenJobsAreNamed, OpenNeedsAreNamed, TakenSlotsAreNamed}
 use Rattle.why_causes.specs.Stands.{RunIs}
 use Rattle.why_causes.specs.declared.question.Question.{Question}
-use Rattle.why_causes.specs.declared.question.Question.TheVariants as question
-use Rattle.why_causes.specs.declared.sought.Sought.TheVariants as sought
-use Rattle.flow_model.specs.Numbers.{board_legs}
-use Rattle.flow_model.specs.declared.board.Board.{Board}
-use Rattle.flow_model.specs.declared.board.Job.{Job}
-use Rattle.flow_model.specs.declared.board.JobState.{JobState}
-use Rattle.flow_model.specs.declared.board.Leg.{Leg}
-use Rattle.flow_model.specs.declared.board.LegState.{LegState}
-use Rattle.flow_model.specs.declared.board.LegState.TheVariants as leg_state
-use Rattle.flow_model.specs.declared.board.Run.{Run}
-use Rattle.flow_model.specs.declared.board.RunState.{RunState}
-use Rattle.flow_model.specs.declared.board.RunState.TheVariants as run_state
-use Rattle.flow_model.specs.declared.event.Event.TheVariants as event
-use Rattle.flow_model.specs.declared.event.Outcome.{Outcome}
-use Rattle.flow_model.specs.declared.event.Outcome.TheVariants as outcome
-use Rattle.flow_model.specs.declared.reply.Reply.{Reply}
-use Rattle.flow_model.specs.declared.reply.ValueFault.{ValueFault}
-use Rattle.status_table.specs.Groups.{closed, leaves, run_standing}
-use Rattle.status_table.specs.Row.{Row, ask_found, close_found, close_run, event_row, first_of, judge_found, judge_job, judged_state, judgement_by, leg_enters, run_closes}
+use Rattle.why_causes.specs.declared.sought.Sought.{Sought}
 use Rattle.status_table.specs.declared.fault.EventFault.{EventFault}
-use Rattle.status_table.specs.declared.fault.EventFault.TheVariants as fault
 use Rattle.board_decisions.proofs.Lists.{no_some, same_some}
 use Rattle.why_causes.proofs.Noting.{notes_are_made}
 use Rattle.status_table.proofs.Counts.{zip-left}
@@ -107,11 +83,11 @@ refuses : (x : Board × Reply) (f : EventFault) (c : Bool) → c ≡ false → (
 refuses x f true h = absurd (true≢false h)
 refuses x f false h = refl
 
-going_is : (s : RunState) → is_going s ≡ true → s ≡ run_state.Going
-going_is run_state.New h = absurd (true≢false (sym h))
-going_is run_state.Waiting h = absurd (true≢false (sym h))
-going_is run_state.Going h = refl
-going_is (run_state.Closed result) h = absurd (true≢false (sym h))
+going_is : (s : RunState) → is_going s ≡ true → s ≡ RunState.Going
+going_is RunState.New h = absurd (true≢false (sym h))
+going_is RunState.Waiting h = absurd (true≢false (sym h))
+going_is RunState.Going h = refl
+going_is (RunState.Closed result) h = absurd (true≢false (sym h))
 
 -- ---- a job that waits for what it needs
 
@@ -129,18 +105,18 @@ ended_at first run need = holds_at (map (job_has_ended run) run.jobs) (need - fi
 needs_left : (first : ℕ) (run : Run) (needs : List ℕ) → list_all (ended_at first run) needs ≡ false → needs_asked first run needs ≢ []
 needs_left first run [] is none = true≢false is
 needs_left first run (n ∷ ns) is none =
-    need-left (ended_at first run n) (list_all (ended_at first run) ns) (question.Job n) (needs_asked first run ns) (needs_left first run ns) is none
+    need-left (ended_at first run n) (list_all (ended_at first run) ns) (Question.Job n) (needs_asked first run ns) (needs_left first run ns) is none
 
 left_needs : (first : ℕ) (run : Run) (needs : List ℕ) → needs_asked first run needs ≢ [] → list_all (ended_at first run) needs ≡ false
 left_needs first run [] some = absurd (some refl)
 left_needs first run (n ∷ ns) some =
-    left-need (ended_at first run n) (list_all (ended_at first run) ns) (question.Job n) (needs_asked first run ns) (left_needs first run ns) some
+    left-need (ended_at first run n) (list_all (ended_at first run) ns) (Question.Job n) (needs_asked first run ns) (left_needs first run ns) some
 
-judge-refused : (b : Board) (place : JobPlace) (s : JobState) (c : Bool) → judge_job b place (if c then Ok s else Err fault.NeedsOpen) ≡ Err fault.NeedsOpen → c ≡ false
+judge-refused : (b : Board) (place : JobPlace) (s : JobState) (c : Bool) → judge_job b place (if c then Ok s else Err EventFault.NeedsOpen) ≡ Err EventFault.NeedsOpen → c ≡ false
 judge-refused b place s true h = absurd (subst accepted h tt)
 judge-refused b place s false h = refl
 
-judge-refuses : (b : Board) (place : JobPlace) (s : JobState) (c : Bool) → c ≡ false → judge_job b place (if c then Ok s else Err fault.NeedsOpen) ≡ Err fault.NeedsOpen
+judge-refuses : (b : Board) (place : JobPlace) (s : JobState) (c : Bool) → c ≡ false → judge_job b place (if c then Ok s else Err EventFault.NeedsOpen) ≡ Err EventFault.NeedsOpen
 judge-refuses b place s true h = absurd (true≢false h)
 judge-refuses b place s false h = refl
 
@@ -160,23 +136,23 @@ open_needs a j at worker play is going unjudged =
 
     ready : ℕ → Row
     ready f =
-        judge_job a.board at.place (if needs_have_ended f at.run at.plan then Ok (judged_state at.run.stop (job_condition at (job_status f at))) else Err fault.NeedsOpen)
+        judge_job a.board at.place (if needs_have_ended f at.run at.plan then Ok (judged_state at.run.stop (job_condition at (job_status f at))) else Err EventFault.NeedsOpen)
 
     placed : first_of j at ≡ first
     placed = ap (λ n. n - at.place.job) (sym (is_numbered_in a.plan a.board j at play is).number)
 
-    row : event_row a.plan a.board worker (event.Judge j) ≡ ready first
+    row : event_row a.plan a.board worker (Event.Judge j) ≡ ready first
     row =
         ap (judge_found a.board j) is
         ∙ ap (λ s. judge_job a.board at.place (judgement_by j at s at.job.state)) (going_is at.run.state going)
-        ∙ ap (λ s. judge_job a.board at.place (judgement_by j at run_state.Going s)) unjudged
+        ∙ ap (λ s. judge_job a.board at.place (judgement_by j at RunState.Going s)) unjudged
         ∙ ap ready placed
 
-    below : causes a (question.Job j) ≡ needs_asked first at.run at.plan.needs
+    below : causes a (Question.Job j) ≡ needs_asked first at.run at.plan.needs
     below =
         ap (job_asked a j) is
         ∙ ap (job_state_asked at (slice_get a.notes.jobs j)) unjudged
-        ∙ ap (λ g. if g then needs_asked first at.run at.plan.needs else question.Run at.place.run ∷ []) going
+        ∙ ap (λ g. if g then needs_asked first at.run at.plan.needs else Question.Run at.place.run ∷ []) going
 
 -- ---- a run that waits for its jobs
 
@@ -188,46 +164,46 @@ not-true : (b : Bool) → not b ≡ true → b ≡ false
 not-true true h = absurd (true≢false (sym h))
 not-true false h = refl
 
-any_unended : (run : Run) (jobs : List Job) → list_any (job_sought sought.Unended run) jobs ≡ not (list_all (job_has_ended run) jobs)
+any_unended : (run : Run) (jobs : List Job) → list_any (job_sought Sought.Unended run) jobs ≡ not (list_all (job_has_ended run) jobs)
 any_unended run [] = refl
 any_unended run (x ∷ xs) =
-    not-both (job_has_ended run x) (list_any (job_sought sought.Unended run) xs) (list_all (job_has_ended run) xs) (any_unended run xs)
+    not-both (job_has_ended run x) (list_any (job_sought Sought.Unended run) xs) (list_all (job_has_ended run) xs) (any_unended run xs)
 
 open_jobs : OpenJobsAreNamed
 open_jobs p es a r at worker account is going =
     record {
-      jobs = jobs_asked at sought.Unended;
+      jobs = jobs_asked at Sought.Unended;
       below = below;
       named = record {
-        all = λ h. some_asked question.Job _ _ at.run.jobs (any_unended at.run at.run.jobs ∙ ap not (refused ending fault.NeedsOpen (jobs_have_ended at.run) (sym row ∙ h)));
-        alone = λ some. row ∙ refuses ending fault.NeedsOpen (jobs_have_ended at.run)
-            (not-true (jobs_have_ended at.run) (sym (any_unended at.run at.run.jobs) ∙ any_asked question.Job _ _ at.run.jobs some));
+        all = λ h. some_asked Question.Job _ _ at.run.jobs (any_unended at.run at.run.jobs ∙ ap not (refused ending EventFault.NeedsOpen (jobs_have_ended at.run) (sym row ∙ h)));
+        alone = λ some. row ∙ refuses ending EventFault.NeedsOpen (jobs_have_ended at.run)
+            (not-true (jobs_have_ended at.run) (sym (any_unended at.run at.run.jobs) ∙ any_asked Question.Job _ _ at.run.jobs some));
       };
     }
   where
     ending : Board × Reply
     ending = leaves a.board (run_standing at.run) (closed a.board r (run_result at.run))
 
-    row : event_row a.plan a.board worker (event.Close r) ≡ (if jobs_have_ended at.run then run_closes a.board r at.run (run_result at.run) else Err fault.NeedsOpen)
+    row : event_row a.plan a.board worker (Event.Close r) ≡ (if jobs_have_ended at.run then run_closes a.board r at.run (run_result at.run) else Err EventFault.NeedsOpen)
     row = ap (close_found a.board r) is ∙ ap (close_run a.board r at.run) (going_is at.run.state going)
 
     by_fact : (fact : MemberFact) → RunIs fact at.run.state → run_fact_asked r at fact ≡ going_asked r at
-    by_fact member_fact.Admitted so = refl
-    by_fact (member_fact.Waits holder) so = absurd (true≢false (sym going ∙ ap is_going so))
-    by_fact (member_fact.Follows before) so = refl
-    by_fact (member_fact.Displaced by) so = absurd (true≢false (sym going ∙ ap is_going so))
-    by_fact member_fact.OwnRun so = absurd so
-    by_fact (member_fact.NoGroup f) so = absurd (true≢false (sym going ∙ ap is_going so))
-    by_fact (member_fact.Closed result) so = absurd (true≢false (sym going ∙ ap is_going so))
-    by_fact member_fact.Taken so = absurd so
-    by_fact (member_fact.Finished result) so = absurd so
-    by_fact (member_fact.Stopped cause) so = absurd so
+    by_fact MemberFact.Admitted so = refl
+    by_fact (MemberFact.Waits holder) so = absurd (true≢false (sym going ∙ ap is_going so))
+    by_fact (MemberFact.Follows before) so = refl
+    by_fact (MemberFact.Displaced by) so = absurd (true≢false (sym going ∙ ap is_going so))
+    by_fact MemberFact.OwnRun so = absurd so
+    by_fact (MemberFact.NoGroup f) so = absurd (true≢false (sym going ∙ ap is_going so))
+    by_fact (MemberFact.Closed result) so = absurd (true≢false (sym going ∙ ap is_going so))
+    by_fact MemberFact.Taken so = absurd so
+    by_fact (MemberFact.Finished result) so = absurd so
+    by_fact (MemberFact.Stopped cause) so = absurd so
 
     by_last : (last : Option MemberNote) → RunNow last at.run.state → run_noted_asked r at last ≡ going_asked r at
     by_last None so = absurd (true≢false (sym going ∙ ap is_going so))
     by_last (Some note) so = by_fact note.fact so
 
-    below : causes a (question.Run r) ≡ going_asked r at
+    below : causes a (Question.Run r) ≡ going_asked r at
     below =
         let noted = zip-left RunAgrees a.notes.runs a.board.runs r at.run (run_stands a.plan a.board r at is).run (notes_are_made p es a account).agrees.runs in
         ap (run_asked a r) is ∙ ap (λ n. run_noted_asked r at (run_last n)) noted.1 ∙ by_last noted.0.last noted.2.state
@@ -249,7 +225,7 @@ slots_full (Ok x) = ⊥
 slots_full (Err f) = by f
   where
     by : EventFault → Type 0
-    by fault.SlotsFull = Unit {0}
+    by EventFault.SlotsFull = Unit {0}
     by _ = ⊥
 
 some-full : (f : Bool) (qs : List Question) → (if f then qs else []) ≢ [] → f ≡ true
@@ -261,29 +237,29 @@ taken_slots p es a l at worker account is may =
     record {
       legs = slots_asked l at;
       below = below;
-      all = λ h k leg there under. subst (λ qs. (n : ℕ) × (slice_get qs n ≡ Some (question.Leg (l - at.place.leg + k))))
+      all = λ h k leg there under. subst (λ qs. (n : ℕ) × (slice_get qs n ≡ Some (Question.Leg (l - at.place.leg + k))))
           (sym (ap (λ f. if f then taken else []) (full (sym h ∙ row))))
-          (item_asked question.Leg (l - at.place.leg) (leg_sought sought.UnderWay) at.job.legs k leg there under);
+          (item_asked Question.Leg (l - at.place.leg) (leg_sought Sought.UnderWay) at.job.legs k leg there under);
       alone = λ some. row ∙ ap asking (some-full (is_full at.job_plan at.job) taken some);
     }
   where
     taken : List Question
-    taken = asked question.Leg (l - at.place.leg) (leg_sought sought.UnderWay) at.job.legs
+    taken = asked Question.Leg (l - at.place.leg) (leg_sought Sought.UnderWay) at.job.legs
 
     asking : Bool → Row
-    asking f = if f then Err fault.SlotsFull else (if is_stopping at then Err fault.Stopping else leg_enters a.board l at (leg_entrance at))
+    asking f = if f then Err EventFault.SlotsFull else (if is_stopping at then Err EventFault.Stopping else leg_enters a.board l at (leg_entrance at))
 
-    row : event_row a.plan a.board worker (event.Ask l) ≡ asking (is_full at.job_plan at.job)
-    row = ap (ask_found a.board l) is ∙ ap (λ m. if not m then Err fault.WrongState else asking (is_full at.job_plan at.job)) may
+    row : event_row a.plan a.board worker (Event.Ask l) ≡ asking (is_full at.job_plan at.job)
+    row = ap (ask_found a.board l) is ∙ ap (λ m. if not m then Err EventFault.WrongState else asking (is_full at.job_plan at.job)) may
 
     by_all : (f s : Bool) (entrance : Result (Option Entrance) ValueFault)
-        → slots_full (if f then Err fault.SlotsFull else (if s then Err fault.Stopping else leg_enters a.board l at entrance)) → f ≡ true
+        → slots_full (if f then Err EventFault.SlotsFull else (if s then Err EventFault.Stopping else leg_enters a.board l at entrance)) → f ≡ true
     by_all true s entrance h = refl
     by_all false true entrance h = absurd h
     by_all false false (Ok group) h = absurd h
     by_all false false (Err f) h = absurd h
 
-    full : Err fault.SlotsFull ≡ asking (is_full at.job_plan at.job) → is_full at.job_plan at.job ≡ true
+    full : Err EventFault.SlotsFull ≡ asking (is_full at.job_plan at.job) → is_full at.job_plan at.job ≡ true
     full h = by_all (is_full at.job_plan at.job) (is_stopping at) (leg_entrance at) (subst slots_full h tt)
 
     fresh : is_fresh at.leg.state ≡ true
@@ -293,47 +269,47 @@ taken_slots p es a l at worker account is may =
     other s stale so = true≢false (sym fresh ∙ ap is_fresh so ∙ stale)
 
     by_fact : (fact : MemberFact) → LegStill fact at.leg.state → ⊥
-    by_fact member_fact.Admitted so = other leg_state.Admitted refl so
-    by_fact (member_fact.Waits holder) so = other leg_state.Waiting refl so
-    by_fact (member_fact.Follows before) so = other leg_state.Admitted refl so
-    by_fact (member_fact.Displaced by) so = other (leg_state.Ended outcome.Cancelled false) refl so
-    by_fact member_fact.OwnRun so = other (leg_state.Ended outcome.Cancelled false) refl so
-    by_fact (member_fact.NoGroup f) so = other (leg_state.Ended outcome.Failure false) refl so
-    by_fact (member_fact.Closed result) so = so
-    by_fact member_fact.Taken so = other (leg_state.Running so.0 so.1.0) refl so.1.1
-    by_fact (member_fact.Finished result) so = other (leg_state.Ended result so.0) refl so.1
-    by_fact (member_fact.Stopped cause) so = other (leg_state.Ended outcome.Cancelled false) refl so
+    by_fact MemberFact.Admitted so = other LegState.Admitted refl so
+    by_fact (MemberFact.Waits holder) so = other LegState.Waiting refl so
+    by_fact (MemberFact.Follows before) so = other LegState.Admitted refl so
+    by_fact (MemberFact.Displaced by) so = other (LegState.Ended Outcome.Cancelled false) refl so
+    by_fact MemberFact.OwnRun so = other (LegState.Ended Outcome.Cancelled false) refl so
+    by_fact (MemberFact.NoGroup f) so = other (LegState.Ended Outcome.Failure false) refl so
+    by_fact (MemberFact.Closed result) so = so
+    by_fact MemberFact.Taken so = other (LegState.Running so.0 so.1.0) refl so.1.1
+    by_fact (MemberFact.Finished result) so = other (LegState.Ended result so.0) refl so.1
+    by_fact (MemberFact.Stopped cause) so = other (LegState.Ended Outcome.Cancelled false) refl so
 
     by_last : (last : Option MemberNote) → LegNow last at.leg.state → leg_noted_asked l at last ≡ fresh_asked l at
     by_last None so = refl
     by_last (Some note) so = absurd (by_fact note.fact so)
 
-    below : causes a (question.Leg l) ≡ stopping_asked l at ++ slots_asked l at
+    below : causes a (Question.Leg l) ≡ stopping_asked l at ++ slots_asked l at
     below =
         let there = leg_item a.plan a.board l at (leg_stands a.plan a.board l at is) in
         let noted = zip-left LegAgrees a.notes.legs (board_legs a.board) l at.leg there (notes_are_made p es a account).agrees.legs in
         ap (leg_asked a l) is ∙ ap (λ n. leg_noted_asked l at (leg_last n)) noted.1 ∙ by_last noted.0.last noted.2.state
-        ∙ ap (λ g. if not g then question.Job at.job_plan.number ∷ [] else stopping_asked l at ++ slots_asked l at)
+        ∙ ap (λ g. if not g then Question.Job at.job_plan.number ∷ [] else stopping_asked l at ++ slots_asked l at)
         (and-first (is_going at.run.state) (is_open at.job.state) (is_fresh at.leg.state) may)
 
 -- ---- a job by its legs
 
 -- legs that did not succeed are asked about by the result that they come to
-unsuccessful_legs : (n : ℕ) (legs : List Leg) → legs_result legs ≢ outcome.Success
-    → asked question.Leg n (leg_sought (sought.Counting (legs_result legs))) legs ≢ []
+unsuccessful_legs : (n : ℕ) (legs : List Leg) → legs_result legs ≢ Outcome.Success
+    → asked Question.Leg n (leg_sought (Sought.Counting (legs_result legs))) legs ≢ []
 unsuccessful_legs n legs = by (list_any (λ leg. has_failed leg.state) legs) (list_any (λ leg. was_cancelled leg.state) legs) refl refl
   where
     result : Bool → Bool → Outcome
-    result failed cancelled = if failed then outcome.Failure else (if cancelled then outcome.Cancelled else outcome.Success)
+    result failed cancelled = if failed then Outcome.Failure else (if cancelled then Outcome.Cancelled else Outcome.Success)
 
     by : (failed cancelled : Bool) → list_any (λ leg. has_failed leg.state) legs ≡ failed → list_any (λ leg. was_cancelled leg.state) legs ≡ cancelled
-        → result failed cancelled ≢ outcome.Success → asked question.Leg n (leg_sought (sought.Counting (result failed cancelled))) legs ≢ []
+        → result failed cancelled ≢ Outcome.Success → asked Question.Leg n (leg_sought (Sought.Counting (result failed cancelled))) legs ≢ []
     by true cancelled f c some =
-        some_asked question.Leg n (leg_sought (sought.Counting outcome.Failure)) legs
-        (same_any (leg_sought (sought.Counting outcome.Failure)) (λ leg. has_failed leg.state) legs (λ x. refl) ∙ f)
+        some_asked Question.Leg n (leg_sought (Sought.Counting Outcome.Failure)) legs
+        (same_any (leg_sought (Sought.Counting Outcome.Failure)) (λ leg. has_failed leg.state) legs (λ x. refl) ∙ f)
     by false true f c some =
-        some_asked question.Leg n (leg_sought (sought.Counting outcome.Cancelled)) legs
-        (same_any (leg_sought (sought.Counting outcome.Cancelled)) (λ leg. was_cancelled leg.state) legs (λ x. refl) ∙ c)
+        some_asked Question.Leg n (leg_sought (Sought.Counting Outcome.Cancelled)) legs
+        (same_any (leg_sought (Sought.Counting Outcome.Cancelled)) (λ leg. was_cancelled leg.state) legs (λ x. refl) ∙ c)
     by false false f c some = absurd (some refl)
 
 result_legs : LegsOfResultsAreNamed
@@ -343,10 +319,10 @@ result_legs a j at is opened ended some =
     notes : Option JobNotes
     notes = slice_get a.notes.jobs j
 
-    below : causes a (question.Job j) ≡ asked question.Leg (first_leg notes) (leg_sought (sought.Counting (legs_result at.job.legs))) at.job.legs
+    below : causes a (Question.Job j) ≡ asked Question.Leg (first_leg notes) (leg_sought (Sought.Counting (legs_result at.job.legs))) at.job.legs
     below =
         ap (job_asked a j) is ∙ ap (job_state_asked at notes) opened
-        ∙ ap (λ e. asked question.Leg (first_leg notes) (leg_sought (if e then sought.Counting (legs_result at.job.legs) else sought.Unended)) at.job.legs) ended
+        ∙ ap (λ e. asked Question.Leg (first_leg notes) (leg_sought (if e then Sought.Counting (legs_result at.job.legs) else Sought.Unended)) at.job.legs) ended
 
 pub obstacles_are_named : ObstaclesAreNamed
 obstacles_are_named = record { needs = open_needs; jobs = open_jobs; slots = taken_slots; legs = result_legs }

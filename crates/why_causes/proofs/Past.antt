@@ -1,6 +1,7 @@
 -- The boards about an entry of a record, and how a job stands on both.
 use Rattle.std.proofs.Common.{◌≡◌, ◌∙◌, ap, sym, true, ℕ, suc, arith, List, [], ◌∷◌, Some, Ok, Err, slice_get}
 use Rattle.std.proofs.lemmas.Option.{slice_get_within}
+use Rattle.status_table.specs.Words.{Board, Entry, InPlay, IsPlan, Job, JobFits, JobPlan, JobStays, Plan, Row, Run, RunFits, RunPlan, RunStays, SoundPlan, Stays, after, after_from, new_board, row}
 use Rattle.board_decisions.proofs.Lists.{same_some}
 use Rattle.why_causes.proofs.MetFirst.{get_within}
 use Rattle.why_causes.proofs.Telling.{told_still}
@@ -9,20 +10,6 @@ use Rattle.why_facts.specs.declared.fact.Change.{Change}
 use Rattle.why_facts.specs.declared.notes.Notes.{Notes}
 use Rattle.why_notes.proofs.Lawful.{accounts_follow_the_table}
 use Rattle.why_notes.specs.Account.{Account, account_from, account_of, entry_noted, then_account}
-use Rattle.flow_model.specs.Rules.{IsPlan}
-use Rattle.flow_model.specs.Sound.{SoundPlan}
-use Rattle.flow_model.specs.declared.board.Board.{Board}
-use Rattle.flow_model.specs.declared.board.Job.{Job}
-use Rattle.flow_model.specs.declared.board.Run.{Run}
-use Rattle.flow_model.specs.declared.event.Entry.{Entry}
-use Rattle.flow_model.specs.declared.plan.JobPlan.{JobPlan}
-use Rattle.flow_model.specs.declared.plan.Plan.{Plan}
-use Rattle.flow_model.specs.declared.plan.RunPlan.{RunPlan}
-use Rattle.status_table.specs.InPlay.{InPlay}
-use Rattle.status_table.specs.Lawful.{JobFits, RunFits}
-use Rattle.status_table.specs.Row.{Row, row}
-use Rattle.status_table.specs.Runs.{after, after_from, new_board}
-use Rattle.status_table.specs.Stays.{JobStays, RunStays, Stays}
 use Rattle.status_table.proofs.Counts.{zip-left}
 use Rattle.status_table.proofs.Lawfulness.{after_reaches, legal_lawful}
 use Rattle.status_table.proofs.Legal.{after_fits}

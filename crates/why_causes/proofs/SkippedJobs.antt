@@ -3,15 +3,10 @@ use Rattle.std.proofs.Common.{◌≡◌, ◌≢◌, inl, inr, ◌∙◌, ap, sym
 use Rattle.std.specs.List.{list_all}
 use Rattle.std.proofs.lemmas.List.{length-map}
 use Rattle.std.proofs.lemmas.Option.{slice_get_within}
-use Rattle.board_decisions.specs.Ancestors.{IsAncestor, SaysOf, need, of_need, EachAncestor}
-use Rattle.board_decisions.specs.Contexts.{first_number}
-use Rattle.board_decisions.specs.Derived.{is_closed, is_failure, is_going, is_success, job_has_ended, job_result, job_results, job_status, needs_at, places_needed, holds, holds_at, is_open, is_shut, needs_have_ended, result_by}
-use Rattle.board_decisions.specs.Place.{JobAt, job_at, job_place, job_place_from}
+use Rattle.status_table.specs.Words.{Board, EachAncestor, Entry, IsAncestor, IsPlan, Job, JobAt, JobPlan, JobShape, JobState, Outcome, Plan, Reply, Run, RunFits, RunPlan, RunShape, RunState, RunStays, SaysOf, SoundPlan, Status, ValueFault, board_jobs, event_row, first_number, first_of, holds, holds_at, is_closed, is_failure, is_going, is_open, is_shut, is_success, job_at, job_has_ended, job_place, job_place_from, job_result, job_results, job_status, judge_found, judge_job, judgement, judgement_by, need, needs_at, needs_have_ended, new_board, of_need, places_needed, result_by}
 use Rattle.board_decisions.proofs.Backwards.{status_says}
 use Rattle.board_decisions.proofs.Lists.{and-left, and-right, map-get, map-past, no_some, same_some}
 use Rattle.expr_value.specs.Functions.{is_success as is_success_status}
-use Rattle.expr_value.specs.declared.status.Status.{Status}
-use Rattle.expr_value.specs.declared.status.Status.TheVariants as status
 use Rattle.why_causes.proofs.Becoming.{job_item}
 use Rattle.why_causes.proofs.Changing.{made_by}
 use Rattle.why_causes.proofs.MetFirst.{contains_cases, contains_map, contains_none, first_found, found_first, get_within, mapped_from, a_success}
@@ -20,41 +15,17 @@ use Rattle.why_causes.proofs.Staying.{stays_unsuccessful}
 use Rattle.why_causes.specs.Agrees.{JobAgrees, JobNow}
 use Rattle.why_causes.specs.Causes.{causes, job_asked, job_last, job_state_asked, shut_asked}
 use Rattle.why_causes.specs.Made.{MadeAt}
-use Rattle.why_causes.specs.declared.question.Question.TheVariants as question
+use Rattle.why_causes.specs.declared.question.Question.{Question}
 use Rattle.why_facts.specs.Ancestors.{first_unsuccessful}
-use Rattle.why_facts.specs.declared.fact.Change.TheVariants as change
+use Rattle.why_facts.specs.declared.fact.Change.{Change}
 use Rattle.why_facts.specs.declared.fact.JobFact.{JobFact}
-use Rattle.why_facts.specs.declared.fact.JobFact.TheVariants as job_fact
 use Rattle.why_facts.specs.declared.notes.JobNote.{JobNote}
 use Rattle.why_facts.specs.declared.notes.JobNotes.{JobNotes}
 use Rattle.why_notes.specs.Account.{Account, account_of}
 use Rattle.why_notes.specs.Changes.{judged, judged_under}
 use Rattle.why_notes.specs.Conditions.{waits_for_success, waits_in_vain}
 use Rattle.why_notes.specs.Laws.{judged_to}
-use Rattle.flow_model.specs.Numbers.{board_jobs}
-use Rattle.flow_model.specs.Rules.{IsPlan}
-use Rattle.flow_model.specs.Sound.{SoundPlan}
-use Rattle.flow_model.specs.declared.board.Board.{Board}
-use Rattle.flow_model.specs.declared.board.Job.{Job}
-use Rattle.flow_model.specs.declared.board.JobState.{JobState}
-use Rattle.flow_model.specs.declared.board.JobState.TheVariants as job_state
-use Rattle.flow_model.specs.declared.board.Run.{Run}
-use Rattle.flow_model.specs.declared.board.RunState.{RunState}
-use Rattle.flow_model.specs.declared.board.RunState.TheVariants as run_state
-use Rattle.flow_model.specs.declared.event.Entry.{Entry}
-use Rattle.flow_model.specs.declared.event.Outcome.{Outcome}
-use Rattle.flow_model.specs.declared.event.Outcome.TheVariants as outcome
-use Rattle.flow_model.specs.declared.plan.JobPlan.{JobPlan}
-use Rattle.flow_model.specs.declared.plan.Plan.{Plan}
-use Rattle.flow_model.specs.declared.plan.RunPlan.{RunPlan}
-use Rattle.flow_model.specs.declared.reply.Reply.{Reply}
-use Rattle.flow_model.specs.declared.reply.ValueFault.{ValueFault}
-use Rattle.status_table.specs.Lawful.{RunFits}
-use Rattle.status_table.specs.Row.{event_row, first_of, judge_found, judge_job, judgement, judgement_by}
-use Rattle.status_table.specs.Runs.{new_board}
-use Rattle.status_table.specs.Shape.{JobShape, RunShape}
-use Rattle.status_table.specs.Stays.{RunStays}
-use Rattle.status_table.specs.declared.fault.EventFault.TheVariants as fault
+use Rattle.status_table.specs.declared.fault.EventFault.{EventFault}
 use Rattle.status_table.proofs.Counts.{zip-left}
 use Rattle.status_table.proofs.Ended.{WasJob, was_job, unjudged-going}
 use Rattle.status_table.proofs.Found.{JobStands, job_stands}
@@ -71,7 +42,7 @@ use Rattle.status_table.proofs.Steps.{going-unclosed}
 
 -- an ancestor without success is met, or another before it
 pub met_on_the_way : (first : ℕ) (jobs : List JobPlan) (results : List Outcome) → length results ≡ length jobs → {c k : ℕ} (x : Outcome) → IsAncestor first jobs c k
-    → slice_get results c ≡ Some x → x ≢ outcome.Success → (m : ℕ) × IsMetFirst first jobs results m k
+    → slice_get results c ≡ Some x → x ≢ Outcome.Success → (m : ℕ) × IsMetFirst first jobs results m k
 met_on_the_way first jobs results size {c} {k} x (need there) is apart = (c, needed there is apart)
 met_on_the_way first jobs results size {c} {k} x (of_need {n = n} there further) is apart =
     let later = met_on_the_way first jobs results size x further is apart in
@@ -91,10 +62,10 @@ met_on_the_way first jobs results size {c} {k} x (of_need {n = n} there further)
     in_jobs (of_need t more) = has_needs t
 
     by : (y : Outcome) → slice_get results n ≡ Some y → (m : ℕ) × IsMetFirst first jobs results m n → (m : ℕ) × IsMetFirst first jobs results m k
-    by outcome.Success at later = (later.0, of_needed there at later.1)
-    by outcome.Failure at later = (n, needed there at (λ e. cc))
-    by outcome.Cancelled at later = (n, needed there at (λ e. cc))
-    by outcome.Skipped at later = (n, needed there at (λ e. cc))
+    by Outcome.Success at later = (later.0, of_needed there at later.1)
+    by Outcome.Failure at later = (n, needed there at (λ e. cc))
+    by Outcome.Cancelled at later = (n, needed there at (λ e. cc))
+    by Outcome.Skipped at later = (n, needed there at (λ e. cc))
 
 -- the job with a result
 record WithResult (run : Run) (k : ℕ) (y : Outcome) : Type 0 where
@@ -142,27 +113,27 @@ all_needs_ended first run jobs n plan is ended k there =
 -- Where all ancestors had success as far as they had ended, none is met later that has none.
 module _ (first : ℕ) (plan : RunPlan) (a b : Run) (stays : RunStays a b) (unclosed : is_closed a.state ≡ false) (old : RunFits plan a) (new : RunFits plan b)
     (opened : (m : ℕ) (x : Job) (planned : JobPlan) → slice_get a.jobs m ≡ Some x → slice_get plan.jobs m ≡ Some planned → is_open x.state ≡ true → needs_have_ended first a planned ≡ true)
-    (unshut : (m : ℕ) (y : Job) (planned : JobPlan) → slice_get b.jobs m ≡ Some y → slice_get plan.jobs m ≡ Some planned → y.state ≢ job_state.Shut outcome.Success) where
+    (unshut : (m : ℕ) (y : Job) (planned : JobPlan) → slice_get b.jobs m ≡ Some y → slice_get plan.jobs m ≡ Some planned → y.state ≢ JobState.Shut Outcome.Success) where
   abbrev Ended : ℕ → Type 0
   Ended n = (d : ℕ) → Contains (needs_at first plan.jobs n) d → EndedAt a d
 
   -- a job with success that has ended was opened
-  handed_on : (m : ℕ) → EndedAt a m → slice_get (job_results b) m ≡ Some outcome.Success → Ended m
+  handed_on : (m : ℕ) → EndedAt a m → slice_get (job_results b) m ≡ Some Outcome.Success → Ended m
   handed_on m e is = by e.job.state refl
     where
       both : Beside plan a b m e.job
       both = beside plan a b m e.job e.is stays old new
 
-      result : job_result b both.job ≡ outcome.Success
-      result = same_some (job_result b both.job) outcome.Success (sym (map-get (job_result b) b.jobs m both.job both.there) ∙ is)
+      result : job_result b both.job ≡ Outcome.Success
+      result = same_some (job_result b both.job) Outcome.Success (sym (map-get (job_result b) b.jobs m both.job both.there) ∙ is)
 
       by : (s : JobState) → e.job.state ≡ s → (d : ℕ) → Contains (needs_at first plan.jobs m) d → EndedAt a d
-      by job_state.Unjudged state = absurd (unjudged-going a both.planned e.job unclosed state both.old e.ended)
-      by job_state.Open state = all_needs_ended first a plan.jobs m both.planned both.is_planned (opened m e.job both.planned e.is both.is_planned (ap is_open state))
-      by (job_state.Shut x) state =
-          let still : both.job.state ≡ job_state.Shut x = ap (λ (job : Job). job.state) (both.stays.shut (ap is_shut state)) ∙ state in
-          let success : x ≡ outcome.Success = sym (ap (λ s. result_by b.state s both.job.legs) still) ∙ result in
-          absurd (unshut m both.job both.planned both.there both.is_planned (still ∙ ap job_state.Shut success))
+      by JobState.Unjudged state = absurd (unjudged-going a both.planned e.job unclosed state both.old e.ended)
+      by JobState.Open state = all_needs_ended first a plan.jobs m both.planned both.is_planned (opened m e.job both.planned e.is both.is_planned (ap is_open state))
+      by (JobState.Shut x) state =
+          let still : both.job.state ≡ JobState.Shut x = ap (λ (job : Job). job.state) (both.stays.shut (ap is_shut state)) ∙ state in
+          let success : x ≡ Outcome.Success = sym (ap (λ s. result_by b.state s both.job.legs) still) ∙ result in
+          absurd (unshut m both.job both.planned both.there both.is_planned (still ∙ ap JobState.Shut success))
 
   none_met : {k n : ℕ} → IsMetFirst first plan.jobs (job_results b) k n → Ended n
       → ((c : ℕ) (x : Outcome) → IsAncestor first plan.jobs c n → slice_get (job_results a) c ≡ Some x → is_success x ≡ true) → ⊥
@@ -209,7 +180,7 @@ beside_found p b j at m plan job is planned there =
 -- ---- a job that is judged
 
 -- a job that waits in vain: its run was not told to stop, and the status is none of success
-vain : (stop waits : Bool) (holds : Result Bool ValueFault) → judged stop waits holds ≡ job_fact.Unsuccessful → (stop ≡ false) × (waits ≡ true)
+vain : (stop waits : Bool) (holds : Result Bool ValueFault) → judged stop waits holds ≡ JobFact.Unsuccessful → (stop ≡ false) × (waits ≡ true)
 vain stop waits (Ok true) h = cc
 vain true waits (Ok false) h = cc
 vain false true (Ok false) h = (refl, refl)
@@ -217,7 +188,7 @@ vain false false (Ok false) h = cc
 vain stop waits (Err f) h = cc
 
 -- a job that does not, though its condition is not true
-not_vain : (stop waits : Bool) (holds : Result Bool ValueFault) → judged stop waits holds ≡ job_fact.Untrue → (stop ≡ false) × (waits ≡ false)
+not_vain : (stop waits : Bool) (holds : Result Bool ValueFault) → judged stop waits holds ≡ JobFact.Untrue → (stop ≡ false) × (waits ≡ false)
 not_vain stop waits (Ok true) h = cc
 not_vain true waits (Ok false) h = cc
 not_vain false true (Ok false) h = cc
@@ -225,7 +196,7 @@ not_vain false false (Ok false) h = (refl, refl)
 not_vain stop waits (Err f) h = cc
 
 -- a job of a run that was told to stop
-run_stopped : (stop waits : Bool) (holds : Result Bool ValueFault) → judged stop waits holds ≡ job_fact.RunStopped → stop ≡ true
+run_stopped : (stop waits : Bool) (holds : Result Bool ValueFault) → judged stop waits holds ≡ JobFact.RunStopped → stop ≡ true
 run_stopped stop waits (Ok true) h = cc
 run_stopped true waits (Ok false) h = refl
 run_stopped false true (Ok false) h = cc
@@ -241,17 +212,17 @@ judging : (b : Board) (j : ℕ) (at : JobAt) (x : Board × Reply) → judge_job 
 judging b j at x h = by at.run.state at.job.state refl h
   where
     ready : (c : Bool) (s : JobState) → is_going at.run.state ≡ true → needs_have_ended (first_of j at) at.run at.plan ≡ c
-        → judge_job b at.place (if c then Ok s else Err fault.NeedsOpen) ≡ Ok x → Judging j at
+        → judge_job b at.place (if c then Ok s else Err EventFault.NeedsOpen) ≡ Ok x → Judging j at
     ready true s going ended k = record { going = going; ended = ended }
     ready false s going ended k = cc
 
     by : (s : RunState) (t : JobState) → at.run.state ≡ s → judge_job b at.place (judgement_by j at s t) ≡ Ok x → Judging j at
-    by run_state.New t is k = cc
-    by run_state.Waiting t is k = cc
-    by run_state.Going job_state.Unjudged is k = ready (needs_have_ended (first_of j at) at.run at.plan) _ (ap is_going is) refl k
-    by run_state.Going job_state.Open is k = cc
-    by run_state.Going (job_state.Shut result) is k = cc
-    by (run_state.Closed result) t is k = cc
+    by RunState.New t is k = cc
+    by RunState.Waiting t is k = cc
+    by RunState.Going JobState.Unjudged is k = ready (needs_have_ended (first_of j at) at.run at.plan) _ (ap is_going is) refl k
+    by RunState.Going JobState.Open is k = cc
+    by RunState.Going (JobState.Shut result) is k = cc
+    by (RunState.Closed result) t is k = cc
 
 -- an ancestor without success, and its result
 record Missed (first : ℕ) (at : JobAt) : Type 0 where
@@ -259,31 +230,31 @@ record Missed (first : ℕ) (at : JobAt) : Type 0 where
   result : Outcome
   above : IsAncestor first at.run_plan.jobs place at.place.job
   is : slice_get (job_results at.run) place ≡ Some result
-  apart : result ≢ outcome.Success
+  apart : result ≢ Outcome.Success
 
 missed : (first : ℕ) (at : JobAt) (s : Status) → SaysOf first at s → at.run.stop ≡ false → not (is_success_status s) ≡ true → Missed first at
-missed first at status.Success says untold h = absurd (true≢false (sym h))
-missed first at status.Failure says untold h =
+missed first at Status.Success says untold h = absurd (true≢false (sym h))
+missed first at Status.Failure says untold h =
     let some = says.1 in
     record { place = some.0; result = some.1; above = some.2; is = some.3; apart = λ e. true≢false (sym some.4 ∙ ap is_failure e) }
-missed first at status.Cancelled says untold h = absurd (true≢false (sym says ∙ untold))
-missed first at status.Other says untold h =
+missed first at Status.Cancelled says untold h = absurd (true≢false (sym says ∙ untold))
+missed first at Status.Other says untold h =
     let some = says.1 in
     record { place = some.0; result = some.1; above = some.2; is = some.3; apart = λ e. true≢false (sym some.4 ∙ ap (λ x. not (is_success x)) e) }
 
 -- each ancestor has success under the status of success
 all_succeed : (first : ℕ) (at : JobAt) (s : Status) → SaysOf first at s → is_success_status s ≡ true → EachAncestor first at is_success
-all_succeed first at status.Success says h = says.1
-all_succeed first at status.Failure says h = absurd (true≢false (sym h))
-all_succeed first at status.Cancelled says h = absurd (true≢false (sym h))
-all_succeed first at status.Other says h = absurd (true≢false (sym h))
+all_succeed first at Status.Success says h = says.1
+all_succeed first at Status.Failure says h = absurd (true≢false (sym h))
+all_succeed first at Status.Cancelled says h = absurd (true≢false (sym h))
+all_succeed first at Status.Other says h = absurd (true≢false (sym h))
 
-never_shut : (fact : JobFact) → judged_to fact ≡ job_state.Shut outcome.Success → ⊥
-never_shut job_fact.Opened h = cc
-never_shut job_fact.RunStopped h = cc
-never_shut job_fact.Unsuccessful h = cc
-never_shut job_fact.Untrue h = cc
-never_shut (job_fact.Faulted f) h = cc
+never_shut : (fact : JobFact) → judged_to fact ≡ JobState.Shut Outcome.Success → ⊥
+never_shut JobFact.Opened h = cc
+never_shut JobFact.RunStopped h = cc
+never_shut JobFact.Unsuccessful h = cc
+never_shut JobFact.Untrue h = cc
+never_shut (JobFact.Faulted f) h = cc
 
 module _ (p : Plan) (es : List Entry) (a : Account) (j : ℕ) (at : JobAt) (rules : IsPlan p) (sound : SoundPlan p) (account : account_of p es ≡ Some a)
     (is_found : job_at a.plan a.board j ≡ Some at) where
@@ -313,17 +284,17 @@ module _ (p : Plan) (es : List Entry) (a : Account) (j : ℕ) (at : JobAt) (rule
   -- ---- by what is noted
 
   module _ (note : JobNote) (fact : JobFact) (noted : job_last (slice_get a.notes.jobs j) ≡ Some note) (same : note.fact ≡ fact) where
-    made : MadeAt p es note.line (change.Job j fact)
+    made : MadeAt p es note.line (Change.Job j fact)
     made = by (slice_get a.notes.jobs j) refl noted
       where
-        by : (o : Option JobNotes) → slice_get a.notes.jobs j ≡ o → job_last o ≡ Some note → MadeAt p es note.line (change.Job j fact)
+        by : (o : Option JobNotes) → slice_get a.notes.jobs j ≡ o → job_last o ≡ Some note → MadeAt p es note.line (Change.Job j fact)
         by None there h = absurd (no_some note h)
         by (Some n) there h =
-            subst (λ f. MadeAt p es note.line (change.Job j f)) same
-            (subst (λ (o : Option JobNote). IfSome o (λ note. MadeAt p es note.line (change.Job j note.fact))) h ((notes_are_made p es a account).notes.jobs j n there))
+            subst (λ f. MadeAt p es note.line (Change.Job j f)) same
+            (subst (λ (o : Option JobNote). IfSome o (λ note. MadeAt p es note.line (Change.Job j note.fact))) h ((notes_are_made p es a account).notes.jobs j n there))
 
     boards : Past p made.old a.board
-    boards = past p es a note.line (change.Job j fact) rules sound account made
+    boards = past p es a note.line (Change.Job j fact) rules sound account made
 
     was : WasJob p made.old j at
     was = was_job p made.old a.board j at boards.since is
@@ -346,13 +317,13 @@ module _ (p : Plan) (es : List Entry) (a : Account) (j : ℕ) (at : JobAt) (rule
 
     told : judged_under then_at s ≡ fact
     told =
-        let by = made_by p made.old made.entry.event (change.Job j fact) made.among in
+        let by = made_by p made.old made.entry.event (Change.Job j fact) made.among in
         let same_at : by.0 ≡ then_at = same_some by.0 then_at (sym by.1 ∙ was.is) in
         sym (ap (λ (x : JobAt). judged_under x (job_status (first_of j x) x)) same_at) ∙ sym by.3
 
     judges : Judging j then_at
     judges =
-        let by = made_by p made.old made.entry.event (change.Job j fact) made.among in
+        let by = made_by p made.old made.entry.event (Change.Job j fact) made.among in
         judging made.old j then_at (made.new, made.reply)
         (sym (ap (judge_found made.old j) was.is)
         ∙ subst (λ e. event_row p made.old made.entry.worker e ≡ Ok (made.new, made.reply)) by.2 (accepted_event p made.old made.entry (made.new, made.reply) made.accepted))
@@ -366,8 +337,8 @@ module _ (p : Plan) (es : List Entry) (a : Account) (j : ℕ) (at : JobAt) (rule
         let last : x.notes.last ≡ Some note = sym (ap job_last x.there) ∙ noted in
         subst (λ (o : Option JobNote). JobNow o at.job.state) last x.now ∙ ap judged_to same
 
-    asked_is : (result : Outcome) → at.job.state ≡ job_state.Shut result
-        → causes a (question.Job j) ≡ shut_asked (first_number at) at (Some (record { line = note.line; fact = fact }))
+    asked_is : (result : Outcome) → at.job.state ≡ JobState.Shut result
+        → causes a (Question.Job j) ≡ shut_asked (first_number at) at (Some (record { line = note.line; fact = fact }))
     asked_is result shut =
         ap (job_asked a j) is_found
         ∙ ap (job_state_asked at (slice_get a.notes.jobs j)) shut
@@ -383,17 +354,17 @@ module _ (p : Plan) (es : List Entry) (a : Account) (j : ℕ) (at : JobAt) (rule
     number = ap (λ n. n - at.place.job) (is_numbered_in p a.board j at boards.now is).number
 
     -- all that is met first is asked about, and nothing else
-    names_met : causes a (question.Job j) ≡ map question.Job (first_unsuccessful (first_number at) at) → NamesFirstAbove a j at
+    names_met : causes a (Question.Job j) ≡ map Question.Job (first_unsuccessful (first_number at) at) → NamesFirstAbove a j at
     names_met asks =
         let back = (stands_after_needs p a.board j at boards.now is).back in
-        let all : causes a (question.Job j) ≡ map question.Job (first_unsuccessful first at) = asks ∙ ap (λ n. map question.Job (first_unsuccessful n at)) number in
+        let all : causes a (Question.Job j) ≡ map Question.Job (first_unsuccessful first at) = asks ∙ ap (λ n. map Question.Job (first_unsuccessful n at)) number in
         record {
-          all = λ k met. subst (λ qs. Contains qs (question.Job (first + k))) (sym all)
-              (contains_map question.Job (first_unsuccessful first at) (first + k) (first_found first at back size here.plan k met));
+          all = λ k met. subst (λ qs. Contains qs (Question.Job (first + k))) (sym all)
+              (contains_map Question.Job (first_unsuccessful first at) (first + k) (first_found first at back size here.plan k met));
           alone = λ q there.
-              let x = mapped_from question.Job (first_unsuccessful first at) q (subst (λ qs. Contains qs q) all there) in
+              let x = mapped_from Question.Job (first_unsuccessful first at) q (subst (λ qs. Contains qs q) all there) in
               let found = found_first first at back size here.plan x.0 x.1 in
-              (found.0, found.1, x.2 ∙ ap question.Job found.2);
+              (found.0, found.1, x.2 ∙ ap Question.Job found.2);
         }
 
     -- where the status was none of success, somebody is met
@@ -420,20 +391,20 @@ module _ (p : Plan) (es : List Entry) (a : Account) (j : ℕ) (at : JobAt) (rule
             subst (λ n. needs_have_ended n was.run planned ≡ true) place
             (boards.before.laws.needs (first + m) (job_beside made.old then_at m planned x) (beside_found p made.old j then_at m planned x was.is is_planned there) open_now)
 
-        unshut : (m : ℕ) (y : Job) (planned : JobPlan) → slice_get at.run.jobs m ≡ Some y → slice_get at.run_plan.jobs m ≡ Some planned → y.state ≢ job_state.Shut outcome.Success
+        unshut : (m : ℕ) (y : Job) (planned : JobPlan) → slice_get at.run.jobs m ≡ Some y → slice_get at.run_plan.jobs m ≡ Some planned → y.state ≢ JobState.Shut Outcome.Success
         unshut m y planned there is_planned shut =
             let n = as_noted (first + m) (job_beside a.board at m planned y) (beside_found p a.board j at m planned y is is_planned there) in
             by n.notes.last (subst (JobNow n.notes.last) shut n.now)
           where
-            by : (last : Option JobNote) → JobNow last (job_state.Shut outcome.Success) → ⊥
+            by : (last : Option JobNote) → JobNow last (JobState.Shut Outcome.Success) → ⊥
             by None k = cc
             by (Some x) k = never_shut x.fact (sym k)
 
   -- ---- both
 
-  pub waited_in_vain : (note : JobNote) → job_last (slice_get a.notes.jobs j) ≡ Some note → note.fact ≡ job_fact.Unsuccessful → WaitedInVain a j at
+  pub waited_in_vain : (note : JobNote) → job_last (slice_get a.notes.jobs j) ≡ Some note → note.fact ≡ JobFact.Unsuccessful → WaitedInVain a j at
   waited_in_vain note noted same =
-      let fact = job_fact.Unsuccessful in
+      let fact = JobFact.Unsuccessful in
       let skipped = state note fact noted same in
       let why = vain _ (waits_in_vain at.plan.condition (s note fact noted same)) _ (told note fact noted same) in
       let unsuccessful = and-right (waits_for_success at.plan.condition) (not (is_success_status (s note fact noted same))) why.1 in
@@ -441,11 +412,11 @@ module _ (p : Plan) (es : List Entry) (a : Account) (j : ℕ) (at : JobAt) (rule
       record {
         skipped = skipped;
         waits = and-left (waits_for_success at.plan.condition) (not (is_success_status (s note fact noted same))) why.1;
-        some = some_there (causes a (question.Job j)) (question.Job (first + met.0))
-            ((names_met note fact noted same (asked_is note fact noted same outcome.Skipped skipped)).all met.0 met.1);
+        some = some_there (causes a (Question.Job j)) (Question.Job (first + met.0))
+            ((names_met note fact noted same (asked_is note fact noted same Outcome.Skipped skipped)).all met.0 met.1);
       }
 
-  pub names_first : at.job.state ≡ job_state.Shut outcome.Skipped → waits_for_success at.plan.condition ≡ true → NamesFirstAbove a j at
+  pub names_first : at.job.state ≡ JobState.Shut Outcome.Skipped → waits_for_success at.plan.condition ≡ true → NamesFirstAbove a j at
   names_first skipped waits =
       let x = as_noted j at is in
       by_last x.notes.last (ap job_last x.there) (subst (JobNow x.notes.last) skipped x.now)
@@ -456,42 +427,42 @@ module _ (p : Plan) (es : List Entry) (a : Account) (j : ℕ) (at : JobAt) (rule
       success true false e h = absurd (true≢false h)
       success false t e h = absurd (true≢false (sym e))
 
-      by_fact : (note : JobNote) (fact : JobFact) → job_last (slice_get a.notes.jobs j) ≡ Some note → note.fact ≡ fact → job_state.Shut outcome.Skipped ≡ judged_to fact → NamesFirstAbove a j at
-      by_fact note job_fact.Opened noted same e = cc
-      by_fact note job_fact.RunStopped noted same e = cc
-      by_fact note job_fact.Unsuccessful noted same e =
-          names_met note job_fact.Unsuccessful noted same (asked_is note job_fact.Unsuccessful noted same outcome.Skipped skipped)
-      by_fact note job_fact.Untrue noted same e =
-          let asks = asked_is note job_fact.Untrue noted same outcome.Skipped skipped in
-          let why = not_vain _ (waits_in_vain at.plan.condition (s note job_fact.Untrue noted same)) _ (told note job_fact.Untrue noted same) in
-          let nobody = nobody_met note job_fact.Untrue noted same (success (waits_for_success at.plan.condition) (is_success_status (s note job_fact.Untrue noted same)) waits why.1) in
+      by_fact : (note : JobNote) (fact : JobFact) → job_last (slice_get a.notes.jobs j) ≡ Some note → note.fact ≡ fact → JobState.Shut Outcome.Skipped ≡ judged_to fact → NamesFirstAbove a j at
+      by_fact note JobFact.Opened noted same e = cc
+      by_fact note JobFact.RunStopped noted same e = cc
+      by_fact note JobFact.Unsuccessful noted same e =
+          names_met note JobFact.Unsuccessful noted same (asked_is note JobFact.Unsuccessful noted same Outcome.Skipped skipped)
+      by_fact note JobFact.Untrue noted same e =
+          let asks = asked_is note JobFact.Untrue noted same Outcome.Skipped skipped in
+          let why = not_vain _ (waits_in_vain at.plan.condition (s note JobFact.Untrue noted same)) _ (told note JobFact.Untrue noted same) in
+          let nobody = nobody_met note JobFact.Untrue noted same (success (waits_for_success at.plan.condition) (is_success_status (s note JobFact.Untrue noted same)) waits why.1) in
           record {
             all = λ k met. absurd (nobody k met);
             alone = λ q there. absurd (contains_none q (subst (λ qs. Contains qs q) asks there));
           }
-      by_fact note (job_fact.Faulted f) noted same e = cc
+      by_fact note (JobFact.Faulted f) noted same e = cc
 
-      by_last : (last : Option JobNote) → job_last (slice_get a.notes.jobs j) ≡ last → JobNow last (job_state.Shut outcome.Skipped) → NamesFirstAbove a j at
+      by_last : (last : Option JobNote) → job_last (slice_get a.notes.jobs j) ≡ last → JobNow last (JobState.Shut Outcome.Skipped) → NamesFirstAbove a j at
       by_last None noted e = cc
       by_last (Some note) noted e = by_fact note note.fact noted refl e
 
-  pub names_stop : at.job.state ≡ job_state.Shut outcome.Cancelled → NamesStop a j at
+  pub names_stop : at.job.state ≡ JobState.Shut Outcome.Cancelled → NamesStop a j at
   names_stop cancelled =
       let x = as_noted j at is in
       by_last x.notes.last (ap job_last x.there) (subst (JobNow x.notes.last) cancelled x.now)
     where
-      by_fact : (note : JobNote) (fact : JobFact) → job_last (slice_get a.notes.jobs j) ≡ Some note → note.fact ≡ fact → job_state.Shut outcome.Cancelled ≡ judged_to fact → NamesStop a j at
-      by_fact note job_fact.Opened noted same e = cc
-      by_fact note job_fact.RunStopped noted same e =
-          let stop = run_stopped _ (waits_in_vain at.plan.condition (s note job_fact.RunStopped noted same)) _ (told note job_fact.RunStopped noted same) in
+      by_fact : (note : JobNote) (fact : JobFact) → job_last (slice_get a.notes.jobs j) ≡ Some note → note.fact ≡ fact → JobState.Shut Outcome.Cancelled ≡ judged_to fact → NamesStop a j at
+      by_fact note JobFact.Opened noted same e = cc
+      by_fact note JobFact.RunStopped noted same e =
+          let stop = run_stopped _ (waits_in_vain at.plan.condition (s note JobFact.RunStopped noted same)) _ (told note JobFact.RunStopped noted same) in
           record {
-            told = (boards note job_fact.RunStopped noted same).told at.place.run (was note job_fact.RunStopped noted same).run at.run (in_run note job_fact.RunStopped noted same) here.in_board stop;
-            named = asked_is note job_fact.RunStopped noted same outcome.Cancelled cancelled;
+            told = (boards note JobFact.RunStopped noted same).told at.place.run (was note JobFact.RunStopped noted same).run at.run (in_run note JobFact.RunStopped noted same) here.in_board stop;
+            named = asked_is note JobFact.RunStopped noted same Outcome.Cancelled cancelled;
           }
-      by_fact note job_fact.Unsuccessful noted same e = cc
-      by_fact note job_fact.Untrue noted same e = cc
-      by_fact note (job_fact.Faulted f) noted same e = cc
+      by_fact note JobFact.Unsuccessful noted same e = cc
+      by_fact note JobFact.Untrue noted same e = cc
+      by_fact note (JobFact.Faulted f) noted same e = cc
 
-      by_last : (last : Option JobNote) → job_last (slice_get a.notes.jobs j) ≡ last → JobNow last (job_state.Shut outcome.Cancelled) → NamesStop a j at
+      by_last : (last : Option JobNote) → job_last (slice_get a.notes.jobs j) ≡ last → JobNow last (JobState.Shut Outcome.Cancelled) → NamesStop a j at
       by_last None noted e = cc
       by_last (Some note) noted e = by_fact note note.fact noted refl e

@@ -3,21 +3,8 @@ use Rattle.std.proofs.Common.{◌≡◌, ◌≢◌, ℕ, zero, suc, Bool, true, 
 use Rattle.std.specs.List.{list_all, list_any, AllZip}
 use Rattle.std.proofs.lemmas.Bool.{or_right}
 use Rattle.std.proofs.lemmas.Option.{slice_get_within}
-use Rattle.board_decisions.specs.Derived.{has_failed, is_ended, is_fresh, is_going, is_open, is_shut, job_result, legs_result, result_by, was_cancelled}
+use Rattle.status_table.specs.Words.{Job, JobFits, JobPlan, JobState, JobStays, Leg, LegState, LegStays, Outcome, Run, RunState, has_failed, is_ended, is_fresh, is_going, is_open, is_shut, job_result, leg_stands_right, legs_result, result_by, was_cancelled}
 use Rattle.why_causes.proofs.MetFirst.{get_within}
-use Rattle.flow_model.specs.declared.board.Job.{Job}
-use Rattle.flow_model.specs.declared.board.JobState.{JobState}
-use Rattle.flow_model.specs.declared.board.JobState.TheVariants as job_state
-use Rattle.flow_model.specs.declared.board.Leg.{Leg}
-use Rattle.flow_model.specs.declared.board.LegState.{LegState}
-use Rattle.flow_model.specs.declared.board.LegState.TheVariants as leg_state
-use Rattle.flow_model.specs.declared.board.Run.{Run}
-use Rattle.flow_model.specs.declared.board.RunState.{RunState}
-use Rattle.flow_model.specs.declared.board.RunState.TheVariants as run_state
-use Rattle.flow_model.specs.declared.event.Outcome.TheVariants as outcome
-use Rattle.flow_model.specs.declared.plan.JobPlan.{JobPlan}
-use Rattle.status_table.specs.Lawful.{JobFits, leg_stands_right}
-use Rattle.status_table.specs.Stays.{JobStays, LegStays}
 use Rattle.board_decisions.proofs.Lists.{same_some}
 use Rattle.status_table.proofs.Lists.{all-get, zip-get, zip-length}
 
@@ -55,26 +42,26 @@ spoiled leg = spoils leg.state
 
 spoils_ended : (s : LegState) → spoils s ≡ true → is_ended s ≡ true
 unfolding spoils
-spoils_ended leg_state.Fresh h = absurd (true≢false (sym h))
-spoils_ended leg_state.Waiting h = absurd (true≢false (sym h))
-spoils_ended leg_state.Admitted h = absurd (true≢false (sym h))
-spoils_ended (leg_state.Running worker in_call) h = absurd (true≢false (sym h))
-spoils_ended (leg_state.Ended result tolerated) h = refl
+spoils_ended LegState.Fresh h = absurd (true≢false (sym h))
+spoils_ended LegState.Waiting h = absurd (true≢false (sym h))
+spoils_ended LegState.Admitted h = absurd (true≢false (sym h))
+spoils_ended (LegState.Running worker in_call) h = absurd (true≢false (sym h))
+spoils_ended (LegState.Ended result tolerated) h = refl
 
 ended_fresh : (s : LegState) → is_ended s ≡ true → is_fresh s ≡ false
-ended_fresh leg_state.Fresh h = absurd (true≢false (sym h))
-ended_fresh leg_state.Waiting h = refl
-ended_fresh leg_state.Admitted h = refl
-ended_fresh (leg_state.Running worker in_call) h = refl
-ended_fresh (leg_state.Ended result tolerated) h = refl
+ended_fresh LegState.Fresh h = absurd (true≢false (sym h))
+ended_fresh LegState.Waiting h = refl
+ended_fresh LegState.Admitted h = refl
+ended_fresh (LegState.Running worker in_call) h = refl
+ended_fresh (LegState.Ended result tolerated) h = refl
 
 -- legs without success have such a leg
-spoiled_by : (legs : List Leg) → legs_result legs ≢ outcome.Success → Passes spoiled legs
+spoiled_by : (legs : List Leg) → legs_result legs ≢ Outcome.Success → Passes spoiled legs
 unfolding spoils
 spoiled_by legs apart = by (list_any (λ leg. has_failed leg.state) legs) (list_any (λ leg. was_cancelled leg.state) legs) refl refl apart
   where
     by : (failed cancelled : Bool) → list_any (λ leg. has_failed leg.state) legs ≡ failed → list_any (λ leg. was_cancelled leg.state) legs ≡ cancelled
-        → (if failed then outcome.Failure else (if cancelled then outcome.Cancelled else outcome.Success)) ≢ outcome.Success → Passes spoiled legs
+        → (if failed then Outcome.Failure else (if cancelled then Outcome.Cancelled else Outcome.Success)) ≢ Outcome.Success → Passes spoiled legs
     by true cancelled f c k = let x = some_passes (λ leg. has_failed leg.state) legs f in record { place = x.place; item = x.item; is = x.is; passes = rw x.passes refl }
     by false true f c k =
         let x = some_passes (λ leg. was_cancelled leg.state) legs c in
@@ -82,7 +69,7 @@ spoiled_by legs apart = by (list_any (λ leg. has_failed leg.state) legs) (list_
     by false false f c k = absurd (k refl)
 
 -- and where there is one there is no success
-spoiled_result : (legs : List Leg) → Passes spoiled legs → legs_result legs ≢ outcome.Success
+spoiled_result : (legs : List Leg) → Passes spoiled legs → legs_result legs ≢ Outcome.Success
 unfolding spoils
 spoiled_result legs x = by (list_any (λ leg. has_failed leg.state) legs) (list_any (λ leg. was_cancelled leg.state) legs) refl refl
   where
@@ -91,7 +78,7 @@ spoiled_result legs x = by (list_any (λ leg. has_failed leg.state) legs) (list_
     or-cases false b f c h k l none nor = true≢false (sym (l h) ∙ nor)
 
     by : (failed cancelled : Bool) → list_any (λ leg. has_failed leg.state) legs ≡ failed → list_any (λ leg. was_cancelled leg.state) legs ≡ cancelled
-        → (if failed then outcome.Failure else (if cancelled then outcome.Cancelled else outcome.Success)) ≢ outcome.Success
+        → (if failed then Outcome.Failure else (if cancelled then Outcome.Cancelled else Outcome.Success)) ≢ Outcome.Success
     by true cancelled f c = λ e. cc
     by false true f c = λ e. cc
     by false false f c = absurd (or-cases (has_failed x.item.state) (was_cancelled x.item.state) (list_any (λ leg. has_failed leg.state) legs)
@@ -119,22 +106,22 @@ spoiled_open s g state legs all x =
 
 -- ---- a job without success
 
-open_is : (s : JobState) → is_open s ≡ true → s ≡ job_state.Open
-open_is job_state.Unjudged h = absurd (true≢false (sym h))
-open_is job_state.Open h = refl
-open_is (job_state.Shut result) h = absurd (true≢false (sym h))
+open_is : (s : JobState) → is_open s ≡ true → s ≡ JobState.Open
+open_is JobState.Unjudged h = absurd (true≢false (sym h))
+open_is JobState.Open h = refl
+open_is (JobState.Shut result) h = absurd (true≢false (sym h))
 
 -- it has none later, and was judged then
 pub record Stayed (run : Run) (job : Job) : Type 0 where
-  pub unsuccessful : job_result run job ≢ outcome.Success
-  pub judged : job.state ≢ job_state.Unjudged
+  pub unsuccessful : job_result run job ≢ Outcome.Success
+  pub judged : job.state ≢ JobState.Unjudged
 
 pub stays_unsuccessful : (a b : Run) (x y : Job) (p q : JobPlan) → is_going a.state ≡ true → JobFits a.state a.group p x → JobFits b.state b.group q y → JobStays a b x y
-    → job_result a x ≢ outcome.Success → Stayed b y
+    → job_result a x ≢ Outcome.Success → Stayed b y
 stays_unsuccessful a b x y p q going old new stays apart = by x.state refl
   where
     -- by its legs
-    by_legs : legs_result x.legs ≢ outcome.Success → Stayed b y
+    by_legs : legs_result x.legs ≢ Outcome.Success → Stayed b y
     by_legs missed =
         let later = spoiled_stays x.legs y.legs stays.legs (spoiled_by x.legs missed) in
         let opened = open_is y.state (spoiled_open b.state b.group y.state y.legs new.legs later) in
@@ -143,19 +130,19 @@ stays_unsuccessful a b x y p q going old new stays apart = by x.state refl
           judged = λ e. open_unjudged (sym opened ∙ e);
         }
       where
-        open_unjudged : job_state.Open ≡ job_state.Unjudged → ⊥
+        open_unjudged : JobState.Open ≡ JobState.Unjudged → ⊥
         open_unjudged e = cc
 
-    unjudged : (s : RunState) → is_going s ≡ true → result_by s job_state.Unjudged x.legs ≡ legs_result x.legs
-    unjudged run_state.New h = absurd (true≢false (sym h))
-    unjudged run_state.Waiting h = absurd (true≢false (sym h))
-    unjudged run_state.Going h = refl
-    unjudged (run_state.Closed result) h = absurd (true≢false (sym h))
+    unjudged : (s : RunState) → is_going s ≡ true → result_by s JobState.Unjudged x.legs ≡ legs_result x.legs
+    unjudged RunState.New h = absurd (true≢false (sym h))
+    unjudged RunState.Waiting h = absurd (true≢false (sym h))
+    unjudged RunState.Going h = refl
+    unjudged (RunState.Closed result) h = absurd (true≢false (sym h))
 
     by : (s : JobState) → x.state ≡ s → Stayed b y
-    by job_state.Unjudged is = by_legs (λ e. apart (ap (λ s. result_by a.state s x.legs) is ∙ unjudged a.state going ∙ e))
-    by job_state.Open is = by_legs (λ e. apart (ap (λ s. result_by a.state s x.legs) is ∙ e))
-    by (job_state.Shut result) is =
+    by JobState.Unjudged is = by_legs (λ e. apart (ap (λ s. result_by a.state s x.legs) is ∙ unjudged a.state going ∙ e))
+    by JobState.Open is = by_legs (λ e. apart (ap (λ s. result_by a.state s x.legs) is ∙ e))
+    by (JobState.Shut result) is =
         let same = stays.shut (ap is_shut is) in
         let state = ap (λ (job : Job). job.state) same ∙ is in
         record {
@@ -163,5 +150,5 @@ stays_unsuccessful a b x y p q going old new stays apart = by x.state refl
           judged = λ e. shut_unjudged (sym state ∙ e);
         }
       where
-        shut_unjudged : job_state.Shut result ≡ job_state.Unjudged → ⊥
+        shut_unjudged : JobState.Shut result ≡ JobState.Unjudged → ⊥
         shut_unjudged e = cc

@@ -1,6 +1,7 @@
 -- A run that was told to stop before an entry of a record is told so at its end.
 use Rattle.std.proofs.Common.{◌≡◌, inl, inr, ◌∙◌, ap, sym, subst, ℕ, suc, true, is_some, List, [], ◌∷◌, ◌++◌, Some, Ok, Err, slice_get, refl}
 use Rattle.std.proofs.lemmas.Bool.{cases_eq}
+use Rattle.status_table.specs.Words.{Board, Entry, Member, Plan, Row, Run, changed, new_board, row}
 use Rattle.board_decisions.proofs.Lists.{same_some}
 use Rattle.why_causes.proofs.Agreeing.{first_told}
 use Rattle.why_causes.proofs.Noting.{notes_are_made}
@@ -9,20 +10,11 @@ use Rattle.why_causes.specs.Made.{MadeAt}
 use Rattle.why_facts.specs.Notes as spec
 use Rattle.why_facts.specs.Notes.{all_noted, new_notes, noted}
 use Rattle.why_facts.specs.declared.fact.Change.{Change}
-use Rattle.why_facts.specs.declared.fact.Change.TheVariants as change
 use Rattle.why_facts.specs.declared.notes.Notes.{Notes}
 use Rattle.why_facts.specs.declared.notes.RunNotes.{RunNotes}
 use Rattle.why_notes.proofs.Lawful.{accounts_follow_the_table}
 use Rattle.why_notes.specs.Account.{Account, account_from, account_of, entry_noted, then_account}
 use Rattle.why_notes.specs.Changes.{changes}
-use Rattle.flow_model.specs.declared.board.Board.{Board}
-use Rattle.flow_model.specs.declared.board.Run.{Run}
-use Rattle.flow_model.specs.declared.event.Entry.{Entry}
-use Rattle.flow_model.specs.declared.event.Member.TheVariants as member
-use Rattle.flow_model.specs.declared.plan.Plan.{Plan}
-use Rattle.status_table.specs.Change.{changed}
-use Rattle.status_table.specs.Row.{Row, row}
-use Rattle.status_table.specs.Runs.{new_board}
 use Rattle.status_table.proofs.Counts.{zip-left}
 use Rattle.status_table.proofs.Lists.{changed-elsewhere, changed-there, zip-get}
 
@@ -39,16 +31,16 @@ told_changed runs i r f keeps x = elim (cases_eq r i) as (λ _. Told (changed ru
 ]
 
 told_noted : (line : ℕ) (notes : Notes) (c : Change) (r : ℕ) → Told notes.runs r → Told (noted line notes c).runs r
-told_noted line notes (change.Member (member.Run k) fact) r x =
+told_noted line notes (Change.Member (Member.Run k) fact) r x =
     told_changed notes.runs k r (λ run. record run { last = Some (record { line = line; fact = fact }) }) (λ n h. h) x
-told_noted line notes (change.Member (member.Leg l) fact) r x = x
-told_noted line notes (change.Job j fact) r x = x
-told_noted line notes (change.Called l) r x = x
-told_noted line notes (change.Step l fact) r x = x
-told_noted line notes (change.Stop (member.Run k) tells) r x =
+told_noted line notes (Change.Member (Member.Leg l) fact) r x = x
+told_noted line notes (Change.Job j fact) r x = x
+told_noted line notes (Change.Called l) r x = x
+told_noted line notes (Change.Step l fact) r x = x
+told_noted line notes (Change.Stop (Member.Run k) tells) r x =
     told_changed notes.runs k r (λ run. record run { stop = spec.first_of run.stop (record { line = line; teller = tells }) })
     (λ n h. first_told n.stop (record { line = line; teller = tells })) x
-told_noted line notes (change.Stop (member.Leg l) tells) r x = x
+told_noted line notes (Change.Stop (Member.Leg l) tells) r x = x
 
 all_told : (line : ℕ) (notes : Notes) (cs : List Change) (r : ℕ) → Told notes.runs r → Told (all_noted line notes cs).runs r
 all_told line notes [] r x = x

@@ -1,8 +1,8 @@
 -- What is noted of all that a plan has is how it stands on a board.
 use Rattle.std.specs.Prelude.{◌≡◌, ℕ, Bool, map, Option, Some, None, is_some}
 use Rattle.std.specs.List.{AllZip}
+use Rattle.status_table.specs.Words.{Board, DoneStep, Job, JobState, Leg, LegState, Run, RunState, board_jobs, board_legs}
 use Rattle.why_facts.specs.declared.fact.MemberFact.{MemberFact}
-use Rattle.why_facts.specs.declared.fact.MemberFact.TheVariants as member_fact
 use Rattle.why_facts.specs.declared.notes.JobNote.{JobNote}
 use Rattle.why_facts.specs.declared.notes.JobNotes.{JobNotes}
 use Rattle.why_facts.specs.declared.notes.LegNotes.{LegNotes}
@@ -12,45 +12,33 @@ use Rattle.why_facts.specs.declared.notes.RunNotes.{RunNotes}
 use Rattle.why_facts.specs.declared.notes.StepNote.{StepNote}
 use Rattle.why_notes.specs.Laws.{judged_to}
 use Rattle.why_causes.specs.Stands.{LegIs, RunIs, outcome_told}
-use Rattle.flow_model.specs.Numbers.{board_jobs, board_legs}
-use Rattle.flow_model.specs.declared.board.Board.{Board}
-use Rattle.flow_model.specs.declared.board.DoneStep.{DoneStep}
-use Rattle.flow_model.specs.declared.board.Job.{Job}
-use Rattle.flow_model.specs.declared.board.JobState.{JobState}
-use Rattle.flow_model.specs.declared.board.JobState.TheVariants as job_state
-use Rattle.flow_model.specs.declared.board.Leg.{Leg}
-use Rattle.flow_model.specs.declared.board.LegState.{LegState}
-use Rattle.flow_model.specs.declared.board.LegState.TheVariants as leg_state
-use Rattle.flow_model.specs.declared.board.Run.{Run}
-use Rattle.flow_model.specs.declared.board.RunState.{RunState}
-use Rattle.flow_model.specs.declared.board.RunState.TheVariants as run_state
 
 -- the state of a run of which that was noted last
 abbrev pub RunNow : Option MemberNote → RunState → Type 0
-RunNow None s = s ≡ run_state.New
+RunNow None s = s ≡ RunState.New
 RunNow (Some note) s = RunIs note.fact s
 
 -- the state of a leg of which that became last: one that was taken may be in a call meanwhile
 abbrev pub LegStill : MemberFact → LegState → Type 0
-LegStill member_fact.Taken s = (worker : ℕ) × ((in_call : Bool) × (s ≡ leg_state.Running worker in_call))
-LegStill member_fact.Admitted s = LegIs member_fact.Admitted s
-LegStill (member_fact.Waits holder) s = LegIs (member_fact.Waits holder) s
-LegStill (member_fact.Follows before) s = LegIs (member_fact.Follows before) s
-LegStill (member_fact.Displaced by) s = LegIs (member_fact.Displaced by) s
-LegStill member_fact.OwnRun s = LegIs member_fact.OwnRun s
-LegStill (member_fact.NoGroup f) s = LegIs (member_fact.NoGroup f) s
-LegStill (member_fact.Closed result) s = LegIs (member_fact.Closed result) s
-LegStill (member_fact.Finished result) s = LegIs (member_fact.Finished result) s
-LegStill (member_fact.Stopped cause) s = LegIs (member_fact.Stopped cause) s
+LegStill MemberFact.Taken s = (worker : ℕ) × ((in_call : Bool) × (s ≡ LegState.Running worker in_call))
+LegStill MemberFact.Admitted s = LegIs MemberFact.Admitted s
+LegStill (MemberFact.Waits holder) s = LegIs (MemberFact.Waits holder) s
+LegStill (MemberFact.Follows before) s = LegIs (MemberFact.Follows before) s
+LegStill (MemberFact.Displaced by) s = LegIs (MemberFact.Displaced by) s
+LegStill MemberFact.OwnRun s = LegIs MemberFact.OwnRun s
+LegStill (MemberFact.NoGroup f) s = LegIs (MemberFact.NoGroup f) s
+LegStill (MemberFact.Closed result) s = LegIs (MemberFact.Closed result) s
+LegStill (MemberFact.Finished result) s = LegIs (MemberFact.Finished result) s
+LegStill (MemberFact.Stopped cause) s = LegIs (MemberFact.Stopped cause) s
 
 -- the same of one of which that was noted last
 abbrev pub LegNow : Option MemberNote → LegState → Type 0
-LegNow None s = s ≡ leg_state.Fresh
+LegNow None s = s ≡ LegState.Fresh
 LegNow (Some note) s = LegStill note.fact s
 
 -- the state of a job of which that was noted
 abbrev pub JobNow : Option JobNote → JobState → Type 0
-JobNow None s = s ≡ job_state.Unjudged
+JobNow None s = s ≡ JobState.Unjudged
 JobNow (Some note) s = s ≡ judged_to note.fact
 
 -- A run is in the state of what was noted last, and was told to stop where somebody is noted who told it.

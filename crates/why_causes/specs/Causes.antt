@@ -1,24 +1,15 @@
 -- Which facts made a fact so: what is asked next where something is asked. The board after a record keeps what has ended
 -- as it was, and so tells it of all but what the notes say.
 use Rattle.std.specs.Prelude.{ℕ, suc, ◌+◌, ◌-◌, ◌++◌, ◌==◌, ◌&&◌, Bool, true, false, not, List, [], ◌∷◌, length, map, Option, Some, None, slice_get, if◌then◌else◌}
-use Rattle.board_decisions.specs.Contexts.{first_number}
-use Rattle.board_decisions.specs.Decisions.{is_stopping}
-use Rattle.board_decisions.specs.Derived.{has_failed, holds_at, is_cancelled, is_ended, is_failure, is_full, is_going, is_open, is_under_way, job_has_ended, job_result, legs_result, was_cancelled}
-use Rattle.board_decisions.specs.Place.{RunAt, JobAt, LegAt, run_at, job_at, leg_at}
+use Rattle.status_table.specs.Words.{DoneStep, Job, JobAt, JobPlan, JobState, Leg, LegAt, LegState, Member, Outcome, Run, RunAt, first_number, first_place, has_failed, holds_at, is_cancelled, is_ended, is_failure, is_full, is_going, is_open, is_stopping, is_under_way, job_at, job_has_ended, job_result, leg_at, legs_result, run_at, was_cancelled}
 use Rattle.why_causes.specs.declared.question.Question.{Question}
-use Rattle.why_causes.specs.declared.question.Question.TheVariants as question
 use Rattle.why_causes.specs.declared.sought.Sought.{Sought}
-use Rattle.why_causes.specs.declared.sought.Sought.TheVariants as sought
 use Rattle.why_facts.specs.Ancestors.{first_unsuccessful}
 use Rattle.why_facts.specs.Stops.{cause_of_stop}
 use Rattle.why_facts.specs.declared.fact.JobFact.{JobFact}
-use Rattle.why_facts.specs.declared.fact.JobFact.TheVariants as job_fact
 use Rattle.why_facts.specs.declared.fact.MemberFact.{MemberFact}
-use Rattle.why_facts.specs.declared.fact.MemberFact.TheVariants as member_fact
 use Rattle.why_facts.specs.declared.fact.StepFact.{StepFact}
-use Rattle.why_facts.specs.declared.fact.StepFact.TheVariants as step_fact
 use Rattle.why_facts.specs.declared.fact.StopCause.{StopCause}
-use Rattle.why_facts.specs.declared.fact.StopCause.TheVariants as stop_cause
 use Rattle.why_facts.specs.declared.notes.JobNote.{JobNote}
 use Rattle.why_facts.specs.declared.notes.JobNotes.{JobNotes}
 use Rattle.why_facts.specs.declared.notes.LegNotes.{LegNotes}
@@ -26,20 +17,6 @@ use Rattle.why_facts.specs.declared.notes.MemberNote.{MemberNote}
 use Rattle.why_facts.specs.declared.notes.RunNotes.{RunNotes}
 use Rattle.why_facts.specs.declared.notes.StepNote.{StepNote}
 use Rattle.why_notes.specs.Account.{Account}
-use Rattle.flow_model.specs.declared.board.DoneStep.{DoneStep}
-use Rattle.flow_model.specs.declared.board.Job.{Job}
-use Rattle.flow_model.specs.declared.board.JobState.{JobState}
-use Rattle.flow_model.specs.declared.board.JobState.TheVariants as job_state
-use Rattle.flow_model.specs.declared.board.Leg.{Leg}
-use Rattle.flow_model.specs.declared.board.LegState.{LegState}
-use Rattle.flow_model.specs.declared.board.LegState.TheVariants as leg_state
-use Rattle.flow_model.specs.declared.board.Run.{Run}
-use Rattle.flow_model.specs.declared.event.Member.{Member}
-use Rattle.flow_model.specs.declared.event.Member.TheVariants as member
-use Rattle.flow_model.specs.declared.event.Outcome.{Outcome}
-use Rattle.flow_model.specs.declared.event.Outcome.TheVariants as outcome
-use Rattle.flow_model.specs.declared.plan.JobPlan.{JobPlan}
-use Rattle.status_table.specs.Groups.{first_place}
 
 -- ---- what is noted
 
@@ -67,19 +44,19 @@ step_last (Some notes) s = slice_get notes.steps s
 
 -- the question about a run or a leg
 abbrev pub about : Member → Question
-about (member.Run r) = question.Run r
-about (member.Leg l) = question.Leg l
+about (Member.Run r) = Question.Run r
+about (Member.Leg l) = Question.Leg l
 
 -- who told a run or a leg to stop, where it was told to
 abbrev pub stop_asked : Member → Bool → List Question
 stop_asked who false = []
-stop_asked who true = question.Stop who ∷ []
+stop_asked who true = Question.Stop who ∷ []
 
 -- why the leg with a number is to stop, which is of the run with a number
 abbrev pub cause_asked : ℕ → ℕ → StopCause → List Question
-cause_asked r l stop_cause.Told = question.Stop (member.Leg l) ∷ []
-cause_asked r l (stop_cause.FailFast failed) = question.Leg failed ∷ []
-cause_asked r l stop_cause.RunTold = question.Stop (member.Run r) ∷ []
+cause_asked r l StopCause.Told = Question.Stop (Member.Leg l) ∷ []
+cause_asked r l (StopCause.FailFast failed) = Question.Leg failed ∷ []
+cause_asked r l StopCause.RunTold = Question.Stop (Member.Run r) ∷ []
 
 -- the items that pass a test, by their numbers, of which the first is n
 abbrev pub asked : {A : Type 0} → (ℕ → Question) → ℕ → (A → Bool) → List A → List Question
@@ -91,43 +68,43 @@ asked ask n test (x ∷ xs) =
 
 -- a job was opened or shut
 abbrev pub is_judged : JobState → Bool
-is_judged job_state.Unjudged = false
-is_judged job_state.Open = true
-is_judged (job_state.Shut result) = true
+is_judged JobState.Unjudged = false
+is_judged JobState.Open = true
+is_judged (JobState.Shut result) = true
 
 -- a result that makes another so: only failures and cancellations do
 abbrev pub counts : Outcome → Outcome → Bool
-counts outcome.Success result = false
-counts outcome.Failure result = is_failure result
-counts outcome.Cancelled result = is_cancelled result
-counts outcome.Skipped result = false
+counts Outcome.Success result = false
+counts Outcome.Failure result = is_failure result
+counts Outcome.Cancelled result = is_cancelled result
+counts Outcome.Skipped result = false
 
 -- the jobs of a run that are looked for
 abbrev pub job_sought : Sought → Run → Job → Bool
-job_sought sought.Unended run job = not (job_has_ended run job)
-job_sought sought.UnderWay run job = false
-job_sought (sought.Counting result) run job = is_judged job.state && counts result (job_result run job)
+job_sought Sought.Unended run job = not (job_has_ended run job)
+job_sought Sought.UnderWay run job = false
+job_sought (Sought.Counting result) run job = is_judged job.state && counts result (job_result run job)
 
 -- ended with a failure that is tolerated
 abbrev pub was_tolerated : LegState → Bool
-was_tolerated leg_state.Fresh = false
-was_tolerated leg_state.Waiting = false
-was_tolerated leg_state.Admitted = false
-was_tolerated (leg_state.Running worker in_call) = false
-was_tolerated (leg_state.Ended result tolerated) = tolerated
+was_tolerated LegState.Fresh = false
+was_tolerated LegState.Waiting = false
+was_tolerated LegState.Admitted = false
+was_tolerated (LegState.Running worker in_call) = false
+was_tolerated (LegState.Ended result tolerated) = tolerated
 
 -- a leg with which a job comes to a result: to success though it failed
 abbrev pub leg_counts : Outcome → LegState → Bool
-leg_counts outcome.Success state = was_tolerated state
-leg_counts outcome.Failure state = has_failed state
-leg_counts outcome.Cancelled state = was_cancelled state
-leg_counts outcome.Skipped state = false
+leg_counts Outcome.Success state = was_tolerated state
+leg_counts Outcome.Failure state = has_failed state
+leg_counts Outcome.Cancelled state = was_cancelled state
+leg_counts Outcome.Skipped state = false
 
 -- the legs of a job that are looked for
 abbrev pub leg_sought : Sought → Leg → Bool
-leg_sought sought.Unended leg = not (is_ended leg.state)
-leg_sought sought.UnderWay leg = is_under_way leg.state
-leg_sought (sought.Counting result) leg = leg_counts result leg.state
+leg_sought Sought.Unended leg = not (is_ended leg.state)
+leg_sought Sought.UnderWay leg = is_under_way leg.state
+leg_sought (Sought.Counting result) leg = leg_counts result leg.state
 
 -- ---- a run
 
@@ -137,27 +114,27 @@ first_job [] = 0
 first_job (job ∷ jobs) = job.number
 
 abbrev pub jobs_asked : RunAt → Sought → List Question
-jobs_asked at wanted = asked question.Job (first_job at.plan.jobs) (job_sought wanted at.run) at.run.jobs
+jobs_asked at wanted = asked Question.Job (first_job at.plan.jobs) (job_sought wanted at.run) at.run.jobs
 
 -- of a run that is closed so: that it was told to stop, where it was cancelled, and the jobs that count
 abbrev pub closed_asked : ℕ → RunAt → Outcome → List Question
 closed_asked r at result =
-    stop_asked (member.Run r) (at.run.stop && is_cancelled result) ++ jobs_asked at (sought.Counting result)
+    stop_asked (Member.Run r) (at.run.stop && is_cancelled result) ++ jobs_asked at (Sought.Counting result)
 
 -- of a run that is Going: that it was told to stop, and the jobs that have not ended
 abbrev pub going_asked : ℕ → RunAt → List Question
-going_asked r at = stop_asked (member.Run r) at.run.stop ++ jobs_asked at sought.Unended
+going_asked r at = stop_asked (Member.Run r) at.run.stop ++ jobs_asked at Sought.Unended
 
 -- by what became of the run last
 abbrev pub run_fact_asked : ℕ → RunAt → MemberFact → List Question
-run_fact_asked r at member_fact.Admitted = going_asked r at
-run_fact_asked r at (member_fact.Follows before) = going_asked r at
-run_fact_asked r at (member_fact.Waits holds) = about holds ∷ stop_asked (member.Run r) at.run.stop
-run_fact_asked r at (member_fact.Closed result) = closed_asked r at result
+run_fact_asked r at MemberFact.Admitted = going_asked r at
+run_fact_asked r at (MemberFact.Follows before) = going_asked r at
+run_fact_asked r at (MemberFact.Waits holds) = about holds ∷ stop_asked (Member.Run r) at.run.stop
+run_fact_asked r at (MemberFact.Closed result) = closed_asked r at result
 run_fact_asked r at _ = []
 
 abbrev pub run_noted_asked : ℕ → RunAt → Option MemberNote → List Question
-run_noted_asked r at None = stop_asked (member.Run r) at.run.stop
+run_noted_asked r at None = stop_asked (Member.Run r) at.run.stop
 run_noted_asked r at (Some note) = run_fact_asked r at note.fact
 
 abbrev pub run_asked : Account → ℕ → Option RunAt → List Question
@@ -171,11 +148,11 @@ abbrev pub needs_asked : ℕ → Run → List ℕ → List Question
 needs_asked first run [] = []
 needs_asked first run (need ∷ needs) =
     if holds_at (map (job_has_ended run) run.jobs) (need - first) then needs_asked first run needs
-    else question.Job need ∷ needs_asked first run needs
+    else Question.Job need ∷ needs_asked first run needs
 
 -- the ancestors of a job that had no success and are met first
 abbrev pub unsuccessful_asked : ℕ → JobAt → List Question
-unsuccessful_asked first at = map question.Job (first_unsuccessful first at)
+unsuccessful_asked first at = map Question.Job (first_unsuccessful first at)
 
 -- by what became of a job that was shut
 abbrev pub shut_asked : ℕ → JobAt → Option JobNote → List Question
@@ -183,23 +160,23 @@ shut_asked first at None = []
 shut_asked first at (Some note) = fact_asked note.fact
   where
     fact_asked : JobFact → List Question
-    fact_asked job_fact.Opened = []
-    fact_asked job_fact.RunStopped = question.Stop (member.Run at.place.run) ∷ []
-    fact_asked job_fact.Unsuccessful = unsuccessful_asked first at
-    fact_asked job_fact.Untrue = []
-    fact_asked (job_fact.Faulted fault) = []
+    fact_asked JobFact.Opened = []
+    fact_asked JobFact.RunStopped = Question.Stop (Member.Run at.place.run) ∷ []
+    fact_asked JobFact.Unsuccessful = unsuccessful_asked first at
+    fact_asked JobFact.Untrue = []
+    fact_asked (JobFact.Faulted fault) = []
 
 -- the legs of a job that was opened: those that have not ended, or with which it comes to its result
 abbrev pub opened_sought : Run → Job → Sought
-opened_sought run job = if job_has_ended run job then sought.Counting (legs_result job.legs) else sought.Unended
+opened_sought run job = if job_has_ended run job then Sought.Counting (legs_result job.legs) else Sought.Unended
 
 abbrev pub job_state_asked : JobAt → Option JobNotes → JobState → List Question
-job_state_asked at notes job_state.Unjudged =
+job_state_asked at notes JobState.Unjudged =
     if is_going at.run.state then needs_asked (first_number at) at.run at.plan.needs
-    else question.Run at.place.run ∷ []
-job_state_asked at notes job_state.Open =
-    asked question.Leg (first_leg notes) (leg_sought (opened_sought at.run at.job)) at.job.legs
-job_state_asked at notes (job_state.Shut result) = shut_asked (first_number at) at (job_last notes)
+    else Question.Run at.place.run ∷ []
+job_state_asked at notes JobState.Open =
+    asked Question.Leg (first_leg notes) (leg_sought (opened_sought at.run at.job)) at.job.legs
+job_state_asked at notes (JobState.Shut result) = shut_asked (first_number at) at (job_last notes)
 
 abbrev pub job_asked : Account → ℕ → Option JobAt → List Question
 job_asked a j None = []
@@ -215,29 +192,29 @@ stopping_asked l at = if is_stopping at then cause_asked at.place.run l (cause_o
 abbrev pub slots_asked : ℕ → LegAt → List Question
 slots_asked l at =
     if is_full at.job_plan at.job
-    then asked question.Leg (l - at.place.leg) (leg_sought sought.UnderWay) at.job.legs else []
+    then asked Question.Leg (l - at.place.leg) (leg_sought Sought.UnderWay) at.job.legs else []
 
 -- of a leg that has not asked: its job, where that is not open; else why it will be dropped, and the legs that take all slots
 abbrev pub fresh_asked : ℕ → LegAt → List Question
 fresh_asked l at =
-    if not (is_going at.run.state && is_open at.job.state) then question.Job at.job_plan.number ∷ []
+    if not (is_going at.run.state && is_open at.job.state) then Question.Job at.job_plan.number ∷ []
     else stopping_asked l at ++ slots_asked l at
 
 -- a leg is in the call of a step
 abbrev pub is_in_call : LegState → Bool
-is_in_call leg_state.Fresh = false
-is_in_call leg_state.Waiting = false
-is_in_call leg_state.Admitted = false
-is_in_call (leg_state.Running worker in_call) = in_call
-is_in_call (leg_state.Ended result tolerated) = false
+is_in_call LegState.Fresh = false
+is_in_call LegState.Waiting = false
+is_in_call LegState.Admitted = false
+is_in_call (LegState.Running worker in_call) = in_call
+is_in_call (LegState.Ended result tolerated) = false
 
 -- the step that is called, if one is
 abbrev pub call_asked : ℕ → Leg → List Question
-call_asked l leg = if is_in_call leg.state then question.Step l (length leg.steps) ∷ [] else []
+call_asked l leg = if is_in_call leg.state then Question.Step l (length leg.steps) ∷ [] else []
 
 -- of a leg that runs: the step that is called, and that the leg was told to stop
 abbrev pub taken_asked : ℕ → Leg → List Question
-taken_asked l leg = call_asked l leg ++ stop_asked (member.Leg l) leg.stop
+taken_asked l leg = call_asked l leg ++ stop_asked (Member.Leg l) leg.stop
 
 -- the step at a place is in its call
 abbrev pub is_called : ℕ → Leg → Bool
@@ -246,7 +223,7 @@ is_called s leg = is_in_call leg.state && (s == length leg.steps)
 -- the step at a place, if there is one
 abbrev pub step_asked : ℕ → Option ℕ → List Question
 step_asked l None = []
-step_asked l (Some s) = question.Step l s ∷ []
+step_asked l (Some s) = Question.Step l s ∷ []
 
 -- the first step that counts as a failure
 abbrev pub failure_asked : ℕ → List DoneStep → List Question
@@ -258,12 +235,12 @@ finished_asked l at result = if is_failure result then failure_asked l at.leg.st
 
 -- by what became of the leg last
 abbrev pub leg_fact_asked : ℕ → LegAt → MemberFact → List Question
-leg_fact_asked l at (member_fact.Waits holds) = about holds ∷ stop_asked (member.Leg l) at.leg.stop
-leg_fact_asked l at member_fact.Admitted = stop_asked (member.Leg l) at.leg.stop
-leg_fact_asked l at (member_fact.Follows before) = stop_asked (member.Leg l) at.leg.stop
-leg_fact_asked l at member_fact.Taken = taken_asked l at.leg
-leg_fact_asked l at (member_fact.Finished result) = finished_asked l at result
-leg_fact_asked l at (member_fact.Stopped cause) = cause_asked at.place.run l cause
+leg_fact_asked l at (MemberFact.Waits holds) = about holds ∷ stop_asked (Member.Leg l) at.leg.stop
+leg_fact_asked l at MemberFact.Admitted = stop_asked (Member.Leg l) at.leg.stop
+leg_fact_asked l at (MemberFact.Follows before) = stop_asked (Member.Leg l) at.leg.stop
+leg_fact_asked l at MemberFact.Taken = taken_asked l at.leg
+leg_fact_asked l at (MemberFact.Finished result) = finished_asked l at result
+leg_fact_asked l at (MemberFact.Stopped cause) = cause_asked at.place.run l cause
 leg_fact_asked l at _ = []
 
 abbrev pub leg_noted_asked : ℕ → LegAt → Option MemberNote → List Question
@@ -278,13 +255,13 @@ leg_asked a l (Some at) = leg_noted_asked l at (leg_last (slice_get a.notes.legs
 
 -- by what became of the step
 abbrev pub step_fact_asked : ℕ → ℕ → StepFact → List Question
-step_fact_asked r l (step_fact.Stopping cause) = cause_asked r l cause
-step_fact_asked r l (step_fact.AfterFailure s) = question.Step l s ∷ []
+step_fact_asked r l (StepFact.Stopping cause) = cause_asked r l cause
+step_fact_asked r l (StepFact.AfterFailure s) = Question.Step l s ∷ []
 step_fact_asked r l _ = []
 
 -- of a step that is not done: nothing while it is called, and else its leg
 abbrev pub undone_asked : ℕ → ℕ → LegAt → List Question
-undone_asked l s at = if is_called s at.leg then [] else question.Leg l ∷ []
+undone_asked l s at = if is_called s at.leg then [] else Question.Leg l ∷ []
 
 abbrev pub step_noted_asked : ℕ → ℕ → LegAt → Option StepNote → List Question
 step_noted_asked l s at None = undone_asked l s at
@@ -298,8 +275,8 @@ step_found_asked a l s (Some at) = step_noted_asked l s at (step_last (slice_get
 
 -- what made a fact so
 abbrev pub causes : Account → Question → List Question
-causes a (question.Run r) = run_asked a r (run_at a.plan a.board r)
-causes a (question.Job j) = job_asked a j (job_at a.plan a.board j)
-causes a (question.Leg l) = leg_asked a l (leg_at a.plan a.board l)
-causes a (question.Step l s) = step_found_asked a l s (leg_at a.plan a.board l)
-causes a (question.Stop who) = []
+causes a (Question.Run r) = run_asked a r (run_at a.plan a.board r)
+causes a (Question.Job j) = job_asked a j (job_at a.plan a.board j)
+causes a (Question.Leg l) = leg_asked a l (leg_at a.plan a.board l)
+causes a (Question.Step l s) = step_found_asked a l s (leg_at a.plan a.board l)
+causes a (Question.Stop who) = []

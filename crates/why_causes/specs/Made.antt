@@ -1,7 +1,7 @@
 -- What is noted in the account of a record was made so by the entry at the line that is noted, and is so at the end.
 use Rattle.std.specs.Prelude.{◌≡◌, ◌+◌, ◌++◌, ℕ, Contains, List, ◌∷◌, length, Some, Ok, IfSome, slice_get}
+use Rattle.status_table.specs.Words.{Board, Each, Entry, Member, Plan, Reply, after, row}
 use Rattle.why_facts.specs.declared.fact.Change.{Change}
-use Rattle.why_facts.specs.declared.fact.Change.TheVariants as change
 use Rattle.why_facts.specs.declared.notes.JobNotes.{JobNotes}
 use Rattle.why_facts.specs.declared.notes.LegNotes.{LegNotes}
 use Rattle.why_facts.specs.declared.notes.Notes.{Notes}
@@ -12,22 +12,14 @@ use Rattle.why_notes.specs.Changes.{changes}
 use Rattle.why_causes.specs.Agrees.{Agrees}
 use Rattle.why_causes.specs.Becomes.{Becomes}
 use Rattle.why_causes.specs.Stands.{IsTold}
-use Rattle.flow_model.specs.Sound.{Each}
-use Rattle.flow_model.specs.declared.board.Board.{Board}
-use Rattle.flow_model.specs.declared.event.Entry.{Entry}
-use Rattle.flow_model.specs.declared.event.Member.TheVariants as member
-use Rattle.flow_model.specs.declared.plan.Plan.{Plan}
-use Rattle.flow_model.specs.declared.reply.Reply.{Reply}
-use Rattle.status_table.specs.Row.{row}
-use Rattle.status_table.specs.Runs.{after}
 
 -- Nobody had told it to stop yet, where that is the change.
 abbrev pub IsNews : Board → Change → Type 0
-IsNews old (change.Member who fact) = Unit {0}
-IsNews old (change.Job j fact) = Unit {0}
-IsNews old (change.Called l) = Unit {0}
-IsNews old (change.Step l fact) = Unit {0}
-IsNews old (change.Stop who tells) = IsTold old who → ⊥
+IsNews old (Change.Member who fact) = Unit {0}
+IsNews old (Change.Job j fact) = Unit {0}
+IsNews old (Change.Called l) = Unit {0}
+IsNews old (Change.Step l fact) = Unit {0}
+IsNews old (Change.Stop who tells) = IsTold old who → ⊥
 
 -- A change is made at a line of a record, whose plan is line 1: the entry there is accepted on the board after those
 -- before it, the change is among what it makes so, was not so on that board, and is so on the one after it.
@@ -50,19 +42,19 @@ pub record MadeAt (p : Plan) (es : List Entry) (line : ℕ) (c : Change) : Type 
 
 -- of a run
 pub record RunHolds (P : ℕ → Change → Type 0) (r : ℕ) (notes : RunNotes) : Type 0 where
-  pub last : IfSome notes.last (λ note. P note.line (change.Member (member.Run r) note.fact))
-  pub stop : IfSome notes.stop (λ note. P note.line (change.Stop (member.Run r) note.teller))
+  pub last : IfSome notes.last (λ note. P note.line (Change.Member (Member.Run r) note.fact))
+  pub stop : IfSome notes.stop (λ note. P note.line (Change.Stop (Member.Run r) note.teller))
 
 -- of a job
 abbrev pub JobHolds : (ℕ → Change → Type 0) → ℕ → JobNotes → Type 0
-JobHolds P j notes = IfSome notes.last (λ note. P note.line (change.Job j note.fact))
+JobHolds P j notes = IfSome notes.last (λ note. P note.line (Change.Job j note.fact))
 
 -- of a leg
 pub record LegHolds (P : ℕ → Change → Type 0) (l : ℕ) (notes : LegNotes) : Type 0 where
-  pub last : IfSome notes.last (λ note. P note.line (change.Member (member.Leg l) note.fact))
-  pub stop : IfSome notes.stop (λ note. P note.line (change.Stop (member.Leg l) note.teller))
-  pub call : IfSome notes.call (λ line. P line (change.Called l))
-  pub steps : Each (λ (note : StepNote). P note.line (change.Step l note.fact)) notes.steps
+  pub last : IfSome notes.last (λ note. P note.line (Change.Member (Member.Leg l) note.fact))
+  pub stop : IfSome notes.stop (λ note. P note.line (Change.Stop (Member.Leg l) note.teller))
+  pub call : IfSome notes.call (λ line. P line (Change.Called l))
+  pub steps : Each (λ (note : StepNote). P note.line (Change.Step l note.fact)) notes.steps
 
 -- Of all that is noted this holds.
 pub record EachHolds (P : ℕ → Change → Type 0) (notes : Notes) : Type 0 where

@@ -1,13 +1,12 @@
 -- Nothing is asked twice: in a tree each run, job and leg, and that a run was told to stop, stands with what made it so at one
 -- place at most; wherever else it is told, it is told as told already.
 use Rattle.std.specs.Prelude.{◌≡◌, ◌≤◌, ℕ, ◌+◌, ◌==◌, ◌&&◌, Bool, true, false, not, is_some, List, [], ◌∷◌, Option, Some, None, slice_get}
+use Rattle.status_table.specs.Words.{Member}
 use Rattle.why_causes.specs.Tree.{nothing_told, tree}
 use Rattle.why_causes.specs.declared.question.Question.{Question}
-use Rattle.why_causes.specs.declared.question.Question.TheVariants as question
 use Rattle.why_causes.specs.declared.tree.Line.{Line}
 use Rattle.why_causes.specs.declared.tree.Told.{Told}
 use Rattle.why_notes.specs.Account.{Account}
-use Rattle.flow_model.specs.declared.event.Member.TheVariants as member
 
 -- ---- marks
 
@@ -34,12 +33,12 @@ marks told stops = told.stops
 
 -- The mark of a question. Steps, and that a leg was told to stop, stand below one fact alone and have none.
 abbrev pub mark_of : Question → Option (Kind × ℕ)
-mark_of (question.Run r) = Some (runs, r)
-mark_of (question.Job j) = Some (jobs, j)
-mark_of (question.Leg l) = Some (legs, l)
-mark_of (question.Step l s) = None
-mark_of (question.Stop (member.Run r)) = Some (stops, r)
-mark_of (question.Stop (member.Leg l)) = None
+mark_of (Question.Run r) = Some (runs, r)
+mark_of (Question.Job j) = Some (jobs, j)
+mark_of (Question.Leg l) = Some (legs, l)
+mark_of (Question.Step l s) = None
+mark_of (Question.Stop (Member.Run r)) = Some (stops, r)
+mark_of (Question.Stop (Member.Leg l)) = None
 
 -- the same mark
 abbrev pub is_marked_by : Kind → ℕ → Option (Kind × ℕ) → Bool

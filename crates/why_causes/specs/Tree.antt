@@ -1,16 +1,13 @@
 -- The tree of what is asked: each fact on a line, and below it, one deeper, the facts that made it so. A fact that was told
 -- already is not asked again.
 use Rattle.std.specs.Prelude.{ℕ, zero, suc, ◌==◌, ◌++◌, ◌&&◌, Bool, true, false, List, [], ◌∷◌, length, map, replicate, if◌then◌else◌}
-use Rattle.board_decisions.specs.Derived.{holds_at}
+use Rattle.status_table.specs.Words.{Member, changed, holds_at}
 use Rattle.why_causes.specs.Causes.{causes}
 use Rattle.why_causes.specs.declared.question.Question.{Question}
-use Rattle.why_causes.specs.declared.question.Question.TheVariants as question
 use Rattle.why_causes.specs.declared.tree.Asked.{Asked}
 use Rattle.why_causes.specs.declared.tree.Line.{Line}
 use Rattle.why_causes.specs.declared.tree.Told.{Told}
 use Rattle.why_notes.specs.Account.{Account}
-use Rattle.flow_model.specs.declared.event.Member.TheVariants as member
-use Rattle.status_table.specs.Change.{changed}
 
 -- ---- what was told
 
@@ -20,21 +17,21 @@ set_mark marks n = changed marks n (λ mark. true)
 
 -- Whether a question was answered already. That a leg was told to stop, and a step, are told below one fact alone.
 abbrev pub is_told : Told → Question → Bool
-is_told told (question.Run r) = holds_at told.runs r
-is_told told (question.Job j) = holds_at told.jobs j
-is_told told (question.Leg l) = holds_at told.legs l
-is_told told (question.Step l s) = false
-is_told told (question.Stop (member.Run r)) = holds_at told.stops r
-is_told told (question.Stop (member.Leg l)) = false
+is_told told (Question.Run r) = holds_at told.runs r
+is_told told (Question.Job j) = holds_at told.jobs j
+is_told told (Question.Leg l) = holds_at told.legs l
+is_told told (Question.Step l s) = false
+is_told told (Question.Stop (Member.Run r)) = holds_at told.stops r
+is_told told (Question.Stop (Member.Leg l)) = false
 
 -- what is told with a question more
 abbrev pub with_told : Told → Question → Told
-with_told told (question.Run r) = record told { runs = set_mark told.runs r }
-with_told told (question.Job j) = record told { jobs = set_mark told.jobs j }
-with_told told (question.Leg l) = record told { legs = set_mark told.legs l }
-with_told told (question.Step l s) = told
-with_told told (question.Stop (member.Run r)) = record told { stops = set_mark told.stops r }
-with_told told (question.Stop (member.Leg l)) = told
+with_told told (Question.Run r) = record told { runs = set_mark told.runs r }
+with_told told (Question.Job j) = record told { jobs = set_mark told.jobs j }
+with_told told (Question.Leg l) = record told { legs = set_mark told.legs l }
+with_told told (Question.Step l s) = told
+with_told told (Question.Stop (Member.Run r)) = record told { stops = set_mark told.stops r }
+with_told told (Question.Stop (Member.Leg l)) = told
 
 -- nothing was told
 abbrev pub nothing_told : Account → Told

@@ -1,10 +1,6 @@
 -- The ancestors of a job that had no success: the first of them that are met on the ways up, by their numbers.
 use Rattle.std.specs.Prelude.{ℕ, zero, suc, ◌+◌, ◌-◌, ◌++◌, ◌&&◌, Bool, true, false, not, List, [], ◌∷◌, length, map, replicate, Option, Some, None, slice_get, if◌then◌else◌}
-use Rattle.board_decisions.specs.Derived.{holds_at, is_success, job_result}
-use Rattle.board_decisions.specs.Place.{JobAt}
-use Rattle.flow_model.specs.declared.board.Run.{Run}
-use Rattle.flow_model.specs.declared.plan.JobPlan.{JobPlan}
-use Rattle.status_table.specs.Change.{changed}
+use Rattle.status_table.specs.Words.{JobAt, JobPlan, Run, changed, holds_at, is_success, job_result}
 
 -- places that are marked, where there are such
 abbrev pub marked : ℕ → List Bool → List ℕ → List Bool

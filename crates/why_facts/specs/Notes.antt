@@ -1,8 +1,8 @@
 -- What is noted of all that a plan has: what became of each last, and at which line of the record. Of who told it to stop
 -- the first is kept.
 use Rattle.std.specs.Prelude.{ℕ, ◌++◌, List, [], ◌∷◌, length, map, Option, Some, None}
+use Rattle.status_table.specs.Words.{JobPlan, Member, Plain, Plan, RunPlan, changed}
 use Rattle.why_facts.specs.declared.fact.Change.{Change}
-use Rattle.why_facts.specs.declared.fact.Change.TheVariants as change
 use Rattle.why_facts.specs.declared.notes.JobNote.{JobNote}
 use Rattle.why_facts.specs.declared.notes.LegNotes.{LegNotes}
 use Rattle.why_facts.specs.declared.notes.MemberNote.{MemberNote}
@@ -10,13 +10,6 @@ use Rattle.why_facts.specs.declared.notes.Notes.{Notes}
 use Rattle.why_facts.specs.declared.notes.RunNotes.{RunNotes}
 use Rattle.why_facts.specs.declared.notes.StepNote.{StepNote}
 use Rattle.why_facts.specs.declared.notes.StopNote.{StopNote}
-use Rattle.flow_model.specs.Plain.{Plain}
-use Rattle.flow_model.specs.declared.event.Member.{Member}
-use Rattle.flow_model.specs.declared.event.Member.TheVariants as member
-use Rattle.flow_model.specs.declared.plan.JobPlan.{JobPlan}
-use Rattle.flow_model.specs.declared.plan.Plan.{Plan}
-use Rattle.flow_model.specs.declared.plan.RunPlan.{RunPlan}
-use Rattle.status_table.specs.Change.{changed}
 
 -- ---- at the start: nothing is noted
 
@@ -55,9 +48,9 @@ new_notes p = runs_added (record { runs = []; jobs = []; legs = [] }) p.runs
 -- ---- changes
 
 abbrev pub member_noted : Notes → Member → MemberNote → Notes
-member_noted notes (member.Run r) note =
+member_noted notes (Member.Run r) note =
     record notes { runs = changed notes.runs r (λ run. record run { last = Some note }) }
-member_noted notes (member.Leg l) note =
+member_noted notes (Member.Leg l) note =
     record notes { legs = changed notes.legs l (λ leg. record leg { last = Some note }) }
 
 abbrev pub job_noted : Notes → ℕ → JobNote → Notes
@@ -76,18 +69,18 @@ first_of None note = Some note
 first_of (Some first) note = Some first
 
 abbrev pub stop_noted : Notes → Member → StopNote → Notes
-stop_noted notes (member.Run r) note =
+stop_noted notes (Member.Run r) note =
     record notes { runs = changed notes.runs r (λ run. record run { stop = first_of run.stop note }) }
-stop_noted notes (member.Leg l) note =
+stop_noted notes (Member.Leg l) note =
     record notes { legs = changed notes.legs l (λ leg. record leg { stop = first_of leg.stop note }) }
 
 -- a change at a line
 abbrev pub noted : ℕ → Notes → Change → Notes
-noted line notes (change.Member who fact) = member_noted notes who (record { line = line; fact = fact })
-noted line notes (change.Job j fact) = job_noted notes j (record { line = line; fact = fact })
-noted line notes (change.Called l) = call_noted notes l line
-noted line notes (change.Step l fact) = step_noted notes l (record { line = line; fact = fact })
-noted line notes (change.Stop who teller) = stop_noted notes who (record { line = line; teller = teller })
+noted line notes (Change.Member who fact) = member_noted notes who (record { line = line; fact = fact })
+noted line notes (Change.Job j fact) = job_noted notes j (record { line = line; fact = fact })
+noted line notes (Change.Called l) = call_noted notes l line
+noted line notes (Change.Step l fact) = step_noted notes l (record { line = line; fact = fact })
+noted line notes (Change.Stop who teller) = stop_noted notes who (record { line = line; teller = teller })
 
 -- changes at a line, one after the other
 abbrev pub all_noted : ℕ → Notes → List Change → Notes

@@ -1,10 +1,7 @@
 -- Why a leg is to stop, in the order in which it is asked.
 use Rattle.std.specs.Prelude.{ℕ, ◌-◌, ◌&&◌, Bool, true, false, nat_le, List, [], ◌∷◌, Option, Some, None, slice_get, if◌then◌else◌}
-use Rattle.board_decisions.specs.Derived.{has_failed}
-use Rattle.board_decisions.specs.Place.{LegAt}
+use Rattle.status_table.specs.Words.{Leg, LegAt, has_failed}
 use Rattle.why_facts.specs.declared.fact.StopCause.{StopCause}
-use Rattle.why_facts.specs.declared.fact.StopCause.TheVariants as stop_cause
-use Rattle.flow_model.specs.declared.board.Leg.{Leg}
 
 -- whether there is such a leg, and it failed
 abbrev pub failed_there : Option Leg → Bool
@@ -22,10 +19,10 @@ first_failed first legs (l ∷ ends) = if failed_of first legs l then Some l els
 
 -- by whether the leg was told to, whether its job fails fast, and the first leg of it that failed
 abbrev pub stop_by : Bool → Bool → Option ℕ → StopCause
-stop_by true fast failed = stop_cause.Told
-stop_by false true (Some l) = stop_cause.FailFast l
-stop_by false true None = stop_cause.RunTold
-stop_by false false failed = stop_cause.RunTold
+stop_by true fast failed = StopCause.Told
+stop_by false true (Some l) = StopCause.FailFast l
+stop_by false true None = StopCause.RunTold
+stop_by false false failed = StopCause.RunTold
 
 -- why the leg with a number is to stop, where it is
 abbrev pub cause_of_stop : ℕ → LegAt → StopCause

@@ -1,12 +1,8 @@
 -- One entry more of an account.
 use Rattle.std.proofs.Common.{◌≡◌, ℕ, suc, List, [], ◌∷◌, Option, Some, None, Ok, Err, ap}
+use Rattle.status_table.specs.Words.{Board, Entry, Plan, Row, after_from, row, then_after}
 use Rattle.why_facts.specs.declared.notes.Notes.{Notes}
 use Rattle.why_notes.specs.Account.{Account, account_from, entry_noted, then_account}
-use Rattle.flow_model.specs.declared.board.Board.{Board}
-use Rattle.flow_model.specs.declared.event.Entry.{Entry}
-use Rattle.flow_model.specs.declared.plan.Plan.{Plan}
-use Rattle.status_table.specs.Row.{Row, row}
-use Rattle.status_table.specs.Runs.{after_from, then_after}
 
 unfoldable pub board_of : Option Account → Option Board
 board_of None = None

@@ -1,7 +1,6 @@
 -- The laws of what an entry makes so.
 use Rattle.std.proofs.Common.{◌≡◌, ℕ, suc, ◌-◌, ◌&&◌, ◌||◌, Bool, true, false, List, [], ◌∷◌, Option, Some, None, Result, Ok, Err, refl, sym, ap, ◌∙◌, if◌then◌else◌, cond}
-use Rattle.board_decisions.specs.Decisions.{job_condition, stops_anyway}
-use Rattle.board_decisions.specs.Derived.{job_status, needs_have_ended}
+use Rattle.status_table.specs.Words.{Board, Entry, JobState, Leg, Plan, Row, RunState, Status, ValueFault, after_from, first_of, job_condition, job_status, judged_state, judgement_by, needs_have_ended, new_board, row, stops_anyway, then_after}
 use Rattle.why_facts.specs.Stops.{failed_of, first_failed, stop_by}
 use Rattle.why_facts.specs.declared.notes.Notes.{Notes}
 use Rattle.why_notes.proofs.Accounts.{board_of}
@@ -9,20 +8,7 @@ use Rattle.why_notes.specs.Account.{Account, account_from, entry_noted, then_acc
 use Rattle.why_notes.specs.Changes.{judged, judged_under}
 use Rattle.why_notes.specs.Conditions.{waits_in_vain}
 use Rattle.why_notes.specs.Laws.{AccountsFollowTheTable, CauseHolds, JobsAreJudgedAsTold, StopsAreCaused, judged_to}
-use Rattle.expr_value.specs.declared.status.Status.{Status}
-use Rattle.flow_model.specs.declared.board.Board.{Board}
-use Rattle.flow_model.specs.declared.board.JobState.{JobState}
-use Rattle.flow_model.specs.declared.board.JobState.TheVariants as job_state
-use Rattle.flow_model.specs.declared.board.Leg.{Leg}
-use Rattle.flow_model.specs.declared.board.RunState.{RunState}
-use Rattle.flow_model.specs.declared.board.RunState.TheVariants as run_state
-use Rattle.flow_model.specs.declared.event.Entry.{Entry}
-use Rattle.flow_model.specs.declared.plan.Plan.{Plan}
-use Rattle.flow_model.specs.declared.reply.ValueFault.{ValueFault}
-use Rattle.status_table.specs.Row.{Row, row, first_of, judged_state, judgement_by}
-use Rattle.status_table.specs.Runs.{after_from, new_board, then_after}
 use Rattle.status_table.specs.declared.fault.EventFault.{EventFault}
-use Rattle.status_table.specs.declared.fault.EventFault.TheVariants as fault
 
 -- ---- the board of an account
 
@@ -63,19 +49,19 @@ jobs_are_judged_as_told j at state h = by_states at.run.state at.job.state refl 
     fact = shut at.run.stop (waits_in_vain at.plan.condition status) (job_condition at status)
 
     ready : (ended : Bool)
-        → (if ended then Ok (judged_state at.run.stop (job_condition at status)) else Err fault.NeedsOpen) ≡ Ok state
+        → (if ended then Ok (judged_state at.run.stop (job_condition at status)) else Err EventFault.NeedsOpen) ≡ Ok state
         → state ≡ judged_to (judged_under at status)
     ready true k = sym (same (judged_state at.run.stop (job_condition at status)) state (Ok (judged_state at.run.stop (job_condition at status))) refl k) ∙ fact
     ready false k = cc
 
     by_states : (run : RunState) (job : JobState) → at.job.state ≡ job → judgement_by j at run job ≡ Ok state
-        → (at.job.state ≡ job_state.Unjudged) × (state ≡ judged_to (judged_under at status))
-    by_states run_state.Going job_state.Unjudged is k = (is, ready (needs_have_ended (first_of j at) at.run at.plan) k)
-    by_states run_state.Going job_state.Open is k = cc
-    by_states run_state.Going (job_state.Shut result) is k = cc
-    by_states run_state.New job is k = cc
-    by_states run_state.Waiting job is k = cc
-    by_states (run_state.Closed result) job is k = cc
+        → (at.job.state ≡ JobState.Unjudged) × (state ≡ judged_to (judged_under at status))
+    by_states RunState.Going JobState.Unjudged is k = (is, ready (needs_have_ended (first_of j at) at.run at.plan) k)
+    by_states RunState.Going JobState.Open is k = cc
+    by_states RunState.Going (JobState.Shut result) is k = cc
+    by_states RunState.New job is k = cc
+    by_states RunState.Waiting job is k = cc
+    by_states (RunState.Closed result) job is k = cc
 
 -- ---- why a leg is to stop
 

@@ -1,31 +1,14 @@
 -- The members that changes name hold, leave or enter the group of which is told.
 use Rattle.std.proofs.Common.{◌≡◌, ℕ, Bool, true, false, List, [], ◌∷◌, ◌++◌, Option, Some, None, Result, Ok, Err, refl, if◌then◌else◌}
 use Rattle.std.specs.List.{AllByRecursion}
-use Rattle.board_decisions.specs.Decisions.{is_stopping, leg_entrance, leg_status, run_entrance, step_decision}
-use Rattle.board_decisions.specs.Derived.{is_failure}
-use Rattle.board_decisions.specs.Place.{JobAt, LegAt, RunAt, job_at, leg_at, run_at}
-use Rattle.board_decisions.specs.declared.entrance.Entrance.{Entrance}
+use Rattle.status_table.specs.Words.{Answer, Board, Entrance, Event, JobAt, LegAt, Member, Plan, RunAt, StepCall, StepPlan, ValueFault, first_place, holder, is_failure, is_own, is_stopping, job_at, leg_at, leg_entrance, leg_standing, leg_status, next_after, next_step, run_at, run_entrance, run_standing, step_decision, waiter}
 use Rattle.why_facts.specs.Queues as queueing
 use Rattle.why_facts.specs.Stops.{cause_of_stop}
 use Rattle.why_facts.specs.declared.fact.Change.{Change}
-use Rattle.why_facts.specs.declared.fact.Change.TheVariants as change
 use Rattle.why_facts.specs.declared.fact.MemberFact.{MemberFact}
-use Rattle.why_facts.specs.declared.fact.MemberFact.TheVariants as member_fact
 use Rattle.why_notes.specs.Changes as causes
 use Rattle.why_notes.specs.Conditions.{waits_in_vain}
 use Rattle.why_notes.specs.Laws.{ChangeNames, ChangesNameTheRightMembers, Enters, MemberNames, PassesOnTo, StepNames}
-use Rattle.flow_model.specs.declared.board.Board.{Board}
-use Rattle.flow_model.specs.declared.event.Answer.{Answer}
-use Rattle.flow_model.specs.declared.event.Answer.TheVariants as answer
-use Rattle.flow_model.specs.declared.event.Event.TheVariants as event
-use Rattle.flow_model.specs.declared.event.Member.{Member}
-use Rattle.flow_model.specs.declared.event.Member.TheVariants as member
-use Rattle.flow_model.specs.declared.plan.Plan.{Plan}
-use Rattle.flow_model.specs.declared.plan.StepPlan.{StepPlan}
-use Rattle.flow_model.specs.declared.reply.StepCall.{StepCall}
-use Rattle.flow_model.specs.declared.reply.ValueFault.{ValueFault}
-use Rattle.status_table.specs.Groups.{first_place, holder, is_own, leg_standing, next_after, run_standing, waiter}
-use Rattle.status_table.specs.Row.{next_step}
 
 -- each change of a list names the right members
 Names : Plan → Board → List Change → Type 0
@@ -35,7 +18,7 @@ Names p b cs = AllByRecursion (ChangeNames p b) cs
 
 queued : (p : Plan) (b : Board) (m : Member) (group : Entrance) (holds : Member) (waited : Option Member) → Enters p b m group
     → holder b group.name ≡ Some holds → waiter b group.name ≡ waited → (cancel : Bool) → group.cancel ≡ cancel
-    → Names p b (change.Member m (member_fact.Waits holds) ∷ (queueing.displaces m waited ++ queueing.tells m cancel holds))
+    → Names p b (Change.Member m (MemberFact.Waits holds) ∷ (queueing.displaces m waited ++ queueing.tells m cancel holds))
 unfolding Names
 queued p b m group holds None enters h w false is = ((group, enters, h), tt)
 queued p b m group holds None enters h w true is = ((group, enters, h), ((group, enters, h, is), tt))
@@ -48,7 +31,7 @@ unfolding Names
 held p b m own group None waited enters h w = (tt, tt)
 held p b m own group (Some holds) waited enters h w = by (is_own own holds)
   where
-    by : (c : Bool) → Names p b (if c then change.Member m member_fact.OwnRun ∷ [] else queueing.queues m group holds waited)
+    by : (c : Bool) → Names p b (if c then Change.Member m MemberFact.OwnRun ∷ [] else queueing.queues m group holds waited)
     by true = (tt, tt)
     by false = queued p b m group holds waited enters h w group.cancel refl
 
@@ -63,17 +46,17 @@ entered p b m own (Ok (Some group)) enters =
 opened : (p : Plan) (b : Board) (r : ℕ) (found : Option RunAt) → run_at p b r ≡ found → Names p b (causes.opens b r found)
 unfolding Names
 opened p b r None is = tt
-opened p b r (Some at) is = entered p b (member.Run r) None (run_entrance at) (λ group h. (at, is, h))
+opened p b r (Some at) is = entered p b (Member.Run r) None (run_entrance at) (λ group h. (at, is, h))
 
 asked : (p : Plan) (b : Board) (l : ℕ) (found : Option LegAt) → leg_at p b l ≡ found → Names p b (causes.asks b l found)
 unfolding Names
 asked p b l None is = tt
-asked p b l (Some at) is = entered p b (member.Leg l) (Some at.place.run) (leg_entrance at) (λ group h. (at, is, h))
+asked p b l (Some at) is = entered p b (Member.Leg l) (Some at.place.run) (leg_entrance at) (λ group h. (at, is, h))
 
 -- ---- leaving
 
 left : (p : Plan) (b : Board) (m : Member) (fact : MemberFact) (next : Option Member) → MemberNames p b m fact
-    → ((n : Member) → next ≡ Some n → PassesOnTo p b m n) → Names p b (change.Member m fact ∷ causes.passes m next)
+    → ((n : Member) → next ≡ Some n → PassesOnTo p b m n) → Names p b (Change.Member m fact ∷ causes.passes m next)
 unfolding Names
 left p b m fact None names passes = (names, tt)
 left p b m fact (Some n) names passes = (names, (passes n refl, tt))
@@ -82,9 +65,9 @@ dropped : (p : Plan) (b : Board) (l : ℕ) (found : Option LegAt) → leg_at p b
 unfolding Names
 dropped p b l None is = tt
 dropped p b l (Some at) is =
-    left p b (member.Leg l) (member_fact.Stopped (cause_of_stop l at)) (next_after b (leg_standing at.leg)) tt (λ n h. (at, is, h))
+    left p b (Member.Leg l) (MemberFact.Stopped (cause_of_stop l at)) (next_after b (leg_standing at.leg)) tt (λ n h. (at, is, h))
 
-finished_names : (p : Plan) (b : Board) (stopping : Bool) (l : ℕ) (at : LegAt) → MemberNames p b (member.Leg l) (causes.finished stopping l at)
+finished_names : (p : Plan) (b : Board) (stopping : Bool) (l : ℕ) (at : LegAt) → MemberNames p b (Member.Leg l) (causes.finished stopping l at)
 finished_names p b true l at = tt
 finished_names p b false l at = tt
 
@@ -92,14 +75,14 @@ finished : (p : Plan) (b : Board) (l : ℕ) (found : Option LegAt) → leg_at p 
 unfolding Names
 finished p b l None is = tt
 finished p b l (Some at) is =
-    left p b (member.Leg l) (causes.finished (is_stopping at) l at) (next_after b (leg_standing at.leg)) (finished_names p b (is_stopping at) l at)
+    left p b (Member.Leg l) (causes.finished (is_stopping at) l at) (next_after b (leg_standing at.leg)) (finished_names p b (is_stopping at) l at)
     (λ n h. (at, is, h))
 
 closed : (p : Plan) (b : Board) (r : ℕ) (found : Option RunAt) → run_at p b r ≡ found → Names p b (causes.closes b r found)
 unfolding Names
 closed p b r None is = tt
 closed p b r (Some at) is =
-    left p b (member.Run r) (member_fact.Closed (causes.closing at.run.state at.run)) (next_after b (run_standing at.run)) tt
+    left p b (Member.Run r) (MemberFact.Closed (causes.closing at.run.state at.run)) (next_after b (run_standing at.run)) tt
     (λ n h. (at, is, h))
 
 -- ---- jobs and steps
@@ -142,21 +125,21 @@ begins p b l None is = tt
 begins p b l (Some at) is = begun_step p b l at is (next_step at)
 
 answered : (p : Plan) (b : Board) (l : ℕ) (a : Answer) → StepNames p b l (causes.answered a)
-answered p b l (answer.Exit code outputs env) = tt
-answered p b l answer.NotStarted = tt
-answered p b l answer.BadOutput = tt
+answered p b l (Answer.Exit code outputs env) = tt
+answered p b l Answer.NotStarted = tt
+answered p b l Answer.BadOutput = tt
 
 -- ---- the table
 
 pub changes_name_the_right_members : ChangesNameTheRightMembers
 unfolding Names
-changes_name_the_right_members p b (event.Open r) = opened p b r (run_at p b r) refl
-changes_name_the_right_members p b (event.Judge j) = judged p b j (job_at p b j)
-changes_name_the_right_members p b (event.Ask l) = asked p b l (leg_at p b l) refl
-changes_name_the_right_members p b (event.Drop l) = dropped p b l (leg_at p b l) refl
-changes_name_the_right_members p b (event.Take l) = (tt, tt)
-changes_name_the_right_members p b (event.Begin l) = begins p b l (leg_at p b l) refl
-changes_name_the_right_members p b (event.End l a) = (answered p b l a, tt)
-changes_name_the_right_members p b (event.Finish l) = finished p b l (leg_at p b l) refl
-changes_name_the_right_members p b (event.Close r) = closed p b r (run_at p b r) refl
-changes_name_the_right_members p b (event.Cancel r) = (tt, tt)
+changes_name_the_right_members p b (Event.Open r) = opened p b r (run_at p b r) refl
+changes_name_the_right_members p b (Event.Judge j) = judged p b j (job_at p b j)
+changes_name_the_right_members p b (Event.Ask l) = asked p b l (leg_at p b l) refl
+changes_name_the_right_members p b (Event.Drop l) = dropped p b l (leg_at p b l) refl
+changes_name_the_right_members p b (Event.Take l) = (tt, tt)
+changes_name_the_right_members p b (Event.Begin l) = begins p b l (leg_at p b l) refl
+changes_name_the_right_members p b (Event.End l a) = (answered p b l a, tt)
+changes_name_the_right_members p b (Event.Finish l) = finished p b l (leg_at p b l) refl
+changes_name_the_right_members p b (Event.Close r) = closed p b r (run_at p b r) refl
+changes_name_the_right_members p b (Event.Cancel r) = (tt, tt)

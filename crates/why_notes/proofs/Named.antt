@@ -1,41 +1,16 @@
 -- What an accepted entry makes so names whom the reply of its row names.
 use Rattle.std.proofs.Common.{◌≡◌, ◌||◌, ◌∙◌, ℕ, Bool, true, false, not, List, [], ◌∷◌, ◌++◌, Option, Some, None, Result, Ok, Err, refl, sym, ap, subst, if◌then◌else◌}
-use Rattle.board_decisions.specs.Decisions.{is_stopping, leg_entrance, run_entrance, step_decision}
-use Rattle.board_decisions.specs.Derived.{is_closed, is_full, jobs_have_ended, run_result}
-use Rattle.board_decisions.specs.Place.{RunAt, JobAt, LegAt, job_at, leg_at, run_at}
-use Rattle.board_decisions.specs.declared.entrance.Entrance.{Entrance}
+use Rattle.status_table.specs.Words.{Answer, Beginning, Board, DoneStep, Entrance, Event, JobAt, JobState, LegAt, LegState, Member, Outcome, Reply, Row, RunAt, RunState, StepCall, StepPlan, ValueFault, beginning, calls, faults, finishing, holder, is_closed, is_full, is_own, is_stopping, job_at, jobs_have_ended, judgement, leg_at, leg_entrance, leg_standing, may_ask, may_drop, moved, next_after, next_step, run_at, run_entrance, run_result, run_standing, skips, step_decision, stop_told, told, waiter}
 use Rattle.why_facts.specs.Queues as queueing
 use Rattle.why_facts.specs.Stops.{cause_of_stop}
 use Rattle.why_facts.specs.declared.fact.Change.{Change}
-use Rattle.why_facts.specs.declared.fact.Change.TheVariants as change
 use Rattle.why_facts.specs.declared.fact.MemberFact.{MemberFact}
-use Rattle.why_facts.specs.declared.fact.MemberFact.TheVariants as member_fact
-use Rattle.why_facts.specs.declared.fact.Teller.TheVariants as teller
+use Rattle.why_facts.specs.declared.fact.Teller.{Teller}
 use Rattle.why_notes.specs.Changes as causes
 use Rattle.why_notes.specs.Laws.{ChangesNameWhomTheRowNames, NameTheSame, admits, loses, or_else, when}
-use Rattle.flow_model.specs.declared.board.Board.{Board}
-use Rattle.flow_model.specs.declared.board.DoneStep.{DoneStep}
-use Rattle.flow_model.specs.declared.board.JobState.{JobState}
-use Rattle.flow_model.specs.declared.board.LegState.{LegState}
-use Rattle.flow_model.specs.declared.board.LegState.TheVariants as leg_state
-use Rattle.flow_model.specs.declared.board.RunState.{RunState}
-use Rattle.flow_model.specs.declared.board.RunState.TheVariants as run_state
-use Rattle.flow_model.specs.declared.event.Answer.{Answer}
-use Rattle.flow_model.specs.declared.event.Event.TheVariants as event
-use Rattle.flow_model.specs.declared.event.Member.{Member}
-use Rattle.flow_model.specs.declared.event.Member.TheVariants as member
-use Rattle.flow_model.specs.declared.event.Outcome.{Outcome}
-use Rattle.flow_model.specs.declared.event.Outcome.TheVariants as outcome
-use Rattle.flow_model.specs.declared.plan.StepPlan.{StepPlan}
-use Rattle.flow_model.specs.declared.reply.Reply.{Reply}
-use Rattle.flow_model.specs.declared.reply.StepCall.{StepCall}
-use Rattle.flow_model.specs.declared.reply.ValueFault.{ValueFault}
 use Rattle.status_table.specs.Groups as groups
-use Rattle.status_table.specs.Groups.{holder, is_own, leg_standing, moved, next_after, run_standing, stop_told, told, waiter}
 use Rattle.status_table.specs.Row as table
-use Rattle.status_table.specs.Row.{Row, Beginning, calls, skips, faults, beginning, finishing, judgement, may_ask, may_drop, next_step}
 use Rattle.status_table.specs.declared.fault.EventFault.{EventFault}
-use Rattle.status_table.specs.declared.fault.EventFault.TheVariants as fault
 
 -- the reply of a row, if it is accepted
 reply_of : Row → Reply
@@ -50,7 +25,7 @@ of_reply cs r new reply h named = subst (λ (x : Reply). NameTheSame cs x) (ap r
 -- ---- entering
 
 queued : (m holds : Member) (cancel : Bool) (waited : Option Member)
-    → NameTheSame (change.Member m (member_fact.Waits holds) ∷ (queueing.displaces m waited ++ queueing.tells m cancel holds)) (told None waited (stop_told cancel holds))
+    → NameTheSame (Change.Member m (MemberFact.Waits holds) ∷ (queueing.displaces m waited ++ queueing.tells m cancel holds)) (told None waited (stop_told cancel holds))
 queued m holds false None = record { admitted = refl; displaced = refl; stopped = refl }
 queued m holds true None = record { admitted = refl; displaced = refl; stopped = refl }
 queued m holds false (Some w) = record { admitted = refl; displaced = refl; stopped = refl }
@@ -61,7 +36,7 @@ held : (b : Board) (m : Member) (own : Option ℕ) (group : Entrance) (holds wai
 held b m own group None waited = record { admitted = refl; displaced = refl; stopped = refl }
 held b m own group (Some h) waited = step (is_own own h)
   where
-    step : (c : Bool) → NameTheSame (if c then change.Member m member_fact.OwnRun ∷ [] else queueing.queues m group h waited)
+    step : (c : Bool) → NameTheSame (if c then Change.Member m MemberFact.OwnRun ∷ [] else queueing.queues m group h waited)
         ((if c then (groups.cancelled b m, moved) else groups.queued b m group h waited).1)
     step true = record { admitted = refl; displaced = refl; stopped = refl }
     step false = queued m h group.cancel waited
@@ -71,15 +46,15 @@ entered b m own None = record { admitted = refl; displaced = refl; stopped = ref
 entered b m own (Some group) = held b m own group (holder b group.name) (waiter b group.name)
 
 run_entered : (b new : Board) (r : ℕ) (group : Result (Option Entrance) ValueFault) (reply : Reply) → table.run_enters b r group ≡ Ok (new, reply)
-    → NameTheSame (causes.enters_by b (member.Run r) None group) reply
+    → NameTheSame (causes.enters_by b (Member.Run r) None group) reply
 unfolding reply_of
-run_entered b new r (Ok group) reply h = of_reply _ _ new reply h (entered b (member.Run r) None group)
+run_entered b new r (Ok group) reply h = of_reply _ _ new reply h (entered b (Member.Run r) None group)
 run_entered b new r (Err f) reply h = of_reply _ _ new reply h (record { admitted = refl; displaced = refl; stopped = refl })
 
 leg_entered : (b new : Board) (l : ℕ) (at : LegAt) (group : Result (Option Entrance) ValueFault) (reply : Reply) → table.leg_enters b l at group ≡ Ok (new, reply)
-    → NameTheSame (causes.enters_by b (member.Leg l) (Some at.place.run) group) reply
+    → NameTheSame (causes.enters_by b (Member.Leg l) (Some at.place.run) group) reply
 unfolding reply_of
-leg_entered b new l at (Ok group) reply h = of_reply _ _ new reply h (entered b (member.Leg l) (Some at.place.run) group)
+leg_entered b new l at (Ok group) reply h = of_reply _ _ new reply h (entered b (Member.Leg l) (Some at.place.run) group)
 leg_entered b new l at (Err f) reply h = of_reply _ _ new reply h (record { admitted = refl; displaced = refl; stopped = refl })
 
 opened : (b new : Board) (r : ℕ) (found : Option RunAt) (reply : Reply) → table.open_found b r found ≡ Ok (new, reply) → NameTheSame (causes.opens b r found) reply
@@ -87,18 +62,18 @@ opened b new r None reply h = cc
 opened b new r (Some at) reply h = by_state at.run.state at.run.stop h
   where
     by_state : (state : RunState) (stop : Bool) → table.open_run b r at state stop ≡ Ok (new, reply) → NameTheSame (causes.opens b r (Some at)) reply
-    by_state run_state.New false k = run_entered b new r (run_entrance at) reply k
-    by_state run_state.New true k = cc
-    by_state run_state.Waiting stop k = cc
-    by_state run_state.Going stop k = cc
-    by_state (run_state.Closed result) stop k = cc
+    by_state RunState.New false k = run_entered b new r (run_entrance at) reply k
+    by_state RunState.New true k = cc
+    by_state RunState.Waiting stop k = cc
+    by_state RunState.Going stop k = cc
+    by_state (RunState.Closed result) stop k = cc
 
 asked : (b new : Board) (l : ℕ) (found : Option LegAt) (reply : Reply) → table.ask_found b l found ≡ Ok (new, reply) → NameTheSame (causes.asks b l found) reply
 asked b new l None reply h = cc
 asked b new l (Some at) reply h = guarded (may_ask at) (is_full at.job_plan at.job) (is_stopping at) h
   where
     guarded : (may full stopping : Bool)
-        → (if not may then Err fault.WrongState else (if full then Err fault.SlotsFull else (if stopping then Err fault.Stopping else table.leg_enters b l at (leg_entrance at)))) ≡ Ok (new, reply)
+        → (if not may then Err EventFault.WrongState else (if full then Err EventFault.SlotsFull else (if stopping then Err EventFault.Stopping else table.leg_enters b l at (leg_entrance at)))) ≡ Ok (new, reply)
         → NameTheSame (causes.asks b l (Some at)) reply
     guarded false full stopping k = cc
     guarded true true stopping k = cc
@@ -109,7 +84,7 @@ asked b new l (Some at) reply h = guarded (may_ask at) (is_full at.job_plan at.j
 
 -- a member leaves with a fact that names nobody
 left : (m : Member) (fact : MemberFact) (next : Option Member) → admits fact ≡ false → loses fact ≡ false
-    → NameTheSame (change.Member m fact ∷ causes.passes m next) (told next None None)
+    → NameTheSame (Change.Member m fact ∷ causes.passes m next) (told next None None)
 left m fact None quiet kept = record {
   admitted = ap (λ c. or_else (when c m) None) quiet;
   displaced = ap (λ c. or_else (when c m) None) kept;
@@ -127,12 +102,12 @@ dropped b new l None reply h = cc
 dropped b new l (Some at) reply h = guarded (may_drop at) (is_stopping at) h
   where
     guarded : (may stopping : Bool)
-        → (if not may then Err fault.WrongState else (if stopping then Ok (groups.leaves b (leg_standing at.leg) (groups.dropped b l outcome.Cancelled)) else Err fault.NotStopping)) ≡ Ok (new, reply)
+        → (if not may then Err EventFault.WrongState else (if stopping then Ok (groups.leaves b (leg_standing at.leg) (groups.dropped b l Outcome.Cancelled)) else Err EventFault.NotStopping)) ≡ Ok (new, reply)
         → NameTheSame (causes.drops b l (Some at)) reply
     guarded false stopping k = cc
     guarded true true k =
         of_reply _ _ new reply k
-        (left (member.Leg l) (member_fact.Stopped (cause_of_stop l at)) (next_after b (leg_standing at.leg)) refl refl)
+        (left (Member.Leg l) (MemberFact.Stopped (cause_of_stop l at)) (next_after b (leg_standing at.leg)) refl refl)
     guarded true false k = cc
 
 -- how a leg ends whose steps are done names nobody
@@ -151,7 +126,7 @@ finished b new worker l (Some at) reply h = by_end (finishing worker at) h
 
     by_end : (end : Result LegState EventFault) → table.finish_leg b l at end ≡ Ok (new, reply) → NameTheSame (causes.finishes b l (Some at)) reply
     by_end (Ok state) k =
-        of_reply _ _ new reply k (left (member.Leg l) (causes.finished (is_stopping at) l at) (next_after b (leg_standing at.leg)) quiet.0 quiet.1)
+        of_reply _ _ new reply k (left (Member.Leg l) (causes.finished (is_stopping at) l at) (next_after b (leg_standing at.leg)) quiet.0 quiet.1)
     by_end (Err f) k = cc
 
 closed : (b new : Board) (r : ℕ) (found : Option RunAt) (reply : Reply) → table.close_found b r found ≡ Ok (new, reply)
@@ -163,23 +138,23 @@ closed b new r (Some at) reply h = by_state at.run.state h
     closes : (result : Outcome) → table.run_closes b r at.run result ≡ Ok (new, reply) → NameTheSame (causes.closes b r (Some at)) reply
     closes result k =
         of_reply _ _ new reply k
-        (left (member.Run r) (member_fact.Closed (causes.closing at.run.state at.run)) (next_after b (run_standing at.run)) refl refl)
+        (left (Member.Run r) (MemberFact.Closed (causes.closing at.run.state at.run)) (next_after b (run_standing at.run)) refl refl)
 
     waiting : (stop : Bool) → table.close_waiting b r at.run stop ≡ Ok (new, reply) → NameTheSame (causes.closes b r (Some at)) reply
-    waiting true k = closes outcome.Cancelled k
+    waiting true k = closes Outcome.Cancelled k
     waiting false k = cc
 
     going : (ended : Bool)
-        → (if ended then table.run_closes b r at.run (run_result at.run) else Err fault.NeedsOpen) ≡ Ok (new, reply)
+        → (if ended then table.run_closes b r at.run (run_result at.run) else Err EventFault.NeedsOpen) ≡ Ok (new, reply)
         → NameTheSame (causes.closes b r (Some at)) reply
     going true k = closes (run_result at.run) k
     going false k = cc
 
     by_state : (state : RunState) → table.close_run b r at.run state ≡ Ok (new, reply) → NameTheSame (causes.closes b r (Some at)) reply
-    by_state run_state.New k = waiting at.run.stop k
-    by_state run_state.Waiting k = waiting at.run.stop k
-    by_state run_state.Going k = going (jobs_have_ended at.run) k
-    by_state (run_state.Closed result) k = cc
+    by_state RunState.New k = waiting at.run.stop k
+    by_state RunState.Waiting k = waiting at.run.stop k
+    by_state RunState.Going k = going (jobs_have_ended at.run) k
+    by_state (RunState.Closed result) k = cc
 
 -- ---- events of which nobody is named
 
@@ -194,29 +169,29 @@ judged b new j (Some at) reply h = by_judgement (judgement j at) h
     by_judgement (Err f) k = cc
 
 take_if : Board → ℕ → LegAt → Bool → Row
-take_if b worker at stopping = if stopping then Err fault.Stopping else Ok (table.leg_state_set b at.place (leg_state.Running worker false), moved)
+take_if b worker at stopping = if stopping then Err EventFault.Stopping else Ok (table.leg_state_set b at.place (LegState.Running worker false), moved)
 
 cancel_if : Board → ℕ → Bool → Row
-cancel_if b r over = if over then Err fault.WrongState else Ok (groups.stopped b true (member.Run r), moved)
+cancel_if b r over = if over then Err EventFault.WrongState else Ok (groups.stopped b true (Member.Run r), moved)
 
 taken : (b new : Board) (worker l : ℕ) (found : Option LegAt) (reply : Reply) → table.take_found b worker found ≡ Ok (new, reply)
-    → NameTheSame (change.Member (member.Leg l) member_fact.Taken ∷ []) reply
+    → NameTheSame (Change.Member (Member.Leg l) MemberFact.Taken ∷ []) reply
 unfolding reply_of take_if
 taken b new worker l None reply h = cc
 taken b new worker l (Some at) reply h = by_state at.leg.state h
   where
     guarded : (stopping : Bool)
         → take_if b worker at stopping ≡ Ok (new, reply)
-        → NameTheSame (change.Member (member.Leg l) member_fact.Taken ∷ []) reply
+        → NameTheSame (Change.Member (Member.Leg l) MemberFact.Taken ∷ []) reply
     guarded true k = cc
     guarded false k = of_reply _ _ new reply k (record { admitted = refl; displaced = refl; stopped = refl })
 
-    by_state : (state : LegState) → table.take_leg b worker at state ≡ Ok (new, reply) → NameTheSame (change.Member (member.Leg l) member_fact.Taken ∷ []) reply
-    by_state leg_state.Fresh k = cc
-    by_state leg_state.Waiting k = cc
-    by_state leg_state.Admitted k = guarded (is_stopping at) k
-    by_state (leg_state.Running w in_call) k = cc
-    by_state (leg_state.Ended result tolerated) k = cc
+    by_state : (state : LegState) → table.take_leg b worker at state ≡ Ok (new, reply) → NameTheSame (Change.Member (Member.Leg l) MemberFact.Taken ∷ []) reply
+    by_state LegState.Fresh k = cc
+    by_state LegState.Waiting k = cc
+    by_state LegState.Admitted k = guarded (is_stopping at) k
+    by_state (LegState.Running w in_call) k = cc
+    by_state (LegState.Ended result tolerated) k = cc
 
 -- what comes of a step names nobody
 begun : (l : ℕ) (at : LegAt) (step : StepPlan) (decision : Result (Option StepCall) ValueFault) → NameTheSame (causes.begun l at step decision ∷ []) moved
@@ -247,36 +222,36 @@ begins b new worker l (Some at) reply h = by_beginning (beginning worker l at) h
     by_beginning (Err f) k = cc
 
 ended : (b new : Board) (worker l : ℕ) (a : Answer) (found : Option LegAt) (reply : Reply) → table.end_found b worker a found ≡ Ok (new, reply)
-    → NameTheSame (change.Step l (causes.answered a) ∷ []) reply
+    → NameTheSame (Change.Step l (causes.answered a) ∷ []) reply
 unfolding reply_of
 ended b new worker l a None reply h = cc
 ended b new worker l a (Some at) reply h = by_ending (table.ending worker at a) h
   where
-    by_ending : (done : Result DoneStep EventFault) → table.end_leg b worker at done ≡ Ok (new, reply) → NameTheSame (change.Step l (causes.answered a) ∷ []) reply
+    by_ending : (done : Result DoneStep EventFault) → table.end_leg b worker at done ≡ Ok (new, reply) → NameTheSame (Change.Step l (causes.answered a) ∷ []) reply
     by_ending (Ok done) k = of_reply _ _ new reply k (record { admitted = refl; displaced = refl; stopped = refl })
     by_ending (Err f) k = cc
 
 cancelled : (b new : Board) (r : ℕ) (found : Option RunAt) (reply : Reply) → table.cancel_found b r found ≡ Ok (new, reply)
-    → NameTheSame (change.Stop (member.Run r) teller.Cancel ∷ []) reply
+    → NameTheSame (Change.Stop (Member.Run r) Teller.Cancel ∷ []) reply
 unfolding reply_of cancel_if
 cancelled b new r None reply h = cc
 cancelled b new r (Some at) reply h = guarded (is_closed at.run.state || at.run.stop) h
   where
     guarded : (over : Bool) → cancel_if b r over ≡ Ok (new, reply)
-        → NameTheSame (change.Stop (member.Run r) teller.Cancel ∷ []) reply
+        → NameTheSame (Change.Stop (Member.Run r) Teller.Cancel ∷ []) reply
     guarded true k = cc
     guarded false k = of_reply _ _ new reply k (record { admitted = refl; displaced = refl; stopped = refl })
 
 -- ---- the table
 
 pub changes_name_whom_the_row_names : ChangesNameWhomTheRowNames
-changes_name_whom_the_row_names p b new worker (event.Open r) reply h = opened b new r (run_at p b r) reply h
-changes_name_whom_the_row_names p b new worker (event.Judge j) reply h = judged b new j (job_at p b j) reply h
-changes_name_whom_the_row_names p b new worker (event.Ask l) reply h = asked b new l (leg_at p b l) reply h
-changes_name_whom_the_row_names p b new worker (event.Drop l) reply h = dropped b new l (leg_at p b l) reply h
-changes_name_whom_the_row_names p b new worker (event.Take l) reply h = taken b new worker l (leg_at p b l) reply h
-changes_name_whom_the_row_names p b new worker (event.Begin l) reply h = begins b new worker l (leg_at p b l) reply h
-changes_name_whom_the_row_names p b new worker (event.End l a) reply h = ended b new worker l a (leg_at p b l) reply h
-changes_name_whom_the_row_names p b new worker (event.Finish l) reply h = finished b new worker l (leg_at p b l) reply h
-changes_name_whom_the_row_names p b new worker (event.Close r) reply h = closed b new r (run_at p b r) reply h
-changes_name_whom_the_row_names p b new worker (event.Cancel r) reply h = cancelled b new r (run_at p b r) reply h
+changes_name_whom_the_row_names p b new worker (Event.Open r) reply h = opened b new r (run_at p b r) reply h
+changes_name_whom_the_row_names p b new worker (Event.Judge j) reply h = judged b new j (job_at p b j) reply h
+changes_name_whom_the_row_names p b new worker (Event.Ask l) reply h = asked b new l (leg_at p b l) reply h
+changes_name_whom_the_row_names p b new worker (Event.Drop l) reply h = dropped b new l (leg_at p b l) reply h
+changes_name_whom_the_row_names p b new worker (Event.Take l) reply h = taken b new worker l (leg_at p b l) reply h
+changes_name_whom_the_row_names p b new worker (Event.Begin l) reply h = begins b new worker l (leg_at p b l) reply h
+changes_name_whom_the_row_names p b new worker (Event.End l a) reply h = ended b new worker l a (leg_at p b l) reply h
+changes_name_whom_the_row_names p b new worker (Event.Finish l) reply h = finished b new worker l (leg_at p b l) reply h
+changes_name_whom_the_row_names p b new worker (Event.Close r) reply h = closed b new r (run_at p b r) reply h
+changes_name_whom_the_row_names p b new worker (Event.Cancel r) reply h = cancelled b new r (run_at p b r) reply h

@@ -1,17 +1,10 @@
 -- What a record leaves: the board after its entries, and what is noted of all that its plan has.
 use Rattle.std.specs.Prelude.{◌≡◌, ℕ, suc, false, List, [], ◌∷◌, Option, Some, None, Result, Ok, Err}
+use Rattle.status_table.specs.Words.{Board, Entry, Plan, Play, Refuses, Row, StopsAt, is_memory, new_board, row}
 use Rattle.why_facts.specs.Notes.{all_noted, new_notes}
 use Rattle.why_facts.specs.declared.notes.Notes.{Notes}
 use Rattle.why_notes.specs.Changes.{changes}
 use Rattle.why_notes.specs.declared.account.SeenAccount.{SeenAccount}
-use Rattle.flow_model.specs.declared.board.Board.{Board}
-use Rattle.flow_model.specs.declared.event.Entry.{Entry}
-use Rattle.flow_model.specs.declared.plan.Plan.{Plan}
-use Rattle.status_table.specs.Answers.{Refuses}
-use Rattle.status_table.specs.Fault.{is_memory}
-use Rattle.status_table.specs.Play.{Play}
-use Rattle.status_table.specs.Row.{Row, row}
-use Rattle.status_table.specs.Runs.{StopsAt, new_board}
 use Rattle.status_table.specs.declared.fault.EventFault.{EventFault}
 
 -- a plan with a board of it, and what is noted

@@ -1,81 +1,55 @@
 -- What an accepted entry makes so, and by what: each case names who and what the row of its event looks at, by the
 -- definitions with which the row decides.
 use Rattle.std.specs.Prelude.{ℕ, Bool, true, false, List, [], ◌∷◌, Option, Some, None, Result, Ok, Err, if◌then◌else◌}
-use Rattle.board_decisions.specs.Decisions.{job_condition, is_stopping, leg_result, leg_status, step_decision, run_entrance, leg_entrance}
-use Rattle.board_decisions.specs.Derived.{is_failure, job_status, run_result}
-use Rattle.board_decisions.specs.Place.{RunAt, JobAt, LegAt, run_at, job_at, leg_at}
-use Rattle.board_decisions.specs.declared.entrance.Entrance.{Entrance}
+use Rattle.status_table.specs.Words.{Answer, Board, Entrance, Event, JobAt, LegAt, Member, Outcome, Plan, Run, RunAt, RunState, Status, StepCall, StepPlan, ValueFault, first_of, first_place, holder, is_failure, is_own, is_stopping, job_at, job_condition, job_status, leg_at, leg_entrance, leg_result, leg_standing, leg_status, next_after, next_step, run_at, run_entrance, run_result, run_standing, step_decision, waiter}
 use Rattle.why_facts.specs.Queues.{queues}
 use Rattle.why_facts.specs.Stops.{cause_of_stop}
 use Rattle.why_facts.specs.declared.fact.Change.{Change}
-use Rattle.why_facts.specs.declared.fact.Change.TheVariants as change
 use Rattle.why_facts.specs.declared.fact.JobFact.{JobFact}
-use Rattle.why_facts.specs.declared.fact.JobFact.TheVariants as job_fact
 use Rattle.why_facts.specs.declared.fact.MemberFact.{MemberFact}
-use Rattle.why_facts.specs.declared.fact.MemberFact.TheVariants as member_fact
 use Rattle.why_facts.specs.declared.fact.StepFact.{StepFact}
-use Rattle.why_facts.specs.declared.fact.StepFact.TheVariants as step_fact
-use Rattle.why_facts.specs.declared.fact.Teller.TheVariants as teller
+use Rattle.why_facts.specs.declared.fact.Teller.{Teller}
 use Rattle.why_notes.specs.Conditions.{faulted_text, waits_in_vain}
-use Rattle.expr_value.specs.declared.status.Status.{Status}
-use Rattle.flow_model.specs.declared.board.Board.{Board}
-use Rattle.flow_model.specs.declared.board.Run.{Run}
-use Rattle.flow_model.specs.declared.board.RunState.{RunState}
-use Rattle.flow_model.specs.declared.board.RunState.TheVariants as run_state
-use Rattle.flow_model.specs.declared.event.Answer.{Answer}
-use Rattle.flow_model.specs.declared.event.Answer.TheVariants as answer
-use Rattle.flow_model.specs.declared.event.Event.{Event}
-use Rattle.flow_model.specs.declared.event.Event.TheVariants as event
-use Rattle.flow_model.specs.declared.event.Member.{Member}
-use Rattle.flow_model.specs.declared.event.Member.TheVariants as member
-use Rattle.flow_model.specs.declared.event.Outcome.{Outcome}
-use Rattle.flow_model.specs.declared.event.Outcome.TheVariants as outcome
-use Rattle.flow_model.specs.declared.plan.Plan.{Plan}
-use Rattle.flow_model.specs.declared.plan.StepPlan.{StepPlan}
-use Rattle.flow_model.specs.declared.reply.StepCall.{StepCall}
-use Rattle.flow_model.specs.declared.reply.ValueFault.{ValueFault}
-use Rattle.status_table.specs.Groups.{first_place, holder, is_own, leg_standing, next_after, run_standing, waiter}
-use Rattle.status_table.specs.Row.{first_of, next_step}
 
 -- ---- Open and Ask: a member enters its group
 
 -- what a member makes so that enters a group, by who holds its name and who waits for it
 abbrev pub enters_held : Member → Option ℕ → Entrance → Option Member → Option Member → List Change
-enters_held m own group None waited = change.Member m member_fact.Admitted ∷ []
+enters_held m own group None waited = Change.Member m MemberFact.Admitted ∷ []
 enters_held m own group (Some holds) waited =
-    if is_own own holds then change.Member m member_fact.OwnRun ∷ [] else queues m group holds waited
+    if is_own own holds then Change.Member m MemberFact.OwnRun ∷ [] else queues m group holds waited
 
 -- what a member makes so that enters a group, or none
 abbrev pub enters : Board → Member → Option ℕ → Option Entrance → List Change
-enters b m own None = change.Member m member_fact.Admitted ∷ []
+enters b m own None = Change.Member m MemberFact.Admitted ∷ []
 enters b m own (Some group) = enters_held m own group (holder b group.name) (waiter b group.name)
 
 -- what a member makes so that enters a group whose text may have no value
 abbrev pub enters_by : Board → Member → Option ℕ → Result (Option Entrance) ValueFault → List Change
 enters_by b m own (Ok group) = enters b m own group
-enters_by b m own (Err fault) = change.Member m (member_fact.NoGroup fault) ∷ []
+enters_by b m own (Err fault) = Change.Member m (MemberFact.NoGroup fault) ∷ []
 
 abbrev pub opens : Board → ℕ → Option RunAt → List Change
 opens b r None = []
-opens b r (Some at) = enters_by b (member.Run r) None (run_entrance at)
+opens b r (Some at) = enters_by b (Member.Run r) None (run_entrance at)
 
 abbrev pub asks : Board → ℕ → Option LegAt → List Change
 asks b l None = []
-asks b l (Some at) = enters_by b (member.Leg l) (Some at.place.run) (leg_entrance at)
+asks b l (Some at) = enters_by b (Member.Leg l) (Some at.place.run) (leg_entrance at)
 
 -- ---- Judge
 
 -- why a job was not opened, by whether its run was told to stop, and whether it waits in vain for success
 abbrev pub unopened : Bool → Bool → JobFact
-unopened true vain = job_fact.RunStopped
-unopened false true = job_fact.Unsuccessful
-unopened false false = job_fact.Untrue
+unopened true vain = JobFact.RunStopped
+unopened false true = JobFact.Unsuccessful
+unopened false false = JobFact.Untrue
 
 -- what becomes of a job by the value of its condition
 abbrev pub judged : Bool → Bool → Result Bool ValueFault → JobFact
-judged stop vain (Ok true) = job_fact.Opened
+judged stop vain (Ok true) = JobFact.Opened
 judged stop vain (Ok false) = unopened stop vain
-judged stop vain (Err fault) = job_fact.Faulted fault
+judged stop vain (Err fault) = JobFact.Faulted fault
 
 -- what becomes of a job under a status
 abbrev pub judged_under : JobAt → Status → JobFact
@@ -83,70 +57,70 @@ judged_under at status = judged at.run.stop (waits_in_vain at.plan.condition sta
 
 abbrev pub judges : ℕ → Option JobAt → List Change
 judges j None = []
-judges j (Some at) = change.Job j (judged_under at (job_status (first_of j at) at)) ∷ []
+judges j (Some at) = Change.Job j (judged_under at (job_status (first_of j at) at)) ∷ []
 
 -- ---- Drop, Take, Finish and Close: what a member held passes to who waits for it
 
 -- who waited goes on, since a member left
 abbrev pub passes : Member → Option Member → List Change
 passes m None = []
-passes m (Some next) = change.Member next (member_fact.Follows m) ∷ []
+passes m (Some next) = Change.Member next (MemberFact.Follows m) ∷ []
 
 abbrev pub drops : Board → ℕ → Option LegAt → List Change
 drops b l None = []
 drops b l (Some at) =
-    change.Member (member.Leg l) (member_fact.Stopped (cause_of_stop l at))
-    ∷ passes (member.Leg l) (next_after b (leg_standing at.leg))
+    Change.Member (Member.Leg l) (MemberFact.Stopped (cause_of_stop l at))
+    ∷ passes (Member.Leg l) (next_after b (leg_standing at.leg))
 
 -- how a leg ends whose steps are done, by whether it is to stop
 abbrev pub finished : Bool → ℕ → LegAt → MemberFact
-finished true l at = member_fact.Stopped (cause_of_stop l at)
-finished false l at = member_fact.Finished (leg_result at)
+finished true l at = MemberFact.Stopped (cause_of_stop l at)
+finished false l at = MemberFact.Finished (leg_result at)
 
 abbrev pub finishes : Board → ℕ → Option LegAt → List Change
 finishes b l None = []
 finishes b l (Some at) =
-    change.Member (member.Leg l) (finished (is_stopping at) l at)
-    ∷ passes (member.Leg l) (next_after b (leg_standing at.leg))
+    Change.Member (Member.Leg l) (finished (is_stopping at) l at)
+    ∷ passes (Member.Leg l) (next_after b (leg_standing at.leg))
 
 -- the result with which a run is closed: before it was Going it is cancelled
 abbrev pub closing : RunState → Run → Outcome
-closing run_state.New run = outcome.Cancelled
-closing run_state.Waiting run = outcome.Cancelled
-closing run_state.Going run = run_result run
-closing (run_state.Closed result) run = result
+closing RunState.New run = Outcome.Cancelled
+closing RunState.Waiting run = Outcome.Cancelled
+closing RunState.Going run = run_result run
+closing (RunState.Closed result) run = result
 
 abbrev pub closes : Board → ℕ → Option RunAt → List Change
 closes b r None = []
 closes b r (Some at) =
-    change.Member (member.Run r) (member_fact.Closed (closing at.run.state at.run))
-    ∷ passes (member.Run r) (next_after b (run_standing at.run))
+    Change.Member (Member.Run r) (MemberFact.Closed (closing at.run.state at.run))
+    ∷ passes (Member.Run r) (next_after b (run_standing at.run))
 
 -- ---- Begin and End
 
 -- the place of the first step that counts as a failure, if there is one
 abbrev pub after_failure : Option ℕ → StepFact
-after_failure None = step_fact.Untrue
-after_failure (Some k) = step_fact.AfterFailure k
+after_failure None = StepFact.Untrue
+after_failure (Some k) = StepFact.AfterFailure k
 
 -- why a step is skipped that waits in vain for success, by whether its leg is to stop
 abbrev pub skipped_in_vain : Bool → ℕ → LegAt → StepFact
-skipped_in_vain true l at = step_fact.Stopping (cause_of_stop l at)
+skipped_in_vain true l at = StepFact.Stopping (cause_of_stop l at)
 skipped_in_vain false l at = after_failure (first_place 0 (λ step. is_failure step.conclusion) at.leg.steps)
 
 -- why a step is skipped, by whether it waits in vain
 abbrev pub skipped_by : Bool → ℕ → LegAt → StepFact
 skipped_by true l at = skipped_in_vain (is_stopping at) l at
-skipped_by false l at = step_fact.Untrue
+skipped_by false l at = StepFact.Untrue
 
 abbrev pub skipped : ℕ → LegAt → StepPlan → StepFact
 skipped l at step = skipped_by (waits_in_vain step.condition (leg_status at)) l at
 
 -- what comes of a step by what is decided of it
 abbrev pub begun : ℕ → LegAt → StepPlan → Result (Option StepCall) ValueFault → Change
-begun l at step (Ok (Some call)) = change.Called l
-begun l at step (Ok None) = change.Step l (skipped l at step)
-begun l at step (Err fault) = change.Step l (step_fact.Faulted (faulted_text at step) fault)
+begun l at step (Ok (Some call)) = Change.Called l
+begun l at step (Ok None) = Change.Step l (skipped l at step)
+begun l at step (Err fault) = Change.Step l (StepFact.Faulted (faulted_text at step) fault)
 
 abbrev pub begins_step : ℕ → LegAt → Option StepPlan → List Change
 begins_step l at None = []
@@ -158,22 +132,22 @@ begins l (Some at) = begins_step l at (next_step at)
 
 -- how an answer ends a step
 abbrev pub answered : Answer → StepFact
-answered (answer.Exit code outputs env) = step_fact.Exited code
-answered answer.NotStarted = step_fact.NotStarted
-answered answer.BadOutput = step_fact.BadOutput
+answered (Answer.Exit code outputs env) = StepFact.Exited code
+answered Answer.NotStarted = StepFact.NotStarted
+answered Answer.BadOutput = StepFact.BadOutput
 
 -- ---- the table
 
 -- What an event makes so on a board, where it is accepted: of its own subject first, then of who was displaced, who
 -- was told to stop, and who goes on in its place.
 abbrev pub changes : Plan → Board → Event → List Change
-changes p b (event.Open r) = opens b r (run_at p b r)
-changes p b (event.Judge j) = judges j (job_at p b j)
-changes p b (event.Ask l) = asks b l (leg_at p b l)
-changes p b (event.Drop l) = drops b l (leg_at p b l)
-changes p b (event.Take l) = change.Member (member.Leg l) member_fact.Taken ∷ []
-changes p b (event.Begin l) = begins l (leg_at p b l)
-changes p b (event.End l a) = change.Step l (answered a) ∷ []
-changes p b (event.Finish l) = finishes b l (leg_at p b l)
-changes p b (event.Close r) = closes b r (run_at p b r)
-changes p b (event.Cancel r) = change.Stop (member.Run r) teller.Cancel ∷ []
+changes p b (Event.Open r) = opens b r (run_at p b r)
+changes p b (Event.Judge j) = judges j (job_at p b j)
+changes p b (Event.Ask l) = asks b l (leg_at p b l)
+changes p b (Event.Drop l) = drops b l (leg_at p b l)
+changes p b (Event.Take l) = Change.Member (Member.Leg l) MemberFact.Taken ∷ []
+changes p b (Event.Begin l) = begins l (leg_at p b l)
+changes p b (Event.End l a) = Change.Step l (answered a) ∷ []
+changes p b (Event.Finish l) = finishes b l (leg_at p b l)
+changes p b (Event.Close r) = closes b r (run_at p b r)
+changes p b (Event.Cancel r) = Change.Stop (Member.Run r) Teller.Cancel ∷ []

@@ -1,19 +1,8 @@
 -- Whether a condition waits for success, and which text of a step has no value.
 use Rattle.std.specs.Prelude.{ℕ, ◌&&◌, Bool, true, false, not, List, Option, Some, None, Result, Ok, Err}
-use Rattle.board_decisions.specs.Decisions.{flow_env, job_env_over, leg_status, seen_from, set_over, then_value}
-use Rattle.board_decisions.specs.Place.{LegAt}
+use Rattle.status_table.specs.Words.{Env, LegAt, Piece, Status, StepPlan, TextPlace, ValueFault, condition_read, condition_value, env_value, flow_env, job_env_over, laid_over, leg_status, names_status, seen_from, set_over, then_value}
 use Rattle.why_facts.specs.declared.fact.StepText.{StepText}
-use Rattle.why_facts.specs.declared.fact.StepText.TheVariants as step_text
-use Rattle.expr_reader.specs.Accepts.{condition_read}
-use Rattle.expr_reader.specs.Template.{Piece, names_status}
 use Rattle.expr_value.specs.Functions.{is_success}
-use Rattle.expr_value.specs.declared.status.Status.{Status}
-use Rattle.flow_model.specs.declared.plan.StepPlan.{StepPlan}
-use Rattle.flow_model.specs.declared.reply.ValueFault.{ValueFault}
-use Rattle.plan_values.specs.Env.{env_value, laid_over}
-use Rattle.plan_values.specs.Texts.{condition_value}
-use Rattle.plan_values.specs.Values.{Env}
-use Rattle.plan_values.specs.declared.place.TextPlace.TheVariants as place
 
 -- a condition that was read names no status function; what is no condition does not wait
 abbrev pub read_waits : Option (List Piece) → Bool
@@ -36,28 +25,28 @@ waits_in_vain condition status = waits_for_success condition && not (is_success 
 -- the variables of a step over those below them
 abbrev pub step_env_over : LegAt → StepPlan → Env → Result Env ValueFault
 step_env_over at step below =
-    then_value (env_value (seen_from at place.StepEnv below) step.env) (λ above. Ok (laid_over above below))
+    then_value (env_value (seen_from at TextPlace.StepEnv below) step.env) (λ above. Ok (laid_over above below))
 
 -- by what the condition comes to
 abbrev pub text_after_condition : Result Bool ValueFault → StepText
-text_after_condition (Ok holds) = step_text.Work
-text_after_condition (Err fault) = step_text.Condition
+text_after_condition (Ok holds) = StepText.Work
+text_after_condition (Err fault) = StepText.Condition
 
 -- by the variables of the step
 abbrev pub text_after_step : LegAt → StepPlan → Result Env ValueFault → StepText
 text_after_step at step (Ok env) =
-    text_after_condition (condition_value (seen_from at place.StepCondition env) (leg_status at) step.condition)
-text_after_step at step (Err fault) = step_text.StepEnv
+    text_after_condition (condition_value (seen_from at TextPlace.StepCondition env) (leg_status at) step.condition)
+text_after_step at step (Err fault) = StepText.StepEnv
 
 -- by the variables of the workflow and the job
 abbrev pub text_after_job : LegAt → StepPlan → Result Env ValueFault → StepText
 text_after_job at step (Ok env) = text_after_step at step (step_env_over at step (set_over at.leg.steps env))
-text_after_job at step (Err fault) = step_text.JobEnv
+text_after_job at step (Err fault) = StepText.JobEnv
 
 -- by the variables of the workflow
 abbrev pub text_after_flow : LegAt → StepPlan → Result Env ValueFault → StepText
 text_after_flow at step (Ok env) = text_after_job at step (job_env_over at env)
-text_after_flow at step (Err fault) = step_text.FlowEnv
+text_after_flow at step (Err fault) = StepText.FlowEnv
 
 -- the first text of a step that has no value, where one of them has none
 abbrev pub faulted_text : LegAt → StepPlan → StepText

@@ -1,10 +1,6 @@
 -- Whether two calls are one can be told.
 use Rattle.std.proofs.Common.{◌≡◌, ◌≢◌, ◌==◌, ◌⊎◌, arith, Bool, true, false, inl, inr, ℕ, List, [], ◌∷◌, Option, Some, None, zero, suc, refl, ap, sym, ◌∙◌}
-use Rattle.flow_model.specs.declared.plan.Shell.{Shell}
-use Rattle.flow_model.specs.declared.plan.Shell.TheVariants as shell
-use Rattle.flow_model.specs.declared.reply.CallWork.{CallWork}
-use Rattle.flow_model.specs.declared.reply.CallWork.TheVariants as work
-use Rattle.flow_model.specs.declared.reply.StepCall.{StepCall}
+use Rattle.status_table.specs.Words.{CallWork, Shell, StepCall}
 
 -- two things are one, or they are not
 abbrev tuple : {A B : Type 0} → A → B → A × B
@@ -77,19 +73,19 @@ folders (Some x) (Some y) = both x y x y (Some x) (Some y) made back back (lists
     back e = cc
 
 abbrev shell_number : Shell → ℕ
-shell_number shell.Default = 0
-shell_number shell.Sh = 1
-shell_number shell.Bash = 2
+shell_number Shell.Default = 0
+shell_number Shell.Sh = 1
+shell_number Shell.Bash = 2
 
 abbrev shell_of : ℕ → Shell
-shell_of zero = shell.Default
-shell_of (suc zero) = shell.Sh
-shell_of (suc (suc n)) = shell.Bash
+shell_of zero = Shell.Default
+shell_of (suc zero) = Shell.Sh
+shell_of (suc (suc n)) = Shell.Bash
 
 shell_is : (s : Shell) → shell_of (shell_number s) ≡ s
-shell_is shell.Default = refl
-shell_is shell.Sh = refl
-shell_is shell.Bash = refl
+shell_is Shell.Default = refl
+shell_is Shell.Sh = refl
+shell_is Shell.Bash = refl
 
 shells : (x y : Shell) → Told x y
 shells x y = by (numbers (shell_number x) (shell_number y))
@@ -99,41 +95,41 @@ shells x y = by (numbers (shell_number x) (shell_number y))
     by (inr differs) = inr (λ e. differs (ap shell_number e))
 
 works : (x y : CallWork) → Told x y
-works (work.Script t s d) (work.Script t' s' d') =
-    both t t' (tuple s d) (tuple s' d') (work.Script t s d) (work.Script t' s' d') made first second (lists numbers t t')
+works (CallWork.Script t s d) (CallWork.Script t' s' d') =
+    both t t' (tuple s d) (tuple s' d') (CallWork.Script t s d) (CallWork.Script t' s' d') made first second (lists numbers t t')
     (both s s' d d' (tuple s d) (tuple s' d') paired (λ e. ap (λ (p : Shell × Option (List ℕ)). p.0) e) (λ e. ap (λ (p : Shell × Option (List ℕ)). p.1) e)
     (shells s s') (folders d d'))
   where
     paired : s ≡ s' → d ≡ d' → (tuple s d) ≡ (tuple s' d')
     paired h k = cc
 
-    made : t ≡ t' → (tuple s d) ≡ (tuple s' d') → work.Script t s d ≡ work.Script t' s' d'
+    made : t ≡ t' → (tuple s d) ≡ (tuple s' d') → CallWork.Script t s d ≡ CallWork.Script t' s' d'
     made h k =
-        ap (λ (a : List ℕ). work.Script a s d) h ∙ ap (λ (p : Shell × Option (List ℕ)). work.Script t' p.0 p.1) k
+        ap (λ (a : List ℕ). CallWork.Script a s d) h ∙ ap (λ (p : Shell × Option (List ℕ)). CallWork.Script t' p.0 p.1) k
 
-    first : work.Script t s d ≡ work.Script t' s' d' → t ≡ t'
+    first : CallWork.Script t s d ≡ CallWork.Script t' s' d' → t ≡ t'
     first e = cc
 
-    second : work.Script t s d ≡ work.Script t' s' d' → (tuple s d) ≡ (tuple s' d')
+    second : CallWork.Script t s d ≡ CallWork.Script t' s' d' → (tuple s d) ≡ (tuple s' d')
     second e = cc
-works (work.Script t s d) (work.Uses u g) = inr differs
+works (CallWork.Script t s d) (CallWork.Uses u g) = inr differs
   where
-    differs : work.Script t s d ≡ work.Uses u g → ⊥
+    differs : CallWork.Script t s d ≡ CallWork.Uses u g → ⊥
     differs e = cc
-works (work.Uses u g) (work.Script t s d) = inr differs
+works (CallWork.Uses u g) (CallWork.Script t s d) = inr differs
   where
-    differs : work.Uses u g ≡ work.Script t s d → ⊥
+    differs : CallWork.Uses u g ≡ CallWork.Script t s d → ⊥
     differs e = cc
-works (work.Uses u g) (work.Uses u' g') =
-    both u u' g g' (work.Uses u g) (work.Uses u' g') made first second (lists numbers u u') (lists pairs g g')
+works (CallWork.Uses u g) (CallWork.Uses u' g') =
+    both u u' g g' (CallWork.Uses u g) (CallWork.Uses u' g') made first second (lists numbers u u') (lists pairs g g')
   where
-    made : u ≡ u' → g ≡ g' → work.Uses u g ≡ work.Uses u' g'
+    made : u ≡ u' → g ≡ g' → CallWork.Uses u g ≡ CallWork.Uses u' g'
     made h k = cc
 
-    first : work.Uses u g ≡ work.Uses u' g' → u ≡ u'
+    first : CallWork.Uses u g ≡ CallWork.Uses u' g' → u ≡ u'
     first e = cc
 
-    second : work.Uses u g ≡ work.Uses u' g' → g ≡ g'
+    second : CallWork.Uses u g ≡ CallWork.Uses u' g' → g ≡ g'
     second e = cc
 
 -- a call, as pairs

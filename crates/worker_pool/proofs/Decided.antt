@@ -2,19 +2,11 @@
 use Rattle.std.proofs.Common.{◌≡◌, ◌⊎◌, inl, inr, ℕ, zero, suc, ◌<◌, arith, ◌==◌, Bool, true, false, List, take, length, Option, Some, None, slice_get, refl, ap, subst, sym, ◌∙◌}
 use Rattle.std.proofs.lemmas.Bool.{true≢false}
 use Rattle.std.proofs.lemmas.Option.{slice_get_within}
-use Rattle.flow_model.specs.declared.event.Answer.{Answer}
-use Rattle.flow_model.specs.declared.event.Entry.{Entry}
-use Rattle.flow_model.specs.declared.event.Event.{Event}
-use Rattle.flow_model.specs.declared.event.Event.TheVariants as event
-use Rattle.flow_model.specs.declared.plan.Plan.{Plan}
-use Rattle.flow_model.specs.declared.reply.StepCall.{StepCall}
+use Rattle.status_table.specs.Words.{Answer, Entry, Event, Plan, StepCall, after, finished, open_call}
 use Rattle.board_decisions.proofs.Lists.{no_some, same_some}
 use Rattle.board_settled.specs.Agrees.{FinishesAsSettled, OnlyEndsDiffer}
 use Rattle.board_settled.specs.Histories.{IsAnswered}
 use Rattle.board_settled.specs.Settled.{Answers}
-use Rattle.status_table.specs.Calls.{open_call}
-use Rattle.status_table.specs.Moves.{finished}
-use Rattle.status_table.specs.Runs.{after}
 use Rattle.step_host.specs.Lawful.{IsAdmitted, EndsAdmitted, Lawful}
 use Rattle.worker_pool.specs.Alone.{EndsAlone, EndsSo}
 use Rattle.worker_pool.specs.Entries.{AdmitsOne}
@@ -40,16 +32,16 @@ closes None a call = None
 closes (Some there) a call = if_one (calls there call) a
 
 abbrev gives : (ℕ → Option StepCall) → Event → StepCall → Option Answer
-gives made (event.Open r) call = None
-gives made (event.Judge j) call = None
-gives made (event.Ask l) call = None
-gives made (event.Drop l) call = None
-gives made (event.Take l) call = None
-gives made (event.Begin l) call = None
-gives made (event.End l a) call = closes (made l) a call
-gives made (event.Finish l) call = None
-gives made (event.Close r) call = None
-gives made (event.Cancel r) call = None
+gives made (Event.Open r) call = None
+gives made (Event.Judge j) call = None
+gives made (Event.Ask l) call = None
+gives made (Event.Drop l) call = None
+gives made (Event.Take l) call = None
+gives made (Event.Begin l) call = None
+gives made (Event.End l a) call = closes (made l) a call
+gives made (Event.Finish l) call = None
+gives made (Event.Close r) call = None
+gives made (Event.Cancel r) call = None
 
 abbrev if_there : (ℕ → Option StepCall) → Option Entry → StepCall → Option Answer
 if_there made None call = None
@@ -84,16 +76,16 @@ closes-admitted admits (Some there) a call h = by (calls there call)
 
 gives-admitted : (admits : StepCall → Answer → Type 0) (made : ℕ → Option StepCall) (e : Event) (call : StepCall) → EndsAdmitted admits made e
     → Admitted admits call (gives made e call)
-gives-admitted admits made (event.Open r) call h = none-admitted admits call
-gives-admitted admits made (event.Judge j) call h = none-admitted admits call
-gives-admitted admits made (event.Ask l) call h = none-admitted admits call
-gives-admitted admits made (event.Drop l) call h = none-admitted admits call
-gives-admitted admits made (event.Take l) call h = none-admitted admits call
-gives-admitted admits made (event.Begin l) call h = none-admitted admits call
-gives-admitted admits made (event.End l a) call h = closes-admitted admits (made l) a call h
-gives-admitted admits made (event.Finish l) call h = none-admitted admits call
-gives-admitted admits made (event.Close r) call h = none-admitted admits call
-gives-admitted admits made (event.Cancel r) call h = none-admitted admits call
+gives-admitted admits made (Event.Open r) call h = none-admitted admits call
+gives-admitted admits made (Event.Judge j) call h = none-admitted admits call
+gives-admitted admits made (Event.Ask l) call h = none-admitted admits call
+gives-admitted admits made (Event.Drop l) call h = none-admitted admits call
+gives-admitted admits made (Event.Take l) call h = none-admitted admits call
+gives-admitted admits made (Event.Begin l) call h = none-admitted admits call
+gives-admitted admits made (Event.End l a) call h = closes-admitted admits (made l) a call h
+gives-admitted admits made (Event.Finish l) call h = none-admitted admits call
+gives-admitted admits made (Event.Close r) call h = none-admitted admits call
+gives-admitted admits made (Event.Cancel r) call h = none-admitted admits call
 
 at-admitted : (admits : StepCall → Answer → Type 0) (p : Plan) (es : List Entry) → Lawful admits p es → (call : StepCall) (k : ℕ)
     → Admitted admits call (given_at p es call k)
@@ -151,7 +143,7 @@ closes_there call a = by (calls call call)
 
 -- the End at a place gives its call an answer
 end_found : (p : Plan) (es : List Entry) (call : StepCall) (k : ℕ) (e : Entry) (l : ℕ) (a : Answer) → slice_get es k ≡ Some e
-    → e.event ≡ event.End l a → open_call p (take k es) l ≡ Some call → IsThere (given p es call)
+    → e.event ≡ Event.End l a → open_call p (take k es) l ≡ Some call → IsThere (given p es call)
 end_found p es call k e l a at is made =
     found_below p es call (length es) k within
     (subst (λ (o : Option Entry). IsThere (if_there (open_call p (take k es)) o call)) (sym at)
@@ -185,20 +177,20 @@ answered : (admits : StepCall → Answer → Type 0) → AdmitsOne admits → (a
 answered admits one answers admitted p es lawful quiet wider k e at = by e.event refl
   where
     by : (v : Event) → e.event ≡ v → IsAnswered answers (open_call p (take k es)) v
-    by (event.Open r) is = tt
-    by (event.Judge j) is = tt
-    by (event.Ask l) is = tt
-    by (event.Drop l) is = tt
-    by (event.Take l) is = tt
-    by (event.Begin l) is = tt
-    by (event.End l a) is = λ call made.
+    by (Event.Open r) is = tt
+    by (Event.Judge j) is = tt
+    by (Event.Ask l) is = tt
+    by (Event.Drop l) is = tt
+    by (Event.Take l) is = tt
+    by (Event.Begin l) is = tt
+    by (Event.End l a) is = λ call made.
         is_one admits one call a
         (subst (λ (o : Option StepCall). IsAdmitted admits o a) made
         (subst (EndsAdmitted admits (open_call p (take k es))) is (lawful.admitted k e at)))
         (answers call) (wider call (end_found p es call k e l a at is made)) (admitted call)
-    by (event.Finish l) is = tt
-    by (event.Close r) is = tt
-    by (event.Cancel r) is = absurd (true≢false (sym (ap is_cancel is) ∙ quiet k e at))
+    by (Event.Finish l) is = tt
+    by (Event.Close r) is = tt
+    by (Event.Cancel r) is = absurd (true≢false (sym (ap is_cancel is) ∙ quiet k e at))
 
 -- ---- plays
 

@@ -4,13 +4,7 @@ use Rattle.std.specs.List.{position_from}
 use Rattle.std.proofs.lemmas.Bool.{true≢false}
 use Rattle.std.proofs.lemmas.List.{drop_more, length-append}
 use Rattle.std.proofs.lemmas.List.Concat.{flat_map-append}
-use Rattle.flow_model.specs.Numbers.{board_legs}
-use Rattle.flow_model.specs.declared.board.Board.{Board}
-use Rattle.flow_model.specs.declared.board.Run.{Run}
-use Rattle.flow_model.specs.declared.board.Job.{Job}
-use Rattle.flow_model.specs.declared.board.Leg.{Leg}
-use Rattle.flow_model.specs.declared.board.LegState.{LegState}
-use Rattle.flow_model.specs.declared.board.LegState.TheVariants as leg_state
+use Rattle.status_table.specs.Words.{Board, Job, Leg, LegState, Run, board_legs}
 use Rattle.board_decisions.proofs.Lists.{no_some, same_some}
 use Rattle.worker_pool.specs.Alone.{is_admitted, IsLowestAdmitted}
 use Rattle.worker_pool.specs.Lowest.{IsFirstAdmitted}
@@ -143,12 +137,12 @@ none_there n (x ∷ xs) is = by (none_there (n + 1) xs) (is_free x) refl is
     by rest false not_free later zero other at = subst (λ y. is_free y ≡ false) (same_some x other at) not_free
     by rest false not_free later (suc j) other at = rest later j other at
 
-admitted : (state : LegState) → is_admitted state ≡ true → state ≡ leg_state.Admitted
-admitted leg_state.Fresh is = absurd (true≢false (sym is))
-admitted leg_state.Waiting is = absurd (true≢false (sym is))
-admitted leg_state.Admitted is = refl
-admitted (leg_state.Running worker in_call) is = absurd (true≢false (sym is))
-admitted (leg_state.Ended result tolerated) is = absurd (true≢false (sym is))
+admitted : (state : LegState) → is_admitted state ≡ true → state ≡ LegState.Admitted
+admitted LegState.Fresh is = absurd (true≢false (sym is))
+admitted LegState.Waiting is = absurd (true≢false (sym is))
+admitted LegState.Admitted is = refl
+admitted (LegState.Running worker in_call) is = absurd (true≢false (sym is))
+admitted (LegState.Ended result tolerated) is = absurd (true≢false (sym is))
 
 -- the first leg of a board that may be taken is the lowest
 pub lowest_first : (b : Board) (o : Option ℕ) → o ≡ position_from is_free 0 (board_legs b) → IsFirstAdmitted b o

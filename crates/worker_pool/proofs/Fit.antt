@@ -1,7 +1,6 @@
 -- A worker stays fit to play.
 use Rattle.std.proofs.Common.{sym, subst, ◌∙◌, refl}
-use Rattle.flow_model.specs.declared.event.Answer.{Answer}
-use Rattle.flow_model.specs.declared.reply.StepCall.{StepCall}
+use Rattle.status_table.specs.Words.{Answer, StepCall}
 use Rattle.ready_queue.specs.Passes.{TicketQueue}
 use Rattle.worker_pool.specs.Log.{AreAdmitted, answers_of}
 use Rattle.worker_pool.specs.Worker.{IsFit, StaysFit, LogsNoCall}

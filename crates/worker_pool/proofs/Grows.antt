@@ -2,19 +2,10 @@
 use Rattle.std.proofs.Common.{◌≡◌, ℕ, ◌-◌, ◌<◌, ◌≤◌, Bool, true, false, List, [], ◌∷◌, ◌++◌, Some, length, take, slice_get, nat_lt, ap, subst, sym, refl, ◌∙◌, arith}
 use Rattle.std.proofs.lemmas.List.{length-append, take-append-le, take_all}
 use Rattle.std.proofs.lemmas.Option.{slice_get_within}
-use Rattle.board_decisions.proofs.Lists.{get-left}
-use Rattle.flow_model.specs.declared.plan.Plan.{Plan}
-use Rattle.flow_model.specs.declared.board.Board.{Board}
-use Rattle.flow_model.specs.declared.event.Answer.{Answer}
-use Rattle.flow_model.specs.declared.event.Entry.{Entry}
-use Rattle.flow_model.specs.declared.event.Event.{Event}
-use Rattle.flow_model.specs.declared.reply.Reply.{Reply}
-use Rattle.flow_model.specs.declared.reply.StepCall.{StepCall}
-use Rattle.status_table.specs.Runs.{after, new_board}
-use Rattle.board_decisions.proofs.Lists.{get-right, no_some, same_some}
+use Rattle.status_table.specs.Words.{Answer, Board, Entry, Event, Plan, Reply, StepCall, after, new_board, open_call}
+use Rattle.board_decisions.proofs.Lists.{get-left, get-right, no_some, same_some}
 use Rattle.status_table.proofs.RunsLemmas.{after_from-last}
 use Rattle.step_host.specs.Lawful.{EndsAdmitted}
-use Rattle.status_table.specs.Calls.{open_call}
 use Rattle.step_host.proofs.Lawfulness.{none_is_lawful, lawful_grows}
 use Rattle.worker_pool.specs.Alone.{IsNext, PlayedAlone}
 use Rattle.worker_pool.specs.Hand.{Playing}

@@ -1,39 +1,14 @@
 -- One thread's leg, from its Take to its Finish.
 use Rattle.std.proofs.Common.{◌≡◌, ◌≢◌, ℕ, ◌==◌, Bool, true, false, not, [], ◌∷◌, ◌++◌, Option, Some, None, Result, Ok, Err, length, slice_get, nat_lt, if◌then◌else◌, inl, inr, ap, subst, sym, refl, ◌∙◌}
 use Rattle.std.proofs.lemmas.Bool.{cases_eq}
-use Rattle.board_decisions.specs.Decisions.{then_value, is_stopping, leg_status, leg_result, leg_outputs, seen_from, step_env, work_value, called_if, step_decision}
-use Rattle.board_decisions.specs.Place.{LegAt, leg_at}
-use Rattle.flow_model.specs.Numbers.{board_legs}
-use Rattle.flow_model.specs.declared.plan.Plan.{Plan}
-use Rattle.flow_model.specs.declared.plan.StepPlan.{StepPlan}
-use Rattle.flow_model.specs.declared.board.Board.{Board}
-use Rattle.flow_model.specs.declared.board.DoneStep.{DoneStep}
-use Rattle.flow_model.specs.declared.board.Leg.{Leg}
-use Rattle.flow_model.specs.declared.board.LegState.{LegState}
-use Rattle.flow_model.specs.declared.board.LegState.TheVariants as leg_state
-use Rattle.flow_model.specs.declared.event.Answer.{Answer}
-use Rattle.flow_model.specs.declared.event.Event.{Event}
-use Rattle.flow_model.specs.declared.event.Event.TheVariants as event
-use Rattle.flow_model.specs.declared.reply.CallWork.{CallWork}
-use Rattle.flow_model.specs.declared.reply.Reply.{Reply}
-use Rattle.flow_model.specs.declared.reply.StepCall.{StepCall}
-use Rattle.flow_model.specs.declared.reply.ValueFault.{ValueFault}
-use Rattle.flow_model.specs.declared.reply.What.{What}
-use Rattle.flow_model.specs.declared.reply.What.TheVariants as what
+use Rattle.status_table.specs.Words.{Answer, Board, CallWork, DoneStep, Env, Event, Leg, LegAt, LegState, Plan, Reply, StepCall, StepPlan, TextPlace, ValueFault, What, board_legs, called_if, changed, condition_value, is_stopping, leg_at, leg_outputs, leg_result, leg_standing, leg_status, moved, moves, seen_from, step_decision, step_env, then_value, with_leg, work_value}
 use Rattle.status_table.specs.declared.fault.EventFault.{EventFault}
-use Rattle.status_table.specs.declared.fault.EventFault.TheVariants as fault
-use Rattle.status_table.specs.Change.{changed, with_leg}
-use Rattle.status_table.specs.Groups.{leg_standing, moved}
-use Rattle.status_table.specs.Moves.{moves}
 use Rattle.status_table.specs.Row as rows
 use Rattle.status_table.proofs.Decided.{by_test}
 use Rattle.status_table.proofs.Found.{LegStands, leg_stands, leg_item}
 use Rattle.status_table.proofs.Lists.{changed-there, changed-elsewhere}
 use Rattle.board_decisions.proofs.Lists.{same_some}
 use Rattle.status_table.proofs.Numbers.{board_legs-changed}
-use Rattle.plan_values.specs.Texts.{condition_value}
-use Rattle.plan_values.specs.Values.{Env}
-use Rattle.plan_values.specs.declared.place.TextPlace.TheVariants as place
 use Rattle.worker_pool.specs.Alone.{is_running, NobodyRuns}
 use Rattle.worker_pool.specs.Hand.{Holds}
 use Rattle.worker_pool.proofs.Legs.{EachLegThen, of_leaves, clerk_legs}
@@ -62,7 +37,7 @@ still_nobody p b c e told first is nobody =
 abbrev OthersRest : Board → ℕ → Type 0
 OthersRest b l = (k : ℕ) (other : Leg) → k ≢ l → slice_get (board_legs b) k ≡ Some other → is_running other.state ≡ false
 
-held : (p : Plan) (b : Board) (l : ℕ) (at : LegAt) (f : Leg → Leg) (in_call : Bool) → LegStands p b l at → OthersRest b l → (f at.leg).state ≡ leg_state.Running 0 in_call
+held : (p : Plan) (b : Board) (l : ℕ) (at : LegAt) (f : Leg → Leg) (in_call : Bool) → LegStands p b l at → OthersRest b l → (f at.leg).state ≡ LegState.Running 0 in_call
     → Holds (with_leg b at.place f) l in_call
 held p b l at f in_call stands others state =
     let legs = board_legs-changed b l at.place f stands.place in
@@ -75,20 +50,20 @@ held p b l at f in_call stands others state =
 
 -- ---- Take
 
-pub taken : (p : Plan) (b c : Board) (l : ℕ) (told : Reply) → rows.row p b 0 (event.Take l) ≡ Ok (c, told) → NobodyRuns b → Holds c l false
+pub taken : (p : Plan) (b c : Board) (l : ℕ) (told : Reply) → rows.row p b 0 (Event.Take l) ≡ Ok (c, told) → NobodyRuns b → Holds c l false
 taken p b c l told is nobody = accepted P (rows.take_row p b 0 l) c told (found (leg_at p b l) refl) is
   where
     P : Board → Reply → Type 0
     P x r = Holds x l false
 
     by_state : (at : LegAt) → leg_at p b l ≡ Some at → (s : LegState) → IfAccepted (λ x r. Holds x l false) (rows.take_leg b 0 at s)
-    by_state at here leg_state.Fresh = tt
-    by_state at here leg_state.Waiting = tt
-    by_state at here leg_state.Admitted =
-        by_test (IfAccepted (λ x r. Holds x l false)) (is_stopping at) (Err fault.Stopping) (Ok (rows.leg_state_set b at.place (leg_state.Running 0 false), moved)) tt
-        (held p b l at (λ leg. record leg { state = leg_state.Running 0 false }) false (leg_stands p b l at here) (λ k other apart there. nobody k other there) refl)
-    by_state at here (leg_state.Running other in_call) = tt
-    by_state at here (leg_state.Ended result tolerated) = tt
+    by_state at here LegState.Fresh = tt
+    by_state at here LegState.Waiting = tt
+    by_state at here LegState.Admitted =
+        by_test (IfAccepted (λ x r. Holds x l false)) (is_stopping at) (Err EventFault.Stopping) (Ok (rows.leg_state_set b at.place (LegState.Running 0 false), moved)) tt
+        (held p b l at (λ leg. record leg { state = LegState.Running 0 false }) false (leg_stands p b l at here) (λ k other apart there. nobody k other there) refl)
+    by_state at here (LegState.Running other in_call) = tt
+    by_state at here (LegState.Ended result tolerated) = tt
 
     found : (o : Option LegAt) → leg_at p b l ≡ o → IfAccepted (λ x r. Holds x l false) (rows.take_found b 0 o)
     found None here = tt
@@ -112,40 +87,40 @@ decision_is_of l at step = by_env (step_env at step)
     by_work env (Err f) = tt
 
     by_condition : (env : Env) (r : Result Bool ValueFault) → IsOf l (length at.leg.steps) (then_value r (called_if l at step env))
-    by_condition env (Ok true) = by_work env (work_value (seen_from at place.StepText env) step.work)
+    by_condition env (Ok true) = by_work env (work_value (seen_from at TextPlace.StepText env) step.work)
     by_condition env (Ok false) = tt
     by_condition env (Err f) = tt
 
     by_env : (e : Result Env ValueFault)
         → IsOf l (length at.leg.steps)
-        (then_value e (λ env. then_value (condition_value (seen_from at place.StepCondition env) (leg_status at) step.condition) (called_if l at step env)))
-    by_env (Ok env) = by_condition env (condition_value (seen_from at place.StepCondition env) (leg_status at) step.condition)
+        (then_value e (λ env. then_value (condition_value (seen_from at TextPlace.StepCondition env) (leg_status at) step.condition) (called_if l at step env)))
+    by_env (Ok env) = by_condition env (condition_value (seen_from at TextPlace.StepCondition env) (leg_status at) step.condition)
     by_env (Err f) = tt
 
 -- the leg of worker 0 after a Begin, by what was replied
 abbrev pub BegunLeg : ℕ → Board → What → Type 0
-BegunLeg l c what.Moved = Holds c l false
-BegunLeg l c (what.Call call) = (h : Holds c l true) × (call.leg ≡ l) × (call.step ≡ length h.leg.steps)
-BegunLeg l c what.Skipped = Holds c l false
-BegunLeg l c (what.Faulted f) = Holds c l false
+BegunLeg l c What.Moved = Holds c l false
+BegunLeg l c (What.Call call) = (h : Holds c l true) × (call.leg ≡ l) × (call.step ≡ length h.leg.steps)
+BegunLeg l c What.Skipped = Holds c l false
+BegunLeg l c (What.Faulted f) = Holds c l false
 
-pub begun : (p : Plan) (b c : Board) (l : ℕ) (told : Reply) → rows.row p b 0 (event.Begin l) ≡ Ok (c, told) → Holds b l false → BegunLeg l c told.what
+pub begun : (p : Plan) (b c : Board) (l : ℕ) (told : Reply) → rows.row p b 0 (Event.Begin l) ≡ Ok (c, told) → Holds b l false → BegunLeg l c told.what
 unfolding held
 begun p b c l told is holds = accepted (λ x r. BegunLeg l x r.what) (rows.begin_row p b 0 l) c told (found (leg_at p b l) refl) is
   where
     stepped : (at : LegAt) → leg_at p b l ≡ Some at → (done : DoneStep) → Holds (rows.step_done b at.place 0 done) l false
     stepped at here done =
-        held p b l at (λ leg. record leg { state = leg_state.Running 0 false; steps = leg.steps ++ done ∷ [] }) false (leg_stands p b l at here) holds.others refl
+        held p b l at (λ leg. record leg { state = LegState.Running 0 false; steps = leg.steps ++ done ∷ [] }) false (leg_stands p b l at here) holds.others refl
 
     by_decision : (at : LegAt) → leg_at p b l ≡ Some at → (d : Result (Option StepCall) ValueFault) → IsOf l (length at.leg.steps) d
         → IfAccepted (λ x r. BegunLeg l x r.what) (rows.begin_leg b 0 at (Ok (rows.decided d)))
     by_decision at here (Ok None) h = stepped at here rows.skipped_step
     by_decision at here (Ok (Some call)) h =
-        (held p b l at (λ leg. record leg { state = leg_state.Running 0 true }) true (leg_stands p b l at here) holds.others refl, h.0, h.1)
+        (held p b l at (λ leg. record leg { state = LegState.Running 0 true }) true (leg_stands p b l at here) holds.others refl, h.0, h.1)
     by_decision at here (Err f) h = stepped at here (rows.failed_step at)
 
     by_worker : (at : LegAt) → leg_at p b l ≡ Some at → (step : StepPlan) (mine : Bool)
-        → IfAccepted (λ x r. BegunLeg l x r.what) (rows.begin_leg b 0 at (if mine then Ok (rows.decided (step_decision l at step)) else Err fault.OtherWorker))
+        → IfAccepted (λ x r. BegunLeg l x r.what) (rows.begin_leg b 0 at (if mine then Ok (rows.decided (step_decision l at step)) else Err EventFault.OtherWorker))
     by_worker at here step true = by_decision at here (step_decision l at step) (decision_is_of l at step)
     by_worker at here step false = tt
 
@@ -161,12 +136,12 @@ begun p b c l told is holds = accepted (λ x r. BegunLeg l x r.what) (rows.begin
 
 -- ---- End
 
-pub ended : (p : Plan) (b c : Board) (l : ℕ) (a : Answer) (told : Reply) → rows.row p b 0 (event.End l a) ≡ Ok (c, told) → Holds b l true → Holds c l false
+pub ended : (p : Plan) (b c : Board) (l : ℕ) (a : Answer) (told : Reply) → rows.row p b 0 (Event.End l a) ≡ Ok (c, told) → Holds b l true → Holds c l false
 ended p b c l a told is holds = accepted (λ x r. Holds x l false) (rows.end_row p b 0 l a) c told (found (leg_at p b l) refl) is
   where
     by_done : (at : LegAt) → leg_at p b l ≡ Some at → (d : Result DoneStep EventFault) → IfAccepted (λ x r. Holds x l false) (rows.end_leg b 0 at d)
     by_done at here (Ok done) =
-        held p b l at (λ leg. record leg { state = leg_state.Running 0 false; steps = leg.steps ++ done ∷ [] }) false (leg_stands p b l at here) holds.others refl
+        held p b l at (λ leg. record leg { state = LegState.Running 0 false; steps = leg.steps ++ done ∷ [] }) false (leg_stands p b l at here) holds.others refl
     by_done at here (Err f) = tt
 
     found : (o : Option LegAt) → leg_at p b l ≡ o → IfAccepted (λ x r. Holds x l false) (rows.end_found b 0 a o)
@@ -175,7 +150,7 @@ ended p b c l a told is holds = accepted (λ x r. Holds x l false) (rows.end_row
 
 -- ---- Finish
 
-pub finished_leg : (p : Plan) (b c : Board) (l : ℕ) (told : Reply) → rows.row p b 0 (event.Finish l) ≡ Ok (c, told) → Holds b l false → NobodyRuns c
+pub finished_leg : (p : Plan) (b c : Board) (l : ℕ) (told : Reply) → rows.row p b 0 (Event.Finish l) ≡ Ok (c, told) → Holds b l false → NobodyRuns c
 finished_leg p b c l told is holds = accepted (λ x r. NobodyRuns x) (rows.finish_row p b 0 l) c told (found (leg_at p b l) refl) is
   where
     out : (at : LegAt) → leg_at p b l ≡ Some at → (s : LegState) → is_running s ≡ false → NobodyRuns (rows.leg_ended b at.place l s (leg_outputs at))
@@ -197,7 +172,7 @@ finished_leg p b c l told is holds = accepted (λ x r. NobodyRuns x) (rows.finis
         legs = board_legs-changed b l at.place (λ x. record x { state = s; outputs = leg_outputs at }) stands.place
 
     by_left : (at : LegAt) → leg_at p b l ≡ Some at → (left : Bool)
-        → IfAccepted (λ x r. NobodyRuns x) (rows.finish_leg b l at (if left then Err fault.StepsLeft else Ok (rows.ended_state at (leg_result at))))
+        → IfAccepted (λ x r. NobodyRuns x) (rows.finish_leg b l at (if left then Err EventFault.StepsLeft else Ok (rows.ended_state at (leg_result at))))
     by_left at here true = tt
     by_left at here false =
         of_leaves of_nobody (λ k s h. h) b (rows.leg_ended b at.place l (rows.ended_state at (leg_result at)) (leg_outputs at)) (leg_standing at.leg)
@@ -205,7 +180,7 @@ finished_leg p b c l told is holds = accepted (λ x r. NobodyRuns x) (rows.finis
 
     by_worker : (at : LegAt) → leg_at p b l ≡ Some at → (other : Bool)
         → IfAccepted (λ x r. NobodyRuns x)
-        (rows.finish_leg b l at (if other then Err fault.OtherWorker else (if nat_lt (length at.leg.steps) (length at.job_plan.steps) then Err fault.StepsLeft else Ok (rows.ended_state at (leg_result at)))))
+        (rows.finish_leg b l at (if other then Err EventFault.OtherWorker else (if nat_lt (length at.leg.steps) (length at.job_plan.steps) then Err EventFault.StepsLeft else Ok (rows.ended_state at (leg_result at)))))
     by_worker at here true = tt
     by_worker at here false = by_left at here (nat_lt (length at.leg.steps) (length at.job_plan.steps))
 

@@ -5,9 +5,7 @@ use Rattle.std.specs.Option.{option_or}
 use Rattle.std.proofs.Math.Seq.{take-append_seam}
 use Rattle.std.proofs.lemmas.List.{length-map, map-append}
 use Rattle.std.proofs.lemmas.List.Elements.{All-pop, All-push, All-same}
-use Rattle.flow_model.specs.declared.event.Answer.{Answer}
-use Rattle.flow_model.specs.declared.event.Entry.{Entry}
-use Rattle.flow_model.specs.declared.reply.StepCall.{StepCall}
+use Rattle.status_table.specs.Words.{Answer, Entry, StepCall}
 use Rattle.ready_queue.specs.Names.{Name}
 use Rattle.ready_queue.specs.Passes.{TicketQueue, IsPassOf, records_of}
 use Rattle.ready_queue.specs.Records.{DividesNames, KeepsNames, keepers}

@@ -4,28 +4,12 @@ use Rattle.std.specs.List.{list_all}
 use Rattle.std.specs.Str.{bytes_eq}
 use Rattle.std.proofs.lemmas.Bool.{true≢false}
 use Rattle.std.proofs.lemmas.Slice.Eq.{bytes_eq-Decides}
-use Rattle.board_decisions.specs.Derived.{is_going, is_open, is_fresh, is_under_way}
-use Rattle.flow_model.specs.Numbers.{board_legs}
-use Rattle.flow_model.specs.declared.plan.Plan.{Plan}
-use Rattle.flow_model.specs.declared.board.Board.{Board}
-use Rattle.flow_model.specs.declared.board.Run.{Run}
-use Rattle.flow_model.specs.declared.board.RunState.{RunState}
-use Rattle.flow_model.specs.declared.board.RunState.TheVariants as run_state
-use Rattle.flow_model.specs.declared.board.Leg.{Leg}
-use Rattle.flow_model.specs.declared.board.LegState.{LegState}
-use Rattle.flow_model.specs.declared.board.LegState.TheVariants as leg_state
-use Rattle.flow_model.specs.declared.event.Member.{Member}
-use Rattle.flow_model.specs.declared.event.Member.TheVariants as member
-use Rattle.status_table.specs.Groups.{Standing, apart, holding, waiting, run_stands, leg_stands, run_standing, leg_standing, is_named, waits_name, holder}
-use Rattle.status_table.specs.Lawful.{leg_stands_right, Lawful}
-use Rattle.status_table.specs.Members.{OneHolder, waiters, is_waiting, share_name}
-use Rattle.status_table.specs.Moves.{is_active}
+use Rattle.status_table.specs.Words.{Board, Lawful, Leg, LegState, Member, OneHolder, Plan, Run, RunState, Standing, apart, board_legs, holder, holding, is_active, is_fresh, is_going, is_named, is_open, is_under_way, is_waiting, leg_standing, leg_stands, leg_stands_right, run_standing, run_stands, share_name, waiters, waiting, waits_name}
 use Rattle.worker_pool.specs.Stalls.{WaitsForAnotherRun}
-use Rattle.board_decisions.proofs.Lists.{and-right}
+use Rattle.board_decisions.proofs.Lists.{and-right, same_some}
 use Rattle.status_table.proofs.Counts.{counted, map-some}
 use Rattle.status_table.proofs.LegRows.{job-fits}
 use Rattle.status_table.proofs.Lists.{all-get}
-use Rattle.board_decisions.proofs.Lists.{same_some}
 use Rattle.status_table.proofs.Turnover.{no_holder, a_holder, lives}
 
 -- a name is its own
@@ -43,18 +27,18 @@ waits-no-hold group name h = cc
 same-held : (group name : Option (List ℕ)) → holding group ≡ holding name → group ≡ name
 same-held group name h = cc
 
-run-holds : (s : RunState) (group name : Option (List ℕ)) → run_stands s group ≡ holding name → (s ≡ run_state.Going) × (group ≡ name)
-run-holds run_state.New group name h = absurd (no-hold name h)
-run-holds run_state.Waiting group name h = absurd (waits-no-hold group name h)
-run-holds run_state.Going group name h = (refl, same-held group name h)
-run-holds (run_state.Closed result) group name h = absurd (no-hold name h)
+run-holds : (s : RunState) (group name : Option (List ℕ)) → run_stands s group ≡ holding name → (s ≡ RunState.Going) × (group ≡ name)
+run-holds RunState.New group name h = absurd (no-hold name h)
+run-holds RunState.Waiting group name h = absurd (waits-no-hold group name h)
+run-holds RunState.Going group name h = (refl, same-held group name h)
+run-holds (RunState.Closed result) group name h = absurd (no-hold name h)
 
 leg-holds : (s : LegState) (group name : Option (List ℕ)) → leg_stands s group ≡ holding name → is_active s ≡ true
-leg-holds leg_state.Fresh group name h = absurd (no-hold name h)
-leg-holds leg_state.Waiting group name h = absurd (waits-no-hold group name h)
-leg-holds leg_state.Admitted group name h = refl
-leg-holds (leg_state.Running worker in_call) group name h = refl
-leg-holds (leg_state.Ended result tolerated) group name h = absurd (no-hold name h)
+leg-holds LegState.Fresh group name h = absurd (no-hold name h)
+leg-holds LegState.Waiting group name h = absurd (waits-no-hold group name h)
+leg-holds LegState.Admitted group name h = refl
+leg-holds (LegState.Running worker in_call) group name h = refl
+leg-holds (LegState.Ended result tolerated) group name h = absurd (no-hold name h)
 
 -- no leg has a worker, or may be taken by one
 abbrev pub IsQuiet : Board → Type 0
@@ -65,7 +49,7 @@ pub record HoldingRun (b : Board) (name : List ℕ) : Type 0 where
   pub place : ℕ
   pub run : Run
   pub there : slice_get b.runs place ≡ Some run
-  pub going : run.state ≡ run_state.Going
+  pub going : run.state ≡ RunState.Going
   pub holds : run.group ≡ Some name
 
 pub holding_run : (b : Board) (name : List ℕ) → OneHolder b → IsQuiet b → 1 ≤ waiters b name → HoldingRun b name
@@ -76,12 +60,12 @@ holding_run b name one quiet some = by (holder b name) refl
         let nobody = no_holder b name is in
         let fewer = one.waiter name in
         absurd (omega (arith, some, nobody, fewer))
-    by (Some (member.Run r)) is =
-        let run = map-some run_standing (slice_get b.runs r) (holding (Some name)) (a_holder b name (member.Run r) is).0 in
+    by (Some (Member.Run r)) is =
+        let run = map-some run_standing (slice_get b.runs r) (holding (Some name)) (a_holder b name (Member.Run r) is).0 in
         let how = run-holds run.0.state run.0.group (Some name) run.2 in
         record { place = r; run = run.0; there = run.1; going = how.0; holds = how.1 }
-    by (Some (member.Leg l)) is =
-        let leg = map-some leg_standing (slice_get (board_legs b) l) (holding (Some name)) (a_holder b name (member.Leg l) is).0 in
+    by (Some (Member.Leg l)) is =
+        let leg = map-some leg_standing (slice_get (board_legs b) l) (holding (Some name)) (a_holder b name (Member.Leg l) is).0 in
         let active = leg-holds leg.0.state leg.0.group (Some name) leg.2 in
         let still = all-get (λ (x : Leg). not (is_active x.state)) (board_legs b) l leg.0 leg.1 quiet in
         absurd (true≢false (sym still ∙ ap not active))
@@ -100,7 +84,7 @@ no-name None h = absurd (true≢false (sym h))
 no-name (Some name) h = (name, refl)
 
 -- a leg that waits rightly does not share its run's name
-waits-not-own : (run : RunState) (group : Option (List ℕ)) (opened : Bool) (wanted : Option (List ℕ)) (s : LegState) → s ≡ leg_state.Waiting
+waits-not-own : (run : RunState) (group : Option (List ℕ)) (opened : Bool) (wanted : Option (List ℕ)) (s : LegState) → s ≡ LegState.Waiting
     → is_fresh s || (opened && (not (is_under_way s) || (is_going run && not (is_waiting s && share_name group wanted)))) ≡ true → share_name group wanted ≡ false
 waits-not-own run group opened wanted s is right =
     let fits : opened && (is_going run && not (share_name group wanted)) ≡ true =
@@ -114,7 +98,7 @@ waits-not-own run group opened wanted s is right =
 
 -- a run that waits does so for a name that a Going run holds
 pub run_waits_for : (b : Board) (r : ℕ) (run : Run) → OneHolder b → IsQuiet b → list_all (λ run. has_name (run_standing run)) b.runs ≡ true → slice_get b.runs r ≡ Some run
-    → run.state ≡ run_state.Waiting → (name : List ℕ) × HoldingRun b name
+    → run.state ≡ RunState.Waiting → (name : List ℕ) × HoldingRun b name
 run_waits_for b r run one quiet named at waits =
     let stood : run_standing run ≡ waiting run.group = ap (λ s. run_stands s run.group) waits in
     let name = no-name run.group (sym (ap has_name stood) ∙ all-get (λ (x : Run). has_name (run_standing x)) b.runs r run at named) in
@@ -124,7 +108,7 @@ run_waits_for b r run one quiet named at waits =
 
 -- and so does a leg, whose own run it is not
 pub leg_waits_for : (p : Plan) (b : Board) (l : ℕ) (leg : Leg) → Lawful p b → IsQuiet b → list_all (λ leg. has_name (leg_standing leg)) (board_legs b) ≡ true
-    → slice_get (board_legs b) l ≡ Some leg → leg.state ≡ leg_state.Waiting → WaitsForAnotherRun p b
+    → slice_get (board_legs b) l ≡ Some leg → leg.state ≡ LegState.Waiting → WaitsForAnotherRun p b
 leg_waits_for p b l leg lawful quiet named there waits =
     let stood : leg_standing leg ≡ waiting leg.group = ap (λ s. leg_stands s leg.group) waits in
     let name = no-name leg.group (sym (ap has_name stood) ∙ all-get (λ (x : Leg). has_name (leg_standing x)) (board_legs b) l leg there named) in
@@ -133,7 +117,7 @@ leg_waits_for p b l leg lawful quiet named there waits =
     let held = holding_run b name.0 lawful.one quiet (omega (arith, some)) in
     let here = lives p b l leg lawful.fits there (ap is_under_way waits) in
     let at = here.at in
-    let state : at.leg.state ≡ leg_state.Waiting = ap (λ (x : Leg). x.state) here.leg_is ∙ waits in
+    let state : at.leg.state ≡ LegState.Waiting = ap (λ (x : Leg). x.state) here.leg_is ∙ waits in
     let wanted : at.leg.group ≡ Some name.0 = ap (λ (x : Leg). x.group) here.leg_is ∙ name.1 in
     let stands = here.live.stands in
     let fits = job-fits p b l at lawful.fits stands in

@@ -1,39 +1,9 @@
 -- How members stand stays as a test says, which all pass but some that wait.
 use Rattle.std.proofs.Common.{◌≡◌, ℕ, ◌||◌, Bool, true, false, List, [], ◌∷◌, ◌++◌, ◌==◌, Option, Some, None, Result, Ok, Err, not, length, nat_le, nat_lt, map, if◌then◌else◌, ap, subst, sym, refl, ◌∙◌}
 use Rattle.std.specs.List.{flat_map, list_all}
-use Rattle.board_decisions.specs.declared.entrance.Entrance.{Entrance}
-use Rattle.board_decisions.specs.declared.place.JobPlace.{JobPlace}
-use Rattle.board_decisions.specs.declared.place.LegPlace.{LegPlace}
-use Rattle.board_decisions.specs.Decisions.{is_stopping, leg_result, leg_outputs, run_entrance, leg_entrance}
-use Rattle.board_decisions.specs.Derived.{is_closed, is_full, jobs_have_ended, run_result}
-use Rattle.board_decisions.specs.Place.{RunAt, JobAt, LegAt, run_at, job_at, leg_at, leg_place}
-use Rattle.flow_model.specs.Numbers.{board_legs, plan_jobs, plan_legs}
-use Rattle.flow_model.specs.declared.plan.Plan.{Plan}
-use Rattle.flow_model.specs.declared.board.Board.{Board}
-use Rattle.flow_model.specs.declared.board.DoneStep.{DoneStep}
-use Rattle.flow_model.specs.declared.board.Run.{Run}
-use Rattle.flow_model.specs.declared.board.RunState.{RunState}
-use Rattle.flow_model.specs.declared.board.RunState.TheVariants as run_state
-use Rattle.flow_model.specs.declared.board.Job.{Job}
-use Rattle.flow_model.specs.declared.board.JobState.{JobState}
-use Rattle.flow_model.specs.declared.board.Leg.{Leg}
-use Rattle.flow_model.specs.declared.board.LegState.{LegState}
-use Rattle.flow_model.specs.declared.board.LegState.TheVariants as leg_state
-use Rattle.flow_model.specs.declared.event.Entry.{Entry}
-use Rattle.flow_model.specs.declared.event.Event.{Event}
-use Rattle.flow_model.specs.declared.event.Event.TheVariants as event
-use Rattle.flow_model.specs.declared.event.Member.{Member}
-use Rattle.flow_model.specs.declared.event.Member.TheVariants as member
-use Rattle.flow_model.specs.declared.event.Outcome.{Outcome}
-use Rattle.flow_model.specs.declared.event.Outcome.TheVariants as outcome
-use Rattle.flow_model.specs.declared.reply.ValueFault.{ValueFault}
+use Rattle.status_table.specs.Words.{Beginning, Board, DoneStep, Entrance, Entry, Event, Job, JobAt, JobPlace, JobState, Leg, LegAt, LegPlace, LegState, Member, Outcome, Plan, Row, Run, RunAt, RunState, Standing, ValueFault, admitted, after, after_from, apart, board_legs, calls, cancelled, changed, closed, displaced, dropped, enters, enters_held, faults, holder, holding, is_closed, is_full, is_own, is_stopping, job_at, jobs_have_ended, leaves, leg_at, leg_changed, leg_entrance, leg_outputs, leg_place, leg_result, leg_standing, moved, new_board, new_job, new_leg, new_run, next_after, passed_on, plan_jobs, plan_legs, queued, run_at, run_entrance, run_result, run_standing, skips, stopped, then_after, waiter, waiting, waits, with_leg, with_numbered_leg, with_run}
 use Rattle.status_table.specs.declared.fault.EventFault.{EventFault}
-use Rattle.status_table.specs.declared.fault.EventFault.TheVariants as fault
-use Rattle.status_table.specs.Change.{changed, with_run, with_leg, leg_changed, with_numbered_leg}
-use Rattle.status_table.specs.Groups.{Standing, apart, holding, waiting, run_standing, leg_standing, holder, waiter, closed, dropped, admitted, waits, passed_on, cancelled, displaced, stopped, moved, is_own, queued, enters_held, enters, next_after, leaves}
-use Rattle.status_table.specs.Row.{Row, Beginning, calls, skips, faults}
 use Rattle.status_table.specs.Row as rows
-use Rattle.status_table.specs.Runs.{new_leg, new_job, new_run, new_board, then_after, after_from, after}
 use Rattle.status_table.proofs.Decided.{by_test}
 use Rattle.status_table.proofs.Found.{leg_stands}
 use Rattle.status_table.proofs.Lists.{all-each, all-map, flat_map-kept, flat_map-twice, flat_map-map}
@@ -100,33 +70,33 @@ module _ (t u : Standing → Bool) (run_passes : Passes t) (leg_passes : Passes 
 
   -- a member may wait for a name
   abbrev MayWait : List ℕ → Member → Type 0
-  MayWait name (member.Run r) = t (waiting (Some name)) ≡ true
-  MayWait name (member.Leg l) = u (waiting (Some name)) ≡ true
+  MayWait name (Member.Run r) = t (waiting (Some name)) ≡ true
+  MayWait name (Member.Leg l) = u (waiting (Some name)) ≡ true
 
   closed_stands : (b : Board) (r : ℕ) (result : Outcome) → Stands b → Stands (closed b r result)
-  closed_stands b r result = run_set b r (λ run. record run { state = run_state.Closed result }) (λ x. refl) (λ x k. run_passes.none)
+  closed_stands b r result = run_set b r (λ run. record run { state = RunState.Closed result }) (λ x. refl) (λ x k. run_passes.none)
 
   dropped_stands : (b : Board) (l : ℕ) (result : Outcome) → Stands b → Stands (dropped b l result)
   dropped_stands b l result h =
-      let now = numbered_set b l (λ leg. record leg { state = leg_state.Ended result false }) (λ x k. leg_passes.none) h in
+      let now = numbered_set b l (λ leg. record leg { state = LegState.Ended result false }) (λ x k. leg_passes.none) h in
       record { runs = now.runs; legs = now.legs }
 
   cancelled_stands : (b : Board) (m : Member) → Stands b → Stands (cancelled b m)
-  cancelled_stands b (member.Run r) h = closed_stands b r outcome.Cancelled h
-  cancelled_stands b (member.Leg l) h = dropped_stands b l outcome.Cancelled h
+  cancelled_stands b (Member.Run r) h = closed_stands b r Outcome.Cancelled h
+  cancelled_stands b (Member.Leg l) h = dropped_stands b l Outcome.Cancelled h
 
   admitted_stands : (b : Board) (name : Option (List ℕ)) (m : Member) → Stands b → Stands (admitted b name m)
-  admitted_stands b name (member.Run r) h = run_set b r (λ run. record run { state = run_state.Going; group = name }) (λ x. refl) (λ x k. run_passes.held name) h
-  admitted_stands b name (member.Leg l) h = numbered_set b l (λ leg. record leg { state = leg_state.Admitted; group = name }) (λ x k. leg_passes.held name) h
+  admitted_stands b name (Member.Run r) h = run_set b r (λ run. record run { state = RunState.Going; group = name }) (λ x. refl) (λ x k. run_passes.held name) h
+  admitted_stands b name (Member.Leg l) h = numbered_set b l (λ leg. record leg { state = LegState.Admitted; group = name }) (λ x k. leg_passes.held name) h
 
   waits_stands : (b : Board) (name : List ℕ) (m : Member) → MayWait name m → Stands b → Stands (waits b name m)
-  waits_stands b name (member.Run r) may h = run_set b r (λ run. record run { state = run_state.Waiting; group = Some name }) (λ x. refl) (λ x k. may) h
-  waits_stands b name (member.Leg l) may h = numbered_set b l (λ leg. record leg { state = leg_state.Waiting; group = Some name }) (λ x k. may) h
+  waits_stands b name (Member.Run r) may h = run_set b r (λ run. record run { state = RunState.Waiting; group = Some name }) (λ x. refl) (λ x k. may) h
+  waits_stands b name (Member.Leg l) may h = numbered_set b l (λ leg. record leg { state = LegState.Waiting; group = Some name }) (λ x k. may) h
 
   passed_stands : (b : Board) (o : Option Member) → Stands b → Stands (passed_on b o)
   passed_stands b None h = h
-  passed_stands b (Some (member.Run r)) h = run_set b r (λ run. record run { state = run_state.Going }) (λ x. refl) (λ x k. run_passes.held x.group) h
-  passed_stands b (Some (member.Leg l)) h = numbered_set b l (λ leg. record leg { state = leg_state.Admitted }) (λ x k. leg_passes.held x.group) h
+  passed_stands b (Some (Member.Run r)) h = run_set b r (λ run. record run { state = RunState.Going }) (λ x. refl) (λ x k. run_passes.held x.group) h
+  passed_stands b (Some (Member.Leg l)) h = numbered_set b l (λ leg. record leg { state = LegState.Admitted }) (λ x k. leg_passes.held x.group) h
 
   displaced_stands : (b : Board) (o : Option Member) → Stands b → Stands (displaced b o)
   displaced_stands b None h = h
@@ -134,8 +104,8 @@ module _ (t u : Standing → Bool) (run_passes : Passes t) (leg_passes : Passes 
 
   stopped_stands : (b : Board) (cancel : Bool) (m : Member) → Stands b → Stands (stopped b cancel m)
   stopped_stands b false m h = h
-  stopped_stands b true (member.Run r) h = run_set b r (λ run. record run { stop = true }) (λ x. refl) (λ x k. k) h
-  stopped_stands b true (member.Leg l) h = numbered_set b l (λ leg. record leg { stop = true }) (λ x k. k) h
+  stopped_stands b true (Member.Run r) h = run_set b r (λ run. record run { stop = true }) (λ x. refl) (λ x k. k) h
+  stopped_stands b true (Member.Leg l) h = numbered_set b l (λ leg. record leg { stop = true }) (λ x k. k) h
 
   enters_stands : (b : Board) (m : Member) (own : Option ℕ) (group : Option Entrance) → ((g : Entrance) → group ≡ Some g → MayWait g.name m) → Stands b
       → Stands (enters b m own group).0
@@ -172,15 +142,15 @@ module _ (t u : Standing → Bool) (run_passes : Passes t) (leg_passes : Passes 
 
   module _ (p : Plan) (may : MayAsk p) (b : Board) (h : Stands b) where
     run_entered : (r : ℕ) (x : Result (Option Entrance) ValueFault) → StandsThen (rows.run_enters b r x)
-    run_entered r (Ok group) = enters_stands b (member.Run r) None group (λ g _. may.run g.name) h
-    run_entered r (Err f) = closed_stands b r outcome.Failure h
+    run_entered r (Ok group) = enters_stands b (Member.Run r) None group (λ g _. may.run g.name) h
+    run_entered r (Err f) = closed_stands b r Outcome.Failure h
 
     opened : (r : ℕ) (at : RunAt) (s : RunState) (stop : Bool) → StandsThen (rows.open_run b r at s stop)
-    opened r at run_state.New false = run_entered r (run_entrance at)
-    opened r at run_state.New true = tt
-    opened r at run_state.Waiting stop = tt
-    opened r at run_state.Going stop = tt
-    opened r at (run_state.Closed result) stop = tt
+    opened r at RunState.New false = run_entered r (run_entrance at)
+    opened r at RunState.New true = tt
+    opened r at RunState.Waiting stop = tt
+    opened r at RunState.Going stop = tt
+    opened r at (RunState.Closed result) stop = tt
 
     judged : (place : JobPlace) (x : Result JobState EventFault) → StandsThen (rows.judge_job b place x)
     judged place (Ok state) = job_set b place state h
@@ -188,17 +158,17 @@ module _ (t u : Standing → Bool) (run_passes : Passes t) (leg_passes : Passes 
 
     leg_entered : (l : ℕ) (at : LegAt) → leg_at p b l ≡ Some at → (x : Result (Option Entrance) ValueFault) → leg_entrance at ≡ x → StandsThen (rows.leg_enters b l at x)
     leg_entered l at is (Ok group) asks =
-        enters_stands b (member.Leg l) (Some at.place.run) group (λ g same. may.leg b l at g is (asks ∙ ap (λ o. Ok o) same)) h
-    leg_entered l at is (Err f) asks = dropped_stands b l outcome.Failure h
+        enters_stands b (Member.Leg l) (Some at.place.run) group (λ g same. may.leg b l at g is (asks ∙ ap (λ o. Ok o) same)) h
+    leg_entered l at is (Err f) asks = dropped_stands b l Outcome.Failure h
 
     no_row : (f : EventFault) → StandsThen (Err f)
     no_row f = tt
 
     asked : (l : ℕ) (at : LegAt) → leg_at p b l ≡ Some at → StandsThen (rows.ask_leg b l at)
     asked l at is =
-        by_test StandsThen (not (rows.may_ask at)) (Err fault.WrongState) _ (no_row fault.WrongState)
-        (by_test StandsThen (is_full at.job_plan at.job) (Err fault.SlotsFull) _ (no_row fault.SlotsFull)
-        (by_test StandsThen (is_stopping at) (Err fault.Stopping) (rows.leg_enters b l at (leg_entrance at)) (no_row fault.Stopping)
+        by_test StandsThen (not (rows.may_ask at)) (Err EventFault.WrongState) _ (no_row EventFault.WrongState)
+        (by_test StandsThen (is_full at.job_plan at.job) (Err EventFault.SlotsFull) _ (no_row EventFault.SlotsFull)
+        (by_test StandsThen (is_stopping at) (Err EventFault.Stopping) (rows.leg_enters b l at (leg_entrance at)) (no_row EventFault.Stopping)
         (leg_entered l at is (leg_entrance at) refl)))
 
     left : (s : Standing) (after : Board) → Stands after → StandsThen (Ok (leaves b s after))
@@ -206,27 +176,27 @@ module _ (t u : Standing → Bool) (run_passes : Passes t) (leg_passes : Passes 
 
     dropping : (l : ℕ) (at : LegAt) → StandsThen (rows.drop_leg b l at)
     dropping l at =
-        by_test StandsThen (not (rows.may_drop at)) (Err fault.WrongState) _ (no_row fault.WrongState)
-        (by_test StandsThen (is_stopping at) (Ok (leaves b (leg_standing at.leg) (dropped b l outcome.Cancelled))) (Err fault.NotStopping)
-        (left (leg_standing at.leg) (dropped b l outcome.Cancelled) (dropped_stands b l outcome.Cancelled h)) (no_row fault.NotStopping))
+        by_test StandsThen (not (rows.may_drop at)) (Err EventFault.WrongState) _ (no_row EventFault.WrongState)
+        (by_test StandsThen (is_stopping at) (Ok (leaves b (leg_standing at.leg) (dropped b l Outcome.Cancelled))) (Err EventFault.NotStopping)
+        (left (leg_standing at.leg) (dropped b l Outcome.Cancelled) (dropped_stands b l Outcome.Cancelled h)) (no_row EventFault.NotStopping))
 
     -- a leg that was found has a worker now
-    running : (l : ℕ) (at : LegAt) → leg_at p b l ≡ Some at → (worker : ℕ) (in_call : Bool) → Stands (rows.leg_state_set b at.place (leg_state.Running worker in_call))
+    running : (l : ℕ) (at : LegAt) → leg_at p b l ≡ Some at → (worker : ℕ) (in_call : Bool) → Stands (rows.leg_state_set b at.place (LegState.Running worker in_call))
     running l at is worker in_call =
-        leg_put b l at.place (λ leg. record leg { state = leg_state.Running worker in_call }) (leg_stands p b l at is).place (λ x k. leg_passes.held x.group) h
+        leg_put b l at.place (λ leg. record leg { state = LegState.Running worker in_call }) (leg_stands p b l at is).place (λ x k. leg_passes.held x.group) h
 
     stepped : (l : ℕ) (at : LegAt) → leg_at p b l ≡ Some at → (worker : ℕ) (done : DoneStep) → Stands (rows.step_done b at.place worker done)
     stepped l at is worker done =
-        leg_put b l at.place (λ leg. record leg { state = leg_state.Running worker false; steps = leg.steps ++ done ∷ [] }) (leg_stands p b l at is).place
+        leg_put b l at.place (λ leg. record leg { state = LegState.Running worker false; steps = leg.steps ++ done ∷ [] }) (leg_stands p b l at is).place
         (λ x k. leg_passes.held x.group) h
 
     taken : (l : ℕ) (at : LegAt) → leg_at p b l ≡ Some at → (worker : ℕ) (s : LegState) → StandsThen (rows.take_leg b worker at s)
-    taken l at is worker leg_state.Fresh = tt
-    taken l at is worker leg_state.Waiting = tt
-    taken l at is worker leg_state.Admitted =
-        by_test StandsThen (is_stopping at) (Err fault.Stopping) (Ok (rows.leg_state_set b at.place (leg_state.Running worker false), moved)) tt (running l at is worker false)
-    taken l at is worker (leg_state.Running other in_call) = tt
-    taken l at is worker (leg_state.Ended result tolerated) = tt
+    taken l at is worker LegState.Fresh = tt
+    taken l at is worker LegState.Waiting = tt
+    taken l at is worker LegState.Admitted =
+        by_test StandsThen (is_stopping at) (Err EventFault.Stopping) (Ok (rows.leg_state_set b at.place (LegState.Running worker false), moved)) tt (running l at is worker false)
+    taken l at is worker (LegState.Running other in_call) = tt
+    taken l at is worker (LegState.Ended result tolerated) = tt
 
     begun : (l : ℕ) (at : LegAt) → leg_at p b l ≡ Some at → (worker : ℕ) (x : Result Beginning EventFault) → StandsThen (rows.begin_leg b worker at x)
     begun l at is worker (Ok (calls call)) = running l at is worker true
@@ -249,7 +219,7 @@ module _ (t u : Standing → Bool) (run_passes : Passes t) (leg_passes : Passes 
             record { runs = put.runs; legs = put.legs }
 
         by : (c d : Bool)
-            → StandsThen (rows.finish_leg b l at (if c then Err fault.OtherWorker else (if d then Err fault.StepsLeft else Ok (rows.ended_state at (leg_result at)))))
+            → StandsThen (rows.finish_leg b l at (if c then Err EventFault.OtherWorker else (if d then Err EventFault.StepsLeft else Ok (rows.ended_state at (leg_result at)))))
         by true d = tt
         by false true = tt
         by false false = leaves_stands b (leg_standing at.leg) (rows.leg_ended b at.place l (rows.ended_state at (leg_result at)) (leg_outputs at)) now
@@ -258,74 +228,74 @@ module _ (t u : Standing → Bool) (run_passes : Passes t) (leg_passes : Passes 
     closing r run result = left (run_standing run) (closed b r result) (closed_stands b r result h)
 
     unstarted : (r : ℕ) (run : Run) (stop : Bool) → StandsThen (rows.close_waiting b r run stop)
-    unstarted r run true = closing r run outcome.Cancelled
+    unstarted r run true = closing r run Outcome.Cancelled
     unstarted r run false = tt
 
     closes : (r : ℕ) (run : Run) (s : RunState) → StandsThen (rows.close_run b r run s)
-    closes r run run_state.New = unstarted r run run.stop
-    closes r run run_state.Waiting = unstarted r run run.stop
-    closes r run run_state.Going =
-        by_test StandsThen (jobs_have_ended run) (rows.run_closes b r run (run_result run)) (Err fault.NeedsOpen) (closing r run (run_result run)) tt
-    closes r run (run_state.Closed result) = tt
+    closes r run RunState.New = unstarted r run run.stop
+    closes r run RunState.Waiting = unstarted r run run.stop
+    closes r run RunState.Going =
+        by_test StandsThen (jobs_have_ended run) (rows.run_closes b r run (run_result run)) (Err EventFault.NeedsOpen) (closing r run (run_result run)) tt
+    closes r run (RunState.Closed result) = tt
 
     told_to_stop : (r : ℕ) (run : Run) → StandsThen (rows.cancel_run b r run)
     told_to_stop r run =
-        by_test StandsThen (is_closed run.state || run.stop) (Err fault.WrongState) (Ok (stopped b true (member.Run r), moved)) tt (stopped_stands b true (member.Run r) h)
+        by_test StandsThen (is_closed run.state || run.stop) (Err EventFault.WrongState) (Ok (stopped b true (Member.Run r), moved)) tt (stopped_stands b true (Member.Run r) h)
 
     event_stands : (worker : ℕ) (e : Event) → StandsThen (rows.event_row p b worker e)
-    event_stands worker (event.Open r) = found (run_at p b r)
+    event_stands worker (Event.Open r) = found (run_at p b r)
       where
         found : (o : Option RunAt) → StandsThen (rows.open_found b r o)
-        found None = no_row fault.NoSuch
+        found None = no_row EventFault.NoSuch
         found (Some at) = opened r at at.run.state at.run.stop
-    event_stands worker (event.Judge j) = found (job_at p b j)
+    event_stands worker (Event.Judge j) = found (job_at p b j)
       where
         found : (o : Option JobAt) → StandsThen (rows.judge_found b j o)
-        found None = no_row fault.NoSuch
+        found None = no_row EventFault.NoSuch
         found (Some at) = judged at.place (rows.judgement j at)
-    event_stands worker (event.Ask l) = found (leg_at p b l) refl
+    event_stands worker (Event.Ask l) = found (leg_at p b l) refl
       where
         found : (o : Option LegAt) → leg_at p b l ≡ o → StandsThen (rows.ask_found b l o)
-        found None is = no_row fault.NoSuch
+        found None is = no_row EventFault.NoSuch
         found (Some at) is = asked l at is
-    event_stands worker (event.Drop l) = found (leg_at p b l)
+    event_stands worker (Event.Drop l) = found (leg_at p b l)
       where
         found : (o : Option LegAt) → StandsThen (rows.drop_found b l o)
-        found None = no_row fault.NoSuch
+        found None = no_row EventFault.NoSuch
         found (Some at) = dropping l at
-    event_stands worker (event.Take l) = found (leg_at p b l) refl
+    event_stands worker (Event.Take l) = found (leg_at p b l) refl
       where
         found : (o : Option LegAt) → leg_at p b l ≡ o → StandsThen (rows.take_found b worker o)
-        found None is = no_row fault.NoSuch
+        found None is = no_row EventFault.NoSuch
         found (Some at) is = taken l at is worker at.leg.state
-    event_stands worker (event.Begin l) = found (leg_at p b l) refl
+    event_stands worker (Event.Begin l) = found (leg_at p b l) refl
       where
         found : (o : Option LegAt) → leg_at p b l ≡ o → StandsThen (rows.begin_found b worker l o)
-        found None is = no_row fault.NoSuch
+        found None is = no_row EventFault.NoSuch
         found (Some at) is = begun l at is worker (rows.beginning worker l at)
-    event_stands worker (event.End l a) = found (leg_at p b l) refl
+    event_stands worker (Event.End l a) = found (leg_at p b l) refl
       where
         found : (o : Option LegAt) → leg_at p b l ≡ o → StandsThen (rows.end_found b worker a o)
-        found None is = no_row fault.NoSuch
+        found None is = no_row EventFault.NoSuch
         found (Some at) is = ended l at is worker (rows.ending worker at a)
-    event_stands worker (event.Finish l) = found (leg_at p b l) refl
+    event_stands worker (Event.Finish l) = found (leg_at p b l) refl
       where
         found : (o : Option LegAt) → leg_at p b l ≡ o → StandsThen (rows.finish_found b worker l o)
-        found None is = no_row fault.NoSuch
+        found None is = no_row EventFault.NoSuch
         found (Some at) is = finished l at is worker (rows.idle_owner at.leg.state)
-    event_stands worker (event.Close r) = found (run_at p b r)
+    event_stands worker (Event.Close r) = found (run_at p b r)
       where
         found : (o : Option RunAt) → StandsThen (rows.close_found b r o)
-        found None = no_row fault.NoSuch
+        found None = no_row EventFault.NoSuch
         found (Some at) = closes r at.run at.run.state
-    event_stands worker (event.Cancel r) = found (run_at p b r)
+    event_stands worker (Event.Cancel r) = found (run_at p b r)
       where
         found : (o : Option RunAt) → StandsThen (rows.cancel_found b r o)
-        found None = no_row fault.NoSuch
+        found None = no_row EventFault.NoSuch
         found (Some at) = told_to_stop r at.run
 
     row_stands : (worker : ℕ) (e : Event) → StandsThen (rows.row p b worker e)
-    row_stands worker e = by_test StandsThen (nat_le worker 15) (rows.event_row p b worker e) (Err fault.NoSuch) (event_stands worker e) (no_row fault.NoSuch)
+    row_stands worker e = by_test StandsThen (nat_le worker 15) (rows.event_row p b worker e) (Err EventFault.NoSuch) (event_stands worker e) (no_row EventFault.NoSuch)
 
   -- ---- lists of entries
 

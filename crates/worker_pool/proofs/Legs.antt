@@ -3,33 +3,8 @@
 use Rattle.std.proofs.Common.{◌≡◌, ℕ, Bool, true, false, not, List, Option, Some, None, Result, Ok, Err, slice_get, if◌then◌else◌, inl, inr, ap, subst, sym, refl, ◌∙◌}
 use Rattle.std.specs.List.{flat_map}
 use Rattle.std.proofs.lemmas.Bool.{true≢false, cases_eq}
-use Rattle.board_decisions.specs.declared.entrance.Entrance.{Entrance}
-use Rattle.board_decisions.specs.declared.place.JobPlace.{JobPlace}
-use Rattle.board_decisions.specs.Decisions.{is_stopping, run_entrance, leg_entrance}
-use Rattle.board_decisions.specs.Derived.{is_full, jobs_have_ended, run_result}
-use Rattle.board_decisions.specs.Place.{RunAt, JobAt, LegAt, run_at, job_at, leg_at}
-use Rattle.flow_model.specs.Numbers.{board_legs}
-use Rattle.flow_model.specs.declared.plan.Plan.{Plan}
-use Rattle.flow_model.specs.declared.board.Board.{Board}
-use Rattle.flow_model.specs.declared.board.Run.{Run}
-use Rattle.flow_model.specs.declared.board.RunState.{RunState}
-use Rattle.flow_model.specs.declared.board.RunState.TheVariants as run_state
-use Rattle.flow_model.specs.declared.board.Job.{Job}
-use Rattle.flow_model.specs.declared.board.JobState.{JobState}
-use Rattle.flow_model.specs.declared.board.Leg.{Leg}
-use Rattle.flow_model.specs.declared.board.LegState.{LegState}
-use Rattle.flow_model.specs.declared.board.LegState.TheVariants as leg_state
-use Rattle.flow_model.specs.declared.event.Event.{Event}
-use Rattle.flow_model.specs.declared.event.Event.TheVariants as event
-use Rattle.flow_model.specs.declared.event.Member.{Member}
-use Rattle.flow_model.specs.declared.event.Member.TheVariants as member
-use Rattle.flow_model.specs.declared.event.Outcome.{Outcome}
-use Rattle.flow_model.specs.declared.event.Outcome.TheVariants as outcome
-use Rattle.flow_model.specs.declared.reply.ValueFault.{ValueFault}
+use Rattle.status_table.specs.Words.{Board, Done, Entrance, Event, Job, JobAt, JobPlace, JobState, Leg, LegAt, LegState, Member, Outcome, Plan, Run, RunAt, RunState, Standing, ValueFault, admitted, board_legs, cancelled, changed, closed, displaced, dropped, enters, enters_held, holder, is_full, is_own, is_stopping, job_at, jobs_have_ended, leaves, leg_at, leg_entrance, leg_standing, moved, next_after, passed_on, put, run_at, run_entrance, run_result, run_standing, stop_told, stopped, told, waiter, waits, with_numbered_leg, with_run}
 use Rattle.status_table.specs.declared.fault.EventFault.{EventFault}
-use Rattle.status_table.specs.declared.fault.EventFault.TheVariants as fault
-use Rattle.status_table.specs.Change.{put, changed, with_run, with_numbered_leg}
-use Rattle.status_table.specs.Groups.{Done, Standing, run_standing, leg_standing, holder, waiter, next_after, closed, dropped, admitted, waits, passed_on, cancelled, displaced, stopped, stop_told, told, moved, is_own, enters_held, enters, leaves}
 use Rattle.status_table.specs.Row as rows
 use Rattle.status_table.proofs.Decided.{by_test}
 use Rattle.status_table.proofs.Lists.{changed-there, changed-elsewhere, flat_map-kept, flat_map-twice}
@@ -71,16 +46,16 @@ EachLegThen Q (Err f) = Unit {0}
 
 -- whether an event is one of a clerk's
 abbrev pub is_clerks : Event → Bool
-is_clerks (event.Open r) = true
-is_clerks (event.Judge j) = true
-is_clerks (event.Ask l) = true
-is_clerks (event.Drop l) = true
-is_clerks (event.Take l) = false
-is_clerks (event.Begin l) = false
-is_clerks (event.End l a) = false
-is_clerks (event.Finish l) = false
-is_clerks (event.Close r) = true
-is_clerks (event.Cancel r) = false
+is_clerks (Event.Open r) = true
+is_clerks (Event.Judge j) = true
+is_clerks (Event.Ask l) = true
+is_clerks (Event.Drop l) = true
+is_clerks (Event.Take l) = false
+is_clerks (Event.Begin l) = false
+is_clerks (Event.End l a) = false
+is_clerks (Event.Finish l) = false
+is_clerks (Event.Close r) = true
+is_clerks (Event.Cancel r) = false
 
 same_legs : (Q : ℕ → LegState → Type 0) (b c : Board) → board_legs c ≡ board_legs b → EachLeg Q b → EachLeg Q c
 same_legs Q b c same each = subst (EachAt (λ k leg. Q k leg.state)) (sym same) each
@@ -98,27 +73,27 @@ module _ (Q : ℕ → LegState → Type 0) (rest : (k : ℕ) (s : LegState) → 
   of_run b r f jobs = same_legs Q b (with_run b r f) (run_legs b r f jobs)
 
   of_closed : (b : Board) (r : ℕ) (result : Outcome) → EachLeg Q b → EachLeg Q (closed b r result)
-  of_closed b r result = of_run b r (λ run. record run { state = run_state.Closed result }) (λ run. refl)
+  of_closed b r result = of_run b r (λ run. record run { state = RunState.Closed result }) (λ run. refl)
 
   of_dropped : (b : Board) (l : ℕ) (result : Outcome) → EachLeg Q b → EachLeg Q (dropped b l result)
-  of_dropped b l result = put_down b l (λ leg. record leg { state = leg_state.Ended result false }) (λ leg. refl)
+  of_dropped b l result = put_down b l (λ leg. record leg { state = LegState.Ended result false }) (λ leg. refl)
 
   of_admitted : (b : Board) (name : Option (List ℕ)) (m : Member) → EachLeg Q b → EachLeg Q (admitted b name m)
-  of_admitted b name (member.Run r) = of_run b r (λ run. record run { state = run_state.Going; group = name }) (λ run. refl)
-  of_admitted b name (member.Leg l) = put_down b l (λ leg. record leg { state = leg_state.Admitted; group = name }) (λ leg. refl)
+  of_admitted b name (Member.Run r) = of_run b r (λ run. record run { state = RunState.Going; group = name }) (λ run. refl)
+  of_admitted b name (Member.Leg l) = put_down b l (λ leg. record leg { state = LegState.Admitted; group = name }) (λ leg. refl)
 
   of_waits : (b : Board) (name : List ℕ) (m : Member) → EachLeg Q b → EachLeg Q (waits b name m)
-  of_waits b name (member.Run r) = of_run b r (λ run. record run { state = run_state.Waiting; group = Some name }) (λ run. refl)
-  of_waits b name (member.Leg l) = put_down b l (λ leg. record leg { state = leg_state.Waiting; group = Some name }) (λ leg. refl)
+  of_waits b name (Member.Run r) = of_run b r (λ run. record run { state = RunState.Waiting; group = Some name }) (λ run. refl)
+  of_waits b name (Member.Leg l) = put_down b l (λ leg. record leg { state = LegState.Waiting; group = Some name }) (λ leg. refl)
 
   of_passed : (b : Board) (next : Option Member) → EachLeg Q b → EachLeg Q (passed_on b next)
   of_passed b None each = each
-  of_passed b (Some (member.Run r)) each = of_run b r (λ run. record run { state = run_state.Going }) (λ run. refl) each
-  of_passed b (Some (member.Leg l)) each = put_down b l (λ leg. record leg { state = leg_state.Admitted }) (λ leg. refl) each
+  of_passed b (Some (Member.Run r)) each = of_run b r (λ run. record run { state = RunState.Going }) (λ run. refl) each
+  of_passed b (Some (Member.Leg l)) each = put_down b l (λ leg. record leg { state = LegState.Admitted }) (λ leg. refl) each
 
   of_cancelled : (b : Board) (m : Member) → EachLeg Q b → EachLeg Q (cancelled b m)
-  of_cancelled b (member.Run r) = of_closed b r outcome.Cancelled
-  of_cancelled b (member.Leg l) = of_dropped b l outcome.Cancelled
+  of_cancelled b (Member.Run r) = of_closed b r Outcome.Cancelled
+  of_cancelled b (Member.Leg l) = of_dropped b l Outcome.Cancelled
 
   of_displaced : (b : Board) (waited : Option Member) → EachLeg Q b → EachLeg Q (displaced b waited)
   of_displaced b None each = each
@@ -126,8 +101,8 @@ module _ (Q : ℕ → LegState → Type 0) (rest : (k : ℕ) (s : LegState) → 
 
   of_stopped : (b : Board) (wanted : Bool) (m : Member) → EachLeg Q b → EachLeg Q (stopped b wanted m)
   of_stopped b false m each = each
-  of_stopped b true (member.Run r) each = of_run b r (λ run. record run { stop = true }) (λ run. refl) each
-  of_stopped b true (member.Leg l) each =
+  of_stopped b true (Member.Run r) each = of_run b r (λ run. record run { stop = true }) (λ run. refl) each
+  of_stopped b true (Member.Leg l) each =
       subst (EachAt (λ k leg. Q k leg.state)) (sym (numbered_leg-changed b l (λ leg. record leg { stop = true })))
       (each-changed (λ k leg. Q k leg.state) (board_legs b) l (λ leg. record leg { stop = true }) (λ leg there. each l leg there) each)
 
@@ -167,15 +142,15 @@ module _ (Q : ℕ → LegState → Type 0) (rest : (k : ℕ) (s : LegState) → 
   open_legs p b r each = found (run_at p b r)
     where
       entered : (x : Result (Option Entrance) ValueFault) → EachLegThen Q (rows.run_enters b r x)
-      entered (Ok group) = of_enters b (member.Run r) None group each
-      entered (Err f) = of_closed b r outcome.Failure each
+      entered (Ok group) = of_enters b (Member.Run r) None group each
+      entered (Err f) = of_closed b r Outcome.Failure each
 
       opened : (at : RunAt) (s : RunState) (stop : Bool) → EachLegThen Q (rows.open_run b r at s stop)
-      opened at run_state.New false = entered (run_entrance at)
-      opened at run_state.New true = tt
-      opened at run_state.Waiting stop = tt
-      opened at run_state.Going stop = tt
-      opened at (run_state.Closed result) stop = tt
+      opened at RunState.New false = entered (run_entrance at)
+      opened at RunState.New true = tt
+      opened at RunState.Waiting stop = tt
+      opened at RunState.Going stop = tt
+      opened at (RunState.Closed result) stop = tt
 
       found : (o : Option RunAt) → EachLegThen Q (rows.open_found b r o)
       found None = tt
@@ -196,16 +171,16 @@ module _ (Q : ℕ → LegState → Type 0) (rest : (k : ℕ) (s : LegState) → 
   ask_legs p b l each = found (leg_at p b l)
     where
       entered : (at : LegAt) (x : Result (Option Entrance) ValueFault) → EachLegThen Q (rows.leg_enters b l at x)
-      entered at (Ok group) = of_enters b (member.Leg l) (Some at.place.run) group each
-      entered at (Err f) = of_dropped b l outcome.Failure each
+      entered at (Ok group) = of_enters b (Member.Leg l) (Some at.place.run) group each
+      entered at (Err f) = of_dropped b l Outcome.Failure each
 
       found : (o : Option LegAt) → EachLegThen Q (rows.ask_found b l o)
       found None = tt
       found (Some at) =
-          by_test (EachLegThen Q) (not (rows.may_ask at)) (Err fault.WrongState)
-          (if is_full at.job_plan at.job then Err fault.SlotsFull else (if is_stopping at then Err fault.Stopping else rows.leg_enters b l at (leg_entrance at))) tt
-          (by_test (EachLegThen Q) (is_full at.job_plan at.job) (Err fault.SlotsFull) (if is_stopping at then Err fault.Stopping else rows.leg_enters b l at (leg_entrance at)) tt
-          (by_test (EachLegThen Q) (is_stopping at) (Err fault.Stopping) (rows.leg_enters b l at (leg_entrance at)) tt (entered at (leg_entrance at))))
+          by_test (EachLegThen Q) (not (rows.may_ask at)) (Err EventFault.WrongState)
+          (if is_full at.job_plan at.job then Err EventFault.SlotsFull else (if is_stopping at then Err EventFault.Stopping else rows.leg_enters b l at (leg_entrance at))) tt
+          (by_test (EachLegThen Q) (is_full at.job_plan at.job) (Err EventFault.SlotsFull) (if is_stopping at then Err EventFault.Stopping else rows.leg_enters b l at (leg_entrance at)) tt
+          (by_test (EachLegThen Q) (is_stopping at) (Err EventFault.Stopping) (rows.leg_enters b l at (leg_entrance at)) tt (entered at (leg_entrance at))))
 
   drop_legs : (p : Plan) (b : Board) (l : ℕ) → EachLeg Q b → EachLegThen Q (rows.drop_row p b l)
   drop_legs p b l each = found (leg_at p b l)
@@ -213,10 +188,10 @@ module _ (Q : ℕ → LegState → Type 0) (rest : (k : ℕ) (s : LegState) → 
       found : (o : Option LegAt) → EachLegThen Q (rows.drop_found b l o)
       found None = tt
       found (Some at) =
-          by_test (EachLegThen Q) (not (rows.may_drop at)) (Err fault.WrongState)
-          (if is_stopping at then Ok (leaves b (leg_standing at.leg) (dropped b l outcome.Cancelled)) else Err fault.NotStopping) tt
-          (by_test (EachLegThen Q) (is_stopping at) (Ok (leaves b (leg_standing at.leg) (dropped b l outcome.Cancelled))) (Err fault.NotStopping)
-          (of_leaves b (dropped b l outcome.Cancelled) (leg_standing at.leg) (of_dropped b l outcome.Cancelled each)) tt)
+          by_test (EachLegThen Q) (not (rows.may_drop at)) (Err EventFault.WrongState)
+          (if is_stopping at then Ok (leaves b (leg_standing at.leg) (dropped b l Outcome.Cancelled)) else Err EventFault.NotStopping) tt
+          (by_test (EachLegThen Q) (is_stopping at) (Ok (leaves b (leg_standing at.leg) (dropped b l Outcome.Cancelled))) (Err EventFault.NotStopping)
+          (of_leaves b (dropped b l Outcome.Cancelled) (leg_standing at.leg) (of_dropped b l Outcome.Cancelled each)) tt)
 
   close_legs : (p : Plan) (b : Board) (r : ℕ) → EachLeg Q b → EachLegThen Q (rows.close_row p b r)
   close_legs p b r each = found (run_at p b r)
@@ -225,14 +200,14 @@ module _ (Q : ℕ → LegState → Type 0) (rest : (k : ℕ) (s : LegState) → 
       ended run result = of_leaves b (closed b r result) (run_standing run) (of_closed b r result each)
 
       waited : (run : Run) (stop : Bool) → EachLegThen Q (rows.close_waiting b r run stop)
-      waited run true = ended run outcome.Cancelled
+      waited run true = ended run Outcome.Cancelled
       waited run false = tt
 
       by_state : (run : Run) (s : RunState) → EachLegThen Q (rows.close_run b r run s)
-      by_state run run_state.New = waited run run.stop
-      by_state run run_state.Waiting = waited run run.stop
-      by_state run run_state.Going = by_test (EachLegThen Q) (jobs_have_ended run) (rows.run_closes b r run (run_result run)) (Err fault.NeedsOpen) (ended run (run_result run)) tt
-      by_state run (run_state.Closed result) = tt
+      by_state run RunState.New = waited run run.stop
+      by_state run RunState.Waiting = waited run run.stop
+      by_state run RunState.Going = by_test (EachLegThen Q) (jobs_have_ended run) (rows.run_closes b r run (run_result run)) (Err EventFault.NeedsOpen) (ended run (run_result run)) tt
+      by_state run (RunState.Closed result) = tt
 
       found : (o : Option RunAt) → EachLegThen Q (rows.close_found b r o)
       found None = tt
@@ -240,13 +215,13 @@ module _ (Q : ℕ → LegState → Type 0) (rest : (k : ℕ) (s : LegState) → 
 
   -- an event of a clerk
   pub clerk_legs : (p : Plan) (b : Board) (e : Event) → is_clerks e ≡ true → EachLeg Q b → EachLegThen Q (rows.row p b 0 e)
-  clerk_legs p b (event.Open r) h = open_legs p b r
-  clerk_legs p b (event.Judge j) h = judge_legs p b j
-  clerk_legs p b (event.Ask l) h = ask_legs p b l
-  clerk_legs p b (event.Drop l) h = drop_legs p b l
-  clerk_legs p b (event.Take l) h = absurd (true≢false (sym h))
-  clerk_legs p b (event.Begin l) h = absurd (true≢false (sym h))
-  clerk_legs p b (event.End l a) h = absurd (true≢false (sym h))
-  clerk_legs p b (event.Finish l) h = absurd (true≢false (sym h))
-  clerk_legs p b (event.Close r) h = close_legs p b r
-  clerk_legs p b (event.Cancel r) h = absurd (true≢false (sym h))
+  clerk_legs p b (Event.Open r) h = open_legs p b r
+  clerk_legs p b (Event.Judge j) h = judge_legs p b j
+  clerk_legs p b (Event.Ask l) h = ask_legs p b l
+  clerk_legs p b (Event.Drop l) h = drop_legs p b l
+  clerk_legs p b (Event.Take l) h = absurd (true≢false (sym h))
+  clerk_legs p b (Event.Begin l) h = absurd (true≢false (sym h))
+  clerk_legs p b (Event.End l a) h = absurd (true≢false (sym h))
+  clerk_legs p b (Event.Finish l) h = absurd (true≢false (sym h))
+  clerk_legs p b (Event.Close r) h = close_legs p b r
+  clerk_legs p b (Event.Cancel r) h = absurd (true≢false (sym h))

@@ -1,30 +1,25 @@
 -- A log, one entry more.
 use Rattle.std.proofs.Common.{◌≡◌, ℕ, zero, suc, List, [], ◌∷◌, ◌++◌, Ok, length, append-nil, refl, ap, ◌∙◌, arith}
-use Rattle.flow_model.specs.declared.event.Answer.{Answer}
-use Rattle.flow_model.specs.declared.event.Entry.{Entry}
-use Rattle.flow_model.specs.declared.event.Event.{Event}
-use Rattle.flow_model.specs.declared.event.Event.TheVariants as event
-use Rattle.flow_model.specs.declared.reply.StepCall.{StepCall}
-use Rattle.flow_model.specs.declared.reply.Reply.{Reply}
+use Rattle.status_table.specs.Words.{Answer, Entry, Event, Reply, StepCall}
 use Rattle.locked_board.specs.Clerk.{Clerks}
 use Rattle.locked_board.specs.Course.{Course, IsPosted}
-use Rattle.locked_board.specs.declared.clerk.Clerk.TheVariants as clerk
+use Rattle.locked_board.specs.declared.clerk.Clerk.{Clerk}
 use Rattle.locked_board.proofs.Firsts.{first_posted}
 use Rattle.worker_pool.specs.Log.{with_answer, answers_of, AreAdmitted, Answered, HasSameCalls}
 use Rattle.worker_pool.specs.Logs.{AreAnswered}
 use Rattle.worker_pool.specs.declared.log.Log.{Log}
 
 with_more : (e : Event) (xs ys : List Answer) → with_answer e (xs ++ ys) ≡ with_answer e xs ++ ys
-with_more (event.Open r) xs ys = refl
-with_more (event.Judge j) xs ys = refl
-with_more (event.Ask l) xs ys = refl
-with_more (event.Drop l) xs ys = refl
-with_more (event.Take l) xs ys = refl
-with_more (event.Begin l) xs ys = refl
-with_more (event.End l a) xs ys = refl
-with_more (event.Finish l) xs ys = refl
-with_more (event.Close r) xs ys = refl
-with_more (event.Cancel r) xs ys = refl
+with_more (Event.Open r) xs ys = refl
+with_more (Event.Judge j) xs ys = refl
+with_more (Event.Ask l) xs ys = refl
+with_more (Event.Drop l) xs ys = refl
+with_more (Event.Take l) xs ys = refl
+with_more (Event.Begin l) xs ys = refl
+with_more (Event.End l a) xs ys = refl
+with_more (Event.Finish l) xs ys = refl
+with_more (Event.Close r) xs ys = refl
+with_more (Event.Cancel r) xs ys = refl
 
 -- one entry more adds its answer
 pub one_more_answer : (es : List Entry) (e : Entry) → answers_of (es ++ e ∷ []) ≡ answers_of es ++ with_answer e.event []
@@ -33,16 +28,16 @@ one_more_answer (x ∷ es) e = ap (with_answer x.event) (one_more_answer es e) �
 
 -- an event that is posted has none
 pub posted_ends_none : (e : Event) → IsPosted e → with_answer e [] ≡ []
-posted_ends_none (event.Open r) h = refl
-posted_ends_none (event.Judge j) h = refl
-posted_ends_none (event.Ask l) h = refl
-posted_ends_none (event.Drop l) h = refl
-posted_ends_none (event.Take l) h = refl
-posted_ends_none (event.Begin l) h = absurd h
-posted_ends_none (event.End l a) h = absurd h
-posted_ends_none (event.Finish l) h = refl
-posted_ends_none (event.Close r) h = refl
-posted_ends_none (event.Cancel r) h = refl
+posted_ends_none (Event.Open r) h = refl
+posted_ends_none (Event.Judge j) h = refl
+posted_ends_none (Event.Ask l) h = refl
+posted_ends_none (Event.Drop l) h = refl
+posted_ends_none (Event.Take l) h = refl
+posted_ends_none (Event.Begin l) h = absurd h
+posted_ends_none (Event.End l a) h = absurd h
+posted_ends_none (Event.Finish l) h = refl
+posted_ends_none (Event.Close r) h = refl
+posted_ends_none (Event.Cancel r) h = refl
 
 -- one answer more, and the call for which it is admitted
 pub admitted_more : (admits : StepCall → Answer → Type 0) (xs : List Answer) (calls : List StepCall) (a : Answer) (call : StepCall) → AreAdmitted admits xs calls
@@ -70,5 +65,5 @@ logs_none old mid new e same more calls none =
     (more ∙ ap (λ xs. answers_of mid.entries.items ++ xs) none ∙ append-nil (answers_of mid.entries.items) ∙ same.0, calls ∙ same.1)
 
 -- so does no move of a clerk
-pub moved_ends_none : (old new : Course) (worker : ℕ) (e : Event) (reply : Reply) → Clerks old worker (Ok (clerk.Moved e reply)) new → with_answer e [] ≡ []
+pub moved_ends_none : (old new : Course) (worker : ℕ) (e : Event) (reply : Reply) → Clerks old worker (Ok (Clerk.Moved e reply)) new → with_answer e [] ≡ []
 moved_ends_none old new worker e reply h = posted_ends_none e (first_posted old.plan old.board e h.0.0 h.0.1)

@@ -2,15 +2,8 @@
 use Rattle.std.proofs.Common.{◌≡◌, Bool, true, false, List, [], ◌∷◌, ◌++◌, Some, length, map, filter, cond, slice_get, refl, ◌∙◌}
 use Rattle.std.specs.List.{list_all}
 use Rattle.std.proofs.lemmas.List.Folds.{list_all-append}
+use Rattle.status_table.specs.Words.{Board, Event, Plan, accepts, board_jobs, board_legs, clerk_events, is_accepted, moves, numbers, row}
 use Rattle.board_decisions.proofs.Lists.{and-left, and-right, and-both}
-use Rattle.flow_model.specs.Numbers.{board_jobs, board_legs}
-use Rattle.flow_model.specs.declared.plan.Plan.{Plan}
-use Rattle.flow_model.specs.declared.board.Board.{Board}
-use Rattle.flow_model.specs.declared.event.Event.{Event}
-use Rattle.flow_model.specs.declared.event.Event.TheVariants as event
-use Rattle.status_table.specs.Moves.{clerk_events, is_accepted, accepts, moves}
-use Rattle.board_decisions.specs.Places.{numbers}
-use Rattle.status_table.specs.Row.{row}
 use Rattle.status_table.proofs.Lists.{all-get, all-map}
 use Rattle.worker_pool.proofs.Legs.{is_clerks}
 
@@ -36,16 +29,16 @@ both_all t xs ys first second = list_all-append t xs ys ∙ and-both (list_all t
 
 all_clerks : (b : Board) → list_all is_clerks (clerk_events b) ≡ true
 all_clerks b =
-    let closing = map event.Close (numbers (length b.runs)) in
-    let opening = map event.Open (numbers (length b.runs)) in
-    let judging = map event.Judge (numbers (length (board_jobs b))) in
-    let dropping = map event.Drop (numbers (length (board_legs b))) in
-    let asking = map event.Ask (numbers (length (board_legs b))) in
-    both_all is_clerks closing (opening ++ (judging ++ (dropping ++ asking))) (all-map is_clerks event.Close (numbers (length b.runs)) (λ n. refl))
-    (both_all is_clerks opening (judging ++ (dropping ++ asking)) (all-map is_clerks event.Open (numbers (length b.runs)) (λ n. refl))
-    (both_all is_clerks judging (dropping ++ asking) (all-map is_clerks event.Judge (numbers (length (board_jobs b))) (λ n. refl))
-    (both_all is_clerks dropping asking (all-map is_clerks event.Drop (numbers (length (board_legs b))) (λ n. refl))
-    (all-map is_clerks event.Ask (numbers (length (board_legs b))) (λ n. refl)))))
+    let closing = map Event.Close (numbers (length b.runs)) in
+    let opening = map Event.Open (numbers (length b.runs)) in
+    let judging = map Event.Judge (numbers (length (board_jobs b))) in
+    let dropping = map Event.Drop (numbers (length (board_legs b))) in
+    let asking = map Event.Ask (numbers (length (board_legs b))) in
+    both_all is_clerks closing (opening ++ (judging ++ (dropping ++ asking))) (all-map is_clerks Event.Close (numbers (length b.runs)) (λ n. refl))
+    (both_all is_clerks opening (judging ++ (dropping ++ asking)) (all-map is_clerks Event.Open (numbers (length b.runs)) (λ n. refl))
+    (both_all is_clerks judging (dropping ++ asking) (all-map is_clerks Event.Judge (numbers (length (board_jobs b))) (λ n. refl))
+    (both_all is_clerks dropping asking (all-map is_clerks Event.Drop (numbers (length (board_legs b))) (λ n. refl))
+    (all-map is_clerks Event.Ask (numbers (length (board_legs b))) (λ n. refl)))))
 
 pub first_is_clerks : (p : Plan) (b : Board) (e : Event) → slice_get (moves p b) 0 ≡ Some e → is_clerks e ≡ true
 first_is_clerks p b e first = all-get is_clerks (moves p b) 0 e first (still_all (accepts p b) is_clerks (clerk_events b) (all_clerks b))

@@ -2,17 +2,8 @@
 use Rattle.std.proofs.Common.{◌≡◌, ℕ, zero, suc, ◌+◌, ◌-◌, ◌<◌, true, false, List, [], ◌∷◌, Some, length, slice_get, nat_lt, if◌then◌else◌, ap, subst, sym, refl, ◌∙◌, arith}
 use Rattle.std.proofs.lemmas.Bool.Decides.{nat_tests}
 use Rattle.std.proofs.lemmas.Option.{slice_get_within}
-use Rattle.board_decisions.specs.Place.{job_at, leg_at, job_place_from, leg_place_from}
-use Rattle.board_decisions.specs.declared.place.JobPlace.{JobPlace}
-use Rattle.flow_model.specs.declared.plan.Plan.{Plan}
-use Rattle.flow_model.specs.declared.plan.RunPlan.{RunPlan}
-use Rattle.flow_model.specs.declared.plan.JobPlan.{JobPlan}
-use Rattle.flow_model.specs.declared.board.Board.{Board}
-use Rattle.flow_model.specs.declared.board.Run.{Run}
-use Rattle.flow_model.specs.declared.board.Job.{Job}
-use Rattle.flow_model.specs.declared.board.Leg.{Leg}
+use Rattle.status_table.specs.Words.{Board, HasShape, Job, JobPlace, JobPlan, JobShape, Leg, Plan, Run, RunPlan, RunShape, job_at, job_place_from, leg_at, leg_place_from}
 use Rattle.board_settled.proofs.Numbers.{leg_spot, leg_numbered}
-use Rattle.status_table.specs.Shape.{JobShape, RunShape, HasShape}
 use Rattle.status_table.proofs.Counts.{zip-left}
 use Rattle.board_decisions.proofs.Lists.{same_some, no_some}
 

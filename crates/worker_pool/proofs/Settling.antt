@@ -1,19 +1,10 @@
 -- A play that is Done leaves what is settled.
 use Rattle.std.proofs.Common.{◌≡◌, ℕ, true, false, take, Option, Some, None, subst, sym, ◌∙◌}
 use Rattle.std.proofs.lemmas.Bool.{true≢false}
-use Rattle.flow_model.specs.Rules.{IsPlan}
-use Rattle.flow_model.specs.declared.board.Board.{Board}
-use Rattle.flow_model.specs.declared.event.Answer.{Answer}
-use Rattle.flow_model.specs.declared.event.Event.{Event}
-use Rattle.flow_model.specs.declared.event.Event.TheVariants as event
-use Rattle.flow_model.specs.declared.plan.Plan.{Plan}
-use Rattle.flow_model.specs.declared.reply.StepCall.{StepCall}
+use Rattle.status_table.specs.Words.{Answer, Board, Event, IsPlan, Plan, StepCall, after, finished, open_call}
 use Rattle.board_settled.specs.Agrees.{FinishesAsSettled}
 use Rattle.board_settled.specs.Histories.{IsAnswered}
 use Rattle.board_settled.specs.Settled.{Answers}
-use Rattle.status_table.specs.Calls.{open_call}
-use Rattle.status_table.specs.Moves.{finished}
-use Rattle.status_table.specs.Runs.{after}
 use Rattle.step_host.specs.Lawful.{IsAdmitted, EndsAdmitted, Lawful}
 use Rattle.worker_pool.specs.Alone.{EndsSo}
 use Rattle.worker_pool.specs.History.{is_cancel, NoCancel}
@@ -28,16 +19,16 @@ admitted admits answers only (Some x) a h call is = only call a (subst (λ (c : 
 
 answered : (admits : StepCall → Answer → Type 0) (answers : Answers) → AdmitsOnly admits answers → (calls : ℕ → Option StepCall) (e : Event) → is_cancel e ≡ false
     → EndsAdmitted admits calls e → IsAnswered answers calls e
-answered admits answers only calls (event.Open r) quiet h = tt
-answered admits answers only calls (event.Judge j) quiet h = tt
-answered admits answers only calls (event.Ask l) quiet h = tt
-answered admits answers only calls (event.Drop l) quiet h = tt
-answered admits answers only calls (event.Take l) quiet h = tt
-answered admits answers only calls (event.Begin l) quiet h = tt
-answered admits answers only calls (event.End l a) quiet h = admitted admits answers only (calls l) a h
-answered admits answers only calls (event.Finish l) quiet h = tt
-answered admits answers only calls (event.Close r) quiet h = tt
-answered admits answers only calls (event.Cancel r) quiet h = absurd (true≢false quiet)
+answered admits answers only calls (Event.Open r) quiet h = tt
+answered admits answers only calls (Event.Judge j) quiet h = tt
+answered admits answers only calls (Event.Ask l) quiet h = tt
+answered admits answers only calls (Event.Drop l) quiet h = tt
+answered admits answers only calls (Event.Take l) quiet h = tt
+answered admits answers only calls (Event.Begin l) quiet h = tt
+answered admits answers only calls (Event.End l a) quiet h = admitted admits answers only (calls l) a h
+answered admits answers only calls (Event.Finish l) quiet h = tt
+answered admits answers only calls (Event.Close r) quiet h = tt
+answered admits answers only calls (Event.Cancel r) quiet h = absurd (true≢false quiet)
 
 settles : FinishesAsSettled → (admits : StepCall → Answer → Type 0) (p : Plan) (played : Played) → IsPlan p → Lawful admits p played.history → NoCancel played.history
     → (board : Board) → after p played.history ≡ Some board → EndsSo p board played.ending → SettlesAll admits p played

@@ -6,43 +6,15 @@ use Rattle.std.proofs.lemmas.Bool.Decides.{nat_tests}
 use Rattle.std.proofs.lemmas.List.Folds.{list_all-append}
 use Rattle.std.proofs.lemmas.List.Sums.{sum_by-cons}
 use Rattle.std.proofs.lemmas.Option.{slice_get-map, slice_get_within, slice_get-get_or}
-use Rattle.board_decisions.specs.declared.entrance.Entrance.{Entrance}
-use Rattle.board_decisions.specs.Decisions.{leg_entrance}
-use Rattle.board_decisions.specs.Derived.{is_closed, is_shut, is_ended, is_under_way, is_full, leg_has_ended, job_has_ended, holds, holds_at, needs_have_ended}
-use Rattle.board_decisions.specs.Place.{RunAt, JobAt, LegAt}
-use Rattle.flow_model.specs.Numbers.{board_legs}
-use Rattle.flow_model.specs.Rules.{IsPlan, greatest}
-use Rattle.flow_model.specs.Sound.{SoundPlan}
-use Rattle.flow_model.specs.declared.plan.Plan.{Plan}
-use Rattle.flow_model.specs.declared.plan.RunPlan.{RunPlan}
-use Rattle.flow_model.specs.declared.plan.JobPlan.{JobPlan}
-use Rattle.flow_model.specs.declared.board.Board.{Board}
-use Rattle.flow_model.specs.declared.board.Run.{Run}
-use Rattle.flow_model.specs.declared.board.RunState.TheVariants as run_state
-use Rattle.flow_model.specs.declared.board.Job.{Job}
-use Rattle.flow_model.specs.declared.board.JobState.{JobState}
-use Rattle.flow_model.specs.declared.board.JobState.TheVariants as job_state
-use Rattle.flow_model.specs.declared.board.Leg.{Leg}
-use Rattle.flow_model.specs.declared.board.LegState.{LegState}
-use Rattle.flow_model.specs.declared.board.LegState.TheVariants as leg_state
-use Rattle.flow_model.specs.declared.event.Entry.{Entry}
-use Rattle.flow_model.specs.declared.reply.ValueFault.{ValueFault}
+use Rattle.status_table.specs.Words.{Board, Entrance, Entry, InPlay, IsPlan, Job, JobAt, JobPlan, JobState, Leg, LegAt, LegState, Plan, Run, RunAt, RunPlan, RunShape, RunState, SoundPlan, Standing, ValueFault, after, apart, board_legs, finished, first_of, greatest, holding, holds, holds_at, is_active, is_closed, is_ended, is_full, is_none_left, is_shut, is_under_way, is_waiting, job_has_ended, leg_entrance, leg_has_ended, leg_standing, leg_stands, moves, needs_have_ended, stalled, waiting}
 use Rattle.board_settled.proofs.Numbers.{leg_spot}
-use Rattle.status_table.specs.Groups.{Standing, apart, holding, waiting, leg_standing, leg_stands}
-use Rattle.status_table.specs.InPlay.{InPlay}
-use Rattle.status_table.specs.Members.{is_waiting}
-use Rattle.status_table.specs.Moves.{finished, is_active, is_none_left, moves, stalled}
-use Rattle.status_table.specs.Row.{first_of}
-use Rattle.status_table.specs.Runs.{after}
-use Rattle.status_table.specs.Shape.{RunShape}
 use Rattle.worker_pool.specs.Stalls.{HasNoJobGroup, WaitsForAnotherRun}
-use Rattle.board_decisions.proofs.Lists.{and-left, and-right, and-both}
+use Rattle.board_decisions.proofs.Lists.{and-left, and-right, and-both, same_some, no_some}
 use Rattle.status_table.proofs.Counts.{one, zip-left, all-weaker}
 use Rattle.status_table.proofs.Found.{job_stands as job_found, leg_stands as leg_found, leg_item}
 use Rattle.status_table.proofs.Lawfulness.{legal_lawful}
 use Rattle.status_table.proofs.Legal.{after_fits}
 use Rattle.status_table.proofs.Lists.{all-get, flat_map-twice}
-use Rattle.board_decisions.proofs.Lists.{same_some, no_some}
 use Rattle.status_table.proofs.Sound.{stands_after_needs}
 use Rattle.worker_pool.proofs.Holding.{IsQuiet, has_name, run_waits_for, leg_waits_for}
 use Rattle.worker_pool.proofs.Keeping.{Passes, AllStand, legal_stands}
@@ -123,18 +95,18 @@ abbrev NoneUnderWay : Board → Type 0
 NoneUnderWay b = list_all (λ leg. not (is_under_way leg.state)) (board_legs b) ≡ true
 
 not-under-way : (s : LegState) → not (is_active s) ≡ true → not (is_waiting s) ≡ true → not (is_under_way s) ≡ true
-not-under-way leg_state.Fresh h k = refl
-not-under-way leg_state.Waiting h k = k
-not-under-way leg_state.Admitted h k = h
-not-under-way (leg_state.Running worker in_call) h k = h
-not-under-way (leg_state.Ended result tolerated) h k = refl
+not-under-way LegState.Fresh h k = refl
+not-under-way LegState.Waiting h k = k
+not-under-way LegState.Admitted h k = h
+not-under-way (LegState.Running worker in_call) h k = h
+not-under-way (LegState.Ended result tolerated) h k = refl
 
-fresh-else : (s : LegState) → not (is_under_way s) ≡ true → is_ended s ≡ false → s ≡ leg_state.Fresh
-fresh-else leg_state.Fresh h k = refl
-fresh-else leg_state.Waiting h k = absurd (true≢false (sym h))
-fresh-else leg_state.Admitted h k = absurd (true≢false (sym h))
-fresh-else (leg_state.Running worker in_call) h k = absurd (true≢false (sym h))
-fresh-else (leg_state.Ended result tolerated) h k = absurd (true≢false k)
+fresh-else : (s : LegState) → not (is_under_way s) ≡ true → is_ended s ≡ false → s ≡ LegState.Fresh
+fresh-else LegState.Fresh h k = refl
+fresh-else LegState.Waiting h k = absurd (true≢false (sym h))
+fresh-else LegState.Admitted h k = absurd (true≢false (sym h))
+fresh-else (LegState.Running worker in_call) h k = absurd (true≢false (sym h))
+fresh-else (LegState.Ended result tolerated) h k = absurd (true≢false k)
 
 -- a job none of whose legs is under way has a free slot
 has-room : (plan : JobPlan) (job : Job) → IfSome plan.max_parallel (λ most. (1 ≤ most) × (most ≤ greatest))
@@ -150,7 +122,7 @@ has-room plan job some none = by plan.max_parallel refl some
 
 -- Beside a Going run something is accepted, so there is none.
 module _ (p : Plan) (b : Board) (in_play : InPlay p b) (sound : SoundPlan p) (none : Idle p b) (still : NoneUnderWay b)
-    (r : ℕ) (run : Run) (in_board : slice_get b.runs r ≡ Some run) (going : run.state ≡ run_state.Going) where
+    (r : ℕ) (run : Run) (in_board : slice_get b.runs r ≡ Some run) (going : run.state ≡ RunState.Going) where
   -- the first of its jobs that has not ended, and the first such leg of it
   left : FirstFails (job_has_ended run) run.jobs
   left =
@@ -194,13 +166,13 @@ module _ (p : Plan) (b : Board) (in_play : InPlay p b) (sound : SoundPlan p) (no
           let high = leb-true (suc need) (first + left.place) (and-right (nat_le first need) (nat_lt need (first + left.place)) h) in
           has_ended (need - first) (omega (arith, low, high))
 
-  opened : left.item.state ≡ job_state.Open
+  opened : left.item.state ≡ JobState.Open
   opened = by left.item.state refl
     where
-      by : (s : JobState) → left.item.state ≡ s → left.item.state ≡ job_state.Open
-      by job_state.Unjudged is = absurd (was_judged p b none number.n at_job number.found going needs_ended is)
-      by job_state.Open is = is
-      by (job_state.Shut result) is = absurd (true≢false (sym (ap is_shut is) ∙ undone.0))
+      by : (s : JobState) → left.item.state ≡ s → left.item.state ≡ JobState.Open
+      by JobState.Unjudged is = absurd (was_judged p b none number.n at_job number.found going needs_ended is)
+      by JobState.Open is = is
+      by (JobState.Shut result) is = absurd (true≢false (sym (ap is_shut is) ∙ undone.0))
 
   -- ---- its leg has asked
 
@@ -224,7 +196,7 @@ module _ (p : Plan) (b : Board) (in_play : InPlay p b) (sound : SoundPlan p) (no
       let of_run = part-passes (λ (leg : Leg). not (is_under_way leg.state)) (λ (x : Run). flat_map (λ (y : Job). y.legs) x.jobs) b.runs r run by_runs in_board in
       part-passes (λ (leg : Leg). not (is_under_way leg.state)) (λ (x : Job). x.legs) run.jobs left.place left.item of_run left.there
 
-  fresh : leg_left.item.state ≡ leg_state.Fresh
+  fresh : leg_left.item.state ≡ LegState.Fresh
   fresh = fresh-else leg_left.item.state (all-get (λ (leg : Leg). not (is_under_way leg.state)) left.item.legs leg_left.place leg_left.item leg_left.there legs_still) undone.1
 
   free : is_full leg_number.job_plan left.item ≡ false
@@ -238,12 +210,12 @@ module _ (p : Plan) (b : Board) (in_play : InPlay p b) (sound : SoundPlan p) (no
 
 -- ---- a board that stalls
 
-is-waiting : (s : LegState) → not (is_waiting s) ≡ false → s ≡ leg_state.Waiting
-is-waiting leg_state.Fresh h = absurd (true≢false h)
-is-waiting leg_state.Waiting h = refl
-is-waiting leg_state.Admitted h = absurd (true≢false h)
-is-waiting (leg_state.Running worker in_call) h = absurd (true≢false h)
-is-waiting (leg_state.Ended result tolerated) h = absurd (true≢false h)
+is-waiting : (s : LegState) → not (is_waiting s) ≡ false → s ≡ LegState.Waiting
+is-waiting LegState.Fresh h = absurd (true≢false h)
+is-waiting LegState.Waiting h = refl
+is-waiting LegState.Admitted h = absurd (true≢false h)
+is-waiting (LegState.Running worker in_call) h = absurd (true≢false h)
+is-waiting (LegState.Ended result tolerated) h = absurd (true≢false h)
 
 not-true : (c : Bool) → not c ≡ true → c ≡ false
 not-true true h = sym h

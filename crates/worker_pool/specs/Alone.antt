@@ -1,42 +1,28 @@
 -- What one thread plays: worker 0 posts what a clerk may, and else plays one leg at a time.
 use Rattle.std.specs.Prelude.{◌≡◌, ℕ, ◌<◌, Bool, true, false, List, [], take, Some, slice_get}
-use Rattle.flow_model.specs.Numbers.{board_legs}
-use Rattle.flow_model.specs.Sound.{Each}
-use Rattle.flow_model.specs.declared.plan.Plan.{Plan}
-use Rattle.flow_model.specs.declared.board.Board.{Board}
-use Rattle.flow_model.specs.declared.board.Leg.{Leg}
-use Rattle.flow_model.specs.declared.board.LegState.{LegState}
-use Rattle.flow_model.specs.declared.board.LegState.TheVariants as leg_state
-use Rattle.flow_model.specs.declared.event.Answer.{Answer}
-use Rattle.flow_model.specs.declared.event.Entry.{Entry}
-use Rattle.flow_model.specs.declared.event.Event.{Event}
-use Rattle.flow_model.specs.declared.event.Event.TheVariants as event
-use Rattle.flow_model.specs.declared.reply.StepCall.{StepCall}
-use Rattle.status_table.specs.Moves.{moves, finished, stalled}
-use Rattle.status_table.specs.Runs.{after}
+use Rattle.status_table.specs.Words.{Answer, Board, Each, Entry, Event, Leg, LegState, Plan, StepCall, after, board_legs, finished, moves, stalled}
 use Rattle.step_host.specs.Lawful.{Lawful}
 use Rattle.worker_pool.specs.History.{AreOf, NoCancel}
 use Rattle.worker_pool.specs.declared.played.Ending.{Ending}
-use Rattle.worker_pool.specs.declared.played.Ending.TheVariants as ending
 use Rattle.worker_pool.specs.declared.played.Played.{Played}
 
 -- ---- the legs of a board
 
 -- whether a leg has a worker
 abbrev pub is_running : LegState → Bool
-is_running leg_state.Fresh = false
-is_running leg_state.Waiting = false
-is_running leg_state.Admitted = false
-is_running (leg_state.Running worker in_call) = true
-is_running (leg_state.Ended result tolerated) = false
+is_running LegState.Fresh = false
+is_running LegState.Waiting = false
+is_running LegState.Admitted = false
+is_running (LegState.Running worker in_call) = true
+is_running (LegState.Ended result tolerated) = false
 
 -- whether a leg may be taken
 abbrev pub is_admitted : LegState → Bool
-is_admitted leg_state.Fresh = false
-is_admitted leg_state.Waiting = false
-is_admitted leg_state.Admitted = true
-is_admitted (leg_state.Running worker in_call) = false
-is_admitted (leg_state.Ended result tolerated) = false
+is_admitted LegState.Fresh = false
+is_admitted LegState.Waiting = false
+is_admitted LegState.Admitted = true
+is_admitted (LegState.Running worker in_call) = false
+is_admitted (LegState.Ended result tolerated) = false
 
 -- no leg has a worker
 abbrev pub NobodyRuns : Board → Type 0
@@ -50,7 +36,7 @@ NobodyWaitsForWorkers b = Each (λ leg. is_admitted leg.state ≡ false) (board_
 pub record IsLowestAdmitted (b : Board) (l : ℕ) : Type 0 where
   pub leg : Leg
   pub there : slice_get (board_legs b) l ≡ Some leg
-  pub admitted : leg.state ≡ leg_state.Admitted
+  pub admitted : leg.state ≡ LegState.Admitted
   pub lowest : (k : ℕ) (other : Leg) → k < l → slice_get (board_legs b) k ≡ Some other → is_admitted other.state ≡ false
 
 -- ---- the order in which one thread plays
@@ -63,16 +49,16 @@ IsFirstMove p b e = (slice_get (moves p b) 0 ≡ Some e) × NobodyRuns b
 -- may be next; else it posts the first of what a clerk may do, and where that is nothing, takes the lowest leg that
 -- may be taken. It tells no run to stop.
 abbrev pub IsNext : Plan → Board → Event → Type 0
-IsNext p b (event.Open r) = IsFirstMove p b (event.Open r)
-IsNext p b (event.Judge j) = IsFirstMove p b (event.Judge j)
-IsNext p b (event.Ask l) = IsFirstMove p b (event.Ask l)
-IsNext p b (event.Drop l) = IsFirstMove p b (event.Drop l)
-IsNext p b (event.Take l) = (moves p b ≡ []) × NobodyRuns b × IsLowestAdmitted b l
-IsNext p b (event.Begin l) = Unit {0}
-IsNext p b (event.End l a) = Unit {0}
-IsNext p b (event.Finish l) = Unit {0}
-IsNext p b (event.Close r) = IsFirstMove p b (event.Close r)
-IsNext p b (event.Cancel r) = ⊥
+IsNext p b (Event.Open r) = IsFirstMove p b (Event.Open r)
+IsNext p b (Event.Judge j) = IsFirstMove p b (Event.Judge j)
+IsNext p b (Event.Ask l) = IsFirstMove p b (Event.Ask l)
+IsNext p b (Event.Drop l) = IsFirstMove p b (Event.Drop l)
+IsNext p b (Event.Take l) = (moves p b ≡ []) × NobodyRuns b × IsLowestAdmitted b l
+IsNext p b (Event.Begin l) = Unit {0}
+IsNext p b (Event.End l a) = Unit {0}
+IsNext p b (Event.Finish l) = Unit {0}
+IsNext p b (Event.Close r) = IsFirstMove p b (Event.Close r)
+IsNext p b (Event.Cancel r) = ⊥
 
 -- each entry is what is next after those before it
 abbrev pub InTurn : Plan → List Entry → Type 0
@@ -89,8 +75,8 @@ pub record PlayedAlone (admits : StepCall → Answer → Type 0) (p : Plan) (es 
 
 -- how a play ended, by the board that it left
 abbrev pub EndsSo : Plan → Board → Ending → Type 0
-EndsSo p b ending.Done = finished b ≡ true
-EndsSo p b ending.Stalled = stalled p b ≡ true
+EndsSo p b Ending.Done = finished b ≡ true
+EndsSo p b Ending.Stalled = stalled p b ≡ true
 
 -- A play by one thread has such a history, and leaves the board after it, on which all is finished, or nothing goes on.
 pub record EndsAlone (admits : StepCall → Answer → Type 0) (p : Plan) (played : Played) : Type 0 where

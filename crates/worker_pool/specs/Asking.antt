@@ -1,12 +1,11 @@
 -- What a host gives to the call of a leg.
 use Rattle.std.specs.Prelude.{◌≡◌, ℕ, Result, Ok, Err}
-use Rattle.flow_model.specs.declared.event.Answer.{Answer}
+use Rattle.status_table.specs.Words.{Answer}
 use Rattle.worker_pool.specs.declared.stop.Stop.{Stop}
-use Rattle.worker_pool.specs.declared.stop.Stop.TheVariants as stop
 
 -- The answer is one that is admitted; or the call, which is of this leg and step, is declined, or there was no memory.
 abbrev pub Gives : (Answer → Type 0) → Type 0 → ℕ → ℕ → Result Answer Stop → Type 0
 Gives admitted declined leg step (Ok a) = admitted a
-Gives admitted declined leg step (Err (stop.NoAnswer l s)) = (l ≡ leg) × (s ≡ step) × declined
-Gives admitted declined leg step (Err stop.Mismatch) = ⊥
-Gives admitted declined leg step (Err stop.Memory) = Unit {0}
+Gives admitted declined leg step (Err (Stop.NoAnswer l s)) = (l ≡ leg) × (s ≡ step) × declined
+Gives admitted declined leg step (Err Stop.Mismatch) = ⊥
+Gives admitted declined leg step (Err Stop.Memory) = Unit {0}

@@ -1,7 +1,6 @@
 -- Whether the board after a list of entries is all of what is settled by the answers that the list gives.
 use Rattle.std.specs.Prelude.{◌≡◌, ℕ, Bool, List, [], length, take, Some, Result, Ok, Err, slice_get}
-use Rattle.flow_model.specs.declared.event.Entry.{Entry}
-use Rattle.flow_model.specs.declared.plan.Plan.{Plan}
+use Rattle.status_table.specs.Words.{Entry, Plan}
 pub use Rattle.board_settled.specs.Records.{TellsSettled}
 use Rattle.status_table.specs.Runs.{IsLegal}
 use Rattle.status_table.specs.declared.fault.EventFault.{EventFault}

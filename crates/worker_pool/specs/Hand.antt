@@ -1,30 +1,11 @@
 -- How far a play has come.
 use Rattle.std.specs.Prelude.{◌≡◌, ◌≢◌, ℕ, ◌<◌, ◌≤◌, Bool, true, false, List, [], Option, Some, None, Result, Ok, Err, length, slice_get}
-use Rattle.flow_model.specs.Numbers.{board_legs}
-use Rattle.flow_model.specs.declared.plan.Plan.{Plan}
-use Rattle.flow_model.specs.declared.board.Board.{Board}
-use Rattle.flow_model.specs.declared.board.Leg.{Leg}
-use Rattle.flow_model.specs.declared.board.LegState.TheVariants as leg_state
-use Rattle.flow_model.specs.declared.event.Answer.{Answer}
-use Rattle.flow_model.specs.declared.event.Entry.{Entry}
-use Rattle.flow_model.specs.declared.event.Event.{Event}
-use Rattle.flow_model.specs.declared.event.Event.TheVariants as event
-use Rattle.flow_model.specs.declared.reply.Reply.{Reply}
-use Rattle.flow_model.specs.declared.reply.StepCall.{StepCall}
-use Rattle.flow_model.specs.declared.reply.What.{What}
-use Rattle.flow_model.specs.declared.reply.What.TheVariants as what
-use Rattle.board_decisions.specs.Place.{LegAt, leg_at}
-use Rattle.status_table.specs.InPlay.{InPlay}
-use Rattle.status_table.specs.Moves.{moves}
-use Rattle.status_table.specs.Row.{next_step}
-use Rattle.status_table.specs.Runs.{after}
-use Rattle.status_table.specs.Calls.{open_call}
+use Rattle.status_table.specs.Words.{Answer, Board, Entry, Event, InPlay, Leg, LegAt, LegState, Plan, Reply, StepCall, What, after, board_legs, leg_at, moves, next_step, open_call}
 use Rattle.worker_pool.specs.Alone.{is_running, NobodyRuns, NobodyWaitsForWorkers, IsLowestAdmitted, EndsSo, PlayedAlone}
 use Rattle.worker_pool.specs.Fault.{IsUnanswered}
 use Rattle.worker_pool.specs.History.{Added}
 use Rattle.worker_pool.specs.declared.played.Ending.{Ending}
 use Rattle.worker_pool.specs.declared.stop.Stop.{Stop}
-use Rattle.worker_pool.specs.declared.stop.Stop.TheVariants as stop
 
 -- One thread has played entries that lead to a board.
 pub record Playing (admits : StepCall → Answer → Type 0) (p : Plan) (b : Board) (es : List Entry) : Type 0 where
@@ -41,7 +22,7 @@ pub record Between (admits : StepCall → Answer → Type 0) (p : Plan) (b : Boa
 pub record Holds (b : Board) (l : ℕ) (in_call : Bool) : Type 0 where
   pub leg : Leg
   pub there : slice_get (board_legs b) l ≡ Some leg
-  pub state : leg.state ≡ leg_state.Running 0 in_call
+  pub state : leg.state ≡ LegState.Running 0 in_call
   pub others : (k : ℕ) (other : Leg) → k ≢ l → slice_get (board_legs b) k ≡ Some other → is_running other.state ≡ false
 
 -- One thread has a leg, which is idle.
@@ -59,16 +40,16 @@ pub record Calling (admits : StepCall → Answer → Type 0) (p : Plan) (b : Boa
 
 -- One thread has begun a step of a leg, by what was replied.
 abbrev pub Begun : (StepCall → Answer → Type 0) → Plan → Board → List Entry → ℕ → What → Type 0
-Begun admits p b es l what.Moved = InHand admits p b es l
-Begun admits p b es l (what.Call call) = Calling admits p b es l call
-Begun admits p b es l what.Skipped = InHand admits p b es l
-Begun admits p b es l (what.Faulted f) = InHand admits p b es l
+Begun admits p b es l What.Moved = InHand admits p b es l
+Begun admits p b es l (What.Call call) = Calling admits p b es l call
+Begun admits p b es l What.Skipped = InHand admits p b es l
+Begun admits p b es l (What.Faulted f) = InHand admits p b es l
 
 -- Why one thread goes no further, after what it has played.
 abbrev pub StopsHere : (StepCall → Answer → Type 0) → (StepCall → Type 0) → Plan → List Entry → Stop → Type 0
-StopsHere admits declines p es (stop.NoAnswer l step) = PlayedAlone admits p es × IsUnanswered declines p es l step
-StopsHere admits declines p es stop.Mismatch = ⊥
-StopsHere admits declines p es stop.Memory = PlayedAlone admits p es
+StopsHere admits declines p es (Stop.NoAnswer l step) = PlayedAlone admits p es × IsUnanswered declines p es l step
+StopsHere admits declines p es Stop.Mismatch = ⊥
+StopsHere admits declines p es Stop.Memory = PlayedAlone admits p es
 
 -- ---- what one thread's turns come to
 
@@ -78,7 +59,7 @@ of_zero e = record { worker = 0; event = e }
 
 -- nothing is changed, since there was no memory
 abbrev pub IsOutOfMemory : Board → List Entry → Stop → Board → List Entry → Type 0
-IsOutOfMemory old es s new more = (s ≡ stop.Memory) × (new ≡ old) × (more ≡ es)
+IsOutOfMemory old es s new more = (s ≡ Stop.Memory) × (new ≡ old) × (more ≡ es)
 
 -- The first of what a clerk may do is posted; or there is nothing that it may do.
 abbrev pub Posts : Plan → Board → List Entry → Result Bool Stop → Board → List Entry → Type 0
@@ -89,7 +70,7 @@ Posts p old es (Err s) new more = IsOutOfMemory old es s new more
 
 -- The lowest leg that may be taken is taken; or there is none.
 abbrev pub Takes : Plan → Board → List Entry → Result (Option ℕ) Stop → Board → List Entry → Type 0
-Takes p old es (Ok (Some l)) new more = (told : Reply) × IsLowestAdmitted old l × Added p old es (of_zero (event.Take l)) told new more
+Takes p old es (Ok (Some l)) new more = (told : Reply) × IsLowestAdmitted old l × Added p old es (of_zero (Event.Take l)) told new more
 Takes p old es (Ok None) new more = NobodyWaitsForWorkers old × (new ≡ old) × (more ≡ es)
 Takes p old es (Err s) new more = IsOutOfMemory old es s new more
 

@@ -1,6 +1,6 @@
 -- The first leg of a board that may be taken.
 use Rattle.std.specs.Prelude.{ℕ, Option, Some, None}
-use Rattle.flow_model.specs.declared.board.Board.{Board}
+use Rattle.status_table.specs.Words.{Board}
 use Rattle.worker_pool.specs.Alone.{IsLowestAdmitted, NobodyWaitsForWorkers}
 
 -- the number is that of the lowest leg that may be taken, if there is one

@@ -1,18 +1,12 @@
 -- What several workers play.
 use Rattle.std.specs.Prelude.{◌≡◌, ◌⊎◌, ℕ, ◌<◌, List, Some}
-use Rattle.flow_model.specs.Sound.{Each}
-use Rattle.flow_model.specs.declared.plan.Plan.{Plan}
-use Rattle.flow_model.specs.declared.event.Answer.{Answer}
-use Rattle.flow_model.specs.declared.event.Entry.{Entry}
-use Rattle.flow_model.specs.declared.reply.StepCall.{StepCall}
-use Rattle.status_table.specs.Runs.{after}
+use Rattle.status_table.specs.Words.{Answer, Each, Entry, Plan, StepCall, after}
 use Rattle.step_host.specs.Lawful.{Lawful}
-use Rattle.step_host.specs.declared.fault.HostFault.TheVariants as host_fault
+use Rattle.step_host.specs.declared.fault.HostFault.{HostFault}
 use Rattle.worker_pool.specs.Alone.{EndsSo}
 use Rattle.worker_pool.specs.Fault.{IsUnanswered}
 use Rattle.worker_pool.specs.History.{NoCancel}
 use Rattle.worker_pool.specs.declared.fault.PoolFault.{PoolFault}
-use Rattle.worker_pool.specs.declared.fault.PoolFault.TheVariants as fault
 use Rattle.worker_pool.specs.declared.played.Played.{Played}
 
 -- each entry is of a worker below a number
@@ -38,8 +32,8 @@ AreNoWorkers workers = (workers ≡ 0) ⊎ (16 < workers)
 -- Why several workers stop, of whom there are so many: a host declined a call, in which its leg still is; or there was no
 -- memory; or what they logged is not what is played again of their history, as far as that was checked.
 abbrev pub StopsByMany : (StepCall → Answer → Type 0) → (StepCall → Type 0) → Plan → ℕ → PoolFault → Type 0
-StopsByMany admits declines p workers fault.Workers = AreNoWorkers workers
-StopsByMany admits declines p workers (fault.Host l step host_fault.NoAnswer es) = PlayedByMany admits p workers es × IsUnanswered declines p es l step
-StopsByMany admits declines p workers (fault.Host l step host_fault.Memory es) = ⊥
-StopsByMany admits declines p workers (fault.Mismatch es) = PlayedByMany admits p workers es
-StopsByMany admits declines p workers (fault.Memory es) = PlayedByMany admits p workers es
+StopsByMany admits declines p workers PoolFault.Workers = AreNoWorkers workers
+StopsByMany admits declines p workers (PoolFault.Host l step HostFault.NoAnswer es) = PlayedByMany admits p workers es × IsUnanswered declines p es l step
+StopsByMany admits declines p workers (PoolFault.Host l step HostFault.Memory es) = ⊥
+StopsByMany admits declines p workers (PoolFault.Mismatch es) = PlayedByMany admits p workers es
+StopsByMany admits declines p workers (PoolFault.Memory es) = PlayedByMany admits p workers es

@@ -1,11 +1,6 @@
 -- A list of entries that is played over the host of its own answers.
 use Rattle.std.specs.Prelude.{◌≡◌, List, Some, Result, Ok, Err}
-use Rattle.flow_model.specs.declared.board.Board.{Board}
-use Rattle.flow_model.specs.declared.event.Answer.{Answer}
-use Rattle.flow_model.specs.declared.event.Entry.{Entry}
-use Rattle.flow_model.specs.declared.plan.Plan.{Plan}
-use Rattle.flow_model.specs.declared.reply.StepCall.{StepCall}
-use Rattle.status_table.specs.Runs.{after}
+use Rattle.status_table.specs.Words.{Answer, Board, Entry, Plan, StepCall, after}
 use Rattle.step_host.specs.Lawful.{Lawful}
 use Rattle.worker_pool.specs.Entries.{IsMemory, IsReplayed, StopsEntries}
 use Rattle.worker_pool.specs.declared.fault.PoolFault.{PoolFault}

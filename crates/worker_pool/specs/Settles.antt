@@ -1,18 +1,13 @@
 -- What a play comes to where nothing rests on the order of events.
 use Rattle.std.specs.Prelude.{◌≡◌, ◌⊎◌, ℕ, Some}
-use Rattle.flow_model.specs.Rules.{IsPlan}
-use Rattle.flow_model.specs.declared.board.Board.{Board}
-use Rattle.flow_model.specs.declared.event.Answer.{Answer}
-use Rattle.flow_model.specs.declared.plan.Plan.{Plan}
-use Rattle.flow_model.specs.declared.reply.StepCall.{StepCall}
+use Rattle.status_table.specs.Words.{Answer, Board, IsPlan, Plan, StepCall, after}
 use Rattle.board_settled.specs.Agrees.{IsSettled}
 use Rattle.board_settled.specs.Free.{IsFree}
 use Rattle.board_settled.specs.Settled.{Answers, settled}
-use Rattle.status_table.specs.Runs.{after}
 use Rattle.worker_pool.specs.Alone.{EndsAlone}
 use Rattle.worker_pool.specs.Entries.{AdmitsOne}
 use Rattle.worker_pool.specs.Many.{EndsByMany}
-use Rattle.worker_pool.specs.declared.played.Ending.TheVariants as ending
+use Rattle.worker_pool.specs.declared.played.Ending.{Ending}
 use Rattle.worker_pool.specs.declared.played.Played.{Played}
 
 -- A host admits at most one answer to each call, which is this.
@@ -23,7 +18,7 @@ AdmitsOnly admits answers = (call : StepCall) (answer : Answer) → admits call 
 -- Done leaves a board that is all of what is settled.
 abbrev pub SettlesAll : (StepCall → Answer → Type 0) → Plan → Played → Type 0
 SettlesAll admits p played =
-    IsFree p → (answers : Answers) → AdmitsOnly admits answers → played.ending ≡ ending.Done
+    IsFree p → (answers : Answers) → AdmitsOnly admits answers → played.ending ≡ Ending.Done
     → (b : Board) → after p played.history ≡ Some b → IsSettled (settled p answers) b
 
 -- A play by any number of workers does so.
@@ -42,7 +37,7 @@ OneSettles admits =
 -- A play of a plan that came to its end, by one thread or by several workers.
 pub record IsDone (admits : StepCall → Answer → Type 0) (p : Plan) (played : Played) : Type 0 where
   pub ends : EndsAlone admits p played ⊎ ((workers : ℕ) × EndsByMany admits p workers played)
-  pub done : played.ending ≡ ending.Done
+  pub done : played.ending ≡ Ending.Done
 
 -- Where nothing rests on the order of events in a plan, and a host admits at most one answer to each call, two plays that are
 -- Done leave the same runs, with all their jobs and legs.

@@ -1,12 +1,6 @@
 -- Why a plan in play may not go on: the groups of its jobs.
 use Rattle.std.specs.Prelude.{◌≡◌, ◌≢◌, ℕ, List, Some, None, slice_get}
-use Rattle.board_decisions.specs.Place.{LegAt, leg_at}
-use Rattle.flow_model.specs.Sound.{Each}
-use Rattle.flow_model.specs.declared.plan.Plan.{Plan}
-use Rattle.flow_model.specs.declared.board.Board.{Board}
-use Rattle.flow_model.specs.declared.board.Run.{Run}
-use Rattle.flow_model.specs.declared.board.RunState.TheVariants as run_state
-use Rattle.flow_model.specs.declared.board.LegState.TheVariants as leg_state
+use Rattle.status_table.specs.Words.{Board, Each, LegAt, LegState, Plan, Run, RunState, leg_at}
 
 -- A leg waits for the group with a name, which another run than the leg's own holds: it is Going, in that group.
 pub record WaitsForAnotherRun (p : Plan) (b : Board) : Type 0 where
@@ -16,10 +10,10 @@ pub record WaitsForAnotherRun (p : Plan) (b : Board) : Type 0 where
   pub other : ℕ
   pub run : Run
   pub found : leg_at p b leg ≡ Some at
-  pub waits : at.leg.state ≡ leg_state.Waiting
+  pub waits : at.leg.state ≡ LegState.Waiting
   pub wanted : at.leg.group ≡ Some name
   pub there : slice_get b.runs other ≡ Some run
-  pub going : run.state ≡ run_state.Going
+  pub going : run.state ≡ RunState.Going
   pub holds : run.group ≡ Some name
   pub another : other ≢ at.place.run
 

@@ -1,8 +1,7 @@
 -- What a play begins with, and what a worker keeps while it plays: its pass, and what it logs.
 use Rattle.std.specs.Prelude.{◌≡◌, ℕ, ◌+◌, ◌≤◌, List, [], ◌∷◌, Vec, vec_len, vec_capacity}
 use Rattle.std.specs.Global.{Global}
-use Rattle.flow_model.specs.declared.event.Answer.{Answer}
-use Rattle.flow_model.specs.declared.reply.StepCall.{StepCall}
+use Rattle.status_table.specs.Words.{Answer, StepCall}
 use Rattle.ready_queue.specs.Passes.{TicketQueue, IsPassOf, records_of}
 use Rattle.ready_queue.specs.Names.{Name}
 use Rattle.ready_queue.specs.Records.{IsWhole, KeepsNames, keepers}

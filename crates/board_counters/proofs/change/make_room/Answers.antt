@@ -1,9 +1,7 @@
 use Rattle.std.proofs.Common.{List, ap, refl}
+use Rattle.status_table.specs.Words.{Job, Leg, Run}
 use Rattle.board_counters.proofs.Lists.{set_same}
 use Rattle.board_counters.proofs.change.make_room.Goals as goal
-use Rattle.flow_model.specs.declared.board.Run.{Run}
-use Rattle.flow_model.specs.declared.board.Job.{Job}
-use Rattle.flow_model.specs.declared.board.Leg.{Leg}
 
 pub returns-in-Some-get_mut-2 : goal.returns-in-Some-get_mut-2
 returns-in-Some-get_mut-2 c =

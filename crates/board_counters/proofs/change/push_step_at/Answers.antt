@@ -1,6 +1,5 @@
 use Rattle.std.proofs.Common.{◌≡◌, List, ap, sym}
-use Rattle.flow_model.specs.declared.board.Leg.{Leg}
-use Rattle.flow_model.specs.declared.board.DoneStep.{DoneStep}
+use Rattle.status_table.specs.Words.{DoneStep, Leg}
 use Rattle.status_table.proofs.Kept.{leg_kept, OnErr-always}
 use Rattle.board_counters.proofs.change.push_step_at.Goals as goal
 

@@ -1,8 +1,5 @@
 use Rattle.std.proofs.Common.{◌≡◌, drop}
-use Rattle.expr_reader.specs.Expr.{exprs_of}
-use Rattle.expr_reader.specs.View.{views}
-use Rattle.expr_reader.specs.declared.tree.Context.{Context}
-use Rattle.expr_value.specs.Named.{any_names_context}
+use Rattle.plan_values.specs.Words.{Context, any_names_context, exprs_of, views}
 use Rattle.board_decisions.proofs.anywhere.+nameless.Given as goal
 
 abbrev pub invariant-are_nameless-loop-tree : goal.invariant-are_nameless-loop-tree

@@ -1,5 +1,5 @@
 use Rattle.std.proofs.Common.{◌≡◌, true, rules, ◌∙◌}
-use Rattle.expr_reader.specs.TemplateView.{template_of}
+use Rattle.plan_values.specs.Words.{template_of}
 use Rattle.board_decisions.proofs.anywhere.read_holds_anywhere.Goals as goal
 
 pub returns-in-Ok : goal.returns-in-Ok

@@ -1,7 +1,7 @@
 use Rattle.std.proofs.Common.{◌≡◌, [], drop}
+use Rattle.plan_values.specs.Words.{viewed}
 use Rattle.board_decisions.specs.Contexts.{with_needs}
 use Rattle.board_decisions.specs.Seen.{job_seen}
-use Rattle.flow_model.specs.Value.{viewed}
 use Rattle.board_decisions.proofs.contexts.needs_node.Given as goal
 
 -- The jobs that are left, over those that were set, are all.

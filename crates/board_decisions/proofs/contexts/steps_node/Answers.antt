@@ -1,9 +1,7 @@
 use Rattle.std.proofs.Common.{◌≡◌, ◌+◌, List, [], ◌∷◌, drop, sym, ap, ◌∙◌}
 use Rattle.std.specs.List.{zip, filter_map}
+use Rattle.plan_values.specs.Words.{DoneStep, laid_over, viewed}
 use Rattle.board_decisions.specs.Contexts.{object, step_pair, steps_value}
-use Rattle.flow_model.specs.Value.{viewed}
-use Rattle.flow_model.specs.declared.board.DoneStep.{DoneStep}
-use Rattle.plan_values.specs.Env.{laid_over}
 use Rattle.board_decisions.proofs.Overlays.{steps_next, steps_end}
 use Rattle.board_decisions.proofs.contexts.steps_node.Goals as goal
 use Rattle.flow_model.proofs.Conversions.{drop-next}

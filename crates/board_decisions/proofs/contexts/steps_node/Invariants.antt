@@ -1,8 +1,7 @@
 use Rattle.std.proofs.Common.{◌≡◌, [], drop}
 use Rattle.std.specs.List.{filter_map, zip}
+use Rattle.plan_values.specs.Words.{laid_over, viewed}
 use Rattle.board_decisions.specs.Contexts.{step_pair}
-use Rattle.flow_model.specs.Value.{viewed}
-use Rattle.plan_values.specs.Env.{laid_over}
 use Rattle.board_decisions.proofs.contexts.steps_node.Given as goal
 
 -- The steps that are left, over those that were set, are all.

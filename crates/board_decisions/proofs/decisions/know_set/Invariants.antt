@@ -1,7 +1,7 @@
 use Rattle.std.proofs.Common.{◌≡◌, map, drop}
+use Rattle.plan_values.specs.Words.{IsKnownOf, known_env}
 use Rattle.board_decisions.specs.Contexts.{overlaid}
 use Rattle.board_decisions.specs.Scenes.{leg_scene}
-use Rattle.plan_values.specs.Known.{IsKnownOf, known_env}
 use Rattle.board_decisions.proofs.decisions.know_set.Given as goal
 
 -- What the steps that are left set, over what was laid, is what all set over what there was.

@@ -1,6 +1,5 @@
 use Rattle.std.proofs.Common.{◌≡◌, ◌∷◌, ◌++◌, string_bytes, ap, sym, ◌∙◌}
-use Rattle.flow_model.specs.Mapping.{pairs_of}
-use Rattle.flow_model.specs.Value.{viewed}
+use Rattle.plan_values.specs.Words.{pairs_of, viewed}
 use Rattle.board_decisions.proofs.nodes.copy_values.Goals as goal
 use Rattle.flow_model.proofs.Pairs.{with_pair-next}
 

@@ -1,6 +1,5 @@
 use Rattle.std.proofs.Common.{◌≡◌, ◌++◌}
-use Rattle.flow_model.specs.Mapping.{pairs_of}
-use Rattle.flow_model.specs.Value.{viewed}
+use Rattle.plan_values.specs.Words.{pairs_of, viewed}
 use Rattle.board_decisions.proofs.nodes.copy_values.Given as goal
 
 -- The values that were copied and those that are left are all.

@@ -1,9 +1,8 @@
 use Rattle.std.proofs.Common.{ℕ, ◌++◌, map, ap, ◌∙◌}
 use Rattle.flow_model.proofs.Conversions.{drop-next}
-use Rattle.board_decisions.specs.Places.{leg_of}
+use Rattle.board_decisions.specs.Places.{leg_of, numbers}
 use Rattle.board_decisions.proofs.Placed.{jobs_more}
 use Rattle.board_decisions.proofs.places.add_jobs.Goals as goal
-use Rattle.board_decisions.specs.Places.{numbers}
 
 pub loop-place-preserved : goal.loop-place-preserved
 loop-place-preserved c =

@@ -1,7 +1,6 @@
 use Rattle.std.proofs.Common.{◌≡◌, ◌++◌, map}
-use Rattle.board_decisions.specs.Places.{leg_of}
+use Rattle.board_decisions.specs.Places.{leg_of, numbers}
 use Rattle.board_decisions.proofs.places.add_legs.Given as goal
-use Rattle.board_decisions.specs.Places.{numbers}
 
 abbrev pub invariant-loop-leg : goal.invariant-loop-leg
 invariant-loop-leg l = l.places.items ≡ l.initial.places.items ++ map (leg_of l.run l.job) (numbers l.leg)

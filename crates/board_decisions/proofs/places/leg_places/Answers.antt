@@ -1,6 +1,6 @@
 use Rattle.std.proofs.Common.{List, ◌++◌, ap, ◌∙◌}
+use Rattle.plan_values.specs.Words.{Job}
 use Rattle.flow_model.proofs.Conversions.{drop-next}
-use Rattle.flow_model.specs.declared.board.Job.{Job}
 use Rattle.board_decisions.specs.Places.{sizes, legs_from}
 use Rattle.board_decisions.proofs.Placed.{runs_more}
 use Rattle.board_decisions.proofs.places.leg_places.Goals as goal

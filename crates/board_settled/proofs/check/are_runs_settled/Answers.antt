@@ -1,15 +1,12 @@
 use Rattle.std.proofs.Common.{ℕ, ◌+◌, ◌≤◌, List, [], Option, option_map, length, drop, ap, subst, refl, sym, ◌∙◌, arith, rules}
 use Rattle.std.specs.List.{AllZip}
 use Rattle.std.proofs.lemmas.Bool.{true≢false}
-use Rattle.board_decisions.specs.Seen.{run_seen}
-use Rattle.flow_model.specs.declared.board.Run.{Run}
-use Rattle.flow_model.specs.declared.plan.RunPlan.{RunPlan}
+use Rattle.status_table.specs.Words.{Run, RunPlan, RunShape, run_seen}
 use Rattle.board_settled.specs.Runs.{RunComes}
 use Rattle.board_settled.proofs.Runs.{next_run, with_run}
 use Rattle.std.proofs.lemmas.List.{drop_all}
 use Rattle.board_settled.specs.Agrees.{RunIsSettled}
 use Rattle.board_settled.specs.Settled.{run_settled, runs_from, settled}
-use Rattle.status_table.specs.Shape.{RunShape}
 use Rattle.status_table.proofs.Lists.{zip-length}
 use Rattle.board_settled.proofs.check.are_runs_settled.Goals as goal
 

@@ -1,14 +1,10 @@
 use Rattle.std.proofs.Common.{◌≡◌, ◌↔◌, IsTrue, false, List, refl, subst, sym}
 use Rattle.std.specs.List.{AllZip}
 use Rattle.std.proofs.lemmas.Result.{IfOk-weaker}
-use Rattle.flow_model.specs.Sound.{Each}
-use Rattle.flow_model.specs.declared.board.Run.{Run}
-use Rattle.flow_model.specs.declared.plan.Plan.{Plan}
+use Rattle.status_table.specs.Words.{Each, Plan, Run, RunFits, RunShape}
 use Rattle.board_settled.proofs.Runs.{zip-quiet, quiet_goes, quiet_settled}
 use Rattle.board_settled.specs.Agrees.{RunIsSettled, IsSettled}
 use Rattle.board_settled.specs.Settled.{settled}
-use Rattle.status_table.specs.Lawful.{RunFits}
-use Rattle.status_table.specs.Shape.{RunShape}
 use Rattle.status_table.proofs.InPlay.{few_in_play}
 use Rattle.board_settled.proofs.check.is_settled.Goals as goal
 

@@ -1,4 +1,4 @@
-use Rattle.status_table.specs.Row.{first_of}
+use Rattle.status_table.specs.Words.{first_of}
 use Rattle.board_decisions.proofs.Backwards.{status_says}
 use Rattle.status_table.proofs.Sound.{stands_after_needs}
 use Rattle.board_settled.proofs.decision_laws.statuses_tell_of_ancestors.Goals as goal

@@ -1,7 +1,6 @@
 use Rattle.std.proofs.Common.{◌≡◌, ◌+◌, ◌<◌, length, subst, sym, ◌∙◌, arith, rules}
 use Rattle.std.proofs.lemmas.Bool.{true≢false}
-use Rattle.board_decisions.specs.Contexts.{needs_value}
-use Rattle.board_decisions.specs.Seen.{job_seen}
+use Rattle.status_table.specs.Words.{job_seen, needs_value}
 use Rattle.flow_model.proofs.Conversions.{drop-next}
 use Rattle.board_settled.specs.Alone.{planned}
 use Rattle.board_settled.proofs.Jobs.{next_leg, with_leg}

@@ -1,7 +1,6 @@
 use Rattle.std.proofs.Common.{◌↔◌, drop}
 use Rattle.std.specs.List.{AllZip}
-use Rattle.board_decisions.specs.Contexts.{needs_value}
-use Rattle.board_decisions.specs.Seen.{job_seen}
+use Rattle.status_table.specs.Words.{job_seen, needs_value}
 use Rattle.board_settled.specs.Alone.{ByAnswers}
 use Rattle.board_settled.specs.Agrees.{LegIsSettled}
 use Rattle.board_settled.specs.Settled.{legs_from, legs_settled}

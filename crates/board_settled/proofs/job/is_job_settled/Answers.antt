@@ -1,7 +1,6 @@
 use Rattle.std.proofs.Common.{sym, ◌∙◌}
 use Rattle.std.proofs.lemmas.Result.{IfOk-weaker}
-use Rattle.board_decisions.specs.Contexts.{needs_value}
-use Rattle.board_decisions.specs.Seen.{job_seen}
+use Rattle.status_table.specs.Words.{job_seen, needs_value}
 use Rattle.board_settled.proofs.Jobs.{open_settled, shut_settled, settled_open, settled_shut}
 use Rattle.board_settled.specs.Settled.{legs_settled, job_settled}
 use Rattle.board_settled.proofs.job.is_job_settled.Goals as goal

@@ -1,5 +1,5 @@
 use Rattle.std.proofs.Common.{take}
-use Rattle.flow_model.specs.Sound.{Each}
+use Rattle.status_table.specs.Words.{Each}
 use Rattle.board_settled.proofs.orders.all_in_order.Given as goal
 
 -- the items so far do

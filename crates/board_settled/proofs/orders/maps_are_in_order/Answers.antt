@@ -1,5 +1,5 @@
 use Rattle.std.proofs.Common.{subst}
-use Rattle.flow_model.specs.Sound.{Each}
+use Rattle.status_table.specs.Words.{Each}
 use Rattle.board_settled.specs.CallLaws.{RunInOrder}
 use Rattle.board_settled.proofs.orders.maps_are_in_order.Goals as goal
 

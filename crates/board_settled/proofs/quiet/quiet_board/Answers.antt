@@ -1,8 +1,6 @@
 use Rattle.std.proofs.Common.{List, length, map, sum_by, ap, sym, ◌∙◌, arith}
 use Rattle.std.specs.List.{filter}
-use Rattle.flow_model.specs.declared.board.Board.{Board}
-use Rattle.flow_model.specs.declared.board.Leg.{Leg}
-use Rattle.flow_model.specs.declared.board.Run.{Run}
+use Rattle.status_table.specs.Words.{Board, Leg, Run}
 use Rattle.board_settled.specs.Quiet.{numbers, has_ended_at, quiet_run}
 use Rattle.board_settled.proofs.Ordered.{legs_quiet}
 use Rattle.status_table.proofs.Accepting.{legs_counted}

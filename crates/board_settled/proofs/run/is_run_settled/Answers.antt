@@ -1,7 +1,6 @@
 use Rattle.std.proofs.Common.{◌≡◌, ◌+◌, ◌≤◌, None, option_map, length, ap, sym, ◌∙◌, rules}
 use Rattle.std.proofs.lemmas.Bool.{true≢false}
-use Rattle.board_decisions.specs.Seen.{job_seen, run_seen}
-use Rattle.flow_model.specs.declared.board.RunState.TheVariants as run_state
+use Rattle.status_table.specs.Words.{RunState, job_seen, run_seen}
 use Rattle.board_settled.proofs.Runs.{size_job, stands_job, run_fails, one_more_job, next_number, run_comes, only_closed, last_number}
 use Rattle.board_settled.proofs.run.is_run_settled.Goals as goal
 
@@ -41,12 +40,12 @@ returns-then-not-is_closed_so g c = λ answers are settled.
     let through : length c.args.at.now.run.now.jobs ≤ c.loop-place.place = search rules in
     let is = only_closed answers c.args.number c.args.first (run_seen c.args.at.now) c.requires c.needs_point_back.ensures c.loop-place.place through
     (c.loop-place.invariant.jobs answers are) settled in
-    true≢false (sym (c.is_closed_so.ensures.1 (is ∙ ap (λ o. run_state.Closed o) (sym c.run_result.ensures))) ∙ c.if-not-is_closed_so.true)
+    true≢false (sym (c.is_closed_so.ensures.1 (is ∙ ap (λ o. RunState.Closed o) (sym c.run_result.ensures))) ∙ c.if-not-is_closed_so.true)
 
 pub returns : goal.returns
 returns g c = λ answers are.
     let through : length c.args.at.now.run.now.jobs ≤ c.loop-place.place = search rules in
-    let is = c.is_closed_so.ensures.0 c.if-not-is_closed_so.false ∙ ap (λ o. run_state.Closed o) c.run_result.ensures in (
+    let is = c.is_closed_so.ensures.0 c.if-not-is_closed_so.false ∙ ap (λ o. RunState.Closed o) c.run_result.ensures in (
       run_comes answers c.args.number c.args.first (run_seen c.args.at.now) c.requires c.needs_point_back.ensures c.loop-place.place through (c.loop-place.invariant.jobs answers are) is,
       last_number (λ call. None) c.args.number c.args.first (run_seen c.args.at.now) c.requires c.needs_point_back.ensures c.loop-place.place through
           c.loop-place.next c.loop-place.invariant.number,

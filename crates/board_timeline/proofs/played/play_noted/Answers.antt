@@ -1,8 +1,6 @@
 use Rattle.std.proofs.Common.{◌≡◌, ◌+◌, Some, take, subst, ◌∙◌}
-use Rattle.flow_model.specs.Rules.{IsPlan}
-use Rattle.flow_model.specs.declared.plan.Plan.{Plan}
+use Rattle.status_table.specs.Words.{IsPlan, Plan, after_from}
 use Rattle.status_table.proofs.RunsLemmas.{after_from-next, few_more}
-use Rattle.status_table.specs.Runs.{after_from}
 use Rattle.board_timeline.proofs.Entries.{board_after, left_noted, next_noted, noted_so_far}
 use Rattle.board_timeline.specs.Played.{NotesEntry}
 use Rattle.board_timeline.proofs.played.play_noted.Goals as goal

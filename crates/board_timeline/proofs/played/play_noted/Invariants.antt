@@ -1,6 +1,5 @@
 use Rattle.std.proofs.Common.{◌≡◌, ◌≤◌, ◌+◌, ◌++◌, List, Some, take}
-use Rattle.flow_model.specs.declared.event.Entry.{Entry}
-use Rattle.status_table.specs.Runs.{after_from, most_entries, new_board}
+use Rattle.status_table.specs.Words.{Entry, after_from, most_entries, new_board}
 use Rattle.board_timeline.specs.Played.{track_from}
 use Rattle.board_timeline.proofs.played.play_noted.Given as goal
 

@@ -1,6 +1,6 @@
 use Rattle.std.proofs.Common.{List, ℕ, subst, sym}
 use Rattle.std.proofs.lemmas.Result.{IfOk-weaker}
-use Rattle.flow_model.specs.declared.board.Run.{Run}
+use Rattle.status_table.specs.Words.{Run}
 use Rattle.command_graph.proofs.LabelLaws.{graph_has_strings}
 use Rattle.command_graph.specs.Labels.{HasStrings, graph_strings}
 use Rattle.command_graph.proofs.dot.board_graph.Goals as goal

@@ -1,5 +1,5 @@
 use Rattle.std.proofs.Common.{IsTrue, take}
-use Rattle.flow_model.specs.Lines.{is_line}
+use Rattle.status_table.specs.Words.{is_line}
 use Rattle.command_io.proofs.stream.line_length.Given as goal
 
 -- no newline so far

@@ -1,8 +1,6 @@
 use Rattle.std.proofs.Common.{◌+◌, Ok, refl, sym, subst, ◌∙◌}
-use Rattle.flow_model.specs.Rules.{IsPlan}
-use Rattle.flow_model.specs.declared.plan.Plan.{Plan}
+use Rattle.status_table.specs.Words.{IsPlan, Plan, new_board}
 use Rattle.status_table.proofs.RunsLemmas.{after_from-next, few_more}
-use Rattle.status_table.specs.Runs.{new_board}
 use Rattle.command_print.specs.Changes.{TellsEntry}
 use Rattle.command_print.proofs.Places.{next_told}
 use Rattle.command_print.proofs.changes.play_and_tell_all.Goals as goal

@@ -1,5 +1,5 @@
 use Rattle.std.proofs.Common.{◌≡◌, ◌≤◌, Some, take, string_bytes}
-use Rattle.status_table.specs.Runs.{after, most_entries}
+use Rattle.status_table.specs.Words.{after, most_entries}
 use Rattle.command_print.specs.Changes.{TellsPlaces}
 use Rattle.command_print.proofs.changes.play_and_tell_all.Given as goal
 

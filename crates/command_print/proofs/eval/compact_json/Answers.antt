@@ -1,9 +1,9 @@
 use Rattle.std.proofs.Common.{◌≡◌, ap, ◌∙◌}
 use Rattle.std.proofs.lemmas.Result.{IfOk-weaker}
+use Rattle.status_table.specs.Words.{json_of}
 use Rattle.serde_json.specs.View.{view}
 use Rattle.serde_json.specs.Written.{has_float, compact_text}
 use Rattle.expr_value.proofs.JsonTexts.{no_float}
-use Rattle.flow_model.specs.Json.{json_of}
 use Rattle.command_print.proofs.eval.compact_json.Goals as goal
 
 pub returns : goal.returns

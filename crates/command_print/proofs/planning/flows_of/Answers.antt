@@ -1,5 +1,5 @@
 use Rattle.std.proofs.Common.{◌≤◌, List, length, sym, subst, rules}
-use Rattle.flow_model.specs.declared.flow.Workflow.{Workflow}
+use Rattle.status_table.specs.Words.{Workflow}
 use Rattle.command_print.specs.Planning.{GiveFlows}
 use Rattle.command_print.proofs.Flows.{all_flows}
 use Rattle.command_print.proofs.planning.flows_of.Goals as goal

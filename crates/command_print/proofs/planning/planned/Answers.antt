@@ -1,6 +1,5 @@
 use Rattle.std.proofs.Common.{List, sym, subst}
-use Rattle.flow_model.specs.declared.flow.Workflow.{Workflow}
-use Rattle.flow_model.specs.declared.plan.Roots.{Roots}
+use Rattle.status_table.specs.Words.{Roots, Workflow}
 use Rattle.plan_assembler.specs.Refusals.{Answered, Refuses}
 use Rattle.command_print.specs.Planning.{IsUnplanned}
 use Rattle.command_io.specs.CommandError.{UnlessMemory}

@@ -1,7 +1,6 @@
 use Rattle.std.proofs.Common.{◌≡◌, ap, ◌∙◌}
-use Rattle.flow_model.specs.Mapping.{pairs_of}
+use Rattle.status_table.specs.Words.{pairs_of, view, viewed}
 use Rattle.flow_model.specs.Plain as plain
-use Rattle.flow_model.specs.Value.{view, viewed}
 use Rattle.flow_model.proofs.Nodes.{view-Map}
 use Rattle.command_run.proofs.plan_masks.+texts.Goals as goal
 

@@ -1,7 +1,7 @@
 use Rattle.std.proofs.Common.{◌≡◌, ◌++◌, drop}
-use Rattle.flow_model.specs.Mapping.{pairs_of}
+use Rattle.status_table.specs.Words.{pairs_of, viewed}
 use Rattle.flow_model.specs.Plain as plain
-use Rattle.flow_model.specs.Value.{views, viewed}
+use Rattle.flow_model.specs.Value.{views}
 use Rattle.command_run.specs.PlanMasks.{texts_in_items, texts_in_members}
 use Rattle.command_run.proofs.plan_masks.+texts.Given as goal
 

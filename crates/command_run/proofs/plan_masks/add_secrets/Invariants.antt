@@ -1,5 +1,5 @@
 use Rattle.std.proofs.Common.{◌≡◌, ◌++◌}
-use Rattle.flow_model.specs.Mapping.{pairs_of}
+use Rattle.status_table.specs.Words.{pairs_of}
 use Rattle.command_run.specs.PlanMasks.{secret_masks}
 use Rattle.command_run.proofs.plan_masks.add_secrets.Given as goal
 

@@ -1,6 +1,6 @@
 use Rattle.std.proofs.Common.{◌≡◌, ◌++◌}
 use Rattle.std.specs.List.{flat_map}
-use Rattle.flow_model.specs.Mapping.{pairs_of}
+use Rattle.status_table.specs.Words.{pairs_of}
 use Rattle.command_why.specs.Names.{pair_words}
 use Rattle.command_why.proofs.names.add_combo.Given as goal
 

@@ -1,7 +1,5 @@
 use Rattle.std.proofs.Common.{◌∙◌, Option, ap, sym}
-use Rattle.board_decisions.specs.Numbered.{leg_there}
-use Rattle.board_decisions.specs.Place.{◌>>=◌}
-use Rattle.board_decisions.specs.declared.place.LegPlace.{LegPlace}
+use Rattle.status_table.specs.Words.{LegPlace, leg_there, ◌>>=◌}
 use Rattle.debugger.proofs.Legs.{leg-found}
 use Rattle.debugger.proofs.looks.numbered_leg.Goals as goal
 

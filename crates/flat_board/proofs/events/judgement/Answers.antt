@@ -1,13 +1,6 @@
 use Rattle.std.proofs.Common.{◌≡◌, ℕ, true, false, Ok, refl, ap, sym, subst, ◌∙◌}
-use Rattle.board_decisions.specs.Ancestors.{StandsAfterNeeds}
-use Rattle.board_decisions.specs.Decisions.{job_condition}
-use Rattle.board_decisions.specs.Derived.{is_going, job_status}
-use Rattle.board_decisions.specs.Seen.{job_seen}
-use Rattle.expr_value.specs.Answer.{Gives}
-use Rattle.expr_value.specs.declared.status.Status.{Status}
-use Rattle.flow_model.specs.declared.board.JobState.{JobState}
+use Rattle.status_table.specs.Words.{Gives, JobState, StandsAfterNeeds, Status, first_of, is_going, job_condition, job_seen, job_status}
 use Rattle.flat_board.proofs.Reached.{judged_by}
-use Rattle.status_table.specs.Row.{first_of}
 use Rattle.status_table.proofs.Sound.{stands_after_needs}
 use Rattle.flat_board.proofs.events.judgement.Goals as goal
 

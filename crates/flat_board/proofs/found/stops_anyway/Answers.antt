@@ -1,7 +1,6 @@
 use Rattle.std.proofs.Common.{◌&&◌, ◌||◌, nat_lt, ap, sym, ◌∙◌}
 use Rattle.std.specs.List.{list_any}
-use Rattle.board_decisions.specs.Derived.{has_failed}
-use Rattle.flow_model.specs.declared.board.Leg.{Leg}
+use Rattle.status_table.specs.Words.{Leg, has_failed}
 use Rattle.board_counters.specs.declared.tally.Tally.{Tally}
 use Rattle.board_counters.proofs.Lists.{any-counted}
 use Rattle.flat_board.proofs.found.stops_anyway.Goals as goal

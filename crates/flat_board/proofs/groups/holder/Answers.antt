@@ -1,6 +1,6 @@
 use Rattle.std.proofs.Common.{◌∙◌}
+use Rattle.status_table.specs.Words.{content}
 use Rattle.flat_board.proofs.Index.{holder_told}
-use Rattle.group_admission.specs.Known.{content}
 use Rattle.flat_board.proofs.groups.holder.Goals as goal
 
 pub returns : goal.returns

@@ -1,12 +1,8 @@
 use Rattle.std.proofs.Common.{◌≡◌, List, ℕ, Option, inl, ap, subst, sym, ◌∙◌, refl}
-use Rattle.expr_reader.specs.Fold.{fold}
-use Rattle.flow_model.specs.Mapping.{value_at}
-use Rattle.group_admission.specs.Content.{holder_of, waiter_of}
+use Rattle.status_table.specs.Words.{content, fold, holder_of, left, value_at, waiter_of}
 use Rattle.flat_board.specs.Stands.{StandsOnlyThere, standing_by}
 use Rattle.flat_board.specs.Names.{IsGroup}
-use Rattle.status_table.specs.Admissions.{left}
 use Rattle.flat_board.proofs.Leaving.{name_left, none_left, others_left}
-use Rattle.group_admission.specs.Known.{content}
 use Rattle.flat_board.proofs.groups.leave.Goals as goal
 
 pub returns-in-Some-clause-leaves : goal.returns-in-Some-clause-leaves

@@ -1,16 +1,14 @@
 use Rattle.std.proofs.Common.{◌≡◌, ap, subst, sym, ◌∙◌}
+use Rattle.status_table.specs.Words.{Leg, Member, content}
 use Rattle.board_decisions.proofs.Lists.{same_some}
 use Rattle.flat_board.specs.Names.{IsGroup}
 use Rattle.flat_board.specs.Stands.{StandsOnlyThere, standing_by}
 use Rattle.flat_board.specs.Undo.{Leaves}
-use Rattle.flow_model.specs.declared.board.Leg.{Leg}
-use Rattle.flow_model.specs.declared.event.Member.TheVariants as member
-use Rattle.group_admission.specs.Known.{content}
 use Rattle.flat_board.proofs.groups.leave_leg.Goals as goal
 
 pub returns-in-Some-clause-leaves : goal.returns-in-Some-clause-leaves
 returns-in-Some-clause-leaves c = λ b leg stood named there of_leg only.
-    let m = member.Leg c.args.number in
+    let m = Member.Leg c.args.number in
     let groups = content c.args.groups.now in
     let same : c.in-Some.leg.now ≡ leg = same_some c.in-Some.leg.now leg (c.in-Some.ensures ∙ there) in
     subst (λ (l : Leg). Leaves c.leave.result b m (standing_by stood l.group) groups (content c.leave.new.groups)) same

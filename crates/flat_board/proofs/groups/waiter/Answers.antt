@@ -1,6 +1,6 @@
 use Rattle.std.proofs.Common.{◌∙◌}
+use Rattle.status_table.specs.Words.{content}
 use Rattle.flat_board.proofs.Index.{waiter_told}
-use Rattle.group_admission.specs.Known.{content}
 use Rattle.flat_board.proofs.groups.waiter.Goals as goal
 
 pub returns : goal.returns

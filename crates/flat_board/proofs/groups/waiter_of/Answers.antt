@@ -1,10 +1,8 @@
 use Rattle.std.proofs.Common.{ap, sym, subst, ◌∙◌}
-use Rattle.expr_reader.specs.Fold.{fold}
-use Rattle.group_admission.specs.Content.{waiter_of}
+use Rattle.status_table.specs.Words.{content, fold, waiter_of}
 use Rattle.flat_board.specs.Names.{IsGroup}
 use Rattle.flat_board.proofs.Index.{waiter_told}
 use Rattle.status_table.specs.Groups.{waiter_of as waiter_of_group}
-use Rattle.group_admission.specs.Known.{content}
 use Rattle.flat_board.proofs.groups.waiter_of.Goals as goal
 
 pub returns-in-Some : goal.returns-in-Some

@@ -1,9 +1,8 @@
 use Rattle.std.proofs.Common.{rules, ◌≡◌, ◌<◌, List, Some, true, length, slice_get, ap, refl, subst, sym, ◌∙◌}
 use Rattle.std.proofs.lemmas.Option.{slice_get_read}
+use Rattle.status_table.specs.Words.{Board, Run}
 use Rattle.flat_board.specs.Idle.{is_run_idle}
 use Rattle.flat_board.proofs.PassedOver.{idle_run}
-use Rattle.flow_model.specs.declared.board.Board.{Board}
-use Rattle.flow_model.specs.declared.board.Run.{Run}
 use Rattle.flat_board.proofs.idle.count_idle_legs.Goals as goal
 use Rattle.board_counters.specs.declared.stopping.RunLegs.{RunLegs}
 

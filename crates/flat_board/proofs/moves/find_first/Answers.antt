@@ -1,9 +1,7 @@
 use Rattle.std.proofs.Common.{◌++◌, List, filter, slice_get, ap, ◌∙◌}
 use Rattle.std.proofs.lemmas.Result.{IfOk-weaker}
-use Rattle.flow_model.specs.declared.event.Event.{Event}
-use Rattle.status_table.specs.Kinds.{events_of}
-use Rattle.status_table.specs.Moves.{accepts}
-use Rattle.status_table.specs.declared.moves.MoveKind.TheVariants as kind
+use Rattle.status_table.specs.Words.{Event, accepts, events_of}
+use Rattle.status_table.specs.declared.moves.MoveKind.{MoveKind}
 use Rattle.status_table.proofs.Accepting.{in_order}
 use Rattle.flat_board.proofs.FirstMove.{as_counted}
 use Rattle.flat_board.proofs.moves.find_first.Goals as goal
@@ -15,15 +13,15 @@ returns c =
     let n = c.count_all-counts.result.runs in
     let j = c.count_all-counts.result.jobs in
     let l = c.count_all-counts.result.legs in
-    let close : List Event = filter t (events_of kind.Close n) in
-    let open_too : List Event = close ++ filter t (events_of kind.Open n) in
-    let judge_too : List Event = open_too ++ filter t (events_of kind.Judge j) in
-    let drop_too : List Event = judge_too ++ filter t (events_of kind.Drop l) in
+    let close : List Event = filter t (events_of MoveKind.Close n) in
+    let open_too : List Event = close ++ filter t (events_of MoveKind.Open n) in
+    let judge_too : List Event = open_too ++ filter t (events_of MoveKind.Judge j) in
+    let drop_too : List Event = judge_too ++ filter t (events_of MoveKind.Drop l) in
     let opens = c.in_ok-opens.ensures close c.in_ok-closes.ensures in
     let judges = c.in_ok-judges.ensures open_too opens in
     let drops = c.in_ok-drops.ensures judge_too judges in
     IfOk-weaker c.first_or-4.result _ _ (λ first h.
     h ∙ ap (λ (xs : List Event). slice_get xs 0)
-    (in_order t (events_of kind.Close n) (events_of kind.Open n) (events_of kind.Judge j) (events_of kind.Drop l) (events_of kind.Ask l)
+    (in_order t (events_of MoveKind.Close n) (events_of MoveKind.Open n) (events_of MoveKind.Judge j) (events_of MoveKind.Drop l) (events_of MoveKind.Ask l)
     ∙ ap (filter t) (as_counted b n j l c.count_all-counts.ensures.runs c.count_all-counts.ensures.jobs c.count_all-counts.ensures.legs)))
     (c.first_or-4.ensures drop_too drops)

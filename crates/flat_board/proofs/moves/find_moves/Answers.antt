@@ -1,9 +1,7 @@
 use Rattle.std.proofs.Common.{◌++◌, List, filter, ap, ◌∙◌}
 use Rattle.std.proofs.lemmas.Result.{IfOk-weaker}
-use Rattle.flow_model.specs.declared.event.Event.{Event}
-use Rattle.status_table.specs.Kinds.{events_of}
-use Rattle.status_table.specs.Moves.{accepts}
-use Rattle.status_table.specs.declared.moves.MoveKind.TheVariants as kind
+use Rattle.status_table.specs.Words.{Event, accepts, events_of}
+use Rattle.status_table.specs.declared.moves.MoveKind.{MoveKind}
 use Rattle.status_table.proofs.Accepting.{in_order}
 use Rattle.flat_board.proofs.FirstMove.{as_counted}
 use Rattle.flat_board.proofs.moves.find_moves.Goals as goal
@@ -15,12 +13,12 @@ returns c =
     let n = c.count_all-counts.result.runs in
     let j = c.count_all-counts.result.jobs in
     let l = c.count_all-counts.result.legs in
-    let closed = c.in_ok-closed.ensures ∙ ap (λ (xs : List Event). xs ++ filter t (events_of kind.Close n)) c.new.ensures.items in
-    let opened = c.in_ok-opened.ensures ∙ ap (λ (xs : List Event). xs ++ filter t (events_of kind.Open n)) closed in
-    let judged = c.in_ok-judged.ensures ∙ ap (λ (xs : List Event). xs ++ filter t (events_of kind.Judge j)) opened in
-    let dropped = c.in_ok-dropped.ensures ∙ ap (λ (xs : List Event). xs ++ filter t (events_of kind.Drop l)) judged in
+    let closed = c.in_ok-closed.ensures ∙ ap (λ (xs : List Event). xs ++ filter t (events_of MoveKind.Close n)) c.new.ensures.items in
+    let opened = c.in_ok-opened.ensures ∙ ap (λ (xs : List Event). xs ++ filter t (events_of MoveKind.Open n)) closed in
+    let judged = c.in_ok-judged.ensures ∙ ap (λ (xs : List Event). xs ++ filter t (events_of MoveKind.Judge j)) opened in
+    let dropped = c.in_ok-dropped.ensures ∙ ap (λ (xs : List Event). xs ++ filter t (events_of MoveKind.Drop l)) judged in
     IfOk-weaker c.add_moves-5.result _ _ (λ all h.
-    h ∙ ap (λ (xs : List Event). xs ++ filter t (events_of kind.Ask l)) dropped
-    ∙ in_order t (events_of kind.Close n) (events_of kind.Open n) (events_of kind.Judge j) (events_of kind.Drop l) (events_of kind.Ask l)
+    h ∙ ap (λ (xs : List Event). xs ++ filter t (events_of MoveKind.Ask l)) dropped
+    ∙ in_order t (events_of MoveKind.Close n) (events_of MoveKind.Open n) (events_of MoveKind.Judge j) (events_of MoveKind.Drop l) (events_of MoveKind.Ask l)
     ∙ ap (filter t) (as_counted b n j l c.count_all-counts.ensures.runs c.count_all-counts.ensures.jobs c.count_all-counts.ensures.legs))
     c.add_moves-5.ensures

@@ -1,8 +1,7 @@
 use Rattle.std.proofs.Common.{option_and_then, ap, sym, ◌∙◌}
-use Rattle.board_decisions.specs.Numbered.{leg_there}
+use Rattle.status_table.specs.Words.{Leg, leg_there}
 use Rattle.flat_board.specs.Names.{group_at}
 use Rattle.flat_board.proofs.Names.{placed_group}
-use Rattle.flow_model.specs.declared.board.Leg.{Leg}
 use Rattle.flat_board.proofs.undo.name_at.Goals as goal
 
 pub returns-in-Leg : goal.returns-in-Leg

@@ -1,7 +1,7 @@
 use Rattle.std.proofs.Common.{rules, ◌==◌}
 use Rattle.std.specs.Prelude.{not}
 use Rattle.std.proofs.lemmas.Fn.{filter_same}
-use Rattle.flow_model.specs.declared.reply.StepCall.{StepCall}
+use Rattle.status_table.specs.Words.{StepCall}
 use Rattle.locked_board.proofs.calls.forget.Goals as goal
 
 pub returns-clause-left : goal.returns-clause-left

@@ -1,6 +1,6 @@
 use Rattle.std.proofs.Common.{◌≡◌, drop}
 use Rattle.std.specs.List.{list_all}
-use Rattle.board_decisions.specs.Derived.{is_closed}
+use Rattle.status_table.specs.Words.{is_closed}
 use Rattle.locked_board.proofs.clerk.is_finished.Given as goal
 
 -- what is left tells it all

@@ -1,5 +1,5 @@
 use Rattle.std.proofs.Common.{sym}
-use Rattle.board_decisions.specs.Seen.{job_seen}
+use Rattle.status_table.specs.Words.{job_seen}
 use Rattle.status_table.proofs.Sound.{stands_after_needs}
 use Rattle.status_table.proofs.events.judge.Goals as goal
 

@@ -1,6 +1,5 @@
 use Rattle.std.proofs.Common.{◌≡◌, Ok, ap, sym, subst, ◌∙◌}
-use Rattle.status_table.specs.Answers.{Answers}
-use Rattle.status_table.specs.Groups.{Done, holder, waiter, enters_held, enters}
+use Rattle.status_table.specs.Words.{Answers, Done, enters, enters_held, holder, waiter}
 use Rattle.status_table.proofs.groups.enter.Goals as goal
 
 pub returns : goal.returns

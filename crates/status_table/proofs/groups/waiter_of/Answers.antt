@@ -1,5 +1,6 @@
 use Rattle.std.proofs.Common.{ap, sym, ◌∙◌}
-use Rattle.status_table.specs.Groups.{waiter, waiter_of}
+use Rattle.status_table.specs.Words.{waiter}
+use Rattle.status_table.specs.Groups.{waiter_of}
 use Rattle.status_table.proofs.groups.waiter_of.Goals as goal
 
 pub returns-in-Some : goal.returns-in-Some

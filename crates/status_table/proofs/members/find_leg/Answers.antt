@@ -1,7 +1,5 @@
 use Rattle.std.proofs.Common.{◌≡◌, Bool, true, false, Some, None, slice_get, sym, ◌∙◌}
-use Rattle.flow_model.specs.Numbers.{board_legs}
-use Rattle.flow_model.specs.declared.board.Leg.{Leg}
-use Rattle.status_table.specs.Groups.{leg_standing}
+use Rattle.status_table.specs.Words.{Leg, board_legs, leg_standing}
 use Rattle.status_table.specs.Seen.{has_role}
 use Rattle.status_table.proofs.Standings.{drop_at, first_next, first_here, first_past, item_numbered}
 use Rattle.status_table.proofs.members.find_leg.Goals as goal

@@ -1,6 +1,5 @@
 use Rattle.std.proofs.Common.{◌≡◌, drop}
-use Rattle.flow_model.specs.Numbers.{board_legs}
-use Rattle.status_table.specs.Groups.{first_place, leg_standing}
+use Rattle.status_table.specs.Words.{board_legs, first_place, leg_standing}
 use Rattle.status_table.specs.Seen.{has_role}
 use Rattle.status_table.proofs.members.find_leg.Given as goal
 

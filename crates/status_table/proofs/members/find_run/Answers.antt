@@ -1,6 +1,5 @@
 use Rattle.std.proofs.Common.{◌≡◌, ◌+◌, Bool, false, ◌∷◌, drop, sym, ◌∙◌}
-use Rattle.flow_model.specs.declared.board.Run.{Run}
-use Rattle.status_table.specs.Groups.{run_standing}
+use Rattle.status_table.specs.Words.{Run, run_standing}
 use Rattle.status_table.specs.Seen.{has_role}
 use Rattle.flow_model.proofs.Conversions.{drop-next}
 use Rattle.status_table.proofs.Standings.{first_next}

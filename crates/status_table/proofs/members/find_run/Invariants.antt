@@ -1,5 +1,5 @@
 use Rattle.std.proofs.Common.{◌≡◌, drop}
-use Rattle.status_table.specs.Groups.{first_place, run_standing}
+use Rattle.status_table.specs.Words.{first_place, run_standing}
 use Rattle.status_table.specs.Seen.{has_role}
 use Rattle.status_table.proofs.members.find_run.Given as goal
 

@@ -1,6 +1,5 @@
 use Rattle.std.proofs.Common.{◌≡◌, ◌++◌, filter}
-use Rattle.status_table.specs.Kinds.{events_of}
-use Rattle.status_table.specs.Moves.{accepts}
+use Rattle.status_table.specs.Words.{accepts, events_of}
 use Rattle.status_table.proofs.moves.add_moves.Given as goal
 
 abbrev pub invariant-loop-number : goal.invariant-loop-number

@@ -1,6 +1,5 @@
 use Rattle.std.proofs.lemmas.Result.{err_from_is_err_and}
-use Rattle.board_decisions.specs.Seen.{leg_seen}
-use Rattle.status_table.specs.Row.{beginning}
+use Rattle.status_table.specs.Words.{beginning, leg_seen}
 use Rattle.status_table.proofs.WithoutReply.{refused_unasked}
 use Rattle.status_table.proofs.unasked.beginning_unasked.Goals as goal
 

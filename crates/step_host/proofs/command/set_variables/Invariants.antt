@@ -1,7 +1,7 @@
 -- What is said of each variable, with what is left set after it, is what all pairs make of it.
 use Rattle.std.proofs.Common.{◌≡◌, ℕ, List}
 use Rattle.std.specs.Process.{SameDir, SameProgramAndArgs, clears_env, command_var}
-use Rattle.flow_model.specs.Mapping.{pairs_of}
+use Rattle.status_table.specs.Words.{pairs_of}
 use Rattle.step_host.specs.Program.{said_after}
 use Rattle.step_host.proofs.command.set_variables.Given as goal
 

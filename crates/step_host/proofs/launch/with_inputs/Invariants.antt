@@ -1,6 +1,6 @@
 -- What was set, with the inputs that are left set over it, is all set over the variables.
 use Rattle.std.proofs.Common.{◌≡◌}
-use Rattle.flow_model.specs.Mapping.{pairs_of}
+use Rattle.status_table.specs.Words.{pairs_of}
 use Rattle.flow_commands.specs.PairFiles.{with_pairs}
 use Rattle.step_host.specs.Program.{inputs_of}
 use Rattle.step_host.proofs.launch.with_inputs.Given as goal

@@ -1,5 +1,5 @@
 use Rattle.std.proofs.Common.{◌≡◌, ◌∷◌, ◌++◌, string_bytes, ap, sym, ◌∙◌}
-use Rattle.flow_model.specs.Mapping.{pairs_of, map_values}
+use Rattle.status_table.specs.Words.{map_values, pairs_of}
 use Rattle.flow_model.proofs.Pairs.{with_pair-next, Ascends-map_values}
 use Rattle.flow_commands.specs.Mask.{masked}
 use Rattle.step_host.proofs.masked.masked_values.Goals as goal

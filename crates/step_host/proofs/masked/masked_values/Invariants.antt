@@ -1,6 +1,6 @@
 -- The pairs that were set and those that are left are all.
 use Rattle.std.proofs.Common.{◌≡◌, ◌++◌}
-use Rattle.flow_model.specs.Mapping.{pairs_of, map_values}
+use Rattle.status_table.specs.Words.{map_values, pairs_of}
 use Rattle.flow_commands.specs.Mask.{masked}
 use Rattle.step_host.proofs.masked.masked_values.Given as goal
 

@@ -1,7 +1,6 @@
 use Rattle.std.proofs.Common.{◌≡◌, ◌+◌, Bool, false, ◌∷◌, drop, sym, ◌∙◌}
-use Rattle.board_decisions.specs.Derived.{is_failure}
+use Rattle.status_table.specs.Words.{DoneStep, is_failure}
 use Rattle.why_facts.proofs.failures.first_failure.Goals as goal
-use Rattle.flow_model.specs.declared.board.DoneStep.{DoneStep}
 use Rattle.flow_model.proofs.Conversions.{drop-next}
 use Rattle.status_table.proofs.Standings.{first_next}
 

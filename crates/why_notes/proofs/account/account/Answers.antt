@@ -1,7 +1,6 @@
 use Rattle.std.proofs.Common.{subst}
+use Rattle.status_table.specs.Words.{Play, StopsAt}
 use Rattle.why_notes.proofs.account.account.Goals as goal
-use Rattle.status_table.specs.Play.{Play}
-use Rattle.status_table.specs.Runs.{StopsAt}
 
 pub returns-in-Err-clause-accounts : goal.returns-in-Err-clause-accounts
 returns-in-Err-clause-accounts c = λ named. (

@@ -1,7 +1,7 @@
 use Rattle.std.proofs.Common.{◌≡◌, ◌+◌, Some, drop, take}
+use Rattle.status_table.specs.Words.{after_from}
 use Rattle.why_notes.proofs.account.play_all.Given as goal
 use Rattle.why_notes.specs.Account.{account_from}
-use Rattle.status_table.specs.Runs.{after_from}
 
 abbrev pub invariant-loop-place : goal.invariant-loop-place
 invariant-loop-place l = record {

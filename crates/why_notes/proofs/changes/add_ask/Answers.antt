@@ -1,5 +1,4 @@
-use Rattle.board_decisions.specs.Decisions.{leg_entrance}
-use Rattle.board_decisions.specs.Seen.{leg_seen}
+use Rattle.status_table.specs.Words.{leg_entrance, leg_seen}
 use Rattle.why_notes.proofs.changes.add_ask.Goals as goal
 use Rattle.flat_board.proofs.Named.{given_named, leg_asks}
 

@@ -1,9 +1,8 @@
 use Rattle.std.proofs.Common.{Option, OnOk, ap, sym, subst, ◌∙◌}
+use Rattle.status_table.specs.Words.{Member, holder, waiter}
 use Rattle.why_facts.specs.Adds.{Adds}
 use Rattle.why_notes.proofs.changes.add_grouped.Goals as goal
 use Rattle.why_notes.specs.Changes.{enters_held}
-use Rattle.flow_model.specs.declared.event.Member.{Member}
-use Rattle.status_table.specs.Groups.{holder, waiter}
 
 pub returns-in-Some : goal.returns-in-Some
 returns-in-Some c =

@@ -1,5 +1,5 @@
 use Rattle.std.proofs.Common.{sym}
-use Rattle.board_decisions.specs.Seen.{job_seen}
+use Rattle.status_table.specs.Words.{job_seen}
 use Rattle.why_notes.proofs.changes.add_judge.Goals as goal
 use Rattle.status_table.proofs.Sound.{stands_after_needs}
 

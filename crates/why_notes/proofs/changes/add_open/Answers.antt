@@ -1,5 +1,4 @@
-use Rattle.board_decisions.specs.Decisions.{run_entrance}
-use Rattle.board_decisions.specs.Seen.{run_seen}
+use Rattle.status_table.specs.Words.{run_entrance, run_seen}
 use Rattle.why_notes.proofs.changes.add_open.Goals as goal
 use Rattle.flat_board.proofs.Named.{given_named, run_asks}
 

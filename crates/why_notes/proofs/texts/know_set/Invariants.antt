@@ -1,8 +1,6 @@
 use Rattle.std.proofs.Common.{◌≡◌, map, drop}
-use Rattle.board_decisions.specs.Contexts.{overlaid}
-use Rattle.board_decisions.specs.Scenes.{leg_scene}
+use Rattle.status_table.specs.Words.{IsKnownOf, known_env, leg_scene, overlaid}
 use Rattle.why_notes.proofs.texts.know_set.Given as goal
-use Rattle.plan_values.specs.Known.{IsKnownOf, known_env}
 
 abbrev pub invariant-loop-done : goal.invariant-loop-done
 invariant-loop-done l = record {

@@ -1,10 +1,8 @@
 use Rattle.std.proofs.Common.{◌≡◌, IfOk, ap, subst, sym}
 use Rattle.std.proofs.lemmas.Result.{IfOk-weaker}
-use Rattle.flow_model.specs.Rules.{IsPlan}
-use Rattle.flow_model.specs.declared.plan.Plan.{Plan}
-use Rattle.status_table.specs.Play.{Play}
+use Rattle.status_table.specs.Words.{IsPlan, Plan, Play}
 use Rattle.worker_pool.specs.Alone.{EndsAlone, PlayedAlone}
-use Rattle.worker_pool.specs.declared.played.Ending.TheVariants as ending
+use Rattle.worker_pool.specs.declared.played.Ending.{Ending}
 use Rattle.worker_pool.specs.Fault.{StopsAlone}
 use Rattle.worker_pool.specs.Settles.{SettlesAll}
 use Rattle.worker_pool.proofs.Checked.{told_of_nothing_alone}
@@ -27,7 +25,7 @@ returns-in-Ok-clause-groups g c = λ none.
     let played : IfOk c.play_table.result.0 (EndsAlone admits p) =
     subst (λ (q : Plan). IfOk c.play_table.result.0 (EndsAlone admits q)) same c.play_table.ensures.played in
     let rules : IsPlan p = subst IsPlan same c.board.ensures.in_play.rules in
-    IfOk-weaker c.play_table.result.0 (EndsAlone admits p) (λ x. x.ending ≡ ending.Done) (λ x h. done_without_groups admits p x (c.stalled_only_by_groups.ensures.never p rules none) h) played
+    IfOk-weaker c.play_table.result.0 (EndsAlone admits p) (λ x. x.ending ≡ Ending.Done) (λ x h. done_without_groups admits p x (c.stalled_only_by_groups.ensures.never p rules none) h) played
 
 pub returns-in-Ok-clause-settled : goal.returns-in-Ok-clause-settled
 returns-in-Ok-clause-settled g c =

@@ -1,5 +1,5 @@
 use Rattle.std.proofs.Common.{sym}
-use Rattle.flow_model.specs.Numbers.{board_legs}
+use Rattle.status_table.specs.Words.{board_legs}
 use Rattle.worker_pool.proofs.Firsts.{run_found, run_passed}
 use Rattle.worker_pool.proofs.lowest.first_of_board.Goals as goal
 

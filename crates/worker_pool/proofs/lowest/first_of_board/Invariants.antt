@@ -1,5 +1,5 @@
 use Rattle.std.proofs.Common.{drop, flat_map}
-use Rattle.flow_model.specs.Numbers.{board_legs}
+use Rattle.status_table.specs.Words.{board_legs}
 use Rattle.worker_pool.proofs.Firsts.{Passed}
 use Rattle.worker_pool.proofs.lowest.first_of_board.Given as goal
 

@@ -1,7 +1,5 @@
 use Rattle.std.proofs.Common.{length, sum_by, ap, refl, arith}
-use Rattle.flow_model.specs.Numbers.{board_legs}
-use Rattle.flow_model.specs.declared.board.Board.{Board}
-use Rattle.flow_model.specs.declared.board.Run.{Run}
+use Rattle.status_table.specs.Words.{Board, Run, board_legs}
 use Rattle.status_table.proofs.Accepting.{legs_counted}
 use Rattle.status_table.proofs.InPlay.{few_in_play}
 use Rattle.worker_pool.proofs.many.make_room.Goals as goal

@@ -1,6 +1,6 @@
 use Rattle.std.proofs.Common.{sym, subst}
 use Rattle.std.proofs.lemmas.Result.{IfOk-weaker}
-use Rattle.flow_model.specs.Rules.{IsPlan}
+use Rattle.status_table.specs.Words.{IsPlan}
 use Rattle.worker_pool.specs.Many.{StopsByMany}
 use Rattle.worker_pool.proofs.Checked.{told_of_nothing}
 use Rattle.worker_pool.proofs.Reviews.{none_played}

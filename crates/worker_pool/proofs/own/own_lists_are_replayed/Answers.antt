@@ -1,4 +1,4 @@
-use Rattle.flow_model.specs.declared.event.Answer.{Answer}
+use Rattle.status_table.specs.Words.{Answer}
 use Rattle.step_host.specs.Entries.{IsKept, kept_one}
 use Rattle.worker_pool.proofs.Replays.{gives_boards}
 use Rattle.worker_pool.proofs.own.own_lists_are_replayed.Goals as goal

@@ -1,11 +1,6 @@
 use Rattle.std.proofs.Common.{◌≡◌, Some, slice_get, sym, subst}
-use Rattle.board_decisions.specs.Calls.{AreCallsOf}
-use Rattle.board_decisions.specs.declared.kept.Calls.{Calls}
-use Rattle.flow_model.specs.declared.plan.JobPlan.{JobPlan}
-use Rattle.flow_model.specs.declared.plan.RunPlan.{RunPlan}
-use Rattle.flow_model.specs.declared.plan.StepPlan.{StepPlan}
+use Rattle.status_table.specs.Words.{AreCallsOf, Calls, JobPlan, Play, RunPlan, StepPlan}
 use Rattle.board_counters.proofs.Placed.{calls_told}
-use Rattle.status_table.specs.Play.{Play}
 use Rattle.board_counters.proofs.counted.Counted.calls.Goals as goal
 
 pub returns : goal.returns

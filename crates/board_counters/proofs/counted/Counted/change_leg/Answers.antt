@@ -1,5 +1,5 @@
 use Rattle.std.proofs.Common.{ap, sym, ◌∙◌}
-use Rattle.status_table.specs.Seen.{leg_after}
+use Rattle.status_table.specs.Words.{Play, changed, leg_after}
 use Rattle.board_counters.specs.Failing.{any_failed, failing_of}
 use Rattle.board_counters.proofs.Failings.{leg_failing_kept, steps_stay}
 use Rattle.board_counters.proofs.Followed.{leg_counted}
@@ -8,8 +8,6 @@ use Rattle.board_counters.specs.Stopping.{told_turned}
 use Rattle.board_counters.proofs.Tallies.{exchanged_told}
 use Rattle.board_counters.proofs.Undone.{leg_back}
 use Rattle.board_counters.proofs.counted.Counted.change_leg.Goals as goal
-use Rattle.status_table.specs.Change.{changed}
-use Rattle.status_table.specs.Play.{Play}
 
 pub invariant_of-self : goal.invariant_of-self
 invariant_of-self c =

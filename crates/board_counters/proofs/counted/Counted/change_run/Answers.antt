@@ -1,8 +1,8 @@
+use Rattle.status_table.specs.Words.{Play}
 use Rattle.board_counters.proofs.Followed.{run_counted}
 use Rattle.board_counters.proofs.counted.Counted.change_run.Goals as goal
 use Rattle.std.proofs.Common.{ap, ◌∙◌}
 use Rattle.board_counters.proofs.Undone.{run_back}
-use Rattle.status_table.specs.Play.{Play}
 
 pub invariant_of-self : goal.invariant_of-self
 invariant_of-self c =

@@ -1,9 +1,7 @@
 use Rattle.std.proofs.Common.{◌≡◌, ◌==◌, true, Some, slice_get, ap, subst, ◌∙◌}
-use Rattle.board_decisions.specs.Derived.{all_succeed, is_going}
-use Rattle.flow_model.specs.declared.board.Run.{Run}
+use Rattle.status_table.specs.Words.{Play, Run, all_succeed, is_going}
 use Rattle.board_counters.specs.declared.standing.RunTally.{RunTally}
 use Rattle.board_counters.proofs.Standings.{told_succeed}
-use Rattle.status_table.specs.Play.{Play}
 use Rattle.board_counters.proofs.counted.Counted.do_jobs_succeed.Goals as goal
 
 pub returns : goal.returns

@@ -1,9 +1,7 @@
 use Rattle.std.proofs.Common.{◌≡◌, Some, ap, subst, ◌∙◌}
-use Rattle.board_decisions.specs.Numbered.{leg_there}
-use Rattle.flow_model.specs.declared.board.Leg.{Leg}
+use Rattle.status_table.specs.Words.{Leg, Play, leg_there}
 use Rattle.board_counters.specs.Failing.{any_failed, failing_at, leg_failed}
 use Rattle.board_counters.proofs.Failings.{failing_there}
-use Rattle.status_table.specs.Play.{Play}
 use Rattle.board_counters.proofs.counted.Counted.has_failed_step.Goals as goal
 
 pub returns : goal.returns

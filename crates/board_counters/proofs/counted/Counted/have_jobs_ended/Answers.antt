@@ -1,9 +1,7 @@
 use Rattle.std.proofs.Common.{◌≡◌, ◌==◌, true, Some, slice_get, ap, subst, ◌∙◌}
-use Rattle.board_decisions.specs.Derived.{is_going, jobs_have_ended}
-use Rattle.flow_model.specs.declared.board.Run.{Run}
+use Rattle.status_table.specs.Words.{Play, Run, is_going, jobs_have_ended}
 use Rattle.board_counters.specs.declared.standing.RunTally.{RunTally}
 use Rattle.board_counters.proofs.Standings.{told_ended}
-use Rattle.status_table.specs.Play.{Play}
 use Rattle.board_counters.proofs.counted.Counted.have_jobs_ended.Goals as goal
 
 pub returns : goal.returns

@@ -1,11 +1,7 @@
 use Rattle.std.proofs.Common.{◌≡◌, ℕ, true, Some, sym, subst, ◌∙◌}
-use Rattle.board_decisions.specs.Derived.{is_going, needs_have_ended}
-use Rattle.board_decisions.specs.Place.{JobAt, job_at}
+use Rattle.status_table.specs.Words.{InPlay, JobAt, Play, first_of, is_going, job_at, needs_have_ended}
 use Rattle.board_counters.specs.Counters.{needs_none, needs_there}
 use Rattle.board_counters.proofs.Ended.{needs_told}
-use Rattle.status_table.specs.InPlay.{InPlay}
-use Rattle.status_table.specs.Play.{Play}
-use Rattle.status_table.specs.Row.{first_of}
 use Rattle.board_counters.proofs.counted.Counted.have_needs_ended.Goals as goal
 
 pub returns : goal.returns

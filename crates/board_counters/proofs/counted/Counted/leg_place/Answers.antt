@@ -1,8 +1,7 @@
 use Rattle.std.proofs.Common.{◌≡◌, subst, ◌∙◌, slice_get}
-use Rattle.board_decisions.specs.Place.{leg_place}
+use Rattle.status_table.specs.Words.{Play, leg_place}
 use Rattle.board_decisions.proofs.Placed.{leg_placed}
 use Rattle.board_counters.proofs.counted.Counted.leg_place.Goals as goal
-use Rattle.status_table.specs.Play.{Play}
 
 pub returns : goal.returns
 returns c =

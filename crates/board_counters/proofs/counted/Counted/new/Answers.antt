@@ -1,5 +1,5 @@
 use Rattle.std.proofs.Common.{◌≤◌, List, map, sum_by, ap, sym, subst, ◌∙◌}
-use Rattle.flow_model.specs.declared.board.Run.{Run}
+use Rattle.status_table.specs.Words.{Run}
 use Rattle.board_counters.specs.Counters.{tally_of, needs_of}
 use Rattle.board_counters.specs.Failing.{run_failing}
 use Rattle.board_counters.specs.Lasting.{IsLasting}

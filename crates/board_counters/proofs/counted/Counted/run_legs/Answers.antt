@@ -1,8 +1,7 @@
 use Rattle.std.proofs.Common.{◌≡◌, Some, slice_get, subst, ◌∙◌}
-use Rattle.flow_model.specs.declared.board.Run.{Run}
+use Rattle.status_table.specs.Words.{Play, Run}
 use Rattle.board_counters.specs.Stopping.{run_legs}
 use Rattle.board_counters.proofs.Stops.{told_legs}
-use Rattle.status_table.specs.Play.{Play}
 use Rattle.board_counters.proofs.counted.Counted.run_legs.Goals as goal
 
 pub returns : goal.returns

@@ -1,9 +1,7 @@
 use Rattle.std.proofs.Common.{◌≡◌, true, Some, slice_get, ap, subst, ◌∙◌}
-use Rattle.board_decisions.specs.Derived.{is_going, run_result}
-use Rattle.flow_model.specs.declared.board.Run.{Run}
+use Rattle.status_table.specs.Words.{Play, Run, is_going, run_result}
 use Rattle.board_counters.specs.Standing.{told_result}
 use Rattle.board_counters.proofs.Standings.{run_told}
-use Rattle.status_table.specs.Play.{Play}
 use Rattle.board_counters.proofs.counted.Counted.run_result.Goals as goal
 
 pub returns : goal.returns

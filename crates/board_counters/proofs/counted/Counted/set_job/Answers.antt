@@ -1,9 +1,9 @@
 use Rattle.std.proofs.Common.{ap, slice_get, ◌∙◌}
+use Rattle.status_table.specs.Words.{Play}
 use Rattle.board_counters.specs.Standing.{standing_read}
 use Rattle.board_counters.proofs.Followed.{job_counted}
 use Rattle.board_counters.proofs.counted.Counted.set_job.Goals as goal
 use Rattle.board_counters.proofs.Undone.{job_back}
-use Rattle.status_table.specs.Play.{Play}
 
 pub invariant_of-self : goal.invariant_of-self
 invariant_of-self c =

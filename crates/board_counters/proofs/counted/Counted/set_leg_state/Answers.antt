@@ -1,5 +1,5 @@
 use Rattle.std.proofs.Common.{ap, refl, sym, ◌∙◌}
-use Rattle.flow_model.specs.declared.board.Leg.{Leg}
+use Rattle.status_table.specs.Words.{Leg, Play}
 use Rattle.board_counters.specs.Failing.{failing_of}
 use Rattle.board_counters.proofs.Failings.{leg_failing_kept}
 use Rattle.board_counters.proofs.Followed.{leg_counted}
@@ -7,7 +7,6 @@ use Rattle.board_counters.proofs.Stops.{leg_told_kept}
 use Rattle.board_counters.proofs.Tallies.{came_to, same_so}
 use Rattle.board_counters.proofs.Undone.{state_back}
 use Rattle.board_counters.proofs.counted.Counted.set_leg_state.Goals as goal
-use Rattle.status_table.specs.Play.{Play}
 
 pub recount_to-requires : goal.recount_to-requires
 recount_to-requires c =

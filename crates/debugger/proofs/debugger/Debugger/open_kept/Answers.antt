@@ -1,6 +1,5 @@
 use Rattle.std.proofs.Common.{◌∙◌, List, ap, sym, length}
-use Rattle.flow_model.specs.declared.board.Board.{Board}
-use Rattle.status_table.specs.Runs.{after_from}
+use Rattle.status_table.specs.Words.{Board, after_from}
 use Rattle.debugger.specs.Trail.{Trail, first_of}
 use Rattle.debugger.proofs.Following.{first-played, legal-played, rewound, same-session}
 use Rattle.debugger.proofs.debugger.Debugger.open_kept.Goals as goal

@@ -1,7 +1,7 @@
 use Rattle.std.proofs.Common.{subst}
+use Rattle.status_table.specs.Words.{Play}
 use Rattle.flat_board.specs.Names.{IsNamed}
 use Rattle.flat_board.proofs.Known.{board_named}
-use Rattle.status_table.specs.Play.{Play}
 use Rattle.flat_board.proofs.flat_board.FlatBoard.board.Goals as goal
 
 pub returns-clause-named : goal.returns-clause-named

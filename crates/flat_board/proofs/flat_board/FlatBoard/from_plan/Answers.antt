@@ -1,8 +1,6 @@
 use Rattle.std.proofs.Common.{ap, subst, ◌∙◌}
-use Rattle.flow_model.specs.Rules.{IsPlan}
-use Rattle.flow_model.specs.Sound.{SoundPlan}
+use Rattle.status_table.specs.Words.{IsPlan, Play, SoundPlan}
 use Rattle.flat_board.proofs.Playing.{new_sound}
-use Rattle.status_table.specs.Play.{Play}
 use Rattle.flat_board.proofs.flat_board.FlatBoard.from_plan.Goals as goal
 
 pub invariant_of-result : goal.invariant_of-result

@@ -1,13 +1,10 @@
 use Rattle.std.proofs.Common.{◌≡◌, subst}
 use Rattle.std.specs.Prelude.{IfOk}
+use Rattle.status_table.specs.Words.{Play, Plays, Stays, done_of}
 use Rattle.flat_board.proofs.Back.{fits_unasked}
 use Rattle.flat_board.proofs.Playing.{plays_unasked, sound_after, stays_after}
 use Rattle.flat_board.proofs.flat_board.FlatBoardReversible.advance_with_undo.Goals as goal
 use Rattle.flat_board.specs.Undo.{board_before}
-use Rattle.status_table.specs.Play.{Play}
-use Rattle.status_table.specs.Reversible.{done_of}
-use Rattle.status_table.specs.Runs.{Plays}
-use Rattle.status_table.specs.Stays.{Stays}
 use Rattle.status_table.proofs.Ended.{stays-same}
 
 pub invariant_of-self : goal.invariant_of-self

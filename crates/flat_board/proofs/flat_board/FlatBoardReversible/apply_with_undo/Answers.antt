@@ -1,12 +1,10 @@
 use Rattle.std.proofs.Common.{◌≡◌, subst}
 use Rattle.std.specs.Prelude.{IfOk}
+use Rattle.status_table.specs.Words.{Play, Stays, answer_of}
 use Rattle.flat_board.proofs.Back.{fits_all}
 use Rattle.flat_board.proofs.Playing.{sound_after, stays_after}
 use Rattle.flat_board.proofs.flat_board.FlatBoardReversible.apply_with_undo.Goals as goal
 use Rattle.flat_board.specs.Undo.{board_before}
-use Rattle.status_table.specs.Play.{Play}
-use Rattle.status_table.specs.Reversible.{answer_of}
-use Rattle.status_table.specs.Stays.{Stays}
 use Rattle.status_table.proofs.Ended.{stays-same}
 
 pub invariant_of-self : goal.invariant_of-self

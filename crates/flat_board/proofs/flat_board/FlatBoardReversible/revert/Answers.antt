@@ -1,8 +1,8 @@
 use Rattle.std.proofs.Common.{subst, sym}
+use Rattle.status_table.specs.Words.{Play}
 use Rattle.flat_board.specs.Undo.{Fits}
 use Rattle.flat_board.proofs.Back.{sound_before}
 use Rattle.flat_board.proofs.flat_board.FlatBoardReversible.revert.Goals as goal
-use Rattle.status_table.specs.Play.{Play}
 
 pub take_back-requires : goal.take_back-requires
 take_back-requires c =

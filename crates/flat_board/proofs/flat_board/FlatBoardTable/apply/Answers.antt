@@ -1,7 +1,6 @@
 use Rattle.std.proofs.Common.{subst}
+use Rattle.status_table.specs.Words.{Play, Stays}
 use Rattle.flat_board.proofs.Playing.{sound_after, stays_after}
-use Rattle.status_table.specs.Play.{Play}
-use Rattle.status_table.specs.Stays.{Stays}
 use Rattle.status_table.proofs.Ended.{stays-same}
 use Rattle.flat_board.proofs.flat_board.FlatBoardTable.apply.Goals as goal
 

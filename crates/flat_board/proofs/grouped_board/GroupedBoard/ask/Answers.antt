@@ -1,11 +1,7 @@
 use Rattle.std.proofs.Common.{◌≡◌, Some, subst, sym, ◌∙◌}
-use Rattle.board_decisions.specs.Decisions.{leg_entrance}
-use Rattle.board_decisions.specs.Place.{leg_at}
-use Rattle.board_decisions.specs.Seen.{leg_seen}
-use Rattle.status_table.specs.Play.{Play}
+use Rattle.status_table.specs.Words.{Play, content, leg_at, leg_entrance, leg_seen}
 use Rattle.flat_board.proofs.Named.{given_named, leg_asks}
 use Rattle.flat_board.proofs.Reached.{asks_outside}
-use Rattle.group_admission.specs.Known.{content}
 use Rattle.flat_board.proofs.grouped_board.GroupedBoard.ask.Goals as goal
 
 pub enter_leg-requires-clause-named : goal.enter_leg-requires-clause-named

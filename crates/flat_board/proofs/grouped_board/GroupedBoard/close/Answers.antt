@@ -1,11 +1,7 @@
 use Rattle.std.proofs.Common.{◌≡◌, Some, ap, subst, sym, ◌∙◌}
-use Rattle.board_decisions.specs.Place.{run_at}
-use Rattle.board_decisions.specs.Seen.{run_seen}
-use Rattle.status_table.specs.Grouped.{run_left}
-use Rattle.status_table.specs.Play.{Play}
+use Rattle.status_table.specs.Words.{Play, content, run_at, run_left, run_seen}
 use Rattle.flat_board.proofs.Leaving.{run_has_left}
 use Rattle.flat_board.proofs.Reached.{run_found_named}
-use Rattle.group_admission.specs.Known.{content}
 use Rattle.flat_board.proofs.grouped_board.GroupedBoard.close.Goals as goal
 
 pub next_after-next-requires : goal.next_after-next-requires

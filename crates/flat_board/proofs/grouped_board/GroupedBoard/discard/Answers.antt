@@ -1,11 +1,7 @@
 use Rattle.std.proofs.Common.{◌≡◌, Some, ap, subst, sym, ◌∙◌}
-use Rattle.board_decisions.specs.Place.{leg_at}
-use Rattle.board_decisions.specs.Seen.{leg_seen}
-use Rattle.status_table.specs.Grouped.{leg_left}
-use Rattle.status_table.specs.Play.{Play}
+use Rattle.status_table.specs.Words.{Play, content, leg_at, leg_left, leg_seen}
 use Rattle.flat_board.proofs.Leaving.{dropped_has_left}
 use Rattle.flat_board.proofs.Reached.{leg_found_named}
-use Rattle.group_admission.specs.Known.{content}
 use Rattle.flat_board.proofs.grouped_board.GroupedBoard.discard.Goals as goal
 
 pub next_after-next-requires : goal.next_after-next-requires

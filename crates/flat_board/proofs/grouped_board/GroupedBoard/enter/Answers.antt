@@ -1,14 +1,7 @@
 use Rattle.std.proofs.Common.{◌≡◌, Ok, Some, None, Option, ap, sym, subst, ◌∙◌}
 use Rattle.std.specs.Option.{option_map, option_and_then}
-use Rattle.expr_reader.specs.Fold.{fold}
-use Rattle.flow_model.specs.Mapping.{value_at}
-use Rattle.flow_model.specs.declared.event.Member.{Member}
-use Rattle.group_admission.specs.declared.held.Held.{Held}
+use Rattle.status_table.specs.Words.{Answers, Done, Held, Member, answer_of, content, enters, enters_held, fold, holder, value_at, waiter}
 use Rattle.flat_board.specs.Index.{EntersNamed}
-use Rattle.status_table.specs.Answers.{Answers}
-use Rattle.status_table.specs.Groups.{Done, holder, waiter, enters_held, enters}
-use Rattle.status_table.specs.Reversible.{answer_of}
-use Rattle.group_admission.specs.Known.{content}
 use Rattle.flat_board.proofs.grouped_board.GroupedBoard.enter.Goals as goal
 
 pub enter_held-requires-clause-held : goal.enter_held-requires-clause-held

@@ -1,8 +1,6 @@
 use Rattle.std.proofs.Common.{ap, ◌∙◌}
-use Rattle.expr_reader.specs.Fold.{fold}
+use Rattle.status_table.specs.Words.{after_enter, content, fold}
 use Rattle.flat_board.proofs.Index.{free_back}
-use Rattle.group_admission.specs.Content.{after_enter}
-use Rattle.group_admission.specs.Known.{content}
 use Rattle.flat_board.proofs.grouped_board.GroupedBoard.enter_free.Goals as goal
 
 pub returns-clause-cell : goal.returns-clause-cell

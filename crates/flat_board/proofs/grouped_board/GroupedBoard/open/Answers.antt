@@ -1,11 +1,7 @@
 use Rattle.std.proofs.Common.{◌≡◌, Some, subst, sym, ◌∙◌}
-use Rattle.board_decisions.specs.Decisions.{run_entrance}
-use Rattle.board_decisions.specs.Place.{run_at}
-use Rattle.board_decisions.specs.Seen.{run_seen}
-use Rattle.status_table.specs.Play.{Play}
+use Rattle.status_table.specs.Words.{Play, content, run_at, run_entrance, run_seen}
 use Rattle.flat_board.proofs.Named.{given_named, run_asks}
 use Rattle.flat_board.proofs.Reached.{opens_outside}
-use Rattle.group_admission.specs.Known.{content}
 use Rattle.flat_board.proofs.grouped_board.GroupedBoard.open.Goals as goal
 
 pub enter_run-requires-clause-named : goal.enter_run-requires-clause-named

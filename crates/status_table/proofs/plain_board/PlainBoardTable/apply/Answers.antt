@@ -1,6 +1,5 @@
 use Rattle.std.proofs.Common.{subst}
-use Rattle.status_table.specs.Play.{Play}
-use Rattle.status_table.specs.Stays.{Stays}
+use Rattle.status_table.specs.Words.{Play, Stays}
 use Rattle.status_table.proofs.Ended.{stays-same}
 use Rattle.status_table.proofs.InPlay.{answer_in_play, few_in_play}
 use Rattle.status_table.proofs.plain_board.PlainBoardTable.apply.Goals as goal
