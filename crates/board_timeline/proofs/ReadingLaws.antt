@@ -191,9 +191,6 @@ next_read seen b more = by_forbidden (is_forbidden seen b) refl
 
 -- ---- a text between tags
 
-joined : (first : List ℕ) (others : List ℕ) (rest : List ℕ) → onto first (Some (others, rest)) ≡ Some (first ++ others, rest)
-joined first others rest = refl
-
 escaped_read : (seen : ℕ) (text rest : List ℕ) → read_text (plain seen) (escaped_after seen text ++ 60 ∷ rest) ≡ Some (shown_after seen text, 60 ∷ rest)
 escaped_read seen [] rest = refl
 escaped_read seen (b ∷ bs) rest =

@@ -18,9 +18,6 @@ after_front Says front text rest None is none =
     λ x w. none x (subst (λ (t : List ℕ). Says t x) (append_cancel_left front w.0 rest (sym w.1 ∙ is)) w.2)
 after_front Says front text rest (Some x) is says = (rest, is, says)
 
-pub no_front : {X : Type 0} (Says : List ℕ → X → Type 0) (front text : List ℕ) → ((rest : List ℕ) → text ≢ front ++ rest) → FindsOne (After Says front text) None
-no_front Says front text none = λ x w. none w.0 w.1
-
 -- ---- two numbers
 
 digits_before : (b : Bool) (k : ℕ) → b ≡ true → cond b (1 + k) 0 ≡ 1 + k

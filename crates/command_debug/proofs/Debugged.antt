@@ -3,10 +3,8 @@ use Rattle.std.proofs.Common.{◌≡◌, ◌<◌, ◌≤◌, ℕ, List, ◌++◌
 use Rattle.std.proofs.lemmas.Option.{slice_get_within}
 use Rattle.std.proofs.lemmas.List.{length-take-le}
 use Rattle.status_table.specs.Words.{Board, Entry, IsPlan, Plan, after, new_board}
-use Rattle.debugger.specs.Breaks.{is_set, with_break, without_break}
 use Rattle.debugger.specs.Places.{NotOpened, RefusedAt}
-use Rattle.debugger.specs.Session.{Moves, MovesInMemory, Session, moved, with_breaks}
-use Rattle.debugger.specs.declared.breaks.Break.{Break}
+use Rattle.debugger.specs.Session.{Moves, MovesInMemory, Session, moved}
 use Rattle.debugger.specs.declared.fault.DebugFault.{DebugFault}
 use Rattle.status_table.specs.declared.fault.EventFault.{EventFault}
 use Rattle.command_debug.specs.Answers.{Adds, AddsSome, IsMove, TellsGo, TellsMove, TellsOneLine, TellsRequest, move_line}
@@ -15,7 +13,6 @@ use Rattle.command_io.proofs.Stopped.{has_line, refused_there}
 use Rattle.command_io.specs.Records.{HasLine, IsStopped}
 use Rattle.command_debug.specs.Requests.{Asks, FindsOne}
 use Rattle.command_debug.specs.declared.requests.Request.{Request}
-use Rattle.command_debug.specs.declared.requests.Request.TheVariants.{Set, Clear}
 
 -- ---- moves
 
@@ -85,19 +82,6 @@ module _ {E : Type 0} (s next : Session) (old new : List ℕ) where
   adds_go Goes found last (Ok done) many h is adds =
       (move_line (length s.entries) found, (found, is, h, refl), adds ∙ ap (λ (n : ℕ). old ++ move_line n found) many)
   adds_go Goes found last (Err e) many h is adds = tt
-
-  -- the line of a break that is set
-  pub adds_set : (wanted : Break) (r : Result (Unit {0}) E) → OnOk r (next ≡ with_breaks s (with_break wanted s.breaks))
-      → OnOk r (Adds old new (codes "break set\n")) → OnOk r (AddsSome (λ words. TellsRequest s (Set wanted) words next) old new)
-  adds_set wanted (Ok done) left adds = (codes "break set\n", (refl, left), adds)
-  adds_set wanted (Err e) left adds = tt
-
-  -- that of a break that is cleared, or is not there
-  pub adds_clear : (wanted : Break) (r : Result (Unit {0}) E) → next ≡ with_breaks s (without_break wanted s.breaks)
-      → OnOk r (Adds old new (if is_set wanted s.breaks then codes "cleared\n" else codes "no such break\n"))
-      → OnOk r (AddsSome (λ words. TellsRequest s (Clear wanted) words next) old new)
-  adds_clear wanted (Ok done) left adds = ((if is_set wanted s.breaks then codes "cleared\n" else codes "no such break\n"), (refl, left), adds)
-  adds_clear wanted (Err e) left adds = tt
 
   -- what is told of a request is told of the line that asks for it
   pub adds_asked : (line : List ℕ) (request : Request) (r : Result (Unit {0}) E) → Asks line request → OnOk r (AddsSome (λ words. TellsRequest s request words next) old new)

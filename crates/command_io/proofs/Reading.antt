@@ -1,5 +1,5 @@
 -- Going over files that are read one after the other.
-use Rattle.std.proofs.Common.{◌≡◌, ◌∙◌, ◌<◌, ◌≤◌, ◌+◌, ℕ, suc, List, [], ◌∷◌, ◌++◌, map, length, take, drop, get_or, set, Err, refl, ap, sym, subst, inl, inr, arith, append-nil, append_assoc}
+use Rattle.std.proofs.Common.{◌≡◌, ◌∙◌, ◌<◌, ◌≤◌, ◌+◌, ℕ, suc, List, [], ◌∷◌, ◌++◌, map, length, take, drop, get_or, set, Err, ap, sym, subst, inl, inr, arith, append-nil, append_assoc}
 use Rattle.std.proofs.lemmas.List.{drop_more, drop_all, drop-set-lt, map-append, set_split, take_all, take_more_set, length-set}
 use Rattle.command_io.specs.Files.{File, Content, IsContent, AreContents, IsCutShort}
 use Rattle.command_io.specs.Stream.{IsRead}
@@ -11,9 +11,6 @@ pub record GoingFiles {X : Type 0} (seen : X → File) (xs ys : List X) (i : ℕ
   pub same : drop i ys ≡ drop i xs
   pub made : (news : List File) (more : List Content) → AreContents (map seen (drop i xs)) news more → AreContents (map seen xs) (map seen (take i ys) ++ news) (contents ++ more)
   pub cut : (news : List File) (fault : SourceFault) → IsCutShort (map seen (drop i xs)) news fault → IsCutShort (map seen xs) (map seen (take i ys) ++ news) fault
-
-pub begin_files : {X : Type 0} (seen : X → File) (xs : List X) → GoingFiles seen xs xs 0 []
-begin_files seen xs = record { long = refl; same = refl; made = λ news more w. w; cut = λ news fault w. w }
 
 -- the files that are left begin with this one, before and now
 left_at : {X : Type 0} (xs ys : List X) (i : ℕ) (y d : X) → i < length ys → y ≡ get_or ys i d → drop i ys ≡ drop i xs → drop i xs ≡ y ∷ drop (i + 1) ys

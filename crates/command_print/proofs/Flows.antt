@@ -1,6 +1,6 @@
 -- Going over the files of workflows.
-use Rattle.std.proofs.Common.{◌≡◌, ◌∙◌, ◌<◌, ◌≤◌, ◌+◌, ℕ, List, [], ◌∷◌, ◌++◌, length, drop, get_or, ap, sym, subst, append-nil}
-use Rattle.std.proofs.lemmas.List.{drop_more, drop_all}
+use Rattle.std.proofs.Common.{◌≡◌, ◌∙◌, ◌<◌, ◌≤◌, ◌+◌, ℕ, List, [], ◌∷◌, ◌++◌, length, drop, sym, subst, append-nil}
+use Rattle.std.proofs.lemmas.List.{drop_all}
 use Rattle.status_table.specs.Words.{Workflow}
 use Rattle.command_io.specs.Files.{Content}
 use Rattle.command_print.specs.Planning.{GiveFlows, GiveNoFlows}
@@ -10,9 +10,6 @@ use Rattle.command_io.specs.declared.error.CommandError.{CommandError}
 pub record GoingFlows (files : List Content) (i : ℕ) (flows : List Workflow) : Type 0 where
   pub made : (more : List Workflow) → GiveFlows (drop i files) more → GiveFlows files (flows ++ more)
   pub fail : (error : CommandError) → GiveNoFlows (drop i files) error → GiveNoFlows files error
-
-pub left_at : (files : List Content) (i : ℕ) (file : Content) → i < length files → file ≡ get_or files i file → drop i files ≡ file ∷ drop (i + 1) files
-left_at files i file h at = drop_more files i file h ∙ ap (λ (x : Content). x ∷ drop (i + 1) files) (sym at)
 
 pub all_flows : (files : List Content) (i : ℕ) (flows : List Workflow) → length files ≤ i → GoingFlows files i flows → GiveFlows files flows
 all_flows files i flows past g =

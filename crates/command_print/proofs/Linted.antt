@@ -33,9 +33,6 @@ told_by_judged file (Some t) (true, text) judged h =
 pub record GoingFiles (files : List Content) (i : ℕ) (tolds : List Told) : Type 0 where
   pub made : (more : List Told) → AreTold (drop i files) more → AreTold files (tolds ++ more)
 
-pub begin_files : (files : List Content) → GoingFiles files 0 []
-begin_files files = record { made = λ more w. w }
-
 pub all_told : (files : List Content) (i : ℕ) (tolds : List Told) → length files ≤ i → GoingFiles files i tolds → AreTold files tolds
 all_told files i tolds past g =
     subst (λ (l : List Told). AreTold files l) (append-nil tolds)

@@ -1,8 +1,7 @@
 -- What is shown of the lines of a log, told and written piece by piece.
-use Rattle.std.proofs.Common.{◌≡◌, ℕ, ◌==◌, Bool, true, false, not, ◌&&◌, IsTrue, if◌then◌else◌, string_bytes, Option, Some, None, Result, Ok, Err, IfOk, inl, inr, List, [], ◌∷◌, ◌++◌, flat_map, refl, sym, ap, subst, ◌∙◌, append_assoc, append-nil, arith}
+use Rattle.std.proofs.Common.{◌≡◌, ℕ, ◌==◌, Bool, true, false, not, ◌&&◌, IsTrue, if◌then◌else◌, string_bytes, Option, Some, None, Ok, Err, inl, inr, List, [], ◌∷◌, ◌++◌, flat_map, refl, sym, ap, subst, ◌∙◌, append_assoc, append-nil, arith}
 use Rattle.std.proofs.lemmas.Bool.Decides.{nat_tests}
 use Rattle.std.proofs.lemmas.List.Concat.{flat_map-append}
-use Rattle.std.proofs.lemmas.Result.{IfOk-weaker}
 use Rattle.std.proofs.lemmas.Str.{IsUtf8-append, IsUtf8-from_is_utf8, is_utf8-from_IsUtf8}
 use Rattle.std.specs.Prelude.{IsErr}
 use Rattle.std.specs.Str.{IsUtf8, is_utf8}
@@ -18,9 +17,9 @@ use Rattle.flow_commands.specs.Logs.{Told, bytes_told, leg_masks, line_text, lin
 use Rattle.flow_commands.specs.Shown.{masks_added, shown}
 use Rattle.flow_commands.specs.declared.logs.LogTeller.{LogTeller}
 use Rattle.command_run.proofs.Telling.{begun_after}
-use Rattle.command_run.specs.StepLogs.{AreAdded, BeginsWith, EndsAs, FileGives, FileIs, GetsLine, HandsOn, IsOfKind, PutsLines, PutsLog, PutsText, ShowsLog, Written, files_of}
+use Rattle.command_run.specs.StepLogs.{AreAdded, BeginsWith, EndsAs, FileGives, FileIs, GetsLine, HandsOn, PutsLines, PutsLog, PutsText, ShowsLog, Written, files_of}
 use Rattle.command_run.specs.declared.log_files.LogKind.{LogKind}
-use Rattle.command_run.specs.declared.log_files.LogKind.TheVariants.{Unread, NoText, Text}
+use Rattle.command_run.specs.declared.log_files.LogKind.TheVariants.{NoText, Text}
 
 -- ---- whole lines
 
@@ -119,26 +118,9 @@ read_more first now next piece read gets utf8 = record {
   };
 }
 
-pub all_read : (first now : Stream) (kind : LogKind) → ReadSoFar first now → EndsAs now kind → IsOfKind first kind
-all_read first now kind read ends = (read.text, now, read.begins, ends)
-
 -- a line that is no text ends what is read
 pub ends_no_text : (log after : Stream) (text : List ℕ) → GetsLine log after text → (IsUtf8 text → ⊥) → EndsAs log NoText
 ends_no_text log after text gets unread = (gets.line, after, gets.read, λ utf8. unread (subst IsUtf8 (sym gets.is) utf8))
-
--- what a log is, its file is
-file_is : {L : Type 0} (logs : Option L → List ℕ → Type 0) (seen : L → Stream) (name : List ℕ) (log : L) → logs (Some log) name → (kind : LogKind)
-    → IsOfKind (seen log) kind → FileIs logs seen name kind
-file_is logs seen name log opened Unread (text, left, begins, ends) =
-    inr (text, record { log = log; opened = opened; left = left; begins = begins; ends = ends })
-file_is logs seen name log opened NoText (text, left, begins, ends) =
-    (text, record { log = log; opened = opened; left = left; begins = begins; ends = ends })
-file_is logs seen name log opened Text (text, left, begins, ends) =
-    (text, record { log = log; opened = opened; left = left; begins = begins; ends = ends })
-
-pub kind_is : {L : Type 0} (logs : Option L → List ℕ → Type 0) (seen : L → Stream) (name : List ℕ) (log : L) → logs (Some log) name
-    → (answer : Result LogKind AllocError) → IfOk answer (IsOfKind (seen log)) → IfOk answer (FileIs logs seen name)
-kind_is logs seen name log opened answer is = IfOk-weaker answer _ _ (λ kind. file_is logs seen name log opened kind) is
 
 -- ---- lines that are told and written
 

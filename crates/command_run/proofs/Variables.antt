@@ -9,9 +9,6 @@ pub record VariablesSoFar (holds : ℕ → Option (List ℕ) → Type 0) (number
   pub all : (rest : List (List ℕ)) → AreEntriesFrom holds number rest → AreEntriesFrom holds 0 (entries ++ rest)
   pub is : variables ≡ with_entries entries []
 
-pub no_variables : (holds : ℕ → Option (List ℕ) → Type 0) → VariablesSoFar holds 0 []
-no_variables holds = record { entries = []; all = λ rest are. are; is = refl }
-
 entries_more : (entries : List (List ℕ)) (entry : List ℕ) (variables : List Pair)
     → with_entries (entries ++ entry ∷ []) variables ≡ with_entry entry (with_entries entries variables)
 entries_more [] entry variables = refl

@@ -2,7 +2,7 @@
 -- its picture, so that a line stays one line.
 use Rattle.std.specs.Prelude.{ℕ, ◌==◌, ◌+◌, ◌++◌, nat_lt, if◌then◌else◌, List, [], ◌∷◌, codes, decimal, Option, Some, None, slice_get}
 use Rattle.std.specs.List.{flat_map}
-use Rattle.status_table.specs.Words.{JobAt, LegAt, Member, Plain, RunAt, StepPlan, Work, job_at, kind_of as kind_of_value, leg_at, pairs_in, run_at, text_of}
+use Rattle.status_table.specs.Words.{JobAt, LegAt, Member, Plain, RunAt, StepPlan, Work, kind_of as kind_of_value, leg_at, pairs_in, run_at, text_of}
 use Rattle.why_notes.specs.Account.{Account}
 
 -- ---- texts from files

@@ -4,7 +4,7 @@
 //! entries that it accepted. Whenever the lock is free that history is legal for the board's plan, and the board is the one
 //! after it (`specs/Course.antt`). What is posted adds one entry, of the worker whose `Share` is used, or is refused as its
 //! row says and changes nothing. A worker that begins a step holds its call (`Held`), and ends it with an answer only while
-//! it is the open call of its leg (`specs/Calls.antt`, `specs/Ended.antt`). Each share counts its entries (`specs/Hand.antt`):
+//! it is the open call of its leg (`specs/OpenCalls.antt`, `specs/Ended.antt`). Each share counts its entries (`specs/Hand.antt`):
 //! at the end the history has as many as all shares together. A `Recorder` is told of each entry as soon as it is accepted
 //! (`History`). A clerk posts the first of the table's moves
 //! (`specs/Clerk.antt`).

@@ -1,7 +1,7 @@
 -- What was copied so far of a reader into a writer.
-use Rattle.std.proofs.Common.{◌≡◌, ◌∙◌, ap, sym, refl, ℕ, ◌-◌, List, [], ◌∷◌, ◌++◌, length, slice_get, Option, Some, None, IfSome, append_assoc, append-nil, subst}
+use Rattle.std.proofs.Common.{◌≡◌, ◌∙◌, ap, sym, refl, ℕ, ◌-◌, List, [], ◌∷◌, ◌++◌, length, slice_get, Option, Some, None, append_assoc}
 use native.Mathlib.Numerals.{unary_clauses}
-use Rattle.std.specs.Io.KnownBytes.{Appends, Consumes, IsAtEnd}
+use Rattle.std.specs.Io.KnownBytes.{Appends, Consumes}
 
 -- These bytes were read, and are those that were written; the last of them is the last of all so far.
 pub record Copied (before now written with : Option (List ℕ)) (last : Option ℕ) : Type 0 where
@@ -39,14 +39,3 @@ piece_copied a b c w x y last next (p ∷ ps) before read put some ends =
       put = appends_more w x y _ _ before.put put;
       ends = ends ∙ sym (last_of_two before.bytes p ps);
     }
-
-at_the_end : (a b : Option (List ℕ)) (xs : List ℕ) → Consumes a b xs → IsAtEnd b → IfSome a (λ all. xs ≡ all)
-at_the_end None b xs p end = tt
-at_the_end (Some x) None xs p end = absurd p
-at_the_end (Some x) (Some y) xs p end = sym (p ∙ ap (λ l. xs ++ l) end ∙ append-nil xs)
-
-pub all_ended : (a b w x : Option (List ℕ)) (last : Option ℕ) → Copied a b w x last → IsAtEnd b
-    → IfSome a (λ bytes. last ≡ slice_get bytes (length bytes - 1))
-all_ended None b w x last c end = tt
-all_ended (Some xs) b w x last c end =
-    subst (λ bytes. last ≡ slice_get bytes (length bytes - 1)) (at_the_end (Some xs) b c.bytes c.read end) c.ends

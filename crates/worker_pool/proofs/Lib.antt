@@ -6,7 +6,6 @@ mod Checking
 pub mod Crosses
 mod Decided
 mod Firsts
-mod Fit
 mod Fresh
 mod Grows
 mod Hands

@@ -11,10 +11,10 @@ pub mod Logs
 pub mod Lowest
 pub mod Many
 pub mod Own
+pub mod PoolStop
 pub mod Replaying
 pub mod Review
 pub mod Settles
 pub mod Stalls
-pub mod Stop
 pub mod Told
 pub mod Worker

@@ -19,7 +19,7 @@ use crate::played::Played;
 use crate::review::{Handed, settle};
 use crate::settles::plays_leave_what_is_settled;
 use crate::stalls::stalled_only_by_groups;
-use crate::stop::Stop;
+use crate::stop::PoolStop;
 use crate::worker::{Pool, Worker};
 use flow_model::CheckedPlan;
 use flow_model::laws::rules_hold;
@@ -343,6 +343,6 @@ pub fn play_recorded<R: Threads + Wait + Sync, H: StepHost + Sync, W: Recorder +
     let _ = plan.plan();
     match play_counted(rt, alloc, plan, host, workers as u8, recorder) {
         Ok(come) => come,
-        Err(recorder) => (Err(Stop::Memory.after(Vec::new(alloc))), recorder),
+        Err(recorder) => (Err(PoolStop::Memory.after(Vec::new(alloc))), recorder),
     }
 }

@@ -4,7 +4,7 @@ ghost use Rattle.std.specs.Prelude.{◌≡◌, ◌≤◌, IfOk, length, take};
 ghost use Rattle.worker_pool.specs.Checks.{ChecksSettled, IsUnplayed};
 
 use crate::fault::PoolFault;
-use crate::stop::Stop;
+use crate::stop::PoolStop;
 use board_settled::replay_record;
 use flow_model::{CheckedPlan, Duplicate, Entry};
 use status_table::EventFault;
@@ -29,11 +29,11 @@ fn unplayed(alloc: Global, entries: &[Entry], place: usize, fault: EventFault) -
 {
     // an entry that is refused stands in the list
     if fault.is_memory() || entries.len() < place {
-        return Stop::Memory.after(Vec::new(alloc));
+        return PoolStop::Memory.after(Vec::new(alloc));
     }
     match entries_before(alloc, entries, place) {
-        Ok(before) => Stop::Mismatch.after(before),
-        Err(_) => Stop::Memory.after(Vec::new(alloc)),
+        Ok(before) => PoolStop::Mismatch.after(before),
+        Err(_) => PoolStop::Memory.after(Vec::new(alloc)),
     }
 }
 

@@ -2,7 +2,7 @@
 
 ghost use Rattle.std.specs.Prelude.{◌≡◌};
 ghost use Rattle.status_table.specs.declared.fault.EventFault.TheVariants as event_fault;
-ghost use Rattle.worker_pool.specs.Stop.{fault_after};
+ghost use Rattle.worker_pool.specs.PoolStop.{fault_after};
 
 use crate::fault::PoolFault;
 use flow_model::{Entry, Sequence};
@@ -12,7 +12,7 @@ use step_host::HostFault;
 
 /// Why a play goes no further.
 #[derive(Clone, Copy)]
-pub(crate) enum Stop {
+pub(crate) enum PoolStop {
     /// The host declined the call of a leg's step.
     NoAnswer { leg: u64, step: u64 },
     /// The next entry is not what the table and the host say.
@@ -21,15 +21,15 @@ pub(crate) enum Stop {
     Memory,
 }
 
-impl Stop {
+impl PoolStop {
     /// Why a play goes no further where an entry is refused that the table accepts: there is no memory.
-    pub(crate) fn of_accepted(fault: EventFault) -> Stop
+    pub(crate) fn of_accepted(fault: EventFault) -> PoolStop
         requires { fault ≡ event_fault.Memory }
-        ensures { result ≡ Stop.Memory }
+        ensures { result ≡ PoolStop.Memory }
     {
         let wants_memory = fault.is_memory();
         prove!(wants_memory);
-        Stop::Memory
+        PoolStop::Memory
     }
 
     /// The fault, with what was played.
@@ -38,36 +38,36 @@ impl Stop {
     {
         let history = Sequence::new(history);
         match self {
-            Stop::NoAnswer { leg, step } => PoolFault::Host {
+            PoolStop::NoAnswer { leg, step } => PoolFault::Host {
                 leg,
                 step,
                 fault: HostFault::NoAnswer,
                 history,
             },
-            Stop::Mismatch => PoolFault::Mismatch { history },
-            Stop::Memory => PoolFault::Memory { history },
+            PoolStop::Mismatch => PoolFault::Mismatch { history },
+            PoolStop::Memory => PoolFault::Memory { history },
         }
     }
 }
 
-impl From<AllocError> for Stop {
+impl From<AllocError> for PoolStop {
     ghost use Rattle.std.specs.Prelude.{◌≡◌};
-    ghost use Rattle.worker_pool.specs.declared.stop.Stop.TheVariants.{Memory};
+    ghost use Rattle.worker_pool.specs.declared.stop.PoolStop.TheVariants.{Memory};
 
     ghost from_gives = { λ _ e. e ≡ Memory };
 
-    fn from(_: AllocError) -> Stop {
-        Stop::Memory
+    fn from(_: AllocError) -> PoolStop {
+        PoolStop::Memory
     }
 }
 
-impl<T: Drop> From<AllocFailed<T>> for Stop {
+impl<T: Drop> From<AllocFailed<T>> for PoolStop {
     ghost use Rattle.std.specs.Prelude.{◌≡◌};
-    ghost use Rattle.worker_pool.specs.declared.stop.Stop.TheVariants.{Memory};
+    ghost use Rattle.worker_pool.specs.declared.stop.PoolStop.TheVariants.{Memory};
 
     ghost from_gives = { λ _ e. e ≡ Memory };
 
-    fn from(_: AllocFailed<T>) -> Stop {
-        Stop::Memory
+    fn from(_: AllocFailed<T>) -> PoolStop {
+        PoolStop::Memory
     }
 }

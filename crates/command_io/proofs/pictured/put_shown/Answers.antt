@@ -1,9 +1,9 @@
-use Rattle.std.proofs.Common.{◌≡◌, ◌++◌, ℕ, List, [], refl, sym, ap, subst, ◌∙◌, append_assoc, append-nil}
+use Rattle.std.proofs.Common.{◌≡◌, ◌++◌, ℕ, List, [], sym, ap, subst, ◌∙◌, append_assoc, append-nil}
 use Rattle.std.proofs.lemmas.Str.{IsUtf8-past_char}
 use Rattle.std.specs.Str.Iter.{chars_rest}
 use Rattle.command_io.specs.Pictures.{shown, shown_character}
-use Rattle.command_io.specs.Stream.{IsWritten, IsCutOff}
-use Rattle.command_io.proofs.Known.{Appends-nothing, cut_within, written_more}
+use Rattle.command_io.specs.Stream.{IsWritten}
+use Rattle.command_io.proofs.Known.{cut_within, written_more}
 use Rattle.command_io.proofs.Pictures.{shown_step, shown_nothing}
 use Rattle.command_io.proofs.pictured.put_shown.Goals as goal
 
