@@ -1,6 +1,6 @@
 //! The graph of a plan.
 
-ghost use Rattle.std.specs.Prelude.{[], ◌≡◌, ◌+◌, ◌++◌, IfOk, OnOk, length, slice_get};
+ghost use Rattle.std.specs.Prelude.{[], ◌≡◌, ◌+◌, IfOk, OnOk, slice_get};
 ghost use Rattle.std.specs.List.{flat_map};
 ghost use Rattle.std.specs.Option.{option_copied};
 ghost use Rattle.command_graph.specs.Dot as spec;

@@ -1,6 +1,6 @@
 //! The labels of runs and jobs.
 
-ghost use Rattle.std.specs.Prelude.{◌≡◌, ◌+◌, ◌++◌, IfOk, OnOk, length};
+ghost use Rattle.std.specs.Prelude.{◌≡◌, ◌+◌, IfOk, OnOk};
 ghost use Rattle.command_graph.specs.Dot as spec;
 ghost use Rattle.command_graph.specs.Quoted.{Adds};
 

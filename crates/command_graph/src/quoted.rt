@@ -1,6 +1,6 @@
 //! Texts in quotes.
 
-ghost use Rattle.std.specs.Prelude.{◌≡◌, IfOk, OnOk};
+ghost use Rattle.std.specs.Prelude.{◌≡◌, OnOk};
 ghost use Rattle.command_graph.specs.Quoted as spec;
 ghost use Rattle.command_graph.specs.Quoted.{Adds};
 

@@ -9,7 +9,7 @@ ghost use Rattle.command_io.specs.Contexts.{Gives};
 use expr_reader::Context;
 use flow_model::within::is_within;
 use flow_model::{JsonFault, Mapping, Text, Value, into_value, read_json};
-use std::alloc::{AllocError, AllocFailed, Global};
+use std::alloc::{AllocError, Global};
 use std::collections::BTreeMap;
 use thiserror::Error;
 

@@ -1,13 +1,11 @@
 //! `actrun lint`: what a person should know of workflows' files, place by place.
 
-ghost use Rattle.std.specs.Prelude.{◌≡◌, IfOk, OnOk, flat_map, map, string_bytes};
+ghost use Rattle.std.specs.Prelude.{◌≡◌, IfOk, OnOk, map, string_bytes};
 ghost use Rattle.std.specs.List.{list_any};
-ghost use Rattle.plan_assembler.specs.declared.choice.Choice.TheVariants.{All};
 ghost use Rattle.plan_text.specs.BoardText.{Adds};
-ghost use Rattle.command_io.specs.Files.{file_seen, no_contexts as no_contexts_of};
+ghost use Rattle.command_io.specs.Files.{file_seen};
 ghost use Rattle.command_print.specs.Lint as spec;
 ghost use Rattle.command_print.specs.Lint.{LintTells};
-ghost use Rattle.command_print.specs.Planning.{ComesTo, ComesToNone, Finds};
 
 use crate::list::plan_of_all;
 use crate::shown::add_line;

@@ -1,6 +1,6 @@
 //! `actrun plan`: the plan that workflows come to.
 
-ghost use Rattle.std.specs.Prelude.{◌≡◌, IfOk, map, string_bytes};
+ghost use Rattle.std.specs.Prelude.{IfOk, map, string_bytes};
 ghost use Rattle.command_io.specs.Files.{file_seen};
 ghost use Rattle.command_print.specs.Plan as spec;
 ghost use Rattle.command_print.specs.Plan.{OnePlanText, PlanTells};

@@ -1,6 +1,6 @@
 //! Lines in which names from files stand.
 
-ghost use Rattle.std.specs.Prelude.{◌≡◌, OnOk};
+ghost use Rattle.std.specs.Prelude.{OnOk};
 ghost use Rattle.plan_text.specs.BoardText.{Adds};
 ghost use Rattle.command_io.specs.Pictures as spec;
 

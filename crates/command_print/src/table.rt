@@ -1,6 +1,5 @@
 //! `actrun table`: the board after a record.
 
-ghost use Rattle.std.specs.Prelude.{◌≡◌};
 ghost use Rattle.flow_model.specs.Lines.{lines_of};
 ghost use Rattle.command_print.specs.Play as spec;
 ghost use Rattle.command_print.specs.Play.{HasPlayed, table as board_of};

@@ -1,7 +1,6 @@
 //! The lines of a tree.
 
 ghost use Rattle.std.specs.Prelude.{◌≡◌, OnOk};
-ghost use Rattle.std.specs.List.{flat_map};
 ghost use Rattle.std.specs.Option.{option_copied};
 ghost use Rattle.why_facts.specs.Adds.{Adds};
 ghost use Rattle.why_notes.specs.Account.{account_seen};

@@ -1,6 +1,6 @@
 //! The names of runs, jobs, legs and steps.
 
-ghost use Rattle.std.specs.Prelude.{◌≡◌, OnOk, Some};
+ghost use Rattle.std.specs.Prelude.{OnOk, Some};
 ghost use Rattle.std.specs.List.{flat_map};
 ghost use Rattle.std.specs.Option.{option_copied};
 ghost use Rattle.board_decisions.specs.Contexts.{pairs_in};

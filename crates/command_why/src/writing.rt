@@ -1,6 +1,6 @@
 //! Words, numbers and names from files, added to a text.
 
-ghost use Rattle.std.specs.Prelude.{◌≡◌, ◌++◌, OnOk, decimal};
+ghost use Rattle.std.specs.Prelude.{◌++◌, OnOk, decimal};
 ghost use Rattle.std.specs.List.{flat_map};
 ghost use Rattle.why_facts.specs.Adds.{Adds};
 ghost use Rattle.command_why.specs.Names as spec;

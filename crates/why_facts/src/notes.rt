@@ -1,6 +1,6 @@
 //! What is noted of each run, job and leg: what became of it last, and at which line of the record.
 
-ghost use Rattle.std.specs.Prelude.{◌≡◌, ◌∷◌, [], IfOk, OnOk, Some};
+ghost use Rattle.std.specs.Prelude.{◌≡◌, [], IfOk, OnOk, Some};
 ghost use Rattle.why_facts.specs.Notes as spec;
 
 use crate::fact::{Change, JobFact, MemberFact, StepFact, Teller};
