@@ -1,11 +1,12 @@
 -- What the call of a step is made of.
-use Rattle.std.proofs.Common.{◌≡◌, ℕ, suc, ◌==◌, Bool, true, false, List, [], ◌∷◌, map, Option, Some, None, Result, Ok, Err, length, nat_le, if◌then◌else◌, refl, sym, ap, subst, ◌∙◌}
-use Rattle.status_table.specs.Words.{Ascends, Board, CallWork, Contexts, DoneStep, Env, EnvHasItsNames, IfCalled, LegAt, LevelsStayInOrder, Plan, StepCall, StepPlan, TextPlace, ValueFault, Work, begin_found, begin_leg, beginning_by, called_if, condition_value, decided, directory_value, env_value, flow_env, idle_owner, job_env, laid_over, leg_at, leg_env, leg_status, next_step, or_below, overlaid, seen_from, set_over, step_decision, step_env, text_text, then_value, value_at, work_value}
+use Rattle.std.proofs.Common.{◌≡◌, ℕ, suc, Bool, true, false, List, [], ◌∷◌, map, Option, Some, None, Result, Ok, Err, length, nat_le, refl, sym, ap, subst, ◌∙◌}
+use Rattle.status_table.specs.Words.{Ascends, Board, CallWork, Contexts, DoneStep, Env, EnvHasItsNames, IfCalled, LegAt, LevelsStayInOrder, Plan, StepCall, StepPlan, TextPlace, ValueFault, Work, begin_found, begin_leg, called_if, condition_value, decided, directory_value, env_value, flow_env, job_env, laid_over, leg_at, leg_env, leg_status, next_step, or_below, overlaid, seen_from, set_over, step_decision, step_env, text_text, then_value, value_at, work_value}
 use Rattle.status_table.specs.declared.fault.EventFault.{EventFault}
 use Rattle.board_settled.specs.CallLaws.{last_set, SetInOrder, StepInOrder, WorkInOrder, PlanInOrder, AskedInOrder, CallInOrder, CallsAreInOrder, MostSpecificIsGiven, CallsAreMostSpecific}
 use Rattle.status_table.proofs.Decided.{by_test}
 use Rattle.status_table.proofs.Found.{leg_stands}
 use Rattle.board_decisions.proofs.Lists.{same_some}
+use Rattle.board_settled.proofs.Begins.{by_decision, begins}
 use Rattle.board_settled.proofs.Pairs.{below_through, one_found}
 
 -- ---- answers that are made of others
@@ -48,26 +49,28 @@ levels at step env h =
 
 -- ---- the call
 
-record Asked (at : LegAt) (step : StepPlan) (call : StepCall) : Type 0 where
-  env : step_env at step ≡ Ok call.env
-  work : work_value (seen_from at TextPlace.StepText call.env) step.work ≡ Ok call.work
+pub record Asked (at : LegAt) (step : StepPlan) (call : StepCall) : Type 0 where
+  pub env : step_env at step ≡ Ok call.env
+  pub holds : condition_value (seen_from at TextPlace.StepCondition call.env) (leg_status at) step.condition ≡ Ok true
+  pub work : work_value (seen_from at TextPlace.StepText call.env) step.work ≡ Ok call.work
 
-asked : (l : ℕ) (at : LegAt) (step : StepPlan) (call : StepCall) → step_decision l at step ≡ Ok (Some call) → Asked at step call
+pub asked : (l : ℕ) (at : LegAt) (step : StepPlan) (call : StepCall) → step_decision l at step ≡ Ok (Some call) → Asked at step call
 unfolding step_decision
 asked l at step call h =
     let env = then-ok (step_env at step) (λ env. then_value (condition_value (seen_from at TextPlace.StepCondition env) (leg_status at) step.condition) (called_if l at step env)) (Some call) h in
     let held = then-ok (condition_value (seen_from at TextPlace.StepCondition env.0) (leg_status at) step.condition) (called_if l at step env.0) (Some call) env.2 in
-    called env.0 env.1 held.0 held.2
+    called env.0 env.1 held.0 held.1 held.2
   where
     made : (env : Env) (given : CallWork) → StepCall
     made env given = record { leg = l; step = length at.leg.steps; work = given; env = env }
 
-    called : (env : Env) → step_env at step ≡ Ok env → (c : Bool) → called_if l at step env c ≡ Ok (Some call) → Asked at step call
-    called env is true g =
+    called : (env : Env) → step_env at step ≡ Ok env → (c : Bool) → condition_value (seen_from at TextPlace.StepCondition env) (leg_status at) step.condition ≡ Ok c
+        → called_if l at step env c ≡ Ok (Some call) → Asked at step call
+    called env is true held g =
         let given = then-ok (work_value (seen_from at TextPlace.StepText env) step.work) (λ asked. Ok (Some (made env asked))) (Some call) g in
         let same : made env given.0 ≡ call = cc given.2 in
-        subst (Asked at step) same (record { env = is; work = given.1 })
-    called env is false g = absurd (cc)
+        subst (Asked at step) same (record { env = is; holds = held; work = given.1 })
+    called env is false held g = absurd (cc)
 
 -- ---- order
 
@@ -149,30 +152,16 @@ if_decided : (P : StepCall → Type 0) (b : Board) (worker : ℕ) (at : LegAt) (
 if_decided P b worker at (Ok (Some call)) h = h call refl
 if_decided P b worker at d h = tt
 
-if_begun : (P : StepCall → Type 0) (b : Board) (worker l : ℕ) (at : LegAt) (owner : Option ℕ) (step : Option StepPlan)
-    → ((s : StepPlan) → step ≡ Some s → (call : StepCall) → step_decision l at s ≡ Ok (Some call) → P call) → IfCalled P (begin_leg b worker at (beginning_by worker l at owner step))
-if_begun P b worker l at (Some owner) (Some s) h = by (worker == owner)
-  where
-    by : (c : Bool) → IfCalled P (begin_leg b worker at (if c then Ok (decided (step_decision l at s)) else Err EventFault.OtherWorker))
-    by true = if_decided P b worker at (step_decision l at s) (h s refl)
-    by false = tt
-if_begun P b worker l at owner step h = tt
-
 pub calls_are_in_order : EnvHasItsNames → LevelsStayInOrder → CallsAreInOrder
 calls_are_in_order names stay p b worker l ordered =
     by_test (IfCalled CallInOrder) (nat_le worker 15) (begin_found b worker l (leg_at p b l)) (Err EventFault.NoSuch) (found (leg_at p b l) refl) tt
   where
     found : (o : Option LegAt) → leg_at p b l ≡ o → IfCalled CallInOrder (begin_found b worker l o)
     found None is = tt
-    found (Some at) is = if_begun CallInOrder b worker l at (idle_owner at.leg.state) (next_step at) (λ s next call h.
-        call_in_order names stay at s call (ordered_here p b l at s ordered is next) (asked l at s call h))
+    found (Some at) is = by_decision (IfCalled CallInOrder) (λ f. tt) b worker l at (λ owner s was next. if_decided CallInOrder b worker at (step_decision l at s) (λ call h.
+        call_in_order names stay at s call (ordered_here p b l at s ordered is next) (asked l at s call h)))
 
 pub calls_are_most_specific : EnvHasItsNames → CallsAreMostSpecific
 calls_are_most_specific names p b worker l at step ordered set is next =
-    by_test (IfCalled (MostSpecificIsGiven at step)) (nat_le worker 15) (begin_found b worker l (leg_at p b l)) (Err EventFault.NoSuch)
-    (subst (λ (o : Option LegAt). IfCalled (MostSpecificIsGiven at step) (begin_found b worker l o)) (sym is)
-    (if_begun (MostSpecificIsGiven at step) b worker l at (idle_owner at.leg.state) (next_step at) (λ s at_s call h.
-    let same : s ≡ step = same_some s step (sym at_s ∙ next) in
-    call_most_specific names at step call (ordered_here p b l at step ordered is next) set
-    (asked l at step call (ap (λ z. step_decision l at z) (sym same) ∙ h)))))
-    tt
+    begins (IfCalled (MostSpecificIsGiven at step)) (λ f. tt) b worker l at p is (λ s at_s. if_decided (MostSpecificIsGiven at step) b worker at (step_decision l at s) (λ call h.
+    call_most_specific names at step call (ordered_here p b l at step ordered is next) set (asked l at step call (ap (step_decision l at) (same_some step s (sym next ∙ at_s)) ∙ h))))

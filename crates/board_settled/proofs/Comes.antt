@@ -1,9 +1,10 @@
 -- What a job comes to that is settled on a board: the result and the outputs that it shows are those that are settled.
-use Rattle.std.proofs.Common.{◌≡◌, ℕ, ◌&&◌, ◌||◌, Bool, true, false, not, List, [], ◌∷◌, Option, Some, option_map, map, slice_get, ap, sym, subst, refl, ◌∙◌}
+use Rattle.std.proofs.Common.{◌≡◌, ℕ, ◌&&◌, ◌||◌, Bool, true, false, List, [], ◌∷◌, Option, Some, option_map, map, slice_get, ap, sym, subst, refl, ◌∙◌}
 use Rattle.std.specs.List.{list_any, AllZip}
 use Rattle.std.proofs.lemmas.Bool.{true≢false}
-use Rattle.status_table.specs.Words.{Board, Env, HasShape, Job, JobFits, JobPlace, JobPlan, JobState, Leg, LegState, Plan, Run, RunPlan, goes_rightly, has_failed, is_cancelled, is_ended, is_failure, is_fresh, is_open, job_outputs, job_result, laid_over, overlaid, result_by, was_cancelled}
+use Rattle.status_table.specs.Words.{Board, Env, Job, JobFits, JobPlace, JobPlan, JobState, Leg, LegState, Plan, Run, RunPlan, goes_rightly, has_failed, is_cancelled, is_ended, is_fresh, is_open, job_outputs, job_result, laid_over, overlaid, result_by, was_cancelled}
 use Rattle.board_settled.proofs.Ordered.{none_ended, all_ended}
+use Rattle.board_settled.proofs.Outputs.{JobThere}
 use Rattle.board_settled.specs.Quiet.{ended_in_order}
 use Rattle.board_settled.specs.Agrees.{LegIsSettled, JobIsSettled}
 use Rattle.board_settled.specs.Settled.{Finish, SettledLeg, SettledJob, opened, all_given, fails, worst, legs_come_to, result_of, given_by, outputs_of_job}
@@ -26,8 +27,8 @@ next_comes given more leg legs is later =
       ends = record { result = is.result; tolerated = is.tolerated; outputs = leg.outputs } ∷ later.ends;
       all = ap (λ (o : Option Finish). all_given (o ∷ map (λ (x : SettledLeg). x.finish) more)) is.finish
           ∙ ap (option_map (λ (ys : List Finish). record { result = is.result; tolerated = is.tolerated; outputs = leg.outputs } ∷ ys)) later.all;
-      failed = ap (λ c. (is_failure is.result && not is.tolerated) || c) later.failed ∙ ap (λ s. has_failed s || list_any (λ (x : Leg). has_failed x.state) legs) (sym is.state);
-      cancelled = ap (λ c. is_cancelled is.result || c) later.cancelled ∙ ap (λ s. was_cancelled s || list_any (λ (x : Leg). was_cancelled x.state) legs) (sym is.state);
+      failed = λ i. has_failed (sym is.state i) || later.failed i;
+      cancelled = λ i. was_cancelled (sym is.state i) || later.cancelled i;
       overlays = λ below. ap (λ (o : Option Finish). overlaid (given_by o ∷ map (λ (x : SettledLeg). given_by x.finish) more) below) is.finish ∙ later.overlays (laid_over leg.outputs below);
     }
 
@@ -47,8 +48,7 @@ pub record JobComes (b : Board) (place : JobPlace) (run : Run) (given : SettledJ
 open_result : (run : Run) (given : SettledJob) (job : Job) (all : List SettledLeg) → job.state ≡ JobState.Open → given ≡ opened all → LegsCome all job.legs → result_of given ≡ Some (job_result run job)
 open_result run given job all is stands come =
     ap result_of stands ∙ ap (option_map legs_come_to) come.all
-    ∙ ap (λ c. Some (worst c (list_any (λ (f : Finish). is_cancelled f.result) come.ends))) come.failed
-    ∙ ap (λ c. Some (worst (list_any (λ (leg : Leg). has_failed leg.state) job.legs) c)) come.cancelled
+    ∙ (λ i. Some (worst (come.failed i) (come.cancelled i)))
     ∙ ap (λ s. Some (result_by run.state s job.legs)) (sym is)
 
 -- where it gives the outputs of its legs if it is Open, and else none
@@ -76,17 +76,15 @@ or-left true b c closed h = absurd (true≢false closed)
 or-left false b true closed h = refl
 or-left false b false closed h = h
 
-module _ (p : Plan) (b : Board) (place : JobPlace) (run_plan : RunPlan) (run : Run) (plan : JobPlan) (given : SettledJob) (job : Job) (shape : HasShape p b) (ends : b.ends ≡ ended_in_order b)
-    (planned : slice_get p.runs place.run ≡ Some run_plan) (in_board : slice_get b.runs place.run ≡ Some run) (in_run : slice_get run.jobs place.job ≡ Some job)
-    (fits : JobFits run.state run.group plan job) where
+module _ {p : Plan} {b : Board} {place : JobPlace} {run_plan : RunPlan} {run : Run} {job : Job} (here : JobThere p b place run_plan run job) (ends : b.ends ≡ ended_in_order b)
+    (plan : JobPlan) (fits : JobFits run.state run.group plan job) where
   -- no leg is Ended of a job that was not opened
   unended : is_open job.state ≡ false → (k : ℕ) (leg : Leg) → slice_get job.legs k ≡ Some leg → is_ended leg.state ≡ false
   unended closed k leg is =
       fresh-unended leg.state (or-left (is_open job.state) (goes_rightly run.state run.group leg) (is_fresh leg.state) closed
       (all-get (λ (x : Leg). is_fresh x.state || (is_open job.state && goes_rightly run.state run.group x)) job.legs k leg is fits.legs))
 
-  pub job_comes : JobIsSettled given job.legs job.state → JobComes b place run given job
-  job_comes settled = comes_by b place run given job settled
-      (λ is. all_ended p b place run_plan run job shape ends planned in_board in_run (λ k leg there.
-      let all = subst (JobIsSettled given job.legs) is settled in ap is_ended (zip-left LegIsSettled all.0 job.legs k leg there all.2).2.state))
-      (λ unopened. none_ended p b place run_plan run job shape ends planned in_board in_run (unended unopened))
+  pub job_comes : (given : SettledJob) → JobIsSettled given job.legs job.state → JobComes b place run given job
+  job_comes given settled = comes_by b place run given job settled
+      (λ is. all_ended here ends (λ k leg there. let all = subst (JobIsSettled given job.legs) is settled in ap is_ended (zip-left LegIsSettled all.0 job.legs k leg there all.2).2.state))
+      (λ unopened. none_ended here ends (unended unopened))

@@ -1,124 +1,126 @@
 -- What has ended on a board beside what is settled: legs, and jobs with their results and outputs.
-use Rattle.std.proofs.Common.{◌≡◌, ℕ, zero, suc, ◌+◌, ◌≤◌, ◌||◌, Bool, true, false, List, [], ◌∷◌, Option, Some, length, map, slice_get, inl, inr, ap, subst, sym, refl, ◌∙◌, arith}
+use Rattle.std.proofs.Common.{◌≡◌, ℕ, suc, ◌+◌, ◌≤◌, Bool, true, false, List, [], ◌∷◌, ◌++◌, Option, Some, None, length, take, drop, map, slice_get, inl, inr, append-nil, append_assoc, ap, subst, sym, refl, ◌∙◌, arith}
+use Rattle.std.specs.List.{AllZip}
+use Rattle.std.proofs.Math.Seq.{take-append_seam}
 use Rattle.std.proofs.lemmas.Bool.{true≢false}
 use Rattle.std.proofs.lemmas.List.{drop_all}
-use Rattle.status_table.specs.Words.{Board, DoneStep, EndOnce, HasShape, Job, JobPlace, JobPlan, JobState, Leg, LegState, Outcome, Plain, Plan, Run, RunPlan, StepCall, TextPlace, is_closed, is_ended, is_open, is_shut, job_has_ended, job_outputs, leg_has_ended, or_none, outputs_value, overlaid}
-use Rattle.board_decisions.proofs.Lists.{same_some, no_some}
-use Rattle.board_settled.specs.Agrees.{LegIsSettled, JobIsSettled}
+use Rattle.status_table.specs.Words.{Board, DoneStep, EndOnce, Job, JobPlace, JobPlan, JobState, Leg, LegState, Outcome, Plain, Plan, Run, RunPlan, StepCall, StepPlan, TextPlace, is_closed, is_ended, is_open, is_shut, job_has_ended, job_outputs, leg_has_ended, or_none, outputs_value, overlaid}
+use Rattle.board_settled.specs.Agrees.{JobAgrees, JobIsSettled, LegAgrees, LegIsSettled}
 use Rattle.board_settled.specs.Decided.{leg_variables, outputs_of_leg}
 use Rattle.board_settled.specs.Free.{JobIsFree}
 use Rattle.board_settled.specs.Sees.{Spot, Sight}
-use Rattle.board_settled.specs.Settled.{Answers, Finish, SettledLeg, SettledJob, seen_after, steps_from, finish_of, leg_settled, spot_at, legs_from, legs_settled, needs_of, job_settled}
+use Rattle.board_settled.specs.Settled.{Answers, Finish, SettledLeg, SettledJob, next_done, seen_after, steps_from, steps_then, finish_of, leg_settled, spot_at, legs_from, legs_settled, needs_of, job_settled}
+use Rattle.flow_model.proofs.Places.{slice_get_there}
 use Rattle.status_table.proofs.Lists.{all-get}
 use Rattle.board_settled.proofs.Comes.{JobComes, comes_by}
 use Rattle.board_settled.proofs.LegSteps.{ended_leg}
-use Rattle.board_settled.proofs.Lists.{zip-each}
-use Rattle.board_settled.proofs.Outputs.{no_outputs, one_outputs}
+use Rattle.board_settled.proofs.Lists.{zip-more}
+use Rattle.board_settled.proofs.Outputs.{JobThere, no_outputs, one_outputs}
 use Rattle.board_settled.proofs.Pairs.{nothing-laid}
 use Rattle.board_settled.proofs.Played.{is_judged, LegPlayed, StateStands, JobPlayed, JobOver, judged-or}
 
 -- ---- legs
 
 -- what is settled of a leg that is Ended
-pub leg_is : (answers : Answers) (spot : Spot) (call : Option StepCall) (leg : Leg) (result : Outcome) (tolerated : Bool) → LegPlayed answers spot call leg
+leg_is : (answers : Answers) (spot : Spot) (call : Option StepCall) (leg : Leg) (result : Outcome) (tolerated : Bool) → LegPlayed answers spot call leg
     → leg.state ≡ LegState.Ended result tolerated
     → leg_settled answers spot ≡ record { steps = leg.steps; finish = Some (record { result = result; tolerated = tolerated; outputs = leg.outputs }) }
 leg_is answers spot call leg result tolerated played is =
     let rightly = played.ended result tolerated is in
     let all = rightly.all in
     ended_leg answers spot leg.steps (sym (ap (steps_from answers spot leg.steps) (drop_all (length leg.steps) spot.job.steps (omega (arith, all)))) ∙ played.goes_on) all
-    ∙ ap (λ (f : Finish). (let x : SettledLeg = record { steps = leg.steps; finish = Some f } in x)) rightly.finish
+    ∙ λ i. record { steps = leg.steps; finish = Some (rightly.finish i) }
 
-empty_outputs : (sees : Sight) (run : RunPlan) (job : JobPlan) (done : List DoneStep) → job.outputs ≡ [] → outputs_of_leg sees run job done ≡ []
-unfolding outputs_of_leg outputs_value
-empty_outputs sees run job done none = ap (outputs_value (sees TextPlace.StepEnv (or_none (leg_variables sees run job done)))) none
-
--- so it is settled
-pub leg_finished : (answers : Answers) (spot : Spot) (call : Option StepCall) (leg : Leg) → LegPlayed answers spot call leg → is_ended leg.state ≡ true → LegIsSettled (leg_settled answers spot) leg
-leg_finished answers spot call leg played ended = by leg.state refl ended
+-- what is done stays in front
+front : (answers : Answers) (spot : Spot) (done : List DoneStep) (steps : List StepPlan) → (more : List DoneStep) × (steps_from answers spot done steps ≡ done ++ more)
+front answers spot done [] = ([], sym (append-nil done))
+front answers spot done (step ∷ steps) = by (next_done answers spot done step) (λ next. front answers spot (done ++ next ∷ []) steps)
   where
-    by : (s : LegState) → leg.state ≡ s → is_ended s ≡ true → LegIsSettled (leg_settled answers spot) leg
+    by : (o : Option DoneStep) → ((next : DoneStep) → (more : List DoneStep) × (steps_from answers spot (done ++ next ∷ []) steps ≡ (done ++ next ∷ []) ++ more))
+        → (more : List DoneStep) × (steps_then done o (λ next. steps_from answers spot (done ++ next ∷ []) steps) ≡ done ++ more)
+    by None later = ([], sym (append-nil done))
+    by (Some next) later = let x = later next in (next ∷ x.0, x.1 ∙ append_assoc done (next ∷ []) x.0)
+
+pub leg_agrees : (answers : Answers) (spot : Spot) (call : Option StepCall) (leg : Leg) → LegPlayed answers spot call leg → LegAgrees (leg_settled answers spot) leg
+unfolding leg_settled
+leg_agrees answers spot call leg played = record {
+  steps = let more = front answers spot leg.steps (drop (length leg.steps) spot.job.steps) in
+      sym (ap (take (length leg.steps)) (sym played.goes_on ∙ more.1) ∙ take-append_seam leg.steps more.0);
+  ended = λ result tolerated is.
+      let all = leg_is answers spot call leg result tolerated played is in
+      (sym (ap (λ (x : SettledLeg). x.steps) all), ap (λ (x : SettledLeg). x.finish) all);
+}
+
+-- one that is Ended is settled
+pub leg_over : (given : SettledLeg) (leg : Leg) → LegAgrees given leg → is_ended leg.state ≡ true → LegIsSettled given leg
+leg_over given leg agrees ended = by leg.state refl ended
+  where
+    by : (s : LegState) → leg.state ≡ s → is_ended s ≡ true → LegIsSettled given leg
     by (LegState.Ended result tolerated) is h =
-        let all = leg_is answers spot call leg result tolerated played is in
-        record {
-          result = result;
-          tolerated = tolerated;
-          state = is;
-          steps = sym (ap (λ (x : SettledLeg). x.steps) all);
-          finish = ap (λ (x : SettledLeg). x.finish) all;
-        }
+        let all = agrees.ended result tolerated is in record { result = result; tolerated = tolerated; state = is; steps = all.0; finish = all.1 }
     by s is h = absurd (true≢false (sym h))
-
--- ---- the legs of a job
-
-module _ (answers : Answers) (run : RunPlan) (plan : JobPlan) (needs : Plain) (first : ℕ) where
-  pub leg_item : (k : ℕ) (combos : List (List (List ℕ × Plain))) (i : ℕ) (leg : SettledLeg) → slice_get (legs_from answers run plan needs first k combos) i ≡ Some leg
-      → leg_settled answers (spot_at run plan needs first (k + i)) ≡ leg
-  leg_item k [] i leg h = absurd (no_some leg h)
-  leg_item k (c ∷ cs) zero leg h =
-      let none : k + 0 ≡ k = omega arith in
-      ap (λ n. leg_settled answers (spot_at run plan needs first n)) none ∙ same_some (leg_settled answers (spot_at run plan needs first k)) leg h
-  leg_item k (c ∷ cs) (suc i) leg h =
-      let more : k + suc i ≡ suc k + i = omega arith in
-      ap (λ n. leg_settled answers (spot_at run plan needs first n)) more ∙ leg_item (suc k) cs i leg h
-
-  pub legs_size : (k : ℕ) (combos : List (List (List ℕ × Plain))) → length (legs_from answers run plan needs first k combos) ≡ length combos
-  legs_size k [] = refl
-  legs_size k (c ∷ cs) = ap suc (legs_size (suc k) cs)
 
 -- ---- a job
 
+module _ (answers : Answers) (run : RunPlan) (before : List SettledJob) (first : ℕ) (plan : JobPlan) (calls : ℕ → Option StepCall) where
+  abbrev needs : Plain
+  needs = needs_of run before plan
+
+  -- the legs from one on, each by its place
+  legs_agree : (k : ℕ) (combos : List (List (List ℕ × Plain))) (legs : List Leg) → length legs ≡ length combos
+      → ((i : ℕ) (leg : Leg) → slice_get legs i ≡ Some leg → (n : ℕ) → n ≡ k + i → LegPlayed answers (spot_at run plan needs first n) (calls (first + n)) leg)
+      → AllZip LegAgrees (legs_from answers run plan needs first k combos) legs
+  legs_agree k [] [] size played = tt
+  legs_agree k (c ∷ cs) (leg ∷ legs) size played = (
+    leg_agrees answers (spot_at run plan needs first k) (calls (first + k)) leg (played 0 leg refl k (omega arith)),
+    legs_agree (suc k) cs legs (omega (arith, size)) (λ i x at n is. played (suc i) x at n (omega (arith, is))),
+  )
+  legs_agree k cs legs size played = absurd (omega (arith, size))
+
+  pub job_agrees : (job : Job) → length job.legs ≡ length plan.legs → JobPlayed answers run before first plan calls job → JobAgrees (job_settled answers run first before plan) job
+  job_agrees job size played = record {
+    when_shut = λ result is. subst (StateStands (job_settled answers run first before plan) (legs_settled answers run plan needs first)) is played.state;
+    when_open = λ is. (
+      legs_settled answers run plan needs first,
+      subst (StateStands (job_settled answers run first before plan) (legs_settled answers run plan needs first)) is played.state,
+      legs_agree 0 plan.legs job.legs size (λ i leg there n is.
+          let same : i ≡ n = omega (arith, is) in
+          subst (λ m. LegPlayed answers (spot_at run plan needs first m) (calls (first + m)) leg) same (played.legs i leg there)),
+    );
+    else_untouched = λ unopened k leg is. ap (λ (x : Leg). x.steps) (played.untouched unopened k leg is);
+  }
+
 -- one that is over is settled
-pub job_finished : (answers : Answers) (run : RunPlan) (before : List SettledJob) (first : ℕ) (plan : JobPlan) (calls : ℕ → Option StepCall) (job : Job) → length job.legs ≡ length plan.legs
-    → JobPlayed answers run before first plan calls job → JobOver job → JobIsSettled (job_settled answers run first before plan) job.legs job.state
-job_finished answers run before first plan calls job size played over =
-    by job.state played.state over.judged (λ opened k leg is. over.ended opened k leg is)
+pub job_over : (given : SettledJob) (job : Job) → JobAgrees given job → JobOver job → JobIsSettled given job.legs job.state
+job_over given job agrees over = by job.state refl
   where
-    by : (s : JobState) → StateStands (job_settled answers run first before plan) (legs_settled answers run plan (needs_of run before plan) first) s → is_judged s ≡ true
-        → (is_open s ≡ true → (k : ℕ) (leg : Leg) → slice_get job.legs k ≡ Some leg → is_ended leg.state ≡ true)
-        → JobIsSettled (job_settled answers run first before plan) job.legs s
-    by JobState.Unjudged stands was ended = true≢false (sym was)
-    by (JobState.Shut result) stands was ended = stands
-    by JobState.Open stands was ended = (
-      legs_settled answers run plan (needs_of run before plan) first,
-      stands,
-      zip-each LegIsSettled (legs_settled answers run plan (needs_of run before plan) first) job.legs (legs_size answers run plan (needs_of run before plan) first 0 plan.legs ∙ sym size)
-          (λ i given leg at there.
-          let none : i ≡ 0 + i = omega arith in
-          subst (λ (x : SettledLeg). LegIsSettled x leg)
-          (ap (λ n. leg_settled answers (spot_at run plan (needs_of run before plan) first n)) none ∙ leg_item answers run plan (needs_of run before plan) first 0 plan.legs i given at)
-          (leg_finished answers (spot_at run plan (needs_of run before plan) first i) (calls (first + i)) leg (played.legs i leg there) (ended refl i leg there))),
-    )
+    by : (s : JobState) → job.state ≡ s → JobIsSettled given job.legs s
+    by JobState.Unjudged is = true≢false (sym over.judged ∙ ap is_judged is)
+    by (JobState.Shut result) is = agrees.when_shut result is
+    by JobState.Open is = let all = agrees.when_open is in
+        (all.0, all.1, zip-more LegAgrees LegIsSettled all.0 job.legs (λ k given leg there so. leg_over given leg so (over.ended (ap is_open is) k leg there)) all.2)
 
 single : (legs : List Leg) → length legs ≡ 1 → (leg : Leg) × (legs ≡ leg ∷ [])
 single (leg ∷ []) h = (leg, refl)
 single legs h = absurd (omega (arith, h))
 
-some_leg : (legs : List Leg) → 1 ≤ length legs → (leg : Leg) × (slice_get legs 0 ≡ Some leg)
-some_leg [] h = absurd (omega (arith, h))
-some_leg (leg ∷ legs) h = (leg, refl)
+empty_outputs : (sees : Sight) (run : RunPlan) (job : JobPlan) (done : List DoneStep) → job.outputs ≡ [] → outputs_of_leg sees run job done ≡ []
+unfolding outputs_of_leg outputs_value
+empty_outputs sees run job done none = ap (outputs_value (sees TextPlace.StepEnv (or_none (leg_variables sees run job done)))) none
 
-or-false : (a b c : Bool) → a ≡ false → b ≡ false → a || b || c ≡ true → c ≡ true
-or-false a b c ha hb h = ap (λ x. x || c) (sym hb) ∙ ap (λ x. x || b || c) (sym ha) ∙ h
-
-module _ (p : Plan) (b : Board) (answers : Answers) (place : JobPlace) (run_plan : RunPlan) (run : Run) (before : List SettledJob) (first : ℕ) (plan : JobPlan) (calls : ℕ → Option StepCall) (job : Job)
-    (shape : HasShape p b) (ends : EndOnce b) (planned : slice_get p.runs place.run ≡ Some run_plan) (in_board : slice_get b.runs place.run ≡ Some run)
-    (in_run : slice_get run.jobs place.job ≡ Some job) (unclosed : is_closed run.state ≡ false) (size : length job.legs ≡ length plan.legs) (some : 1 ≤ length job.legs)
+module _ {p : Plan} {b : Board} {place : JobPlace} {run_plan : RunPlan} {run : Run} {job : Job} (here : JobThere p b place run_plan run job) (ends : EndOnce b) (unclosed : is_closed run.state ≡ false)
+    (answers : Answers) (before : List SettledJob) (first : ℕ) (plan : JobPlan) (calls : ℕ → Option StepCall) (size : length job.legs ≡ length plan.legs) (some : 1 ≤ length job.legs)
     (free : JobIsFree plan) (played : JobPlayed answers run_plan before first plan calls job) (ended : job_has_ended run job ≡ true) where
-  abbrev needs : Plain
-  needs = needs_of run_plan before plan
-
   abbrev given : SettledJob
   given = job_settled answers run_plan first before plan
 
   -- each leg has ended, where the job was not shut
   each_ended : is_shut job.state ≡ false → (k : ℕ) (leg : Leg) → slice_get job.legs k ≡ Some leg → is_ended leg.state ≡ true
-  each_ended unshut k leg is =
-      or-false (is_closed run.state) (is_shut job.state) (is_ended leg.state) unclosed unshut (all-get (leg_has_ended run job) job.legs k leg is ended)
+  each_ended unshut k leg is = rw (unclosed, unshut) at (all-get (leg_has_ended run job) job.legs k leg is ended)
 
   was_judged : job.state ≡ JobState.Unjudged → ⊥
   was_judged is =
-      let leg = some_leg job.legs some in
+      let leg = slice_get_there job.legs 0 some in
       let fresh = played.untouched (ap is_open is) 0 leg.0 leg.1 in
       true≢false (sym (each_ended (ap is_shut is) 0 leg.0 leg.1) ∙ ap (λ (x : Leg). is_ended x.state) fresh)
 
@@ -133,23 +135,22 @@ module _ (p : Plan) (b : Board) (answers : Answers) (place : JobPlace) (run_plan
   no_leg_outputs : plan.outputs ≡ [] → (k : ℕ) (leg : Leg) → slice_get job.legs k ≡ Some leg → is_ended leg.state ≡ true → leg.outputs ≡ []
   unfolding finish_of
   no_leg_outputs none k leg there over =
-      let spot : Spot = spot_at run_plan plan needs first k in
+      let spot : Spot = spot_at run_plan plan (needs_of run_plan before plan) first k in
       let played_leg = played.legs k leg there in
-      let it = leg_finished answers spot (calls (first + k)) leg played_leg over in
+      let it = leg_over (leg_settled answers spot) leg (leg_agrees answers spot (calls (first + k)) leg played_leg) over in
       ap (λ (x : Finish). x.outputs) (sym (played_leg.ended it.result it.tolerated it.state).finish) ∙ empty_outputs (seen_after spot leg.steps) run_plan plan leg.steps none
 
   open_outputs : job.state ≡ JobState.Open → job_outputs b place ≡ overlaid (map (λ leg. leg.outputs) job.legs) []
   open_outputs is = elim free.outputs as (λ _. job_outputs b place ≡ overlaid (map (λ (leg : Leg). leg.outputs) job.legs) []) [
     | inl none ↦
         let empty : (k : ℕ) (leg : Leg) → slice_get job.legs k ≡ Some leg → leg.outputs ≡ [] = λ k leg there. no_leg_outputs none k leg there (each_ended (ap is_shut is) k leg there) in
-        no_outputs b place run job in_board in_run empty ∙ sym (nothing-laid (λ leg. leg.outputs) job.legs [] empty)
+        no_outputs here empty ∙ sym (nothing-laid (λ leg. leg.outputs) job.legs [] empty)
     | inr one ↦
         let only = single job.legs (size ∙ one) in
-        one_outputs p b place run_plan run job shape planned in_board in_run only.0 ends only.1 (each_ended (ap is_shut is) 0 only.0 (ap (λ legs. slice_get legs 0) only.1))
-        ∙ sym (ap (λ (legs : List Leg). overlaid (map (λ (leg : Leg). leg.outputs) legs) []) only.1)
+        one_outputs here only.0 ends only.1 (each_ended (ap is_shut is) 0 only.0 (ap (λ legs. slice_get legs 0) only.1))
   ]
 
   -- the settled job comes to what the board shows
   pub job_ended : JobComes b place run given job
-  job_ended = comes_by b place run given job (job_finished answers run_plan before first plan calls job size played is_over) open_outputs
-      (λ unopened. no_outputs b place run job in_board in_run (λ k leg there. ap (λ (x : Leg). x.outputs) (played.untouched unopened k leg there)))
+  job_ended = comes_by b place run given job (job_over given job (job_agrees answers run_plan before first plan calls job size played) is_over) open_outputs
+      (λ unopened. no_outputs here (λ k leg there. ap (λ (x : Leg). x.outputs) (played.untouched unopened k leg there)))

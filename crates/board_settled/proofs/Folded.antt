@@ -1,12 +1,14 @@
 -- The names that the groups keep have no letter A to Z.
-use Rattle.std.proofs.Common.{◌≡◌, ℕ, Bool, true, false, cond, if◌then◌else◌, inl, inr, Option, Some, None, option_map, option_and_then, Result, Ok, Err, List, [], ◌∷◌, Ordering, Less, Equal, Greater, refl, sym, subst, ◌∙◌}
+use Rattle.std.proofs.Common.{◌≡◌, ℕ, Bool, true, false, cond, if◌then◌else◌, inl, inr, Option, Some, None, Result, Ok, Err, List, [], ◌∷◌, Ordering, Less, Equal, Greater, refl, sym, subst, ◌∙◌}
 use Rattle.std.specs.Cmp.Lexicographic.{slice_cmp}
 use Rattle.std.specs.Ordering.{nat_cmp, is_eq, match_ordering}
-use Rattle.status_table.specs.Words.{Board, Content, Entrance, Entry, Event, Held, IsPlan, KeptAsShown, LegAt, Member, Plan, Row, RunAt, Standing, ValueFault, after, after_at, after_enter, after_event, apart, asked, each_held, fold, holding, left, leg_asked, leg_at, leg_entrance, leg_left, leg_standing, new_board, opened, released, row, run_at, run_entrance, run_left, run_opened, run_standing, value_at, waiting, with_held, with_pair, withdrawn}
+use Rattle.status_table.specs.Words.{Board, Content, Entrance, Entry, Event, Held, IsPlan, KeptAsShown, Member, Plan, Row, Standing, ValueFault, after, after_at, after_enter, after_event, apart, asked, each_held, fold, holding, left, leg_asked, leg_at, leg_entrance, leg_left, leg_standing, new_board, opened, released, row, run_at, run_entrance, run_left, run_opened, run_standing, value_at, waiting, with_held, with_pair, withdrawn}
 use Rattle.flat_board.specs.Index.{AsksNamed}
 use Rattle.flat_board.proofs.Named.{run_asks, leg_asks}
 use Rattle.group_admission.specs.Content.{is_own}
-use Rattle.board_settled.proofs.Pairs.{name_is, no_some}
+use Rattle.board_settled.proofs.Pairs.{name_is}
+use Rattle.std.proofs.lemmas.Option.{option_and_then_some}
+use Rattle.status_table.proofs.Counts.{map-some}
 use Rattle.board_settled.specs.Grouped.{groups_after, groups_from, then_groups}
 use Rattle.board_settled.specs.Groups.{NamesAreFolded, OneHolderWhateverTheCase}
 
@@ -57,28 +59,16 @@ left_folded groups m apart h = h
 left_folded groups m (holding name) h = each_folded (released m) groups h
 left_folded groups m (waiting name) h = each_folded (withdrawn m) groups h
 
-run_opened_folded : (groups : Content) (r : ℕ) (at : Option RunAt) → Folded groups → Folded (run_opened groups r at)
-run_opened_folded groups r None h = h
-run_opened_folded groups r (Some at) h = opened_folded groups r (run_entrance at) (run_asks at) h
-
-leg_asked_folded : (groups : Content) (l : ℕ) (at : Option LegAt) → Folded groups → Folded (leg_asked groups l at)
-leg_asked_folded groups l None h = h
-leg_asked_folded groups l (Some at) h = asked_folded groups l at.place.run (leg_entrance at) (leg_asks at) h
-
-run_left_folded : (groups : Content) (r : ℕ) (at : Option RunAt) → Folded groups → Folded (run_left groups r at)
-run_left_folded groups r None h = h
-run_left_folded groups r (Some at) h = left_folded groups (Member.Run r) (run_standing at.run) h
-
-leg_left_folded : (groups : Content) (l : ℕ) (at : Option LegAt) → Folded groups → Folded (leg_left groups l at)
-leg_left_folded groups l None h = h
-leg_left_folded groups l (Some at) h = left_folded groups (Member.Leg l) (leg_standing at.leg) h
+found_folded : {At : Type 0} (made : Option At → Content) (o : Option At) → Folded (made None) → ((at : At) → Folded (made (Some at))) → Folded (made o)
+found_folded made None none some = none
+found_folded made (Some at) none some = some at
 
 event_folded : (p : Plan) (b : Board) (groups : Content) (e : Event) → Folded groups → Folded (after_event p b groups e)
-event_folded p b groups (Event.Open r) h = run_opened_folded groups r (run_at p b r) h
-event_folded p b groups (Event.Ask l) h = leg_asked_folded groups l (leg_at p b l) h
-event_folded p b groups (Event.Drop l) h = leg_left_folded groups l (leg_at p b l) h
-event_folded p b groups (Event.Finish l) h = leg_left_folded groups l (leg_at p b l) h
-event_folded p b groups (Event.Close r) h = run_left_folded groups r (run_at p b r) h
+event_folded p b groups (Event.Open r) h = found_folded (run_opened groups r) (run_at p b r) h (λ at. opened_folded groups r (run_entrance at) (run_asks at) h)
+event_folded p b groups (Event.Ask l) h = found_folded (leg_asked groups l) (leg_at p b l) h (λ at. asked_folded groups l at.place.run (leg_entrance at) (leg_asks at) h)
+event_folded p b groups (Event.Drop l) h = found_folded (leg_left groups l) (leg_at p b l) h (λ at. left_folded groups (Member.Leg l) (leg_standing at.leg) h)
+event_folded p b groups (Event.Finish l) h = found_folded (leg_left groups l) (leg_at p b l) h (λ at. left_folded groups (Member.Leg l) (leg_standing at.leg) h)
+event_folded p b groups (Event.Close r) h = found_folded (run_left groups r) (run_at p b r) h (λ at. left_folded groups (Member.Run r) (run_standing at.run) h)
 event_folded p b groups e h = h
 
 from_folded : (p : Plan) (b : Board) (groups : Content) (es : List Entry) → Folded groups → Folded (groups_from p b groups es)
@@ -93,7 +83,7 @@ from_folded p b groups (e ∷ es) h =
 
 -- a name that is kept is folded
 kept_folded : (name : List ℕ) (groups : Content) (held : Held) → Folded groups → value_at name groups ≡ Some held → fold name ≡ name
-kept_folded name [] held h found = absurd (no_some found)
+kept_folded name [] held h found = absurd (cc)
 kept_folded name (pair ∷ pairs) held h found = by (is_eq (slice_cmp nat_cmp name pair.0)) refl (kept_folded name pairs held h.1) found
   where
     by : (b : Bool) → is_eq (slice_cmp nat_cmp name pair.0) ≡ b → (value_at name pairs ≡ Some held → fold name ≡ name)
@@ -101,24 +91,16 @@ kept_folded name (pair ∷ pairs) held h found = by (is_eq (slice_cmp nat_cmp na
     by true same others at = subst (λ (n : List ℕ). fold n ≡ n) (sym (name_is name pair.0 same)) h.0
     by false same others at = others at
 
-there : {A B : Type 0} (f : A → B) (o : Option A) (y : B) → option_map f o ≡ Some y → (x : A) × (o ≡ Some x)
-there f None y h = absurd (no_some h)
-there f (Some x) y h = (x, refl)
-
-there_too : {A B : Type 0} (f : A → Option B) (o : Option A) (y : B) → option_and_then f o ≡ Some y → (x : A) × (o ≡ Some x)
-there_too f None y h = absurd (no_some h)
-there_too f (Some x) y h = (x, refl)
-
 abbrev AreShown : Type 0
 AreShown = (p : Plan) → IsPlan p → (es : List Entry) (b : Board) → after p es ≡ Some b → KeptAsShown (groups_after p es) b
 
 pub names_are_folded : AreShown → NamesAreFolded
 names_are_folded shown p rules es b leads name who some (inl held) =
-    let (at, is) = there (λ h. h.holder) (value_at name (groups_after p es)) who ((shown p rules es b leads).shown.holder name some ∙ held) in
-    kept_folded name (groups_after p es) at (from_folded p (new_board p) [] es tt) is
+    let at = map-some (λ h. h.holder) (value_at name (groups_after p es)) who ((shown p rules es b leads).shown.holder name some ∙ held) in
+    kept_folded name (groups_after p es) at.0 (from_folded p (new_board p) [] es tt) at.1
 names_are_folded shown p rules es b leads name who some (inr waited) =
-    let (at, is) = there_too (λ h. h.waiter) (value_at name (groups_after p es)) who ((shown p rules es b leads).shown.waiter name some ∙ waited) in
-    kept_folded name (groups_after p es) at (from_folded p (new_board p) [] es tt) is
+    option_and_then_some (λ h. h.waiter) (value_at name (groups_after p es)) who ((shown p rules es b leads).shown.waiter name some ∙ waited)
+    (λ at is _. kept_folded name (groups_after p es) at (from_folded p (new_board p) [] es tt) is)
 
 pub one_holder : AreShown → OneHolderWhateverTheCase
 one_holder shown p rules es b leads name other who whom some some_too held held_too same =

@@ -1,9 +1,9 @@
 -- A job and its legs on a board beside what is settled of them.
-use Rattle.std.proofs.Common.{◌≡◌, ◌↔◌, ℕ, suc, ◌+◌, ◌<◌, Bool, true, false, List, ◌∷◌, Result, Ok, length, drop, if◌then◌else◌, ap, subst, sym, refl, ◌∙◌, arith}
+use Rattle.std.proofs.Common.{◌≡◌, ◌↔◌, ℕ, suc, ◌+◌, ◌<◌, Bool, true, false, List, ◌∷◌, Result, Ok, length, drop, if◌then◌else◌, ap, subst, subst₂, sym, refl, ◌∙◌, arith}
 use Rattle.std.specs.List.{AllZip}
 use Rattle.status_table.specs.Words.{Job, JobAt, JobPlan, JobState, Leg, Outcome, Plain, RunPlan, Status, ValueFault, ancestors_status, job_condition, job_results, job_status, judged_state, needs_value}
 use Rattle.board_settled.specs.Alone.{SeesSettled, IsOpened}
-use Rattle.board_settled.proofs.Lists.{item}
+use Rattle.flow_model.proofs.Places.{slice_get_there}
 use Rattle.board_settled.specs.Agrees.{LegIsSettled, JobIsSettled}
 use Rattle.board_settled.specs.Settled.{Answers, SettledLeg, SettledJob, unsettled, shut, opened, spot_at, leg_settled, legs_from, legs_settled, needs_of, status_after, condition_after, judged, job_settled}
 use Rattle.board_settled.proofs.Seen.{job_condition_is}
@@ -21,25 +21,19 @@ module _ (answers : Answers) (run : RunPlan) (plan : JobPlan) (needs : Plain) (f
   abbrev Left : ℕ → Type 0
   Left i = AllZip LegIsSettled (legs_from answers run plan needs first i (drop i plan.legs)) (drop i legs)
 
-  abbrev here : SettledLeg
-  here = leg_settled answers (spot_at run plan needs first k)
-
-  abbrev later : List SettledLeg
-  later = legs_from answers run plan needs first (k + 1) (drop (k + 1) plan.legs)
-
-  left_is : legs_from answers run plan needs first k (drop k plan.legs) ≡ here ∷ later
+  left_is : legs_from answers run plan needs first k (drop k plan.legs)
+      ≡ leg_settled answers (spot_at run plan needs first k) ∷ legs_from answers run plan needs first (k + 1) (drop (k + 1) plan.legs)
   left_is =
-      let combo = item plan.legs k within in
+      let combo = slice_get_there plan.legs k within in
       let next : suc k ≡ k + 1 = omega arith in
       ap (legs_from answers run plan needs first k) (drop_at plan.legs k combo.0 combo.1)
-      ∙ ap (λ n. here ∷ legs_from answers run plan needs first n (drop (k + 1) plan.legs)) next
+      ∙ ap (λ n. leg_settled answers (spot_at run plan needs first k) ∷ legs_from answers run plan needs first n (drop (k + 1) plan.legs)) next
 
   pub next_leg : Left k → LegIsSettled (leg_settled answers (spot_at run plan needs first k)) leg × Left (k + 1)
-  next_leg h = subst (λ (xs : List Leg). AllZip LegIsSettled (here ∷ later) xs) is (subst (λ (xs : List SettledLeg). AllZip LegIsSettled xs (drop k legs)) left_is h)
+  next_leg h = subst₂ (AllZip LegIsSettled) left_is is h
 
   pub with_leg : LegIsSettled (leg_settled answers (spot_at run plan needs first k)) leg → Left (k + 1) → Left k
-  with_leg h more =
-      subst (λ (xs : List SettledLeg). AllZip LegIsSettled xs (drop k legs)) (sym left_is) (subst (λ (xs : List Leg). AllZip LegIsSettled (here ∷ later) xs) (sym is) (h, more))
+  with_leg h more = subst₂ (AllZip LegIsSettled) (sym left_is) (sym is) (h, more)
 
 -- ---- a job
 
@@ -70,10 +64,10 @@ shuts (Ok true) legs how h = cc
 shuts x legs how h = cc
 
 module _ (answers : Answers) (first_job first_leg : ℕ) (before : List SettledJob) (at : JobAt) (sees : SeesSettled first_job before at) (goes : at.run.stop ≡ false) where
-  abbrev condition : Result Bool ValueFault
+  abbrev pub condition : Result Bool ValueFault
   condition = job_condition at (job_status first_job at)
 
-  abbrev legs : List SettledLeg
+  abbrev pub legs : List SettledLeg
   legs = legs_settled answers at.run_plan at.plan (needs_value at) first_leg
 
   condition_same : condition_after at.run_plan before at.plan ≡ condition
@@ -83,12 +77,10 @@ module _ (answers : Answers) (first_job first_leg : ℕ) (before : List SettledJ
       ap (λ c. if c then Status.Cancelled else ancestors_status first_job at.run_plan.jobs (job_results at.run) at.place.job) goes ∙ sees.status in
       sym (ap (job_condition at) status_is ∙ job_condition_is at (needs_of at.run_plan before at.plan) (status_after at.run_plan before at.plan) sees.needs)
 
-  settled_by : job_settled answers at.run_plan first_leg before at.plan ≡ judged condition legs
+  pub settled_by : job_settled answers at.run_plan first_leg before at.plan ≡ judged condition legs
   unfolding job_settled
   settled_by =
-      ap (λ c. if c then judged (condition_after at.run_plan before at.plan) (legs_settled answers at.run_plan at.plan (needs_of at.run_plan before at.plan) first_leg) else unsettled) sees.given
-      ∙ ap (λ (x : Result Bool ValueFault). judged x (legs_settled answers at.run_plan at.plan (needs_of at.run_plan before at.plan) first_leg)) condition_same
-      ∙ ap (λ (needs : Plain). judged condition (legs_settled answers at.run_plan at.plan needs first_leg)) (sym sees.needs)
+      (λ i. if sees.given i then judged (condition_same i) (legs_settled answers at.run_plan at.plan (sym sees.needs i) first_leg) else unsettled)
 
   pub settled_open : judged_state false condition ≡ JobState.Open → job_settled answers at.run_plan first_leg before at.plan ≡ opened legs
   settled_open h = settled_by ∙ opens condition legs h

@@ -1,24 +1,24 @@
 -- The events of legs keep what is played as settled.
-use Rattle.std.proofs.Common.{◌≡◌, ◌≢◌, ℕ, ◌+◌, ◌≤◌, ◌==◌, ◌&&◌, ◌++◌, Bool, true, false, not, List, [], ◌∷◌, Option, Some, None, Result, Ok, Err, option_map, length, take, drop, slice_get, nat_lt, if◌then◌else◌, ap, subst, sym, refl, ◌∙◌, arith, zero, suc, ◌||◌, inl, inr}
+use Rattle.std.proofs.Common.{◌≡◌, ◌≢◌, ℕ, ◌+◌, ◌≤◌, ◌==◌, ◌&&◌, ◌++◌, Bool, true, false, not, List, [], ◌∷◌, Option, Some, None, Result, Ok, Err, option_map, length, take, drop, slice_get, nat_lt, if◌then◌else◌, ap, subst, sym, refl, ◌∙◌, arith, zero, suc, inl, inr}
 use Rattle.std.proofs.lemmas.Bool.{true≢false, leb-true}
 use Rattle.std.proofs.lemmas.Bool.Decides.{nat_tests}
 use Rattle.std.proofs.lemmas.List.{length-append}
-use Rattle.status_table.specs.Words.{Answer, Board, DoneStep, Entrance, Event, Job, JobAt, JobPlan, JobShape, JobState, Leg, LegAt, LegState, Member, Outcome, Plain, Plan, Reply, Row, Run, RunPlan, RunShape, Status, Stays, StepCall, StepPlan, ValueFault, What, admitted, call_after, dropped, has_failed, has_room, holding, is_closed, is_ended, is_failure, is_fresh, is_full, is_going, is_open, is_stopping, is_true, is_under_way, is_untaken, is_well_formed, job_condition, job_of, job_tolerates, leaves, leg_at, leg_entrance, leg_outputs, leg_result, leg_standing, moved, needs_value, open_calls, step_decision, with_leg}
+use Rattle.status_table.specs.Words.{Answer, Board, DoneStep, Entrance, Event, JobShape, JobState, Leg, LegAt, LegState, Member, Outcome, Plan, Reply, Row, RunShape, Stays, StepCall, StepPlan, ValueFault, What, admitted, call_after, dropped, has_failed, has_room, holding, is_ended, is_failure, is_fresh, is_full, is_going, is_open, is_stopping, is_under_way, is_untaken, is_well_formed, job_of, job_tolerates, leaves, leg_at, leg_entrance, leg_outputs, leg_result, leg_standing, moved, needs_value, open_calls, step_decision, with_leg}
 use Rattle.board_settled.specs.Alone.{step_comes}
 use Rattle.board_settled.specs.Sees.{Spot}
-use Rattle.board_settled.specs.Settled.{Answers, counts, next_call, next_done, steps_from, steps_then, finish_of, spot_at, needs_of, SettledJob}
+use Rattle.board_settled.specs.Settled.{Answers, counts, next_call, next_done, steps_from, finish_of, spot_at, needs_of, SettledJob}
 use Rattle.status_table.specs.declared.fault.EventFault.{EventFault}
 use Rattle.status_table.specs.Row as rows
 use Rattle.status_table.proofs.Found.{LegStands, leg_stands}
 use Rattle.status_table.proofs.LegRows.{holding-live, idle-holds}
 use Rattle.status_table.proofs.Lists.{all-get, zip-get}
 use Rattle.board_decisions.proofs.Lists.{and-left, and-right, same_some, no_some}
-use Rattle.status_table.proofs.Standings.{drop_at}
 use Rattle.status_table.proofs.Steps.{Live, going-unclosed}
 use Rattle.status_table.proofs.Turnover.{numbered}
-use Rattle.board_settled.proofs.Changes.{leg_put}
+use Rattle.board_settled.proofs.Begins.{by_decision}
+use Rattle.board_settled.proofs.Changes.{leg_changes, same_but}
 use Rattle.board_settled.proofs.InPlay.{Stands, IsFit, run_seen}
-use Rattle.board_settled.proofs.LegSteps.{comes_next}
+use Rattle.board_settled.proofs.LegSteps.{and-none, comes_next, step_after}
 use Rattle.board_settled.proofs.Numbers.{before_run, before_job, number_at}
 use Rattle.board_settled.proofs.Played.{CallStands, InCall, LegPlayed, jobs_of, Played, is_judged, JobPlayed, RunPlayed}
 use Rattle.board_settled.proofs.Seen.{spot_of, call_is, finish_is}
@@ -63,8 +63,7 @@ one_more : (answers : Answers) (spot : Spot) (done : List DoneStep) (step : Step
     → steps_from answers spot (done ++ next ∷ []) (drop (length (done ++ next ∷ [])) spot.job.steps) ≡ steps_from answers spot [] spot.job.steps
 one_more answers spot done step next planned given so_far =
     ap (λ n. steps_from answers spot (done ++ next ∷ []) (drop n spot.job.steps)) (length-append done (next ∷ []))
-    ∙ sym (ap (λ (steps : List StepPlan). steps_from answers spot done steps) (drop_at spot.job.steps (length done) step planned) ∙ ap (λ (o : Option DoneStep). steps_then done o (λ x. steps_from answers spot (done ++ x ∷ []) (drop (length done + 1) spot.job.steps))) given)
-    ∙ so_far
+    ∙ sym (step_after answers spot done (length done) step (Some next) planned given) ∙ so_far
 
 -- a leg of a job whose legs do not stop one another, by its place
 module _ (p : Plan) (fit : IsFit p) (answers : Answers) (calls : ℕ → Option StepCall) (b : Board) (stands : Stands p answers calls b) (l : ℕ) (at : LegAt)
@@ -92,41 +91,35 @@ module _ (p : Plan) (fit : IsFit p) (answers : Answers) (calls : ℕ → Option 
   leg_played = job_played.legs at.place.leg at.leg here.leg
 
   number_is : l ≡ first + at.place.leg
-  number_is = let e = number_at p b l at.place at.run_plan stands.fits.shape here.place here.in_plan in omega (arith, e)
+  number_is = number_at p b l at.place at.run_plan stands.fits.shape here.place here.in_plan
 
   free : JobIsFree at.job_plan
   free = (fit.free at.place.run at.run_plan here.in_plan).jobs at.place.job at.job_plan here.job_plan
 
-  size : length at.job.legs ≡ length at.job_plan.legs
-  size = (zip-get JobShape at.run_plan.jobs at.run.jobs at.place.job at.job_plan at.job here.job_plan here.job
-      (zip-get RunShape p.runs b.runs at.place.run at.run_plan at.run here.in_plan here.in_board stands.fits.shape)).legs
+  shape_here : JobShape at.job_plan at.job
+  shape_here = zip-get JobShape at.run_plan.jobs at.run.jobs at.place.job at.job_plan at.job here.job_plan here.job
+      (zip-get RunShape p.runs b.runs at.place.run at.run_plan at.run here.in_plan here.in_board stands.fits.shape)
 
   alone : length at.job.legs ≡ 1 → is_ended at.leg.state ≡ false → list_any (λ leg. has_failed leg.state) at.job.legs ≡ false
   alone one unended = by at.job.legs one at.place.leg here.leg
     where
       by : (legs : List Leg) → length legs ≡ 1 → (k : ℕ) → slice_get legs k ≡ Some at.leg → list_any (λ leg. has_failed leg.state) legs ≡ false
-      by (leg ∷ []) h zero e = ap (λ (x : Leg). has_failed x.state || false) (same_some leg at.leg e) ∙ ap (λ c. c || false) (failed-ended at.leg.state unended)
+      by (leg ∷ []) h zero e = rw (same_some leg at.leg e, failed-ended at.leg.state unended) refl
       by (leg ∷ []) h (suc k) e = absurd (no_some at.leg e)
       by legs h k e = absurd (omega (arith, h))
 
   -- it is not to stop
   not_stopping : is_ended at.leg.state ≡ false → is_stopping at ≡ false
-  not_stopping unended =
-      let others : at.job_plan.fail_fast && list_any (λ leg. has_failed leg.state) at.job.legs ≡ false =
-      elim free.fails_slowly as (λ _. at.job_plan.fail_fast && list_any (λ (leg : Leg). has_failed leg.state) at.job.legs ≡ false) [
-        | inl slow ↦ ap (λ c. c && list_any (λ (leg : Leg). has_failed leg.state) at.job.legs) slow
-        | inr one ↦ both at.job_plan.fail_fast (list_any (λ (leg : Leg). has_failed leg.state) at.job.legs) (alone (size ∙ one) unended)
-      ] in
-      ap (λ c. (c || (at.job_plan.fail_fast && list_any (λ (leg : Leg). has_failed leg.state) at.job.legs)) || (at.run.stop && not (is_true (job_condition (job_of at) Status.Cancelled)))) leg_played.stop
-      ∙ ap (λ c. c || (at.run.stop && not (is_true (job_condition (job_of at) Status.Cancelled)))) others
-      ∙ ap (λ c. c && not (is_true (job_condition (job_of at) Status.Cancelled))) run_played.stop
+  not_stopping unended = rw (leg_played.stop, run_played.stop, others) refl
     where
-      both : (a c : Bool) → c ≡ false → a && c ≡ false
-      both true c h = h
-      both false c h = refl
+      others : at.job_plan.fail_fast && list_any (λ leg. has_failed leg.state) at.job.legs ≡ false
+      others = elim free.fails_slowly as (λ _. at.job_plan.fail_fast && list_any (λ (leg : Leg). has_failed leg.state) at.job.legs ≡ false) [
+        | inl slow ↦ rw slow refl
+        | inr one ↦ rw (alone (shape_here.legs ∙ one) unended) (and-none at.job_plan.fail_fast)
+      ]
 
   quiet : is_ended at.leg.state ≡ false → leg_result at ≡ counts at.leg.steps
-  quiet unended = ap (λ c. if c then Outcome.Cancelled else (if list_any (λ step. is_failure step.conclusion) at.leg.steps then Outcome.Failure else Outcome.Success)) (not_stopping unended)
+  quiet unended = ap (λ c. if c then Outcome.Cancelled else counts at.leg.steps) (not_stopping unended)
 
   -- it is seen as it is planned
   spot_is : Live p b l at → spot_of l at ≡ spot
@@ -134,34 +127,18 @@ module _ (p : Plan) (fit : IsFit p) (answers : Answers) (calls : ℕ → Option 
       let unclosed = going-unclosed at.run.state live.going in
       let ready = run_played.needs at.place.job at.job_plan at.job here.job_plan here.job (judged-open at.job.state live.opened) in
       let seen = run_seen p fit answers calls b stands at.place.run at.run_plan at.run here.in_plan here.in_board unclosed in
-      let board : job_of at ≡ record { board = b; place = record { run = at.place.run; job = at.place.job }; run_plan = at.run_plan; plan = at.job_plan; run = at.run; job = at.job } =
-      ap (λ (x : Board). (let y : JobAt = record { board = x; place = record { run = at.place.run; job = at.place.job }; run_plan = at.run_plan; plan = at.job_plan; run = at.run; job = at.job } in y)) (leg_board p b l at is) in
+      let board : job_of at ≡ record (job_of at) { board = b } = λ i. record (job_of at) { board = leg_board p b l at is i } in
       let needs : needs_value (job_of at) ≡ needs_of at.run_plan before at.job_plan =
       ap needs_value board ∙ (needs_settled p b answers calls at.place.run at.run_plan at.run seen at.place.job at.job_plan here.job_plan ready at.job).needs in
-      ap (λ n. (let y : Spot = record { number = n; run = at.run_plan; job = at.job_plan; place = at.place.leg; needs = needs_value (job_of at) } in y)) number_is
-      ∙ ap (λ (v : Plain). (let y : Spot = record { number = first + at.place.leg; run = at.run_plan; job = at.job_plan; place = at.place.leg; needs = v } in y)) needs
+      λ i. record { number = number_is i; run = at.run_plan; job = at.job_plan; place = at.place.leg; needs = needs i }
 
-  -- the leg is changed, to one that is leg_played as settled by the calls that are open then
+  -- the leg is changed, to one that is played as settled by the calls that are open then
   put : (later : ℕ → Option StepCall) (f : Leg → Leg) (new : Board) → new.runs ≡ (with_leg b at.place f).runs → ((n : ℕ) → n ≢ l → calls n ≡ later n) → Live p b l at
       → LegPlayed answers spot (later l) (f at.leg) → Stays b new → Played answers p later new.runs
   put later f new new_is others live now stays =
-      leg_put p b answers calls later l at.place f new new_is stands.fits.shape here.place others stays stands.played
-      (λ run is_run. ap (λ (x : Run). is_closed x.state) (same_some run at.run (sym is_run ∙ here.in_board)) ∙ going-unclosed at.run.state live.going) (λ plan run job_plan job leg planned in_board in_plan in_run in_legs.
-      let plan_is : at.run_plan ≡ plan = same_some at.run_plan plan (sym here.in_plan ∙ planned) in
-      let run_is : at.run ≡ run = same_some at.run run (sym here.in_board ∙ in_board) in
-      let job_plan_is : at.job_plan ≡ job_plan = same_some at.job_plan job_plan (sym here.job_plan ∙ ap (λ (x : RunPlan). slice_get x.jobs at.place.job) plan_is ∙ in_plan) in
-      let job_is : at.job ≡ job = same_some at.job job (sym here.job ∙ ap (λ (x : Run). slice_get x.jobs at.place.job) run_is ∙ in_run) in
-      let leg_is : at.leg ≡ leg = same_some at.leg leg (sym here.leg ∙ ap (λ (x : Job). slice_get x.legs at.place.leg) job_is ∙ in_legs) in (
-        ap (λ (x : Job). is_open x.state) (sym job_is) ∙ live.opened,
-        subst (λ (x : RunPlan). LegPlayed answers
-            (spot_at x job_plan (needs_of x (take at.place.job (jobs_of answers (before_run at.place.run p.runs) x)) job_plan) (before_run at.place.run p.runs + before_job at.place.job x.jobs) at.place.leg)
-            (later (before_run at.place.run p.runs + before_job at.place.job x.jobs + at.place.leg)) (f leg)) plan_is
-            (subst (λ (x : JobPlan). LegPlayed answers
-            (spot_at at.run_plan x (needs_of at.run_plan (take at.place.job (jobs_of answers (before_run at.place.run p.runs) at.run_plan)) x) (before_run at.place.run p.runs + before_job at.place.job at.run_plan.jobs) at.place.leg)
-            (later (before_run at.place.run p.runs + before_job at.place.job at.run_plan.jobs + at.place.leg)) (f leg)) job_plan_is
-            (subst (λ (x : Leg). LegPlayed answers spot (later (before_run at.place.run p.runs + before_job at.place.job at.run_plan.jobs + at.place.leg)) (f x)) leg_is
-            (subst (λ n. LegPlayed answers spot (later n) (f at.leg)) number_is now))),
-      ))
+      leg_changes p b answers calls later at.place (same_but p b l at.place calls later stands.fits.shape here.place others) stands.played at.run_plan at.run here.in_plan here.in_board new stays
+      at.job_plan at.job here.job_plan here.job (going-unclosed at.run.state live.going) f at.leg here.leg live.opened new_is
+      (subst (λ n. LegPlayed answers spot (later n) (f at.leg)) number_is now)
 
   -- a leg that is not in a call and not Ended, with the steps that it had
   still : (call : Option StepCall) (leg : Leg) → leg.stop ≡ at.leg.stop → leg.group ≡ None → leg.steps ≡ at.leg.steps → CallStands spot leg.steps call leg.state → is_ended leg.state ≡ false
@@ -181,37 +158,37 @@ module _ (p : Plan) (fit : IsFit p) (answers : Answers) (calls : ℕ → Option 
   no_entrance = rw ((fit.free at.place.run at.run_plan here.in_plan).jobs at.place.job at.job_plan here.job_plan).group refl
 
   pub ask_goes : Goes p answers calls b (Event.Ask l) (rows.ask_leg b l at)
-  ask_goes = goes-if p answers calls b (Event.Ask l) (not (rows.may_ask at)) (Err EventFault.WrongState) unstarted (λ _. tt)
-      (λ ready. goes-if p answers calls b (Event.Ask l) (is_full at.job_plan at.job) (Err EventFault.SlotsFull) unstopped (λ _. tt)
-      (λ _. goes-if p answers calls b (Event.Ask l) (is_stopping at) (Err EventFault.Stopping) (rows.leg_enters b l at (leg_entrance at)) (λ _. tt)
-      (λ _.
-      let all = not-not (rows.may_ask at) ready in
-      let two = and-left (is_going at.run.state && is_open at.job.state) (is_fresh at.leg.state) all in
-      subst (λ (x : Result (Option Entrance) ValueFault). Goes p answers calls b (Event.Ask l) (rows.leg_enters b l at x)) (sym no_entrance)
-      (put calls (λ x. record x { state = LegState.Admitted; group = None }) (admitted b None (Member.Leg l)) (numbered b l at.place (λ x. record x { state = LegState.Admitted; group = None }) here.place)
-      (λ n _. refl) (record { stands = here; going = and-left (is_going at.run.state) (is_open at.job.state) two; opened = and-right (is_going at.run.state) (is_open at.job.state) two })
-      (still (calls l) (record at.leg { state = LegState.Admitted; group = None }) refl refl refl tt refl)))))
+  ask_goes = by (not (rows.may_ask at)) refl (is_full at.job_plan at.job) (is_stopping at)
     where
-      unstopped : Row
-      unstopped = if is_stopping at then Err EventFault.Stopping else rows.leg_enters b l at (leg_entrance at)
+      asks : Leg → Leg
+      asks x = record x { state = LegState.Admitted; group = None }
 
-      unstarted : Row
-      unstarted = if is_full at.job_plan at.job then Err EventFault.SlotsFull else unstopped
+      by : (late : Bool) → not (rows.may_ask at) ≡ late → (full stops : Bool) → Goes p answers calls b (Event.Ask l)
+          (if late then Err EventFault.WrongState else (if full then Err EventFault.SlotsFull else (if stops then Err EventFault.Stopping else rows.leg_enters b l at (leg_entrance at))))
+      by false ready false false =
+          let all = not-not (rows.may_ask at) ready in
+          let two = and-left (is_going at.run.state && is_open at.job.state) (is_fresh at.leg.state) all in
+          subst (λ (x : Result (Option Entrance) ValueFault). Goes p answers calls b (Event.Ask l) (rows.leg_enters b l at x)) (sym no_entrance)
+          (put calls asks (admitted b None (Member.Leg l)) (numbered b l at.place asks here.place) (λ n _. refl)
+          (record { stands = here; going = and-left (is_going at.run.state) (is_open at.job.state) two; opened = and-right (is_going at.run.state) (is_open at.job.state) two })
+          (still (calls l) (asks at.leg) refl refl refl tt refl))
+      by late ready full stops = tt
 
   -- ---- Drop: no leg is to stop
 
   pub drop_goes : Goes p answers calls b (Event.Drop l) (rows.drop_leg b l at)
-  drop_goes = goes-if p answers calls b (Event.Drop l) (not (rows.may_drop at)) (Err EventFault.WrongState)
-      (if is_stopping at then Ok (leaves b (leg_standing at.leg) (dropped b l Outcome.Cancelled)) else Err EventFault.NotStopping) (λ _. tt)
-      (λ ready. goes-if p answers calls b (Event.Drop l) (is_stopping at) (Ok (leaves b (leg_standing at.leg) (dropped b l Outcome.Cancelled))) (Err EventFault.NotStopping)
-      (λ stops. absurd (true≢false (sym stops ∙ not_stopping
-      (untaken at.leg.state (and-right (is_going at.run.state && is_open at.job.state) (is_untaken at.leg.state) (not-not (rows.may_drop at) ready))))))
-      (λ _. tt))
+  drop_goes = by (not (rows.may_drop at)) refl (is_stopping at) refl
     where
       untaken : (s : LegState) → is_untaken s ≡ true → is_ended s ≡ false
       untaken (LegState.Running worker in_call) h = absurd (true≢false (sym h))
       untaken (LegState.Ended result tolerated) h = absurd (true≢false (sym h))
       untaken s h = refl
+
+      by : (late : Bool) → not (rows.may_drop at) ≡ late → (stops : Bool) → is_stopping at ≡ stops → Goes p answers calls b (Event.Drop l)
+          (if late then Err EventFault.WrongState else (if stops then Ok (leaves b (leg_standing at.leg) (dropped b l Outcome.Cancelled)) else Err EventFault.NotStopping))
+      by false ready true stops = absurd (true≢false (sym stops ∙ not_stopping
+          (untaken at.leg.state (and-right (is_going at.run.state && is_open at.job.state) (is_untaken at.leg.state) (not-not (rows.may_drop at) ready)))))
+      by late ready stopping stops = tt
 
   -- ---- Take
 
@@ -288,16 +265,8 @@ module _ (p : Plan) (fit : IsFit p) (answers : Answers) (calls : ℕ → Option 
         }) refl)
 
   pub begin_goes : (worker : ℕ) → Goes p answers calls b (Event.Begin l) (rows.begin_leg b worker at (rows.beginning worker l at))
-  begin_goes worker = by_owner (rows.idle_owner at.leg.state) refl (rows.next_step at) refl
-    where
-      by_owner : (owner : Option ℕ) → rows.idle_owner at.leg.state ≡ owner → (step : Option StepPlan) → rows.next_step at ≡ step
-          → Goes p answers calls b (Event.Begin l) (rows.begin_leg b worker at (rows.beginning_by worker l at owner step))
-      by_owner (Some owner) was (Some step) next = by (worker == owner)
-        where
-          by : (c : Bool) → Goes p answers calls b (Event.Begin l) (rows.begin_leg b worker at (if c then Ok (rows.decided (step_decision l at step)) else Err EventFault.OtherWorker))
-          by true = begun (idle-holds at.leg.state owner was).under step next worker (step_decision l at step) refl
-          by false = tt
-      by_owner owner was step next = tt
+  begin_goes worker = by_decision (Goes p answers calls b (Event.Begin l)) (λ f. tt) b worker l at
+      (λ owner step was next. begun (idle-holds at.leg.state owner was).under step next worker (step_decision l at step) refl)
 
   in_call : (s : LegState) (owner : ℕ) (call : Option StepCall) → rows.calling_owner s ≡ Some owner → CallStands spot at.leg.steps call s → InCall spot at.leg.steps call × (is_under_way s ≡ true)
   in_call (LegState.Running worker true) owner call h calling = (calling, refl)
@@ -336,9 +305,7 @@ module _ (p : Plan) (fit : IsFit p) (answers : Answers) (calls : ℕ → Option 
 
       room : length at.leg.steps ≤ length at.job_plan.steps
       room =
-          let shape = zip-get JobShape at.run_plan.jobs at.run.jobs at.place.job at.job_plan at.job here.job_plan here.job
-          (zip-get RunShape p.runs b.runs at.place.run at.run_plan at.run here.in_plan here.in_board stands.fits.shape) in
-          let had = all-get (has_room at.job_plan) at.job.legs at.place.leg at.leg here.leg shape.steps in
+          let had = all-get (has_room at.job_plan) at.job.legs at.place.leg at.leg here.leg shape_here.steps in
           let few = leb-true (length at.leg.steps + open_calls at.leg.state) (length at.job_plan.steps) had in
           omega (arith, few)
 

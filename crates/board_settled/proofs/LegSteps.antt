@@ -1,8 +1,7 @@
 -- The next step of a leg by itself, and its end, are those that are settled.
-use Rattle.std.proofs.Common.{◌≡◌, ◌↔◌, ℕ, ◌+◌, ◌<◌, ◌==◌, ◌&&◌, ◌||◌, Bool, true, false, not, List, [], ◌∷◌, ◌++◌, Option, Some, None, Result, Ok, Err, option_map, length, drop, slice_get, if◌then◌else◌, ap, sym, subst, refl, ◌∙◌, arith}
-use Rattle.std.specs.List.{list_any}
+use Rattle.std.proofs.Common.{◌≡◌, ◌↔◌, ℕ, ◌+◌, ◌<◌, ◌==◌, ◌&&◌, Bool, true, false, List, [], ◌∷◌, ◌++◌, Option, Some, None, Result, Ok, Err, option_map, length, drop, slice_get, if◌then◌else◌, ap, sym, subst, refl, ◌∙◌, arith}
 use Rattle.std.proofs.lemmas.Bool.Decides.{nat_tests}
-use Rattle.status_table.specs.Words.{Answer, DoneStep, Env, JobAt, Leg, LegAt, LegState, Outcome, Status, StepCall, StepPlan, ValueFault, answered_step, conclusion_of, failure_of, has_failed, is_failure, is_stopping, is_true, job_condition, job_of, job_tolerates, leg_outputs, leg_result, next_step, outcome_of, outputs_of, set_by, step_decision}
+use Rattle.status_table.specs.Words.{Answer, DoneStep, Env, JobAt, Leg, LegAt, LegState, Outcome, StepCall, StepPlan, ValueFault, answered_step, conclusion_of, failure_of, is_failure, is_stopping, job_tolerates, leg_outputs, leg_result, next_step, outcome_of, outputs_of, set_by, step_decision}
 use Rattle.board_settled.specs.Alone.{leg_on, planned, IsAlone, IsIdle, EndsAs, step_comes, next_comes, StepsCome}
 use Rattle.board_settled.specs.Agrees.{LegIsSettled}
 use Rattle.board_settled.specs.Sees.{Spot}
@@ -10,11 +9,11 @@ use Rattle.board_settled.specs.Settled.{Answers, Finish, SettledLeg, counts, con
 use Rattle.board_settled.proofs.Seen.{spot_of, call_is, failure_is, finish_is}
 use Rattle.board_decisions.proofs.Lists.{same_some, no_some}
 use Rattle.status_table.proofs.Standings.{drop_at}
-use Rattle.board_settled.proofs.Lists.{item}
+use Rattle.flow_model.proofs.Places.{slice_get_there}
 
 -- ---- a leg that is alone
 
-and-none : (a : Bool) → a && false ≡ false
+pub and-none : (a : Bool) → a && false ≡ false
 and-none true = refl
 and-none false = refl
 
@@ -22,15 +21,8 @@ and-none false = refl
 pub counts_alone : (at : JobAt) (k : ℕ) (leg : Leg) → IsAlone at → leg.stop ≡ false → leg_result (leg_on at k leg) ≡ counts leg.steps
 counts_alone at k leg alone goes = ap (λ c. if c then Outcome.Cancelled else counts leg.steps) stopping
   where
-    later : Bool
-    later = not (is_true (job_condition (job_of (leg_on at k leg)) Status.Cancelled))
-
     stopping : is_stopping (leg_on at k leg) ≡ false
-    stopping =
-        ap (λ c. (c || (at.plan.fail_fast && list_any (λ (x : Leg). has_failed x.state) at.job.legs)) || (at.run.stop && later)) goes
-        ∙ ap (λ (legs : List Leg). (at.plan.fail_fast && list_any (λ (x : Leg). has_failed x.state) legs) || (at.run.stop && later)) alone.no_others
-        ∙ ap (λ c. c || (at.run.stop && later)) (and-none at.plan.fail_fast)
-        ∙ ap (λ c. c && later) alone.goes
+    stopping = rw (goes, alone.no_others, alone.goes, and-none at.plan.fail_fast) refl
 
 -- ---- the next step
 
@@ -43,7 +35,7 @@ module _ (answers : Answers) (l : ℕ) (at : LegAt) (quiet : leg_result at ≡ c
   concluded result = refl
 
   ended : (result : Outcome) (outputs env : Env) → record { outcome = result; conclusion = conclusion_of at result; outputs = outputs; env = env } ≡ ends_so spot at.leg.steps step result outputs env
-  ended result outputs env = ap (λ (c : Outcome). (let x : DoneStep = record { outcome = result; conclusion = c; outputs = outputs; env = env } in x)) (concluded result)
+  ended result outputs env = λ i. record { outcome = result; conclusion = concluded result i; outputs = outputs; env = env }
 
   by_answer : (o : Option Answer) → option_map (answered_step at) o ≡ option_map (answered spot at.leg.steps step) o
   by_answer None = refl
@@ -60,15 +52,13 @@ module _ (answers : Answers) (l : ℕ) (at : LegAt) (quiet : leg_result at ≡ c
 
 -- ---- all steps
 
-pub goes_further : (answers : Answers) (spot : Spot) (done : List DoneStep) (step : StepPlan) (rest : List StepPlan) (next : DoneStep) → next_done answers spot done step ≡ Some next
-    → steps_from answers spot done (step ∷ rest) ≡ steps_from answers spot (done ++ next ∷ []) rest
-goes_further answers spot done step rest next is =
-    ap (λ (o : Option DoneStep). steps_then done o (λ x. steps_from answers spot (done ++ x ∷ []) rest)) is
-
-pub goes_nowhere : (answers : Answers) (spot : Spot) (done : List DoneStep) (step : StepPlan) (rest : List StepPlan) → next_done answers spot done step ≡ None
-    → steps_from answers spot done (step ∷ rest) ≡ done
-goes_nowhere answers spot done step rest is =
-    ap (λ (o : Option DoneStep). steps_then done o (λ x. steps_from answers spot (done ++ x ∷ []) rest)) is
+-- what follows some steps that are done, by what the next comes to
+pub step_after : (answers : Answers) (spot : Spot) (done : List DoneStep) (n : ℕ) (step : StepPlan) (next : Option DoneStep) → slice_get spot.job.steps n ≡ Some step
+    → next_done answers spot done step ≡ next
+    → steps_from answers spot done (drop n spot.job.steps) ≡ steps_then done next (λ x. steps_from answers spot (done ++ x ∷ []) (drop (n + 1) spot.job.steps))
+step_after answers spot done n step next planned is =
+    ap (steps_from answers spot done) (drop_at spot.job.steps n step planned)
+    ∙ ap (λ (o : Option DoneStep). steps_then done o (λ x. steps_from answers spot (done ++ x ∷ []) (drop (n + 1) spot.job.steps))) is
 
 -- ---- the end of a leg
 
@@ -87,7 +77,7 @@ unfolding leg_settled
 ended_leg answers spot steps is many =
     let full : (length steps == length spot.job.steps) ≡ true = grind (arith, nat_tests, many) in
     ap (leg_after spot) (sym is)
-    ∙ ap (λ c. (let x : SettledLeg = record { steps = steps; finish = if c then Some (finish_of spot steps) else None } in x)) full
+    ∙ λ i. record { steps = steps; finish = if full i then Some (finish_of spot steps) else None }
 
 -- a leg that is alone, with all its steps, ends as settled
 module _ (answers : Answers) (l : ℕ) (at : JobAt) (k : ℕ) (played : Leg) (alone : IsAlone at) (come : StepsCome answers (planned l at k) (Some played)) where
@@ -100,7 +90,7 @@ module _ (answers : Answers) (l : ℕ) (at : JobAt) (k : ℕ) (played : Leg) (al
   settled_is : leg_settled answers (planned l at k) ≡ record { steps = played.steps; finish = Some end }
   settled_is =
       ended_leg answers (planned l at k) played.steps come.1 come.2
-      ∙ ap (λ (f : Finish). (let x : SettledLeg = record { steps = played.steps; finish = Some f } in x)) (finish_is l on (counts_alone at k played alone come.0.goes))
+      ∙ λ i. record { steps = played.steps; finish = Some (finish_is l on (counts_alone at k played alone come.0.goes) i) }
 
   pub ends_settled : (leg : Leg) → EndsAs on leg ↔ LegIsSettled (leg_settled answers (planned l at k)) leg
   ends_settled leg = subst (λ (x : SettledLeg). EndsAs on leg ↔ LegIsSettled x leg) (sym settled_is) (
@@ -109,7 +99,7 @@ module _ (answers : Answers) (l : ℕ) (at : JobAt) (k : ℕ) (played : Leg) (al
       tolerated = end.tolerated;
       state = h.state;
       steps = sym h.steps;
-      finish = ap (λ (o : Env). Some (let x : Finish = record end { outputs = o } in x)) h.outputs;
+      finish = λ i. Some (record end { outputs = h.outputs i });
     }),
     (λ h.
         let finish = same_some end (record { result = h.result; tolerated = h.tolerated; outputs = leg.outputs }) h.finish in
@@ -122,23 +112,20 @@ module _ (answers : Answers) (l : ℕ) (at : JobAt) (k : ℕ) (leg : Leg) (alone
     (next : Option DoneStep) (come : (step : StepPlan) → next_step (leg_on at k leg) ≡ Some step → next ≡ next_comes answers l (leg_on at k leg) step)
     (goes_on : steps_from answers (planned l at k) leg.steps (drop n at.plan.steps) ≡ steps_from answers (planned l at k) [] at.plan.steps) where
   here : (step : StepPlan) × (slice_get at.plan.steps n ≡ Some step)
-  here = item at.plan.steps n left
+  here = slice_get_there at.plan.steps n left
 
   done_next : next ≡ next_done answers (planned l at k) leg.steps here.0
   done_next =
       let is : next_step (leg_on at k leg) ≡ Some here.0 = ap (slice_get at.plan.steps) many ∙ here.1 in
       come here.0 is ∙ comes_next answers l (leg_on at k leg) (counts_alone at k leg alone idle.goes) here.0 is
 
-  rest : steps_from answers (planned l at k) leg.steps (here.0 ∷ drop (n + 1) at.plan.steps) ≡ steps_from answers (planned l at k) [] at.plan.steps
-  rest = ap (steps_from answers (planned l at k) leg.steps) (sym (drop_at at.plan.steps n here.0 here.1)) ∙ goes_on
-
   -- one step more is done
   pub one_more : (done : DoneStep) → next ≡ Some done
       → steps_from answers (planned l at k) (leg.steps ++ done ∷ []) (drop (n + 1) at.plan.steps) ≡ steps_from answers (planned l at k) [] at.plan.steps
-  one_more done is = sym (goes_further answers (planned l at k) leg.steps here.0 (drop (n + 1) at.plan.steps) done (sym done_next ∙ is)) ∙ rest
+  one_more done is = sym (step_after answers (planned l at k) leg.steps n here.0 (Some done) here.1 (sym done_next ∙ is)) ∙ goes_on
 
   -- without an answer not all steps are given
   pub no_more : next ≡ None → length (steps_from answers (planned l at k) [] at.plan.steps) ≡ length at.plan.steps → ⊥
   no_more is all =
-      let same = ap length (sym rest ∙ goes_nowhere answers (planned l at k) leg.steps here.0 (drop (n + 1) at.plan.steps) (sym done_next ∙ is)) in
+      let same = ap length (sym goes_on ∙ step_after answers (planned l at k) leg.steps n here.0 None here.1 (sym done_next ∙ is)) in
       omega (arith, same, all, many, left)

@@ -1,9 +1,9 @@
 pub mod Agreeing
+pub mod Begins
 pub mod Called
 pub mod Changes
 pub mod Comes
 pub mod Decided
-pub mod Each
 pub mod Ends
 pub mod Folded
 pub mod Giving

@@ -1,36 +1,24 @@
 -- Lists of which something holds at each place, and lists made of others.
-use Rattle.std.proofs.Common.{◌≡◌, ◌≢◌, ℕ, zero, suc, ◌<◌, ◌==◌, ◌||◌, Bool, true, false, List, [], ◌∷◌, Option, Some, None, option_map, length, map, take, slice_get, count_by, cond, inl, inr, ap, subst, sym, refl, ◌∙◌, arith}
+use Rattle.std.proofs.Common.{◌≡◌, ◌≢◌, ℕ, zero, suc, ◌<◌, ◌==◌, ◌||◌, Bool, true, false, List, [], ◌∷◌, Option, Some, None, option_map, length, map, take, slice_get, count_by, replicate, cond, inl, inr, ap, subst₂, sym, refl, ◌∙◌, arith}
 use Rattle.std.specs.List.{list_all, list_any, filter_map, cons_option, AllZip}
 use Rattle.std.proofs.lemmas.Bool.{cases_eq}
 use Rattle.std.proofs.lemmas.Bool.Decides.{nat_tests}
 use Rattle.std.proofs.lemmas.List.Sums.{sum_by-cons}
 use Rattle.std.proofs.lemmas.Option.{slice_get-map}
-use Rattle.status_table.specs.Words.{changed, put}
+use Rattle.status_table.specs.Words.{changed}
 use Rattle.status_table.proofs.Counts.{map-some}
-use Rattle.status_table.proofs.Lists.{changed-there, changed-elsewhere}
-use Rattle.board_decisions.proofs.Lists.{and-left, and-right, and-both, same_some, no_some}
+use Rattle.status_table.proofs.Lists.{changed-there, changed-elsewhere, zip-get, zip-length}
+use Rattle.board_decisions.proofs.Lists.{and-left, and-right, and-both, same_some}
 
 -- ---- a list with one item changed
 
--- what stands at the changed place was changed
-pub changed-item : {T : Type 0} (xs : List T) (i : ℕ) (f : T → T) (x : T) → slice_get (changed xs i f) i ≡ Some x
-    → (y : T) × (slice_get xs i ≡ Some y) × (f y ≡ x)
-changed-item {T} xs i f x h = by (slice_get xs i) refl
-  where
-    by : (o : Option T) → slice_get xs i ≡ o → (y : T) × (slice_get xs i ≡ Some y) × (f y ≡ x)
-    by None is = absurd (no_some x (sym is ∙ sym (ap (λ o. slice_get (put xs i f o) i) is) ∙ h))
-    by (Some y) is = (y, is, same_some (f y) x (sym (changed-there xs i f y is) ∙ h))
-
 -- What holds at each place holds after a change, if it holds of the changed item and then still of the others.
-pub each-changed : {T : Type 0} (P : ℕ → T → Type 0) (xs : List T) (i : ℕ) (f : T → T)
-    → ((x : T) → slice_get xs i ≡ Some x → P i (f x))
-    → ((k : ℕ) (x : T) → k ≢ i → slice_get xs k ≡ Some x → P k x)
-    → (k : ℕ) (x : T) → slice_get (changed xs i f) k ≡ Some x → P k x
-each-changed {T} P xs i f here others k x is = elim (cases_eq k i) as (λ _. P k x) [
-  | inl e ↦
-      let item = changed-item xs i f x (ap (slice_get (changed xs i f)) (sym e) ∙ is) in
-      subst (λ j. P j x) (sym e) (subst (P i) item.2 (here item.0 item.1))
-  | inr n ↦ others k x n (sym (changed-elsewhere xs i f k n) ∙ is)
+pub each-changed : {T : Type 0} (P : ℕ → T → Type 0) (xs : List T) (i : ℕ) (f : T → T) (x : T) → slice_get xs i ≡ Some x → P i (f x)
+    → ((k : ℕ) (y : T) → k ≢ i → slice_get xs k ≡ Some y → P k y)
+    → (k : ℕ) (y : T) → slice_get (changed xs i f) k ≡ Some y → P k y
+each-changed P xs i f x there here others k y is = elim (cases_eq k i) as (λ _. P k y) [
+  | inl e ↦ subst₂ P (sym e) (same_some (f x) y (sym (changed-there xs i f x there) ∙ ap (slice_get (changed xs i f)) (sym e) ∙ is)) here
+  | inr n ↦ others k y n (sym (changed-elsewhere xs i f k n) ∙ is)
 ]
 
 -- ---- two lists side by side
@@ -42,6 +30,10 @@ zip-each R [] [] same h = tt
 zip-each R (x ∷ xs) (y ∷ ys) same h = (h 0 x y refl refl, zip-each R xs ys (omega (arith, same)) (λ i a b p q. h (suc i) a b p q))
 zip-each R xs ys same h = absurd (omega (arith, same))
 
+-- what holds of two lists side by side, where more holds by the place of the second
+pub zip-more : {A B : Type 0} (R S : A → B → Type 0) (xs : List A) (ys : List B) → ((i : ℕ) (x : A) (y : B) → slice_get ys i ≡ Some y → R x y → S x y) → AllZip R xs ys → AllZip S xs ys
+zip-more R S xs ys more h = zip-each S xs ys (zip-length R xs ys h) (λ i x y at there. more i x y there (zip-get R xs ys i x y at there h))
+
 -- ---- the front of a list
 
 pub get-take : {T : Type 0} (xs : List T) (n i : ℕ) → i < n → slice_get (take n xs) i ≡ slice_get xs i
@@ -49,12 +41,6 @@ get-take xs zero i h = absurd (omega (arith, h))
 get-take [] (suc n) i h = refl
 get-take (x ∷ xs) (suc n) zero h = refl
 get-take (x ∷ xs) (suc n) (suc i) h = get-take xs n i (omega (arith, h))
-
--- there is an item within a list
-pub item : {A : Type 0} (xs : List A) (i : ℕ) → i < length xs → (x : A) × (slice_get xs i ≡ Some x)
-item [] i h = absurd (omega (arith, h))
-item (x ∷ xs) zero h = (x, refl)
-item (x ∷ xs) (suc i) h = item xs i (omega (arith, h))
 
 -- an item of what is made of each item
 pub mapped_from : {A B : Type 0} (f : A → B) (xs : List A) (i : ℕ) (y : B) → slice_get (map f xs) i ≡ Some y → (x : A) × (slice_get xs i ≡ Some x) × (f x ≡ y)
@@ -65,12 +51,6 @@ mapped_from f xs i y h = map-some f (slice_get xs i) y (sym (slice_get-map f xs 
 pub all-of : {A : Type 0} (t : A → Bool) (xs : List A) → ((i : ℕ) (x : A) → slice_get xs i ≡ Some x → t x ≡ true) → list_all t xs ≡ true
 all-of t [] h = refl
 all-of t (x ∷ xs) h = and-both (t x) (list_all t xs) (h 0 x refl) (all-of t xs (λ i y is. h (suc i) y is))
-
--- tests of two lists of numbers that agree wherever the first passes
-pub all-by : {A : Type 0} (s t : A → Bool) (xs : List A) → ((x : A) → s x ≡ true → t x ≡ true) → list_all s xs ≡ true → list_all t xs ≡ true
-all-by s t [] h k = refl
-all-by s t (x ∷ xs) h k =
-    and-both (t x) (list_all t xs) (h x (and-left (s x) (list_all s xs) k)) (all-by s t xs h (and-right (s x) (list_all s xs) k))
 
 -- two tests of items that pass another
 pub any-where : {A : Type 0} (u s t : A → Bool) (xs : List A) → ((x : A) → u x ≡ true → s x ≡ t x) → list_all u xs ≡ true → list_any s xs ≡ list_any t xs
@@ -105,32 +85,22 @@ map-filter_map {A} {B} {C} g f (x ∷ xs) = by (f x) (map-filter_map g f xs)
 
 -- ---- one number among others
 
-none-counted : {B : Type 0} (f : ℕ → Option B) (n : ℕ) (xs : List ℕ) → ((x : ℕ) → x ≢ n → f x ≡ None) → count_by (λ x. x == n) xs ≡ 0 → filter_map f xs ≡ []
-none-counted f n [] h k = refl
-none-counted f n (x ∷ xs) h k = elim (cases_eq x n) as (λ _. filter_map f (x ∷ xs) ≡ []) [
-  | inl e ↦
-      let all = sum_by-cons (λ y. cond (y == n) 1 0) x xs in
-      let here : (x == n) ≡ true = grind (arith, nat_tests, e) in
-      let one = ap {B = ℕ} (λ c. cond c 1 0) here in
-      absurd (omega (arith, all, one, k))
-  | inr m ↦
-      let all = sum_by-cons (λ y. cond (y == n) 1 0) x xs in
-      ap (λ o. cons_option o (filter_map f xs)) (h x m) ∙ none-counted f n xs h (omega (arith, all, k))
-]
-
--- what a number gives that stands once among others, which give nothing
-pub once-given : {B : Type 0} (f : ℕ → Option B) (n : ℕ) (b : B) (xs : List ℕ) → f n ≡ Some b → ((x : ℕ) → x ≢ n → f x ≡ None)
-    → count_by (λ x. x == n) xs ≡ 1 → filter_map f xs ≡ b ∷ []
-once-given f n b [] is h k = absurd (omega (arith, k))
-once-given {B} f n b (x ∷ xs) is h k = elim (cases_eq x n) as (λ _. filter_map f (x ∷ xs) ≡ b ∷ []) [
-  | inl e ↦
-      let all = sum_by-cons (λ y. cond (y == n) 1 0) x xs in
-      let here : (x == n) ≡ true = grind (arith, nat_tests, e) in
-      let one = ap {B = ℕ} (λ c. cond c 1 0) here in
-      ap (λ o. cons_option o (filter_map f xs)) (ap f e ∙ is) ∙ ap (λ (ys : List B). b ∷ ys) (none-counted f n xs h (omega (arith, all, one, k)))
-  | inr m ↦
-      let all = sum_by-cons (λ y. cond (y == n) 1 0) x xs in
-      let here : (x == n) ≡ false = grind (arith, nat_tests, m) in
-      let none = ap {B = ℕ} (λ c. cond c 1 0) here in
-      ap (λ o. cons_option o (filter_map f xs)) (h x m) ∙ once-given f n b xs is h (omega (arith, all, none, k))
-]
+-- what a number gives among others, which give nothing: it, as often as the number stands there
+pub given-often : {B : Type 0} (f : ℕ → Option B) (n : ℕ) (b : B) (xs : List ℕ) → f n ≡ Some b → ((x : ℕ) → x ≢ n → f x ≡ None)
+    → filter_map f xs ≡ replicate (count_by (λ x. x == n) xs) b
+given-often f n b [] is h = refl
+given-often {B} f n b (x ∷ xs) is h =
+    let all = sum_by-cons (λ y. cond (y == n) 1 0) x xs in
+    let later = given-often f n b xs is h in
+    elim (cases_eq x n) as (λ _. filter_map f (x ∷ xs) ≡ replicate (count_by (λ y. y == n) (x ∷ xs)) b) [
+      | inl e ↦
+          let here : (x == n) ≡ true = grind (arith, nat_tests, e) in
+          let one = ap {B = ℕ} (λ c. cond c 1 0) here in
+          let more : suc (count_by (λ y. y == n) xs) ≡ count_by (λ y. y == n) (x ∷ xs) = omega (arith, all, one) in
+          (λ i. cons_option ((ap f e ∙ is) i) (later i)) ∙ ap (λ k. replicate k b) more
+      | inr m ↦
+          let here : (x == n) ≡ false = grind (arith, nat_tests, m) in
+          let none = ap {B = ℕ} (λ c. cond c 1 0) here in
+          let same : count_by (λ y. y == n) xs ≡ count_by (λ y. y == n) (x ∷ xs) = omega (arith, all, none) in
+          (λ i. cons_option (h x m i) (later i)) ∙ ap (λ k. replicate k b) same
+    ]

@@ -1,16 +1,18 @@
 -- What a job looks at, where each job that it needs, and each that one of these needs, comes to what is settled: its context `needs`
 -- and its status are as settled.
-use Rattle.std.proofs.Common.{◌≡◌, ℕ, zero, suc, ◌-◌, ◌<◌, ◌≤◌, ◌||◌, Bool, true, not, List, [], ◌∷◌, Option, Some, None, option_map, length, map, take, slice_get, nat_lt, is_some, ap, sym, ◌∙◌, refl, arith}
-use Rattle.std.specs.List.{list_all, list_any}
+use Rattle.std.proofs.Common.{◌≡◌, ℕ, zero, suc, ◌-◌, ◌<◌, ◌≤◌, ◌||◌, Bool, true, false, not, List, [], ◌∷◌, Option, Some, option_map, length, map, take, slice_get, nat_lt, is_some, ap, sym, ◌∙◌, refl, arith}
+use Rattle.std.specs.List.{list_all}
 use Rattle.std.proofs.lemmas.Bool.{leb-true}
 use Rattle.std.proofs.lemmas.List.{length-take-le, length-map}
 use Rattle.std.proofs.lemmas.Option.{slice_get-map, slice_get_within}
-use Rattle.status_table.specs.Words.{Board, Job, JobAt, JobPlan, Outcome, Plain, Run, RunPlan, ancestors_status, any_ancestor, holds, holds_at, is_failure, is_success, job_result, job_results, laid_over, need_pair, needed_job, needs_value, object, places_needed, some_ancestor, status_by}
+use Rattle.status_table.specs.Words.{Board, Job, JobAt, JobPlan, Outcome, Plain, Run, RunPlan, ancestors_status, any_ancestor, holds, holds_at, is_cancelled, is_failure, is_success, job_result, run_result, job_results, laid_over, need_pair, needed_job, needs_at, needs_value, object, places_needed, some_ancestor, status_by}
 use Rattle.board_settled.specs.Alone.{SeesSettled}
-use Rattle.board_settled.specs.Settled.{SettledJob, all_given, result_of, first_in_run, need_at, needs_of, has_result, result_passes, needs_given, status_after}
+use Rattle.board_settled.specs.Settled.{SettledJob, all_given, jobs_come_to, worst, result_of, first_in_run, need_at, needs_of, has_result, result_passes, needs_given, status_after}
 use Rattle.board_settled.proofs.Comes.{JobComes}
-use Rattle.board_settled.proofs.Lists.{get-take, all-by, any-where, any-map, map-filter_map, filter_map-where}
-use Rattle.board_decisions.proofs.Lists.{same_some}
+use Rattle.status_table.proofs.Counts.{all-weaker}
+use Rattle.board_settled.proofs.Lists.{get-take, any-where, any-map, map-filter_map, filter_map-where}
+use Rattle.std.proofs.lemmas.List.Folds.{list_all-map}
+use Rattle.board_decisions.proofs.Lists.{map-get, same_some}
 
 -- the jobs of a run are numbered from the first on, and need only jobs of it that stand before them
 pub record IsOrdered (first : ℕ) (jobs : List JobPlan) : Type 0 where
@@ -27,63 +29,51 @@ pub record ComesAt (b : Board) (r : ℕ) (plan : RunPlan) (run : Run) (all : Lis
   pub is_given : slice_get all i ≡ Some given
   pub comes : JobComes b (record { run = r; job = i }) run given job
 
--- a need of the job at a place stands before it and comes to what is settled, and so do the needs of that
-pub record Reached (b : Board) (r first : ℕ) (plan : RunPlan) (run : Run) (all : List SettledJob) (ready : ℕ → ℕ → Bool) (k need : ℕ) : Type 0 where
-  pub less : need - first < k
-  pub at : ComesAt b r plan run all (need - first)
-  pub further : (job : JobPlan) → slice_get plan.jobs (need - first) ≡ Some job → list_all (ready (need - first)) job.needs ≡ true
+-- a place that the job at another needs stands before it and comes to what is settled, and so do those that are needed there
+pub record Reached (b : Board) (r first : ℕ) (plan : RunPlan) (run : Run) (all : List SettledJob) (ready : ℕ → ℕ → Bool) (k i : ℕ) : Type 0 where
+  pub less : i < k
+  pub at : ComesAt b r plan run all i
+  pub further : list_all (ready i) (needs_at first plan.jobs i) ≡ true
+
+-- what holds of all that a job needs, of their places
+pub ready_at : (ready : ℕ → Bool) (first : ℕ) (jobs : List JobPlan) (i : ℕ) (job : JobPlan) → slice_get jobs i ≡ Some job → list_all (λ need. ready (need - first)) job.needs ≡ true
+    → list_all ready (needs_at first jobs i) ≡ true
+ready_at ready first jobs i job is h = ap (λ o. list_all ready (places_needed first o)) is ∙ list_all-map ready (λ need. need - first) job.needs ∙ h
 
 module _ (b : Board) (r first : ℕ) (plan : RunPlan) (run : Run) (all : List SettledJob) (j : ℕ) (ready : ℕ → ℕ → Bool)
-    (reached : (k need : ℕ) → k ≤ j → ready k need ≡ true → Reached b r first plan run all ready k need) where
+    (reached : (k i : ℕ) → k ≤ j → ready k i ≡ true → Reached b r first plan run all ready k i) where
   abbrev before : List SettledJob
   before = take j all
 
-  same_test : (test : Outcome → Bool) (i : ℕ) → i < j → ComesAt b r plan run all i → holds_at (map test (job_results run)) i ≡ holds_at (map (result_passes test) before) i
-  same_test test i under at =
-      let board : slice_get (map test (job_results run)) i ≡ Some (test (job_result run at.job)) =
-      slice_get-map test (job_results run) i ∙ ap (option_map test) (slice_get-map (job_result run) run.jobs i ∙ ap (option_map (job_result run)) at.is_there) in
-      let given : slice_get (map (result_passes test) before) i ≡ Some (result_passes test at.given) =
-      slice_get-map (result_passes test) before i ∙ ap (option_map (result_passes test)) (get-take all j i under ∙ at.is_given) in
-      ap holds board ∙ sym (ap holds given ∙ ap (λ o. holds (option_map test o)) at.comes.result)
+  module _ (test : Outcome → Bool) where
+    abbrev shown : List Bool
+    shown = map test (job_results run)
 
-  abbrev on : (Outcome → Bool) → ℕ → ℕ → Bool
-  on test n i = holds_at (map test (job_results run)) i || some_ancestor first plan.jobs (map test (job_results run)) n i
+    abbrev settled : List Bool
+    settled = map (result_passes test) before
 
-  abbrev of_given : (Outcome → Bool) → ℕ → ℕ → Bool
-  of_given test n i = holds_at (map (result_passes test) before) i || some_ancestor first plan.jobs (map (result_passes test) before) n i
+    same_test : (i : ℕ) → i < j → ComesAt b r plan run all i → holds_at shown i ≡ holds_at settled i
+    same_test i under at =
+        ap holds (map-get test (job_results run) i (job_result run at.job) (map-get (job_result run) run.jobs i at.job at.is_there))
+        ∙ sym (ap holds (map-get (result_passes test) before i at.given (get-take all j i under ∙ at.is_given)) ∙ ap (λ o. holds (option_map test o)) at.comes.result)
 
-  -- ancestors come to the same
-  ancestors : (test : Outcome → Bool) (n k : ℕ) → k ≤ j → ((job : JobPlan) → slice_get plan.jobs k ≡ Some job → list_all (ready k) job.needs ≡ true)
-      → some_ancestor first plan.jobs (map test (job_results run)) n k ≡ some_ancestor first plan.jobs (map (result_passes test) before) n k
-  ancestors test zero k le h = refl
-  ancestors test (suc n) k le h = by (λ i below further. ancestors test n i below further) (slice_get plan.jobs k) refl
-    where
-      Before : Type 0
-      Before = (i : ℕ) → i ≤ j → ((job : JobPlan) → slice_get plan.jobs i ≡ Some job → list_all (ready i) job.needs ≡ true)
-          → some_ancestor first plan.jobs (map test (job_results run)) n i ≡ some_ancestor first plan.jobs (map (result_passes test) before) n i
-
-      one : Before → (need : ℕ) → ready k need ≡ true → on test n (need - first) ≡ of_given test n (need - first)
-      one so_far need ok =
-          let there = reached k need le ok in
-          let less = there.less in
-          ap (λ c. c || some_ancestor first plan.jobs (map test (job_results run)) n (need - first)) (same_test test (need - first) (omega (arith, le, less)) there.at)
-          ∙ ap (λ c. holds_at (map (result_passes test) before) (need - first) || c) (so_far (need - first) (omega (arith, le, less)) there.further)
-
-      by : Before → (o : Option JobPlan) → slice_get plan.jobs k ≡ o → list_any (on test n) (places_needed first (slice_get plan.jobs k)) ≡ list_any (of_given test n) (places_needed first (slice_get plan.jobs k))
-      by so_far None is = ap (λ o. list_any (on test n) (places_needed first o)) is ∙ sym (ap (λ o. list_any (of_given test n) (places_needed first o)) is)
-      by so_far (Some job) is =
-          ap (λ o. list_any (on test n) (places_needed first o)) is
-          ∙ any-map (on test n) (λ need. need - first) job.needs
-          ∙ any-where (ready k) (λ need. on test n (need - first)) (λ need. of_given test n (need - first)) job.needs (one so_far) (h job is)
-          ∙ sym (any-map (of_given test n) (λ need. need - first) job.needs)
-          ∙ sym (ap (λ o. list_any (of_given test n) (places_needed first o)) is)
+    -- ancestors come to the same
+    ancestors : (n k : ℕ) → k ≤ j → list_all (ready k) (needs_at first plan.jobs k) ≡ true → some_ancestor first plan.jobs shown n k ≡ some_ancestor first plan.jobs settled n k
+    ancestors zero k le h = refl
+    ancestors (suc n) k le h =
+        any-where (ready k) (λ i. holds_at shown i || some_ancestor first plan.jobs shown n i) (λ i. holds_at settled i || some_ancestor first plan.jobs settled n i) (needs_at first plan.jobs k) (λ i ok.
+        let there = reached k i le ok in
+        let less = there.less in
+        let same = same_test i (omega (arith, le, less)) there.at in
+        let so_far = ancestors n i (omega (arith, le, less)) there.further in
+        λ t. same t || so_far t) h
 
   -- ---- the job at the place
 
   within : j ≤ j
   within = omega arith
 
-  module _ (job : JobPlan) (is : slice_get plan.jobs j ≡ Some job) (long : j ≤ length all) (number : job.number - j ≡ first) (all_ready : list_all (ready j) job.needs ≡ true) where
+  module _ (job : JobPlan) (is : slice_get plan.jobs j ≡ Some job) (long : j ≤ length all) (number : job.number - j ≡ first) (all_ready : list_all (λ need. ready j (need - first)) job.needs ≡ true) where
     size : length before ≡ j
     size = length-take-le j all long
 
@@ -91,13 +81,13 @@ module _ (b : Board) (r first : ℕ) (plan : RunPlan) (run : Run) (all : List Se
     first_is = ap (λ n. job.number - n) size ∙ number
 
     are_given : needs_given before job ≡ true
-    are_given = all-by (ready j) (λ need. holds_at (map has_result before) (need - first_in_run job before)) job.needs one all_ready
+    are_given = all-weaker (λ need. ready j (need - first)) (λ need. holds_at (map has_result before) (need - first_in_run job before)) one job.needs all_ready
       where
-        one : (need : ℕ) → ready j need ≡ true → holds_at (map has_result before) (need - first_in_run job before) ≡ true
+        one : (need : ℕ) → ready j (need - first) ≡ true → holds_at (map has_result before) (need - first_in_run job before) ≡ true
         one need ok =
-            let there = reached j need within ok in
+            let there = reached j (need - first) within ok in
             ap (λ n. holds_at (map has_result before) (need - n)) first_is
-            ∙ ap holds (slice_get-map has_result before (need - first) ∙ ap (option_map has_result) (get-take all j (need - first) there.less ∙ there.at.is_given))
+            ∙ ap holds (map-get has_result before (need - first) there.at.given (get-take all j (need - first) there.less ∙ there.at.is_given))
             ∙ ap is_some there.at.comes.result
 
     abbrev at : Job → JobAt
@@ -108,11 +98,11 @@ module _ (b : Board) (r first : ℕ) (plan : RunPlan) (run : Run) (all : List Se
     needs_same x =
         ap (λ (ps : List (List ℕ × Plain)). object (laid_over ps []))
         (map-filter_map need_pair (needed_job (at x)) job.needs
-        ∙ filter_map-where (ready j) (λ need. option_map need_pair (needed_job (at x) need)) (λ need. need_at plan before (need - first_in_run job before)) job.needs one all_ready)
+        ∙ filter_map-where (λ need. ready j (need - first)) (λ need. option_map need_pair (needed_job (at x) need)) (λ need. need_at plan before (need - first_in_run job before)) job.needs one all_ready)
       where
-        one : (need : ℕ) → ready j need ≡ true → option_map need_pair (needed_job (at x) need) ≡ need_at plan before (need - first_in_run job before)
+        one : (need : ℕ) → ready j (need - first) ≡ true → option_map need_pair (needed_job (at x) need) ≡ need_at plan before (need - first_in_run job before)
         one need ok =
-            let there = reached j need within ok in
+            let there = reached j (need - first) within ok in
             let it = there.at in
             let found : needed_job (at x) need ≡ Some (record { board = b; place = record { run = r; job = need - first }; run_plan = plan; plan = it.job_plan; run = run; job = it.job }) =
             rw (number, it.is_planned, it.is_there) refl in
@@ -121,16 +111,13 @@ module _ (b : Board) (r first : ℕ) (plan : RunPlan) (run : Run) (all : List Se
             ∙ rw (it.is_planned, get-take all j (need - first) there.less, it.is_given, it.comes.result, it.comes.outputs) refl)
 
     status_same : ancestors_status first plan.jobs (job_results run) j ≡ status_after plan before job
-    status_same =
-        ap (λ c. status_by c (any_ancestor first plan.jobs (map (λ result. not (is_success result)) (job_results run)) j)) (one is_failure)
-        ∙ ap (status_by (any_ancestor (first_in_run job before) plan.jobs (map (result_passes is_failure) before) (length before))) (one (λ result. not (is_success result)))
+    status_same = λ i. status_by (one is_failure i) (one (λ result. not (is_success result)) i)
       where
         one : (test : Outcome → Bool) → any_ancestor first plan.jobs (map test (job_results run)) j
             ≡ any_ancestor (first_in_run job before) plan.jobs (map (result_passes test) before) (length before)
         one test =
-            ancestors test (length plan.jobs) j within (λ other there. ap (λ (x : JobPlan). list_all (ready j) x.needs) (sym (same_some job other (sym is ∙ there))) ∙ all_ready)
-            ∙ ap (λ n. some_ancestor n plan.jobs (map (result_passes test) before) (length plan.jobs) j) (sym first_is)
-            ∙ ap (λ n. some_ancestor (first_in_run job before) plan.jobs (map (result_passes test) before) (length plan.jobs) n) (sym size)
+            ancestors test (length plan.jobs) j within (ready_at (ready j) first plan.jobs j job is all_ready)
+            ∙ λ i. some_ancestor (sym first_is i) plan.jobs (map (result_passes test) before) (length plan.jobs) (sym size i)
 
     pub sees_settled : (x : Job) → SeesSettled first before (at x)
     sees_settled x = record { given = are_given; needs = needs_same x; status = status_same }
@@ -139,17 +126,15 @@ module _ (b : Board) (r first : ℕ) (plan : RunPlan) (run : Run) (all : List Se
 
 module _ (b : Board) (r first : ℕ) (plan : RunPlan) (run : Run) (all : List SettledJob) (ordered : IsOrdered first plan.jobs) (j : ℕ)
     (each : (i : ℕ) → i < j → ComesAt b r plan run all i) where
-  abbrev earlier : ℕ → ℕ → Bool
-  earlier k need = nat_lt (need - first) k
-
-  reached : (k need : ℕ) → k ≤ j → earlier k need ≡ true → Reached b r first plan run all earlier k need
-  reached k need le ok =
-      let less : need - first < k = leb-true (suc (need - first)) k ok in
-      record { less = less; at = each (need - first) (omega (arith, le, less)); further = ordered.needs (need - first) }
+  reached : (k i : ℕ) → k ≤ j → nat_lt i k ≡ true → Reached b r first plan run all (λ k i. nat_lt i k) k i
+  reached k i le ok =
+      let less : i < k = leb-true (suc i) k ok in
+      let at = each i (omega (arith, le, less)) in
+      record { less = less; at = at; further = ready_at (λ n. nat_lt n i) first plan.jobs i at.job_plan at.is_planned (ordered.needs i at.job_plan at.is_planned) }
 
   pub board_sees_settled : (job : JobPlan) → slice_get plan.jobs j ≡ Some job → j ≤ length all → (x : Job)
       → SeesSettled first (take j all) (record { board = b; place = record { run = r; job = j }; run_plan = plan; plan = job; run = run; job = x })
-  board_sees_settled job is long x = sees_settled b r first plan run all j earlier reached job is long (ordered.number j job is) (ordered.needs j job is) x
+  board_sees_settled job is long x = sees_settled b r first plan run all j (λ k i. nat_lt i k) reached job is long (ordered.number j job is) (ordered.needs j job is) x
 
 -- ---- a run all of whose jobs come to what is settled
 
@@ -171,3 +156,7 @@ each_result b r plan run all long each = all-given (map result_of all) (job_resu
         let at = each i (omega (arith, within, size)) in
         slice_get-map result_of all i ∙ ap (option_map result_of) at.is_given
         ∙ ap (λ (o : Option Outcome). Some o) (at.comes.result ∙ sym (ap (option_map (job_result run)) at.is_there) ∙ sym (slice_get-map (job_result run) run.jobs i) ∙ h)
+
+-- what they come to, where the run is not told to stop
+pub jobs_result : (run : Run) → run.stop ≡ false → Some (jobs_come_to (job_results run)) ≡ Some (run_result run)
+jobs_result run goes = λ i. Some (worst (any-map is_failure (job_result run) run.jobs i) (sym goes i || any-map is_cancelled (job_result run) run.jobs i))

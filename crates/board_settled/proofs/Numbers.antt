@@ -48,7 +48,7 @@ in_jobs r k (plan ∷ plans) (job ∷ jobs) n shape = step (in_jobs r (suc k) pl
 in_jobs r k plans jobs n shape = absurd shape
 
 InRuns : ℕ → List RunPlan → ℕ → Option LegPlace → Type 0
-InRuns k plans n (Some at) = (i : ℕ) × (at.run ≡ k + i) × ((plan : RunPlan) → slice_get plans i ≡ Some plan → n ≡ before_run i plans + (before_job at.job plan.jobs + at.leg))
+InRuns k plans n (Some at) = (i : ℕ) × (at.run ≡ k + i) × ((plan : RunPlan) → slice_get plans i ≡ Some plan → n ≡ before_run i plans + before_job at.job plan.jobs + at.leg)
 InRuns k plans n None = Unit {0}
 
 later_in_runs : (k : ℕ) (plan : RunPlan) (plans : List RunPlan) (n : ℕ) (found : Option LegPlace) → leg_count plan.jobs ≤ n
@@ -80,12 +80,12 @@ in_runs k plans runs n shape = absurd shape
 
 -- the number of a leg, by its place
 pub number_at : (p : Plan) (b : Board) (l : ℕ) (at : LegPlace) (plan : RunPlan) → HasShape p b → leg_place b l ≡ Some at → slice_get p.runs at.run ≡ Some plan
-    → l ≡ before_run at.run p.runs + (before_job at.job plan.jobs + at.leg)
+    → l ≡ before_run at.run p.runs + before_job at.job plan.jobs + at.leg
 unfolding InRuns
 number_at p b l at plan shape is planned =
     let found = subst (InRuns 0 p.runs l) is (in_runs 0 p.runs b.runs l shape) in
     let same : found.0 ≡ at.run = omega (arith, found.1) in
-    found.2 plan (ap (slice_get p.runs) same ∙ planned) ∙ ap (λ i. before_run i p.runs + (before_job at.job plan.jobs + at.leg)) same
+    found.2 plan (ap (slice_get p.runs) same ∙ planned) ∙ ap (λ i. before_run i p.runs + before_job at.job plan.jobs + at.leg) same
 
 -- ---- each leg is found by a number
 
@@ -105,27 +105,18 @@ found_in_jobs r k (x ∷ xs) zero l job at within =
     let less : l < length x.legs = subst (λ (y : Job). l < length y.legs) (sym (same_some x job at)) within in
     let here : nat_lt l (length x.legs) ≡ true = grind (arith, nat_tests, less) in
     let none : k ≡ k + 0 = omega arith in
-    (l, ap (λ c. if c then Ok (leg_spot r k l) else leg_in_jobs r (suc k) xs (l - length x.legs)) here ∙ ap (λ i. Ok (leg_spot r i l)) none)
+    (l, rw here (ap (λ i. Ok (leg_spot r i l)) none))
 found_in_jobs r k (x ∷ xs) (suc j) l job at within =
     let later = found_in_jobs r (suc k) xs j l job at within in
-    let more : suc k + j ≡ k + suc j = omega arith in (
-      length x.legs + later.0,
-      ap (λ c. if c then Ok (leg_spot r k (length x.legs + later.0)) else leg_in_jobs r (suc k) xs (length x.legs + later.0 - length x.legs)) (past (length x.legs) later.0)
-          ∙ ap (leg_in_jobs r (suc k) xs) (rest (length x.legs) later.0)
-          ∙ later.1
-          ∙ ap (λ i. Ok (leg_spot r i l)) more,
-    )
+    let more : suc k + j ≡ k + suc j = omega arith in
+    (length x.legs + later.0, rw (past (length x.legs) later.0, rest (length x.legs) later.0) (later.1 ∙ ap (λ i. Ok (leg_spot r i l)) more))
 
 -- the number that stands so far beyond the legs of a run
 beyond_jobs : (r k : ℕ) (jobs : List Job) (m : ℕ) → (n : ℕ) × (leg_in_jobs r k jobs n ≡ Err m)
 beyond_jobs r k [] m = (m, refl)
 beyond_jobs r k (x ∷ xs) m =
-    let later = beyond_jobs r (suc k) xs m in (
-      length x.legs + later.0,
-      ap (λ c. if c then Ok (leg_spot r k (length x.legs + later.0)) else leg_in_jobs r (suc k) xs (length x.legs + later.0 - length x.legs)) (past (length x.legs) later.0)
-          ∙ ap (leg_in_jobs r (suc k) xs) (rest (length x.legs) later.0)
-          ∙ later.1,
-    )
+    let later = beyond_jobs r (suc k) xs m in
+    (length x.legs + later.0, rw (past (length x.legs) later.0, rest (length x.legs) later.0) later.1)
 
 -- by which number the leg at a place is found
 pub leg_numbered : (k : ℕ) (runs : List Run) (i j l : ℕ) (run : Run) (job : Job) → slice_get runs i ≡ Some run → slice_get run.jobs j ≡ Some job → l < length job.legs
@@ -134,25 +125,17 @@ leg_numbered k [] i j l run job at there within = absurd (no_some run at)
 leg_numbered k (x ∷ xs) zero j l run job at there within =
     let here = found_in_jobs k 0 x.jobs j l job (ap (λ (y : Run). slice_get y.jobs j) (same_some x run at) ∙ there) within in
     let none : 0 + j ≡ j = omega arith in
-    let same : k ≡ k + 0 = omega arith in (
-      here.0,
-      ap (λ o. else_from o (λ left. leg_place_from (suc k) xs left)) here.1
-          ∙ ap (λ i. Some (leg_spot k i l)) none
-          ∙ ap (λ r. Some (leg_spot r j l)) same,
-    )
+    let same : k ≡ k + 0 = omega arith in
+    (here.0, rw here.1 (λ i. Some (leg_spot (same i) (none i) l)))
 leg_numbered k (x ∷ xs) (suc i) j l run job at there within =
     let later = leg_numbered (suc k) xs i j l run job at there within in
     let before = beyond_jobs k 0 x.jobs later.0 in
-    let more : suc k + i ≡ k + suc i = omega arith in (
-      before.0,
-      ap (λ o. else_from o (λ left. leg_place_from (suc k) xs left)) before.1
-          ∙ later.1
-          ∙ ap (λ r. Some (leg_spot r j l)) more,
-    )
+    let more : suc k + i ≡ k + suc i = omega arith in
+    (before.0, rw before.1 (later.1 ∙ ap (λ r. Some (leg_spot r j l)) more))
 
 -- the place that its number tells is that of a leg
 pub place_at : (p : Plan) (b : Board) (r j l : ℕ) (plan : RunPlan) (run : Run) (job : Job) → HasShape p b → slice_get p.runs r ≡ Some plan → slice_get b.runs r ≡ Some run
-    → slice_get run.jobs j ≡ Some job → l < length job.legs → leg_place b (before_run r p.runs + (before_job j plan.jobs + l)) ≡ Some (leg_spot r j l)
+    → slice_get run.jobs j ≡ Some job → l < length job.legs → leg_place b (before_run r p.runs + before_job j plan.jobs + l) ≡ Some (leg_spot r j l)
 place_at p b r j l plan run job shape planned in_board there within =
     let found = leg_numbered 0 b.runs r j l run job in_board there within in
     let none : 0 + r ≡ r = omega arith in

@@ -1,15 +1,15 @@
 -- What stands in pairs that are laid over one another.
-use Rattle.std.proofs.Common.{◌≡◌, ℕ, zero, suc, Bool, true, false, cond, if◌then◌else◌, Option, Some, None, List, [], ◌∷◌, map, Ordering, Less, refl, sym, ap, subst, ◌∙◌}
+use Rattle.std.proofs.Common.{◌≡◌, ℕ, zero, suc, Bool, true, false, cond, if◌then◌else◌, Option, Some, None, List, [], ◌∷◌, map, refl, sym, ap, subst, ◌∙◌}
 use Rattle.std.proofs.lemmas.Bool.{true≢false}
 use Rattle.std.proofs.lemmas.Map.Text.{is_eq-slice_cmp}
-use Rattle.std.proofs.lemmas.Option.{none-some, same_Some}
 use Rattle.std.proofs.lemmas.Slice.Eq.{bytes_eq-Decides}
 use Rattle.std.specs.Cmp.Lexicographic.{slice_cmp}
-use Rattle.std.specs.List.{AllByRecursion, filter_map, cons_option, slice_get}
+use Rattle.std.specs.List.{filter_map, cons_option, slice_get}
 use Rattle.std.specs.List.Sorted.{IsStrictlySortedBy}
 use Rattle.std.specs.Ordering.{nat_cmp, is_eq}
-use Rattle.status_table.specs.Words.{Ascends, Env, keys_of, laid_over, or_below, overlaid, value_at, with_pair}
-use Rattle.flow_model.proofs.Lookups.{found_other, found_same}
+use Rattle.status_table.specs.Words.{Ascends, Env, laid_over, or_below, overlaid, value_at, with_pair}
+use Rattle.flow_model.proofs.Lookups.{found_other, found_same, none_below as none_under}
+use Rattle.flow_model.proofs.Places.{same_Some}
 
 -- an item stands somewhere in a list
 abbrev pub IsIn : {T : Type 0} → T → List T → Type 0
@@ -19,14 +19,6 @@ IsIn x xs = (i : ℕ) × (slice_get xs i ≡ Some x)
 abbrev pub last_at : {V : Type 0} → List ℕ → List (List ℕ × V) → Option V
 last_at name [] = None
 last_at name (p ∷ ps) = or_below (last_at name ps) (if is_eq (slice_cmp nat_cmp name p.0) then Some p.1 else None)
-
--- ---- what is there
-
-pub no_some : {A : Type 0} {x : A} → None ≡ Some x → ⊥
-no_some {A} {x} h = none-some x h
-
-pub same_some : {A : Type 0} {x y : A} → Some x ≡ Some y → x ≡ y
-same_some {A} {x} {y} h = same_Some x y h
 
 -- ---- names
 
@@ -52,7 +44,7 @@ below_twice None below v true = refl
 below_twice above below v b = refl
 
 -- the last pair with a name is found, else what was below
-pub last_found : {V : Type 0} (name : List ℕ) (ps below : List (List ℕ × V)) → value_at name (laid_over ps below) ≡ or_below (last_at name ps) (value_at name below)
+last_found : {V : Type 0} (name : List ℕ) (ps below : List (List ℕ × V)) → value_at name (laid_over ps below) ≡ or_below (last_at name ps) (value_at name below)
 unfolding laid_over
 last_found name [] below = refl
 last_found name (p ∷ ps) below =
@@ -71,21 +63,14 @@ below_through (Some v) y z = refl
 pub laid_alone : {V : Type 0} (name : List ℕ) (ps : List (List ℕ × V)) → value_at name (laid_over ps []) ≡ last_at name ps
 laid_alone name ps = last_found name ps [] ∙ none_below (last_at name ps)
 
--- a key below all others is none of them
-none_under : {V : Type 0} (key : List ℕ) (ps : List (List ℕ × V)) → AllByRecursion (λ y. slice_cmp nat_cmp key y ≡ Less) (keys_of ps) → last_at key ps ≡ None
-none_under key [] h = refl
-none_under {V} key (p ∷ ps) h =
-    ap (λ (o : Option V). or_below o (cond (is_eq (slice_cmp nat_cmp key p.0)) (Some p.1) None)) (none_under key ps h.1)
-    ∙ ap (λ (o : Ordering). cond (is_eq o) (Some p.1) None) h.0
-
 -- where names ascend the last pair with a name is the first
-pub ascending_last : {V : Type 0} (name : List ℕ) (ps : List (List ℕ × V)) → Ascends ps → last_at name ps ≡ value_at name ps
+ascending_last : {V : Type 0} (name : List ℕ) (ps : List (List ℕ × V)) → Ascends ps → last_at name ps ≡ value_at name ps
 unfolding IsStrictlySortedBy
 ascending_last name [] h = refl
 ascending_last {V} name (p ∷ ps) h = by (is_eq (slice_cmp nat_cmp name p.0)) refl (ascending_last name ps h.1)
   where
     by : (b : Bool) → is_eq (slice_cmp nat_cmp name p.0) ≡ b → last_at name ps ≡ value_at name ps → or_below (last_at name ps) (cond b (Some p.1) None) ≡ cond b (Some p.1) (value_at name ps)
-    by true same others = ap (λ (o : Option V). or_below o (Some p.1)) (subst (λ (n : List ℕ). last_at n ps ≡ None) (sym (name_is name p.0 same)) (none_under p.0 ps h.0))
+    by true same others = ap (λ (o : Option V). or_below o (Some p.1)) (others ∙ ap (λ (n : List ℕ). value_at n ps) (name_is name p.0 same) ∙ none_under p.0 ps h.0)
     by false same others = none_below (last_at name ps) ∙ others
 
 -- one level over another: the higher that has a name gives it
@@ -96,12 +81,12 @@ one_found {V} level below name h = last_found name level below ∙ ap (λ (o : O
 first_in : {V : Type 0} (name : List ℕ) (p : List ℕ × V) (ps : List (List ℕ × V)) (v : V) (b : Bool) → is_eq (slice_cmp nat_cmp name p.0) ≡ b
     → cond b (Some p.1) None ≡ Some v → IsIn (name, v) (p ∷ ps)
 first_in {V} name p ps v true same is =
-    (zero, ap (λ (n : List ℕ). Some (n, p.1)) (sym (name_is name p.0 same)) ∙ ap (λ (w : V). Some (name, w)) (same_some is))
-first_in name p ps v false same is = absurd (no_some is)
+    (zero, ap (λ (n : List ℕ). Some (n, p.1)) (sym (name_is name p.0 same)) ∙ ap (λ (w : V). Some (name, w)) (same_Some is))
+first_in name p ps v false same is = absurd (cc)
 
 -- what is found stands there
 pub found_in : {V : Type 0} (name : List ℕ) (ps : List (List ℕ × V)) (v : V) → last_at name ps ≡ Some v → IsIn (name, v) ps
-found_in name [] v is = absurd (no_some is)
+found_in name [] v is = absurd (cc)
 found_in {V} name (p ∷ ps) v is = by (last_at name ps) refl (found_in name ps v) is
   where
     by : (o : Option V) → last_at name ps ≡ o → (last_at name ps ≡ Some v → IsIn (name, v) ps) → or_below o (cond (is_eq (slice_cmp nat_cmp name p.0)) (Some p.1) None) ≡ Some v → IsIn (name, v) (p ∷ ps)
@@ -110,9 +95,9 @@ found_in {V} name (p ∷ ps) v is = by (last_at name ps) refl (found_in name ps 
 
 -- where a pair stands, the name is found
 pub in_found : {V : Type 0} (name : List ℕ) (v : V) (ps : List (List ℕ × V)) (i : ℕ) → slice_get ps i ≡ Some (name, v) → (w : V) × (last_at name ps ≡ Some w)
-in_found name v [] i there = absurd (no_some there)
+in_found name v [] i there = absurd (cc)
 in_found {V} name v (p ∷ ps) zero there =
-    let is : p ≡ (name, v) = same_some there in by (last_at name ps) (ap (λ (q : List ℕ × V). is_eq (slice_cmp nat_cmp name q.0)) is ∙ name_same name)
+    let is : p ≡ (name, v) = same_Some there in by (last_at name ps) (ap (λ (q : List ℕ × V). is_eq (slice_cmp nat_cmp name q.0)) is ∙ name_same name)
   where
     by : (o : Option V) → is_eq (slice_cmp nat_cmp name p.0) ≡ true → (w : V) × (or_below o (cond (is_eq (slice_cmp nat_cmp name p.0)) (Some p.1) None) ≡ Some w)
     by (Some w) same = (w, refl)
@@ -131,9 +116,9 @@ nothing-laid f (x ∷ xs) below none =
 
 -- what some item has stands there
 pub kept_in : {X Y : Type 0} (f : X → Option Y) (xs : List X) (k : ℕ) (x : X) (y : Y) → slice_get xs k ≡ Some x → f x ≡ Some y → IsIn y (filter_map f xs)
-kept_in f [] k x y there has = absurd (no_some there)
+kept_in f [] k x y there has = absurd (cc)
 kept_in {X} {Y} f (z ∷ xs) zero x y there has =
-    (zero, ap (λ (o : Option Y). slice_get (cons_option o (filter_map f xs)) zero) (ap f (same_some there) ∙ has))
+    (zero, ap (λ (o : Option Y). slice_get (cons_option o (filter_map f xs)) zero) (ap f (same_Some there) ∙ has))
 kept_in {X} {Y} f (z ∷ xs) (suc k) x y there has = by (f z) (kept_in f xs k x y there has)
   where
     by : (o : Option Y) → IsIn y (filter_map f xs) → IsIn y (cons_option o (filter_map f xs))
@@ -142,7 +127,7 @@ kept_in {X} {Y} f (z ∷ xs) (suc k) x y there has = by (f z) (kept_in f xs k x 
 
 -- what stands there some item has
 pub in_kept : {X Y : Type 0} (f : X → Option Y) (xs : List X) (i : ℕ) (y : Y) → slice_get (filter_map f xs) i ≡ Some y → (k : ℕ) × (x : X) × (slice_get xs k ≡ Some x) × (f x ≡ Some y)
-in_kept f [] i y there = absurd (no_some there)
+in_kept f [] i y there = absurd (cc)
 in_kept {X} {Y} f (z ∷ xs) i y there = by (f z) refl (λ n h. in_kept f xs n y h) i there
   where
     by : (o : Option Y) → f z ≡ o → ((n : ℕ) → slice_get (filter_map f xs) n ≡ Some y → (k : ℕ) × (x : X) × (slice_get xs k ≡ Some x) × (f x ≡ Some y)) → (i : ℕ) → slice_get (cons_option o (filter_map f xs)) i ≡ Some y → (k : ℕ) × (x : X) × (slice_get (z ∷ xs) k ≡ Some x) × (f x ≡ Some y)

@@ -71,12 +71,17 @@ judged-or s h = refl
 abbrev pub jobs_of : Answers → ℕ → RunPlan → List SettledJob
 jobs_of answers first run = jobs_from answers run first [] run.jobs
 
+-- a job of such a run, at its place
+abbrev pub JobPlayedAt : Answers → ℕ → RunPlan → (ℕ → Option StepCall) → ℕ → JobPlan → Job → Type 0
+JobPlayedAt answers first run calls j plan job =
+    JobPlayed answers run (take j (jobs_of answers first run)) (first + before_job j run.jobs) plan calls job
+
 -- A run whose first leg has this number, not told to stop and in no group.
 pub record RunPlayed (answers : Answers) (first : ℕ) (plan : RunPlan) (calls : ℕ → Option StepCall) (run : Run) : Type 0 where
   pub stop : run.stop ≡ false
   pub group : run.group ≡ None
   pub jobs : (j : ℕ) (job_plan : JobPlan) (job : Job) → slice_get plan.jobs j ≡ Some job_plan → slice_get run.jobs j ≡ Some job
-      → JobPlayed answers plan (take j (jobs_of answers first plan)) (first + before_job j plan.jobs) job_plan calls job
+      → JobPlayedAt answers first plan calls j job_plan job
   pub needs : (j : ℕ) (job_plan : JobPlan) (job : Job) → slice_get plan.jobs j ≡ Some job_plan → slice_get run.jobs j ≡ Some job
       → is_judged job.state ≡ true → needs_have_ended (job_plan.number - j) run job_plan ≡ true
   pub closed : (result : Outcome) → run.state ≡ RunState.Closed result → (run_after (jobs_of answers first plan)).result ≡ Some result
@@ -102,19 +107,12 @@ pub job_item : (answers : Answers) (run : RunPlan) (first : ℕ) (before : List 
     ≡ Some (job_settled answers run (first + before_job j jobs) (before ++ take j (jobs_from answers run first before jobs)) plan)
 job_item answers run first before [] j plan is = cc
 job_item answers run first before (x ∷ xs) zero plan is =
-    let same : x ≡ plan = some x plan is in
+    let same : x ≡ plan = cc is in
     let none : first ≡ first + 0 = omega arith in
-    ap (λ (y : JobPlan). Some (job_settled answers run first before y)) same
-    ∙ ap (λ n. Some (job_settled answers run n before plan)) none
-    ∙ ap (λ (b : List SettledJob). Some (job_settled answers run (first + 0) b plan)) (sym (append-nil before))
-  where
-    some : (a b : JobPlan) → Some a ≡ Some b → a ≡ b
-    some a b h = cc
+    λ i. Some (job_settled answers run (none i) (sym (append-nil before) i) (same i))
 job_item answers run first before (x ∷ xs) (suc j) plan is =
     let given : SettledJob = job_settled answers run first before x in
     let later = job_item answers run (first + length x.legs) (before ++ given ∷ []) xs j plan is in
     let number : first + length x.legs + before_job j xs ≡ first + (length x.legs + before_job j xs) = omega arith in
-    later
-    ∙ ap (λ n. Some (job_settled answers run n ((before ++ given ∷ []) ++ take j (jobs_from answers run (first + length x.legs) (before ++ given ∷ []) xs)) plan)) number
-    ∙ ap (λ (b : List SettledJob). Some (job_settled answers run (first + (length x.legs + before_job j xs)) b plan))
-    (append_assoc before (given ∷ []) (take j (jobs_from answers run (first + length x.legs) (before ++ given ∷ []) xs)))
+    let more = append_assoc before (given ∷ []) (take j (jobs_from answers run (first + length x.legs) (before ++ given ∷ []) xs)) in
+    later ∙ λ i. Some (job_settled answers run (number i) (more i) plan)

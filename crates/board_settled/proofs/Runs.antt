@@ -1,23 +1,25 @@
 -- A run on a quiet board beside what is settled of it.
-use Rattle.std.proofs.Common.{◌≡◌, ◌↔◌, ℕ, zero, suc, ◌+◌, ◌-◌, ◌<◌, ◌≤◌, ◌&&◌, ◌||◌, Bool, true, false, List, [], ◌∷◌, ◌++◌, Some, option_map, length, map, take, drop, slice_get, nat_le, nat_lt, IsTrue, ap, subst, sym, refl, ◌∙◌, arith, take_all}
-use Rattle.std.specs.List.{list_any, flat_map, AllZip}
+use Rattle.std.proofs.Common.{◌≡◌, ◌↔◌, ℕ, zero, suc, ◌+◌, ◌-◌, ◌<◌, ◌≤◌, ◌&&◌, Bool, true, false, List, [], ◌∷◌, ◌++◌, Some, option_map, length, map, take, drop, slice_get, nat_le, nat_lt, IsTrue, ap, subst, subst₂, sym, refl, ◌∙◌, arith, take_all}
+use Rattle.std.specs.List.{flat_map, AllZip}
 use Rattle.std.proofs.lemmas.Bool.{true≢false, le-leb}
 use Rattle.std.proofs.lemmas.List.{length-append, take_more}
 use Rattle.std.proofs.lemmas.Option.{slice_get_within, get_or_from_slice_get}
-use Rattle.status_table.specs.Words.{Board, Each, Job, JobAt, JobFits, JobPlace, JobPlan, JobShape, NeedsPointBack, Plan, Run, RunAt, RunFits, RunPlan, RunShape, RunState, StandsAfterNeeds, first_job, is_any_job_cancelled, is_any_job_failed, is_cancelled, is_failure, job_in_run, job_result, job_results, run_at, run_result, ◌>>=◌}
+use Rattle.status_table.specs.Words.{Board, Each, Job, JobAt, JobFits, JobPlan, JobShape, NeedsPointBack, Plan, Run, RunAt, RunFits, RunShape, RunState, StandsAfterNeeds, first_job, job_in_run, run_at, run_result}
 use Rattle.board_settled.specs.Alone.{SeesSettled}
 use Rattle.board_settled.specs.Quiet.{quiet_run}
 use Rattle.board_settled.specs.Runs.{RunStands}
 use Rattle.board_settled.proofs.Comes.{job_comes}
-use Rattle.board_settled.proofs.Needs.{ComesAt, IsOrdered, board_sees_settled, each_result}
+use Rattle.board_settled.proofs.Needs.{ComesAt, IsOrdered, board_sees_settled, each_result, jobs_result}
 use Rattle.board_settled.specs.Agrees.{JobIsSettled, RunIsSettled}
-use Rattle.board_settled.specs.Settled.{Answers, SettledJob, SettledRun, worst, jobs_come_to, job_settled, run_settled, leg_count, runs_from}
-use Rattle.board_settled.proofs.InPlay.{is_ordered}
-use Rattle.board_settled.proofs.Lists.{get-take, item, all-of, any-map}
+use Rattle.board_settled.specs.Settled.{Answers, SettledJob, SettledRun, jobs_come_to, job_settled, run_settled, leg_count, runs_from}
+use Rattle.board_settled.proofs.InPlay.{FoundJob, found_job, is_ordered}
+use Rattle.board_settled.proofs.Lists.{get-take, all-of}
 use Rattle.board_settled.proofs.Numbers.{before_job}
 use Rattle.board_settled.proofs.Played.{jobs_of, jobs_size, job_item}
+use Rattle.flow_model.proofs.Places.{slice_get_there}
 use Rattle.status_table.proofs.Counts.{zip-left}
-use Rattle.status_table.proofs.Lists.{bind-some, zip-get, zip-length, zip-append}
+use Rattle.status_table.proofs.Found.{RunStands as RunFound, run_stands}
+use Rattle.status_table.proofs.Lists.{zip-get, zip-length, zip-append}
 use Rattle.board_decisions.proofs.Lists.{and-both, same_some, no_some}
 use Rattle.status_table.proofs.Standings.{drop_at}
 
@@ -49,30 +51,11 @@ before-all (j ∷ js) (suc n) h =
     let all = length-append j.legs (flat_map (λ (x : JobPlan). x.legs) js) in
     omega (arith, later, all)
 
--- ---- a job that is found in its run
-
-record FoundJob (b : Board) (plan : RunPlan) (run : Run) (place : JobPlace) (at : JobAt) : Type 0 where
-  planned : slice_get plan.jobs place.job ≡ Some at.plan
-  there : slice_get run.jobs place.job ≡ Some at.job
-  is : at ≡ record { board = b; place = place; run_plan = plan; plan = at.plan; run = run; job = at.job }
-
-found_job : (b : Board) (plan : RunPlan) (run : Run) (place : JobPlace) (at : JobAt) → job_in_run b plan run place ≡ Some at → FoundJob b plan run place at
-found_job b plan run place at h =
-    let one = bind-some (slice_get plan.jobs place.job) (λ p. slice_get run.jobs place.job >>= λ j.
-    Some (let x : JobAt = record { board = b; place = place; run_plan = plan; plan = p; run = run; job = j } in x)) at h in
-    let two = bind-some (slice_get run.jobs place.job) (λ j.
-    Some (let x : JobAt = record { board = b; place = place; run_plan = plan; plan = one.0; run = run; job = j } in x)) at one.2 in
-    let same : record { board = b; place = place; run_plan = plan; plan = one.0; run = run; job = two.0 } ≡ at = same_some _ at two.2 in
-    subst (FoundJob b plan run place) same (record { planned = one.1; there = two.1; is = refl })
-
 -- ---- a run
 
-module _ (answers : Answers) (r first : ℕ) (at : RunAt) (stands : RunStands r at) (back : NeedsPointBack) where
+module _ {r : ℕ} {at : RunAt} (stands : RunStands r at) (back : NeedsPointBack) where
   abbrev p : Plan
   p = stands.whole
-
-  abbrev all : List SettledJob
-  all = jobs_of answers first at.plan
 
   ordered : IsOrdered (first_job p r) at.plan.jobs
   ordered = is_ordered back p stands.board.rules r at.plan stands.planned
@@ -83,129 +66,121 @@ module _ (answers : Answers) (r first : ℕ) (at : RunAt) (stands : RunStands r 
   fits_here : AllZip (JobFits at.run.state at.run.group) at.plan.jobs at.run.jobs
   fits_here = zip-get RunFits p.runs at.board.runs r at.plan at.run stands.planned stands.in_board stands.board.fits
 
-  sizes : length all ≡ length at.run.jobs
-  sizes = jobs_size answers at.plan first [] at.plan.jobs ∙ zip-length JobShape at.plan.jobs at.run.jobs shape_here
-
-  -- a job before a place, where all before it are settled
-  comes_at : (j : ℕ) → JobsAreSettled (take j all) (take j at.run.jobs) → (i : ℕ) → i < j → i < length at.run.jobs → ComesAt at.board r at.plan at.run all i
-  comes_at j h i less within =
-      let there = item at.run.jobs i within in
-      let planned = zip-left JobShape at.plan.jobs at.run.jobs i there.0 there.1 shape_here in
-      let given = job_settled answers at.plan (first + before_job i at.plan.jobs) (take i all) planned.0 in
-      let is_given : slice_get all i ≡ Some given = job_item answers at.plan first [] at.plan.jobs i planned.0 planned.1 in
-      let settled = zip-get (λ given job. JobIsSettled given job.legs job.state) (take j all) (take j at.run.jobs) i given there.0
-      (get-take all j i less ∙ is_given) (get-take at.run.jobs j i less ∙ there.1) h in
-      record {
-        job_plan = planned.0;
-        job = there.0;
-        is_planned = planned.1;
-        is_there = there.1;
-        given = given;
-        is_given = is_given;
-        comes = job_comes p at.board (record { run = r; job = i }) at.plan at.run planned.0 given there.0 stands.board.shape stands.board.ends stands.planned stands.in_board there.1
-            (zip-get (JobFits at.run.state at.run.group) at.plan.jobs at.run.jobs i planned.0 there.0 planned.1 there.1 fits_here) settled;
-      }
-
   -- ---- the next job
 
   module _ (j : ℕ) (x : JobAt) (found : Some x ≡ job_in_run at.board at.plan at.run (record { run = r; job = j })) where
-    abbrev place : JobPlace
-    place = record { run = r; job = j }
-
-    job_found : FoundJob at.board at.plan at.run place x
-    job_found = found_job at.board at.plan at.run place x (sym found)
-
-    abbrev seen : JobAt
-    seen = record { board = at.board; place = place; run_plan = at.plan; plan = x.plan; run = at.run; job = x.job }
-
-    within : j < length at.run.jobs
-    within = slice_get_within at.run.jobs j x.job job_found.there
+    job_found : FoundJob at.board at.plan at.run (record { run = r; job = j }) x
+    job_found = found_job at.board at.plan at.run (record { run = r; job = j }) x (sym found)
 
     pub size_job : length x.job.legs ≡ length x.plan.legs
     size_job = (zip-get JobShape at.plan.jobs at.run.jobs j x.plan x.job job_found.planned job_found.there shape_here).legs
 
     -- it stands after all that it needs
     pub stands_job : (n : ℕ) → n ≡ x.plan.number - j → StandsAfterNeeds n x
-    stands_job n is =
-        let first_is = is ∙ ordered.number j x.plan job_found.planned in
-        subst (StandsAfterNeeds n) (sym job_found.is) (subst (λ m. StandsAfterNeeds m seen) (sym first_is) (record {
-          back = λ k job there. all-of (λ need. nat_le (first_job p r) need && nat_lt need (first_job p r + k)) job.needs (λ i need here.
-              let both = (back p stands.board.rules r k at.plan job stands.planned there).1 i need here in
-              and-both (nat_le (first_job p r) need) (nat_lt need (first_job p r + k)) (le-leb (first_job p r) need both.0) (le-leb (suc need) (first_job p r + k) both.1));
-          within = slice_get_within at.plan.jobs j x.plan job_found.planned;
-        }))
+    stands_job n is = subst₂ StandsAfterNeeds (sym (is ∙ ordered.number j x.plan job_found.planned)) (sym job_found.is) (record {
+      back = λ k job there. all-of (λ need. nat_le (first_job p r) need && nat_lt need (first_job p r + k)) job.needs (λ i need here.
+          let both = (back p stands.board.rules r k at.plan job stands.planned there).1 i need here in
+          and-both (nat_le (first_job p r) need) (nat_lt need (first_job p r + k)) (le-leb (first_job p r) need both.0) (le-leb (suc need) (first_job p r + k) both.1));
+      within = slice_get_within at.plan.jobs j x.plan job_found.planned;
+    })
 
-    pub next_number : (next : ℕ) → next ≡ first + before_job j at.plan.jobs → (more : ℕ) → more ≡ next + length x.job.legs → more ≡ first + before_job (j + 1) at.plan.jobs
-    next_number next next_is more is =
+    pub next_number : (first next : ℕ) → next ≡ first + before_job j at.plan.jobs → (more : ℕ) → more ≡ next + length x.job.legs → more ≡ first + before_job (j + 1) at.plan.jobs
+    next_number first next next_is more is =
         let size = size_job in
         let before = before-more at.plan.jobs j x.plan job_found.planned in
         omega (arith, is, size, before, next_is)
 
-    module _ (n : ℕ) (n_is : n ≡ x.plan.number - j) (next : ℕ) (next_is : next ≡ first + before_job j at.plan.jobs) (so_far : JobsAreSettled (take j all) (take j at.run.jobs))
+  pub last_number : (n : ℕ) → length at.run.jobs ≤ n → (first next : ℕ) → next ≡ first + before_job n at.plan.jobs → next ≡ first + leg_count at.plan.jobs
+  last_number n through first next is =
+      let long = zip-length JobShape at.plan.jobs at.run.jobs shape_here in
+      let count = before-all at.plan.jobs n (omega (arith, long, through)) in
+      omega (arith, is, count)
+
+  -- ---- what is settled of it
+
+  module _ (answers : Answers) (first : ℕ) where
+    abbrev all : List SettledJob
+    all = jobs_of answers first at.plan
+
+    sizes : length all ≡ length at.run.jobs
+    sizes = jobs_size answers at.plan first [] at.plan.jobs ∙ zip-length JobShape at.plan.jobs at.run.jobs shape_here
+
+    -- a job before a place, where all before it are settled
+    comes_at : (j : ℕ) → JobsAreSettled (take j all) (take j at.run.jobs) → (i : ℕ) → i < j → i < length at.run.jobs → ComesAt at.board r at.plan at.run all i
+    comes_at j h i less within =
+        let (job, there) = slice_get_there at.run.jobs i within in
+        let (plan, planned, shape) = zip-left JobShape at.plan.jobs at.run.jobs i job there shape_here in
+        let given = job_settled answers at.plan (first + before_job i at.plan.jobs) (take i all) plan in
+        let is_given : slice_get all i ≡ Some given = job_item answers at.plan first [] at.plan.jobs i plan planned in
+        let settled = zip-get (λ given job. JobIsSettled given job.legs job.state) (take j all) (take j at.run.jobs) i given job
+        (get-take all j i less ∙ is_given) (get-take at.run.jobs j i less ∙ there) h in
+        record {
+          job_plan = plan;
+          job = job;
+          is_planned = planned;
+          is_there = there;
+          given = given;
+          is_given = is_given;
+          comes = job_comes (record { shape = stands.board.shape; planned = stands.planned; in_board = stands.in_board; in_run = there }) stands.board.ends plan
+              (zip-get (JobFits at.run.state at.run.group) at.plan.jobs at.run.jobs i plan job planned there fits_here) given settled;
+        }
+
+    module _ (j : ℕ) (x : JobAt) (found : Some x ≡ job_in_run at.board at.plan at.run (record { run = r; job = j })) (n : ℕ) (n_is : n ≡ x.plan.number - j)
+        (next : ℕ) (next_is : next ≡ first + before_job j at.plan.jobs) (so_far : JobsAreSettled (take j all) (take j at.run.jobs))
         (yes : Bool) (here : (before : List SettledJob) → SeesSettled n before x → IsTrue yes ↔ JobIsSettled (job_settled answers x.run_plan next before x.plan) x.job.legs x.job.state) where
       abbrev given : SettledJob
       given = job_settled answers at.plan (first + before_job j at.plan.jobs) (take j all) x.plan
 
+      there : FoundJob at.board at.plan at.run (record { run = r; job = j }) x
+      there = job_found j x found
+
       is_given : slice_get all j ≡ Some given
-      is_given = job_item answers at.plan first [] at.plan.jobs j x.plan job_found.planned
+      is_given = job_item answers at.plan first [] at.plan.jobs j x.plan there.planned
 
       sees : SeesSettled n (take j all) x
       sees =
           let long = sizes in
-          let less = within in
-          subst (SeesSettled n (take j all)) (sym job_found.is) (subst (λ m. SeesSettled m (take j all) seen) (sym (n_is ∙ ordered.number j x.plan job_found.planned))
+          let less = slice_get_within at.run.jobs j x.job there.there in
+          subst₂ (λ m y. SeesSettled m (take j all) y) (sym (n_is ∙ ordered.number j x.plan there.planned)) (sym there.is)
           (board_sees_settled at.board r (first_job p r) at.plan at.run all ordered j (λ i under. comes_at j so_far i under (omega (arith, under, less)))
-          x.plan job_found.planned (omega (arith, long, less)) x.job))
-
-      same : job_settled answers x.run_plan next (take j all) x.plan ≡ given
-      same =
-          ap (λ (y : JobAt). job_settled answers y.run_plan next (take j all) x.plan) job_found.is
-          ∙ ap (λ m. job_settled answers at.plan m (take j all) x.plan) next_is
+          x.plan there.planned (omega (arith, long, less)) x.job)
 
       settled_here : IsTrue yes ↔ JobIsSettled given x.job.legs x.job.state
-      settled_here = subst (λ (g : SettledJob). IsTrue yes ↔ JobIsSettled g x.job.legs x.job.state) same (here (take j all) sees)
+      settled_here = subst (λ (g : SettledJob). IsTrue yes ↔ JobIsSettled g x.job.legs x.job.state) (λ i. job_settled answers (there.is i).run_plan (next_is i) (take j all) x.plan) (here (take j all) sees)
 
       -- where it is not settled, neither is the run
       pub run_fails : yes ≡ false → RunIsSettled (run_settled answers first at.plan) at.run → ⊥
       unfolding run_settled
       run_fails no_job h =
-          true≢false (sym (settled_here.1 (zip-get (λ g job. JobIsSettled g job.legs job.state) all at.run.jobs j given x.job is_given job_found.there h.jobs)) ∙ no_job)
+          true≢false (sym (settled_here.1 (zip-get (λ g job. JobIsSettled g job.legs job.state) all at.run.jobs j given x.job is_given there.there h.jobs)) ∙ no_job)
 
       pub one_more_job : yes ≡ true → JobsAreSettled (take (j + 1) all) (take (j + 1) at.run.jobs)
       one_more_job is =
-          subst (λ (xs : List SettledJob). JobsAreSettled xs (take (j + 1) at.run.jobs)) (sym (take-more all j given is_given))
-          (subst (λ (ys : List Job). JobsAreSettled (take j all ++ given ∷ []) ys) (sym (take-more at.run.jobs j x.job job_found.there))
-          (zip-append (λ g job. JobIsSettled g job.legs job.state) (take j all) (given ∷ []) (take j at.run.jobs) (x.job ∷ []) so_far (settled_here.0 is, tt)))
+          subst₂ JobsAreSettled (sym (take-more all j given is_given)) (sym (take-more at.run.jobs j x.job there.there))
+          (zip-append (λ g job. JobIsSettled g job.legs job.state) (take j all) (given ∷ []) (take j at.run.jobs) (x.job ∷ []) so_far (settled_here.0 is, tt))
 
-  -- ---- all jobs
+    -- ---- all jobs
 
-  pub last_number : (n : ℕ) → length at.run.jobs ≤ n → (next : ℕ) → next ≡ first + before_job n at.plan.jobs → next ≡ first + leg_count at.plan.jobs
-  last_number n through next is =
-      let long = zip-length JobShape at.plan.jobs at.run.jobs shape_here in
-      let count = before-all at.plan.jobs n (omega (arith, long, through)) in
-      omega (arith, is, count)
+    module _ (n : ℕ) (through : length at.run.jobs ≤ n) (so_far : JobsAreSettled (take n all) (take n at.run.jobs)) where
+      comes_to : (run_settled answers first at.plan).result ≡ Some (run_result at.run)
+      unfolding run_settled
+      comes_to =
+          ap (option_map jobs_come_to) (each_result at.board r at.plan at.run all sizes (λ i under. comes_at n so_far i (omega (arith, under, through)) under))
+          ∙ jobs_result at.run (stands.board.runs r at.run stands.in_board)
 
-  module _ (n : ℕ) (through : length at.run.jobs ≤ n) (so_far : JobsAreSettled (take n all) (take n at.run.jobs)) where
-    jobs_settled : JobsAreSettled all at.run.jobs
-    jobs_settled =
-        let long = sizes in
-        subst (λ (xs : List SettledJob). JobsAreSettled xs at.run.jobs) (take_all n all (omega (arith, long, through)))
-        (subst (λ (ys : List Job). JobsAreSettled (take n all) ys) (take_all n at.run.jobs through) so_far)
+      pub run_comes : at.run.state ≡ RunState.Closed (run_result at.run) → RunIsSettled (run_settled answers first at.plan) at.run
+      unfolding run_settled
+      run_comes is =
+          let long = sizes in
+          record {
+            jobs = subst₂ JobsAreSettled (take_all n all (omega (arith, long, through))) (take_all n at.run.jobs through) so_far;
+            result = run_result at.run;
+            state = is;
+            given_result = comes_to;
+          }
 
-    comes_to : (run_settled answers first at.plan).result ≡ Some (run_result at.run)
-    unfolding run_settled
-    comes_to =
-        ap (option_map jobs_come_to) (each_result at.board r at.plan at.run all sizes (λ i under. comes_at n so_far i (omega (arith, under, through)) under))
-        ∙ ap (λ c. Some (worst c (list_any is_cancelled (job_results at.run)))) (any-map is_failure (job_result at.run) at.run.jobs)
-        ∙ ap (λ c. Some (worst (is_any_job_failed at.run) c)) (any-map is_cancelled (job_result at.run) at.run.jobs)
-        ∙ ap (λ c. Some (worst (is_any_job_failed at.run) (c || is_any_job_cancelled at.run))) (sym (stands.board.runs r at.run stands.in_board))
-
-    pub run_comes : at.run.state ≡ RunState.Closed (run_result at.run) → RunIsSettled (run_settled answers first at.plan) at.run
-    unfolding run_settled
-    run_comes is = record { jobs = jobs_settled; result = run_result at.run; state = is; given_result = comes_to }
-
-    pub only_closed : RunIsSettled (run_settled answers first at.plan) at.run → at.run.state ≡ RunState.Closed (run_result at.run)
-    only_closed h = h.state ∙ ap (λ o. RunState.Closed o) (same_some h.result (run_result at.run) (sym h.given_result ∙ comes_to))
+      pub only_closed : RunIsSettled (run_settled answers first at.plan) at.run → at.run.state ≡ RunState.Closed (run_result at.run)
+      only_closed h = h.state ∙ ap (λ o. RunState.Closed o) (same_some h.result (run_result at.run) (sym h.given_result ∙ comes_to))
 
 -- ---- the runs that are left
 
@@ -213,38 +188,17 @@ module _ (answers : Answers) (p : Plan) (b : Board) (first r : ℕ) (at : RunAt)
   abbrev Left : ℕ → ℕ → Type 0
   Left n i = AllZip RunIsSettled (runs_from answers n (drop i p.runs)) (drop i b.runs)
 
-  plan_there : (plan : RunPlan) × (slice_get p.runs r ≡ Some plan) × ((slice_get b.runs r >>= λ run. Some (let x : RunAt = record { board = b; plan = plan; run = run } in x)) ≡ Some at)
-  plan_there = bind-some (slice_get p.runs r) (λ plan. slice_get b.runs r >>= λ run. Some (let x : RunAt = record { board = b; plan = plan; run = run } in x)) at (sym found)
+  it : RunFound p b r at
+  it = run_stands p b r at (sym found)
 
-  run_there : (run : Run) × (slice_get b.runs r ≡ Some run) × (Some (let x : RunAt = record { board = b; plan = plan_there.0; run = run } in x) ≡ Some at)
-  run_there = bind-some (slice_get b.runs r) (λ run. Some (let x : RunAt = record { board = b; plan = plan_there.0; run = run } in x)) at plan_there.2
-
-  at_is : record { board = b; plan = plan_there.0; run = run_there.0 } ≡ at
-  at_is = same_some _ at run_there.2
-
-  planned : slice_get p.runs r ≡ Some at.plan
-  planned = plan_there.1 ∙ ap (λ (x : RunAt). Some x.plan) at_is
-
-  in_board : slice_get b.runs r ≡ Some at.run
-  in_board = run_there.1 ∙ ap (λ (x : RunAt). Some x.run) at_is
-
-  abbrev here : SettledRun
-  here = run_settled answers first at.plan
-
-  abbrev later : List SettledRun
-  later = runs_from answers (first + leg_count at.plan.jobs) (drop (r + 1) p.runs)
-
-  left_is : runs_from answers first (drop r p.runs) ≡ here ∷ later
-  left_is = ap (runs_from answers first) (drop_at p.runs r at.plan planned)
+  left_is : runs_from answers first (drop r p.runs) ≡ run_settled answers first at.plan ∷ runs_from answers (first + leg_count at.plan.jobs) (drop (r + 1) p.runs)
+  left_is = ap (runs_from answers first) (drop_at p.runs r at.plan it.plan)
 
   pub next_run : Left first r → RunIsSettled (run_settled answers first at.plan) at.run × Left (first + leg_count at.plan.jobs) (r + 1)
-  next_run h =
-      subst (λ (xs : List Run). AllZip RunIsSettled (here ∷ later) xs) (drop_at b.runs r at.run in_board) (subst (λ (xs : List SettledRun). AllZip RunIsSettled xs (drop r b.runs)) left_is h)
+  next_run h = subst₂ (AllZip RunIsSettled) left_is (drop_at b.runs r at.run it.run) h
 
   pub with_run : RunIsSettled (run_settled answers first at.plan) at.run → Left (first + leg_count at.plan.jobs) (r + 1) → Left first r
-  with_run h more =
-      subst (λ (xs : List SettledRun). AllZip RunIsSettled xs (drop r b.runs)) (sym left_is)
-      (subst (λ (xs : List Run). AllZip RunIsSettled (here ∷ later) xs) (sym (drop_at b.runs r at.run in_board)) (h, more))
+  with_run h more = subst₂ (AllZip RunIsSettled) (sym left_is) (sym (drop_at b.runs r at.run it.run)) (h, more)
 
 -- ---- the quiet copy of a board
 

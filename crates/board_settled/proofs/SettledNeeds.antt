@@ -11,9 +11,10 @@ use Rattle.board_decisions.proofs.Lists.{and-left, and-right, and-both, same_som
 use Rattle.status_table.proofs.Counts.{zip-left}
 use Rattle.status_table.proofs.Lists.{zip-get, zip-length, all-get}
 use Rattle.board_settled.proofs.Ends.{job_ended, is_over}
-use Rattle.board_settled.proofs.Lists.{item}
-use Rattle.board_settled.proofs.Needs.{ComesAt, IsOrdered, Reached, each_result, sees_settled}
+use Rattle.flow_model.proofs.Places.{slice_get_there}
+use Rattle.board_settled.proofs.Needs.{ComesAt, IsOrdered, Reached, each_result, ready_at, sees_settled}
 use Rattle.board_settled.proofs.Numbers.{before_run, before_job}
+use Rattle.board_settled.proofs.Outputs.{JobThere}
 use Rattle.board_settled.proofs.Played.{JobOver, jobs_of, RunPlayed, jobs_size, job_item}
 
 -- a run in play that is not Closed, with what is known of it
@@ -65,38 +66,38 @@ module _ (p : Plan) (b : Board) (answers : Answers) (calls : ℕ → Option Step
           let fits = zip-get (JobFits run.state run.group) plan.jobs run.jobs i there.0 x.0 there.1 x.1 seen.fits in
           let played = seen.played.jobs i there.0 x.0 there.1 x.1 in
           let free = seen.free.jobs i there.0 there.1 in
+          let stands : JobThere p b (record { run = r; job = i }) plan run x.0 = record { shape = seen.shape; planned = seen.planned; in_board = seen.in_board; in_run = x.1 } in
+          let starts = before_run r p.runs + before_job i plan.jobs in
           record {
             at = record {
               job_plan = there.0;
               job = x.0;
               is_planned = there.1;
               is_there = x.1;
-              given = job_settled answers plan (before_run r p.runs + before_job i plan.jobs) (take i settled_jobs) there.0;
+              given = job_settled answers plan starts (take i settled_jobs) there.0;
               is_given = job_item answers plan (before_run r p.runs) [] plan.jobs i there.0 there.1;
-              comes = job_ended p b answers (record { run = r; job = i }) plan run (take i settled_jobs) (before_run r p.runs + before_job i plan.jobs) there.0 calls x.0
-                  seen.shape seen.ends seen.planned seen.in_board x.1 seen.unclosed there.2.legs fits.some free played x.2;
+              comes = job_ended stands seen.ends seen.unclosed answers (take i settled_jobs) starts there.0 calls there.2.legs fits.some free played x.2;
             };
-            over = is_over p b answers (record { run = r; job = i }) plan run (take i settled_jobs) (before_run r p.runs + before_job i plan.jobs) there.0 calls x.0
-                seen.shape seen.ends seen.planned seen.in_board x.1 seen.unclosed there.2.legs fits.some free played x.2;
+            over = is_over stands seen.ends seen.unclosed answers (take i settled_jobs) starts there.0 calls there.2.legs fits.some free played x.2;
           }
 
   -- what a job needs stands before it and has ended
   abbrev ready : ℕ → ℕ → Bool
-  ready k need = holds_at ended (need - first) && nat_lt (need - first) k
+  ready k i = holds_at ended i && nat_lt i k
 
-  needs_ready : (j : ℕ) (job : JobPlan) → slice_get plan.jobs j ≡ Some job → needs_have_ended (job.number - j) run job ≡ true → list_all (ready j) job.needs ≡ true
+  needs_ready : (j : ℕ) (job : JobPlan) → slice_get plan.jobs j ≡ Some job → needs_have_ended (job.number - j) run job ≡ true → list_all (λ need. ready j (need - first)) job.needs ≡ true
   needs_ready j job is h =
       both-all (λ need. holds_at ended (need - first)) (λ need. nat_lt (need - first) j) job.needs
       (ap (λ n. needs_have_ended n run job) (sym (seen.ordered.number j job is)) ∙ h) (seen.ordered.needs j job is)
 
-  reached : (k need : ℕ) → ready k need ≡ true → Reached b r first plan run settled_jobs ready k need
-  reached k need ok =
-      let it = ended_at (need - first) (and-left (holds_at ended (need - first)) (nat_lt (need - first) k) ok) in
+  reached : (k i : ℕ) → ready k i ≡ true → Reached b r first plan run settled_jobs ready k i
+  reached k i ok =
+      let it = ended_at i (and-left (holds_at ended i) (nat_lt i k) ok) in
       let at = it.at in
       record {
-        less = leb-true (suc (need - first)) k (and-right (holds_at ended (need - first)) (nat_lt (need - first) k) ok);
+        less = leb-true (suc i) k (and-right (holds_at ended i) (nat_lt i k) ok);
         at = at;
-        further = λ job is. needs_ready (need - first) job is (seen.played.needs (need - first) job at.job is at.is_there it.over.judged);
+        further = ready_at (ready i) first plan.jobs i at.job_plan at.is_planned (needs_ready i at.job_plan at.is_planned (seen.played.needs i at.job_plan at.job at.is_planned at.is_there it.over.judged));
       }
 
   -- ---- a run whose jobs have ended
@@ -109,7 +110,7 @@ module _ (p : Plan) (b : Board) (answers : Answers) (calls : ℕ → Option Step
   sizes = jobs_size answers plan (before_run r p.runs) [] plan.jobs ∙ zip-length JobShape plan.jobs run.jobs shape_here
 
   pub each_given : jobs_have_ended run ≡ true → all_given (map result_of settled_jobs) ≡ Some (job_results run)
-  each_given all = each_result b r plan run settled_jobs sizes (λ i under. let job = item run.jobs i under in (ended_there all i job.0 job.1).at)
+  each_given all = each_result b r plan run settled_jobs sizes (λ i under. let job = slice_get_there run.jobs i under in (ended_there all i job.0 job.1).at)
 
   pub each_over : jobs_have_ended run ≡ true → (j : ℕ) (job : Job) → slice_get run.jobs j ≡ Some job → JobOver job
   each_over all j job is =
@@ -122,4 +123,4 @@ module _ (p : Plan) (b : Board) (answers : Answers) (calls : ℕ → Option Step
   needs_settled j job is h x =
       let all = jobs_size answers plan (before_run r p.runs) [] plan.jobs in
       let within = slice_get_within plan.jobs j job is in
-      sees_settled b r first plan run settled_jobs j ready (λ k need le ok. reached k need ok) job is (omega (arith, all, within)) (seen.ordered.number j job is) (needs_ready j job is h) x
+      sees_settled b r first plan run settled_jobs j ready (λ k i le. reached k i) job is (omega (arith, all, within)) (seen.ordered.number j job is) (needs_ready j job is h) x

@@ -30,6 +30,7 @@ pub fn leaving_is_shown()
 {}
 
 /// The other events ask nothing of the groups.
+#[tactic(auto, using(status_table::proofs::Still::judge_shows, status_table::proofs::Still::take_shows, status_table::proofs::Still::begin_shows, status_table::proofs::Still::end_shows, status_table::proofs::Still::cancel_shows))]
 pub fn others_ask_nothing()
     ensures judge { (j : ℕ) → StaysShown (event.Judge j) }
     ensures take { (l : ℕ) → StaysShown (event.Take l) }

@@ -14,6 +14,7 @@ use plan_values::waits_for_success;
 
 /// The status by which a job is judged says how its ancestors
 /// ended: the jobs that it needs, and their ancestors.
+#[tactic(auto, using(board_decisions::proofs::Backwards::status_says, status_table::proofs::Sound::stands_after_needs))]
 pub fn statuses_tell_of_ancestors()
     ensures { (p : Plan) (b : Board) (j : ℕ) (at : JobAt)
         → InPlay p b → job_at p b j ≡ Some at
@@ -22,6 +23,7 @@ pub fn statuses_tell_of_ancestors()
 
 /// After a step of a leg that counts as a failure, a step whose
 /// condition names no status function is never in a call.
+#[tactic(auto, using(crate::proofs::Decided::no_call_after_failure))]
 pub fn no_call_after_failure()
     ensures { NoCallAfterFailure }
 {
@@ -30,6 +32,7 @@ pub fn no_call_after_failure()
 
 /// The conclusion of a step that is done differs from its outcome only where the outcome is failure and its
 /// continue-on-error holds.
+#[tactic(auto, using(crate::proofs::Decided::only_failures_are_passed_over))]
 pub fn only_failures_are_passed_over()
     ensures { OnlyFailuresArePassedOver }
 {}

@@ -2,6 +2,7 @@
 
 ghost use Rattle.std.specs.Prelude.{◌≡◌, ◌≤◌, ◌++◌, [], ◌∷◌, IfOk, OnOk, length, map};
 ghost use Rattle.std.specs.List.{filter};
+ghost use Rattle.board_decisions.specs.Places.{numbers};
 ghost use Rattle.flow_model.specs.Numbers.{board_legs};
 ghost use Rattle.board_settled.specs.Quiet as spec;
 
@@ -52,9 +53,10 @@ fn note_ended(board: &Board, number: usize, made: &mut Sequence<u64>) -> Result<
 }
 
 /// The numbers below a count whose legs are Ended.
+#[tactic(auto, using(crate::proofs::Ordered::filter_more))]
 fn ended_below(alloc: Global, board: &Board, count: usize) -> Result<Sequence<u64>, AllocError>
     ensures { IfOk result (λ made. made
-        ≡ filter (spec.has_ended_at board.now) (spec.numbers 0 count)) }
+        ≡ filter (spec.has_ended_at board.now) (numbers count)) }
 {
     let mut made = Sequence::empty(alloc);
     for number in 0..count {

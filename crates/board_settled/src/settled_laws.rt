@@ -9,6 +9,7 @@ use flow_model::laws::{needs_point_back, rules_hold};
 /// nothing rests on the order of events, each step that is done, each leg that is Ended, each job that
 /// was judged and each run that is Closed is as settled, where each call has one answer. Where each run
 /// is Closed, the board is all of what is settled.
+#[tactic(auto, using(crate::proofs::Agreeing::plays_as_settled, crate::proofs::Agreeing::finishes_as_settled))]
 pub fn boards_agree_with_what_is_settled()
     ensures agrees { PlaysAsSettled }
     ensures finishes { FinishesAsSettled }

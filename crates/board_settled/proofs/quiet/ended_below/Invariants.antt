@@ -1,8 +1,9 @@
 use Rattle.std.proofs.Common.{◌≡◌}
 use Rattle.std.specs.List.{filter}
-use Rattle.board_settled.specs.Quiet.{numbers, has_ended_at}
+use Rattle.status_table.specs.Words.{numbers}
+use Rattle.board_settled.specs.Quiet.{has_ended_at}
 use Rattle.board_settled.proofs.quiet.ended_below.Given as goal
 
 -- those of the numbers so far
 abbrev pub invariant-loop-number : goal.invariant-loop-number
-invariant-loop-number l = l.made ≡ filter (has_ended_at l.board) (numbers 0 l.number)
+invariant-loop-number l = l.made ≡ filter (has_ended_at l.board) (numbers l.number)

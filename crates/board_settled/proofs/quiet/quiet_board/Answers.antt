@@ -1,7 +1,7 @@
 use Rattle.std.proofs.Common.{List, length, map, sum_by, ap, sym, ◌∙◌, arith}
 use Rattle.std.specs.List.{filter}
-use Rattle.status_table.specs.Words.{Board, Leg, Run}
-use Rattle.board_settled.specs.Quiet.{numbers, has_ended_at, quiet_run}
+use Rattle.status_table.specs.Words.{Board, Leg, Run, numbers}
+use Rattle.board_settled.specs.Quiet.{has_ended_at, quiet_run}
 use Rattle.board_settled.proofs.Ordered.{legs_quiet}
 use Rattle.status_table.proofs.Accepting.{legs_counted}
 use Rattle.board_settled.proofs.quiet.quiet_board.Goals as goal
@@ -19,4 +19,4 @@ returns-clause-ends c =
     let slice = ap (λ (runs : List Run). sum_by (λ (run : Run). sum_by (λ job. length job.legs) run.jobs) runs) c.as_slice-runs.ensures in
     let count = c.count_legs-count.ensures ∙ slice ∙ sym (legs_counted c.args.board.now)
     ∙ sym (ap (λ (legs : List Leg). length legs) (legs_quiet c.args.board.now made (c.in_ok-quiet_runs.ensures ∙ ap (λ (runs : List Run). map quiet_run runs) c.as_slice-runs.ensures))) in
-    c.in_ok-made.ensures ∙ ap (λ n. filter (has_ended_at made) (numbers 0 n)) count
+    c.in_ok-made.ensures ∙ ap (λ n. filter (has_ended_at made) (numbers n)) count

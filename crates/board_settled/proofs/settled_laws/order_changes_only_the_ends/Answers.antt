@@ -2,4 +2,4 @@ use Rattle.board_settled.proofs.SameBoards.{only_ends_differ}
 use Rattle.board_settled.proofs.settled_laws.order_changes_only_the_ends.Goals as goal
 
 pub returns : goal.returns
-returns c = only_ends_differ c.needs_point_back.ensures (λ p rules. (c.rules_hold.ensures p).0 rules)
+returns c = only_ends_differ c.needs_point_back.ensures c.rules_hold.ensures
