@@ -3,10 +3,9 @@ use Rattle.std.proofs.Common.{◌≡◌, ℕ, suc, Bool, true, false, List, [], 
 use Rattle.status_table.specs.Words.{Ascends, Board, CallWork, Contexts, DoneStep, Env, EnvHasItsNames, IfCalled, LegAt, LevelsStayInOrder, Plan, StepCall, StepPlan, TextPlace, ValueFault, Work, begin_found, begin_leg, called_if, condition_value, decided, directory_value, env_value, flow_env, job_env, laid_over, leg_at, leg_env, leg_status, next_step, or_below, overlaid, seen_from, set_over, step_decision, step_env, text_text, then_value, value_at, work_value}
 use Rattle.status_table.specs.declared.fault.EventFault.{EventFault}
 use Rattle.board_settled.specs.CallLaws.{last_set, SetInOrder, StepInOrder, WorkInOrder, PlanInOrder, AskedInOrder, CallInOrder, CallsAreInOrder, MostSpecificIsGiven, CallsAreMostSpecific}
-use Rattle.status_table.proofs.Decided.{by_test}
 use Rattle.status_table.proofs.Found.{leg_stands}
 use Rattle.board_decisions.proofs.Lists.{same_some}
-use Rattle.board_settled.proofs.Begins.{by_decision, begins}
+use Rattle.board_settled.proofs.Begins.{begins, by_decision, either}
 use Rattle.board_settled.proofs.Pairs.{below_through, one_found}
 
 -- ---- answers that are made of others
@@ -154,7 +153,7 @@ if_decided P b worker at d h = tt
 
 pub calls_are_in_order : EnvHasItsNames → LevelsStayInOrder → CallsAreInOrder
 calls_are_in_order names stay p b worker l ordered =
-    by_test (IfCalled CallInOrder) (nat_le worker 15) (begin_found b worker l (leg_at p b l)) (Err EventFault.NoSuch) (found (leg_at p b l) refl) tt
+    either (IfCalled CallInOrder) (nat_le worker 15) (begin_found b worker l (leg_at p b l)) (Err EventFault.NoSuch) (found (leg_at p b l) refl) tt
   where
     found : (o : Option LegAt) → leg_at p b l ≡ o → IfCalled CallInOrder (begin_found b worker l o)
     found None is = tt

@@ -67,22 +67,16 @@ comes_by b place run given job settled opened_so else_none = by job.state refl s
       outputs = ap outputs_of_job h ∙ sym (else_none (ap is_open is));
     }
 
-fresh-unended : (s : LegState) → is_fresh s ≡ true → is_ended s ≡ false
+fresh-unended : (s : LegState) → is_fresh s || false ≡ true → is_ended s ≡ false
 fresh-unended LegState.Fresh h = refl
 fresh-unended s h = absurd (true≢false (sym h))
-
-or-left : (a b c : Bool) → a ≡ false → (c || (a && b)) ≡ true → c ≡ true
-or-left true b c closed h = absurd (true≢false closed)
-or-left false b true closed h = refl
-or-left false b false closed h = h
 
 module _ {p : Plan} {b : Board} {place : JobPlace} {run_plan : RunPlan} {run : Run} {job : Job} (here : JobThere p b place run_plan run job) (ends : b.ends ≡ ended_in_order b)
     (plan : JobPlan) (fits : JobFits run.state run.group plan job) where
   -- no leg is Ended of a job that was not opened
   unended : is_open job.state ≡ false → (k : ℕ) (leg : Leg) → slice_get job.legs k ≡ Some leg → is_ended leg.state ≡ false
   unended closed k leg is =
-      fresh-unended leg.state (or-left (is_open job.state) (goes_rightly run.state run.group leg) (is_fresh leg.state) closed
-      (all-get (λ (x : Leg). is_fresh x.state || (is_open job.state && goes_rightly run.state run.group x)) job.legs k leg is fits.legs))
+      fresh-unended leg.state (rw closed at (all-get (λ (x : Leg). is_fresh x.state || (is_open job.state && goes_rightly run.state run.group x)) job.legs k leg is fits.legs))
 
   pub job_comes : (given : SettledJob) → JobIsSettled given job.legs job.state → JobComes b place run given job
   job_comes given settled = comes_by b place run given job settled

@@ -5,9 +5,8 @@ use Rattle.status_table.specs.Words.{Answer, Beginning, Board, DoneStep, Env, Le
 use Rattle.expr_value.specs.Functions.{is_success}
 use Rattle.status_table.specs.declared.fault.EventFault.{EventFault}
 use Rattle.board_settled.specs.DecisionLaws.{NamesNoStatus, HasFailedStep, CallsNothing, NoCallAfterFailure, IsPassedOver, Concludes, OnlyFailuresArePassedOver}
-use Rattle.status_table.proofs.Decided.{by_test}
 use Rattle.board_decisions.proofs.Lists.{same_some}
-use Rattle.board_settled.proofs.Begins.{begins}
+use Rattle.board_settled.proofs.Begins.{begins, either}
 use Rattle.board_settled.proofs.Called.{asked}
 
 -- ---- no call after a failure
@@ -67,16 +66,15 @@ begun_concludes b worker at (faults f) = (failed_step at, refl, λ d. passed_ove
 
 end_concludes : (b : Board) (worker : ℕ) (at : LegAt) (a : Answer) (owner : Option ℕ) → Concludes b worker at (end_leg b worker at (ending_by worker at a owner))
 end_concludes b worker at a None = tt
-end_concludes b worker at a (Some owner) = by (not (worker == owner)) (not (is_well_formed a))
-  where
-    by : (other bad : Bool) → Concludes b worker at (end_leg b worker at (if other then Err EventFault.OtherWorker else (if bad then Err EventFault.BadAnswer else Ok (answered_step at a))))
-    by false false = (answered_step at a, refl, λ d. passed_over at (answered_step at a) (concluded at (outcome_of a) d))
-    by other bad = tt
+end_concludes b worker at a (Some owner) =
+    either (λ x. Concludes b worker at (end_leg b worker at x)) (not (worker == owner)) (Err EventFault.OtherWorker) (if not (is_well_formed a) then Err EventFault.BadAnswer else Ok (answered_step at a)) tt
+    (either (λ x. Concludes b worker at (end_leg b worker at x)) (not (is_well_formed a)) (Err EventFault.BadAnswer) (Ok (answered_step at a)) tt
+    (answered_step at a, refl, λ d. passed_over at (answered_step at a) (concluded at (outcome_of a) d)))
 
 pub only_failures_are_passed_over : OnlyFailuresArePassedOver
 only_failures_are_passed_over p b worker l at is = (
   begins (Concludes b worker at) (λ f. tt) b worker l at p is (λ step _. begun_concludes b worker at (decided (step_decision l at step))),
-  λ a. by_test (Concludes b worker at) (nat_le worker 15) _ (Err EventFault.NoSuch)
+  λ a. either (Concludes b worker at) (nat_le worker 15) _ (Err EventFault.NoSuch)
       (subst (λ (o : Option LegAt). Concludes b worker at (end_found b worker a o)) (sym is) (end_concludes b worker at a (calling_owner at.leg.state)))
       tt,
 )

@@ -1,10 +1,11 @@
--- The outputs of legs, one over another.
-use Rattle.std.proofs.Common.{◌≡◌, ℕ, List, [], ◌∷◌, map, refl, ap, ◌∙◌}
+-- The outputs of legs, one over another; and what a leg sees where no step of it that is done set anything.
+use Rattle.std.proofs.Common.{◌≡◌, ℕ, List, [], ◌∷◌, map, Result, Ok, Err, refl, ap, ◌∙◌}
 use Rattle.std.specs.List.{AllByRecursion}
-use Rattle.status_table.specs.Words.{Ascends, Env, Leg, ended_legs, job_outputs, laid_over, or_below, overlaid, value_at}
+use Rattle.status_table.specs.Words.{Ascends, Env, Leg, ValueFault, ended_legs, job_env, job_outputs, laid_over, leg_env, or_below, overlaid, set_over, then_value, value_at}
 use Rattle.board_settled.specs.Contexts.{LastLegWins}
 use Rattle.board_settled.specs.Pairs.{last_giving}
-use Rattle.board_settled.proofs.Pairs.{below_through, none_below, one_found}
+use Rattle.board_settled.specs.Variables.{NothingSetIsTheJobs}
+use Rattle.board_settled.proofs.Pairs.{below_through, none_below, nothing-laid, one_found}
 
 -- the last level that has a name gives it, else what was below
 giving : (name : List ℕ) (legs : List Leg) (below : Env) → AllByRecursion (λ leg. Ascends leg.outputs) legs
@@ -20,3 +21,11 @@ pub last_leg_wins : LastLegWins
 unfolding job_outputs
 last_leg_wins b job name ascend =
     giving name (ended_legs b job) [] ascend ∙ none_below (last_giving name (map (λ leg. leg.outputs) (ended_legs b job)))
+
+pub nothing_set : NothingSetIsTheJobs
+unfolding leg_env
+nothing_set at none = by (job_env at)
+  where
+    by : (r : Result Env ValueFault) → then_value r (λ below. Ok (set_over at.leg.steps below)) ≡ r
+    by (Ok below) = ap (λ (e : Env). (let r : Result Env ValueFault = Ok e in r)) (nothing-laid (λ done. done.env) at.leg.steps below none)
+    by (Err f) = refl

@@ -1,6 +1,7 @@
 -- The groups as they are kept by names go with the board through each legal list of entries.
 use Rattle.std.proofs.Common.{◌≡◌, List, [], ◌∷◌, Some, Ok, Err, refl, subst}
-use Rattle.status_table.specs.Words.{Board, Content, EntersFromOutside, Entry, KeptAsShown, Lawful, Plan, Row, SoundPlan, after, after_event, after_from, new_board, released, row, then_after, withdrawn}
+use Rattle.status_table.specs.Words.{Board, Content, EntersFromOutside, Entry, IsPlan, KeptAsShown, Lawful, Plan, Row, Stays, after, after_event, after_from, new_board, released, row, then_after, withdrawn}
+use Rattle.flow_model.specs.Laws.{RulesHold}
 use Rattle.group_admission.proofs.Entering.{first_holds, next_displaces, own_run_changes_nothing, Ascends-after_enter}
 use Rattle.group_admission.proofs.Leaving.{release_passes_on, withdraw_leaves_holder}
 use Rattle.group_admission.proofs.Lookups.{Ascends-each_held}
@@ -11,8 +12,8 @@ use Rattle.board_decisions.proofs.Lists.{same_some, no_some}
 use Rattle.status_table.proofs.Entering.{Leads}
 use Rattle.status_table.proofs.Grouped.{GroupLaws, enters_from_outside, event_kept, new_kept}
 use Rattle.status_table.proofs.Keeps.{Keeps, row_keeps}
-use Rattle.status_table.proofs.Lawfulness.{new_lawful}
-use Rattle.status_table.proofs.Legal.{new_fits}
+use Rattle.status_table.proofs.Lawfulness.{after_reaches, legal_lawful, new_lawful}
+use Rattle.status_table.proofs.Legal.{after_fits, new_fits}
 use Rattle.status_table.proofs.Rows.{row_leads}
 use Rattle.status_table.proofs.Turns.{Fits}
 
@@ -46,8 +47,12 @@ entries_kept p b c groups (e ∷ es) fits lawful kept h =
         later x.0 (after_event p b groups e.event) (keeps fits) (leads lawful).lawful (event_kept group_laws p b e.worker groups lawful kept e.event x is) k
     step later (Err f) is keeps leads k = absurd (no_some c k)
 
-pub legal_kept : (p : Plan) → SoundPlan p → (es : List Entry) (b : Board) → after p es ≡ Some b → KeptAsShown (groups_after p es) b
-legal_kept p sound es b h = entries_kept p (new_board p) b [] es (new_fits p) (new_lawful p sound) (new_kept p) h
+pub legal_kept : RulesHold → (p : Plan) → IsPlan p → (es : List Entry) (b : Board) → after p es ≡ Some b → KeptAsShown (groups_after p es) b
+legal_kept sound p rules es b h = entries_kept p (new_board p) b [] es (new_fits p) (new_lawful p ((sound p).0 rules)) (new_kept p) h
 
-pub legal_outside : (p : Plan) → SoundPlan p → (es : List Entry) (b : Board) → after p es ≡ Some b → EntersFromOutside p b (groups_after p es)
-legal_outside p sound es b h = enters_from_outside group_laws p b (groups_after p es) (legal_kept p sound es b h)
+pub legal_outside : RulesHold → (p : Plan) → IsPlan p → (es : List Entry) (b : Board) → after p es ≡ Some b → EntersFromOutside p b (groups_after p es)
+legal_outside sound p rules es b h = enters_from_outside group_laws p b (groups_after p es) (legal_kept sound p rules es b h)
+
+-- what has ended after a legal list stays so after each that goes on from there
+pub legal_stays : RulesHold → (p : Plan) → IsPlan p → (es more : List Entry) (b c : Board) → after p es ≡ Some b → after_from p b more ≡ Some c → Stays b c
+legal_stays sound p rules es more b c h k = (after_reaches p b c more (after_fits p es b h) (legal_lawful p ((sound p).0 rules) es b h) k).stays

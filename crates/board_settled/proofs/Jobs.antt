@@ -1,9 +1,11 @@
 -- A job and its legs on a board beside what is settled of them.
-use Rattle.std.proofs.Common.{◌≡◌, ◌↔◌, ℕ, suc, ◌+◌, ◌<◌, Bool, true, false, List, ◌∷◌, Result, Ok, length, drop, if◌then◌else◌, ap, subst, subst₂, sym, refl, ◌∙◌, arith}
+use Rattle.std.proofs.Common.{◌≡◌, ◌↔◌, ℕ, suc, ◌+◌, ◌<◌, Bool, true, false, List, ◌∷◌, Result, Ok, length, drop, get_or, if◌then◌else◌, ap, subst, subst₂, sym, refl, ◌∙◌, arith}
 use Rattle.std.specs.List.{AllZip}
 use Rattle.status_table.specs.Words.{Job, JobAt, JobPlan, JobState, Leg, Outcome, Plain, RunPlan, Status, ValueFault, ancestors_status, job_condition, job_results, job_status, judged_state, needs_value}
-use Rattle.board_settled.specs.Alone.{SeesSettled, IsOpened}
+use Rattle.board_settled.specs.Alone.{SeesSettled, IsOpened, planned}
+use Rattle.flow_model.proofs.Conversions.{drop-next}
 use Rattle.flow_model.proofs.Places.{slice_get_there}
+use Rattle.board_settled.proofs.Loops.{zip-first}
 use Rattle.board_settled.specs.Agrees.{LegIsSettled, JobIsSettled}
 use Rattle.board_settled.specs.Settled.{Answers, SettledLeg, SettledJob, unsettled, shut, opened, spot_at, leg_settled, legs_from, legs_settled, needs_of, status_after, condition_after, judged, job_settled}
 use Rattle.board_settled.proofs.Seen.{job_condition_is}
@@ -16,24 +18,18 @@ needs_alone at x = refl
 
 -- ---- the legs that are left
 
-module _ (answers : Answers) (run : RunPlan) (plan : JobPlan) (needs : Plain) (first : ℕ) (legs : List Leg) (k : ℕ) (leg : Leg)
-    (is : drop k legs ≡ leg ∷ drop (k + 1) legs) (within : k < length plan.legs) where
-  abbrev Left : ℕ → Type 0
-  Left i = AllZip LegIsSettled (legs_from answers run plan needs first i (drop i plan.legs)) (drop i legs)
-
-  left_is : legs_from answers run plan needs first k (drop k plan.legs)
-      ≡ leg_settled answers (spot_at run plan needs first k) ∷ legs_from answers run plan needs first (k + 1) (drop (k + 1) plan.legs)
-  left_is =
-      let combo = slice_get_there plan.legs k within in
-      let next : suc k ≡ k + 1 = omega arith in
-      ap (legs_from answers run plan needs first k) (drop_at plan.legs k combo.0 combo.1)
-      ∙ ap (λ n. leg_settled answers (spot_at run plan needs first k) ∷ legs_from answers run plan needs first n (drop (k + 1) plan.legs)) next
-
-  pub next_leg : Left k → LegIsSettled (leg_settled answers (spot_at run plan needs first k)) leg × Left (k + 1)
-  next_leg h = subst₂ (AllZip LegIsSettled) left_is is h
-
-  pub with_leg : LegIsSettled (leg_settled answers (spot_at run plan needs first k)) leg → Left (k + 1) → Left k
-  with_leg h more = subst₂ (AllZip LegIsSettled) (sym left_is) (sym is) (h, more)
+-- the next leg, by its number, and those after it
+pub left_leg : (answers : Answers) (at : JobAt) (first : ℕ) (legs : List Leg) → length legs ≡ length at.plan.legs → (k : ℕ) (leg : Leg) → k < length legs → leg ≡ get_or legs k leg
+    → (n : ℕ) → n ≡ first + k
+    → AllZip LegIsSettled (legs_from answers at.run_plan at.plan (needs_value at) first k (drop k at.plan.legs)) (drop k legs)
+    ↔ (LegIsSettled (leg_settled answers (planned n at k)) leg × AllZip LegIsSettled (legs_from answers at.run_plan at.plan (needs_value at) first (k + 1) (drop (k + 1) at.plan.legs)) (drop (k + 1) legs))
+left_leg answers at first legs size k leg less is n number =
+    let (combo, there) = slice_get_there at.plan.legs k (omega (arith, less, size)) in
+    let next : suc k ≡ k + 1 = omega arith in
+    zip-first LegIsSettled _ _ _ _ _ leg
+    (ap (legs_from answers at.run_plan at.plan (needs_value at) first k) (drop_at at.plan.legs k combo there)
+    ∙ λ i. leg_settled answers (planned (sym number i) at k) ∷ legs_from answers at.run_plan at.plan (needs_value at) first (next i) (drop (k + 1) at.plan.legs))
+    (drop-next legs k leg less is)
 
 -- ---- a job
 

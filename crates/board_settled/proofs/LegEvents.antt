@@ -15,12 +15,12 @@ use Rattle.status_table.proofs.Lists.{all-get, zip-get}
 use Rattle.board_decisions.proofs.Lists.{and-left, and-right, same_some, no_some}
 use Rattle.status_table.proofs.Steps.{Live, going-unclosed}
 use Rattle.status_table.proofs.Turnover.{numbered}
-use Rattle.board_settled.proofs.Begins.{by_decision}
+use Rattle.board_settled.proofs.Begins.{by_decision, either}
 use Rattle.board_settled.proofs.Changes.{leg_changes, same_but}
 use Rattle.board_settled.proofs.InPlay.{Stands, IsFit, run_seen}
 use Rattle.board_settled.proofs.LegSteps.{and-none, comes_next, step_after}
 use Rattle.board_settled.proofs.Numbers.{before_run, before_job, number_at}
-use Rattle.board_settled.proofs.Played.{CallStands, InCall, LegPlayed, jobs_of, Played, is_judged, JobPlayed, RunPlayed}
+use Rattle.board_settled.proofs.Played.{CallStands, InCall, LegPlayed, jobs_of, Played, judged-or, JobPlayed, RunPlayed}
 use Rattle.board_settled.proofs.Seen.{spot_of, call_is, finish_is}
 use Rattle.std.specs.List.{list_any}
 use Rattle.board_settled.specs.Free.{JobIsFree}
@@ -32,11 +32,6 @@ leg_board p b n at h =
     let on : LegAt = record { board = b; place = at.place; run_plan = at.run_plan; job_plan = at.job_plan; run = at.run; job = at.job; leg = at.leg } in
     let found : leg_at p b n ≡ Some on = rw (s.place, s.in_plan, s.in_board, s.job_plan, s.job, s.leg) refl in
     ap (λ (x : LegAt). x.board) (same_some at on (sym h ∙ found))
-
-judged-open : (s : JobState) → is_open s ≡ true → is_judged s ≡ true
-judged-open JobState.Unjudged h = h
-judged-open JobState.Open h = refl
-judged-open (JobState.Shut result) h = absurd (true≢false (sym h))
 
 failed-ended : (s : LegState) → is_ended s ≡ false → has_failed s ≡ false
 failed-ended (LegState.Ended result tolerated) h = absurd (true≢false h)
@@ -51,10 +46,6 @@ pub goes-if : (p : Plan) (answers : Answers) (calls : ℕ → Option StepCall) (
     → (c ≡ true → Goes p answers calls b e r) → (c ≡ false → Goes p answers calls b e s) → Goes p answers calls b e (if c then r else s)
 goes-if p answers calls b e true r s holds fails = holds refl
 goes-if p answers calls b e false r s holds fails = fails refl
-
-not-not : (c : Bool) → not c ≡ false → c ≡ true
-not-not true h = refl
-not-not false h = sym h
 
 -- ---- one more step of a leg
 
@@ -87,11 +78,11 @@ module _ (p : Plan) (fit : IsFit p) (answers : Answers) (calls : ℕ → Option 
   abbrev spot : Spot
   spot = spot_at at.run_plan at.job_plan (needs_of at.run_plan before at.job_plan) first at.place.leg
 
-  leg_played : LegPlayed answers spot (calls (first + at.place.leg)) at.leg
-  leg_played = job_played.legs at.place.leg at.leg here.leg
-
   number_is : l ≡ first + at.place.leg
   number_is = number_at p b l at.place at.run_plan stands.fits.shape here.place here.in_plan
+
+  leg_played : LegPlayed answers spot (calls l) at.leg
+  leg_played = subst (λ n. LegPlayed answers spot (calls n) at.leg) (sym number_is) (job_played.legs at.place.leg at.leg here.leg)
 
   free : JobIsFree at.job_plan
   free = (fit.free at.place.run at.run_plan here.in_plan).jobs at.place.job at.job_plan here.job_plan
@@ -125,7 +116,7 @@ module _ (p : Plan) (fit : IsFit p) (answers : Answers) (calls : ℕ → Option 
   spot_is : Live p b l at → spot_of l at ≡ spot
   spot_is live =
       let unclosed = going-unclosed at.run.state live.going in
-      let ready = run_played.needs at.place.job at.job_plan at.job here.job_plan here.job (judged-open at.job.state live.opened) in
+      let ready = run_played.needs at.place.job at.job_plan at.job here.job_plan here.job (judged-or at.job.state (λ e. true≢false (sym live.opened ∙ ap is_open e))) in
       let seen = run_seen p fit answers calls b stands at.place.run at.run_plan at.run here.in_plan here.in_board unclosed in
       let board : job_of at ≡ record (job_of at) { board = b } = λ i. record (job_of at) { board = leg_board p b l at is i } in
       let needs : needs_value (job_of at) ≡ needs_of at.run_plan before at.job_plan =
@@ -158,37 +149,36 @@ module _ (p : Plan) (fit : IsFit p) (answers : Answers) (calls : ℕ → Option 
   no_entrance = rw ((fit.free at.place.run at.run_plan here.in_plan).jobs at.place.job at.job_plan here.job_plan).group refl
 
   pub ask_goes : Goes p answers calls b (Event.Ask l) (rows.ask_leg b l at)
-  ask_goes = by (not (rows.may_ask at)) refl (is_full at.job_plan at.job) (is_stopping at)
+  ask_goes = by (rows.may_ask at) refl (is_full at.job_plan at.job) (is_stopping at)
     where
       asks : Leg → Leg
       asks x = record x { state = LegState.Admitted; group = None }
 
-      by : (late : Bool) → not (rows.may_ask at) ≡ late → (full stops : Bool) → Goes p answers calls b (Event.Ask l)
-          (if late then Err EventFault.WrongState else (if full then Err EventFault.SlotsFull else (if stops then Err EventFault.Stopping else rows.leg_enters b l at (leg_entrance at))))
-      by false ready false false =
-          let all = not-not (rows.may_ask at) ready in
+      by : (ready : Bool) → rows.may_ask at ≡ ready → (full stops : Bool) → Goes p answers calls b (Event.Ask l)
+          (if not ready then Err EventFault.WrongState else (if full then Err EventFault.SlotsFull else (if stops then Err EventFault.Stopping else rows.leg_enters b l at (leg_entrance at))))
+      by true all false false =
           let two = and-left (is_going at.run.state && is_open at.job.state) (is_fresh at.leg.state) all in
           subst (λ (x : Result (Option Entrance) ValueFault). Goes p answers calls b (Event.Ask l) (rows.leg_enters b l at x)) (sym no_entrance)
           (put calls asks (admitted b None (Member.Leg l)) (numbered b l at.place asks here.place) (λ n _. refl)
           (record { stands = here; going = and-left (is_going at.run.state) (is_open at.job.state) two; opened = and-right (is_going at.run.state) (is_open at.job.state) two })
           (still (calls l) (asks at.leg) refl refl refl tt refl))
-      by late ready full stops = tt
+      by ready all full stops = tt
 
   -- ---- Drop: no leg is to stop
 
   pub drop_goes : Goes p answers calls b (Event.Drop l) (rows.drop_leg b l at)
-  drop_goes = by (not (rows.may_drop at)) refl (is_stopping at) refl
+  drop_goes = by (rows.may_drop at) refl (is_stopping at) refl
     where
       untaken : (s : LegState) → is_untaken s ≡ true → is_ended s ≡ false
       untaken (LegState.Running worker in_call) h = absurd (true≢false (sym h))
       untaken (LegState.Ended result tolerated) h = absurd (true≢false (sym h))
       untaken s h = refl
 
-      by : (late : Bool) → not (rows.may_drop at) ≡ late → (stops : Bool) → is_stopping at ≡ stops → Goes p answers calls b (Event.Drop l)
-          (if late then Err EventFault.WrongState else (if stops then Ok (leaves b (leg_standing at.leg) (dropped b l Outcome.Cancelled)) else Err EventFault.NotStopping))
-      by false ready true stops = absurd (true≢false (sym stops ∙ not_stopping
-          (untaken at.leg.state (and-right (is_going at.run.state && is_open at.job.state) (is_untaken at.leg.state) (not-not (rows.may_drop at) ready)))))
-      by late ready stopping stops = tt
+      by : (ready : Bool) → rows.may_drop at ≡ ready → (stops : Bool) → is_stopping at ≡ stops → Goes p answers calls b (Event.Drop l)
+          (if not ready then Err EventFault.WrongState else (if stops then Ok (leaves b (leg_standing at.leg) (dropped b l Outcome.Cancelled)) else Err EventFault.NotStopping))
+      by true all true stops = absurd (true≢false (sym stops ∙ not_stopping
+          (untaken at.leg.state (and-right (is_going at.run.state && is_open at.job.state) (is_untaken at.leg.state) all))))
+      by ready all stopping stops = tt
 
   -- ---- Take
 
@@ -211,15 +201,16 @@ module _ (p : Plan) (fit : IsFit p) (answers : Answers) (calls : ℕ → Option 
   same_number : (l == l) ≡ true
   same_number = grind (arith, nat_tests)
 
-  other_number : (n : ℕ) → n ≢ l → (l == n) ≡ false
-  other_number n differs = grind (arith, nat_tests, differs)
+  -- the calls of other legs stay open
+  others : (call : Option StepCall) (n : ℕ) → n ≢ l → calls n ≡ (if l == n then call else calls n)
+  others call n differs = let other : (l == n) ≡ false = grind (arith, nat_tests, differs) in rw other refl
 
   -- one more step is done
   done_more : (later : ℕ → Option StepCall) → ((n : ℕ) → n ≢ l → calls n ≡ later n) → (worker : ℕ) (step : StepPlan) (next : DoneStep) → is_under_way at.leg.state ≡ true
       → rows.next_step at ≡ Some step → next_done answers spot at.leg.steps step ≡ Some next → Stays b (rows.step_done b at.place worker next)
       → Played answers p later (rows.step_done b at.place worker next).runs
-  done_more later others worker step next under planned given =
-      put later (λ x. record x { state = LegState.Running worker false; steps = x.steps ++ next ∷ [] }) (rows.step_done b at.place worker next) refl others (live under) (record {
+  done_more later same worker step next under planned given =
+      put later (λ x. record x { state = LegState.Running worker false; steps = x.steps ++ next ∷ [] }) (rows.step_done b at.place worker next) refl same (live under) (record {
         stop = leg_played.stop;
         group = leg_played.group;
         goes_on = one_more answers spot at.leg.steps step next planned given leg_played.goes_on;
@@ -248,14 +239,14 @@ module _ (p : Plan) (fit : IsFit p) (answers : Answers) (calls : ℕ → Option 
 
     begun : (worker : ℕ) (d : Result (Option StepCall) ValueFault) → step_decision l at step ≡ d → Goes p answers calls b (Event.Begin l) (rows.begin_leg b worker at (Ok (rows.decided d)))
     begun worker (Ok None) e =
-        done_more (λ n. call_after n (calls n) (Event.Begin l) What.Skipped) (λ n differs. sym (ap (λ c. if c then None else calls n) (other_number n differs))) worker step rows.skipped_step under planned
+        done_more (λ n. call_after n (calls n) (Event.Begin l) What.Skipped) (others None) worker step rows.skipped_step under planned
         (given_next (Ok None) rows.skipped_step e refl)
     begun worker (Err f) e =
-        done_more (λ n. call_after n (calls n) (Event.Begin l) (What.Faulted f)) (λ n differs. sym (ap (λ c. if c then None else calls n) (other_number n differs))) worker step (rows.failed_step at) under planned
+        done_more (λ n. call_after n (calls n) (Event.Begin l) (What.Faulted f)) (others None) worker step (rows.failed_step at) under planned
         (given_next (Err f) (rows.failed_step at) e refl)
     begun worker (Ok (Some call)) e =
         put (λ n. call_after n (calls n) (Event.Begin l) (What.Call call)) (λ x. record x { state = LegState.Running worker true }) (rows.leg_state_set b at.place (LegState.Running worker true)) refl
-        (λ n differs. sym (ap (λ c. if c then Some call else calls n) (other_number n differs))) (live under)
+        (others (Some call)) (live under)
         (still (call_after l (calls l) (Event.Begin l) (What.Call call)) (record at.leg { state = LegState.Running worker true }) refl leg_played.group refl (record {
           step = step;
           planned = planned;
@@ -278,22 +269,21 @@ module _ (p : Plan) (fit : IsFit p) (answers : Answers) (calls : ℕ → Option 
     where
       ends : (owner : ℕ) → rows.calling_owner at.leg.state ≡ Some owner → Goes p answers calls b (Event.End l a) (rows.end_leg b worker at (Ok (rows.answered_step at a)))
       ends owner was =
-          let calling = in_call at.leg.state owner (calls (first + at.place.leg)) was leg_played.calling in
-          let call = calling.0 in
-          let number = number_is in
-          let given = answer call.asked (ap calls number ∙ call.is_open) in
-          let called = decision calling.1 call.step call.planned ∙ call.is_next in
-          done_more (λ n. call_after n (calls n) (Event.End l a) What.Moved) (λ n differs. sym (ap (λ c. if c then None else calls n) (other_number n differs))) worker call.step
-          (rows.answered_step at a) calling.1 call.planned
-          (given_next calling.1 call.step call.planned (Ok (Some call.asked)) (rows.answered_step at a) called (ap (option_map (rows.answered_step at)) given))
+          let (call, under) = in_call at.leg.state owner (calls l) was leg_played.calling in
+          let given = answer call.asked call.is_open in
+          let called = decision under call.step call.planned ∙ call.is_next in
+          done_more (λ n. call_after n (calls n) (Event.End l a) What.Moved) (others None) worker call.step
+          (rows.answered_step at a) under call.planned
+          (given_next under call.step call.planned (Ok (Some call.asked)) (rows.answered_step at a) called (ap (option_map (rows.answered_step at)) given))
 
       by_owner : (owner : Option ℕ) → rows.calling_owner at.leg.state ≡ owner → Goes p answers calls b (Event.End l a) (rows.end_leg b worker at (rows.ending_by worker at a owner))
       by_owner None was = tt
-      by_owner (Some owner) was = by (not (worker == owner)) (not (is_well_formed a))
+      by_owner (Some owner) was =
+          either ended (not (worker == owner)) (Err EventFault.OtherWorker) (if not (is_well_formed a) then Err EventFault.BadAnswer else Ok (rows.answered_step at a)) tt
+          (either ended (not (is_well_formed a)) (Err EventFault.BadAnswer) (Ok (rows.answered_step at a)) tt (ends owner was))
         where
-          by : (other bad : Bool) → Goes p answers calls b (Event.End l a) (rows.end_leg b worker at (if other then Err EventFault.OtherWorker else (if bad then Err EventFault.BadAnswer else Ok (rows.answered_step at a))))
-          by false false = ends owner was
-          by other bad = tt
+          ended : Result DoneStep EventFault → Type 0
+          ended x = Goes p answers calls b (Event.End l a) (rows.end_leg b worker at x)
 
   -- ---- Finish
 

@@ -14,6 +14,7 @@ pub mod Kept
 pub mod LegEvents
 pub mod LegSteps
 pub mod Lists
+pub mod Loops
 pub mod NamedNeeds
 pub mod Needs
 pub mod NamedSteps
@@ -27,5 +28,4 @@ pub mod RunEvents
 pub mod Runs
 pub mod SameBoards
 pub mod Seen
-pub mod Set
 pub mod SettledNeeds

@@ -6,7 +6,7 @@ use Rattle.board_settled.specs.Contexts.{IsNeeded, NeedsAreDirect}
 use Rattle.board_decisions.proofs.Lists.{map-get}
 use Rattle.board_settled.proofs.InPlay.{found_job}
 use Rattle.board_settled.proofs.Lists.{mapped_from}
-use Rattle.board_settled.proofs.Pairs.{IsIn, found_in, in_found, in_kept, kept_in, laid_alone}
+use Rattle.board_settled.proofs.Pairs.{IsIn, in_kept, kept_in, laid_exactly}
 use Rattle.flow_model.proofs.Places.{same_Some}
 
 needed_planned : (at need : JobAt) (number : ℕ) → needed_job at number ≡ Some need → slice_get at.run_plan.jobs (number - first_number at) ≡ Some need.plan
@@ -37,17 +37,10 @@ needed_pair at id v (need, needed, named, has) =
 
 pub needs_are_direct : NeedsAreDirect
 unfolding needs_value
-needs_are_direct at distinct = (refl, λ id v. (found id v, given id v))
-  where
-    found : (id : List ℕ) (v : Plain) → value_at id (with_needs at at.plan.needs []) ≡ Some v → (need : JobAt) × IsNeeded at need × (need.plan.id ≡ id) × (need_value need ≡ v)
-    found id v is = let (i, there) = found_in id (map need_pair (filter_map (needed_job at) at.plan.needs)) v (sym (laid_alone id (map need_pair (filter_map (needed_job at) at.plan.needs))) ∙ is) in
-        pair_of at i id v there
-
-    given : (id : List ℕ) (v : Plain) → (need : JobAt) × IsNeeded at need × (need.plan.id ≡ id) × (need_value need ≡ v) → value_at id (with_needs at at.plan.needs []) ≡ Some v
-    given id v (need, needed, named, has) =
-        let ps = map need_pair (filter_map (needed_job at) at.plan.needs) in
-        let (i, there) = needed_pair at id v (need, needed, named, has) in
-        let (w, last) = in_found id v ps i there in
-        let (other, is_other, same, others) = found id w (laid_alone id ps ∙ last) in
-        let one : other ≡ need = needed_once at other need is_other.number needed.number distinct is_other.there needed.there (same ∙ sym named) in
-        laid_alone id ps ∙ last ∙ ap Some (sym others ∙ ap need_value one ∙ has)
+needs_are_direct at distinct = (
+  refl,
+  laid_exactly (map need_pair (filter_map (needed_job at) at.plan.needs))
+      (λ id v. (need : JobAt) × IsNeeded at need × (need.plan.id ≡ id) × (need_value need ≡ v)) (pair_of at) (needed_pair at)
+      (λ id v w (one, is_one, named, has) (other, is_other, named_too, has_too).
+      sym has ∙ ap need_value (needed_once at one other is_one.number is_other.number distinct is_one.there is_other.there (named ∙ sym named_too)) ∙ has_too),
+)

@@ -3,7 +3,7 @@ use Rattle.std.proofs.Common.{◌≡◌, ℕ, zero, suc, Option, Some, None, Lis
 use Rattle.std.specs.List.{filter_map, slice_get, zip}
 use Rattle.status_table.specs.Words.{DoneStep, HaveDistinctNames, LegAt, Plain, StepPlan, done_value, id_pair, step_pair, steps_value, value_at}
 use Rattle.board_settled.specs.Contexts.{IsDone, StepsAreDone, done_pairs}
-use Rattle.board_settled.proofs.Pairs.{IsIn, found_in, in_found, in_kept, kept_in, laid_alone}
+use Rattle.board_settled.proofs.Pairs.{IsIn, in_kept, kept_in, laid_exactly}
 use Rattle.flow_model.proofs.Places.{same_Some}
 
 -- what stands beside what
@@ -47,18 +47,9 @@ done_once at id a b distinct is_a is_b =
 
 pub steps_are_done : StepsAreDone
 unfolding steps_value
-steps_are_done at distinct = (refl, λ id v. (found id v, given id v))
-  where
-    found : (id : List ℕ) (v : Plain) → value_at id (done_pairs at) ≡ Some v → (done : DoneStep) × IsDone at id done × (done_value done ≡ v)
-    found id v is =
-        let ps = filter_map step_pair (zip at.job_plan.steps at.leg.steps) in
-        let (i, there) = found_in id ps v (sym (laid_alone id ps) ∙ is) in
-        done_of at i id v there
-
-    given : (id : List ℕ) (v : Plain) → (done : DoneStep) × IsDone at id done × (done_value done ≡ v) → value_at id (done_pairs at) ≡ Some v
-    given id v (done, is, has) =
-        let ps = filter_map step_pair (zip at.job_plan.steps at.leg.steps) in
-        let (i, there) = done_pair at id v (done, is, has) in
-        let (w, last) = in_found id v ps i there in
-        let (other, is_other, others) = found id w (laid_alone id ps ∙ last) in
-        laid_alone id ps ∙ last ∙ ap Some (sym others ∙ ap done_value (done_once at id other done distinct is_other is) ∙ has)
+steps_are_done at distinct = (
+  refl,
+  laid_exactly (filter_map step_pair (zip at.job_plan.steps at.leg.steps))
+      (λ id v. (done : DoneStep) × IsDone at id done × (done_value done ≡ v)) (done_of at) (done_pair at)
+      (λ id v w (one, is_one, has) (other, is_other, has_too). sym has ∙ ap done_value (done_once at id one other distinct is_one is_other) ∙ has_too),
+)

@@ -1,5 +1,5 @@
 -- What stands in pairs that are laid over one another.
-use Rattle.std.proofs.Common.{◌≡◌, ℕ, zero, suc, Bool, true, false, cond, if◌then◌else◌, Option, Some, None, List, [], ◌∷◌, map, refl, sym, ap, subst, ◌∙◌}
+use Rattle.std.proofs.Common.{◌≡◌, ◌↔◌, ℕ, zero, suc, Bool, true, false, cond, if◌then◌else◌, Option, Some, None, List, [], ◌∷◌, map, refl, sym, ap, subst, ◌∙◌}
 use Rattle.std.proofs.lemmas.Bool.{true≢false}
 use Rattle.std.proofs.lemmas.Map.Text.{is_eq-slice_cmp}
 use Rattle.std.proofs.lemmas.Slice.Eq.{bytes_eq-Decides}
@@ -60,7 +60,7 @@ below_through None y z = refl
 below_through (Some v) y z = refl
 
 -- laid over nothing, the last pair with a name is what is found
-pub laid_alone : {V : Type 0} (name : List ℕ) (ps : List (List ℕ × V)) → value_at name (laid_over ps []) ≡ last_at name ps
+laid_alone : {V : Type 0} (name : List ℕ) (ps : List (List ℕ × V)) → value_at name (laid_over ps []) ≡ last_at name ps
 laid_alone name ps = last_found name ps [] ∙ none_below (last_at name ps)
 
 -- where names ascend the last pair with a name is the first
@@ -85,7 +85,7 @@ first_in {V} name p ps v true same is =
 first_in name p ps v false same is = absurd (cc)
 
 -- what is found stands there
-pub found_in : {V : Type 0} (name : List ℕ) (ps : List (List ℕ × V)) (v : V) → last_at name ps ≡ Some v → IsIn (name, v) ps
+found_in : {V : Type 0} (name : List ℕ) (ps : List (List ℕ × V)) (v : V) → last_at name ps ≡ Some v → IsIn (name, v) ps
 found_in name [] v is = absurd (cc)
 found_in {V} name (p ∷ ps) v is = by (last_at name ps) refl (found_in name ps v) is
   where
@@ -94,7 +94,7 @@ found_in {V} name (p ∷ ps) v is = by (last_at name ps) refl (found_in name ps 
     by None at inner h = first_in name p ps v (is_eq (slice_cmp nat_cmp name p.0)) refl h
 
 -- where a pair stands, the name is found
-pub in_found : {V : Type 0} (name : List ℕ) (v : V) (ps : List (List ℕ × V)) (i : ℕ) → slice_get ps i ≡ Some (name, v) → (w : V) × (last_at name ps ≡ Some w)
+in_found : {V : Type 0} (name : List ℕ) (v : V) (ps : List (List ℕ × V)) (i : ℕ) → slice_get ps i ≡ Some (name, v) → (w : V) × (last_at name ps ≡ Some w)
 in_found name v [] i there = absurd (cc)
 in_found {V} name v (p ∷ ps) zero there =
     let is : p ≡ (name, v) = same_Some there in by (last_at name ps) (ap (λ (q : List ℕ × V). is_eq (slice_cmp nat_cmp name q.0)) is ∙ name_same name)
@@ -104,6 +104,22 @@ in_found {V} name v (p ∷ ps) zero there =
     by None same = (p.1, ap (λ (b : Bool). cond b (Some p.1) None) same)
 in_found {V} name v (p ∷ ps) (suc i) there =
     let (w, at) = in_found name v ps i there in (w, ap (λ (o : Option V). or_below o (cond (is_eq (slice_cmp nat_cmp name p.0)) (Some p.1) None)) at)
+
+-- laid over nothing, just those pairs are found of which each is one that may stand there, and each such one stands, if a name has one value
+pub laid_exactly : {V : Type 0} (ps : List (List ℕ × V)) (P : List ℕ → V → Type 0) → ((i : ℕ) (name : List ℕ) (v : V) → slice_get ps i ≡ Some (name, v) → P name v)
+    → ((name : List ℕ) (v : V) → P name v → IsIn (name, v) ps) → ((name : List ℕ) (v w : V) → P name v → P name w → v ≡ w)
+    → (name : List ℕ) (v : V) → (value_at name (laid_over ps []) ≡ Some v) ↔ P name v
+laid_exactly {V} ps P each stands once name v = (found v, given)
+  where
+    found : (w : V) → value_at name (laid_over ps []) ≡ Some w → P name w
+    found w is = let (i, there) = found_in name ps w (sym (laid_alone name ps) ∙ is) in each i name w there
+
+    given : P name v → value_at name (laid_over ps []) ≡ Some v
+    given p =
+        let (i, there) = stands name v p in
+        let (w, last) = in_found name v ps i there in
+        let is = laid_alone name ps ∙ last in
+        is ∙ ap Some (once name w v (found w is) p)
 
 -- levels without a name lay nothing over what is below
 pub nothing-laid : {T : Type 0} (f : T → Env) (xs : List T) (below : Env) → ((i : ℕ) (x : T) → slice_get xs i ≡ Some x → f x ≡ []) → overlaid (map f xs) below ≡ below

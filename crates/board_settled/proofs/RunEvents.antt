@@ -35,14 +35,11 @@ module _ (p : Plan) (fit : IsFit p) (answers : Answers) (open_calls : ℕ → Op
     pub open_goes : Goes p answers open_calls b (Event.Open r) (rows.open_run b r at at.run.state at.run.stop)
     open_goes = by at.run.state at.run.stop
       where
-        unclosed : (result : Outcome) → RunState.Going ≡ RunState.Closed result → ⊥
-        unclosed result h = cc
-
         by : (s : RunState) (stop : Bool) → Goes p answers open_calls b (Event.Open r) (rows.open_run b r at s stop)
         by RunState.New false =
             subst (λ (x : Result (Option Entrance) ValueFault). Goes p answers open_calls b (Event.Open r) (rows.run_enters b r x)) (sym no_entrance)
             (λ stays. run_changes p b answers open_calls r stands.played at.plan at.run there.plan there.run (admitted b None (Member.Run r)) stays
-            (λ run. record run { state = RunState.Going; group = None }) refl refl refl (λ result e. absurd (unclosed result e)) (λ was. absurd (true≢false (sym was))))
+            (λ run. record run { state = RunState.Going; group = None }) refl refl refl (λ result e. absurd (cc)) (λ was. absurd (true≢false (sym was))))
         by s stop = tt
 
     -- ---- Close
@@ -56,13 +53,6 @@ module _ (p : Plan) (fit : IsFit p) (answers : Answers) (open_calls : ℕ → Op
     pub close_goes : Goes p answers open_calls b (Event.Close r) (rows.close_run b r at.run at.run.state)
     close_goes = by at.run.state refl
       where
-        unstopped : (stop : Bool) → stop ≡ false → Goes p answers open_calls b (Event.Close r) (rows.close_waiting b r at.run stop)
-        unstopped true h = absurd (true≢false h)
-        unstopped false h = tt
-
-        same : (x y : Outcome) → RunState.Closed x ≡ RunState.Closed y → x ≡ y
-        same x y h = cc
-
         alone : at.run.state ≡ RunState.Going → leaves b (run_standing at.run) (closed b r (run_result at.run)) ≡ leaves b (holding None) (closed b r (run_result at.run))
         alone going = ap (λ s. leaves b s (closed b r (run_result at.run))) (ap (λ s. run_stands s at.run.group) going ∙ ap holding run_played.group)
 
@@ -71,13 +61,13 @@ module _ (p : Plan) (fit : IsFit p) (answers : Answers) (open_calls : ℕ → Op
             subst (λ (x : Board × Reply). Goes p answers open_calls b (Event.Close r) (Ok x)) (sym (alone going))
             (λ stays. run_changes p b answers open_calls r stands.played at.plan at.run there.plan there.run (closed b r (run_result at.run)) stays
             (λ run. record run { state = RunState.Closed (run_result at.run) }) refl refl run_played.group
-            (λ result e. comes_to going ended ∙ ap (λ (o : Outcome). Some o) (same (run_result at.run) result e))
+            (λ result e. let is : run_result at.run ≡ result = cc e in comes_to going ended ∙ ap (λ (o : Outcome). Some o) is)
             (λ _. each_over p b answers open_calls r at.plan at.run (run_seen p fit answers open_calls b stands r at.plan at.run there.plan there.run (ap is_closed going)) ended))
 
         by : (s : RunState) → at.run.state ≡ s → Goes p answers open_calls b (Event.Close r) (rows.close_run b r at.run s)
         by RunState.Going e = goes-if p answers open_calls b (Event.Close r) (jobs_have_ended at.run) (rows.run_closes b r at.run (run_result at.run)) (Err EventFault.NeedsOpen) (λ ended. ends e ended) (λ _. tt)
         by (RunState.Closed result) e = tt
-        by s e = unstopped at.run.stop run_played.stop
+        by s e = subst (λ stop. Goes p answers open_calls b (Event.Close r) (rows.close_waiting b r at.run stop)) (sym run_played.stop) tt
 
   -- ---- Judge
 

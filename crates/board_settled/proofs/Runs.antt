@@ -4,21 +4,22 @@ use Rattle.std.specs.List.{flat_map, AllZip}
 use Rattle.std.proofs.lemmas.Bool.{true≢false, le-leb}
 use Rattle.std.proofs.lemmas.List.{length-append, take_more}
 use Rattle.std.proofs.lemmas.Option.{slice_get_within, get_or_from_slice_get}
-use Rattle.status_table.specs.Words.{Board, Each, Job, JobAt, JobFits, JobPlan, JobShape, NeedsPointBack, Plan, Run, RunAt, RunFits, RunShape, RunState, StandsAfterNeeds, first_job, job_in_run, run_at, run_result}
+use Rattle.status_table.specs.Words.{Board, Each, InPlay, Job, JobAt, JobFits, JobPlan, JobShape, NeedsPointBack, Plan, Run, RunAt, RunFits, RunShape, RunState, StandsAfterNeeds, first_job, job_in_run, run_at, run_result}
 use Rattle.board_settled.specs.Alone.{SeesSettled}
-use Rattle.board_settled.specs.Quiet.{quiet_run}
-use Rattle.board_settled.specs.Runs.{RunStands}
+use Rattle.board_settled.specs.Quiet.{ended_in_order, quiet_run}
+use Rattle.board_settled.specs.Runs.{IsQuiet, RunStands}
 use Rattle.board_settled.proofs.Comes.{job_comes}
 use Rattle.board_settled.proofs.Needs.{ComesAt, IsOrdered, board_sees_settled, each_result, jobs_result}
 use Rattle.board_settled.specs.Agrees.{JobIsSettled, RunIsSettled}
 use Rattle.board_settled.specs.Settled.{Answers, SettledJob, SettledRun, jobs_come_to, job_settled, run_settled, leg_count, runs_from}
 use Rattle.board_settled.proofs.InPlay.{FoundJob, found_job, is_ordered}
-use Rattle.board_settled.proofs.Lists.{get-take, all-of}
+use Rattle.board_settled.proofs.Lists.{get-take, all-of, mapped_from}
+use Rattle.board_settled.proofs.Loops.{zip-first}
 use Rattle.board_settled.proofs.Numbers.{before_job}
 use Rattle.board_settled.proofs.Played.{jobs_of, jobs_size, job_item}
 use Rattle.flow_model.proofs.Places.{slice_get_there}
 use Rattle.status_table.proofs.Counts.{zip-left}
-use Rattle.status_table.proofs.Found.{RunStands as RunFound, run_stands}
+use Rattle.status_table.proofs.Found.{run_stands}
 use Rattle.status_table.proofs.Lists.{zip-get, zip-length, zip-append}
 use Rattle.board_decisions.proofs.Lists.{and-both, same_some, no_some}
 use Rattle.status_table.proofs.Standings.{drop_at}
@@ -184,38 +185,37 @@ module _ {r : ℕ} {at : RunAt} (stands : RunStands r at) (back : NeedsPointBack
 
 -- ---- the runs that are left
 
-module _ (answers : Answers) (p : Plan) (b : Board) (first r : ℕ) (at : RunAt) (found : Some at ≡ run_at p b r) where
-  abbrev Left : ℕ → ℕ → Type 0
-  Left n i = AllZip RunIsSettled (runs_from answers n (drop i p.runs)) (drop i b.runs)
-
-  it : RunFound p b r at
-  it = run_stands p b r at (sym found)
-
-  left_is : runs_from answers first (drop r p.runs) ≡ run_settled answers first at.plan ∷ runs_from answers (first + leg_count at.plan.jobs) (drop (r + 1) p.runs)
-  left_is = ap (runs_from answers first) (drop_at p.runs r at.plan it.plan)
-
-  pub next_run : Left first r → RunIsSettled (run_settled answers first at.plan) at.run × Left (first + leg_count at.plan.jobs) (r + 1)
-  next_run h = subst₂ (AllZip RunIsSettled) left_is (drop_at b.runs r at.run it.run) h
-
-  pub with_run : RunIsSettled (run_settled answers first at.plan) at.run → Left (first + leg_count at.plan.jobs) (r + 1) → Left first r
-  with_run h more = subst₂ (AllZip RunIsSettled) (sym left_is) (sym (drop_at b.runs r at.run it.run)) (h, more)
+-- the next run, and those after it
+pub left_run : (answers : Answers) (p : Plan) (b : Board) (first r : ℕ) (at : RunAt) → Some at ≡ run_at p b r
+    → AllZip RunIsSettled (runs_from answers first (drop r p.runs)) (drop r b.runs)
+    ↔ (RunIsSettled (run_settled answers first at.plan) at.run × AllZip RunIsSettled (runs_from answers (first + leg_count at.plan.jobs) (drop (r + 1) p.runs)) (drop (r + 1) b.runs))
+left_run answers p b first r at found =
+    let there = run_stands p b r at (sym found) in
+    zip-first RunIsSettled _ _ _ _ _ at.run (ap (runs_from answers first) (drop_at p.runs r at.plan there.plan)) (drop_at b.runs r at.run there.run)
 
 -- ---- the quiet copy of a board
 
 -- what holds of the runs of a board, as far as that they are to stop is not told by it, holds of the copy, and only then
-pub zip-quiet : {A : Type 0} (R : A → Run → Type 0) → ((x : A) (run : Run) → R x run ↔ R x (quiet_run run)) → (xs : List A) (runs : List Run) → AllZip R xs runs ↔ AllZip R xs (map quiet_run runs)
+pub zip-quiet : {A : Type 0} (R : A → Run → Type 0) → ((x : A) (run : Run) → R x (quiet_run run) ↔ R x run) → (xs : List A) (runs : List Run) → AllZip R xs (map quiet_run runs) ↔ AllZip R xs runs
 zip-quiet R alike [] [] = (λ h. h, λ h. h)
 zip-quiet R alike (x ∷ xs) (run ∷ runs) =
     (λ h. ((alike x run).0 h.0, (zip-quiet R alike xs runs).0 h.1), λ h. ((alike x run).1 h.0, (zip-quiet R alike xs runs).1 h.1))
 zip-quiet R alike xs runs = (λ h. absurd h, λ h. absurd h)
 
-pub quiet_goes : (runs : List Run) → Each (λ run. run.stop ≡ false) (map quiet_run runs)
-quiet_goes [] i run is = absurd (no_some run is)
-quiet_goes (x ∷ xs) zero run is = ap (λ (y : Run). y.stop) (sym (same_some (quiet_run x) run is))
-quiet_goes (x ∷ xs) (suc i) run is = quiet_goes xs i run is
+quiet_goes : (runs : List Run) → Each (λ run. run.stop ≡ false) (map quiet_run runs)
+quiet_goes runs i run is = let (x, there, same) = mapped_from quiet_run runs i run is in ap (λ (y : Run). y.stop) (sym same)
 
-pub quiet_settled : (given : SettledRun) (run : Run) → RunIsSettled given run ↔ RunIsSettled given (quiet_run run)
+pub quiet_settled : (given : SettledRun) (run : Run) → RunIsSettled given (quiet_run run) ↔ RunIsSettled given run
 quiet_settled what run = (
   (λ h. record { jobs = h.jobs; result = h.result; state = h.state; given_result = h.given_result }),
   (λ h. record { jobs = h.jobs; result = h.result; state = h.state; given_result = h.given_result }),
 )
+
+pub is_quiet : (p : Plan) (b made : Board) → InPlay p b → made.runs ≡ map quiet_run b.runs → made.ends ≡ ended_in_order made → IsQuiet p made
+is_quiet p b made in_play runs ends = record {
+  rules = in_play.rules;
+  shape = subst (AllZip RunShape p.runs) (sym runs) ((zip-quiet RunShape (λ x run. (λ h. h, λ h. h)) p.runs b.runs).1 in_play.shape);
+  fits = subst (AllZip RunFits p.runs) (sym runs) ((zip-quiet RunFits (λ x run. (λ h. h, λ h. h)) p.runs b.runs).1 in_play.laws.fits);
+  ends = ends;
+  runs = subst (Each (λ run. run.stop ≡ false)) (sym runs) (quiet_goes b.runs);
+}

@@ -58,28 +58,26 @@ module _ (p : Plan) (b : Board) (answers : Answers) (calls : ℕ → Option Step
   shape_here = zip-get RunShape p.runs b.runs r plan run seen.planned seen.in_board seen.shape
 
   ended_at : (i : ℕ) → holds_at ended i ≡ true → EndedAt i
-  ended_at i h = found (some_got (job_has_ended run) (slice_get run.jobs i) (ap holds (sym (slice_get-map (job_has_ended run) run.jobs i)) ∙ h))
-    where
-      found : (x : Job) × (slice_get run.jobs i ≡ Some x) × (job_has_ended run x ≡ true) → EndedAt i
-      found x =
-          let there = zip-left JobShape plan.jobs run.jobs i x.0 x.1 shape_here in
-          let fits = zip-get (JobFits run.state run.group) plan.jobs run.jobs i there.0 x.0 there.1 x.1 seen.fits in
-          let played = seen.played.jobs i there.0 x.0 there.1 x.1 in
-          let free = seen.free.jobs i there.0 there.1 in
-          let stands : JobThere p b (record { run = r; job = i }) plan run x.0 = record { shape = seen.shape; planned = seen.planned; in_board = seen.in_board; in_run = x.1 } in
-          let starts = before_run r p.runs + before_job i plan.jobs in
-          record {
-            at = record {
-              job_plan = there.0;
-              job = x.0;
-              is_planned = there.1;
-              is_there = x.1;
-              given = job_settled answers plan starts (take i settled_jobs) there.0;
-              is_given = job_item answers plan (before_run r p.runs) [] plan.jobs i there.0 there.1;
-              comes = job_ended stands seen.ends seen.unclosed answers (take i settled_jobs) starts there.0 calls there.2.legs fits.some free played x.2;
-            };
-            over = is_over stands seen.ends seen.unclosed answers (take i settled_jobs) starts there.0 calls there.2.legs fits.some free played x.2;
-          }
+  ended_at i h =
+      let (job, in_run, has) = some_got (job_has_ended run) (slice_get run.jobs i) (ap holds (sym (slice_get-map (job_has_ended run) run.jobs i)) ∙ h) in
+      let (job_plan, planned, same) = zip-left JobShape plan.jobs run.jobs i job in_run shape_here in
+      let fits = zip-get (JobFits run.state run.group) plan.jobs run.jobs i job_plan job planned in_run seen.fits in
+      let played = seen.played.jobs i job_plan job planned in_run in
+      let free = seen.free.jobs i job_plan planned in
+      let stands : JobThere p b (record { run = r; job = i }) plan run job = record { shape = seen.shape; planned = seen.planned; in_board = seen.in_board; in_run = in_run } in
+      let starts = before_run r p.runs + before_job i plan.jobs in
+      record {
+        at = record {
+          job_plan = job_plan;
+          job = job;
+          is_planned = planned;
+          is_there = in_run;
+          given = job_settled answers plan starts (take i settled_jobs) job_plan;
+          is_given = job_item answers plan (before_run r p.runs) [] plan.jobs i job_plan planned;
+          comes = job_ended stands seen.ends seen.unclosed answers (take i settled_jobs) starts job_plan calls same.legs fits.some free played has;
+        };
+        over = is_over stands seen.ends seen.unclosed answers (take i settled_jobs) starts job_plan calls same.legs fits.some free played has;
+      }
 
   -- what a job needs stands before it and has ended
   abbrev ready : ℕ → ℕ → Bool

@@ -31,6 +31,7 @@ pub fn legal_lists_are_lawful()
 }
 
 /// What has ended on the board after a legal list is as it was after each list that goes on from there.
+#[tactic(auto, using(crate::proofs::Grouped::legal_stays))]
 pub fn what_has_ended_stays()
     ensures { (p : Plan) → IsPlan p → (es more : List Entry) (b c : Board)
         → after p es ≡ Some b → after_from p b more ≡ Some c → Stays b c }

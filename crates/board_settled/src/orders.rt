@@ -9,7 +9,7 @@ ghost use Rattle.status_table.specs.Calls.{IfCalled};
 ghost use Rattle.status_table.specs.Row.{row};
 
 use crate::call_laws::calls_are_in_order;
-use flow_model::{DoneStep, JobPlan, Plan, RunPlan, StepPlan, Work};
+use flow_model::{DoneStep, JobPlan, Plan, RunPlan, Sequence, StepPlan, Work};
 
 /// The inputs of an action do.
 fn work_in_order(work: &Work)
@@ -41,6 +41,13 @@ pub(crate) fn all_in_order<T: InOrder>(items: &[T])
     }
 }
 
+/// Each item of a sequence does.
+fn each_in_order<T: InOrder>(items: &Sequence<T>)
+    ensures { Each T.in_order items.now }
+{
+    all_in_order(items.as_slice());
+}
+
 impl InOrder for StepPlan {
     ghost use Rattle.board_settled.specs.CallLaws.{StepInOrder};
 
@@ -59,7 +66,7 @@ impl InOrder for JobPlan {
 
     fn look(&self) {
         self.env.iter();
-        all_in_order(self.steps.as_slice());
+        each_in_order(&self.steps);
     }
 }
 
@@ -70,7 +77,7 @@ impl InOrder for RunPlan {
 
     fn look(&self) {
         self.env.iter();
-        all_in_order(self.jobs.as_slice());
+        each_in_order(&self.jobs);
     }
 }
 
@@ -88,7 +95,7 @@ impl InOrder for DoneStep {
 pub fn maps_are_in_order(plan: &Plan)
     ensures { PlanInOrder plan.now }
 {
-    all_in_order(plan.runs.as_slice());
+    each_in_order(&plan.runs);
 }
 
 /// So each call that a legal Begin makes, of any plan, names each variable once, in the byte order of the names, and each input

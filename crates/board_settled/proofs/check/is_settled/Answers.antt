@@ -1,9 +1,11 @@
-use Rattle.std.proofs.Common.{◌≡◌, ◌↔◌, IsTrue, false, List, refl, subst, sym}
+use Rattle.std.proofs.Common.{◌↔◌, IsTrue, List, refl, subst, subst₂, sym}
 use Rattle.std.specs.List.{AllZip}
 use Rattle.std.proofs.lemmas.Result.{IfOk-weaker}
-use Rattle.status_table.specs.Words.{Each, Plan, Run, RunFits, RunShape}
-use Rattle.board_settled.proofs.Runs.{zip-quiet, quiet_goes, quiet_settled}
-use Rattle.board_settled.specs.Agrees.{RunIsSettled, IsSettled}
+use Rattle.status_table.specs.Words.{Plan, Run}
+use Rattle.board_settled.proofs.Loops.{through}
+use Rattle.board_settled.proofs.Runs.{is_quiet, quiet_settled, zip-quiet}
+use Rattle.board_settled.specs.Agrees.{RunIsSettled}
+use Rattle.board_settled.specs.Runs.{IsQuiet}
 use Rattle.board_settled.specs.Settled.{settled}
 use Rattle.status_table.proofs.InPlay.{few_in_play}
 use Rattle.board_settled.proofs.check.is_settled.Goals as goal
@@ -14,27 +16,11 @@ quiet_board-requires g c =
 
 pub are_runs_settled-requires-after_bounds : goal.are_runs_settled-requires-after_bounds
 are_runs_settled-requires-after_bounds g c κs within =
-    let runs = c.in_ok-quiet.ensures.runs in
-    let same = c.plan.ensures.same in
-    let plan = c.args.plan.now in
-    let board = c.args.board.now in
-    record {
-      rules = c.plan.ensures.sound;
-      shape = subst (λ (p : Plan). AllZip RunShape p.runs c.in_ok-quiet.quiet.runs) (sym same)
-          (subst (λ (rs : List Run). AllZip RunShape plan.runs rs) (sym runs) ((zip-quiet RunShape (λ x run. (λ h. h, λ h. h)) plan.runs board.runs).0 c.requires.shape));
-      fits = subst (λ (p : Plan). AllZip RunFits p.runs c.in_ok-quiet.quiet.runs) (sym same)
-          (subst (λ (rs : List Run). AllZip RunFits plan.runs rs) (sym runs) ((zip-quiet RunFits (λ x run. (λ h. h, λ h. h)) plan.runs board.runs).0 c.requires.laws.fits));
-      ends = c.in_ok-quiet.ensures.ends;
-      runs = subst (λ (rs : List Run). Each (λ run. run.stop ≡ false) rs) (sym runs) (quiet_goes board.runs);
-    }
+    let made = c.in_ok-quiet.ensures in
+    subst (λ (p : Plan). IsQuiet p c.in_ok-quiet.quiet) (sym c.plan.ensures.same) (is_quiet c.args.plan.now c.args.board.now c.in_ok-quiet.quiet c.requires made.runs made.ends)
 
 pub returns : goal.returns
 returns g c =
     IfOk-weaker c.are_runs_settled.result _ _ (λ yes h answers are.
-    let given = settled c.args.plan.now answers in
-    let same = subst (λ (p : Plan). IsTrue yes ↔ IsSettled (settled p answers) c.in_ok-quiet.quiet) c.plan.ensures.same (h answers are) in
-    let on = subst (λ (rs : List Run). IsTrue yes ↔ AllZip RunIsSettled given rs) c.in_ok-quiet.ensures.runs same in
-    let quiet = zip-quiet RunIsSettled quiet_settled given c.args.board.now.runs in (
-      (λ t. quiet.1 (on.0 t)),
-      (λ s. on.1 (quiet.0 s)),
-    )) c.are_runs_settled.ensures
+    through (subst₂ (λ (p : Plan) (rs : List Run). IsTrue yes ↔ AllZip RunIsSettled (settled p answers) rs) c.plan.ensures.same c.in_ok-quiet.ensures.runs (h answers are))
+    (zip-quiet RunIsSettled quiet_settled (settled c.args.plan.now answers) c.args.board.now.runs)) c.are_runs_settled.ensures

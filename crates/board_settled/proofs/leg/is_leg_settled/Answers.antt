@@ -3,6 +3,7 @@ use Rattle.std.proofs.lemmas.Bool.{true≢false}
 use Rattle.std.proofs.lemmas.Result.{IfOk-weaker}
 use Rattle.status_table.specs.Words.{Leg, job_seen}
 use Rattle.board_settled.specs.Alone.{planned, StepsCome}
+use Rattle.board_settled.proofs.Loops.{through}
 use Rattle.board_settled.proofs.LegSteps.{unended, ends_settled}
 use Rattle.board_settled.proofs.leg.is_leg_settled.Goals as goal
 
@@ -18,5 +19,4 @@ returns g c =
     IfOk-weaker c.ends_as.result _ _ (λ yes h answers are.
     let spot = planned c.args.spot.now.number (job_seen c.args.spot.now.at.now) c.args.spot.now.place in
     let come = subst (λ (o : Option Leg). StepsCome answers spot o) c.in-Some.is (c.in_ok-played.ensures answers are) in
-    let same = ends_settled answers c.args.spot.now.number (job_seen c.args.spot.now.at.now) c.args.spot.now.place c.in-Some.played c.requires come c.args.leg.now in
-    ((λ t. same.0 (h.0 t)), (λ s. h.1 (same.1 s)))) c.ends_as.ensures
+    through h (ends_settled answers c.args.spot.now.number (job_seen c.args.spot.now.at.now) c.args.spot.now.place c.in-Some.played c.requires come c.args.leg.now)) c.ends_as.ensures

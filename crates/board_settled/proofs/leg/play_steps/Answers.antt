@@ -6,17 +6,6 @@ use Rattle.board_settled.specs.Settled.{steps_from}
 use Rattle.board_settled.proofs.LegSteps.{one_more, no_more}
 use Rattle.board_settled.proofs.leg.play_steps.Goals as goal
 
-pub loop-done-init : goal.loop-done-init
-loop-done-init g c = record {
-  idle = c.idle_leg-leg.ensures.idle;
-  many = ap length c.idle_leg-leg.ensures.steps;
-  goes_on = λ answers are. ap (λ (done : List DoneStep).
-      steps_from answers (planned c.args.spot.now.number (job_seen c.args.spot.now.at.now) c.args.spot.now.place) done c.args.spot.now.at.now.plan.now.steps) c.idle_leg-leg.ensures.steps;
-}
-
-pub next_of-requires-after_bounds : goal.next_of-requires-after_bounds
-next_of-requires-after_bounds g c κs within = c.loop-done.invariant.idle
-
 pub returns-in-None : goal.returns-in-None
 returns-in-None g c = λ answers are.
     let left : c.loop-done._done < length c.args.spot.now.at.now.plan.now.steps = search rules in

@@ -1,7 +1,0 @@
-use Rattle.std.proofs.Common.{subst}
-use Rattle.status_table.specs.Words.{Each}
-use Rattle.board_settled.specs.CallLaws.{JobInOrder}
-use Rattle.board_settled.proofs.orders.RunPlanInOrder.look.Goals as goal
-
-pub returns : goal.returns
-returns c = record { env = c.iter.ensures.ascends; jobs = subst (Each JobInOrder) c.as_slice.ensures c.all_in_order.ensures }

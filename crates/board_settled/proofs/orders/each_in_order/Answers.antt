@@ -1,0 +1,6 @@
+use Rattle.std.proofs.Common.{subst}
+use Rattle.status_table.specs.Words.{Each}
+use Rattle.board_settled.proofs.orders.each_in_order.Goals as goal
+
+pub returns : goal.returns
+returns g c = subst (Each g.T.InOrder.in_order) c.as_slice.ensures c.all_in_order.ensures
