@@ -1,5 +1,5 @@
 -- What a job comes to that is settled on a board: the result and the outputs that it shows are those that are settled.
-use Rattle.std.proofs.Common.{◌≡◌, ℕ, ◌&&◌, ◌||◌, Bool, true, false, List, [], ◌∷◌, Option, Some, option_map, map, slice_get, ap, sym, subst, refl, ◌∙◌}
+use Rattle.std.proofs.Common.{◌≡◌, ℕ, ◌&&◌, ◌||◌, true, false, List, [], ◌∷◌, Option, Some, option_map, map, slice_get, ap, sym, subst, refl, ◌∙◌}
 use Rattle.std.specs.List.{list_any, AllZip}
 use Rattle.std.proofs.lemmas.Bool.{true≢false}
 use Rattle.status_table.specs.Words.{Board, Env, Job, JobFits, JobPlace, JobPlan, JobState, Leg, LegState, Plan, Run, RunPlan, goes_rightly, has_failed, is_cancelled, is_ended, is_fresh, is_open, job_outputs, job_result, laid_over, overlaid, result_by, was_cancelled}

@@ -100,10 +100,6 @@ job_over given job agrees over = by job.state refl
     by JobState.Open is = let all = agrees.when_open is in
         (all.0, all.1, zip-more LegAgrees LegIsSettled all.0 job.legs (λ k given leg there so. leg_over given leg so (over.ended (ap is_open is) k leg there)) all.2)
 
-single : (legs : List Leg) → length legs ≡ 1 → (leg : Leg) × (legs ≡ leg ∷ [])
-single (leg ∷ []) h = (leg, refl)
-single legs h = absurd (omega (arith, h))
-
 empty_outputs : (sees : Sight) (run : RunPlan) (job : JobPlan) (done : List DoneStep) → job.outputs ≡ [] → outputs_of_leg sees run job done ≡ []
 unfolding outputs_of_leg outputs_value
 empty_outputs sees run job done none = ap (outputs_value (sees TextPlace.StepEnv (or_none (leg_variables sees run job done)))) none
@@ -145,9 +141,7 @@ module _ {p : Plan} {b : Board} {place : JobPlace} {run_plan : RunPlan} {run : R
     | inl none ↦
         let empty : (k : ℕ) (leg : Leg) → slice_get job.legs k ≡ Some leg → leg.outputs ≡ [] = λ k leg there. no_leg_outputs none k leg there (each_ended (ap is_shut is) k leg there) in
         no_outputs here empty ∙ sym (nothing-laid (λ leg. leg.outputs) job.legs [] empty)
-    | inr one ↦
-        let only = single job.legs (size ∙ one) in
-        one_outputs here only.0 ends only.1 (each_ended (ap is_shut is) 0 only.0 (ap (λ legs. slice_get legs 0) only.1))
+    | inr one ↦ one_outputs here ends (size ∙ one) (each_ended (ap is_shut is))
   ]
 
   -- the settled job comes to what the board shows

@@ -1,11 +1,12 @@
 -- The names that the groups keep have no letter A to Z.
-use Rattle.std.proofs.Common.{◌≡◌, ℕ, Bool, true, false, cond, if◌then◌else◌, inl, inr, Option, Some, None, Result, Ok, Err, List, [], ◌∷◌, Ordering, Less, Equal, Greater, refl, sym, subst, ◌∙◌}
+use Rattle.std.proofs.Common.{◌≡◌, ℕ, Bool, true, false, cond, inl, inr, Option, Some, None, Result, Ok, Err, List, [], ◌∷◌, Ordering, Less, Equal, Greater, refl, sym, subst, ◌∙◌}
 use Rattle.std.specs.Cmp.Lexicographic.{slice_cmp}
 use Rattle.std.specs.Ordering.{nat_cmp, is_eq, match_ordering}
 use Rattle.status_table.specs.Words.{Board, Content, Entrance, Entry, Event, Held, IsPlan, KeptAsShown, Member, Plan, Row, Standing, ValueFault, after, after_at, after_enter, after_event, apart, asked, each_held, fold, holding, left, leg_asked, leg_at, leg_entrance, leg_left, leg_standing, new_board, opened, released, row, run_at, run_entrance, run_left, run_opened, run_standing, value_at, waiting, with_held, with_pair, withdrawn}
 use Rattle.flat_board.specs.Index.{AsksNamed}
 use Rattle.flat_board.proofs.Named.{run_asks, leg_asks}
 use Rattle.group_admission.specs.Content.{is_own}
+use Rattle.board_settled.proofs.Begins.{either}
 use Rattle.board_settled.proofs.Pairs.{name_is}
 use Rattle.std.proofs.lemmas.Option.{option_and_then_some}
 use Rattle.status_table.proofs.Counts.{map-some}
@@ -28,11 +29,8 @@ with_pair_folded name held (pair ∷ pairs) same h = by (slice_cmp nat_cmp name 
 
 at_folded : (name : List ℕ) (m : Member) (own : Option ℕ) (found : Option Held) (groups : Content) → fold name ≡ name → Folded groups → Folded (after_at name m own found groups)
 at_folded name m own None groups same h = with_pair_folded name (record { holder = m; waiter = None }) groups same h
-at_folded name m own (Some held) groups same h = by (is_own own held.holder)
-  where
-    by : (b : Bool) → Folded (if b then groups else with_pair name (record { holder = held.holder; waiter = Some m }) groups)
-    by true = h
-    by false = with_pair_folded name (record { holder = held.holder; waiter = Some m }) groups same h
+at_folded name m own (Some held) groups same h =
+    either Folded (is_own own held.holder) groups (with_pair name (record { holder = held.holder; waiter = Some m }) groups) h (with_pair_folded name (record { holder = held.holder; waiter = Some m }) groups same h)
 
 enter_folded : (name : List ℕ) (m : Member) (own : Option ℕ) (groups : Content) → fold name ≡ name → Folded groups → Folded (after_enter name m own groups)
 enter_folded [] m own groups same h = h

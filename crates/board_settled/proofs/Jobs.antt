@@ -1,20 +1,15 @@
 -- A job and its legs on a board beside what is settled of them.
-use Rattle.std.proofs.Common.{◌≡◌, ◌↔◌, ℕ, suc, ◌+◌, ◌<◌, Bool, true, false, List, ◌∷◌, Result, Ok, length, drop, get_or, if◌then◌else◌, ap, subst, subst₂, sym, refl, ◌∙◌, arith}
+use Rattle.std.proofs.Common.{◌≡◌, ◌↔◌, ℕ, suc, ◌+◌, ◌<◌, Bool, true, false, List, ◌∷◌, Result, Ok, length, drop, get_or, if◌then◌else◌, ap, subst, sym, refl, ◌∙◌, arith}
 use Rattle.std.specs.List.{AllZip}
-use Rattle.status_table.specs.Words.{Job, JobAt, JobPlan, JobState, Leg, Outcome, Plain, RunPlan, Status, ValueFault, ancestors_status, job_condition, job_results, job_status, judged_state, needs_value}
+use Rattle.status_table.specs.Words.{Job, JobAt, JobState, Leg, Outcome, Status, ValueFault, ancestors_status, job_condition, job_results, job_status, judged_state, needs_value}
 use Rattle.board_settled.specs.Alone.{SeesSettled, IsOpened, planned}
 use Rattle.flow_model.proofs.Conversions.{drop-next}
 use Rattle.flow_model.proofs.Places.{slice_get_there}
 use Rattle.board_settled.proofs.Loops.{zip-first}
 use Rattle.board_settled.specs.Agrees.{LegIsSettled, JobIsSettled}
-use Rattle.board_settled.specs.Settled.{Answers, SettledLeg, SettledJob, unsettled, shut, opened, spot_at, leg_settled, legs_from, legs_settled, needs_of, status_after, condition_after, judged, job_settled}
+use Rattle.board_settled.specs.Settled.{Answers, SettledLeg, SettledJob, unsettled, shut, opened, leg_settled, legs_from, legs_settled, needs_of, status_after, condition_after, judged, job_settled}
 use Rattle.board_settled.proofs.Seen.{job_condition_is}
 use Rattle.status_table.proofs.Standings.{drop_at}
-
--- what a job needs is not told by its own state
-pub needs_alone : (at : JobAt) (x : Job) → needs_value (record at { job = x }) ≡ needs_value at
-unfolding needs_value
-needs_alone at x = refl
 
 -- ---- the legs that are left
 

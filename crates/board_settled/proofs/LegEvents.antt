@@ -3,7 +3,7 @@ use Rattle.std.proofs.Common.{◌≡◌, ◌≢◌, ℕ, ◌+◌, ◌≤◌, ◌
 use Rattle.std.proofs.lemmas.Bool.{true≢false, leb-true}
 use Rattle.std.proofs.lemmas.Bool.Decides.{nat_tests}
 use Rattle.std.proofs.lemmas.List.{length-append}
-use Rattle.status_table.specs.Words.{Answer, Board, DoneStep, Entrance, Event, JobShape, JobState, Leg, LegAt, LegState, Member, Outcome, Plan, Reply, Row, RunShape, Stays, StepCall, StepPlan, ValueFault, What, admitted, call_after, dropped, has_failed, has_room, holding, is_ended, is_failure, is_fresh, is_full, is_going, is_open, is_stopping, is_under_way, is_untaken, is_well_formed, job_of, job_tolerates, leaves, leg_at, leg_entrance, leg_outputs, leg_result, leg_standing, moved, needs_value, open_calls, step_decision, with_leg}
+use Rattle.status_table.specs.Words.{Answer, Board, DoneStep, Entrance, Event, JobShape, Leg, LegAt, LegState, Member, Outcome, Plan, Reply, Row, RunShape, Stays, StepCall, StepPlan, ValueFault, What, admitted, call_after, dropped, has_failed, has_room, holding, is_ended, is_failure, is_fresh, is_full, is_going, is_open, is_stopping, is_under_way, is_untaken, is_well_formed, job_of, job_tolerates, leaves, leg_at, leg_entrance, leg_outputs, leg_result, leg_standing, moved, needs_value, open_calls, step_decision, with_leg}
 use Rattle.board_settled.specs.Alone.{step_comes}
 use Rattle.board_settled.specs.Sees.{Spot}
 use Rattle.board_settled.specs.Settled.{Answers, counts, next_call, next_done, steps_from, finish_of, spot_at, needs_of, SettledJob}

@@ -1,5 +1,5 @@
 -- Loops that hold one item after the other against what is settled: those that are left are settled where all are.
-use Rattle.std.proofs.Common.{◌≡◌, ◌↔◌, false, IsTrue, List, ◌∷◌, sym, subst₂, ◌∙◌}
+use Rattle.std.proofs.Common.{◌≡◌, ◌↔◌, false, IsTrue, List, ◌∷◌, sym, subst₂}
 use Rattle.std.specs.List.{AllZip}
 use Rattle.std.proofs.lemmas.Bool.{true≢false}
 

@@ -1,7 +1,7 @@
 -- The jobs that a job needs, by their ids.
-use Rattle.std.proofs.Common.{◌≡◌, ◌-◌, ℕ, Some, List, [], map, refl, sym, ap, ◌∙◌}
+use Rattle.std.proofs.Common.{◌≡◌, ◌-◌, ℕ, Some, List, map, refl, sym, ap, ◌∙◌}
 use Rattle.std.specs.List.{filter_map, slice_get}
-use Rattle.status_table.specs.Words.{HaveDistinctNames, JobAt, Plain, first_number, job_beside, need_pair, need_value, needed_job, needs_value, value_at, with_needs}
+use Rattle.status_table.specs.Words.{HaveDistinctNames, JobAt, Plain, first_number, job_beside, need_pair, need_value, needed_job, needs_value}
 use Rattle.board_settled.specs.Contexts.{IsNeeded, NeedsAreDirect}
 use Rattle.board_decisions.proofs.Lists.{map-get}
 use Rattle.board_settled.proofs.InPlay.{found_job}

@@ -1,8 +1,8 @@
 -- The steps of a leg that are done, by their ids.
 use Rattle.std.proofs.Common.{◌≡◌, ℕ, zero, suc, Option, Some, None, List, [], ◌∷◌, refl, sym, ap, ◌∙◌}
 use Rattle.std.specs.List.{filter_map, slice_get, zip}
-use Rattle.status_table.specs.Words.{DoneStep, HaveDistinctNames, LegAt, Plain, StepPlan, done_value, id_pair, step_pair, steps_value, value_at}
-use Rattle.board_settled.specs.Contexts.{IsDone, StepsAreDone, done_pairs}
+use Rattle.status_table.specs.Words.{DoneStep, HaveDistinctNames, LegAt, Plain, StepPlan, done_value, id_pair, step_pair, steps_value}
+use Rattle.board_settled.specs.Contexts.{IsDone, StepsAreDone}
 use Rattle.board_settled.proofs.Pairs.{IsIn, in_kept, kept_in, laid_exactly}
 use Rattle.flow_model.proofs.Places.{same_Some}
 

@@ -1,5 +1,5 @@
 -- The outputs of a job on a board, where no order of its legs is told by them.
-use Rattle.std.proofs.Common.{◌≡◌, ◌≢◌, ℕ, zero, suc, ◌+◌, ◌==◌, ◌&&◌, Bool, true, false, List, [], ◌∷◌, Option, Some, None, map, slice_get, count_by, replicate, if◌then◌else◌, ap, sym, refl, ◌∙◌, arith}
+use Rattle.std.proofs.Common.{◌≡◌, ◌≢◌, ℕ, ◌+◌, ◌==◌, ◌&&◌, Bool, true, false, List, [], ◌∷◌, Option, Some, None, length, map, slice_get, count_by, replicate, if◌then◌else◌, ap, sym, refl, ◌∙◌, arith}
 use Rattle.std.specs.List.{filter_map}
 use Rattle.std.proofs.lemmas.Bool.Decides.{nat_tests}
 use Rattle.std.proofs.lemmas.Option.{slice_get_within}
@@ -64,19 +64,25 @@ module _ {p : Plan} {b : Board} {place : JobPlace} {plan : RunPlan} {run : Run} 
       let (k, l, there, is) = in_kept (job_leg b place) b.ends i leg at in let (j, number, here) = number_of l leg is in h j leg here)
 
   -- the outputs of a job with one leg, which has ended
-  pub one_outputs : (leg : Leg) → EndOnce b → job.legs ≡ leg ∷ [] → is_ended leg.state ≡ true
+  pub one_outputs : EndOnce b → length job.legs ≡ 1 → ((k : ℕ) (leg : Leg) → slice_get job.legs k ≡ Some leg → is_ended leg.state ≡ true)
       → job_outputs b place ≡ overlaid (map (λ leg. leg.outputs) job.legs) []
   unfolding job_outputs
-  one_outputs leg ends alone ended =
+  one_outputs ends one ended =
       ap (λ (legs : List Leg). overlaid (map (λ x. x.outputs) legs) [])
-      (given-often (job_leg b place) (leg_number p place plan 0) leg b.ends (is_leg_of 0 leg first) others ∙ ap (λ n. replicate n leg) counted ∙ sym alone)
+      (given-often (job_leg b place) (leg_number p place plan 0) leg b.ends (is_leg_of 0 leg first) others ∙ ap (λ n. replicate n leg) counted ∙ sym only.1)
     where
-      first : slice_get job.legs 0 ≡ Some leg
-      first = ap (λ legs. slice_get legs 0) alone
+      single : (legs : List Leg) → length legs ≡ 1 → (leg : Leg) × (legs ≡ leg ∷ [])
+      single (leg ∷ []) h = (leg, refl)
+      single legs h = absurd (omega (arith, h))
 
-      single : (k : ℕ) (x : Leg) → slice_get (leg ∷ []) k ≡ Some x → k ≡ 0
-      single zero x is = refl
-      single (suc k) x is = absurd (no_some x is)
+      only : (leg : Leg) × (job.legs ≡ leg ∷ [])
+      only = single job.legs one
+
+      leg : Leg
+      leg = only.0
+
+      first : slice_get job.legs 0 ≡ Some leg
+      first = ap (λ legs. slice_get legs 0) only.1
 
       others : (l : ℕ) → l ≢ leg_number p place plan 0 → job_leg b place l ≡ None
       others l differs = by (job_leg b place l) refl
@@ -84,9 +90,10 @@ module _ {p : Plan} {b : Board} {place : JobPlace} {plan : RunPlan} {run : Run} 
           by : (o : Option Leg) → job_leg b place l ≡ o → o ≡ None
           by None is = refl
           by (Some x) is =
-              let at = number_of l x is in
-              let only : at.0 ≡ 0 = single at.0 x (ap (λ legs. slice_get legs at.0) (sym alone) ∙ at.2) in
-              absurd (differs (at.1 ∙ ap (leg_number p place plan) only))
+              let (k, number, there) = number_of l x is in
+              let within = slice_get_within job.legs k x there in
+              let here : k ≡ 0 = omega (arith, within, one) in
+              absurd (differs (number ∙ ap (leg_number p place plan) here))
 
       counted : count_by (λ l. l == leg_number p place plan 0) b.ends ≡ 1
-      counted = ends (leg_number p place plan 0) ∙ ap times_ended (is_item 0 leg first) ∙ ap (λ c. if c then 1 else 0) ended
+      counted = ends (leg_number p place plan 0) ∙ ap times_ended (is_item 0 leg first) ∙ ap (λ c. if c then 1 else 0) (ended 0 leg first)

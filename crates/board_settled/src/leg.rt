@@ -91,43 +91,6 @@ pub(crate) struct LegSpot<'a> {
     pub(crate) place: usize,
 }
 
-/// The next step of a leg at a spot, or none where there is no answer to its call.
-fn next_of<H: StepHost>(
-    alloc: Global,
-    host: &H,
-    spot: &LegSpot<'_>,
-    leg: &Leg,
-) -> Result<Option<DoneStep>, AllocError>
-    requires { IsIdle leg.now }
-    ensures { let on = spec.leg_on (job_seen spot.now.at.now) spot.now.place leg.now in
-        IfOk result (λ next. (step : StepPlanOf) → next_step on ≡ Some step
-        → ByAnswers (H.admits host.now) (H.declines host.now)
-        (λ answers. next ≡ spec.next_comes answers spot.now.number on step)) }
-{
-    let at = spot.at;
-    let seen = SeenLeg {
-        board: at.board,
-        place: place_of(at, spot.place),
-        run_plan: at.run_plan,
-        job_plan: at.plan,
-        run: at.run,
-        job: at.job,
-        leg,
-    };
-    next_done(alloc, host, spot.number, &seen)
-}
-
-/// The place of a leg, by its place in its job.
-fn place_of(at: &SeenJob, place: usize) -> LegPlace
-    ensures { result ≡ record { run = at.now.place.run; job = at.now.place.job; leg = place } }
-{
-    LegPlace {
-        run: at.place.run,
-        job: at.place.job,
-        leg: place,
-    }
-}
-
 /// A leg of which no step is done, with a worker.
 fn idle_leg(alloc: Global) -> Leg
     ensures idle { IsIdle result }
@@ -156,9 +119,23 @@ fn play_steps<H: StepHost>(
         IfOk result (λ made. ByAnswers (H.admits host.now) (H.declines host.now)
         (λ answers. spec.StepsCome answers planned made)) }
 {
+    let at = spot.at;
     let mut leg = idle_leg(alloc);
-    for _done in 0..spot.at.plan.steps.len() {
-        match next_of(alloc, host, spot, &leg)? {
+    for _done in 0..at.plan.steps.len() {
+        let seen = SeenLeg {
+            board: at.board,
+            place: LegPlace {
+                run: at.place.run,
+                job: at.place.job,
+                leg: spot.place,
+            },
+            run_plan: at.run_plan,
+            job_plan: at.plan,
+            run: at.run,
+            job: at.job,
+            leg: &leg,
+        };
+        match next_done(alloc, host, spot.number, &seen)? {
             Some(done) => leg.steps.push(done)?,
             None => return Ok(None),
         }
@@ -174,7 +151,11 @@ fn ends_as(alloc: Global, spot: &LegSpot<'_>, played: &Leg, leg: &Leg) -> Result
     let at = spot.at;
     let seen = SeenLeg {
         board: at.board,
-        place: place_of(at, spot.place),
+        place: LegPlace {
+            run: at.place.run,
+            job: at.place.job,
+            leg: spot.place,
+        },
         run_plan: at.run_plan,
         job_plan: at.plan,
         run: at.run,

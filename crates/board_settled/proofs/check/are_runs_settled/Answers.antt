@@ -1,4 +1,4 @@
-use Rattle.std.proofs.Common.{◌↔◌, ℕ, ◌+◌, ◌≤◌, List, [], Option, option_map, length, drop, ap, refl, subst, subst₂, sym, ◌∙◌, arith, rules}
+use Rattle.std.proofs.Common.{◌↔◌, ℕ, ◌+◌, ◌≤◌, List, Option, option_map, length, drop, ap, refl, subst, subst₂, sym, ◌∙◌, arith, rules}
 use Rattle.std.specs.List.{AllZip}
 use Rattle.status_table.specs.Words.{Run, RunPlan, RunShape, run_seen}
 use Rattle.board_settled.specs.Runs.{RunComes}
